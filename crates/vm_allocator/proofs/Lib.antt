@@ -1,0 +1,4 @@
+pub mod Ranges
+pub mod Power
+pub mod Alignments
+pub mod Requests

@@ -1,0 +1,10 @@
+-- Facts that hold by 'the first that applies'.
+use Rattle.std.specs.Prelude.{◌⊎◌}
+
+-- one fact where a condition holds, and another where it does not
+abbrev pub IfElse : Type 0 → Type 0 → Type 0 → Type 0
+IfElse condition then otherwise = (condition × then) ⊎ (¬ condition × otherwise)
+
+-- one fact where a condition does not hold, and another where it does
+abbrev pub Unless : Type 0 → Type 0 → Type 0 → Type 0
+Unless condition then otherwise = (¬ condition × then) ⊎ (condition × otherwise)

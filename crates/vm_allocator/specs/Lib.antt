@@ -1,0 +1,6 @@
+pub mod Cases
+pub mod Range
+pub mod Address
+pub mod Request
+pub mod Alignment
+pub mod Answer

@@ -1,0 +1,11 @@
+//! Gives out ranges of addresses and ids.
+#![tactic(auto)]
+
+pub mod allocation_engine;
+mod constraint;
+mod error;
+mod range;
+
+pub use constraint::{AllocPolicy, Constraint, DEFAULT_CONSTRAINT_ALIGN};
+pub use error::{Error, Result};
+pub use range::RangeInclusive;
