@@ -1,5 +1,6 @@
 pub mod Cases
 pub mod Range
+pub mod Block
 pub mod Address
 pub mod Request
 pub mod Alignment
