@@ -2,3 +2,16 @@ pub mod Ranges
 pub mod Power
 pub mod Alignments
 pub mod Requests
+pub mod Answers
+pub mod Words
+pub mod Runs
+pub mod Unique
+pub mod Places
+pub mod Carve
+pub mod Join
+pub mod Fits
+pub mod Pieces
+pub mod Joining
+pub mod Taking
+pub mod Freeing
+pub mod Making

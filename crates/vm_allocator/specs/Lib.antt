@@ -5,3 +5,6 @@ pub mod Address
 pub mod Request
 pub mod Alignment
 pub mod Answer
+pub mod Blocks
+pub mod BlockList
+pub mod Allocator

@@ -1,5 +1,5 @@
 ghost use Rattle.std.specs.Prelude.{◌≡◌, ◌<◌, MatchBool};
-ghost use Rattle.vm_allocator.specs.Request.{MakesConstraint, IsStartAligned};
+ghost use Rattle.vm_allocator.specs.Request.{MakesConstraint, IsStartAligned, IsRequest};
 
 use crate::error::{Error, Result};
 use std::marker::Model;
@@ -86,8 +86,16 @@ impl Constraint {
 
     /// How many addresses are asked for.
     pub fn size(self) -> u64
-        ensures { result ≡ self.size }
+        ensures value { result ≡ self.size }
+        ensures sensible { IsRequest self }
     {
         self.size
+    }
+
+    /// Which of the places is taken.
+    pub(crate) fn policy(self) -> AllocPolicy
+        ensures { result ≡ self.policy }
+    {
+        self.policy
     }
 }

@@ -1,11 +1,13 @@
 //! Gives out ranges of addresses and ids.
 #![tactic(auto)]
 
+mod address_allocator;
 pub mod allocation_engine;
 mod constraint;
 mod error;
 mod range;
 
+pub use address_allocator::AddressAllocator;
 pub use constraint::{AllocPolicy, Constraint, DEFAULT_CONSTRAINT_ALIGN};
 pub use error::{Error, Result};
 pub use range::RangeInclusive;

@@ -1,0 +1,102 @@
+-- What is done with a list of blocks.
+use Rattle.std.specs.Prelude.{◌≡◌, ℕ, ◌+◌, ◌-◌, ◌%◌, ◌<◌, ◌≤◌, List, [], ◌∷◌, ◌++◌, cond, nat_lt}
+use Rattle.std.specs.Prelude.{◌⊎◌, take, drop, length, slice_index_or, Result, Ok, Err}
+use Rattle.std.specs.List.{HoldsAt}
+use Rattle.vm_allocator.specs.Range.{Range, MAX, IsRange, span}
+use Rattle.vm_allocator.specs.Block.{Block}
+use Rattle.vm_allocator.specs.Blocks.{NotBothFree}
+use Rattle.vm_allocator.specs.declared.error.Error.{Error}
+use Rattle.vm_allocator.specs.declared.error.Error.TheVariants.{Overflow, OutOfMemory}
+use Rattle.vm_allocator.specs.declared.allocation_engine.NodeState.{NodeState}
+use Rattle.vm_allocator.specs.declared.allocation_engine.NodeState.TheVariants.{Free, Allocated}
+
+-- the n addresses from t on lie in the free block, and a divides t
+abbrev pub IsFit : ℕ → ℕ → Block → ℕ → Type 0
+IsFit n a b t = (b.state ≡ Free) × (t % a ≡ 0) × (b.key.start ≤ t) × (t + n ≤ b.key.end + 1)
+
+-- the block has no fit
+unfoldable pub HasNoFit : ℕ → ℕ → Block → Type 0
+HasNoFit n a b = (t : ℕ) → ¬ IsFit n a b t
+
+-- the fit that no fit of the block is below
+unfoldable pub IsLeastFit : ℕ → ℕ → Block → ℕ → Type 0
+IsLeastFit n a b t = IsFit n a b t × ((u : ℕ) → IsFit n a b u → t ≤ u)
+
+-- a free block of this range
+abbrev pub free_block : Range → Block
+free_block k = record { key = k; state = Free }
+
+-- the free block that is left before r where r is taken from within k
+abbrev pub before_part : Range → Range → List Block
+before_part k r = cond (nat_lt k.start r.start) (free_block (record { start = k.start; end = r.start - 1 }) ∷ []) []
+
+-- the free block that is left after it
+abbrev pub after_part : Range → Range → List Block
+after_part k r = cond (nat_lt r.end k.end) (free_block (record { start = r.end + 1; end = k.end }) ∷ []) []
+
+-- the blocks that stand in the place of k once r is taken from it
+abbrev pub parts : Range → Range → List Block
+parts k r = before_part k r ++ record { key = r; state = Allocated } ∷ after_part k r
+
+-- the blocks with a free one before them, which takes in the first if that is free too
+abbrev pub join_if : NodeState → Range → Block → List Block → List Block
+join_if Free k b bs = free_block (record { start = k.start; end = b.key.end }) ∷ bs
+join_if Allocated k b bs = free_block k ∷ b ∷ bs
+
+-- the same, also where there is no first
+abbrev pub with_free : Range → List Block → List Block
+with_free k [] = free_block k ∷ []
+with_free k (b ∷ bs) = join_if b.state k b bs
+
+-- the last of the blocks, or else one before them, is not free
+abbrev pub EndsHeld : NodeState → List Block → Type 0
+EndsHeld before [] = NotBothFree before Free
+EndsHeld before (b ∷ bs) = EndsHeld b.state bs
+
+-- the block is held and has this range
+unfoldable pub IsSlot : Range → Block → Type 0
+IsSlot r b = (b.key ≡ r) × (b.state ≡ Allocated)
+
+-- it does not
+unfoldable pub IsNoSlot : Range → Block → Type 0
+IsNoSlot r b = ¬ IsSlot r b
+
+-- r lies within k
+pub record IsTakenFrom (k r : Range) : Type 0 where
+  pub from : k.start ≤ r.start
+  pub some : r.start ≤ r.end
+  pub upto : r.end ≤ k.end
+
+-- a part of k lies beside r
+abbrev pub LeavesPart : Range → Range → Type 0
+LeavesPart k r = (k.start < r.start) ⊎ (r.end < k.end)
+
+-- the blocks with the parts of one of them in its place
+abbrev pub IsCarved : List Block → ℕ → Range → List Block → Type 0
+IsCarved old at r new = HoldsAt (λ b. new ≡ take at old ++ (parts b.key r ++ drop (at + 1) old)) old at
+
+-- what taking the n addresses from s on, within one block, comes to
+unfoldable pub TakesFit : List Block → ℕ → ℕ → ℕ → Result Range Error → List Block → Type 0
+TakesFit old at s n answer new =
+    ((s + n - 1 ≡ MAX) × (answer ≡ Err Overflow) × (new ≡ old))
+    ⊎ ((s + n - 1 < MAX) × (((answer ≡ Ok (span s n)) × IsCarved old at (span s n) new)
+    ⊎ (HoldsAt (λ b. LeavesPart b.key (span s n)) old at × (answer ≡ Err OutOfMemory) × (new ≡ old))))
+
+-- the n addresses from s on lie in the block
+unfoldable pub HasRoom : ℕ → ℕ → Block → Type 0
+HasRoom s n b = (b.key.start ≤ s) × (s + n ≤ b.key.end + 1)
+
+-- a free block of this range, joined with the first of the blocks, would have a range
+unfoldable pub CanJoin : Range → List Block → Type 0
+CanJoin k [] = Unit {0}
+CanJoin k (b ∷ bs) = IsRange k.start b.key.end
+
+-- from the start of a block to the end of a later one is a range
+unfoldable pub AreJoinable : List Block → Type 0
+AreJoinable bs = (i j : ℕ) (d : Block) → i ≤ j → j < length bs → IsRange (slice_index_or bs i d).key.start (slice_index_or bs j d).key.end
+
+-- the block at an index is free again, and joined with its free neighbours
+unfoldable pub GivesBack : List Block → ℕ → List Block → Type 0
+GivesBack old at new =
+    (EndsHeld Allocated (take at old) × HoldsAt (λ b. new ≡ take at old ++ with_free b.key (drop (at + 1) old)) old at)
+    ⊎ ((i : ℕ) × (at ≡ i + 1) × HoldsAt (λ f. f.state ≡ Free) old i × ((d : Block) → new ≡ take i old ++ with_free (record { start = (slice_index_or old i d).key.start; end = (slice_index_or old at d).key.end }) (drop (at + 1) old)))
