@@ -5,6 +5,7 @@ mod address_allocator;
 pub mod allocation_engine;
 mod constraint;
 mod error;
+mod laws;
 mod range;
 
 pub use address_allocator::AddressAllocator;
