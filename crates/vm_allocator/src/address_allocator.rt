@@ -138,3 +138,6 @@ impl AddressAllocator {
         self.address_space.end()
     }
 }
+
+#[cfg(test)]
+mod tests;

@@ -12,3 +12,6 @@ pub use address_allocator::AddressAllocator;
 pub use constraint::{AllocPolicy, Constraint, DEFAULT_CONSTRAINT_ALIGN};
 pub use error::{Error, Result};
 pub use range::RangeInclusive;
+
+#[cfg(test)]
+mod tests;
