@@ -4,8 +4,8 @@ use Rattle.std.proofs.lemmas.Nat.{pow-add}
 use Rattle.std.proofs.Math.Nat.{mul-add-mod_self_right, zero-mod}
 use Rattle.vm_allocator.specs.Range.{MAX}
 use Rattle.vm_allocator.specs.Block.{Block}
-use Rattle.vm_allocator.specs.Alignment.{IsAlignment, AlignsUp, IsLeastMultiple}
-use Rattle.vm_allocator.specs.BlockList.{HasNoFit, IsLeastFit}
+use Rattle.vm_allocator.specs.Alignment.{IsAlignment, AlignsDown, AlignsUp, IsGreatestMultiple, IsLeastMultiple}
+use Rattle.vm_allocator.specs.BlockList.{HasNoFit, IsLeastFit, IsGreatestFit}
 use Rattle.vm_allocator.specs.declared.error.Error.{Error}
 use Rattle.vm_allocator.specs.declared.allocation_engine.NodeState.TheVariants.{Free, Allocated}
 use Rattle.vm_allocator.proofs.Power.{gap, alignment_pos}
@@ -53,3 +53,31 @@ least_fit n a s b h u l e =
     ((e, i.0, i.1, l), λ t f. i.2 t f.1 f.2)
 
 pub ruleset least_fits = (no_fit_held, no_fit_over, no_fit_short, least_fit)
+
+down_ok : (x a r : ℕ) → IsAlignment a → AlignsDown x a (Ok r) → IsGreatestMultiple a x r
+unfolding AlignsDown
+down_ok x a r h u =
+    ⊎_elim (λ l. absurd (l.0 h)) (λ w. let same : w.1.0 ≡ r = cc in subst (λ (v : ℕ). IsGreatestMultiple a x v) same w.1.2) u
+
+down_err : (x a : ℕ) (e : Error) → IsAlignment a → AlignsDown x a (Err e) → ⊥
+unfolding AlignsDown
+down_err x a e h u = ⊎_elim (λ l. l.0 h) (λ w. let bad = w.1.1 in cc) u
+
+pub no_fit_small : (n a : ℕ) (b : Block) → b.key.end + 1 < b.key.start + n → HasNoFit n a b
+unfolding HasNoFit
+no_fit_small n a b l t f = omega (arith, f.2, f.3)
+
+pub no_fit_low : (n a x s : ℕ) (b : Block) → IsAlignment a → AlignsDown x a (Ok s) → x + n ≡ b.key.end + 1 → s < b.key.start → HasNoFit n a b
+unfolding HasNoFit IsGreatestMultiple
+no_fit_low n a x s b h u e l t f = let i = (down_ok x a s h u).2 t f.1 (omega (arith, f.3)) in omega (arith, f.2)
+
+pub no_fit_never : (n a x : ℕ) (e : Error) (b : Block) → IsAlignment a → AlignsDown x a (Err e) → HasNoFit n a b
+no_fit_never n a x e b h u = absurd (down_err x a e h u)
+
+pub greatest_fit : (n a x s : ℕ) (b : Block) → IsAlignment a → AlignsDown x a (Ok s) → x + n ≡ b.key.end + 1 → b.key.start ≤ s → b.state ≡ Free → IsGreatestFit n a b s
+unfolding IsGreatestFit IsGreatestMultiple
+greatest_fit n a x s b h u q l e =
+    let i = down_ok x a s h u in
+    ((e, i.0, l, omega (arith, i.1)), λ t f. i.2 t f.1 (omega (arith, f.3)))
+
+pub ruleset greatest_fits = (no_fit_held, no_fit_small, no_fit_low, no_fit_never, greatest_fit)

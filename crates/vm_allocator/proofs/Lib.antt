@@ -17,3 +17,4 @@ pub mod Freeing
 pub mod Making
 pub mod Once
 pub mod Filling
+pub mod Exact

@@ -4,9 +4,9 @@ use Rattle.std.specs.List.{All}
 use Rattle.std.proofs.lemmas.List.Elements.{All-head, All-tail}
 use Rattle.vm_allocator.specs.Range.{Range}
 use Rattle.vm_allocator.specs.Block.{Block}
-use Rattle.vm_allocator.specs.Address.{AddressState, IsPlace, IsLeastPlace}
+use Rattle.vm_allocator.specs.Address.{AddressState, IsPlace, IsLeastPlace, IsGreatestPlace}
 use Rattle.vm_allocator.specs.Blocks.{Tiles, IsBlocksOf}
-use Rattle.vm_allocator.specs.BlockList.{IsFit, HasNoFit, IsLeastFit}
+use Rattle.vm_allocator.specs.BlockList.{IsFit, HasNoFit, IsLeastFit, IsGreatestFit}
 use Rattle.vm_allocator.proofs.Words.{IsHeldAddress, all_miss, none_holds}
 use Rattle.vm_allocator.specs.declared.allocation_engine.NodeState.{NodeState}
 use Rattle.vm_allocator.specs.declared.allocation_engine.NodeState.TheVariants.{Free, Allocated}
@@ -55,6 +55,26 @@ not_below p lo hi n a t u (x ∷ xs) ys b h nf l z d f =
     (λ (i : InFreeBlock (xs ++ b ∷ ys) u (u + n - 1)). not_below x.state (x.key.end + 1) hi n a t u xs ys b h.3 (All-tail (HasNoFit n a) x xs nf) l z d i)
     f
 
+not_above : (p : NodeState) (lo hi n a t u : ℕ) (xs ys : List Block) (b : Block) → Tiles p lo (xs ++ b ∷ ys) hi → All (HasNoFit n a) ys → IsGreatestFit n a b t → 0 < n → u % a ≡ 0 → InFreeBlock (xs ++ b ∷ ys) u (u + n - 1) → u ≤ t
+unfolding HasNoFit IsGreatestFit
+not_above p lo hi n a t u [] ys b h nf l z d f =
+    ⊎_elim
+    (λ (i : (b.state ≡ Free) × (b.key.start ≤ u) × (u + n - 1 ≤ b.key.end)). l.1 u (fit_here b n a u z d i))
+    (λ (i : InFreeBlock ys u (u + n - 1)). absurd (none_in ys nf i))
+    f
+  where
+    none_in : (ys : List Block) → All (HasNoFit n a) ys → InFreeBlock ys u (u + n - 1) → ⊥
+    none_in [] nf i = i
+    none_in (y ∷ ys) nf i =
+        ⊎_elim (λ j. All-head (HasNoFit n a) y ys nf u (fit_here y n a u z d j)) (λ j. none_in ys (All-tail (HasNoFit n a) y ys nf) j) i
+not_above p lo hi n a t u (x ∷ xs) ys b h nf l z d f =
+    ⊎_elim
+    (λ (i : (x.state ≡ Free) × (x.key.start ≤ u) × (u + n - 1 ≤ x.key.end)).
+    let g = above x.state (x.key.end + 1) hi t (t + n - 1) (xs ++ b ∷ ys) h.3 (omega arith) (fit_within xs ys b n a t z l.0) in
+    omega (arith, g, i.2))
+    (λ (i : InFreeBlock (xs ++ b ∷ ys) u (u + n - 1)). not_above x.state (x.key.end + 1) hi n a t u xs ys b h.3 nf l z d i)
+    f
+
 none_at : (bs : List Block) (n a u : ℕ) → All (HasNoFit n a) bs → 0 < n → u % a ≡ 0 → InFreeBlock bs u (u + n - 1) → ⊥
 unfolding HasNoFit
 none_at [] n a u nf z d i = i
@@ -74,5 +94,17 @@ least_place state bs xs ys b n a t h e z nf l =
       block_place state bs n a t h z l.0.1 inside,
       λ u p.
           not_below Allocated state.space.start state.space.end n a t u xs ys b tiles nf l z (place_divides state n a u p)
+          (subst (λ (v : List Block). InFreeBlock v u (u + n - 1)) e (place_in_block state bs n a u h z p)),
+    )
+
+-- the greatest fit of the last block that has one is the greatest place
+pub greatest_place : (state : AddressState) (bs xs ys : List Block) (b : Block) (n a t : ℕ) → IsBlocksOf state bs → bs ≡ xs ++ b ∷ ys → 0 < n → All (HasNoFit n a) ys → IsGreatestFit n a b t → IsGreatestPlace n a state t
+unfolding IsGreatestPlace IsGreatestFit
+greatest_place state bs xs ys b n a t h e z nf l =
+    let tiles : Tiles Allocated state.space.start (xs ++ b ∷ ys) state.space.end = subst (λ (v : List Block). Tiles Allocated state.space.start v state.space.end) e h.tiles in
+    let inside : InFreeBlock bs t (t + n - 1) = subst (λ (v : List Block). InFreeBlock v t (t + n - 1)) (sym e) (fit_within xs ys b n a t z l.0) in (
+      block_place state bs n a t h z l.0.1 inside,
+      λ u p.
+          not_above Allocated state.space.start state.space.end n a t u xs ys b tiles nf l z (place_divides state n a u p)
           (subst (λ (v : List Block). InFreeBlock v u (u + n - 1)) e (place_in_block state bs n a u h z p)),
     )

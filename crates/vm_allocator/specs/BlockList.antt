@@ -22,6 +22,10 @@ HasNoFit n a b = (t : ℕ) → ¬ IsFit n a b t
 unfoldable pub IsLeastFit : ℕ → ℕ → Block → ℕ → Type 0
 IsLeastFit n a b t = IsFit n a b t × ((u : ℕ) → IsFit n a b u → t ≤ u)
 
+-- the fit that no fit of the block is above
+unfoldable pub IsGreatestFit : ℕ → ℕ → Block → ℕ → Type 0
+IsGreatestFit n a b t = IsFit n a b t × ((u : ℕ) → IsFit n a b u → u ≤ t)
+
 -- a free block of this range
 abbrev pub free_block : Range → Block
 free_block k = record { key = k; state = Free }
