@@ -5,7 +5,7 @@ use Rattle.vm_allocator.specs.Range.{Range}
 use Rattle.vm_allocator.specs.Block.{Block}
 use Rattle.vm_allocator.specs.Address.{AddressState, with_range, holding}
 use Rattle.vm_allocator.specs.Blocks.{NotBothFree, Tiles, held_of, IsBlocksOf}
-use Rattle.vm_allocator.specs.BlockList.{after_part, parts, IsTakenFrom}
+use Rattle.vm_allocator.specs.BlockEdits.{after_part, parts, IsTakenFrom}
 use Rattle.vm_allocator.specs.declared.allocation_engine.NodeState.{NodeState}
 use Rattle.vm_allocator.specs.declared.allocation_engine.NodeState.TheVariants.{Free, Allocated}
 use Rattle.vm_allocator.proofs.Runs.{state_cases}

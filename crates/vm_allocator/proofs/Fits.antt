@@ -5,7 +5,7 @@ use Rattle.std.proofs.Math.Nat.{mul-add-mod_self_right, zero-mod}
 use Rattle.vm_allocator.specs.Range.{MAX}
 use Rattle.vm_allocator.specs.Block.{Block}
 use Rattle.vm_allocator.specs.Alignment.{IsAlignment, AlignsDown, AlignsUp, IsGreatestMultiple, IsLeastMultiple}
-use Rattle.vm_allocator.specs.BlockList.{HasNoFit, IsLeastFit, IsGreatestFit}
+use Rattle.vm_allocator.specs.Fit.{HasNoFit, IsLeastFit, IsGreatestFit}
 use Rattle.vm_allocator.specs.declared.error.Error.{Error}
 use Rattle.vm_allocator.specs.declared.allocation_engine.NodeState.TheVariants.{Free, Allocated}
 use Rattle.vm_allocator.proofs.Power.{gap, alignment_pos}

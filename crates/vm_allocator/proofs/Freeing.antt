@@ -7,7 +7,7 @@ use Rattle.vm_allocator.specs.Block.{Block}
 use Rattle.vm_allocator.specs.Address.{releasing, without_range, AreSlots, IsAddressState}
 use Rattle.vm_allocator.specs.Answer.{Frees}
 use Rattle.vm_allocator.specs.Blocks.{Tiles, held_of, IsBlocksOf, blocks_state, TilesSpace, IsTiling, AreBelowMax}
-use Rattle.vm_allocator.specs.BlockList.{IsSlot, IsNoSlot, AreJoinable, GivesBack, with_free}
+use Rattle.vm_allocator.specs.BlockEdits.{IsSlot, IsNoSlot, AreJoinable, GivesBack, with_free}
 use Rattle.vm_allocator.proofs.Words.{IsHeld, contains_held, held_contains}
 use Rattle.vm_allocator.specs.declared.error.Error.TheVariants.{ResourceNotAvailable}
 use Rattle.vm_allocator.specs.declared.allocation_engine.NodeState.{NodeState}

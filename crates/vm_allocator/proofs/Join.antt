@@ -5,7 +5,7 @@ use Rattle.vm_allocator.specs.Range.{Range}
 use Rattle.vm_allocator.specs.Block.{Block}
 use Rattle.vm_allocator.specs.Address.{AddressState, without_range, releasing}
 use Rattle.vm_allocator.specs.Blocks.{NotBothFree, Tiles, range_if_held, held_of, IsBlocksOf}
-use Rattle.vm_allocator.specs.BlockList.{join_if, with_free, EndsHeld, IsSlot, IsNoSlot}
+use Rattle.vm_allocator.specs.BlockEdits.{join_if, with_free, EndsHeld, IsSlot, IsNoSlot}
 use Rattle.vm_allocator.proofs.Words.{IsHeld}
 use Rattle.std.specs.List.{All}
 use Rattle.std.proofs.lemmas.List.Elements.{All-head, All-tail}

@@ -8,7 +8,7 @@ use Rattle.std.proofs.lemmas.Bool.{cases_lt}
 use Rattle.vm_allocator.specs.Range.{Range, IsRange}
 use Rattle.vm_allocator.specs.Block.{Block}
 use Rattle.vm_allocator.specs.Blocks.{NotBothFree}
-use Rattle.vm_allocator.specs.BlockList.{free_block, IsSlot, IsNoSlot, CanJoin, AreJoinable, with_free, join_if, EndsHeld, GivesBack}
+use Rattle.vm_allocator.specs.BlockEdits.{free_block, IsSlot, IsNoSlot, CanJoin, AreJoinable, with_free, join_if, EndsHeld, GivesBack}
 use Rattle.vm_allocator.specs.declared.allocation_engine.NodeState.{NodeState}
 use Rattle.vm_allocator.specs.declared.allocation_engine.NodeState.TheVariants.{Free, Allocated}
 use Rattle.vm_allocator.proofs.Pieces.{set_cut}

@@ -6,7 +6,7 @@ use Rattle.std.proofs.Math.ListN.{set}
 use Rattle.std.proofs.lemmas.Bool.{lt-ltb, le-ltb}
 use Rattle.vm_allocator.specs.Range.{Range}
 use Rattle.vm_allocator.specs.Block.{Block}
-use Rattle.vm_allocator.specs.BlockList.{parts}
+use Rattle.vm_allocator.specs.BlockEdits.{parts}
 use Rattle.vm_allocator.specs.declared.allocation_engine.NodeState.TheVariants.{Free, Allocated}
 
 insert_first : (xs ys : List Block) (a : Block) → insert (xs ++ ys) (length xs) a ≡ xs ++ a ∷ ys

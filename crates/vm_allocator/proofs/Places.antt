@@ -6,7 +6,7 @@ use Rattle.vm_allocator.specs.Range.{Range}
 use Rattle.vm_allocator.specs.Block.{Block}
 use Rattle.vm_allocator.specs.Address.{AddressState, IsPlace, IsLeastPlace, IsGreatestPlace}
 use Rattle.vm_allocator.specs.Blocks.{Tiles, IsBlocksOf}
-use Rattle.vm_allocator.specs.BlockList.{IsFit, HasNoFit, IsLeastFit, IsGreatestFit}
+use Rattle.vm_allocator.specs.Fit.{IsFit, HasNoFit, IsLeastFit, IsGreatestFit}
 use Rattle.vm_allocator.proofs.Words.{IsHeldAddress, all_miss, none_holds}
 use Rattle.vm_allocator.specs.declared.allocation_engine.NodeState.{NodeState}
 use Rattle.vm_allocator.specs.declared.allocation_engine.NodeState.TheVariants.{Free, Allocated}

@@ -6,6 +6,7 @@ pub mod Request
 pub mod Alignment
 pub mod Answer
 pub mod Blocks
-pub mod BlockList
+pub mod Fit
+pub mod BlockEdits
 pub mod Allocator
 pub mod Laws

@@ -1,7 +1,8 @@
 ghost use Rattle.std.specs.Prelude.{◌≡◌, ◌<◌, ◌≤◌, ◌+◌, ◌++◌, MatchOption, MatchBool, All, take, drop, length, vec_len, vec_capacity, insert, IfSome, IfErr, OnOk, OnErr};
 ghost use Rattle.std.specs.List.{HoldsAt};
 ghost use Rattle.vm_allocator.specs.Alignment.{IsAlignment};
-ghost use Rattle.vm_allocator.specs.BlockList.{HasNoFit, IsLeastFit, IsTakenFrom, parts, LeavesPart, TakesFit, HasRoom, IsSlot, IsNoSlot, CanJoin, AreJoinable, GivesBack, with_free};
+ghost use Rattle.vm_allocator.specs.Fit.{HasNoFit, IsLeastFit};
+ghost use Rattle.vm_allocator.specs.BlockEdits.{IsTakenFrom, parts, LeavesPart, TakesFit, HasRoom, IsSlot, IsNoSlot, CanJoin, AreJoinable, GivesBack, with_free};
 
 use crate::allocation_engine::{NodeState, align_up};
 use crate::error::{Error, Result};
@@ -190,7 +191,7 @@ fn carve_behind(
 
 /// Takes the `size` addresses from `start` on from within a block. `Overflow` where they end at
 /// `u64::MAX`, else `OutOfMemory`, only where a part of the block is left over.
-#[tactic(auto, using(crate::proofs::Taking::taking), unfolding(crate::specs::BlockList::HasRoom))]
+#[tactic(auto, using(crate::proofs::Taking::taking), unfolding(crate::specs::BlockEdits::HasRoom))]
 pub fn take_fit(blocks: &mut Vec<Block>, at: usize, start: u64, size: u64) -> Result<RangeInclusive>
     requires some { 0 < size }
     requires at { at < vec_len blocks.old }

@@ -1,4 +1,4 @@
--- What is done with a list of blocks.
+-- What is done with the list of the blocks.
 use Rattle.std.specs.Prelude.{◌≡◌, ℕ, ◌+◌, ◌-◌, ◌%◌, ◌<◌, ◌≤◌, List, [], ◌∷◌, ◌++◌, cond, nat_lt}
 use Rattle.std.specs.Prelude.{◌⊎◌, take, drop, length, slice_index_or, Result, Ok, Err}
 use Rattle.std.specs.List.{HoldsAt}
@@ -9,22 +9,6 @@ use Rattle.vm_allocator.specs.declared.error.Error.{Error}
 use Rattle.vm_allocator.specs.declared.error.Error.TheVariants.{Overflow, OutOfMemory}
 use Rattle.vm_allocator.specs.declared.allocation_engine.NodeState.{NodeState}
 use Rattle.vm_allocator.specs.declared.allocation_engine.NodeState.TheVariants.{Free, Allocated}
-
--- the n addresses from t on lie in the free block, and a divides t
-abbrev pub IsFit : ℕ → ℕ → Block → ℕ → Type 0
-IsFit n a b t = (b.state ≡ Free) × (t % a ≡ 0) × (b.key.start ≤ t) × (t + n ≤ b.key.end + 1)
-
--- the block has no fit
-unfoldable pub HasNoFit : ℕ → ℕ → Block → Type 0
-HasNoFit n a b = (t : ℕ) → ¬ IsFit n a b t
-
--- the fit that no fit of the block is below
-unfoldable pub IsLeastFit : ℕ → ℕ → Block → ℕ → Type 0
-IsLeastFit n a b t = IsFit n a b t × ((u : ℕ) → IsFit n a b u → t ≤ u)
-
--- the fit that no fit of the block is above
-unfoldable pub IsGreatestFit : ℕ → ℕ → Block → ℕ → Type 0
-IsGreatestFit n a b t = IsFit n a b t × ((u : ℕ) → IsFit n a b u → u ≤ t)
 
 -- a free block of this range
 abbrev pub free_block : Range → Block

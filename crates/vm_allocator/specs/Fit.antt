@@ -1,0 +1,20 @@
+-- What one block has room for.
+use Rattle.std.specs.Prelude.{◌≡◌, ℕ, ◌+◌, ◌%◌, ◌≤◌}
+use Rattle.vm_allocator.specs.Block.{Block}
+use Rattle.vm_allocator.specs.declared.allocation_engine.NodeState.TheVariants.{Free}
+
+-- the n addresses from t on lie in the free block, and a divides t
+abbrev pub IsFit : ℕ → ℕ → Block → ℕ → Type 0
+IsFit n a b t = (b.state ≡ Free) × (t % a ≡ 0) × (b.key.start ≤ t) × (t + n ≤ b.key.end + 1)
+
+-- the block has no fit
+unfoldable pub HasNoFit : ℕ → ℕ → Block → Type 0
+HasNoFit n a b = (t : ℕ) → ¬ IsFit n a b t
+
+-- the fit that no fit of the block is below
+unfoldable pub IsLeastFit : ℕ → ℕ → Block → ℕ → Type 0
+IsLeastFit n a b t = IsFit n a b t × ((u : ℕ) → IsFit n a b u → t ≤ u)
+
+-- the fit that no fit of the block is above
+unfoldable pub IsGreatestFit : ℕ → ℕ → Block → ℕ → Type 0
+IsGreatestFit n a b t = IsFit n a b t × ((u : ℕ) → IsFit n a b u → u ≤ t)
