@@ -2,3 +2,9 @@ pub mod Ranges
 pub mod Power
 pub mod Alignments
 pub mod Requests
+pub mod BlockOrder
+pub mod Replacement
+pub mod SideChange
+pub mod Supersets
+pub mod Meetings
+pub mod Rewriting

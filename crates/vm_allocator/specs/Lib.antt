@@ -5,3 +5,9 @@ pub mod Address
 pub mod Request
 pub mod Alignment
 pub mod Answer
+pub mod RangeOrder
+pub mod BlockList
+pub mod Shape
+pub mod NodeFields
+pub mod NodeAnswer
+pub mod Fibonacci
