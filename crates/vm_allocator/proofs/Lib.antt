@@ -8,3 +8,4 @@ pub mod SideChange
 pub mod Supersets
 pub mod Meetings
 pub mod Rewriting
+pub mod FewestNodes

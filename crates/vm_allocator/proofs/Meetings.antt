@@ -6,6 +6,7 @@ use Rattle.vm_allocator.specs.RangeOrder.{EndsBefore, Reaches, IsInOrder, Apart}
 use Rattle.vm_allocator.specs.Block.{Block}
 use Rattle.vm_allocator.specs.BlockList.{IsOrderedFrom, IsClearOf}
 use Rattle.vm_allocator.specs.Shape.{Shape, Tip, Fork, blocks, IsTree, first_met}
+use Rattle.vm_allocator.specs.NodeAnswer.{TellsOverlap}
 use Rattle.vm_allocator.proofs.BlockOrder.{ordered_middle}
 use Rattle.vm_allocator.proofs.Ranges.{meet}
 
@@ -21,9 +22,9 @@ pub met_here : (s l : Shape) (x : Block) (r : Shape) (k : Range) → s ≡ Fork 
 unfolding Reaches
 met_here s l x r k e p q = ap (first_met k) e ∙ rw (le-ltb k.end x.key.start p, le-ltb x.key.end k.start q)
 
-pub overlaps_here : (k m : Range) → IsInOrder k → IsInOrder m → Reaches k m → Reaches m k → Overlaps k m
-unfolding IsInOrder Reaches
-overlaps_here k m p q a b = meet k m p q b a
+pub overlaps_here : (k m : Range) (bs : List Block) → IsInOrder k → IsInOrder m → Reaches k m → Reaches m k → TellsOverlap k (Some m) bs
+unfolding IsInOrder Reaches TellsOverlap
+overlaps_here k m bs p q a b = meet k m p q b a
 
 clear_above : (lo : ℕ) (k : Range) (bs : List Block) → k.end < lo → IsOrderedFrom lo bs → IsClearOf k bs
 unfolding IsClearOf
@@ -42,20 +43,22 @@ clear_with_right lo k (b ∷ l) x r p c o =
     let m = ordered_middle (b.key.end + 1) l x r o.2 in
     (inr (omega (arith, m.0, m.1)), clear_with_right (b.key.end + 1) k l x r p c o.2)
 
-pub clear_by_left : (s l : Shape) (x : Block) (r : Shape) (k : Range) → s ≡ Fork l x r → EndsBefore k x.key → IsTree s → IsClearOf k (blocks l) → IsClearOf k (blocks s)
-unfolding EndsBefore
-clear_by_left s l x r k e p t c =
+pub overlap_by_left : (s l : Shape) (x : Block) (r : Shape) (k : Range) (met : Option Range) → s ≡ Fork l x r → EndsBefore k x.key → IsTree s → TellsOverlap k met (blocks l) → TellsOverlap k met (blocks s)
+unfolding EndsBefore TellsOverlap
+overlap_by_left s l x r k (Some met) e p t h = h
+overlap_by_left s l x r k None e p t h =
     let o : IsOrderedFrom 0 (blocks l ++ x ∷ blocks r) = rw e at t.ordered in
-    rw e (clear_with_left 0 k (blocks l) x (blocks r) p c o)
+    rw e (clear_with_left 0 k (blocks l) x (blocks r) p h o)
 
-pub clear_by_right : (s l : Shape) (x : Block) (r : Shape) (k : Range) → s ≡ Fork l x r → EndsBefore x.key k → IsTree s → IsClearOf k (blocks r) → IsClearOf k (blocks s)
-unfolding EndsBefore
-clear_by_right s l x r k e p t c =
+pub overlap_by_right : (s l : Shape) (x : Block) (r : Shape) (k : Range) (met : Option Range) → s ≡ Fork l x r → EndsBefore x.key k → IsTree s → TellsOverlap k met (blocks r) → TellsOverlap k met (blocks s)
+unfolding EndsBefore TellsOverlap
+overlap_by_right s l x r k (Some met) e p t h = h
+overlap_by_right s l x r k None e p t h =
     let o : IsOrderedFrom 0 (blocks l ++ x ∷ blocks r) = rw e at t.ordered in
-    rw e (clear_with_right 0 k (blocks l) x (blocks r) p c o)
+    rw e (clear_with_right 0 k (blocks l) x (blocks r) p h o)
 
-pub clear_of_none : (k : Range) → IsClearOf k []
-unfolding IsClearOf
-clear_of_none k = tt
+pub overlaps_none : (k : Range) → TellsOverlap k None []
+unfolding TellsOverlap IsClearOf
+overlaps_none k = tt
 
-pub ruleset first_meetings = (met_in_left, met_in_right, met_here, overlaps_here, clear_by_left, clear_by_right, clear_of_none)
+pub ruleset first_meetings = (met_in_left, met_in_right, met_here, overlaps_here, overlap_by_left, overlap_by_right, overlaps_none)

@@ -1,5 +1,5 @@
 -- Facts on a block that gets another key or state in place.
-use Rattle.std.proofs.Common.{◌≡◌, ℕ, ◌+◌, ◌<◌, ◌≤◌, Bool, true, false, cond, List, [], ◌∷◌, ◌++◌, refl, ap, ◌∙◌, subst, sym, arith, Some, None, Option, Result, Ok, Err}
+use Rattle.std.proofs.Common.{◌≡◌, ℕ, ◌+◌, ◌<◌, ◌≤◌, Bool, true, false, cond, List, [], ◌∷◌, ◌++◌, refl, ap, ◌∙◌, subst, sym, arith, Some, None, Option, IsSome, Result, Ok, Err}
 use Rattle.vm_allocator.specs.Range.{Range}
 use Rattle.vm_allocator.specs.RangeOrder.{Before, same_range}
 use Rattle.vm_allocator.specs.Block.{Block}
@@ -19,6 +19,15 @@ rewritten_left s l x r k ys e p t o = ordered_front 0 (replace_block k ys (block
 
 pub rewritten_right : (s l : Shape) (x : Block) (r : Shape) (k : Range) (ys : List Block) → s ≡ Fork l x r → Before x.key k → IsTree s → IsOrderedFrom 0 (replace_block k ys (blocks s)) → IsOrderedFrom 0 (replace_block k ys (blocks r))
 rewritten_right s l x r k ys e p t o = ordered_back (blocks l) x (replace_block k ys (blocks r)) (subst (IsOrderedFrom 0) (replace_in_right s l x r k ys e p t) o)
+
+pub known_left : (s l : Shape) (x : Block) (r : Shape) (k : Range) → s ≡ Fork l x r → Before k x.key → IsTree s → IsSome (find_key k (blocks s)) → IsSome (find_key k (blocks l))
+known_left s l x r k e p t h = rw (find_in_left s l x r k e p t) at h
+
+pub known_right : (s l : Shape) (x : Block) (r : Shape) (k : Range) → s ≡ Fork l x r → Before x.key k → IsTree s → IsSome (find_key k (blocks s)) → IsSome (find_key k (blocks r))
+known_right s l x r k e p t h = rw (find_in_right s l x r k e p t) at h
+
+pub rewrite_here : (s l : Shape) (x : Block) (r : Shape) (k : Range) (y : Block) → s ≡ Fork l x r → k ≡ x.key → IsTree s → replace_block k (y ∷ []) (blocks s) ≡ blocks l ++ y ∷ blocks r
+rewrite_here s l x r k y e p t = replace_in_middle s l x r k (y ∷ []) e p t
 
 -- and the node with the new side is a tree
 pub tree_rewritten_left : (l n : Shape) (x : Block) (r : Shape) (k : Range) (ys : List Block) → Before k x.key → IsTree (Fork l x r) → IsOrderedFrom 0 (replace_block k ys (blocks (Fork l x r)))
@@ -41,7 +50,7 @@ tree_rewritten_here l x r k y p t o = record {
   balanced = t.balanced;
 }
 
-pub ruleset rewritings = (replace_in_left, replace_in_right, replace_in_middle, find_in_left, find_in_right, rewritten_left, rewritten_right, tree_rewritten_left, tree_rewritten_right, tree_rewritten_here)
+pub ruleset rewritings = (replace_in_left, replace_in_right, rewrite_here, known_left, known_right, rewritten_left, rewritten_right, tree_rewritten_left, tree_rewritten_right, tree_rewritten_here)
 
 -- a block with another state
 state_in_order : (lo : ℕ) (l : List Block) (x y : Block) (r : List Block) → y.key ≡ x.key → IsOrderedFrom lo (l ++ x ∷ r) → IsOrderedFrom lo (l ++ y ∷ r)

@@ -1,5 +1,5 @@
 -- What a change of a tree answers where it may be refused.
-use Rattle.std.specs.Prelude.{◌≡◌, ◌⊎◌, Option, Some, None, Result, Ok, Err, [], ◌∷◌}
+use Rattle.std.specs.Prelude.{◌≡◌, ◌⊎◌, Option, Some, None, List, Result, Ok, Err, [], ◌∷◌}
 use Rattle.vm_allocator.specs.Range.{Range, Overlaps}
 use Rattle.vm_allocator.specs.BlockList.{IsClearOf, replace_block}
 use Rattle.vm_allocator.specs.Block.{Block}
@@ -8,6 +8,11 @@ use Rattle.vm_allocator.specs.declared.error.Error.{Error}
 use Rattle.vm_allocator.specs.declared.error.Error.TheVariants.{ResourceNotAvailable, InvalidStateTransition, Overlap, OutOfMemory}
 use Rattle.vm_allocator.specs.declared.allocation_engine.NodeState.{NodeState}
 use Rattle.vm_allocator.specs.declared.allocation_engine.NodeState.TheVariants.{Free, Allocated}
+
+-- the range overlaps the key that it met, or none of the blocks' keys where it met none
+unfoldable pub TellsOverlap : Range → Option Range → List Block → Type 0
+TellsOverlap k None bs = IsClearOf k bs
+TellsOverlap k (Some met) bs = Overlaps k met
 
 -- a key that overlaps is refused for the first key that it meets on the way down, and any other for want of memory alone
 unfoldable pub RefusesKey : Range → Shape → Error → Type 0

@@ -140,9 +140,7 @@ impl Ord for RangeInclusive {
 
     /// By start, then by end.
     fn cmp(&self, other: &RangeInclusive) -> Ordering {
-        self.start
-            .cmp(&other.start)
-            .then(self.end.cmp(&other.end))
+        self.start.cmp(&other.start).then(self.end.cmp(&other.end))
     }
 }
 

@@ -5,9 +5,11 @@ ghost use Rattle.vm_allocator.specs.Range.{MAX, Overlaps};
 ghost use Rattle.vm_allocator.specs.BlockList.{IsOrderedFrom, IsClearOf, insert_block, replace_block, find_key, find_superset};
 ghost use Rattle.vm_allocator.specs.Shape.{Tip, blocks, height_of, single, root_block, IsTree, DifferByAtMost, IsSameIfNot, LeavesIfAbsent, first_met};
 ghost use Rattle.vm_allocator.specs.NodeFields.{side};
-ghost use Rattle.vm_allocator.specs.NodeAnswer.{RefusesKey, Marks};
+ghost use Rattle.vm_allocator.specs.NodeAnswer.{TellsOverlap, RefusesKey, Marks};
 
 mod balance;
+mod laws;
+mod walks;
 
 use crate::allocation_engine::NodeState;
 use crate::error::{Error, Result};
@@ -163,7 +165,9 @@ fn take_least_at(at: &mut Option<Box<InnerNode>>, count: &mut u64) -> (Box<Inner
     if tree.left.is_none() {
         let (_, right) = strip(&mut tree.left, &mut tree.right, &mut tree.height);
         let _ = height(&right);
-        let Some(least) = at.take() else { unreachable!() };
+        let Some(least) = at.take() else {
+            unreachable!()
+        };
         *at = right;
         return (least, true);
     }
@@ -295,7 +299,7 @@ impl InnerNode {
     /// The tree with one more key. A key that overlaps is refused by `Overlap` of it with the first
     /// key met on the way down, and only then may memory run out, `OutOfMemory`. A refusal hands the
     /// same tree back.
-    #[tactic(auto, unfolding(crate::specs::NodeAnswer::RefusesKey))]
+    #[tactic(auto, unfolding(crate::specs::NodeAnswer::TellsOverlap, crate::specs::NodeAnswer::RefusesKey))]
     pub(crate) fn insert(
         tree: Box<InnerNode>,
         alloc: Global,
@@ -372,7 +376,7 @@ impl InnerNode {
         ensures entered { count.old + 1 ≤ count.new }
         ensures steps { count.new ≤ count.old + height_of self.now }
     {
-        let _ = self.height;
+        let _ = &self.height;
         *count += 1;
         match self.key.order(key) {
             Ordering::Equal => Some(self),
@@ -381,7 +385,9 @@ impl InnerNode {
                 left.search(key, count)
             }
             Ordering::Less => {
-                let Some(right) = &self.right else { return None };
+                let Some(right) = &self.right else {
+                    return None
+                };
                 right.search(key, count)
             }
         }
@@ -399,17 +405,23 @@ impl InnerNode {
         ensures entered { count.old + 1 ≤ count.new }
         ensures steps { count.new ≤ count.old + height_of self.now }
     {
-        let _ = self.height;
+        let _ = &self.height;
         *count += 1;
         if key.ends_before(&self.key) {
             let Some(left) = &self.left else { return None };
             return left.search_superset(key, count);
         }
         if self.key.ends_before(key) {
-            let Some(right) = &self.right else { return None };
+            let Some(right) = &self.right else {
+                return None
+            };
             return right.search_superset(key, count);
         }
-        if self.key.contains(key) { Some(self) } else { None }
+        if self.key.contains(key) {
+            Some(self)
+        } else {
+            None
+        }
     }
 
     /// The first key that this one overlaps on the way down.
@@ -417,18 +429,20 @@ impl InnerNode {
     fn first_met(&self, key: &RangeInclusive, count: &mut u64) -> Option<RangeInclusive>
         requires { count.old + height_of self.now ≤ MAX }
         ensures met { result ≡ first_met key.now self.now }
-        ensures overlaps { MatchOption result (IsClearOf key.now (blocks self.now)) (λ met. Overlaps key.now met) }
+        ensures overlaps { TellsOverlap key.now result (blocks self.now) }
         ensures entered { count.old + 1 ≤ count.new }
         ensures steps { count.new ≤ count.old + height_of self.now }
     {
-        let _ = self.height;
+        let _ = &self.height;
         *count += 1;
         if key.ends_before(&self.key) {
             let Some(left) = &self.left else { return None };
             return left.first_met(key, count);
         }
         if self.key.ends_before(key) {
-            let Some(right) = &self.right else { return None };
+            let Some(right) = &self.right else {
+                return None
+            };
             return right.first_met(key, count);
         }
         Some(self.key)
@@ -445,16 +459,18 @@ impl InnerNode {
         ensures entered { count.old + 1 ≤ count.new }
         ensures steps { count.new ≤ count.old + height_of self.old }
     {
-        let _ = self.height;
+        let _ = &self.height;
         *count += 1;
         match self.key.order(key) {
-            Ordering::Equal => {
-                if self.node_state == NodeState::Allocated {
-                    return Err(Error::InvalidStateTransition(*key, NodeState::Allocated));
+            Ordering::Equal => match self.node_state {
+                NodeState::Free => {
+                    self.node_state = NodeState::Allocated;
+                    Ok(())
                 }
-                self.node_state = NodeState::Allocated;
-                Ok(())
-            }
+                NodeState::Allocated => {
+                    Err(Error::InvalidStateTransition(*key, NodeState::Allocated))
+                }
+            },
             Ordering::Greater => {
                 let Some(left) = &mut self.left else {
                     return Err(Error::ResourceNotAvailable);
@@ -489,7 +505,7 @@ impl InnerNode {
         ensures entered { count.old + 1 ≤ count.new }
         ensures steps { count.new ≤ count.old + height_of self.old }
     {
-        let _ = self.height;
+        let _ = &self.height;
         *count += 1;
         match self.key.order(at) {
             Ordering::Equal => {
@@ -497,11 +513,15 @@ impl InnerNode {
                 self.node_state = node_state;
             }
             Ordering::Greater => {
-                let Some(left) = &mut self.left else { unreachable!() };
+                let Some(left) = &mut self.left else {
+                    unreachable!()
+                };
                 left.rewrite(at, key, node_state, count);
             }
             Ordering::Less => {
-                let Some(right) = &mut self.right else { unreachable!() };
+                let Some(right) = &mut self.right else {
+                    unreachable!()
+                };
                 right.rewrite(at, key, node_state, count);
             }
         }

@@ -191,6 +191,8 @@ pub(super) fn rebalance(
     ensures blocks { blocks (side at.new) ≡ blocks (side left) ++ root_block (side at.old) ∷ blocks (side right) }
     ensures height { IsHeightAfterBalance (height_of (side left)) (height_of (side right)) (height_of (side at.new)) }
 {
-    let Some(middle) = at.take() else { unreachable!() };
+    let Some(middle) = at.take() else {
+        unreachable!()
+    };
     *at = Some(balance(left, middle, right));
 }
