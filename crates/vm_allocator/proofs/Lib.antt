@@ -18,3 +18,10 @@ pub mod Making
 pub mod Once
 pub mod Filling
 pub mod Exact
+pub mod BlockOrder
+pub mod Replacement
+pub mod SideChange
+pub mod Supersets
+pub mod Meetings
+pub mod Rewriting
+pub mod FewestNodes

@@ -10,3 +10,9 @@ pub mod Fit
 pub mod BlockEdits
 pub mod Allocator
 pub mod Laws
+pub mod RangeOrder
+pub mod BlockList
+pub mod Shape
+pub mod NodeFields
+pub mod NodeAnswer
+pub mod Fibonacci

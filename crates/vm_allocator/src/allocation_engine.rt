@@ -1,6 +1,8 @@
 //! How addresses are aligned, and how a space is cut into blocks.
 ghost use Rattle.vm_allocator.specs.Alignment.{AlignsDown, AlignsUp};
 
+mod node;
+
 use crate::error::{Error, Result};
 
 /// Whether a block is held. `Free` is less.

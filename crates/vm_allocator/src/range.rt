@@ -1,10 +1,11 @@
-ghost use Rattle.std.specs.Prelude.{◌≡◌, ◌↔◌, IsTrue, Ok, Err};
+ghost use Rattle.std.specs.Prelude.{◌≡◌, ◌↔◌, IsTrue, MatchBool, Ok, Err};
 ghost use Rattle.std.proofs.Common.{rules};
 ghost use Rattle.std.specs.Cmp.{partial_order_from_own_ties};
 ghost use Rattle.std.specs.Cmp.Rules.{comparing};
-ghost use Rattle.std.specs.Ordering.{as_partial_cmp};
+ghost use Rattle.std.specs.Ordering.{as_partial_cmp, MatchOrdering};
 ghost use Rattle.vm_allocator.specs.Cases.{Unless};
 ghost use Rattle.vm_allocator.specs.Range.{IsRange, address_count, Overlaps, Covers, range_cmp};
+ghost use Rattle.vm_allocator.specs.RangeOrder.{Before, StartsBefore, StartsFrom, EndsBefore, Reaches, IsInOrder};
 
 use crate::error::{Error, Result};
 use std::cmp::Ordering;
@@ -75,6 +76,40 @@ impl RangeInclusive {
         ensures { IsTrue result ↔ Covers self.now other.now }
     {
         other.start >= self.start && other.end <= self.end
+    }
+
+    /// How the range compares with another, by start, then by end. It stops at the first difference.
+    #[tactic(auto, unfolding(crate::specs::RangeOrder::Before))]
+    pub(crate) fn order(&self, other: &RangeInclusive) -> Ordering
+        ensures { MatchOrdering result (Before self.now other.now) (self.now ≡ other.now) (Before other.now self.now) }
+    {
+        if self.start < other.start {
+            return Ordering::Less;
+        }
+        if other.start < self.start {
+            return Ordering::Greater;
+        }
+        Ord::cmp(&self.end, &other.end)
+    }
+
+    /// Whether the range starts before another.
+    #[tactic(auto, unfolding(crate::specs::RangeOrder::StartsBefore, crate::specs::RangeOrder::StartsFrom, crate::specs::RangeOrder::IsInOrder))]
+    pub(crate) fn starts_before(&self, other: &RangeInclusive) -> bool
+        ensures which { MatchBool result (StartsBefore self.now other.now) (StartsFrom self.now other.now) }
+        ensures in_order { IsInOrder self.now }
+    {
+        other.start > self.start
+    }
+
+    /// Whether the range ends before another starts.
+    #[tactic(auto, unfolding(crate::specs::RangeOrder::EndsBefore, crate::specs::RangeOrder::Reaches, crate::specs::RangeOrder::IsInOrder))]
+    pub(crate) fn ends_before(&self, other: &RangeInclusive) -> bool
+        ensures which { MatchBool result (EndsBefore self.now other.now) (Reaches self.now other.now) }
+        ensures in_order { IsInOrder self.now }
+        ensures other_in_order { IsInOrder other.now }
+    {
+        let _ = other.end;
+        other.start > self.end
     }
 
     /// The first address.

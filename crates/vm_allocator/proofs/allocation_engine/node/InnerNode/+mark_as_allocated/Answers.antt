@@ -1,0 +1,22 @@
+use Rattle.std.proofs.Common.{◌≡◌, refl, sym, ap, ◌∙◌, rules, None, Some}
+use Rattle.vm_allocator.specs.Range.{Covers}
+use Rattle.vm_allocator.specs.BlockList.{IsClearOf, find_key, find_superset}
+use Rattle.vm_allocator.specs.Shape.{blocks, first_met}
+use Rattle.vm_allocator.specs.NodeFields.{side, shape_of}
+use Rattle.vm_allocator.proofs.Rewriting.{marks_none_left, marks_none_right, marks_here}
+use Rattle.vm_allocator.proofs.allocation_engine.node.InnerNode.+mark_as_allocated.Goals as goal
+
+pub returns-in_default-clause-marks : goal.returns-in_default-clause-marks
+returns-in_default-clause-marks t c =
+    let i = c.self.inside in
+    rw (← c.self.view_is) (marks_none_left (shape_of i) (side i.left) _ (side i.right) c.args.key.now refl (ap side c.in_default.is) c.in-Greater.ensures c.self.invariant.tree)
+
+pub returns-in_default-right-clause-marks : goal.returns-in_default-right-clause-marks
+returns-in_default-right-clause-marks t c =
+    let i = c.self.inside in
+    rw (← c.self.view_is) (marks_none_right (shape_of i) (side i.left) _ (side i.right) c.args.key.now refl (ap side c.in_default-right.is) c.in-Less.ensures c.self.invariant.tree)
+
+pub returns-in-Free-clause-marks : goal.returns-in-Free-clause-marks
+returns-in-Free-clause-marks t c =
+    let i = c.self.inside in
+    rw (← c.self.view_is) (marks_here (shape_of i) (side i.left) _ (side i.right) c.args.key.now refl (sym c.in-Equal.ensures) c.in-Free.is c.self.invariant.tree)

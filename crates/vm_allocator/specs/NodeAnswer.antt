@@ -1,0 +1,31 @@
+-- What a change of a tree answers where it may be refused.
+use Rattle.std.specs.Prelude.{◌≡◌, ◌⊎◌, Option, Some, None, List, Result, Ok, Err, [], ◌∷◌}
+use Rattle.vm_allocator.specs.Range.{Range, Overlaps}
+use Rattle.vm_allocator.specs.BlockList.{IsClearOf, replace_block}
+use Rattle.vm_allocator.specs.Block.{Block}
+use Rattle.vm_allocator.specs.Shape.{Shape, blocks, first_met}
+use Rattle.vm_allocator.specs.declared.error.Error.{Error}
+use Rattle.vm_allocator.specs.declared.error.Error.TheVariants.{ResourceNotAvailable, InvalidStateTransition, Overlap, OutOfMemory}
+use Rattle.vm_allocator.specs.declared.allocation_engine.NodeState.{NodeState}
+use Rattle.vm_allocator.specs.declared.allocation_engine.NodeState.TheVariants.{Free, Allocated}
+
+-- the range overlaps the key that it met, or none of the blocks' keys where it met none
+unfoldable pub TellsOverlap : Range → Option Range → List Block → Type 0
+TellsOverlap k None bs = IsClearOf k bs
+TellsOverlap k (Some met) bs = Overlaps k met
+
+-- a key that overlaps is refused for the first key that it meets on the way down, and any other for want of memory alone
+unfoldable pub RefusesKey : Range → Shape → Error → Type 0
+RefusesKey k s e =
+    ((met : Range) × (first_met k s ≡ Some met) × Overlaps k met × (e ≡ Overlap k met))
+    ⊎ (IsClearOf k (blocks s) × (e ≡ OutOfMemory))
+
+-- a free block is marked as held, and a held one is refused
+unfoldable pub MarksBlock : NodeState → Range → Result (Unit {0}) Error → Shape → Shape → Type 0
+MarksBlock Free k answer old new = (answer ≡ Ok tt) × (blocks new ≡ replace_block k (record { key = k; state = Allocated } ∷ []) (blocks old))
+MarksBlock Allocated k answer old new = (answer ≡ Err (InvalidStateTransition k Allocated)) × (new ≡ old)
+
+-- what marking the block with this key answers, by the block that is there
+unfoldable pub Marks : Option Block → Range → Result (Unit {0}) Error → Shape → Shape → Type 0
+Marks None k answer old new = (answer ≡ Err ResourceNotAvailable) × (new ≡ old)
+Marks (Some b) k answer old new = MarksBlock b.state k answer old new

@@ -1,0 +1,198 @@
+//! Heights and rotations. Nothing here calls itself, and nothing takes memory.
+ghost use Rattle.std.specs.Prelude.{◌≡◌, ◌+◌, ◌<◌, ◌≤◌, ◌^◌, ◌++◌, ◌∷◌, max, None, IsSome, ◌↔◌, IsNone};
+ghost use Rattle.vm_allocator.specs.BlockList.{IsOrderedFrom};
+ghost use Rattle.vm_allocator.specs.Shape.{Fork, blocks, height_of, single, root_block, IsTree, DifferByAtMost, IsHeightAfterBalance, IsSameIfNot};
+ghost use Rattle.vm_allocator.specs.NodeFields.{side};
+
+use super::InnerNode;
+
+/// The height of a child, 0 where it is absent.
+#[inline(always)]
+pub(crate) fn height(child: &Option<Box<InnerNode>>) -> u64
+    ensures value { result ≡ height_of (side child.now) }
+    ensures tree { IsTree (side child.now) }
+    ensures absent { IsNone child.now ↔ (height_of (side child.now) ≡ 0) }
+{
+    match child {
+        None => 0,
+        Some(node) => node.height,
+    }
+}
+
+/// Brings the kept height of a node up to date; says whether it changed.
+#[inline(always)]
+pub(super) fn refresh(
+    left: &Option<Box<InnerNode>>,
+    right: &Option<Box<InnerNode>>,
+    kept: &mut u64,
+) -> bool
+    requires { max (height_of (side left.now)) (height_of (side right.now)) + 1 < 2 ^ 64 }
+    ensures height { kept.new ≡ max (height_of (side left.now)) (height_of (side right.now)) + 1 }
+    ensures left { IsTree (side left.now) }
+    ensures right { IsTree (side right.now) }
+    ensures same { IsSameIfNot result kept.old kept.new }
+{
+    let height = height(left).max(height(right)) + 1;
+    if height == *kept {
+        return false;
+    }
+    *kept = height;
+    true
+}
+
+/// Takes the children out of a node, and leaves it without any.
+pub(super) fn strip(
+    left: &mut Option<Box<InnerNode>>,
+    right: &mut Option<Box<InnerNode>>,
+    kept: &mut u64,
+) -> (Option<Box<InnerNode>>, Option<Box<InnerNode>>)
+    ensures sides { result ≡ (left.old, right.old) }
+    ensures left { left.new ≡ None }
+    ensures right { right.new ≡ None }
+    ensures height { kept.new ≡ 1 }
+{
+    *kept = 1;
+    (left.take(), right.take())
+}
+
+/// A node's left side, the node without children, and its right side.
+fn part(
+    mut node: Box<InnerNode>,
+) -> (
+    Option<Box<InnerNode>>,
+    Box<InnerNode>,
+    Option<Box<InnerNode>>,
+)
+    ensures shape { node.value ≡ Fork (side result.0) (root_block node.value) (side result.2) }
+    ensures middle { result.1.value ≡ single (root_block node.value) }
+    ensures tree { IsTree node.value }
+    ensures height_fits { height_of node.value < 2 ^ 64 }
+{
+    let open = &mut *node;
+    let _ = open.height;
+    let (left, right) = strip(&mut open.left, &mut open.right, &mut open.height);
+    (left, node, right)
+}
+
+/// A node with these sides, whose heights differ by at most one.
+fn fork(
+    left: Option<Box<InnerNode>>,
+    mut middle: Box<InnerNode>,
+    right: Option<Box<InnerNode>>,
+) -> Box<InnerNode>
+    requires leaf { middle.value ≡ single (root_block middle.value) }
+    requires ordered { IsOrderedFrom 0 (blocks (side left) ++ root_block middle.value ∷ blocks (side right)) }
+    requires close { DifferByAtMost 1 (height_of (side left)) (height_of (side right)) }
+    requires height_fits { max (height_of (side left)) (height_of (side right)) + 1 < 2 ^ 64 }
+    ensures shape { result.value ≡ Fork (side left) (root_block middle.value) (side right) }
+    ensures tree { IsTree result.value }
+{
+    let open = &mut *middle;
+    open.left = left;
+    open.right = right;
+    let _ = refresh(&open.left, &open.right, &mut open.height);
+    middle
+}
+
+/// The rotations where the left side is two levels higher: a single one, or a double one where the
+/// inner grandchild is the higher.
+#[tactic(auto, using(crate::proofs::BlockOrder::rotations))]
+fn lean_left(
+    left: Box<InnerNode>,
+    middle: Box<InnerNode>,
+    right: Option<Box<InnerNode>>,
+) -> Box<InnerNode>
+    requires leaf { middle.value ≡ single (root_block middle.value) }
+    requires ordered { IsOrderedFrom 0 (blocks left.value ++ root_block middle.value ∷ blocks (side right)) }
+    requires two_higher { height_of left.value ≡ height_of (side right) + 2 }
+    requires height_fits { height_of left.value + 1 < 2 ^ 64 }
+    ensures tree { IsTree result.value }
+    ensures blocks { blocks result.value ≡ blocks left.value ++ root_block middle.value ∷ blocks (side right) }
+    ensures not_lower { height_of left.value ≤ height_of result.value }
+    ensures at_most_one_higher { height_of result.value ≤ height_of left.value + 1 }
+{
+    let (outer, top, inner) = part(left);
+    if height(&outer) >= height(&inner) {
+        return fork(outer, top, Some(fork(inner, middle, right)));
+    }
+    let Some(inner) = inner else { unreachable!() };
+    let (before, inner, after) = part(inner);
+    let low = fork(outer, top, before);
+    fork(Some(low), inner, Some(fork(after, middle, right)))
+}
+
+/// The rotations where the right side is two levels higher, the mirror image.
+#[tactic(auto, using(crate::proofs::BlockOrder::rotations))]
+fn lean_right(
+    left: Option<Box<InnerNode>>,
+    middle: Box<InnerNode>,
+    right: Box<InnerNode>,
+) -> Box<InnerNode>
+    requires leaf { middle.value ≡ single (root_block middle.value) }
+    requires ordered { IsOrderedFrom 0 (blocks (side left) ++ root_block middle.value ∷ blocks right.value) }
+    requires two_higher { height_of right.value ≡ height_of (side left) + 2 }
+    requires height_fits { height_of right.value + 1 < 2 ^ 64 }
+    ensures tree { IsTree result.value }
+    ensures blocks { blocks result.value ≡ blocks (side left) ++ root_block middle.value ∷ blocks right.value }
+    ensures not_lower { height_of right.value ≤ height_of result.value }
+    ensures at_most_one_higher { height_of result.value ≤ height_of right.value + 1 }
+{
+    let (inner, top, outer) = part(right);
+    if height(&outer) >= height(&inner) {
+        return fork(Some(fork(left, middle, inner)), top, outer);
+    }
+    let Some(inner) = inner else { unreachable!() };
+    let (before, inner, after) = part(inner);
+    let low = fork(left, middle, before);
+    fork(Some(low), inner, Some(fork(after, top, outer)))
+}
+
+/// A node with these sides, whose heights differ by at most two.
+pub(super) fn balance(
+    left: Option<Box<InnerNode>>,
+    middle: Box<InnerNode>,
+    right: Option<Box<InnerNode>>,
+) -> Box<InnerNode>
+    requires leaf { middle.value ≡ single (root_block middle.value) }
+    requires ordered { IsOrderedFrom 0 (blocks (side left) ++ root_block middle.value ∷ blocks (side right)) }
+    requires near { DifferByAtMost 2 (height_of (side left)) (height_of (side right)) }
+    requires height_fits { max (height_of (side left)) (height_of (side right)) + 1 < 2 ^ 64 }
+    ensures tree { IsTree result.value }
+    ensures blocks { blocks result.value ≡ blocks (side left) ++ root_block middle.value ∷ blocks (side right) }
+    ensures height { IsHeightAfterBalance (height_of (side left)) (height_of (side right)) (height_of result.value) }
+{
+    let left_height = height(&left);
+    let right_height = height(&right);
+    if left_height > right_height + 1 {
+        let Some(left) = left else { unreachable!() };
+        return lean_left(left, middle, right);
+    }
+    if right_height > left_height + 1 {
+        let Some(right) = right else { unreachable!() };
+        return lean_right(left, middle, right);
+    }
+    fork(left, middle, right)
+}
+
+/// Puts a node with these sides, whose heights differ by at most two, in the place of one without
+/// children.
+pub(super) fn rebalance(
+    at: &mut Option<Box<InnerNode>>,
+    left: Option<Box<InnerNode>>,
+    right: Option<Box<InnerNode>>,
+)
+    requires some { IsSome at.old }
+    requires leaf { side at.old ≡ single (root_block (side at.old)) }
+    requires ordered { IsOrderedFrom 0 (blocks (side left) ++ root_block (side at.old) ∷ blocks (side right)) }
+    requires near { DifferByAtMost 2 (height_of (side left)) (height_of (side right)) }
+    requires height_fits { max (height_of (side left)) (height_of (side right)) + 1 < 2 ^ 64 }
+    ensures some { IsSome at.new }
+    ensures tree { IsTree (side at.new) }
+    ensures blocks { blocks (side at.new) ≡ blocks (side left) ++ root_block (side at.old) ∷ blocks (side right) }
+    ensures height { IsHeightAfterBalance (height_of (side left)) (height_of (side right)) (height_of (side at.new)) }
+{
+    let Some(middle) = at.take() else {
+        unreachable!()
+    };
+    *at = Some(balance(left, middle, right));
+}
