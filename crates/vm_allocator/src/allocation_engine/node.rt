@@ -3,7 +3,7 @@
 ghost use Rattle.std.specs.Prelude.{◌≡◌, ◌+◌, ◌*◌, ◌<◌, ◌≤◌, ◌^◌, ◌++◌, [], ◌∷◌, ◌↔◌, max, Some, None, MatchOption, IsSome, IsNone, IfOk, IfErr, OnOk};
 ghost use Rattle.vm_allocator.specs.Range.{MAX, Overlaps};
 ghost use Rattle.vm_allocator.specs.BlockList.{IsOrderedFrom, IsClearOf, insert_block, replace_block, find_key, find_superset};
-ghost use Rattle.vm_allocator.specs.Shape.{Tip, blocks, height_of, single, root_block, IsTree, DifferByAtMost, IsSameIfNot, LeavesIfAbsent, first_met};
+ghost use Rattle.vm_allocator.specs.Shape.{Shape, Tip, Fork, blocks, height_of, single, root_block, IsTree, DifferByAtMost, IsSameIfNot, LeavesIfAbsent, first_met};
 ghost use Rattle.vm_allocator.specs.NodeFields.{side};
 ghost use Rattle.vm_allocator.specs.NodeAnswer.{TellsOverlap, RefusesKey, Marks};
 
@@ -14,7 +14,7 @@ mod walks;
 use crate::allocation_engine::NodeState;
 use crate::error::{Error, Result};
 use crate::range::RangeInclusive;
-use balance::{balance, height, rebalance, refresh, strip};
+use balance::{balance, rebalance, refresh, strip};
 use std::alloc::Global;
 use std::cmp::Ordering;
 use std::marker::Model;
@@ -91,9 +91,22 @@ impl InnerNode {
     }
 }
 
+/// The height of a child, 0 where it is absent.
+#[inline(always)]
+pub(crate) fn height(child: &Option<Box<InnerNode>>) -> u64
+    ensures value { result ≡ height_of (side child.now) }
+    ensures tree { IsTree (side child.now) }
+    ensures absent { IsNone child.now ↔ (side child.now ≡ Tip) }
+{
+    match child {
+        None => 0,
+        Some(node) => node.height,
+    }
+}
+
 /// Adds a leaf below the node at a place; says whether the height there changed.
 #[tactic(auto, using(crate::proofs::BlockOrder::links, crate::proofs::SideChange::places))]
-fn link_at(at: &mut Option<Box<InnerNode>>, leaf: Box<InnerNode>, count: &mut u64) -> bool
+pub(crate) fn link_at(at: &mut Option<Box<InnerNode>>, leaf: Box<InnerNode>, count: &mut u64) -> bool
     requires some { IsSome at.old }
     requires leaf { leaf.value ≡ single (root_block leaf.value) }
     requires clear { IsClearOf (root_block leaf.value).key (blocks (side at.old)) }
@@ -205,11 +218,11 @@ fn join(
     ensures entered { count.old ≤ count.new }
     ensures steps { count.new ≤ count.old + height_of (side right) }
 {
-    if height(&right) == 0 {
-        let _ = height(&left);
+    let _ = (height(&left), height(&right));
+    if right.is_none() {
         return left;
     }
-    if height(&left) == 0 {
+    if left.is_none() {
         return right;
     }
     let (least, _) = take_least_at(&mut right, count);
@@ -219,7 +232,7 @@ fn join(
 /// Removes the node with a key from below the node at a place, if there is one; says whether the
 /// height there changed.
 #[tactic(auto, using(crate::proofs::Replacement::removals, crate::proofs::Replacement::leavings, crate::proofs::SideChange::takes))]
-fn delete_at(at: &mut Option<Box<InnerNode>>, key: &RangeInclusive, count: &mut u64) -> bool
+pub(crate) fn delete_at(at: &mut Option<Box<InnerNode>>, key: &RangeInclusive, count: &mut u64) -> bool
     requires some { IsSome at.old }
     requires count_fits { count.old + height_of (side at.old) ≤ MAX }
     ensures blocks { blocks (side at.new) ≡ replace_block key.now [] (blocks (side at.old)) }
@@ -242,10 +255,7 @@ fn delete_at(at: &mut Option<Box<InnerNode>>, key: &RangeInclusive, count: &mut 
             true
         }
         Ordering::Greater => {
-            if tree.left.is_none() {
-                return false;
-            }
-            if !delete_at(&mut tree.left, key, count) {
+            if tree.left.is_none() || !delete_at(&mut tree.left, key, count) {
                 return false;
             }
             if height(&tree.right) <= height(&tree.left) + 1 {
@@ -256,10 +266,7 @@ fn delete_at(at: &mut Option<Box<InnerNode>>, key: &RangeInclusive, count: &mut 
             true
         }
         Ordering::Less => {
-            if tree.right.is_none() {
-                return false;
-            }
-            if !delete_at(&mut tree.right, key, count) {
+            if tree.right.is_none() || !delete_at(&mut tree.right, key, count) {
                 return false;
             }
             if height(&tree.left) <= height(&tree.right) + 1 {
@@ -356,6 +363,8 @@ impl InnerNode {
         requires { count.old + height_of tree.value ≤ MAX }
         ensures blocks { blocks (side result) ≡ replace_block (root_block tree.value).key [] (blocks tree.value) }
         ensures none { IsNone result ↔ (side result ≡ Tip) }
+        ensures no_right { (left : Shape) → tree.value ≡ Fork left (root_block tree.value) Tip → side result ≡ left }
+        ensures no_left { (right : Shape) → tree.value ≡ Fork Tip (root_block tree.value) right → side result ≡ right }
         ensures not_higher { height_of (side result) ≤ height_of tree.value }
         ensures at_most_one_lower { height_of tree.value ≤ height_of (side result) + 1 }
         ensures entered { count.old ≤ count.new }

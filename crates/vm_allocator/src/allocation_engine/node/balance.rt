@@ -4,20 +4,7 @@ ghost use Rattle.vm_allocator.specs.BlockList.{IsOrderedFrom};
 ghost use Rattle.vm_allocator.specs.Shape.{Fork, blocks, height_of, single, root_block, IsTree, DifferByAtMost, IsHeightAfterBalance, IsSameIfNot};
 ghost use Rattle.vm_allocator.specs.NodeFields.{side};
 
-use super::InnerNode;
-
-/// The height of a child, 0 where it is absent.
-#[inline(always)]
-pub(crate) fn height(child: &Option<Box<InnerNode>>) -> u64
-    ensures value { result ≡ height_of (side child.now) }
-    ensures tree { IsTree (side child.now) }
-    ensures absent { IsNone child.now ↔ (height_of (side child.now) ≡ 0) }
-{
-    match child {
-        None => 0,
-        Some(node) => node.height,
-    }
-}
+use super::{InnerNode, height};
 
 /// Brings the kept height of a node up to date; says whether it changed.
 #[inline(always)]
