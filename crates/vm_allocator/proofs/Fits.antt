@@ -2,11 +2,12 @@
 use Rattle.std.proofs.Common.{◌≡◌, ℕ, ◌+◌, ◌-◌, ◌*◌, ◌%◌, ◌^◌, ◌<◌, ◌≤◌, ap, ◌∙◌, arith, ⊎_elim, subst, Ok, Err}
 use Rattle.std.proofs.lemmas.Nat.{pow-add}
 use Rattle.std.proofs.Math.Nat.{mul-add-mod_self_right, zero-mod}
-use Rattle.vm_allocator.specs.Range.{MAX}
+use Rattle.vm_allocator.specs.Range.{Range, MAX}
 use Rattle.vm_allocator.specs.Block.{Block}
 use Rattle.vm_allocator.specs.Alignment.{IsAlignment, AlignsDown, AlignsUp, IsGreatestMultiple, IsLeastMultiple}
 use Rattle.vm_allocator.specs.Fit.{HasNoFit, IsLeastFit, IsGreatestFit}
 use Rattle.vm_allocator.specs.declared.error.Error.{Error}
+use Rattle.vm_allocator.specs.declared.allocation_engine.NodeState.{NodeState}
 use Rattle.vm_allocator.specs.declared.allocation_engine.NodeState.TheVariants.{Free, Allocated}
 use Rattle.vm_allocator.proofs.Power.{gap, alignment_pos}
 
@@ -81,3 +82,12 @@ greatest_fit n a x s b h u q l e =
     ((e, i.0, l, omega (arith, i.1)), λ t f. i.2 t f.1 (omega (arith, f.3)))
 
 pub ruleset greatest_fits = (no_fit_held, no_fit_small, no_fit_low, no_fit_never, greatest_fit)
+
+-- the same of a block that is told by its key and its state
+pub no_fit_over_key : (n a : ℕ) (k : Range) (st : NodeState) (e : Error) → 0 < n → IsAlignment a → k.end ≤ MAX → AlignsUp k.start a (Err e) → HasNoFit n a (record { key = k; state = st })
+no_fit_over_key n a k st e z h m u = no_fit_over n a (record { key = k; state = st }) e z h m u
+
+pub no_fit_short_key : (n a s : ℕ) (k : Range) (st : NodeState) → IsAlignment a → AlignsUp k.start a (Ok s) → k.end + 1 < s + n → HasNoFit n a (record { key = k; state = st })
+no_fit_short_key n a s k st h u l = no_fit_short n a s (record { key = k; state = st }) h u l
+
+pub ruleset least_fits_by_key = (no_fit_held, no_fit_over_key, no_fit_short_key, least_fit)

@@ -25,3 +25,4 @@ pub mod Supersets
 pub mod Meetings
 pub mod Rewriting
 pub mod FewestNodes
+pub mod PlaceSearch

@@ -8,6 +8,7 @@ pub mod Answer
 pub mod Blocks
 pub mod Fit
 pub mod BlockEdits
+pub mod Place
 pub mod Allocator
 pub mod Laws
 pub mod RangeOrder

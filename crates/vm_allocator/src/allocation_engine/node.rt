@@ -8,6 +8,7 @@ ghost use Rattle.vm_allocator.specs.NodeFields.{side};
 ghost use Rattle.vm_allocator.specs.NodeAnswer.{TellsOverlap, RefusesKey, Marks};
 
 mod balance;
+pub(crate) mod places;
 mod laws;
 mod walks;
 
