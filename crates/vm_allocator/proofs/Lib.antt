@@ -26,3 +26,4 @@ pub mod Meetings
 pub mod Rewriting
 pub mod FewestNodes
 pub mod PlaceSearch
+pub mod TreeEdits

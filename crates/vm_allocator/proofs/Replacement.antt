@@ -51,7 +51,7 @@ replace_right lo k ys l x r p o =
     let q : x.key.start ≤ k.start = elim p [ inl a ↦ omega (arith, a) | inr a ↦ omega (arith, a.0) ] in
     replace_past lo k ys l x r q o ∙ rw (same_range_before k x.key (inr p))
 
-replace_middle : (lo : ℕ) (k : Range) (ys l : List Block) (x : Block) (r : List Block) → x.key ≡ k → IsOrderedFrom lo (l ++ x ∷ r) → replace_block k ys (l ++ x ∷ r) ≡ l ++ (ys ++ r)
+pub replace_middle : (lo : ℕ) (k : Range) (ys l : List Block) (x : Block) (r : List Block) → x.key ≡ k → IsOrderedFrom lo (l ++ x ∷ r) → replace_block k ys (l ++ x ∷ r) ≡ l ++ (ys ++ r)
 replace_middle lo k ys l x r p o =
     replace_past lo k ys l x r (omega (arith, ap (λ (a : Range). a.start) p)) o ∙ rw (p, same_range_self k)
 
