@@ -10,6 +10,8 @@ ghost use Rattle.vm_allocator.specs.NodeAnswer.{TellsOverlap, RefusesKey, Marks}
 mod balance;
 pub(crate) mod places;
 mod laws;
+#[cfg(test)]
+mod tests;
 mod walks;
 
 use crate::allocation_engine::NodeState;
@@ -107,7 +109,11 @@ pub(crate) fn height(child: &Option<Box<InnerNode>>) -> u64
 
 /// Adds a leaf below the node at a place; says whether the height there changed.
 #[tactic(auto, using(crate::proofs::BlockOrder::links, crate::proofs::SideChange::places))]
-pub(crate) fn link_at(at: &mut Option<Box<InnerNode>>, leaf: Box<InnerNode>, count: &mut u64) -> bool
+pub(crate) fn link_at(
+    at: &mut Option<Box<InnerNode>>,
+    leaf: Box<InnerNode>,
+    count: &mut u64,
+) -> bool
     requires some { IsSome at.old }
     requires leaf { leaf.value ≡ single (root_block leaf.value) }
     requires clear { IsClearOf (root_block leaf.value).key (blocks (side at.old)) }
@@ -233,7 +239,11 @@ fn join(
 /// Removes the node with a key from below the node at a place, if there is one; says whether the
 /// height there changed.
 #[tactic(auto, using(crate::proofs::Replacement::removals, crate::proofs::Replacement::leavings, crate::proofs::SideChange::takes))]
-pub(crate) fn delete_at(at: &mut Option<Box<InnerNode>>, key: &RangeInclusive, count: &mut u64) -> bool
+pub(crate) fn delete_at(
+    at: &mut Option<Box<InnerNode>>,
+    key: &RangeInclusive,
+    count: &mut u64,
+) -> bool
     requires some { IsSome at.old }
     requires count_fits { count.old + height_of (side at.old) ≤ MAX }
     ensures blocks { blocks (side at.new) ≡ replace_block key.now [] (blocks (side at.old)) }
