@@ -69,9 +69,9 @@ exact_over sp bs b n a t w o =
     inr (λ e. omega (arith, w.below), inr ((i.0, i.1), inl (o, (refl, refl))))
 
 -- past the first three faults
-past : (sp : Range) (bs new : List Block) (b : Block) (n a t : ℕ) (answer : Result Range Error) → IsWithin sp bs b n t → t + n - 1 ≤ MAX → ¬ IsHeld (held_of bs) (span t n) → Unless (AreClear n (blocks_state sp bs) t) ((answer ≡ Err ResourceNotAvailable) × (blocks_state sp new ≡ blocks_state sp bs)) (IfElse (t + n - 1 ≡ MAX) ((answer ≡ Err Overflow) × (blocks_state sp new ≡ blocks_state sp bs)) (ByPlace (ExactMatch t) n a (blocks_state sp bs) (λ e. (answer ≡ Err e) × (blocks_state sp new ≡ blocks_state sp bs)) (λ r. Takes (blocks_state sp bs) r answer (blocks_state sp new)))) → Settles (blocks_state sp bs) n a (ExactMatch t) answer (blocks_state sp new)
+past : (sp : Range) (bs : List Block) (b : Block) (n a t : ℕ) (new : AddressState) (answer : Result Range Error) → IsWithin sp bs b n t → t + n - 1 ≤ MAX → ¬ IsHeld (held_of bs) (span t n) → Unless (AreClear n (blocks_state sp bs) t) ((answer ≡ Err ResourceNotAvailable) × (new ≡ blocks_state sp bs)) (IfElse (t + n - 1 ≡ MAX) ((answer ≡ Err Overflow) × (new ≡ blocks_state sp bs)) (ByPlace (ExactMatch t) n a (blocks_state sp bs) (λ e. (answer ≡ Err e) × (new ≡ blocks_state sp bs)) (λ r. Takes (blocks_state sp bs) r answer new))) → Settles (blocks_state sp bs) n a (ExactMatch t) answer new
 unfolding Settles ByExactStart
-past sp bs new b n a t answer w o d h =
+past sp bs b n a t new answer w o d h =
     let i = in_space Allocated sp.start sp.end t b w.before w.after (as_cut sp bs b n t w) w.start in
     inr (λ e. omega (arith, w.below), inr ((i.0, i.1), inr (λ e. omega arith, inr (λ c. d (held_contains (held_of bs) (span t n) c), h))))
 
@@ -137,7 +137,7 @@ free_not_held sp bs b n t w f h =
 pub exact_other : (sp : Range) (bs : List Block) (b : Block) (n a t : ℕ) → IsWithin sp bs b n t → t + n - 1 ≤ MAX → b.state ≡ Allocated → ¬ ((b.key.start ≡ t) × (b.key.end ≡ t + n - 1)) → Settles (blocks_state sp bs) n a (ExactMatch t) (Err ResourceNotAvailable) (blocks_state sp bs)
 exact_other sp bs b n a t w o s d =
     let z = w.some in
-    past sp bs bs b n a t (Err ResourceNotAvailable) w o
+    past sp bs b n a t (blocks_state sp bs) (Err ResourceNotAvailable) w o
     (λ h.
     let same : b.key ≡ span t n = same_slot Allocated sp.start sp.end t (span t n) b w.before w.after (as_cut sp bs b n t w) s w.start (subst (λ (v : List Block). IsHeld (held_of v) (span t n)) w.cut h) (omega arith, omega arith) in
     d (ap (λ (r : Range). r.start) same, ap (λ (r : Range). r.end) same))
@@ -145,16 +145,16 @@ exact_other sp bs b n a t w o s d =
 
 pub exact_short : (sp : Range) (bs : List Block) (b : Block) (n a t : ℕ) → IsWithin sp bs b n t → t + n - 1 ≤ MAX → b.state ≡ Free → b.key.end < t + n - 1 → Settles (blocks_state sp bs) n a (ExactMatch t) (Err ResourceNotAvailable) (blocks_state sp bs)
 exact_short sp bs b n a t w o s d =
-    past sp bs bs b n a t (Err ResourceNotAvailable) w o (free_not_held sp bs b n t w s)
+    past sp bs b n a t (blocks_state sp bs) (Err ResourceNotAvailable) w o (free_not_held sp bs b n t w s)
     (inl (λ c. let k = clear_in_block sp bs b n t w c in omega (arith, k.1), (refl, refl)))
 
 pub exact_at_end : (sp : Range) (bs : List Block) (b : Block) (n a t : ℕ) → IsWithin sp bs b n t → b.state ≡ Free → t + n - 1 ≤ b.key.end → t + n - 1 ≡ MAX → Settles (blocks_state sp bs) n a (ExactMatch t) (Err Overflow) (blocks_state sp bs)
 exact_at_end sp bs b n a t w s l m =
-    past sp bs bs b n a t (Err Overflow) w (omega arith) (free_not_held sp bs b n t w s) (inr (block_clear sp bs b n t w s l, inl (m, (refl, refl))))
+    past sp bs b n a t (blocks_state sp bs) (Err Overflow) w (omega arith) (free_not_held sp bs b n t w s) (inr (block_clear sp bs b n t w s l, inl (m, (refl, refl))))
 
-pub exact_taken : (sp : Range) (bs new : List Block) (b : Block) (n a t : ℕ) (answer : Result Range Error) → IsWithin sp bs b n t → b.state ≡ Free → t + n - 1 ≤ b.key.end → t + n - 1 < MAX → t % a ≡ 0 → Takes (blocks_state sp bs) (span t n) answer (blocks_state sp new) → Settles (blocks_state sp bs) n a (ExactMatch t) answer (blocks_state sp new)
+pub exact_taken : (sp : Range) (bs : List Block) (b : Block) (n a t : ℕ) (new : AddressState) (answer : Result Range Error) → IsWithin sp bs b n t → b.state ≡ Free → t + n - 1 ≤ b.key.end → t + n - 1 < MAX → t % a ≡ 0 → Takes (blocks_state sp bs) (span t n) answer new → Settles (blocks_state sp bs) n a (ExactMatch t) answer new
 unfolding ByPlace IsChosen IsPlace
-exact_taken sp bs new b n a t answer w s l m d g =
+exact_taken sp bs b n a t new answer w s l m d g =
     let c = block_clear sp bs b n t w s l in
-    past sp bs new b n a t answer w (omega arith) (free_not_held sp bs b n t w s)
+    past sp bs b n a t new answer w (omega arith) (free_not_held sp bs b n t w s)
     (inr (c, inr (λ e. omega arith, inr (t, (refl, (d, c)), inr (λ e. omega arith, g)))))

@@ -27,3 +27,6 @@ pub mod Rewriting
 pub mod FewestNodes
 pub mod PlaceSearch
 pub mod TreeEdits
+pub mod SpaceTrees
+pub mod Choosing
+pub mod ExactChoice

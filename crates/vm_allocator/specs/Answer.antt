@@ -1,5 +1,5 @@
 -- What a call of an address allocator answers, and the state that it leaves.
-use Rattle.std.specs.Prelude.{◌≡◌, ℕ, ◌+◌, ◌-◌, ◌<◌, ◌⊎◌, Result, Ok, Err, []}
+use Rattle.std.specs.Prelude.{◌≡◌, ℕ, ◌+◌, ◌-◌, ◌<◌, ◌≤◌, ◌⊎◌, Result, Ok, Err, [], length}
 use Rattle.std.specs.List.{Contains}
 use Rattle.vm_allocator.specs.Cases.{IfElse, Unless}
 use Rattle.vm_allocator.specs.Range.{Range, MAX, IsIn, span}
@@ -36,11 +36,16 @@ ByPlace policy n a state refused takes =
     (((s : ℕ) → ¬ IsPlace n a state s) × refused ResourceNotAvailable)
     ⊎ ((s : ℕ) × IsChosen policy n a state s × IfElse (s + n - 1 ≡ MAX) (refused Overflow) (takes (span s n)))
 
--- the range is held from now on; only where holding it splits its run may memory run out, with nothing changed
+-- the fewest held ranges with which a split may be refused for the depth of a tree
+abbrev pub FEWEST_TOO_DEEP : ℕ
+FEWEST_TOO_DEEP = 6_293_134_512
+
+-- The range is held from now on. Only where holding it splits its run may it be refused, with nothing changed: memory
+-- ran out, or so many ranges are held that a tree of them may be too deep.
 unfoldable pub Takes : AddressState → Range → Result Range Error → AddressState → Type 0
 Takes old r answer new =
     ((answer ≡ Ok r) × (new ≡ holding r old))
-    ⊎ (LeavesClear old r × (answer ≡ Err OutOfMemory) × (new ≡ old))
+    ⊎ (LeavesClear old r × (new ≡ old) × ((answer ≡ Err OutOfMemory) ⊎ ((FEWEST_TOO_DEEP ≤ length old.held) × (answer ≡ Err Overflow))))
 
 -- the answer to a request that makes sense
 unfoldable pub Settles : AddressState → ℕ → ℕ → AllocPolicy → Result Range Error → AddressState → Type 0

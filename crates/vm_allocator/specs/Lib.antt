@@ -9,6 +9,7 @@ pub mod Blocks
 pub mod Fit
 pub mod BlockEdits
 pub mod Place
+pub mod SpaceTree
 pub mod Allocator
 pub mod Laws
 pub mod RangeOrder

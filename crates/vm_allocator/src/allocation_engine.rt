@@ -1,6 +1,7 @@
 //! How addresses are aligned, and how a space is cut into blocks.
 ghost use Rattle.vm_allocator.specs.Alignment.{AlignsDown, AlignsUp};
 
+mod interval_tree;
 mod node;
 
 use crate::error::{Error, Result};

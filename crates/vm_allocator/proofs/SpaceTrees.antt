@@ -1,0 +1,43 @@
+-- Trees whose blocks are those of a space.
+use Rattle.std.proofs.Common.{◌≡◌, ℕ, ◌+◌, ◌-◌, ◌*◌, ◌^◌, ◌<◌, ◌≤◌, List, [], ◌∷◌, ◌++◌, refl, sym, ap, ◌∙◌, arith, subst, Option, Some, None}
+use Rattle.vm_allocator.specs.Range.{Range, IsRange}
+use Rattle.vm_allocator.specs.Block.{Block}
+use Rattle.vm_allocator.specs.Blocks.{Tiles, TilesSpace, IsTiling, held_of}
+use Rattle.vm_allocator.specs.Shape.{Shape, Tip, Fork, blocks, height_of, single}
+use Rattle.vm_allocator.specs.SpaceTree.{last_end, space_of, IsSpaceTree}
+use Rattle.vm_allocator.specs.declared.allocation_engine.NodeState.{NodeState}
+use Rattle.vm_allocator.specs.declared.allocation_engine.NodeState.TheVariants.{Free, Allocated}
+use Rattle.vm_allocator.proofs.Unique.{same_range}
+
+-- blocks that follow one another end where the space ends
+last_tile : (p : NodeState) (lo hi : ℕ) (bs : List Block) → Tiles p (lo + 1) bs hi → last_end lo bs ≡ hi
+last_tile p lo hi [] t = omega arith
+last_tile p lo hi (b ∷ bs) t = last_tile b.state b.key.end hi bs t.3
+
+-- the space of a tiling is the one that it tiles
+pub space_tiled : (sp : Range) (bs : List Block) → TilesSpace sp bs → sp.start ≤ sp.end → space_of bs ≡ sp
+unfolding TilesSpace
+space_tiled sp [] t l = absurd (omega (arith, t))
+space_tiled sp (b ∷ bs) t l = same_range (space_of (b ∷ bs)) sp t.0 (last_tile b.state b.key.end sp.end bs t.3)
+
+-- a tree of a tiling
+pub space_tree : (sp : Range) (s : Shape) → IsTiling sp (blocks s) → IsRange sp.start sp.end → height_of s ≤ 49 → IsSpaceTree s
+space_tree sp s t r h =
+    let e = space_tiled sp (blocks s) t.tiles r.0 in
+    record {
+      tiling = subst (λ (v : Range). IsTiling v (blocks s)) (sym e) t;
+      space = subst (λ (v : Range). IsRange v.start v.end) (sym e) r;
+      height = h;
+    }
+
+pub tree_of_space : (k : Range) → IsRange k.start k.end → IsSpaceTree (single (record { key = k; state = Free }))
+unfolding TilesSpace
+tree_of_space k r = space_tree k (single (record { key = k; state = Free })) (record { tiles = (refl, r.0, tt, refl); below = tt }) r (omega arith)
+
+pub ruleset making = (tree_of_space)
+
+pub no_empty_tree : IsSpaceTree Tip → ⊥
+unfolding TilesSpace
+no_empty_tree h = let t = h.tiling.tiles in omega arith
+
+pub ruleset rooted = (no_empty_tree)
