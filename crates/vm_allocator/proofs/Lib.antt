@@ -10,8 +10,6 @@ pub mod Places
 pub mod Carve
 pub mod Join
 pub mod Fits
-pub mod Pieces
-pub mod Joining
 pub mod Taking
 pub mod Freeing
 pub mod Making

@@ -59,32 +59,6 @@ pub record IsTakenFrom (k r : Range) : Type 0 where
 abbrev pub LeavesPart : Range → Range → Type 0
 LeavesPart k r = (k.start < r.start) ⊎ (r.end < k.end)
 
--- the blocks with the parts of one of them in its place
-abbrev pub IsCarved : List Block → ℕ → Range → List Block → Type 0
-IsCarved old at r new = HoldsAt (λ b. new ≡ take at old ++ (parts b.key r ++ drop (at + 1) old)) old at
-
--- what taking the n addresses from s on, within one block, comes to
-unfoldable pub TakesFit : List Block → ℕ → ℕ → ℕ → Result Range Error → List Block → Type 0
-TakesFit old at s n answer new =
-    ((s + n - 1 ≡ MAX) × (answer ≡ Err Overflow) × (new ≡ old))
-    ⊎ ((s + n - 1 < MAX) × (((answer ≡ Ok (span s n)) × IsCarved old at (span s n) new)
-    ⊎ (HoldsAt (λ b. LeavesPart b.key (span s n)) old at × (answer ≡ Err OutOfMemory) × (new ≡ old))))
-
 -- the n addresses from s on lie in the block
 unfoldable pub HasRoom : ℕ → ℕ → Block → Type 0
 HasRoom s n b = (b.key.start ≤ s) × (s + n ≤ b.key.end + 1)
-
--- a free block of this range, joined with the first of the blocks, would have a range
-unfoldable pub CanJoin : Range → List Block → Type 0
-CanJoin k [] = Unit {0}
-CanJoin k (b ∷ bs) = IsRange k.start b.key.end
-
--- from the start of a block to the end of a later one is a range
-unfoldable pub AreJoinable : List Block → Type 0
-AreJoinable bs = (i j : ℕ) (d : Block) → i ≤ j → j < length bs → IsRange (slice_index_or bs i d).key.start (slice_index_or bs j d).key.end
-
--- the block at an index is free again, and joined with its free neighbours
-unfoldable pub GivesBack : List Block → ℕ → List Block → Type 0
-GivesBack old at new =
-    (EndsHeld Allocated (take at old) × HoldsAt (λ b. new ≡ take at old ++ with_free b.key (drop (at + 1) old)) old at)
-    ⊎ ((i : ℕ) × (at ≡ i + 1) × HoldsAt (λ f. f.state ≡ Free) old i × ((d : Block) → new ≡ take i old ++ with_free (record { start = (slice_index_or old i d).key.start; end = (slice_index_or old at d).key.end }) (drop (at + 1) old)))
