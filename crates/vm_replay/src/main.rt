@@ -1,0 +1,34 @@
+//! Replays lines of calls on an allocator: each line of the input is answered by one line.
+#![tactic(auto)]
+
+ghost use Rattle.std.specs.Prelude.{◌≡◌};
+ghost use Rattle.vm_replay.specs.Status.{status_of};
+
+mod buffer;
+mod command;
+mod machine;
+mod number;
+mod reply;
+mod run;
+mod session;
+mod words;
+
+use run::{RunError, run};
+use std::process::ExitCode;
+
+/// The status that the program ends with.
+fn status(outcome: Result<(), RunError>) -> u8
+    ensures { result ≡ status_of outcome }
+{
+    match outcome {
+        Ok(()) => 0,
+        Err(RunError::Read) => 1,
+        Err(RunError::Write) => 2,
+    }
+}
+
+fn main(rt: HostRuntime) -> ExitCode {
+    let mut reader = rt.stdin();
+    let mut writer = rt.stdout();
+    ExitCode::from(status(run(rt.alloc(), &mut reader, &mut writer)))
+}
