@@ -15,6 +15,10 @@ asked (name ∷ words) =
     else if bytes_eq name (codes "free") then option_map (λ p. Free p.0 p.1) (two_in words)
     else None
 
--- a line of more than 120 bytes is not in the language
+-- a longer line is not in the language
+abbrev pub longest_line : ℕ
+longest_line = 120
+
+-- what a line asks for
 abbrev pub command_of : List ℕ → Option Command
-command_of line = if nat_le (length line) 120 then asked (words_of line) else None
+command_of line = if nat_le (length line) longest_line then asked (words_of line) else None

@@ -23,9 +23,9 @@ abbrev pub start : Machine
 start = record { space = None }
 
 -- a space that is made takes the place of the old one, and a refused one does not
-abbrev pub with_made : Machine → Result AddressState Error → Machine
-with_made old (Ok state) = record old { space = Some state }
-with_made old (Err error) = old
+abbrev pub with_space : Machine → Result AddressState Error → Machine
+with_space old (Ok state) = record old { space = Some state }
+with_space old (Err error) = old
 
 -- the line needs a space: where there is one, this call settles the reply and the state that it leaves
 unfoldable pub OnSpace : Machine → Reply → Machine → (AddressState → AddressState → Type 0) → Type 0
@@ -51,7 +51,7 @@ Releases old start end answer new =
 unfoldable pub Does : Machine → Option Command → Reply → Machine → Type 0
 Does old None reply new = (reply ≡ NotInLanguage) × (new ≡ old)
 Does old (Some (Space base size)) reply new =
-    (answer : Result AddressState Error) × Makes base size answer × (reply ≡ done_or_refused answer) × (new ≡ with_made old answer)
+    (answer : Result AddressState Error) × Makes base size answer × (reply ≡ done_or_refused answer) × (new ≡ with_space old answer)
 Does old (Some (First size alignment)) reply new = Places old size alignment FirstMatch reply new
 Does old (Some (Free start end)) reply new =
     OnSpace old reply new (λ state later.

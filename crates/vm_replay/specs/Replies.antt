@@ -3,12 +3,13 @@ use Rattle.std.specs.Prelude.{ℕ, List, ◌∷◌, ◌++◌, codes, decimal, Re
 use Rattle.vm_allocator.specs.Range.{Range}
 use Rattle.vm_allocator.specs.declared.error.Error.{Error}
 use Rattle.vm_allocator.specs.declared.error.Error.TheVariants.{Overflow, OutOfRange, AlreadyReleased, NeverAllocated, ResourceNotAvailable, InvalidRange, InvalidAlignment, Overlap, InvalidStateTransition, UnalignedAddress, Underflow, InvalidSize, OutOfMemory}
+use Rattle.vm_replay.specs.Words.{blank}
 use Rattle.vm_replay.specs.declared.reply.Reply.{Reply}
 use Rattle.vm_replay.specs.declared.reply.Reply.TheVariants.{Done, Given, Refused, NoSpace, NotInLanguage}
 
--- two numbers, with a space between them
+-- two numbers, with a blank between them
 abbrev pub pair_text : ℕ → ℕ → List ℕ
-pair_text first second = decimal first ++ 32 ∷ decimal second
+pair_text first second = decimal first ++ blank ∷ decimal second
 
 -- how a refusal reads: no call answers an overlap
 abbrev pub refusal_text : Error → List ℕ

@@ -3,9 +3,13 @@ use Rattle.std.specs.Prelude.{ℕ, ◌==◌, List, [], ◌∷◌, Option, Some, 
 use Rattle.std.specs.List.{slice_split}
 use Rattle.vm_replay.specs.Numbers.{number_of}
 
--- a text, cut at each single space
+-- the byte that separates words
+abbrev pub blank : ℕ
+blank = 32
+
+-- a text, cut at each blank
 abbrev pub words_of : List ℕ → List (List ℕ)
-words_of text = slice_split (λ byte. byte == 32) text
+words_of text = slice_split (λ byte. byte == blank) text
 
 -- two numbers, where both are there
 abbrev pub both : Option ℕ → Option ℕ → Option (ℕ × ℕ)

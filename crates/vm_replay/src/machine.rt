@@ -1,5 +1,6 @@
 ghost use Rattle.std.specs.Prelude.{◌≡◌, Some};
 ghost use Rattle.vm_allocator.specs.Allocator.{state_of};
+ghost use Rattle.vm_replay.specs.Machines.{Releases};
 
 use crate::command::Command;
 use crate::reply::Reply;
@@ -26,14 +27,15 @@ impl Model for Machine {
 impl Machine {
     ghost use Rattle.vm_replay.specs.Machines.{start, Does};
 
+    /// Nothing is made yet.
     pub fn new() -> Machine
         ensures { result ≡ start }
     {
         Machine { space: None }
     }
 
-    #[tactic(auto, unfolding(crate::specs::Machines::Does))]
     /// Does what a line asks. `None` is a line that is not in the language.
+    #[tactic(auto, unfolding(crate::specs::Machines::Does))]
     pub fn answer(&mut self, alloc: Global, asked: Option<Command>) -> Reply
         ensures { Does self.old asked result self.new }
     {
@@ -45,8 +47,8 @@ impl Machine {
         }
     }
 
+    /// Makes a space, which takes the place of the old one. A refused one does not.
     #[tactic(auto, unfolding(crate::specs::Machines::Does))]
-    /// Makes a space. A refused one keeps the old.
     fn make_space(&mut self, alloc: Global, base: u64, size: u64) -> Reply
         ensures { Does self.old (Some (Command.Space base size)) result self.new }
     {
@@ -59,8 +61,8 @@ impl Machine {
         }
     }
 
+    /// Holds the `size` addresses at the first place for them.
     #[tactic(auto, unfolding(crate::specs::Machines::Does, crate::specs::Machines::Places, crate::specs::Machines::OnSpace))]
-    /// Takes the first place for `size` addresses.
     fn first(&mut self, alloc: Global, size: u64, alignment: u64) -> Reply
         ensures { Does self.old (Some (Command.First size alignment)) result self.new }
     {
@@ -73,8 +75,8 @@ impl Machine {
         }
     }
 
-    #[tactic(auto, unfolding(crate::specs::Machines::Does, crate::specs::Machines::OnSpace))]
     /// Gives a range back.
+    #[tactic(auto, unfolding(crate::specs::Machines::Does, crate::specs::Machines::OnSpace))]
     fn free(&mut self, start: u64, end: u64) -> Reply
         ensures { Does self.old (Some (Command.Free start end)) result self.new }
     {
@@ -88,10 +90,8 @@ impl Machine {
     }
 }
 
-ghost use Rattle.vm_replay.specs.Machines.{Releases};
-
+/// Gives back the range from `start` to `end`. `InvalidRange(start, end)` where that is none.
 #[tactic(auto, unfolding(crate::specs::Machines::Releases))]
-/// Gives back what is to be a range.
 fn release(space: &mut AddressAllocator, start: u64, end: u64) -> Result<()>
     ensures { Releases (state_of space.old) start end result (state_of space.new) }
 {

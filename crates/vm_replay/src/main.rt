@@ -1,4 +1,5 @@
-//! Replays lines of calls on an allocator: each line of the input is answered by one line.
+//! Replays lines of calls: each line of the standard input asks an allocator for something, and is
+//! answered by one line of the standard output.
 #![tactic(auto)]
 
 ghost use Rattle.std.specs.Prelude.{◌≡◌};
@@ -11,6 +12,8 @@ mod number;
 mod reply;
 mod run;
 mod session;
+#[cfg(test)]
+mod tests;
 mod words;
 
 use run::{RunError, run};
@@ -28,7 +31,5 @@ fn status(outcome: Result<(), RunError>) -> u8
 }
 
 fn main(rt: HostRuntime) -> ExitCode {
-    let mut reader = rt.stdin();
-    let mut writer = rt.stdout();
-    ExitCode::from(status(run(rt.alloc(), &mut reader, &mut writer)))
+    ExitCode::from(status(run(rt.alloc(), &mut rt.stdin(), &mut rt.stdout())))
 }

@@ -1,31 +1,39 @@
-ghost use Rattle.std.specs.Prelude.{◌≡◌, ◌++◌, ◌∷◌, [], ◌+◌, ◌≤◌, ℕ, List, length, OnOk, IfErr, IsErrOf, IfSome, Some};
+ghost use Rattle.std.specs.Prelude.{◌≡◌, ◌++◌, [], ◌+◌, ◌<◌, ℕ, List, length, OnOk, IfErr, IsErrOf, IfSome, Some};
 ghost use Rattle.std.specs.Io.KnownBytes.{Consumes, Appends, IsAtEnd};
 ghost use Rattle.vm_replay.specs.Sessions.{Feeds, Finishes};
 ghost use Rattle.vm_replay.specs.Moving.{Moves};
 ghost use Rattle.vm_replay.specs.Lines.{lines_of, ended_lines_of};
 ghost use Rattle.vm_replay.specs.Runs.{MayAnswer};
 
-use crate::buffer::Buffer;
+use crate::buffer::{Buffer, CAPACITY};
+use crate::reply::LONGEST_REPLY;
 use crate::session::Session;
 use std::alloc::Global;
 use std::io::{Read, Write};
 
-const ROOM: usize = 4096 - 62;
+/// The most bytes that are read at a time.
+const PIECE: usize = 4096;
 
+/// Why a run ended before the end of its input.
 #[derive(Clone, Copy, Debug, PartialEq, Eq)]
 pub enum RunError {
+    /// A read failed, or `u64::MAX` reads did not reach the end.
     Read,
+    /// A write failed, or the flush at the end.
     Write,
 }
 
-/// Answers each line of the input.
+/// Answers each line of the input by one line. It takes no memory beside that of the calls that the
+/// lines ask for. `Read` where a read failed or read number `u64::MAX` did not reach the end: then
+/// the lines that a newline ended are answered, and nothing was flushed. `Write` where a write or
+/// the last flush failed: then nothing is said of what was written.
 pub fn run<R: Read, W: Write>(alloc: Global, reader: &mut R, writer: &mut W) -> Result<(), RunError>
     // All of the input was read, and its lines are answered.
     ensures ok { OnOk result (IfSome (R.remaining reader.old) (λ input.
         (R.remaining reader.new ≡ Some [])
         × IfSome (W.contents writer.old) (λ before. (output : List ℕ) × MayAnswer (lines_of input) output
         × (W.contents writer.new ≡ Some (before ++ output))))) }
-    // Of what was read before the fault, the lines that a newline ends are answered, and nothing else was written.
+    // Of what was read before the fault, the lines that a newline ended are answered, and nothing else was written.
     ensures read { IsErrOf result RunError.Read → IfSome (R.remaining reader.old) (λ input.
         (front : List ℕ) × (rest : List ℕ) × (input ≡ front ++ rest) × (R.remaining reader.new ≡ Some rest)
         × IfSome (W.contents writer.old) (λ before. (output : List ℕ) × MayAnswer (ended_lines_of front) output
@@ -34,8 +42,13 @@ pub fn run<R: Read, W: Write>(alloc: Global, reader: &mut R, writer: &mut W) -> 
     replay(alloc, reader, writer)
 }
 
-/// Answers each line of the input.
-fn replay<R: Read, W: Write>(alloc: Global, reader: &mut R, writer: &mut W) -> Result<(), RunError>
+/// Answers each line of the input. The clauses are those of `run`, in words that also hold of a
+/// reader or writer that does not tell its bytes.
+fn replay<R: Read, W: Write>(
+    alloc: Global,
+    reader: &mut R,
+    writer: &mut W,
+) -> Result<(), RunError>
     // All of the input was read, and the writer has gained a text that may answer its lines.
     ensures ok { OnOk result ((input : List ℕ) × (output : List ℕ)
         × Consumes (R.remaining reader.old) (R.remaining reader.new) input
@@ -50,7 +63,7 @@ fn replay<R: Read, W: Write>(alloc: Global, reader: &mut R, writer: &mut W) -> R
 {
     let mut session = Session::new();
     let mut output = Buffer::new();
-    let mut bytes = [0u8; 4096];
+    let mut bytes = [0u8; PIECE];
     for _ in 0..u64::MAX {
         match reader.read(&mut bytes) {
             Ok(0) => {
@@ -105,7 +118,7 @@ fn finish<W: Write>(
     }
 }
 
-/// Answers the line that no newline ends, if there is one.
+/// Answers the line that no newline ended, if there is one.
 #[tactic(auto, using(crate::proofs::Progress::finishes_some, crate::proofs::Progress::finishes_none))]
 fn answer_rest<W: Write>(
     alloc: Global,
@@ -125,13 +138,13 @@ fn answer_rest<W: Write>(
     Ok(())
 }
 
-/// Makes room for one answer.
+/// Makes room for one answer with its newline.
 fn make_room<W: Write>(output: &mut Buffer, writer: &mut W) -> Result<(), RunError>
     ensures moves { OnOk result (Moves (W.contents writer.old) output.old [] (W.contents writer.new) output.new) }
-    ensures room { OnOk result (length output.new + 62 ≤ 4096) }
+    ensures room { OnOk result (length output.new + LONGEST_REPLY < CAPACITY) }
     ensures err { IfErr result (λ error. error ≡ RunError.Write) }
 {
-    if output.len() > ROOM {
+    if output.len() >= CAPACITY - LONGEST_REPLY {
         drain(output, writer)?;
     }
     Ok(())

@@ -1,11 +1,11 @@
 ghost use Rattle.std.specs.Prelude.{◌≡◌, ◌==◌, ◌∷◌, [], MatchOption, position};
-ghost use Rattle.vm_replay.specs.Words.{words_of, two_in};
+ghost use Rattle.vm_replay.specs.Words.{blank, words_of, two_in};
 
 use crate::number::parse_number;
 
 /// Where the first space stands.
 fn space_at(text: &[u8]) -> Option<usize>
-    ensures { result ≡ position (λ byte. byte == 32) text.now }
+    ensures { result ≡ position (λ byte. byte == blank) text.now }
 {
     text.iter().position(|byte| *byte == b' ')
 }

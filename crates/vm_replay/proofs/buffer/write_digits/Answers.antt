@@ -6,10 +6,10 @@ use Rattle.vm_replay.proofs.buffer.write_digits.Goals as goal
 pub loop-rest-init : goal.loop-rest-init
 loop-rest-init c = record {
   text = rw (drop_all 20 c.args.digits.now (omega arith), append-nil);
-  room = long c.args.n c.ranges.n.fits;
+  room = long c.args.number c.ranges.number.fits;
   within = omega arith;
   len = search rules;
-  fits = c.ranges.n.fits;
+  fits = c.ranges.number.fits;
 }
 
 pub loop-rest-preserved : goal.loop-rest-preserved
