@@ -2,6 +2,7 @@ ghost use Rattle.std.specs.Prelude.{◌≡◌};
 ghost use Rattle.vm_replay.specs.Numbers.{number_of};
 
 const BASE: u64 = 10;
+
 const MOST_DIGITS: usize = 20;
 
 /// The number that a word says.

@@ -52,7 +52,12 @@ fn write_refusal(output: &mut Buffer, error: Error)
         Error::InvalidRange(start, end) => write_pair(output, b"error invalid-range ", start, end),
         Error::InvalidAlignment => output.push_all(b"error invalid-alignment"),
         Error::Overlap(_, _) => output.push_all(b"error overlap"),
-        Error::InvalidStateTransition(slot, _) => write_pair(output, b"error state ", slot.start(), slot.end()),
+        Error::InvalidStateTransition(slot, _) => write_pair(
+            output,
+            b"error state ",
+            slot.start(),
+            slot.end(),
+        ),
         Error::UnalignedAddress => output.push_all(b"error unaligned"),
         Error::Underflow => output.push_all(b"error underflow"),
         Error::InvalidSize(size) => write_number(output, b"error invalid-size ", size),

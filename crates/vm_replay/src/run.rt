@@ -44,11 +44,7 @@ pub fn run<R: Read, W: Write>(alloc: Global, reader: &mut R, writer: &mut W) -> 
 
 /// Answers each line of the input. The clauses are those of `run`, in words that also hold of a
 /// reader or writer that does not tell its bytes.
-fn replay<R: Read, W: Write>(
-    alloc: Global,
-    reader: &mut R,
-    writer: &mut W,
-) -> Result<(), RunError>
+fn replay<R: Read, W: Write>(alloc: Global, reader: &mut R, writer: &mut W) -> Result<(), RunError>
     // All of the input was read, and the writer has gained a text that may answer its lines.
     ensures ok { OnOk result ((input : List ℕ) × (output : List ℕ)
         × Consumes (R.remaining reader.old) (R.remaining reader.new) input
