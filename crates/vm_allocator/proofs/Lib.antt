@@ -15,3 +15,5 @@ pub mod Joining
 pub mod Taking
 pub mod Freeing
 pub mod Making
+pub mod Once
+pub mod Filling

@@ -1,5 +1,5 @@
 -- The words by recursion against those of std.
-use Rattle.std.proofs.Common.{◌≡◌, ℕ, ◌<◌, zero, suc, List, [], ◌∷◌, length, arith, inl, inr, ◌⊎◌, ⊎_elim}
+use Rattle.std.proofs.Common.{◌≡◌, ℕ, ◌<◌, zero, suc, List, [], ◌∷◌, length, arith, inl, inr, ◌⊎◌, ⊎_elim, sym, subst}
 use Rattle.std.specs.List.{All, Contains}
 use Rattle.std.specs.Prelude.{slice_index_or}
 use Rattle.std.proofs.lemmas.List.Elements.{All-head, All-tail, All-cons, All-nil}
@@ -35,3 +35,9 @@ all_miss (r ∷ rs) x h = All-cons (λ r. ¬ IsIn r x) r rs (λ i. h (inl i)) (a
 pub none_holds : (hs : List Range) (x : ℕ) → All (λ r. ¬ IsIn r x) hs → ¬ IsHeldAddress hs x
 none_holds [] x a h = h
 none_holds (r ∷ rs) x a h = ⊎_elim (All-head (λ r. ¬ IsIn r x) r rs a) (none_holds rs x (All-tail (λ r. ¬ IsIn r x) r rs a)) h
+
+-- an address of a held range is a held address
+pub held_address : (hs : List Range) (r : Range) (x : ℕ) → IsHeld hs r → IsIn r x → IsHeldAddress hs x
+held_address [] r x h i = h
+held_address (y ∷ ys) r x h i =
+    ⊎_elim (λ (e : y ≡ r). inl (subst (λ (v : Range). IsIn v x) (sym e) i)) (λ (e : IsHeld ys r). inr (held_address ys r x e i)) h

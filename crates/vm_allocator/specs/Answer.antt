@@ -4,7 +4,7 @@ use Rattle.std.specs.List.{Contains}
 use Rattle.vm_allocator.specs.Cases.{IfElse, Unless}
 use Rattle.vm_allocator.specs.Range.{Range, MAX, IsIn, span}
 use Rattle.vm_allocator.specs.Address.{AddressState, AreClear, IsPlace, IsLeastPlace, IsGreatestPlace, LeavesClear, holding, releasing}
-use Rattle.vm_allocator.specs.Request.{ByConstraint}
+use Rattle.vm_allocator.specs.Request.{IsRequest, ByConstraint}
 use Rattle.vm_allocator.specs.declared.error.Error.{Error}
 use Rattle.vm_allocator.specs.declared.error.Error.TheVariants.{Overflow, ResourceNotAvailable, InvalidStateTransition, Underflow, OutOfMemory}
 use Rattle.vm_allocator.specs.declared.allocation_engine.NodeState.TheVariants.{Allocated}
@@ -53,8 +53,9 @@ unfoldable pub Allocates : AddressState → ℕ → ℕ → AllocPolicy → Resu
 Allocates old n a policy answer new =
     ByConstraint n a policy (λ e. (answer ≡ Err e) × (new ≡ old)) (Settles old n a policy answer new)
 
--- a range that makes sense to ask for, with a chosen place that does not end at MAX and beside which nothing is left clear
+-- a request that makes sense and whose chosen place, s, ends below MAX and leaves nothing clear beside it
 pub record FillsRun (state : AddressState) (n a : ℕ) (policy : AllocPolicy) (s : ℕ) : Type 0 where
+  pub request : IsRequest (record { size = n; align = a; policy = policy })
   pub chosen : IsChosen policy n a state s
   pub below : s + n - 1 < MAX
   pub fills : ¬ LeavesClear state (span s n)

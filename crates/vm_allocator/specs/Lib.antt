@@ -8,3 +8,4 @@ pub mod Answer
 pub mod Blocks
 pub mod BlockList
 pub mod Allocator
+pub mod Laws

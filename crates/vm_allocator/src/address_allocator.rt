@@ -1,9 +1,7 @@
-ghost use Rattle.std.specs.Prelude.{◌≡◌, ◌<◌, OnErr, IsOk};
+ghost use Rattle.std.specs.Prelude.{ℕ, ◌≡◌, OnErr, IsOk};
 ghost use Rattle.std.specs.List.{Contains};
-ghost use Rattle.vm_allocator.specs.Range.{span};
 ghost use Rattle.vm_allocator.specs.Address.{IsAddressState};
-ghost use Rattle.vm_allocator.specs.Alignment.{IsAlignment};
-ghost use Rattle.vm_allocator.specs.Answer.{Settles, Allocates, Frees, Makes};
+ghost use Rattle.vm_allocator.specs.Answer.{Settles, Allocates, FillsRun, Frees, Makes};
 ghost use Rattle.vm_allocator.specs.Allocator.{state_of, made_state};
 ghost use Rattle.vm_allocator.specs.declared.constraint.AllocPolicy.TheVariants.{FirstMatch};
 
@@ -82,6 +80,9 @@ impl AddressAllocator {
         requires { policy ≡ FirstMatch }
         ensures answer { Allocates (state_of self.old) size alignment policy result (state_of self.new) }
         ensures unchanged { OnErr result (self.new ≡ self.old) }
+
+        // What fills its clear run needs no memory, and succeeds.
+        ensures filling { (s : ℕ) → FillsRun (state_of self.old) size alignment policy s → IsOk result }
     {
         let constraint = Constraint::new(size, alignment, policy)?;
         self.allocate_first(constraint)
@@ -102,10 +103,13 @@ impl AddressAllocator {
 
     /// Gives a held range back. Any other range is `ResourceNotAvailable`, a part of a held one and
     /// a clear one among them. Takes no memory, and a refusal changes nothing.
-    #[tactic(auto, using(crate::proofs::Freeing::freeing))]
+    #[tactic(auto, using(crate::proofs::Freeing::freeing, crate::proofs::Filling::succeeding))]
     pub fn free(&mut self, key: &RangeInclusive) -> Result<()>
         ensures answer { Frees (state_of self.old) key.now result (state_of self.new) }
         ensures unchanged { OnErr result (self.new ≡ self.old) }
+
+        // Giving back needs no memory, and succeeds.
+        ensures held { Contains (state_of self.old).held key.now → IsOk result }
     {
         let _ = self.address_space.end();
         match find_slot(&self.blocks, key) {
@@ -134,3 +138,6 @@ impl AddressAllocator {
         self.address_space.end()
     }
 }
+
+#[cfg(test)]
+mod tests;

@@ -45,3 +45,6 @@ pub fn align_up(address: u64, alignment: u64) -> Result<u64>
     };
     align_down(last, alignment)
 }
+
+#[cfg(test)]
+mod tests;

@@ -5,9 +5,13 @@ mod address_allocator;
 pub mod allocation_engine;
 mod constraint;
 mod error;
+mod laws;
 mod range;
 
 pub use address_allocator::AddressAllocator;
 pub use constraint::{AllocPolicy, Constraint, DEFAULT_CONSTRAINT_ALIGN};
 pub use error::{Error, Result};
 pub use range::RangeInclusive;
+
+#[cfg(test)]
+mod tests;

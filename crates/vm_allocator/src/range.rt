@@ -58,7 +58,7 @@ impl RangeInclusive {
     pub fn len(&self) -> u64
         ensures { result ≡ address_count self.now }
     {
-        self.end - self.start + 1
+        1 + (self.end - self.start)
     }
 
     /// Whether some address lies in both ranges.
@@ -66,7 +66,7 @@ impl RangeInclusive {
     pub fn overlaps(&self, other: &RangeInclusive) -> bool
         ensures { IsTrue result ↔ Overlaps self.now other.now }
     {
-        self.start <= other.end && other.start <= self.end
+        other.start <= self.end && self.start <= other.end
     }
 
     /// Whether every address of `other` lies in the range.
@@ -74,7 +74,7 @@ impl RangeInclusive {
     pub fn contains(&self, other: &RangeInclusive) -> bool
         ensures { IsTrue result ↔ Covers self.now other.now }
     {
-        self.start <= other.start && other.end <= self.end
+        other.start >= self.start && other.end <= self.end
     }
 
     /// The first address.
@@ -105,7 +105,10 @@ impl Ord for RangeInclusive {
 
     /// By start, then by end.
     fn cmp(&self, other: &RangeInclusive) -> Ordering {
-        self.start.cmp(&other.start).then(self.end.cmp(&other.end))
+        match self.start.cmp(&other.start) {
+            Ordering::Equal => self.end.cmp(&other.end),
+            unequal => unequal,
+        }
     }
 }
 

@@ -41,6 +41,16 @@ impl Block {
         self.key
     }
 
+    /// The start, the end and whether the block is held.
+    #[cfg(test)]
+    pub fn parts(&self) -> (u64, u64, bool) {
+        (
+            self.key.start(),
+            self.key.end(),
+            self.state == NodeState::Allocated,
+        )
+    }
+
     fn state(&self) -> NodeState
         ensures { result ≡ self.now.state }
     {
@@ -119,28 +129,10 @@ fn carve(
     ensures full { OnErr result (LeavesPart key range) }
 {
     let taken = Block::new(range, NodeState::Allocated);
-    let low = key.start();
     let high = key.end();
-    let start = range.start();
     let end = range.end();
-    if low < start {
-        let before = Block::new(RangeInclusive::between(low, start - 1), NodeState::Free);
-        if end < high {
-            if blocks.reserve(2).is_err() {
-                return Err(Error::OutOfMemory);
-            }
-            let after = Block::new(RangeInclusive::between(end + 1, high), NodeState::Free);
-            blocks[at] = taken;
-            insert_reserved(blocks, at + 1, after);
-            insert_reserved(blocks, at, before);
-            return Ok(());
-        }
-        if blocks.reserve(1).is_err() {
-            return Err(Error::OutOfMemory);
-        }
-        blocks[at] = taken;
-        insert_reserved(blocks, at, before);
-        return Ok(());
+    if key.start() < range.start() {
+        return carve_behind(blocks, at, key, range);
     }
     if end < high {
         if blocks.reserve(1).is_err() {
@@ -152,6 +144,47 @@ fn carve(
         return Ok(());
     }
     blocks[at] = taken;
+    Ok(())
+}
+
+/// The same, where a free part is left before the range.
+#[tactic(auto, using(crate::proofs::Pieces::carvings))]
+fn carve_behind(
+    blocks: &mut Vec<Block>,
+    at: usize,
+    key: RangeInclusive,
+    range: RangeInclusive,
+) -> Result<()>
+    requires at { at < vec_len blocks.old }
+    requires within { IsTakenFrom key range }
+    requires behind { key.start < range.start }
+    ensures ok { OnOk result (blocks.new.items ≡ take at blocks.old.items ++ (parts key range ++ drop (at + 1) blocks.old.items)) }
+    ensures unchanged { OnErr result (blocks.new.items ≡ blocks.old.items) }
+    ensures error { IfErr result (λ e. e ≡ Error.OutOfMemory) }
+{
+    let taken = Block::new(range, NodeState::Allocated);
+    let low = key.start();
+    let high = key.end();
+    let end = range.end();
+    let before = Block::new(
+        RangeInclusive::between(low, range.start() - 1),
+        NodeState::Free,
+    );
+    if end < high {
+        if blocks.reserve(2).is_err() {
+            return Err(Error::OutOfMemory);
+        }
+        let after = Block::new(RangeInclusive::between(end + 1, high), NodeState::Free);
+        blocks[at] = taken;
+        insert_reserved(blocks, at + 1, after);
+        insert_reserved(blocks, at, before);
+        return Ok(());
+    }
+    if blocks.reserve(1).is_err() {
+        return Err(Error::OutOfMemory);
+    }
+    blocks[at] = taken;
+    insert_reserved(blocks, at, before);
     Ok(())
 }
 

@@ -1,0 +1,49 @@
+use super::*;
+
+const MAX: u64 = u64::MAX;
+
+#[test]
+fn test_range_align_up(rt: HostRuntime) {
+    for (address, alignment, want) in [
+        (2, 4, Ok(4)),
+        (2, 1, Ok(2)),
+        (2, 2, Ok(2)),
+        (2, 3, Err(Error::InvalidAlignment)),
+        (2, 0, Err(Error::InvalidAlignment)),
+        (MAX - 2, 2, Ok(MAX - 1)),
+        (MAX - 2, 4, Err(Error::Overflow)),
+        (MAX, 3, Err(Error::Overflow)),
+        (MAX, 0, Err(Error::InvalidAlignment)),
+    ] {
+        assert_eq!(rt;
+            align_up(address, alignment),
+            want,
+            "{address} up by {alignment}"
+        );
+    }
+}
+
+#[test]
+fn aligns_down(rt: HostRuntime) {
+    for (address, alignment, want) in [
+        (7, 4, Ok(4)),
+        (8, 4, Ok(8)),
+        (7, 1, Ok(7)),
+        (MAX, 1 << 63, Ok(1 << 63)),
+        (7, 3, Err(Error::InvalidAlignment)),
+        (7, 0, Err(Error::InvalidAlignment)),
+    ] {
+        assert_eq!(rt;
+            align_down(address, alignment),
+            want,
+            "{address} down by {alignment}"
+        );
+    }
+}
+
+#[test]
+fn test_is_free(rt: HostRuntime) {
+    assert!(rt; NodeState::Free.is_free());
+    assert!(rt; !NodeState::Allocated.is_free());
+    assert!(rt; NodeState::Free < NodeState::Allocated);
+}

@@ -1,0 +1,212 @@
+use super::*;
+use crate::allocation_engine::NodeState;
+use std::alloc::{AllocError, Global};
+use std::cmp::Ordering;
+use std::process::Abort;
+use std::test::Fail;
+
+const MAX: u64 = u64::MAX;
+
+#[test]
+fn test_new_range(rt: HostRuntime) -> std::result::Result<(), Fail> {
+    assert_eq!(rt; RangeInclusive::new(2, 1), Err(Error::InvalidRange(2, 1)));
+    assert_eq!(rt;
+        RangeInclusive::new(0, MAX),
+        Err(Error::InvalidRange(0, MAX))
+    );
+    assert_eq!(rt; RangeInclusive::new(0, 0x100)?.len(), 0x101);
+    Ok(())
+}
+
+#[test]
+fn test_range_upper_bound(rt: HostRuntime) -> std::result::Result<(), Fail> {
+    assert_eq!(rt; RangeInclusive::new(1, MAX)?.len(), MAX);
+    assert_eq!(rt; RangeInclusive::new(0, MAX - 1)?.len(), MAX);
+    assert_eq!(rt; RangeInclusive::new(MAX, MAX)?.len(), 1);
+    Ok(())
+}
+
+#[test]
+fn test_range_overlaps(rt: HostRuntime) -> std::result::Result<(), Fail> {
+    let range = RangeInclusive::new(1, 4)?;
+    assert_eq!(rt; range.len(), 4);
+    for (start, end, want) in [(4, 6, true), (2, 3, true), (5, 6, false)] {
+        let other = RangeInclusive::new(start, end)?;
+        assert_eq!(rt; range.overlaps(&other), want, "{start} to {end}");
+        assert_eq!(rt; other.overlaps(&range), want, "{start} to {end}");
+    }
+    let wide = RangeInclusive::new(0, 0x100)?;
+    assert!(rt; wide.overlaps(&RangeInclusive::new(0x99, 0x150)?));
+    Ok(())
+}
+
+#[test]
+fn test_range_contain(rt: HostRuntime) -> std::result::Result<(), Fail> {
+    let range = RangeInclusive::new(2, 6)?;
+    for (start, end, want) in [
+        (2, 3, true),
+        (3, 4, true),
+        (5, 6, true),
+        (1, 2, false),
+        (1, 3, false),
+        (1, 7, false),
+        (6, 7, false),
+        (7, 8, false),
+    ] {
+        let other = RangeInclusive::new(start, end)?;
+        assert_eq!(rt; range.contains(&other), want, "{start} to {end}");
+    }
+    let wide = RangeInclusive::new(0, 0x100)?;
+    assert!(rt; wide.contains(&RangeInclusive::new(0x50, 0x80)?));
+    Ok(())
+}
+
+#[test]
+fn test_range_ord(rt: HostRuntime) -> std::result::Result<(), Fail> {
+    let low = RangeInclusive::new(1, 3)?;
+    let middle = RangeInclusive::new(1, 4)?;
+    let same = RangeInclusive::new(1, 4)?;
+    let high = RangeInclusive::new(1, 5)?;
+    let later = RangeInclusive::new(2, 2)?;
+    assert!(rt; low < middle);
+    assert_eq!(rt; middle, same);
+    assert!(rt; middle < high);
+    assert!(rt; high < later);
+    assert_eq!(rt; middle.cmp(&same), Ordering::Equal);
+    Ok(())
+}
+
+#[test]
+fn test_getters(rt: HostRuntime) -> std::result::Result<(), Fail> {
+    let range = RangeInclusive::new(3, 5)?;
+    assert_eq!(rt; range.start(), 3);
+    assert_eq!(rt; range.end(), 5);
+    Ok(())
+}
+
+#[test]
+fn constraint_getter(rt: HostRuntime) -> std::result::Result<(), Fail> {
+    let unaligned = Constraint::new(0x1000, 0x1000, AllocPolicy::ExactMatch(0xC));
+    assert_eq!(rt; unaligned, Err(Error::UnalignedAddress));
+    let constraint = Constraint::new(0x1000, 0x1000, AllocPolicy::default())?;
+    assert_eq!(rt; constraint.align(), 0x1000);
+    assert_eq!(rt; constraint.size(), 0x1000);
+    Ok(())
+}
+
+#[test]
+fn constraints(rt: HostRuntime) -> std::result::Result<(), Fail> {
+    for (size, align, policy, want) in [
+        (4, 3, AllocPolicy::LastMatch, Error::InvalidAlignment),
+        (4, 0, AllocPolicy::FirstMatch, Error::InvalidAlignment),
+        (4, 4, AllocPolicy::ExactMatch(3), Error::UnalignedAddress),
+        (4, 3, AllocPolicy::ExactMatch(1), Error::InvalidAlignment),
+        (0, 3, AllocPolicy::FirstMatch, Error::InvalidSize(0)),
+        (0, 4, AllocPolicy::ExactMatch(3), Error::InvalidSize(0)),
+    ] {
+        assert_eq!(rt;
+            Constraint::new(size, align, policy),
+            Err(want),
+            "{size} at {align}"
+        );
+    }
+    let constraint = Constraint::new(4, DEFAULT_CONSTRAINT_ALIGN, AllocPolicy::FirstMatch)?;
+    assert_eq!(rt; constraint.size(), 4);
+    assert_eq!(rt; constraint.align(), 4);
+    Ok(())
+}
+
+#[test]
+fn defaults(rt: HostRuntime) {
+    assert_eq!(rt; AllocPolicy::default(), AllocPolicy::FirstMatch);
+    assert_eq!(rt; DEFAULT_CONSTRAINT_ALIGN, 4);
+}
+
+#[test]
+fn errors_rise(rt: HostRuntime) {
+    let rising = [
+        Error::Overflow,
+        Error::OutOfRange(0),
+        Error::OutOfRange(1),
+        Error::AlreadyReleased(0),
+        Error::InvalidSize(0),
+        Error::OutOfMemory,
+    ];
+    for i in 1..6usize {
+        assert!(rt; rising[i - 1] < rising[i], "at {i}");
+    }
+}
+
+/// The text of an error. A second try stands for a run in which one request for memory is refused.
+fn text_of(alloc: Global, error: &Error) -> std::result::Result<String, AllocError> {
+    match error.to_string(alloc) {
+        Ok(text) => Ok(text),
+        Err(_) => error.to_string(alloc),
+    }
+}
+
+fn reads(
+    rt: &(impl Abort + AllocGlobal),
+    error: &Error,
+    want: &str,
+) -> std::result::Result<(), AllocError> {
+    assert_eq!(rt; text_of(rt.alloc(), error)?.as_str(), want);
+    Ok(())
+}
+
+#[test]
+fn texts_of_errors(rt: HostRuntime) -> std::result::Result<(), Fail> {
+    let overflow = "Management operations on desired resource resulted in overflow.";
+    let underflow = "Management operations on desired resource resulted in underflow.";
+    let never = "Specified id: 9 was never allocated, can't release it.";
+    reads(&rt, &Error::Overflow, overflow)?;
+    reads(
+        &rt,
+        &Error::OutOfRange(7),
+        "Specified id: 7 is not in the range.",
+    )?;
+    reads(
+        &rt,
+        &Error::AlreadyReleased(8),
+        "Specified id: 8 is already released.",
+    )?;
+    reads(&rt, &Error::NeverAllocated(9), never)?;
+    reads(
+        &rt,
+        &Error::ResourceNotAvailable,
+        "The requested resource is not available.",
+    )?;
+    reads(
+        &rt,
+        &Error::InvalidRange(2, 1),
+        "The range specified: 2-1 is not valid.",
+    )?;
+    reads(&rt, &Error::InvalidAlignment, "Alignment value is invalid.")?;
+    reads(&rt, &Error::UnalignedAddress, "The address is not aligned.")?;
+    reads(&rt, &Error::Underflow, underflow)?;
+    reads(
+        &rt,
+        &Error::InvalidSize(0),
+        "The specified size: 0 is not valid.",
+    )?;
+    reads(&rt, &Error::OutOfMemory, "There is not enough memory.")?;
+    Ok(())
+}
+
+#[test]
+fn texts_of_errors_with_ranges(rt: HostRuntime) -> std::result::Result<(), Fail> {
+    let range = RangeInclusive::new(1, 2)?;
+    let overlap = text_of(rt.alloc(), &Error::Overlap(range, range))?;
+    assert!(rt; overlap.as_str().starts_with("Addresses are overlapping."));
+    assert!(rt; overlap.as_str().contains(" intersects with existing "));
+    let held = Error::InvalidStateTransition(range, NodeState::Allocated);
+    let transition = text_of(rt.alloc(), &held)?;
+    assert!(rt;
+        transition
+            .as_str()
+            .starts_with("Invalid state transition for node ")
+    );
+    assert!(rt; transition.as_str().contains(" from "));
+    assert!(rt; transition.as_str().ends_with(" to NodeState::Free"));
+    Ok(())
+}
