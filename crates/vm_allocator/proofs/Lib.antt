@@ -2,3 +2,4 @@ pub mod Ranges
 pub mod Power
 pub mod Alignments
 pub mod Requests
+pub mod IdLemmas

@@ -5,3 +5,4 @@ pub mod Address
 pub mod Request
 pub mod Alignment
 pub mod Answer
+pub mod Ids

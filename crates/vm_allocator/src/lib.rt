@@ -4,8 +4,10 @@
 pub mod allocation_engine;
 mod constraint;
 mod error;
+mod id_allocator;
 mod range;
 
 pub use constraint::{AllocPolicy, Constraint, DEFAULT_CONSTRAINT_ALIGN};
 pub use error::{Error, Result};
+pub use id_allocator::IdAllocator;
 pub use range::RangeInclusive;
