@@ -33,21 +33,21 @@ same_members : (s t : set.FinSet nat_cmp) → ((q : ℕ) → IsTrue (set.contain
 same_members s t there back =
     set.same_set nat_cmp_total set.nat_cmp-IsAntisymmetric s t (λ q. same_test (set.contains s q) (set.contains t q) (there q) (back q))
 
-inserted_here : (s : set.FinSet nat_cmp) (k : ℕ) → IsTrue (set.contains (set.insert s k) k)
+pub inserted_here : (s : set.FinSet nat_cmp) (k : ℕ) → IsTrue (set.contains (set.insert s k) k)
 inserted_here s k = set.contains-insert nat_cmp_total s k k ∙ or_left _ _ (tied_here k)
 
-inserted_other : (s : set.FinSet nat_cmp) (k q : ℕ) → IsTrue (set.contains s q) → IsTrue (set.contains (set.insert s k) q)
+pub inserted_other : (s : set.FinSet nat_cmp) (k q : ℕ) → IsTrue (set.contains s q) → IsTrue (set.contains (set.insert s k) q)
 inserted_other s k q h = set.contains-insert nat_cmp_total s k q ∙ or_right _ _ h
 
-from_inserted : (s : set.FinSet nat_cmp) (k q : ℕ) → IsTrue (set.contains (set.insert s k) q) → (q ≡ k) ⊎ IsTrue (set.contains s q)
+pub from_inserted : (s : set.FinSet nat_cmp) (k q : ℕ) → IsTrue (set.contains (set.insert s k) q) → (q ≡ k) ⊎ IsTrue (set.contains s q)
 from_inserted s k q h =
     ⊎_elim (λ e. inl (tied_is q k e)) (λ m. inr m) (or_cases _ _ (sym (set.contains-insert nat_cmp_total s k q) ∙ h))
 
-removed_other : (s : set.FinSet nat_cmp) (k q : ℕ) → (q ≡ k → ⊥) → IsTrue (set.contains s q) → IsTrue (set.contains (set.remove s k) q)
+pub removed_other : (s : set.FinSet nat_cmp) (k q : ℕ) → (q ≡ k → ⊥) → IsTrue (set.contains s q) → IsTrue (set.contains (set.remove s k) q)
 removed_other s k q ne h =
     set.contains-remove nat_cmp_total s k q ∙ and_from _ _ (ap not (apart_not_tied q k ne)) h
 
-from_removed : (s : set.FinSet nat_cmp) (k q : ℕ) → IsTrue (set.contains (set.remove s k) q) → (q ≡ k → ⊥) × IsTrue (set.contains s q)
+pub from_removed : (s : set.FinSet nat_cmp) (k q : ℕ) → IsTrue (set.contains (set.remove s k) q) → (q ≡ k → ⊥) × IsTrue (set.contains s q)
 from_removed s k q h =
     let parts = and_parts _ _ (sym (set.contains-remove nat_cmp_total s k q) ∙ h) in (
       λ e. both_ways (eq_by_cmp nat_cmp q k) (not-true _ parts.0) (ap (λ (x : ℕ). eq_by_cmp nat_cmp q x) (sym e) ∙ tied_here q),
@@ -296,6 +296,9 @@ unfolding ids_of held_of
 takes_same lo hi next freed left same =
     ap (λ (ks : List ℕ). record { lo = lo; hi = hi; bound = bound_of next hi; held = set.difference (set.from_list (range_with_len lo (bound_of next hi - lo))) (set.from_list ks) }) same
 
+pub same_ids : (old : IdState) (lo hi : ℕ) (next : Option ℕ) (freed left : BTreeSet ℕ) → ids_of lo hi next freed ≡ old → IsUnchanged freed left → ids_of lo hi next left ≡ old
+same_ids old lo hi next freed left e same = takes_same lo hi next freed left same ∙ e
+
 allocates_none_at : (lo hi : ℕ) (x : Error) (next : Option ℕ) (freed left : BTreeSet ℕ) (r : Result ℕ Error) → AreIds lo hi next freed → (false ≡ true) ↔ (0 < btree_set_len freed) → NextId next hi r → r ≡ Err x → IsUnchanged freed left → AllocatesId (ids_of lo hi next freed) r (ids_of lo hi next left)
 unfolding AllocatesId
 allocates_none_at lo hi x next freed left r a v h is same =
@@ -313,7 +316,7 @@ none_not_held old lo hi i x next freed r e a v h free =
     let all = by_next lo hi next freed (Err x) (λ i. ⊥) (λ y. Unit {0}) a (λ i. none_without_first freed i v) h (λ m s l k t. absurd (cc)) (λ y t. tt) in
     elim all [ inl t ↦ absurd (t.2) | inr f ↦ absurd (free.1 (subst AreAllHeld e f.0 i free.0)) ]
 
-pub ruleset allocates = (allocates_released, allocates_next, allocates_none, none_not_held)
+pub ruleset allocates = (allocates_released, allocates_next, allocates_none, none_not_held, same_ids)
 
 pub ruleset peeks = (peeks_released, peeks_next, none_not_held)
 
@@ -378,4 +381,4 @@ keeps_same lo hi next freed more a same = record {
   freed_ids = λ q t. a.freed_ids q (ap (list_any (eq_by_cmp nat_cmp q)) (sym same) ∙ t);
 }
 
-pub ruleset frees = (frees_outside, frees_never, frees_again, frees_held, frees_no_memory, keeps_more, keeps_same, holds_not)
+pub ruleset frees = (frees_outside, frees_never, frees_again, frees_held, frees_no_memory, keeps_more, keeps_same, holds_not, same_ids)

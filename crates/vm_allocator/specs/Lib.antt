@@ -6,3 +6,4 @@ pub mod Request
 pub mod Alignment
 pub mod Answer
 pub mod Ids
+pub mod IdLaws

@@ -1,4 +1,4 @@
-ghost use Rattle.std.specs.Prelude.{◌≡◌, ℕ, ◌≤◌, ◌⊎◌, ◌↔◌, IsTrue, IsOk, Ok, Err};
+ghost use Rattle.std.specs.Prelude.{◌≡◌, ℕ, ◌≤◌, ◌⊎◌, ◌↔◌, IsTrue, IsOk, OnErr, Ok, Err};
 ghost use Rattle.vm_allocator.specs.Ids.{MakesIds, AllocatesId, PeeksId, FreesId, NextId, IsOfRange, IsHandedOut, IsHeld, IsNotHeld, IsIdState};
 
 use crate::error::{Error, Result};
@@ -66,6 +66,7 @@ impl IdAllocator {
     pub fn allocate_id(&mut self) -> Result<u32>
         ensures answer { AllocatesId self.old result self.new }
         ensures succeeds { (id : ℕ) → IsNotHeld self.old id → IsOk result }
+        ensures unchanged { OnErr result (self.new ≡ self.old) }
     {
         if let Some(id) = self.freed_ids.pop_first() {
             return Ok(id);
@@ -103,6 +104,7 @@ impl IdAllocator {
     pub fn free_id(&mut self, id: u32) -> Result<u32>
         ensures answer { FreesId self.old id result self.new }
         ensures held { IsHeld self.old id → (result ≡ Ok id) ⊎ (result ≡ Err Error.OutOfMemory) }
+        ensures unchanged { OnErr result (self.new ≡ self.old) }
     {
         if !self.id_in_range(id) {
             return Err(Error::OutOfRange(id));
@@ -142,3 +144,6 @@ impl IdAllocator {
         }
     }
 }
+
+#[cfg(test)]
+mod tests;

@@ -5,6 +5,7 @@ pub mod allocation_engine;
 mod constraint;
 mod error;
 mod id_allocator;
+mod laws;
 mod range;
 
 pub use constraint::{AllocPolicy, Constraint, DEFAULT_CONSTRAINT_ALIGN};
