@@ -76,7 +76,7 @@ impl IdAllocator {
         Ok(id)
     }
 
-    /// What `allocate_id` would answer; nothing is taken.
+    /// What `allocate_id` would answer, its refusals included; nothing is taken.
     #[tactic(auto, using(crate::proofs::IdLemmas::peeks))]
     pub fn peek_id(&self) -> Result<u32>
         ensures answer { PeeksId self.now result }
