@@ -1,13 +1,12 @@
 -- The laws of ids.
-use Rattle.std.proofs.Common.{◌≡◌, ◌≢◌, ℕ, ◌+◌, ◌<◌, ◌≤◌, ◌⊎◌, ◌↔◌, refl, sym, ap, ◌∙◌, subst, arith, inl, inr, ⊎_elim, max, Result, Ok, Err, IsTrue}
+use Rattle.std.proofs.Common.{◌≡◌, ◌≢◌, ℕ, ◌<◌, ◌≤◌, ◌⊎◌, ◌↔◌, refl, sym, ap, ◌∙◌, subst, arith, inl, inr, ⊎_elim, Result, Ok, Err}
 use Rattle.std.proofs.lemmas.Bool.{cases_lt, cases_eq, both_ways}
 use Rattle.std.specs.Ordering.{nat_cmp}
 use Rattle.std.specs.FinSet as set
-use Rattle.vm_allocator.specs.Cases.{IfElse, Unless}
-use Rattle.vm_allocator.specs.Ids.{MAX_ID, IdState, IsOfRange, IsHandedOut, IsHeld, IsNotHeld, IsLeastNotHeld, AreAllHeld, IsIdState, fresh_ids, holding_id, releasing_id, MakesIds, ByLeastNotHeld, AllocatesId, PeeksId, FreesId}
+use Rattle.vm_allocator.specs.Ids.{MAX_ID, IdState, IsHandedOut, IsHeld, IsLeastNotHeld, AreAllHeld, IsIdState, fresh_ids, holding_id, releasing_id, MakesIds, ByLeastNotHeld, AllocatesId, PeeksId, FreesId}
 use Rattle.vm_allocator.specs.IdLaws.{MakingIsDetermined, AllocatingIsDetermined, PeekingForetells, FreeingIsDetermined, FrontIsKept, AddsId, TakesId, AllocatingAdds, FreeingTakes}
 use Rattle.vm_allocator.specs.declared.error.Error.{Error}
-use Rattle.vm_allocator.specs.declared.error.Error.TheVariants.{Overflow, OutOfRange, AlreadyReleased, NeverAllocated, ResourceNotAvailable, InvalidRange, OutOfMemory}
+use Rattle.vm_allocator.specs.declared.error.Error.TheVariants.{Overflow, ResourceNotAvailable, OutOfMemory}
 use Rattle.vm_allocator.proofs.CaseLemmas.{if_same, unless_same}
 use Rattle.vm_allocator.proofs.IdLemmas.{inserted_here, inserted_other, from_inserted, removed_other, from_removed}
 
@@ -50,8 +49,8 @@ unfolding FreesId
 freeing_is_determined old new other id r s m n a b =
     unless_same _ _ _ _ _ a b (λ x y. (x.0 ∙ sym y.0, x.1 ∙ sym y.1))
     (λ a b. unless_same _ _ _ _ _ a b (λ x y. (x.0 ∙ sym y.0, x.1 ∙ sym y.1))
-        (λ a b. unless_same _ _ _ _ _ a b (λ x y. (x.0 ∙ sym y.0, x.1 ∙ sym y.1))
-            (λ x y. one_gives_back old id r s new other m n x y)))
+    (λ a b. unless_same _ _ _ _ _ a b (λ x y. (x.0 ∙ sym y.0, x.1 ∙ sym y.1))
+    (λ x y. one_gives_back old id r s new other m n x y)))
 
 pub ruleset determined = (making_is_determined, allocating_is_determined, peeking_foretells, freeing_is_determined)
 
@@ -152,10 +151,10 @@ takes : (old new : IdState) (id : ℕ) → new ≡ releasing_id id old → Takes
 takes old new id e =
     subst (λ (t : IdState). TakesId old t id) (sym e)
     (record {
-        range = (refl, refl);
-        handed_out = λ q. (λ h. h, λ h. h);
-        held = λ q. (λ h. let p = from_removed old.held id q h in (p.1, p.0), λ h. removed_other old.held id q h.1 h.0);
-      })
+      range = (refl, refl);
+      handed_out = λ q. (λ h. h, λ h. h);
+      held = λ q. (λ h. let p = from_removed old.held id q h in (p.1, p.0), λ h. removed_other old.held id q h.1 h.0);
+    })
 
 pub freeing_takes : FreeingTakes
 unfolding FreesId

@@ -1,6 +1,6 @@
 -- What the fields of an id allocator say of its ids.
-use Rattle.std.proofs.Common.{◌≡◌, ℕ, zero, suc, ◌+◌, ◌-◌, ◌^◌, ◌<◌, ◌≤◌, ◌⊎◌, ◌&&◌, ◌||◌, Bool, true, false, cond, not, refl, sym, ap, ◌∙◌, arith, inl, inr, ⊎_elim, max, Option, Some, None, Result, Ok, Err, IsTrue, IsOk, nat_le, nat_lt, nat_eq, List, [], ◌∷◌, ◌↔◌, length, subst}
-use Rattle.std.proofs.lemmas.Bool.{cases_lt, cases_eq, cases_Bool, both_ways, and_parts, or_cases, and_from, or_left, or_right, not-true, not-false, ltb-true, leb-true, lt-ltb, le-leb, eq-eqb, eqb-true, ne_eqb}
+use Rattle.std.proofs.Common.{◌≡◌, ℕ, zero, suc, ◌+◌, ◌-◌, ◌^◌, ◌<◌, ◌≤◌, ◌⊎◌, Bool, true, false, cond, not, refl, sym, ap, ◌∙◌, arith, inl, inr, ⊎_elim, max, Option, Some, None, Result, Ok, Err, IsTrue, IsOk, List, [], ◌∷◌, ◌↔◌, length, subst}
+use Rattle.std.proofs.lemmas.Bool.{cases_lt, cases_eq, cases_Bool, both_ways, and_parts, or_cases, and_from, or_left, or_right, not-true, eq-eqb, eqb-true, ne_eqb}
 use Rattle.std.proofs.lemmas.Map.Keys.{le_from_not_gt}
 use Rattle.std.specs.Option.{SomeIff}
 use Rattle.std.specs.List.{range_with_len, list_any}
@@ -8,7 +8,6 @@ use Rattle.std.specs.Ordering.{nat_cmp, eq_by_cmp}
 use Rattle.std.specs.Cmp.{nat_cmp_total, unsigned_tied}
 use Rattle.std.specs.BTreeSet.{BTreeSet, btree_set_len, contains, Updates, IsLowerBound, IsUnchanged, IsEmpty}
 use Rattle.std.specs.FinSet as set
-use Rattle.vm_allocator.specs.Cases.{IfElse}
 use Rattle.vm_allocator.specs.Ids.{MAX_ID, IdState, IsOfRange, IsHandedOut, IsHeld, IsNotHeld, IsLeastNotHeld, AreAllHeld, fresh_ids, holding_id, releasing_id, MakesIds, ByLeastNotHeld, AllocatesId, PeeksId, FreesId, bound_of, held_of, ids_of, NextId, IsNext, AreIds, IsIdState}
 use Rattle.vm_allocator.specs.declared.error.Error.{Error}
 use Rattle.vm_allocator.specs.declared.error.Error.TheVariants.{Overflow, OutOfRange, AlreadyReleased, NeverAllocated, ResourceNotAvailable, InvalidRange, OutOfMemory}

@@ -68,13 +68,19 @@ fn test_slot_id_free(rt: HostRuntime) -> std::result::Result<(), Fail> {
 
     take_all(&rt, &mut ids, 5, 13);
     assert_eq!(rt; give_back(&rt, &mut ids, 10), Ok(10));
-    assert_eq!(rt; give_back(&rt, &mut ids, 10), Err(Error::AlreadyReleased(10)));
+    assert_eq!(rt;
+        give_back(&rt, &mut ids, 10),
+        Err(Error::AlreadyReleased(10))
+    );
     assert_eq!(rt; give_back(&rt, &mut ids, 9), Ok(9));
     assert!(rt; are_freed(&ids, &[9, 10]));
 
     assert_eq!(rt; ids.allocate_id(), Ok(9));
     assert!(rt; are_freed(&ids, &[10]));
-    assert_eq!(rt; give_back(&rt, &mut ids, 21), Err(Error::NeverAllocated(21)));
+    assert_eq!(rt;
+        give_back(&rt, &mut ids, 21),
+        Err(Error::NeverAllocated(21))
+    );
     Ok(())
 }
 
@@ -158,11 +164,17 @@ fn ids_of_a_range(rt: HostRuntime) -> std::result::Result<(), Fail> {
     assert_eq!(rt; give_back(&rt, &mut ids, 3), Err(Error::OutOfRange(3)));
     take_all(&rt, &mut ids, 5, 13);
     assert_eq!(rt; give_back(&rt, &mut ids, 10), Ok(10));
-    assert_eq!(rt; give_back(&rt, &mut ids, 10), Err(Error::AlreadyReleased(10)));
+    assert_eq!(rt;
+        give_back(&rt, &mut ids, 10),
+        Err(Error::AlreadyReleased(10))
+    );
     assert_eq!(rt; give_back(&rt, &mut ids, 9), Ok(9));
     assert_eq!(rt; ids.peek_id(), Ok(9));
     assert_eq!(rt; ids.allocate_id(), Ok(9));
-    assert_eq!(rt; give_back(&rt, &mut ids, 21), Err(Error::NeverAllocated(21)));
+    assert_eq!(rt;
+        give_back(&rt, &mut ids, 21),
+        Err(Error::NeverAllocated(21))
+    );
     assert!(rt; !ids.is_allocated(10));
     assert!(rt; ids.is_allocated(9));
     assert!(rt; !ids.is_allocated(14));
@@ -176,7 +188,10 @@ fn ids_of_a_range(rt: HostRuntime) -> std::result::Result<(), Fail> {
 fn greatest_id_alone(rt: HostRuntime) -> std::result::Result<(), Fail> {
     let id = 4294967295;
     let mut ids = IdAllocator::new(rt.alloc(), id, id)?;
-    assert_eq!(rt; give_back(&rt, &mut ids, id), Err(Error::NeverAllocated(id)));
+    assert_eq!(rt;
+        give_back(&rt, &mut ids, id),
+        Err(Error::NeverAllocated(id))
+    );
     assert_eq!(rt; ids.allocate_id(), Ok(id));
     assert_eq!(rt; ids.allocate_id(), Err(Error::Overflow));
     assert_eq!(rt; ids.peek_id(), Err(Error::Overflow));
