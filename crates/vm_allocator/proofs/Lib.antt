@@ -17,3 +17,6 @@ pub mod Freeing
 pub mod Making
 pub mod Once
 pub mod Filling
+pub mod IdLemmas
+pub mod CaseLemmas
+pub mod IdAnswers

@@ -9,3 +9,5 @@ pub mod Blocks
 pub mod BlockList
 pub mod Allocator
 pub mod Laws
+pub mod Ids
+pub mod IdLaws
