@@ -12,7 +12,7 @@ use Rattle.vm_replay.specs.Replies.{done_or_refused, given_or_refused}
 use Rattle.vm_replay.specs.declared.command.Command.{Command}
 use Rattle.vm_replay.specs.declared.command.Command.TheVariants.{Space, First, Free}
 use Rattle.vm_replay.specs.declared.reply.Reply.{Reply}
-use Rattle.vm_replay.specs.declared.reply.Reply.TheVariants.{Refused, NoSpace, NotInLanguage}
+use Rattle.vm_replay.specs.declared.reply.Reply.TheVariants.{NoSpace, NotInLanguage}
 
 -- what the lines so far have made: the space of the last `space` that was done
 pub record Machine : Type 0 where
