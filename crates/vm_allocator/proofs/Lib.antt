@@ -28,3 +28,6 @@ pub mod TreeEdits
 pub mod SpaceTrees
 pub mod Choosing
 pub mod ExactChoice
+pub mod IdLemmas
+pub mod CaseLemmas
+pub mod IdAnswers

@@ -10,6 +10,7 @@ use Rattle.vm_allocator.specs.declared.error.Error.{Error}
 use Rattle.vm_allocator.specs.declared.error.Error.TheVariants.{Overflow, ResourceNotAvailable}
 use Rattle.vm_allocator.specs.declared.constraint.AllocPolicy.{AllocPolicy}
 use Rattle.vm_allocator.specs.declared.constraint.AllocPolicy.TheVariants.{FirstMatch, LastMatch, ExactMatch}
+use Rattle.vm_allocator.proofs.CaseLemmas.{if_same, unless_same}
 
 -- there is one chosen place
 pub chosen_once : (policy : AllocPolicy) (n a s t : ℕ) (state : AddressState) → IsChosen policy n a state s → IsChosen policy n a state t → s ≡ t
@@ -25,16 +26,12 @@ chosen_place FirstMatch n a s state p = p.0
 chosen_place LastMatch n a s state p = p.0
 chosen_place (ExactMatch u) n a s state p = p.1
 
--- two facts by one condition
-both : (c P Q P' Q' R : Type 0) → (P → P' → R) → (Q → Q' → R) → IfElse c P Q → IfElse c P' Q' → R
-both c P Q P' Q' R f g h k =
-    ⊎_elim (λ l. ⊎_elim (λ m. f l.1 m.1) (λ m. absurd (m.0 l.0)) k)
-    (λ l. ⊎_elim (λ m. absurd (l.0 m.0)) (λ m. g l.1 m.1) k) h
+-- two facts by one condition, as functions of both
+both : (c P Q S T R : Type 0) → (P → S → R) → (Q → T → R) → IfElse c P Q → IfElse c S T → R
+both c P Q S T R f g h k = if_same c P Q S T h k f g
 
-both_unless : (c P Q P' Q' R : Type 0) → (P → P' → R) → (Q → Q' → R) → Unless c P Q → Unless c P' Q' → R
-both_unless c P Q P' Q' R f g h k =
-    ⊎_elim (λ l. ⊎_elim (λ m. f l.1 m.1) (λ m. absurd (l.0 m.0)) k)
-    (λ l. ⊎_elim (λ m. absurd (m.0 l.0)) (λ m. g l.1 m.1) k) h
+both_unless : (c P Q S T R : Type 0) → (P → S → R) → (Q → T → R) → Unless c P Q → Unless c S T → R
+both_unless c P Q S T R f g h k = unless_same c P Q S T h k f g
 
 abbrev Refused : AddressState → Result Range Error → AddressState → Error → Type 0
 Refused old x m e = (x ≡ Err e) × (m ≡ old)

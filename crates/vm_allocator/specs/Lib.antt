@@ -18,3 +18,5 @@ pub mod Shape
 pub mod NodeFields
 pub mod NodeAnswer
 pub mod Fibonacci
+pub mod Ids
+pub mod IdLaws

@@ -5,12 +5,14 @@ mod address_allocator;
 pub mod allocation_engine;
 mod constraint;
 mod error;
+mod id_allocator;
 mod laws;
 mod range;
 
 pub use address_allocator::AddressAllocator;
 pub use constraint::{AllocPolicy, Constraint, DEFAULT_CONSTRAINT_ALIGN};
 pub use error::{Error, Result};
+pub use id_allocator::IdAllocator;
 pub use range::RangeInclusive;
 
 #[cfg(test)]

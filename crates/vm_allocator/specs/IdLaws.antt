@@ -1,0 +1,49 @@
+-- Laws of ids, which follow from the definitions alone.
+use Rattle.std.specs.Prelude.{◌≡◌, ◌≢◌, ℕ, ◌≤◌, ◌⊎◌, ◌↔◌, Result, Ok, Err}
+use Rattle.vm_allocator.specs.Ids.{MAX_ID, IdState, IsHandedOut, IsHeld, IsIdState, MakesIds, AllocatesId, PeeksId, FreesId}
+use Rattle.vm_allocator.specs.declared.error.Error.{Error}
+use Rattle.vm_allocator.specs.declared.error.Error.TheVariants.{OutOfMemory}
+
+-- two ways to make an allocator of one range answer the same
+abbrev pub MakingIsDetermined : Type 0
+MakingIsDetermined = (lo hi : ℕ) (r s : Result IdState Error) → MakesIds lo hi r → MakesIds lo hi s → r ≡ s
+
+-- two requests in one state get the same answer and leave the same state
+abbrev pub AllocatingIsDetermined : Type 0
+AllocatingIsDetermined =
+    (old new other : IdState) (r s : Result ℕ Error) → AllocatesId old r new → AllocatesId old s other → (r ≡ s) × (new ≡ other)
+
+-- what is foretold is what a request gets
+abbrev pub PeekingForetells : Type 0
+PeekingForetells = (old new : IdState) (r s : Result ℕ Error) → PeeksId old r → AllocatesId old s new → r ≡ s
+
+-- where memory suffices, giving an id back twice from one state gets the same answer and leaves the same state
+abbrev pub FreeingIsDetermined : Type 0
+FreeingIsDetermined =
+    (old new other : IdState) (id : ℕ) (r s : Result ℕ Error) → r ≢ Err OutOfMemory → s ≢ Err OutOfMemory → FreesId old id r new → FreesId old id s other → (r ≡ s) × (new ≡ other)
+
+-- a new allocator has a front and holds only ids of it, and each call keeps that
+pub record FrontIsKept : Type 0 where
+  pub made : (lo hi : ℕ) (state : IdState) → hi ≤ MAX_ID → MakesIds lo hi (Ok state) → IsIdState state
+  pub allocated : (old new : IdState) (r : Result ℕ Error) → IsIdState old → AllocatesId old r new → IsIdState new
+  pub freed : (old new : IdState) (id : ℕ) (r : Result ℕ Error) → IsIdState old → FreesId old id r new → IsIdState new
+
+-- the id is handed out and held in the new state, and nothing else changes
+pub record AddsId (old new : IdState) (id : ℕ) : Type 0 where
+  pub range : (new.lo ≡ old.lo) × (new.hi ≡ old.hi)
+  pub handed_out : (q : ℕ) → IsHandedOut new q ↔ (IsHandedOut old q ⊎ (q ≡ id))
+  pub held : (q : ℕ) → IsHeld new q ↔ (IsHeld old q ⊎ (q ≡ id))
+
+-- the id is held no more in the new state, and nothing else changes
+pub record TakesId (old new : IdState) (id : ℕ) : Type 0 where
+  pub range : (new.lo ≡ old.lo) × (new.hi ≡ old.hi)
+  pub handed_out : (q : ℕ) → IsHandedOut new q ↔ IsHandedOut old q
+  pub held : (q : ℕ) → IsHeld new q ↔ (IsHeld old q × (q ≢ id))
+
+-- a request that gets an id adds it
+abbrev pub AllocatingAdds : Type 0
+AllocatingAdds = (old new : IdState) (id : ℕ) → IsIdState old → AllocatesId old (Ok id) new → AddsId old new id
+
+-- an id given back is taken away
+abbrev pub FreeingTakes : Type 0
+FreeingTakes = (old new : IdState) (id back : ℕ) → FreesId old id (Ok back) new → TakesId old new id

@@ -1,0 +1,24 @@
+//! Laws of ids.
+ghost use Rattle.vm_allocator.specs.IdLaws.{MakingIsDetermined, AllocatingIsDetermined, PeekingForetells, FreeingIsDetermined, FrontIsKept, AllocatingAdds, FreeingTakes};
+
+/// From one state a call has one answer and one next state, want of memory aside.
+#[tactic(auto, using(crate::proofs::IdAnswers::determined))]
+fn calls_are_determined()
+    ensures makes { MakingIsDetermined }
+    ensures allocates { AllocatingIsDetermined }
+    ensures peeks { PeekingForetells }
+    ensures frees { FreeingIsDetermined }
+{}
+
+/// The ids handed out are a front of the range, and the held ones are among them.
+#[tactic(auto, using(crate::proofs::IdAnswers::front))]
+fn front_is_kept()
+    ensures { FrontIsKept }
+{}
+
+/// What an id that is taken or given back changes.
+#[tactic(auto, using(crate::proofs::IdAnswers::changes))]
+fn one_id_changes()
+    ensures takes { AllocatingAdds }
+    ensures gives_back { FreeingTakes }
+{}

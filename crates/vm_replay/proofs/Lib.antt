@@ -1,0 +1,6 @@
+pub mod Splitting
+pub mod Numerals
+pub mod Decimals
+pub mod Parts
+pub mod Known
+pub mod Progress

@@ -1,0 +1,24 @@
+-- What a line asks for.
+use Rattle.std.specs.Prelude.{ℕ, if◌then◌else◌, nat_le, List, [], ◌∷◌, length, codes, Option, None}
+use Rattle.std.specs.Option.{option_map}
+use Rattle.std.specs.Str.{bytes_eq}
+use Rattle.vm_replay.specs.Words.{words_of, two_in}
+use Rattle.vm_replay.specs.declared.command.Command.{Command}
+use Rattle.vm_replay.specs.declared.command.Command.TheVariants.{Space, First, Free}
+
+-- what the words of a line ask for, where they are in the language
+abbrev pub asked : List (List ℕ) → Option Command
+asked [] = None
+asked (name ∷ words) =
+    if bytes_eq name (codes "space") then option_map (λ p. Space p.0 p.1) (two_in words)
+    else if bytes_eq name (codes "first") then option_map (λ p. First p.0 p.1) (two_in words)
+    else if bytes_eq name (codes "free") then option_map (λ p. Free p.0 p.1) (two_in words)
+    else None
+
+-- a longer line is not in the language
+abbrev pub longest_line : ℕ
+longest_line = 120
+
+-- what a line asks for
+abbrev pub command_of : List ℕ → Option Command
+command_of line = if nat_le (length line) longest_line then asked (words_of line) else None

@@ -1,0 +1,10 @@
+pub mod Numbers
+pub mod Words
+pub mod Commands
+pub mod Lines
+pub mod Replies
+pub mod Machines
+pub mod Runs
+pub mod Sessions
+pub mod Moving
+pub mod Status

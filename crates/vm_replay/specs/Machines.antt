@@ -1,0 +1,58 @@
+-- What the lines so far have made, and what a further line does to it.
+use Rattle.std.specs.Prelude.{◌≡◌, ℕ, Option, Some, None, Result, Ok, Err, MatchOption}
+use Rattle.vm_allocator.specs.Cases.{Unless}
+use Rattle.vm_allocator.specs.Range.{Range, IsRange}
+use Rattle.vm_allocator.specs.Address.{AddressState}
+use Rattle.vm_allocator.specs.Answer.{Allocates, Frees, Makes}
+use Rattle.vm_allocator.specs.declared.constraint.AllocPolicy.{AllocPolicy}
+use Rattle.vm_allocator.specs.declared.constraint.AllocPolicy.TheVariants.{FirstMatch}
+use Rattle.vm_allocator.specs.declared.error.Error.{Error}
+use Rattle.vm_allocator.specs.declared.error.Error.TheVariants.{InvalidRange}
+use Rattle.vm_replay.specs.Replies.{done_or_refused, given_or_refused}
+use Rattle.vm_replay.specs.declared.command.Command.{Command}
+use Rattle.vm_replay.specs.declared.command.Command.TheVariants.{Space, First, Free}
+use Rattle.vm_replay.specs.declared.reply.Reply.{Reply}
+use Rattle.vm_replay.specs.declared.reply.Reply.TheVariants.{NoSpace, NotInLanguage}
+
+-- what the lines so far have made: the space of the last `space` that was done
+pub record Machine : Type 0 where
+  pub space : Option AddressState
+
+-- before the first line
+abbrev pub start : Machine
+start = record { space = None }
+
+-- a space that is made takes the place of the old one, and a refused one does not
+abbrev pub with_space : Machine → Result AddressState Error → Machine
+with_space old (Ok state) = record old { space = Some state }
+with_space old (Err error) = old
+
+-- the line needs a space: where there is one, this call settles the reply and the state that it leaves
+unfoldable pub OnSpace : Machine → Reply → Machine → (AddressState → AddressState → Type 0) → Type 0
+OnSpace old reply new call =
+    MatchOption old.space
+    ((reply ≡ NoSpace) × (new ≡ old))
+    (λ state. (later : AddressState) × call state later × (new ≡ record old { space = Some later }))
+
+-- an allocation with this policy
+unfoldable pub Places : Machine → ℕ → ℕ → AllocPolicy → Reply → Machine → Type 0
+Places old size alignment policy reply new =
+    OnSpace old reply new (λ state later.
+    (answer : Result Range Error) × Allocates state size alignment policy answer later × (reply ≡ given_or_refused answer))
+
+-- the release of what is to be a range
+unfoldable pub Releases : AddressState → ℕ → ℕ → Result (Unit {0}) Error → AddressState → Type 0
+Releases old start end answer new =
+    Unless (IsRange start end)
+    ((answer ≡ Err (InvalidRange start end)) × (new ≡ old))
+    (Frees old (record { start = start; end = end }) answer new)
+
+-- From old, what is asked may get this reply, and new is what it leaves. None is a line that is not in the language.
+unfoldable pub Does : Machine → Option Command → Reply → Machine → Type 0
+Does old None reply new = (reply ≡ NotInLanguage) × (new ≡ old)
+Does old (Some (Space base size)) reply new =
+    (answer : Result AddressState Error) × Makes base size answer × (reply ≡ done_or_refused answer) × (new ≡ with_space old answer)
+Does old (Some (First size alignment)) reply new = Places old size alignment FirstMatch reply new
+Does old (Some (Free start end)) reply new =
+    OnSpace old reply new (λ state later.
+    (answer : Result (Unit {0}) Error) × Releases state start end answer later × (reply ≡ done_or_refused answer))

@@ -1,0 +1,24 @@
+-- What a word says as a number.
+use Rattle.std.specs.Prelude.{ℕ, ◌+◌, ◌-◌, ◌*◌, ◌^◌, Bool, ◌&&◌, if◌then◌else◌, nat_lt, nat_le, List, [], ◌∷◌, length, Option, Some, None}
+use Rattle.std.specs.List.{list_all}
+
+-- one of the ASCII digits
+abbrev pub is_digit : ℕ → Bool
+is_digit byte = nat_le 48 byte && nat_le byte 57
+
+-- the value of the digits, after digits of the value before
+abbrev pub value_from : ℕ → List ℕ → ℕ
+value_from before [] = before
+value_from before (digit ∷ digits) = value_from (before * 10 + (digit - 48)) digits
+
+-- one to twenty digits
+abbrev pub is_numeral : List ℕ → Bool
+is_numeral word = nat_le 1 (length word) && nat_le (length word) 20 && list_all is_digit word
+
+-- the value of a numeral, where it is below the bound
+abbrev pub number_below : ℕ → List ℕ → Option ℕ
+number_below bound word = if is_numeral word && nat_lt (value_from 0 word) bound then Some (value_from 0 word) else None
+
+-- the value of a numeral of 64 bits
+abbrev pub number_of : List ℕ → Option ℕ
+number_of word = number_below (2 ^ 64) word

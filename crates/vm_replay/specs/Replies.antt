@@ -1,0 +1,46 @@
+-- How a line is answered.
+use Rattle.std.specs.Prelude.{ℕ, List, ◌∷◌, ◌++◌, codes, decimal, Result, Ok, Err}
+use Rattle.vm_allocator.specs.Range.{Range}
+use Rattle.vm_allocator.specs.declared.error.Error.{Error}
+use Rattle.vm_allocator.specs.declared.error.Error.TheVariants.{Overflow, OutOfRange, AlreadyReleased, NeverAllocated, ResourceNotAvailable, InvalidRange, InvalidAlignment, Overlap, InvalidStateTransition, UnalignedAddress, Underflow, InvalidSize, OutOfMemory}
+use Rattle.vm_replay.specs.Words.{blank}
+use Rattle.vm_replay.specs.declared.reply.Reply.{Reply}
+use Rattle.vm_replay.specs.declared.reply.Reply.TheVariants.{Done, Given, Refused, NoSpace, NotInLanguage}
+
+-- two numbers, with a blank between them
+abbrev pub pair_text : ℕ → ℕ → List ℕ
+pair_text first second = decimal first ++ blank ∷ decimal second
+
+-- how a refusal reads: no call answers an overlap
+abbrev pub refusal_text : Error → List ℕ
+refusal_text Overflow = codes "error overflow"
+refusal_text (OutOfRange id) = codes "error out-of-range " ++ decimal id
+refusal_text (AlreadyReleased id) = codes "error already-released " ++ decimal id
+refusal_text (NeverAllocated id) = codes "error never-allocated " ++ decimal id
+refusal_text ResourceNotAvailable = codes "error not-available"
+refusal_text (InvalidRange start end) = codes "error invalid-range " ++ pair_text start end
+refusal_text InvalidAlignment = codes "error invalid-alignment"
+refusal_text (Overlap new met) = codes "error overlap"
+refusal_text (InvalidStateTransition slot state) = codes "error state " ++ pair_text slot.start slot.end
+refusal_text UnalignedAddress = codes "error unaligned"
+refusal_text Underflow = codes "error underflow"
+refusal_text (InvalidSize size) = codes "error invalid-size " ++ decimal size
+refusal_text OutOfMemory = codes "error memory"
+
+-- how a reply reads
+abbrev pub text_of : Reply → List ℕ
+text_of Done = codes "done"
+text_of (Given range) = codes "range " ++ pair_text range.start range.end
+text_of (Refused error) = refusal_text error
+text_of NoSpace = codes "error no-space"
+text_of NotInLanguage = codes "error line"
+
+-- the reply to a call that gives nothing which is told
+abbrev pub done_or_refused : {A : Type 0} → Result A Error → Reply
+done_or_refused (Ok value) = Done
+done_or_refused (Err error) = Refused error
+
+-- the reply to a call that gives a range
+abbrev pub given_or_refused : Result Range Error → Reply
+given_or_refused (Ok range) = Given range
+given_or_refused (Err error) = Refused error

@@ -1,0 +1,10 @@
+-- The status that the program ends with.
+use Rattle.std.specs.Prelude.{ℕ, Result, Ok, Err}
+use Rattle.vm_replay.specs.declared.run.RunError.{RunError}
+use Rattle.vm_replay.specs.declared.run.RunError.TheVariants.{Read, Write}
+
+-- 0 at the end of the input, 1 after a read that failed, 2 after a write that failed
+abbrev pub status_of : Result (Unit {0}) RunError → ℕ
+status_of (Ok unit) = 0
+status_of (Err Read) = 1
+status_of (Err Write) = 2

@@ -1,0 +1,35 @@
+//! Replays lines of calls: each line of the standard input asks an allocator for something, and is
+//! answered by one line of the standard output.
+#![tactic(auto)]
+
+ghost use Rattle.std.specs.Prelude.{◌≡◌};
+ghost use Rattle.vm_replay.specs.Status.{status_of};
+
+mod buffer;
+mod command;
+mod machine;
+mod number;
+mod reply;
+mod run;
+mod session;
+#[cfg(test)]
+mod tests;
+mod words;
+
+use run::{RunError, run};
+use std::process::ExitCode;
+
+/// The status that the program ends with.
+fn status(outcome: Result<(), RunError>) -> u8
+    ensures { result ≡ status_of outcome }
+{
+    match outcome {
+        Ok(()) => 0,
+        Err(RunError::Read) => 1,
+        Err(RunError::Write) => 2,
+    }
+}
+
+fn main(rt: HostRuntime) -> ExitCode {
+    ExitCode::from(status(run(rt.alloc(), &mut rt.stdin(), &mut rt.stdout())))
+}

@@ -1,0 +1,90 @@
+ghost use Rattle.std.specs.Prelude.{◌≡◌, ◌++◌, ◌+◌, ◌≤◌, length, decimal};
+ghost use Rattle.vm_replay.specs.Replies.{text_of, refusal_text, pair_text};
+
+use crate::buffer::{Buffer, CAPACITY};
+use vm_allocator::{Error, RangeInclusive};
+
+/// The most bytes that a reply takes, the newline behind it aside: those of an invalid range.
+pub const LONGEST_REPLY: usize = 61;
+
+/// How a line is answered.
+#[derive(Debug, Drop, PartialEq, Eq)]
+pub enum Reply {
+    /// The call succeeded, and there is no more to tell.
+    Done,
+    /// This range is held from now on.
+    Given(RangeInclusive),
+    /// The call was refused.
+    Refused(Error),
+    /// The line needs a space, and none has been made.
+    NoSpace,
+    /// The line is not in the language, or it is too long.
+    NotInLanguage,
+}
+
+/// Writes how a reply reads.
+pub fn write_reply(output: &mut Buffer, reply: Reply)
+    requires { length output.old + LONGEST_REPLY ≤ CAPACITY }
+    ensures text { output.new ≡ output.old ++ text_of reply }
+    ensures room { length output.new ≤ length output.old + LONGEST_REPLY }
+{
+    match reply {
+        Reply::Done => output.push_all(b"done"),
+        Reply::Given(range) => write_pair(output, b"range ", range.start(), range.end()),
+        Reply::Refused(error) => write_refusal(output, error),
+        Reply::NoSpace => output.push_all(b"error no-space"),
+        Reply::NotInLanguage => output.push_all(b"error line"),
+    }
+}
+
+/// Writes how a refusal reads.
+fn write_refusal(output: &mut Buffer, error: Error)
+    requires { length output.old + LONGEST_REPLY ≤ CAPACITY }
+    ensures text { output.new ≡ output.old ++ refusal_text error }
+    ensures room { length output.new ≤ length output.old + LONGEST_REPLY }
+{
+    match error {
+        Error::Overflow => output.push_all(b"error overflow"),
+        Error::OutOfRange(id) => write_number(output, b"error out-of-range ", id.into()),
+        Error::AlreadyReleased(id) => write_number(output, b"error already-released ", id.into()),
+        Error::NeverAllocated(id) => write_number(output, b"error never-allocated ", id.into()),
+        Error::ResourceNotAvailable => output.push_all(b"error not-available"),
+        Error::InvalidRange(start, end) => write_pair(output, b"error invalid-range ", start, end),
+        Error::InvalidAlignment => output.push_all(b"error invalid-alignment"),
+        Error::Overlap(_, _) => output.push_all(b"error overlap"),
+        Error::InvalidStateTransition(slot, _) => write_pair(
+            output,
+            b"error state ",
+            slot.start(),
+            slot.end(),
+        ),
+        Error::UnalignedAddress => output.push_all(b"error unaligned"),
+        Error::Underflow => output.push_all(b"error underflow"),
+        Error::InvalidSize(size) => write_number(output, b"error invalid-size ", size),
+        Error::OutOfMemory => output.push_all(b"error memory"),
+    }
+}
+
+/// Writes a text and a number behind it.
+fn write_number(output: &mut Buffer, text: &[u8], number: u64)
+    requires short { length text.now ≤ 41 }
+    requires room { length output.old + LONGEST_REPLY ≤ CAPACITY }
+    ensures text { output.new ≡ output.old ++ (text.now ++ decimal number) }
+    ensures room { length output.new ≤ length output.old + LONGEST_REPLY }
+{
+    output.push_all(text);
+    output.push_number(number);
+}
+
+/// Writes a text and two numbers behind it.
+fn write_pair(output: &mut Buffer, text: &[u8], first: u64, second: u64)
+    requires short { length text.now ≤ 20 }
+    requires room { length output.old + LONGEST_REPLY ≤ CAPACITY }
+    ensures text { output.new ≡ output.old ++ (text.now ++ pair_text first second) }
+    ensures room { length output.new ≤ length output.old + LONGEST_REPLY }
+{
+    output.push_all(text);
+    output.push_number(first);
+    output.push(b' ');
+    output.push_number(second);
+}

@@ -1,0 +1,443 @@
+//! Program rows, and readers and writers that fail.
+ghost use Rattle.std.specs.Prelude.{◌≤◌, length};
+
+use crate::buffer::Buffer;
+use crate::command::Command;
+use crate::machine::Machine;
+use crate::reply::{Reply, write_reply};
+use crate::run::{RunError, run};
+use crate::status;
+use std::alloc::Global;
+use std::io;
+use std::io::{Read, Write};
+use std::process::Abort;
+use std::test::Fail;
+use vm_allocator::allocation_engine::NodeState;
+use vm_allocator::{Error, RangeInclusive};
+
+/// Gives its bytes in pieces, and fails at one of its reads, if that is not 0.
+#[derive(Drop)]
+struct Pieces<'a> {
+    bytes: &'a [u8],
+    longest: usize,
+    reads: u64,
+    bad_read: u64,
+}
+
+impl<'a> Pieces<'a> {
+    fn new(bytes: &'a [u8], longest: usize, bad_read: u64) -> Pieces<'a> {
+        Pieces {
+            bytes,
+            longest,
+            reads: 0,
+            bad_read,
+        }
+    }
+}
+
+impl Read for Pieces<'_> {
+    fn read(&mut self, buf: &mut [u8]) -> io::Result<usize> {
+        self.reads = self.reads.saturating_add(1);
+        if self.reads == self.bad_read {
+            return Err(io::Error::from(io::ErrorKind::Other));
+        }
+        let count = self.bytes.len().min(self.longest).min(buf.len());
+        buf[..count].copy_from_slice(&self.bytes[..count]);
+        self.bytes = &self.bytes[count..];
+        Ok(count)
+    }
+}
+
+/// Gives `x` and a newline so many times, and then fails or is at its end.
+#[derive(Drop)]
+struct Lines {
+    left: u64,
+    fails: bool,
+}
+
+impl Read for Lines {
+    fn read(&mut self, buf: &mut [u8]) -> io::Result<usize> {
+        if self.left == 0 && self.fails {
+            return Err(io::Error::from(io::ErrorKind::Other));
+        }
+        if self.left == 0 || buf.len() < 2 {
+            return Ok(0);
+        }
+        self.left -= 1;
+        buf[..2].copy_from_slice(b"x\n");
+        Ok(2)
+    }
+}
+
+const ROOM: usize = 16384;
+
+/// Takes at most three bytes a call, fails at one of its writes, if that is not 0, and counts its
+/// flushes.
+#[derive(Drop)]
+struct Sink {
+    got: [u8; ROOM],
+    filled: usize,
+    writes: u64,
+    bad_write: u64,
+    flushes: u64,
+    fails_flush: bool,
+    ghost within: { filled ≤ 16384 },
+}
+
+impl Sink {
+    fn new(bad_write: u64, fails_flush: bool) -> Sink {
+        Sink {
+            got: [0; ROOM],
+            filled: 0,
+            writes: 0,
+            bad_write,
+            flushes: 0,
+            fails_flush,
+        }
+    }
+
+    fn text(&self) -> &[u8] {
+        &self.got[..self.filled]
+    }
+
+    /// Whether a line was refused for want of memory.
+    fn met_refusal(&self) -> bool {
+        for line in self.text().split(|byte| *byte == b'\n') {
+            if line == b"error memory".as_slice() {
+                return true;
+            }
+        }
+        false
+    }
+}
+
+impl Write for Sink {
+    fn write(&mut self, buf: &[u8]) -> io::Result<usize> {
+        self.writes = self.writes.saturating_add(1);
+        if self.writes == self.bad_write {
+            return Err(io::Error::from(io::ErrorKind::BrokenPipe));
+        }
+        let count = buf.len().min(3).min(ROOM - self.filled);
+        let end = self.filled + count;
+        self.got[self.filled..end].copy_from_slice(&buf[..count]);
+        self.filled = end;
+        Ok(count)
+    }
+
+    fn flush(&mut self) -> io::Result<()> {
+        self.flushes = self.flushes.saturating_add(1);
+        if self.fails_flush {
+            return Err(io::Error::from(io::ErrorKind::Other));
+        }
+        Ok(())
+    }
+}
+
+/// What a run over the input answers, and what it wrote. Where a request for memory was refused
+/// the run is made again, so that the texts of the rows hold in each run that they are compared with.
+fn run_on(
+    alloc: Global,
+    input: &[u8],
+    longest: usize,
+    bad_read: u64,
+) -> (Result<(), RunError>, Sink) {
+    let mut reader = Pieces::new(input, longest, bad_read);
+    let mut writer = Sink::new(0, false);
+    let outcome = run(alloc, &mut reader, &mut writer);
+    if !writer.met_refusal() {
+        return (outcome, writer);
+    }
+    let mut reader = Pieces::new(input, longest, bad_read);
+    let mut writer = Sink::new(0, false);
+    let outcome = run(alloc, &mut reader, &mut writer);
+    (outcome, writer)
+}
+
+/// The input is answered by this text, in whatever pieces it comes.
+fn expect_row(rt: &impl Abort, alloc: Global, input: &[u8], output: &[u8]) {
+    for longest in [1, 2, 3, 7, 64, 4096] {
+        let (outcome, writer) = run_on(alloc, input, longest, 0);
+        assert_eq!(rt; status(outcome), 0);
+        assert_eq!(rt; writer.text(), output, "in pieces of {longest}");
+        assert_eq!(rt; writer.flushes, 1);
+    }
+}
+
+const FIRST_PROGRAM: &[u8] =
+    b"space 16 4\nfirst 1 1\nfirst 1 1\nfree 16 16\nfree 17 17\nfirst 4 1\n";
+
+const FIRST_ANSWERS: &[u8] = b"done\nrange 16 16\nrange 17 17\ndone\ndone\nrange 16 19\n";
+
+#[test]
+fn first_program(rt: HostRuntime) {
+    expect_row(&rt, rt.alloc(), FIRST_PROGRAM, FIRST_ANSWERS);
+}
+
+#[test]
+fn line_grammar(rt: HostRuntime) {
+    expect_row(&rt, rt.alloc(), b"", b"");
+    expect_row(
+        &rt,
+        rt.alloc(),
+        b"first 1 1\n\nfirst 01x 1\nspace 18446744073709551616 1\nfirst  1 1\nxxxxxxxxxxxxxxxxxxxxxxxxxxxxxxxxxxxxxxxxxxxxxxxxxxxxxxxxxxxxxxxxxxxxxxxxxxxxxxxxxxxxxxxxxxxxxxxxxxxxxxxxxxxxxxxxxxxxxxxxx\nspace 0 016",
+        b"error no-space\nerror line\nerror line\nerror line\nerror line\nerror line\ndone\n",
+    );
+}
+
+#[test]
+fn a_full_space(rt: HostRuntime) {
+    expect_row(
+        &rt,
+        rt.alloc(),
+        b"space 16 4\nfirst 1 1\nfirst 4 1\nfirst 3 1\nfirst 1 1\nfree 16 17\nfree 16 16\nfirst 1 1\n",
+        b"done\nrange 16 16\nerror not-available\nrange 17 19\nerror not-available\nerror not-available\ndone\nrange 16 16\n",
+    );
+}
+
+#[test]
+fn words_and_numbers(rt: HostRuntime) {
+    expect_row(
+        &rt,
+        rt.alloc(),
+        b"space 00000000000000000016 4\nfirst 000000000000000000001 1\n first 1 1\nfirst 1 1 \nfirst\t1 1\nfirst 1 1\r\nfirst 1\nfirst 1 1 1\nfirst 1 -1\nFirst 1 1\nfirst 1 1",
+        b"done\nerror line\nerror line\nerror line\nerror line\nerror line\nerror line\nerror line\nerror line\nerror line\nrange 16 16\n",
+    );
+}
+
+#[test]
+fn lines_that_are_not_there_yet(rt: HostRuntime) {
+    expect_row(
+        &rt,
+        rt.alloc(),
+        b"space 16 4\nlast 1 1\nexact 1 1 16\nids 5 5\nid\nunid 5\nhas 5\nmanager 0 1 4096 4096\ndevice 1 1\nundevice 0\n",
+        b"done\nerror line\nerror line\nerror line\nerror line\nerror line\nerror line\nerror line\nerror line\nerror line\n",
+    );
+}
+
+#[test]
+fn refusals_in_order(rt: HostRuntime) {
+    expect_row(
+        &rt,
+        rt.alloc(),
+        b"free 2 1\nfirst 0 3\nfree 2 1 0\nspace 0 0\nspace 18446744073709551615 2\nfree 16 16\nspace 16 4\nfirst 0 3\nfirst 1 3\nfirst 1 1\nfree 2 1\nfree 18446744073709551615 18446744073709551614\nfree 0 18446744073709551615\nspace 0 0\nfree 16 16\nspace 18446744073709551615 1\nfirst 1 1\nfree 16 16\n",
+        b"error no-space\nerror no-space\nerror line\nerror underflow\nerror overflow\nerror no-space\ndone\nerror invalid-size 0\nerror invalid-alignment\nrange 16 16\nerror invalid-range 2 1\nerror invalid-range 18446744073709551615 18446744073709551614\nerror invalid-range 0 18446744073709551615\nerror underflow\ndone\ndone\nerror overflow\nerror not-available\n",
+    );
+}
+
+#[test]
+fn long_lines(rt: HostRuntime) {
+    for length in [119, 120, 121, 122, 4096, 9000] {
+        let mut input = [b'0'; 9022];
+        input[..6].copy_from_slice(b"first ");
+        input[length..length + 22].copy_from_slice(b"\nspace 16 4\nfirst 1 1\n");
+        expect_row(
+            &rt,
+            rt.alloc(),
+            &input[..length + 22],
+            b"error line\ndone\nrange 16 16\n",
+        );
+    }
+}
+
+/// The reply reads like this.
+fn expect_text(rt: &impl Abort, reply: Reply, text: &[u8]) {
+    let mut output = Buffer::new();
+    write_reply(&mut output, reply);
+    assert_eq!(rt; output.as_slice(), text);
+}
+
+#[test]
+fn replies(rt: HostRuntime) -> Result<(), Fail> {
+    let wide = RangeInclusive::new(1, u64::MAX)?;
+    expect_text(&rt, Reply::Done, b"done");
+    expect_text(&rt, Reply::Given(wide), b"range 1 18446744073709551615");
+    expect_text(&rt, Reply::NoSpace, b"error no-space");
+    expect_text(&rt, Reply::NotInLanguage, b"error line");
+    Ok(())
+}
+
+/// The refusal reads like this.
+fn expect_refusal(rt: &impl Abort, error: Error, text: &[u8]) {
+    expect_text(rt, Reply::Refused(error), text);
+}
+
+#[test]
+fn refusals(rt: HostRuntime) -> Result<(), Fail> {
+    let slot = RangeInclusive::new(4096, 4351)?;
+    let held = Error::InvalidStateTransition(slot, NodeState::Allocated);
+    expect_refusal(&rt, Error::Overflow, b"error overflow");
+    expect_refusal(
+        &rt,
+        Error::OutOfRange(4294967295),
+        b"error out-of-range 4294967295",
+    );
+    expect_refusal(
+        &rt,
+        Error::AlreadyReleased(10),
+        b"error already-released 10",
+    );
+    expect_refusal(&rt, Error::NeverAllocated(9), b"error never-allocated 9");
+    expect_refusal(&rt, Error::ResourceNotAvailable, b"error not-available");
+    expect_refusal(
+        &rt,
+        Error::InvalidRange(100, 0),
+        b"error invalid-range 100 0",
+    );
+    expect_refusal(&rt, Error::InvalidAlignment, b"error invalid-alignment");
+    expect_refusal(&rt, held, b"error state 4096 4351");
+    expect_refusal(&rt, Error::UnalignedAddress, b"error unaligned");
+    expect_refusal(&rt, Error::Underflow, b"error underflow");
+    expect_refusal(&rt, Error::InvalidSize(0), b"error invalid-size 0");
+    expect_refusal(&rt, Error::OutOfMemory, b"error memory");
+    Ok(())
+}
+
+/// How many bytes the first `count` lines of the text take.
+fn length_of_lines(text: &[u8], count: usize) -> usize
+    ensures { result ≤ length text.now }
+{
+    let mut seen = 0usize;
+    for (at, byte) in text.iter().enumerate() {
+        if seen == count {
+            return at;
+        }
+        if *byte == b'\n' {
+            seen = seen.saturating_add(1);
+        }
+    }
+    text.len()
+}
+
+#[test]
+fn each_read_fails(rt: HostRuntime) {
+    for bad_read in 1..=FIRST_PROGRAM.len() + 1 {
+        let (outcome, writer) = run_on(rt.alloc(), FIRST_PROGRAM, 1, bad_read as u64);
+        assert_eq!(rt; outcome, Err(RunError::Read));
+        let front = &FIRST_PROGRAM[..bad_read - 1];
+        let lines = front.iter().filter(|byte| **byte == b'\n').count();
+        let answered = length_of_lines(FIRST_ANSWERS, lines);
+        assert_eq!(rt;
+            writer.text(),
+            &FIRST_ANSWERS[..answered],
+            "at read {bad_read}"
+        );
+        assert_eq!(rt; writer.flushes, 0);
+    }
+}
+
+#[test]
+fn a_read_fails_in_a_line(rt: HostRuntime) {
+    for longest in [1, 2, 3, 7, 64] {
+        let input = b"space 16 4\nfirst 1 1\nfirs".as_slice();
+        let reads = input.len().div_ceil(longest) as u64;
+        let (outcome, writer) = run_on(rt.alloc(), input, longest, reads + 1);
+        assert_eq!(rt; outcome, Err(RunError::Read));
+        assert_eq!(rt; writer.text(), b"done\nrange 16 16\n".as_slice());
+        assert_eq!(rt; writer.flushes, 0);
+    }
+}
+
+#[test]
+fn a_read_fails_before_a_flush_that_would(rt: HostRuntime) {
+    let mut reader = Pieces::new(b"x\ny", 64, 2);
+    let mut writer = Sink::new(0, true);
+    assert_eq!(rt; status(run(rt.alloc(), &mut reader, &mut writer)), 1);
+    assert_eq!(rt; writer.text(), b"error line\n".as_slice());
+    assert_eq!(rt; writer.flushes, 0);
+}
+
+#[test]
+fn each_write_fails(rt: HostRuntime) {
+    let (_, good) = run_on(rt.alloc(), FIRST_PROGRAM, 64, 0);
+    for bad_write in 1..=good.writes {
+        let mut reader = Pieces::new(FIRST_PROGRAM, 64, 0);
+        let mut writer = Sink::new(bad_write, false);
+        assert_eq!(rt;
+            status(run(rt.alloc(), &mut reader, &mut writer)),
+            2,
+            "at write {bad_write}"
+        );
+        assert_eq!(rt; writer.flushes, 0);
+    }
+    let mut reader = Pieces::new(b"x", 64, 0);
+    let mut writer = Sink::new(0, true);
+    assert_eq!(rt;
+        run(rt.alloc(), &mut reader, &mut writer),
+        Err(RunError::Write)
+    );
+    assert_eq!(rt; writer.text(), b"error line\n".as_slice());
+    assert_eq!(rt; writer.flushes, 1);
+}
+
+/// The text is `error line` and a newline, so many times.
+fn expect_line_errors(rt: &impl Abort, text: &[u8], count: usize) {
+    let mut lines = 0usize;
+    for line in text.chunks(11) {
+        assert_eq!(rt; line, b"error line\n".as_slice());
+        lines = lines.saturating_add(1);
+    }
+    assert_eq!(rt; lines, count);
+}
+
+#[test]
+fn many_lines(rt: HostRuntime) {
+    let mut writer = Sink::new(0, false);
+    let mut reader = Lines {
+        left: 1000,
+        fails: false,
+    };
+    assert_eq!(rt; status(run(rt.alloc(), &mut reader, &mut writer)), 0);
+    expect_line_errors(&rt, writer.text(), 1000);
+    for bad_write in [1, 2, 1000, writer.writes] {
+        let mut reader = Lines {
+            left: 1000,
+            fails: false,
+        };
+        let mut bad = Sink::new(bad_write, false);
+        assert_eq!(rt; status(run(rt.alloc(), &mut reader, &mut bad)), 2);
+    }
+    for left in [0, 1, 366, 367, 368, 1000] {
+        let mut reader = Lines { left, fails: true };
+        let mut writer = Sink::new(0, false);
+        assert_eq!(rt; status(run(rt.alloc(), &mut reader, &mut writer)), 1);
+        expect_line_errors(&rt, writer.text(), left as usize);
+        assert_eq!(rt; writer.flushes, 0);
+    }
+}
+
+#[test]
+fn statuses(rt: HostRuntime) {
+    assert_eq!(rt; status(Ok(())), 0);
+    assert_eq!(rt; status(Err(RunError::Read)), 1);
+    assert_eq!(rt; status(Err(RunError::Write)), 2);
+}
+
+#[test]
+fn a_line_refused_for_memory_is_asked_again(rt: HostRuntime) -> Result<(), Fail> {
+    let mut machine = Machine::new();
+    for (command, want) in [
+        (Command::Space { base: 16, size: 4 }, Reply::Done),
+        (
+            Command::First {
+                size: 1,
+                alignment: 1,
+            },
+            Reply::Given(RangeInclusive::new(16, 16)?),
+        ),
+        (
+            Command::First {
+                size: 3,
+                alignment: 1,
+            },
+            Reply::Given(RangeInclusive::new(17, 19)?),
+        ),
+        (Command::Free { start: 16, end: 16 }, Reply::Done),
+    ] {
+        let mut reply = machine.answer(rt.alloc(), Some(command));
+        if reply == Reply::Refused(Error::OutOfMemory) {
+            reply = machine.answer(rt.alloc(), Some(command));
+        }
+        assert_eq!(rt; reply, want);
+    }
+    Ok(())
+}
