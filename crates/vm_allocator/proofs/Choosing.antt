@@ -100,3 +100,18 @@ chooses_last n a s place answer t z f h =
 pub ruleset first_choices = (none_first, first_has_room, chooses_first)
 
 pub ruleset last_choices = (none_last, last_has_room, chooses_last)
+
+-- from what is chosen to the answer
+pub chooses_refused : (s : Shape) (n a : ℕ) (p : AllocPolicy) (e : Error) → Chooses s n a p (Err e) → Settles (tree_state s) n a p (Err e) (tree_state s)
+unfolding Chooses
+chooses_refused s n a p e h = h
+
+pub is_choice : (s : Shape) (n a : ℕ) (p : AllocPolicy) (choice : Choice) → Chooses s n a p (Ok choice) → IsChoice (blocks s) choice
+unfolding Chooses
+is_choice s n a p choice h = h.0
+
+pub settled : (s : Shape) (n a : ℕ) (p : AllocPolicy) (choice : Choice) (answer : Result Range Error) (new : AddressState) → Chooses s n a p (Ok choice) → Takes (tree_state s) choice.range answer new → Settles (tree_state s) n a p answer new
+unfolding Chooses IsSettledBy
+settled s n a p choice answer new h t = h.1 answer new t
+
+pub ruleset settling = (chooses_refused, settled)

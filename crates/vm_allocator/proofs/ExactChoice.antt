@@ -9,6 +9,7 @@ use Rattle.vm_allocator.specs.Blocks.{blocks_state}
 use Rattle.vm_allocator.specs.BlockEdits.{free_block, IsTakenFrom}
 use Rattle.vm_allocator.specs.BlockList.{find_superset}
 use Rattle.vm_allocator.specs.Shape.{Shape, blocks}
+use Rattle.vm_allocator.specs.Release.{at_address}
 use Rattle.vm_allocator.specs.SpaceTree.{space_of, tree_state, IsSpaceTree, IsChoice, IsSettledBy, Chooses, ExactIn}
 use Rattle.vm_allocator.specs.declared.error.Error.{Error}
 use Rattle.vm_allocator.specs.declared.error.Error.TheVariants.{Overflow, ResourceNotAvailable, InvalidStateTransition}
@@ -18,7 +19,7 @@ use Rattle.vm_allocator.specs.declared.constraint.AllocPolicy.{AllocPolicy}
 use Rattle.vm_allocator.specs.declared.constraint.AllocPolicy.TheVariants.{ExactMatch}
 use Rattle.vm_allocator.specs.declared.allocation_engine.interval_tree.Choice.{Choice}
 use Rattle.vm_allocator.proofs.Unique.{same_range, same_block}
-use Rattle.vm_allocator.proofs.TreeEdits.{at_address, address_cut, address_missed}
+use Rattle.vm_allocator.proofs.TreeEdits.{address_cut, address_missed}
 use Rattle.vm_allocator.proofs.Exact.{IsWithin, exact_at_max, exact_outside, exact_over, exact_held, exact_other, exact_short, exact_at_end, exact_taken}
 
 pub in_held : (k : Range) (st : NodeState) (t last : ℕ) → st ≡ Allocated → k.start ≡ t → k.end ≡ last → ExactIn k st t last (Err (InvalidStateTransition k Allocated))

@@ -53,7 +53,7 @@ fewest_nodes (Fork l b r) t =
     omega (arith, above_at h (height_of l) (height_of r) (node_count l) (node_count r) e c (omega (arith, t.2.0)) f g))
     (cases_lt (height_of l) (height_of r))
 
-power_grows : (a b : ℕ) → a ≤ b → 2 ^ a ≤ 2 ^ b
+pub power_grows : (a b : ℕ) → a ≤ b → 2 ^ a ≤ 2 ^ b
 power_grows a zero p = let e : a ≡ 0 = omega arith in rw e (omega arith)
 power_grows a (suc b) p =
     ⊎_elim
@@ -72,5 +72,13 @@ most_nodes (Fork l b r) =
 pub node_count-blocks : (s : Shape) → node_count s ≡ length (blocks s)
 node_count-blocks Tip = refl
 node_count-blocks (Fork l b r) = simp length-append (omega (arith, node_count-blocks l, node_count-blocks r))
+
+pub fibonacci_grows : (a b : ℕ) → a ≤ b → fibonacci (suc a) ≤ fibonacci (suc b)
+fibonacci_grows a zero p = let e : a ≡ 0 = omega arith in rw e (omega arith)
+fibonacci_grows a (suc b) p =
+    ⊎_elim
+    (λ (c : a < suc b). omega (arith, fibonacci_grows a b (omega arith), grows b))
+    (λ (c : suc b ≤ a). let e : a ≡ suc b = omega arith in rw e (omega arith))
+    (cases_lt a (suc b))
 
 pub ruleset node_numbers = (fewest_nodes, most_nodes, node_count-blocks)

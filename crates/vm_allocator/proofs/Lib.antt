@@ -11,8 +11,6 @@ pub mod Carve
 pub mod Join
 pub mod Fits
 pub mod Taking
-pub mod Freeing
-pub mod Making
 pub mod Once
 pub mod Filling
 pub mod Exact
@@ -31,3 +29,7 @@ pub mod ExactChoice
 pub mod IdLemmas
 pub mod CaseLemmas
 pub mod IdAnswers
+pub mod TreeCarve
+pub mod Releasing
+pub mod Freeing
+pub mod Making

@@ -18,7 +18,7 @@ same_range_before a b (inr (inl p)) = same_range_start a b (λ e. omega arith)
 same_range_before a b (inl (inr p)) = rw (eq-eqb a.start b.start p.0, ne_eqb a.end b.end (λ e. omega arith))
 same_range_before a b (inr (inr p)) = rw (eq-eqb a.start b.start (sym p.0), ne_eqb a.end b.end (λ e. omega arith))
 
-same_range_self : (a : Range) → same_range a a ≡ true
+pub same_range_self : (a : Range) → same_range a a ≡ true
 same_range_self a = rw (eq-eqb a.start a.start refl, eq-eqb a.end a.end refl)
 
 -- a range that begins before all of them is none of them
@@ -83,7 +83,7 @@ find_right lo k l x r p o =
     let q : x.key.start ≤ k.start = elim p [ inl a ↦ omega (arith, a) | inr a ↦ omega (arith, a.0) ] in
     find_past lo k l x r q o ∙ rw (same_range_before k x.key (inr p))
 
-find_middle : (lo : ℕ) (k : Range) (l : List Block) (x : Block) (r : List Block) → x.key ≡ k → IsOrderedFrom lo (l ++ x ∷ r) → find_key k (l ++ x ∷ r) ≡ Some x
+pub find_middle : (lo : ℕ) (k : Range) (l : List Block) (x : Block) (r : List Block) → x.key ≡ k → IsOrderedFrom lo (l ++ x ∷ r) → find_key k (l ++ x ∷ r) ≡ Some x
 find_middle lo k l x r p o =
     find_past lo k l x r (omega (arith, ap (λ (a : Range). a.start) p)) o ∙ rw (p, same_range_self k)
 

@@ -1,13 +1,17 @@
 -- Trees whose blocks are those of a space.
-use Rattle.std.proofs.Common.{◌≡◌, ℕ, ◌+◌, ◌-◌, ◌*◌, ◌^◌, ◌<◌, ◌≤◌, List, [], ◌∷◌, ◌++◌, refl, sym, ap, ◌∙◌, arith, subst, Option, Some, None}
-use Rattle.vm_allocator.specs.Range.{Range, IsRange}
+use Rattle.std.proofs.Common.{◌≡◌, ℕ, ◌+◌, ◌-◌, ◌*◌, ◌^◌, ◌<◌, ◌≤◌, List, [], ◌∷◌, ◌++◌, refl, sym, ap, ◌∙◌, arith, subst, Option, Some, None, IsSome}
+use Rattle.std.specs.Global.{Box}
+use Rattle.vm_allocator.specs.Range.{Range, MAX, IsRange}
 use Rattle.vm_allocator.specs.Block.{Block}
 use Rattle.vm_allocator.specs.Blocks.{Tiles, TilesSpace, IsTiling, held_of}
-use Rattle.vm_allocator.specs.Shape.{Shape, Tip, Fork, blocks, height_of, single}
+use Rattle.vm_allocator.specs.Shape.{Shape, Tip, Fork, blocks, height_of, node_count, single}
+use Rattle.vm_allocator.specs.NodeFields.{side}
+use Rattle.vm_allocator.specs.declared.allocation_engine.node.InnerNode.{InnerNode}
 use Rattle.vm_allocator.specs.SpaceTree.{last_end, space_of, IsSpaceTree}
 use Rattle.vm_allocator.specs.declared.allocation_engine.NodeState.{NodeState}
 use Rattle.vm_allocator.specs.declared.allocation_engine.NodeState.TheVariants.{Free, Allocated}
 use Rattle.vm_allocator.proofs.Unique.{same_range}
+use Rattle.vm_allocator.proofs.FewestNodes.{most_nodes, power_grows}
 
 -- blocks that follow one another end where the space ends
 last_tile : (p : NodeState) (lo hi : ℕ) (bs : List Block) → Tiles p (lo + 1) bs hi → last_end lo bs ≡ hi
@@ -40,4 +44,12 @@ pub no_empty_tree : IsSpaceTree Tip → ⊥
 unfolding TilesSpace
 no_empty_tree h = let t = h.tiling.tiles in omega arith
 
-pub ruleset rooted = (no_empty_tree)
+-- so few nodes that no count of them comes near MAX
+pub few_nodes : (s : Shape) → IsSpaceTree s → node_count s + 8 * height_of s + 8 ≤ MAX
+few_nodes s h = let p = power_grows (height_of s) 49 h.height in omega (arith, most_nodes s, h.height)
+
+pub some_root : (root : Option (Box InnerNode)) → IsSpaceTree (side root) → IsSome root
+some_root None h = absurd (no_empty_tree h)
+some_root (Some n) h = refl
+
+pub ruleset rooted = (no_empty_tree, some_root)

@@ -8,9 +8,7 @@ use Rattle.vm_allocator.specs.Block.{Block}
 use Rattle.vm_allocator.specs.Address.{LeavesClear, with_range}
 use Rattle.vm_allocator.specs.Answer.{IsChosen, ByExactStart, ByPlace, Takes, Settles}
 use Rattle.vm_allocator.specs.Blocks.{held_of, IsBlocksOf, blocks_state, TilesSpace, IsTiling, AreBelowMax}
-use Rattle.vm_allocator.specs.Fit.{HasNoFit, IsLeastFit}
-use Rattle.vm_allocator.specs.BlockEdits.{IsTakenFrom, parts, LeavesPart, TakesFit, HasRoom}
-use Rattle.vm_allocator.specs.Allocator.{SpaceInBlocks}
+use Rattle.vm_allocator.specs.BlockEdits.{IsTakenFrom, LeavesPart}
 use Rattle.vm_allocator.proofs.Words.{all_miss}
 use Rattle.vm_allocator.specs.declared.error.Error.{Error}
 use Rattle.vm_allocator.specs.declared.error.Error.TheVariants.{Overflow, OutOfMemory, ResourceNotAvailable}

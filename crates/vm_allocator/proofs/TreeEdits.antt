@@ -8,6 +8,7 @@ use Rattle.vm_allocator.specs.RangeOrder.{Apart, same_range, covers}
 use Rattle.vm_allocator.specs.Block.{Block}
 use Rattle.vm_allocator.specs.Blocks.{Tiles, held_of}
 use Rattle.vm_allocator.specs.BlockList.{IsOrderedFrom, IsClearOf, insert_block, replace_block, find_key, find_superset}
+use Rattle.vm_allocator.specs.Release.{at_address}
 use Rattle.vm_allocator.specs.declared.allocation_engine.NodeState.{NodeState}
 use Rattle.vm_allocator.specs.declared.allocation_engine.NodeState.TheVariants.{Free, Allocated}
 use Rattle.vm_allocator.proofs.Unique.{same_range as ranges_same}
@@ -29,7 +30,7 @@ cut_later x b bs c = record { before = x ∷ c.before; after = c.after; is = ap 
 some_same : (x y : Block) → Some x ≡ Some y → x ≡ y
 some_same x y e = cc
 
-ranges_if : (a b : Range) → same_range a b ≡ true → a ≡ b
+pub ranges_if : (a b : Range) → same_range a b ≡ true → a ≡ b
 ranges_if a b e = let t = and_parts (eqb a.start b.start) (eqb a.end b.end) e in ranges_same a b (eqb-true a.start b.start t.0) (eqb-true a.end b.end t.1)
 
 -- a block that is found by its key
@@ -43,15 +44,11 @@ find_cut k b (x ∷ bs) e =
       | false ↦ λ s f. let i = find_cut k b bs f in (cut_later x b bs i.0, i.1)
     ] refl e
 
--- the address of one
-abbrev pub at_address : ℕ → Range
-at_address x = record { start = x; end = x }
-
-covers_in : (a : Range) (x : ℕ) → covers a (at_address x) ≡ true → IsIn a x
+pub covers_in : (a : Range) (x : ℕ) → covers a (at_address x) ≡ true → IsIn a x
 unfolding covers
 covers_in a x e = let t = and_parts (leb a.start x) (leb x a.end) e in (leb-true a.start x t.0, leb-true x a.end t.1)
 
-in_covers : (a : Range) (x : ℕ) → IsIn a x → covers a (at_address x) ≡ true
+pub in_covers : (a : Range) (x : ℕ) → IsIn a x → covers a (at_address x) ≡ true
 unfolding covers
 in_covers a x i = rw (le-leb a.start x i.0, le-leb x a.end i.1)
 

@@ -40,12 +40,16 @@ ByPlace policy n a state refused takes =
 abbrev pub FEWEST_TOO_DEEP : ℕ
 FEWEST_TOO_DEEP = 6_293_134_512
 
--- The range is held from now on. Only where holding it splits its run may it be refused, with nothing changed: memory
--- ran out, or so many ranges are held that a tree of them may be too deep.
+-- a split that is refused although there is a place: memory ran out, or so many ranges are held that a tree of them may
+-- be too deep
+abbrev pub IsExit : AddressState → Result Range Error → Type 0
+IsExit old answer = (answer ≡ Err OutOfMemory) ⊎ ((FEWEST_TOO_DEEP ≤ length old.held) × (answer ≡ Err Overflow))
+
+-- the range is held from now on; only where holding it splits its run may it be refused, with nothing changed
 unfoldable pub Takes : AddressState → Range → Result Range Error → AddressState → Type 0
 Takes old r answer new =
     ((answer ≡ Ok r) × (new ≡ holding r old))
-    ⊎ (LeavesClear old r × (new ≡ old) × ((answer ≡ Err OutOfMemory) ⊎ ((FEWEST_TOO_DEEP ≤ length old.held) × (answer ≡ Err Overflow))))
+    ⊎ (LeavesClear old r × (new ≡ old) × IsExit old answer)
 
 -- the answer to a request that makes sense
 unfoldable pub Settles : AddressState → ℕ → ℕ → AllocPolicy → Result Range Error → AddressState → Type 0

@@ -10,6 +10,7 @@ pub mod Fit
 pub mod BlockEdits
 pub mod Place
 pub mod SpaceTree
+pub mod Release
 pub mod Allocator
 pub mod Laws
 pub mod RangeOrder

@@ -7,7 +7,7 @@ use Rattle.vm_allocator.specs.Address.{AddressState}
 use Rattle.vm_allocator.specs.Answer.{Takes, Settles}
 use Rattle.vm_allocator.specs.Blocks.{blocks_state, IsTiling}
 use Rattle.vm_allocator.specs.BlockEdits.{free_block, parts, IsTakenFrom}
-use Rattle.vm_allocator.specs.BlockList.{insert_block}
+use Rattle.vm_allocator.specs.BlockList.{IsClearOf, insert_block}
 use Rattle.vm_allocator.specs.Shape.{Shape, blocks, height_of}
 use Rattle.vm_allocator.specs.declared.error.Error.{Error}
 use Rattle.vm_allocator.specs.declared.error.Error.TheVariants.{Overflow, ResourceNotAvailable, InvalidStateTransition}
@@ -63,6 +63,11 @@ EndsBelowMax key s n answer =
 abbrev pub insert_all : List Block → List Block → List Block
 insert_all [] bs = bs
 insert_all (x ∷ xs) bs = insert_block x (insert_all xs bs)
+
+-- none of some blocks overlaps any of the others
+unfoldable pub AreClearOf : List Block → List Block → Type 0
+AreClearOf [] bs = Unit {0}
+AreClearOf (x ∷ xs) bs = IsClearOf x.key bs × AreClearOf xs bs
 
 -- the range is held, and what is left of its free block stands beside it
 pub record Carves (old : List Block) (key range : Range) (new : List Block) : Type 0 where

@@ -1,16 +1,17 @@
-ghost use Rattle.std.specs.Prelude.{◌≡◌, ℕ, ◌+◌, ◌*◌, ◌<◌, ◌≤◌, ◌++◌, ◌∷◌, [], OnErr, IfOk, IfErr, IfSome, IsSome, MatchResult, Some};
-ghost use Rattle.vm_allocator.specs.Range.{MAX};
+ghost use Rattle.std.specs.Prelude.{◌≡◌, ℕ, ◌+◌, ◌*◌, ◌<◌, ◌≤◌, ◌++◌, ◌∷◌, [], OnErr, IfOk, IfErr, IfSome, IsSome, MatchResult, MatchBool, Some};
+ghost use Rattle.vm_allocator.specs.Range.{MAX, IsRange};
 ghost use Rattle.vm_allocator.specs.Answer.{Takes, Settles, Frees};
 ghost use Rattle.vm_allocator.specs.BlockEdits.{free_block, IsTakenFrom, HasRoom, LeavesPart, before_part, after_part};
-ghost use Rattle.vm_allocator.specs.BlockList.{replace_block};
+ghost use Rattle.vm_allocator.specs.BlockList.{replace_block, find_superset};
 ghost use Rattle.vm_allocator.specs.Shape.{blocks, height_of, node_count, single, root_block, IsTree};
 ghost use Rattle.vm_allocator.specs.NodeFields.{side};
-ghost use Rattle.vm_allocator.specs.SpaceTree.{tree_state, IsSpaceTree, Chooses, IsChoice, EndsBelowMax, ExactIn, Carves, insert_all};
+ghost use Rattle.vm_allocator.specs.SpaceTree.{tree_state, IsSpaceTree, Chooses, IsChoice, EndsBelowMax, ExactIn, Carves, AreClearOf, insert_all};
+ghost use Rattle.vm_allocator.specs.Release.{HasSlot, HasNoSlot, free_key, free_before, free_after, IsAround, joined, rejoined, without_if, start_with, end_with, at_address};
 ghost use Rattle.vm_allocator.specs.declared.constraint.AllocPolicy.TheVariants.{FirstMatch, LastMatch, ExactMatch};
 
 use super::NodeState;
 use super::node::places::Place;
-use super::node::{InnerNode, link_at};
+use super::node::{InnerNode, delete_at, link_at};
 use crate::constraint::{AllocPolicy, Constraint};
 use crate::error::{Error, Result};
 use crate::range::RangeInclusive;
@@ -144,6 +145,349 @@ impl IntervalTree {
             return Err(Error::Overflow);
         };
         exact_in(node.key(), node.state(), start, last)
+    }
+
+    /// The range to take for a request, and the free block that has it, or the refusal.
+    fn choose(&self, constraint: Constraint, count: &mut u64) -> Result<Choice>
+        requires { count.old + node_count self.now + height_of self.now ≤ MAX }
+        ensures answer { Chooses self.now constraint.size constraint.align constraint.policy result }
+        ensures entered { count.old ≤ count.new }
+        ensures steps { count.new ≤ count.old + node_count self.now + height_of self.now }
+    {
+        match constraint.policy() {
+            AllocPolicy::FirstMatch => self.choose_first(constraint, count),
+            AllocPolicy::LastMatch => self.choose_last(constraint, count),
+            AllocPolicy::ExactMatch(start) => self.choose_exact(constraint, start, count),
+        }
+    }
+
+    /// How many nodes the longest way down has.
+    pub(crate) fn height(&self) -> u64
+        ensures value { result ≡ height_of self.now }
+        ensures space { IsSpaceTree self.now }
+        ensures tree { IsTree self.now }
+    {
+        self.root().height()
+    }
+
+    /// Holds a range within a free block. Where a part of the block is left, a tree that is too high
+    /// is `Overflow`, and then comes `OutOfMemory`: all memory is asked for before the first change.
+    #[tactic(auto, using(crate::proofs::TreeCarve::takings, crate::proofs::SpaceTrees::rooted))]
+    fn take(
+        &mut self,
+        alloc: Global,
+        choice: Choice,
+        count: &mut u64,
+    ) -> Result<RangeInclusive>
+        requires choice { IsChoice (blocks self.old) choice }
+        requires count_fits { count.old + 3 * height_of self.old + 1 ≤ MAX }
+        ensures answer { Takes (tree_state self.old) choice.range result (tree_state self.new) }
+        ensures unchanged { OnErr result (self.new ≡ self.old) }
+        ensures entered { count.old ≤ count.new }
+        ensures steps { count.new ≤ count.old + 3 * height_of self.old + 1 }
+    {
+        if !leaves_part(&choice) {
+            narrow(&mut self.root, choice, count);
+            return Ok(choice.range);
+        }
+        if self.height() >= TOO_HIGH {
+            return Err(Error::Overflow);
+        }
+        let before = leaf_before(alloc, &choice)?;
+        let after = leaf_after(alloc, &choice)?;
+        split(&mut self.root, choice, before, after, count);
+        Ok(choice.range)
+    }
+
+    /// `allocate`, with the nodes entered counted.
+    #[tactic(auto, using(crate::proofs::Choosing::settling))]
+    pub(crate) fn allocate_counted(
+        &mut self,
+        alloc: Global,
+        constraint: Constraint,
+        count: &mut u64,
+    ) -> Result<RangeInclusive>
+        requires { count.old + node_count self.old + 4 * height_of self.old + 1 ≤ MAX }
+        ensures answer { Settles (tree_state self.old) constraint.size constraint.align constraint.policy result (tree_state self.new) }
+        ensures unchanged { OnErr result (self.new ≡ self.old) }
+        ensures entered { count.old ≤ count.new }
+        ensures steps { count.new ≤ count.old + node_count self.old + 4 * height_of self.old + 1 }
+    {
+        let choice = self.choose(constraint, count)?;
+        self.take(alloc, choice, count)
+    }
+
+    /// Holds the range at the place that the policy chooses. In this order: where there is no such
+    /// place `ResourceNotAvailable`, or for `ExactMatch` the first of its faults; `Overflow` where the
+    /// range ends at `u64::MAX`; and where a part of its clear run is left, `Overflow` for a tree of
+    /// height 48 or more, and `OutOfMemory`. A refusal changes nothing.
+    #[tactic(auto, using(crate::proofs::SpaceTrees::few_nodes))]
+    pub fn allocate(&mut self, alloc: Global, constraint: Constraint) -> Result<RangeInclusive>
+        ensures answer { Settles (tree_state self.old) constraint.size constraint.align constraint.policy result (tree_state self.new) }
+        ensures unchanged { OnErr result (self.new ≡ self.old) }
+    {
+        let _ = self.height();
+        let mut count = 0;
+        self.allocate_counted(alloc, constraint, &mut count)
+    }
+
+    /// Whether the range is exactly a held one.
+    #[tactic(auto, using(crate::proofs::Releasing::slots))]
+    fn is_slot(&self, key: &RangeInclusive, count: &mut u64) -> bool
+        requires { count.old + height_of self.now ≤ MAX }
+        ensures value { MatchBool result (HasSlot (blocks self.now) key.now) (HasNoSlot (blocks self.now) key.now) }
+        ensures entered { count.old + 1 ≤ count.new }
+        ensures steps { count.new ≤ count.old + height_of self.now }
+    {
+        let Some(node) = self.root().search(key, count) else {
+            return false;
+        };
+        match node.state() {
+            NodeState::Free => false,
+            NodeState::Allocated => true,
+        }
+    }
+
+    /// The free block with an address.
+    fn free_at(&self, address: u64, count: &mut u64) -> Option<RangeInclusive>
+        requires { count.old + height_of self.now ≤ MAX }
+        ensures value { result ≡ free_key (find_superset (at_address address) (blocks self.now)) }
+        ensures entered { count.old ≤ count.new }
+        ensures steps { count.new ≤ count.old + height_of self.now }
+    {
+        let first = RangeInclusive::between(address, address);
+        let node = self.root().search_superset(&first, count)?;
+        match node.state() {
+            NodeState::Free => Some(node.key()),
+            NodeState::Allocated => None,
+        }
+    }
+
+    /// The free block that ends right before a range.
+    fn free_before(&self, key: &RangeInclusive, count: &mut u64) -> Option<RangeInclusive>
+        requires { count.old + height_of self.now ≤ MAX }
+        ensures value { result ≡ free_before key.now (blocks self.now) }
+        ensures entered { count.old ≤ count.new }
+        ensures steps { count.new ≤ count.old + height_of self.now }
+    {
+        if key.start() == 0 {
+            return None;
+        }
+        self.free_at(key.start() - 1, count)
+    }
+
+    /// The free block that starts right after a range.
+    fn free_after(&self, key: &RangeInclusive, count: &mut u64) -> Option<RangeInclusive>
+        requires { count.old + height_of self.now ≤ MAX }
+        ensures value { result ≡ free_after key.now (blocks self.now) }
+        ensures entered { count.old ≤ count.new }
+        ensures steps { count.new ≤ count.old + height_of self.now }
+    {
+        if key.end() == u64::MAX {
+            return None;
+        }
+        self.free_at(key.end() + 1, count)
+    }
+
+    /// `free`, with the nodes entered counted.
+    #[tactic(auto, using(crate::proofs::Releasing::releases))]
+    pub(crate) fn free_counted(&mut self, key: &RangeInclusive, count: &mut u64) -> Result<()>
+        requires { count.old + 6 * height_of self.old ≤ MAX }
+        ensures answer { Frees (tree_state self.old) key.now result (tree_state self.new) }
+        ensures unchanged { OnErr result (self.new ≡ self.old) }
+        ensures entered { count.old + 1 ≤ count.new }
+        ensures steps { count.new ≤ count.old + 6 * height_of self.old }
+    {
+        if !self.is_slot(key, count) {
+            return Err(Error::ResourceNotAvailable);
+        }
+        let before = self.free_before(key, count);
+        let after = self.free_after(key, count);
+        rejoin(&mut self.root, key, &before, &after, count);
+        Ok(())
+    }
+
+    /// Gives a held range back, and joins its addresses with the clear ones on both sides. Any other
+    /// range is `ResourceNotAvailable`. It takes no memory, and a refusal changes nothing.
+    #[tactic(auto, using(crate::proofs::SpaceTrees::few_nodes))]
+    pub fn free(&mut self, key: &RangeInclusive) -> Result<()>
+        ensures answer { Frees (tree_state self.old) key.now result (tree_state self.new) }
+        ensures unchanged { OnErr result (self.new ≡ self.old) }
+    {
+        let _ = self.height();
+        let mut count = 0;
+        self.free_counted(key, &mut count)
+    }
+}
+
+/// Removes the free blocks before and after a held one, and gives the held one all their addresses,
+/// free again.
+#[tactic(auto, using(crate::proofs::Releasing::rejoins))]
+fn rejoin(
+    root: &mut Option<Box<InnerNode>>,
+    key: &RangeInclusive,
+    before: &Option<RangeInclusive>,
+    after: &Option<RangeInclusive>,
+    count: &mut u64,
+)
+    requires around { IsAround (blocks (side root.old)) key.now before.now after.now }
+    requires count_fits { count.old + 3 * height_of (side root.old) ≤ MAX }
+    ensures blocks { blocks (side root.new) ≡ rejoined key.now before.now after.now (blocks (side root.old)) }
+    ensures height { height_of (side root.new) ≤ height_of (side root.old) }
+    ensures entered { count.old ≤ count.new }
+    ensures steps { count.new ≤ count.old + 3 * height_of (side root.old) }
+{
+    let range = joined(key, before, after);
+    drop_if(root, before, count);
+    drop_if(root, after, count);
+    let Some(root) = root else { unreachable!() };
+    root.rewrite(key, range, NodeState::Free, count);
+}
+
+/// A range with the ones before and after it.
+fn joined(
+    key: &RangeInclusive,
+    before: &Option<RangeInclusive>,
+    after: &Option<RangeInclusive>,
+) -> RangeInclusive
+    requires { IsRange (start_with before.now key.now) (end_with key.now after.now) }
+    ensures { result ≡ joined before.now key.now after.now }
+{
+    let start = match before {
+        None => key.start(),
+        Some(before) => before.start(),
+    };
+    let end = match after {
+        None => key.end(),
+        Some(after) => after.end(),
+    };
+    RangeInclusive::between(start, end)
+}
+
+/// Removes the node with a key, if there is such a key.
+fn drop_if(root: &mut Option<Box<InnerNode>>, key: &Option<RangeInclusive>, count: &mut u64)
+    requires some { IsSome root.old }
+    requires count_fits { count.old + height_of (side root.old) ≤ MAX }
+    ensures blocks { blocks (side root.new) ≡ without_if key.now (blocks (side root.old)) }
+    ensures height { height_of (side root.new) ≤ height_of (side root.old) }
+    ensures entered { count.old ≤ count.new }
+    ensures steps { count.new ≤ count.old + height_of (side root.old) }
+{
+    if let Some(key) = key {
+        delete_at(root, key, count);
+    }
+}
+
+/// Whether a part of the free block is left beside the range.
+fn leaves_part(choice: &Choice) -> bool
+    ensures { MatchBool result (LeavesPart choice.now.key choice.now.range) (¬ LeavesPart choice.now.key choice.now.range) }
+{
+    choice.key.start() < choice.range.start() || choice.range.end() < choice.key.end()
+}
+
+/// A leaf for what is left of the free block before the range.
+fn leaf_before(alloc: Global, choice: &Choice) -> Result<Option<Box<InnerNode>>>
+    requires { IsTakenFrom choice.now.key choice.now.range }
+    ensures part { IfOk result (λ leaf. blocks (side leaf) ≡ before_part choice.now.key choice.now.range) }
+    ensures leaf { IfOk result (λ leaf. IfSome leaf (λ n. n.value ≡ single (root_block n.value))) }
+    ensures error { IfErr result (λ error. error ≡ Error.OutOfMemory) }
+{
+    let _ = choice.key.end();
+    if choice.key.start() >= choice.range.start() {
+        return Ok(None);
+    }
+    let key = RangeInclusive::between(choice.key.start(), choice.range.start() - 1);
+    leaf_of(alloc, key)
+}
+
+/// A leaf for what is left of the free block after the range.
+fn leaf_after(alloc: Global, choice: &Choice) -> Result<Option<Box<InnerNode>>>
+    requires { IsTakenFrom choice.now.key choice.now.range }
+    ensures part { IfOk result (λ leaf. blocks (side leaf) ≡ after_part choice.now.key choice.now.range) }
+    ensures leaf { IfOk result (λ leaf. IfSome leaf (λ n. n.value ≡ single (root_block n.value))) }
+    ensures error { IfErr result (λ error. error ≡ Error.OutOfMemory) }
+{
+    let _ = choice.key.end();
+    if choice.range.end() >= choice.key.end() {
+        return Ok(None);
+    }
+    let key = RangeInclusive::between(choice.range.end() + 1, choice.key.end());
+    leaf_of(alloc, key)
+}
+
+/// A leaf with a free block.
+fn leaf_of(alloc: Global, key: RangeInclusive) -> Result<Option<Box<InnerNode>>>
+    ensures leaf { IfOk result (λ leaf. IfSome leaf (λ n. n.value ≡ single (free_block key))) }
+    ensures some { IfOk result (λ leaf. side leaf ≡ single (free_block key)) }
+    ensures error { IfErr result (λ error. error ≡ Error.OutOfMemory) }
+{
+    match Box::new(alloc, InnerNode::new(key, NodeState::Free)) {
+        Ok(leaf) => Ok(Some(leaf)),
+        Err(_) => Err(Error::OutOfMemory),
+    }
+}
+
+/// Narrows the free block to the range, which is held, and links what is left beside it.
+#[tactic(auto, using(crate::proofs::TreeCarve::carves))]
+fn split(
+    root: &mut Option<Box<InnerNode>>,
+    choice: Choice,
+    before: Option<Box<InnerNode>>,
+    after: Option<Box<InnerNode>>,
+    count: &mut u64,
+)
+    requires some { IsSome root.old }
+    requires space { IsSpaceTree (side root.old) }
+    requires choice { IsChoice (blocks (side root.old)) choice }
+    requires before { blocks (side before) ≡ before_part choice.key choice.range }
+    requires before_leaf { IfSome before (λ n. n.value ≡ single (root_block n.value)) }
+    requires after { blocks (side after) ≡ after_part choice.key choice.range }
+    requires after_leaf { IfSome after (λ n. n.value ≡ single (root_block n.value)) }
+    requires height { height_of (side root.old) < 48 }
+    requires count_fits { count.old + 3 * height_of (side root.old) + 1 ≤ MAX }
+    ensures carves { Carves (blocks (side root.old)) choice.key choice.range (blocks (side root.new)) }
+    ensures height { height_of (side root.new) ≤ height_of (side root.old) + 2 }
+    ensures entered { count.old + 1 ≤ count.new }
+    ensures steps { count.new ≤ count.old + 3 * height_of (side root.old) + 1 }
+{
+    narrow(root, choice, count);
+    link_if(root, before, count);
+    link_if(root, after, count);
+}
+
+/// Gives the node of the free block the range, which is held.
+#[tactic(auto, using(crate::proofs::TreeCarve::carves))]
+fn narrow(root: &mut Option<Box<InnerNode>>, choice: Choice, count: &mut u64)
+    requires some { IsSome root.old }
+    requires space { IsSpaceTree (side root.old) }
+    requires choice { IsChoice (blocks (side root.old)) choice }
+    requires count_fits { count.old + height_of (side root.old) ≤ MAX }
+    ensures some { IsSome root.new }
+    ensures blocks { blocks (side root.new) ≡ replace_block choice.key (record { key = choice.range; state = NodeState.Allocated } ∷ []) (blocks (side root.old)) }
+    ensures height { height_of (side root.new) ≡ height_of (side root.old) }
+    ensures entered { count.old + 1 ≤ count.new }
+    ensures steps { count.new ≤ count.old + height_of (side root.old) }
+{
+    let Some(root) = root else { unreachable!() };
+    root.rewrite(&choice.key, choice.range, NodeState::Allocated, count);
+}
+
+/// Links a leaf, if there is one.
+#[tactic(auto, using(crate::proofs::TreeCarve::leaves))]
+fn link_if(root: &mut Option<Box<InnerNode>>, leaf: Option<Box<InnerNode>>, count: &mut u64)
+    requires some { IsSome root.old }
+    requires leaf { IfSome leaf (λ n. n.value ≡ single (root_block n.value)) }
+    requires clear { AreClearOf (blocks (side leaf)) (blocks (side root.old)) }
+    requires height { height_of (side root.old) ≤ 48 }
+    requires count_fits { count.old + height_of (side root.old) ≤ MAX }
+    ensures some { IsSome root.new }
+    ensures blocks { blocks (side root.new) ≡ insert_all (blocks (side leaf)) (blocks (side root.old)) }
+    ensures height { height_of (side root.new) ≤ height_of (side root.old) + 1 }
+    ensures entered { count.old ≤ count.new }
+    ensures steps { count.new ≤ count.old + height_of (side root.old) }
+{
+    if let Some(leaf) = leaf {
+        link_at(root, leaf, count);
     }
 }
 

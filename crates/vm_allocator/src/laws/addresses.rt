@@ -1,7 +1,7 @@
 ghost use Rattle.vm_allocator.specs.Laws.{AllocatesOnce, FreesOnce};
 
 /// The state of an allocator decides its answer to a request and the state after it, want of memory
-/// aside.
+/// and the refusal of a split for depth aside.
 #[tactic(auto, using(crate::proofs::Once::allocates_once))]
 fn allocates_once()
     ensures { AllocatesOnce }
