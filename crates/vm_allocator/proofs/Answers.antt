@@ -28,15 +28,13 @@ allocates_refused old n a p x h =
     (λ e k. let same : x ≡ e = cc in (ap (λ (v : Error). Err v) same, refl)) (λ k. absurd (cc)) h
 
 -- and the constraint that is made is settled
-pub allocates_settled : (old new : AddressState) (n a : ℕ) (p q : AllocPolicy) (k : Request) (answer : Result Range Error) → MakesConstraint n a p (Ok k) → p ≡ q → Settles old k.size k.align q answer new → Allocates old n a p answer new
+pub allocates_settled : (old new : AddressState) (n a : ℕ) (p : AllocPolicy) (k : Request) (answer : Result Range Error) → MakesConstraint n a p (Ok k) → Settles old k.size k.align k.policy answer new → Allocates old n a p answer new
 unfolding MakesConstraint Allocates
-allocates_settled old new n a p q k answer h e s =
+allocates_settled old new n a p k answer h s =
     let made : Result Request Error = Ok k in
     constraint_map n a p (λ x. made ≡ Err x) (λ x. (answer ≡ Err x) × (new ≡ old)) (made ≡ Ok (record { size = n; align = a; policy = p })) (Settles old n a p answer new)
     (λ x m. absurd (cc))
-    (λ m.
-    let size : k.size ≡ n = cc in
-    let align : k.align ≡ a = cc in
-    subst (λ (v : ℕ). Settles old v a p answer new) size (subst (λ (v : ℕ). Settles old k.size v p answer new) align (subst (λ (v : AllocPolicy). Settles old k.size k.align v answer new) (sym e) s))) h
+    (λ m. let same : k ≡ record { size = n; align = a; policy = p } = cc in subst (λ (v : Request). Settles old v.size v.align v.policy answer new) same s)
+    h
 
 pub ruleset allocating = (allocates_refused, allocates_settled)

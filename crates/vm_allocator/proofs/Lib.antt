@@ -24,6 +24,7 @@ pub mod FewestNodes
 pub mod PlaceSearch
 pub mod TreeEdits
 pub mod SpaceTrees
+pub mod Spaces
 pub mod Choosing
 pub mod ExactChoice
 pub mod IdLemmas

@@ -1,1 +1,120 @@
-//! placeholder
+ghost use Rattle.std.specs.Prelude.{ℕ, ◌≡◌, OnErr, IsOk};
+ghost use Rattle.std.specs.List.{Contains};
+ghost use Rattle.vm_allocator.specs.Address.{IsAddressState};
+ghost use Rattle.vm_allocator.specs.Answer.{Allocates, FillsRun, Frees, Makes};
+ghost use Rattle.vm_allocator.specs.Allocator.{state_of, made_state};
+
+use crate::allocation_engine::IntervalTree;
+use crate::constraint::{AllocPolicy, Constraint};
+use crate::error::{Error, Result};
+use crate::range::RangeInclusive;
+use std::alloc::Global;
+use std::marker::Model;
+
+/// Gives out the ranges of one space of addresses. Two ranges held at one time share no address,
+/// each lies in the space, and none contains `u64::MAX`.
+#[derive(Debug, Drop)]
+pub struct AddressAllocator {
+    address_space: RangeInclusive,
+    interval_tree: IntervalTree,
+}
+
+impl Model for AddressAllocator {
+    ghost use Rattle.vm_allocator.specs.Allocator.{SpaceInTree, space_code};
+
+    ghost Value = { SpaceInTree };
+
+    ghost coded = { space_code };
+
+    ghost view = { λ a. record { space = a.address_space; tree = a.interval_tree } };
+
+    ghost use Rattle.std.specs.Prelude.{◌≡◌};
+
+    ghost use Rattle.vm_allocator.specs.Shape.{blocks};
+
+    ghost use Rattle.vm_allocator.specs.SpaceTree.{space_of};
+
+    ghost invariant = { λ a. space_of (blocks a.interval_tree) ≡ a.address_space };
+}
+
+impl AddressAllocator {
+    /// The allocator of the `size` addresses from `base` on, with none held. In this order: a size
+    /// of 0 is `Underflow`, an end past `u64::MAX` is `Overflow`, and `OutOfMemory` comes last.
+    #[tactic(auto, using(crate::proofs::Making::making, crate::proofs::Spaces::spaces))]
+    pub fn new(alloc: Global, base: u64, size: u64) -> Result<Self>
+        ensures { Makes base size (made_state result) }
+    {
+        if size == 0 {
+            return Err(Error::Underflow);
+        }
+        let Some(end) = base.checked_add(size - 1) else {
+            return Err(Error::Overflow);
+        };
+        let address_space = RangeInclusive::between(base, end);
+        let interval_tree = IntervalTree::new(alloc, address_space)?;
+        Ok(AddressAllocator {
+            address_space,
+            interval_tree,
+        })
+    }
+
+    /// Holds the `size` addresses at the place that the policy chooses, a multiple of `alignment`
+    /// from which on they are clear. In this order: size 0 is `InvalidSize(0)`; an alignment that is
+    /// no power of two is `InvalidAlignment`; for `ExactMatch` a start that is no multiple of the
+    /// alignment is `UnalignedAddress`, `u64::MAX` is `Overflow`, a start outside the space is
+    /// `ResourceNotAvailable`, a range that passes `u64::MAX` is `Overflow`, and a range that is held
+    /// as it is is `InvalidStateTransition`; no place at all is `ResourceNotAvailable`; a range that
+    /// ends at `u64::MAX` is `Overflow`, also where there is another place. Only where the place
+    /// leaves a part of its clear run over come `Overflow` for a tree of height 48 or more, which
+    /// takes more than 6 * 10^9 held ranges, and `OutOfMemory`. A refusal changes nothing.
+    #[tactic(auto, using(crate::proofs::Answers::allocating, crate::proofs::Spaces::spaces, crate::proofs::Filling::succeeding))]
+    pub fn allocate(
+        &mut self,
+        alloc: Global,
+        size: u64,
+        alignment: u64,
+        policy: AllocPolicy,
+    ) -> Result<RangeInclusive>
+        ensures answer { Allocates (state_of self.old) size alignment policy result (state_of self.new) }
+        ensures unchanged { OnErr result (self.new ≡ self.old) }
+
+        // What fills its clear run needs no memory, and succeeds.
+        ensures filling { (s : ℕ) → FillsRun (state_of self.old) size alignment policy s → IsOk result }
+    {
+        let constraint = Constraint::new(size, alignment, policy)?;
+        self.interval_tree.allocate(alloc, constraint)
+    }
+
+    /// Gives a held range back. Any other range is `ResourceNotAvailable`, a part of a held one and
+    /// a clear one among them. Takes no memory, and a refusal changes nothing.
+    #[tactic(auto, using(crate::proofs::Spaces::spaces, crate::proofs::Filling::succeeding))]
+    pub fn free(&mut self, key: &RangeInclusive) -> Result<()>
+        ensures answer { Frees (state_of self.old) key.now result (state_of self.new) }
+        ensures unchanged { OnErr result (self.new ≡ self.old) }
+
+        // Giving back needs no memory, and succeeds.
+        ensures held { Contains (state_of self.old).held key.now → IsOk result }
+    {
+        self.interval_tree.free(key)
+    }
+
+    /// The first address of the space.
+    #[tactic(auto, using(crate::proofs::Freeing::is_state))]
+    pub fn base(&self) -> u64
+        ensures value { result ≡ (state_of self.now).space.start }
+        ensures state { IsAddressState (state_of self.now) }
+    {
+        let _ = self.interval_tree.height();
+        self.address_space.start()
+    }
+
+    /// The last address of the space.
+    pub fn end(&self) -> u64
+        ensures { result ≡ (state_of self.now).space.end }
+    {
+        self.address_space.end()
+    }
+}
+
+#[cfg(test)]
+mod tests;

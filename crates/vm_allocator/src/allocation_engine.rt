@@ -6,6 +6,8 @@ mod node;
 
 use crate::error::{Error, Result};
 
+pub use interval_tree::IntervalTree;
+
 /// Whether a block is held. `Free` is less.
 #[derive(Clone, Copy, Debug, PartialEq, Eq, PartialOrd, Ord)]
 pub enum NodeState {

@@ -9,7 +9,7 @@ mod id_allocator;
 mod laws;
 mod range;
 
-
+pub use address_allocator::AddressAllocator;
 pub use constraint::{AllocPolicy, Constraint, DEFAULT_CONSTRAINT_ALIGN};
 pub use error::{Error, Result};
 pub use id_allocator::IdAllocator;
