@@ -29,9 +29,7 @@ impl Model for AddressAllocator {
     ghost view = { λ a. record { space = a.address_space; tree = a.interval_tree } };
 
     ghost use Rattle.std.specs.Prelude.{◌≡◌};
-
     ghost use Rattle.vm_allocator.specs.Shape.{blocks};
-
     ghost use Rattle.vm_allocator.specs.SpaceTree.{space_of};
 
     ghost invariant = { λ a. space_of (blocks a.interval_tree) ≡ a.address_space };

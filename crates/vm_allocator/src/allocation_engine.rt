@@ -1,11 +1,10 @@
 //! How addresses are aligned, and how a space is cut into blocks.
 ghost use Rattle.vm_allocator.specs.Alignment.{AlignsDown, AlignsUp};
 
-mod interval_tree;
+pub(crate) mod interval_tree;
 mod node;
 
 use crate::error::{Error, Result};
-
 pub use interval_tree::IntervalTree;
 
 /// Whether a block is held. `Free` is less.

@@ -88,7 +88,9 @@ impl IntervalTree {
         ensures value { result.now ≡ self.now }
         ensures space { IsSpaceTree self.now }
     {
-        let Some(root) = &self.root else { unreachable!() };
+        let Some(root) = &self.root else {
+            unreachable!()
+        };
         root
     }
 
@@ -173,12 +175,7 @@ impl IntervalTree {
     /// Holds a range within a free block. Where a part of the block is left, a tree that is too high
     /// is `Overflow`, and then comes `OutOfMemory`: all memory is asked for before the first change.
     #[tactic(auto, using(crate::proofs::TreeCarve::takings, crate::proofs::SpaceTrees::rooted))]
-    fn take(
-        &mut self,
-        alloc: Global,
-        choice: Choice,
-        count: &mut u64,
-    ) -> Result<RangeInclusive>
+    fn take(&mut self, alloc: Global, choice: Choice, count: &mut u64) -> Result<RangeInclusive>
         requires choice { IsChoice (blocks self.old) choice }
         requires count_fits { count.old + 3 * height_of self.old + 1 ≤ MAX }
         ensures answer { Takes (tree_state self.old) choice.range result (tree_state self.new) }
@@ -521,3 +518,6 @@ fn exact_in(key: RangeInclusive, state: NodeState, start: u64, last: u64) -> Res
         }
     }
 }
+
+#[cfg(test)]
+pub(crate) mod tests;

@@ -8,11 +8,11 @@ ghost use Rattle.vm_allocator.specs.NodeFields.{side};
 ghost use Rattle.vm_allocator.specs.NodeAnswer.{TellsOverlap, RefusesKey, Marks};
 
 mod balance;
-pub(crate) mod places;
 mod laws;
+pub(crate) mod places;
 #[cfg(test)]
 mod tests;
-mod walks;
+pub(crate) mod walks;
 
 use crate::allocation_engine::NodeState;
 use crate::error::{Error, Result};

@@ -59,13 +59,7 @@ fn greatest_fit(key: &RangeInclusive, state: NodeState, size: u64, alignment: u6
             }
             match align_down(end - (size - 1), alignment) {
                 Err(_) => None,
-                Ok(place) => {
-                    if start <= place {
-                        Some(place)
-                    } else {
-                        None
-                    }
-                }
+                Ok(place) => { if start <= place { Some(place) } else { None } }
             }
         }
     }
@@ -74,12 +68,7 @@ fn greatest_fit(key: &RangeInclusive, state: NodeState, size: u64, alignment: u6
 impl InnerNode {
     /// The least place: the first block with a fit, and its least fit.
     #[tactic(auto, using(crate::proofs::PlaceSearch::firsts))]
-    pub(crate) fn first_place(
-        &self,
-        size: u64,
-        alignment: u64,
-        count: &mut u64,
-    ) -> Option<Place>
+    pub(crate) fn first_place(&self, size: u64, alignment: u64, count: &mut u64) -> Option<Place>
         requires some { 0 < size }
         requires aligned { IsAlignment alignment }
         requires count_fits { count.old + node_count self.now ≤ MAX }
@@ -102,7 +91,9 @@ impl InnerNode {
                 start,
             });
         }
-        let Some(right) = &self.right else { return None };
+        let Some(right) = &self.right else {
+            return None
+        };
         right.first_place(size, alignment, count)
     }
 

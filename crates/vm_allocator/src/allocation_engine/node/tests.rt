@@ -1,10 +1,9 @@
 //! Trees made by hand, in the orders of insertion that lean each way.
-ghost use Rattle.std.specs.Prelude.{◌≡◌, IfOk};
+ghost use Rattle.std.specs.Prelude.{◌≡◌};
 ghost use Rattle.vm_allocator.specs.Range.{IsRange};
 
-use super::walks::same;
+use super::walks::{copy, same};
 use super::*;
-use std::alloc::AllocError;
 use std::process::Abort;
 
 type Inserted = std::result::Result<Box<InnerNode>, (Error, Box<InnerNode>)>;
@@ -14,28 +13,6 @@ fn range(start: u64, end: u64) -> RangeInclusive
     ensures { result ≡ record { start = start; end = end } }
 {
     RangeInclusive::between(start, end)
-}
-
-/// A copy of a tree, of the same shape.
-fn copy(tree: &InnerNode, alloc: Global) -> std::result::Result<Box<InnerNode>, AllocError>
-    ensures { IfOk result (λ t. t.value ≡ tree.now) }
-{
-    let left = match &tree.left {
-        None => None,
-        Some(left) => Some(copy(left, alloc)?),
-    };
-    let right = match &tree.right {
-        None => None,
-        Some(right) => Some(copy(right, alloc)?),
-    };
-    let node = InnerNode {
-        key: tree.key,
-        node_state: tree.node_state,
-        left,
-        right,
-        height: tree.height,
-    };
-    Ok(Box::new(alloc, node)?)
 }
 
 /// A copy, made again where memory is refused once.

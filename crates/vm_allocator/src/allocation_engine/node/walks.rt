@@ -1,11 +1,13 @@
 //! Recursions over nodes that no counted function calls.
-ghost use Rattle.std.specs.Prelude.{◌≡◌, ◌↔◌, IsTrue};
+ghost use Rattle.std.specs.Prelude.{◌≡◌, ◌↔◌, IsTrue, IfOk};
 ghost use Rattle.vm_allocator.specs.NodeFields.{side};
 
 use super::InnerNode;
+#[cfg(test)]
+use std::alloc::{AllocError, Global};
 
 /// Whether two trees are equal node for node.
-pub(super) fn same(a: &Option<Box<InnerNode>>, b: &Option<Box<InnerNode>>) -> bool
+pub(crate) fn same(a: &Option<Box<InnerNode>>, b: &Option<Box<InnerNode>>) -> bool
     ensures { IsTrue result ↔ (side a.now ≡ side b.now) }
 {
     match (a, b) {
@@ -27,4 +29,27 @@ pub(super) fn same(a: &Option<Box<InnerNode>>, b: &Option<Box<InnerNode>>) -> bo
             false
         }
     }
+}
+
+/// A copy of a tree, of the same shape.
+#[cfg(test)]
+pub(crate) fn copy(tree: &InnerNode, alloc: Global) -> Result<Box<InnerNode>, AllocError>
+    ensures { IfOk result (λ t. t.value ≡ tree.now) }
+{
+    let left = match &tree.left {
+        None => None,
+        Some(left) => Some(copy(left, alloc)?),
+    };
+    let right = match &tree.right {
+        None => None,
+        Some(right) => Some(copy(right, alloc)?),
+    };
+    let node = InnerNode {
+        key: tree.key,
+        node_state: tree.node_state,
+        left,
+        right,
+        height: tree.height,
+    };
+    Ok(Box::new(alloc, node)?)
 }

@@ -1,0 +1,40 @@
+ghost use Rattle.std.specs.Prelude.{◌≡◌, IfOk};
+
+use super::*;
+use crate::allocation_engine::node::walks::{copy, same};
+use std::alloc::AllocError;
+
+impl IntervalTree {
+    /// A copy, of the same shape.
+    pub(crate) fn copy(&self, alloc: Global) -> std::result::Result<IntervalTree, AllocError>
+        ensures { IfOk result (λ tree. tree ≡ self.now) }
+    {
+        Ok(IntervalTree {
+            root: Some(copy(self.root(), alloc)?),
+        })
+    }
+
+    /// Whether two trees are equal node for node.
+    pub(crate) fn is_same(&self, other: &IntervalTree) -> bool {
+        same(&self.root, &other.root)
+    }
+}
+
+fn tree_from_one(alloc: Global) -> Result<IntervalTree> {
+    IntervalTree::new(alloc, RangeInclusive::new(1, u64::MAX)?)
+}
+
+#[test]
+fn test_integer_wrapping(rt: HostRuntime) -> Result<()> {
+    let made = match tree_from_one(rt.alloc()) {
+        Err(Error::OutOfMemory) => tree_from_one(rt.alloc()),
+        answer => answer,
+    };
+    let half = 1 << 63;
+    let constraint = Constraint::new(half, half, AllocPolicy::ExactMatch(half))?;
+    assert_eq!(rt;
+        made?.allocate(rt.alloc(), constraint),
+        Err(Error::Overflow)
+    );
+    Ok(())
+}
