@@ -96,9 +96,6 @@ link_right s l k r x e p q c t =
     let n : IsOrderedFrom 0 (insert_block x (blocks l ++ k ∷ blocks r)) = ordered_insert 0 x (blocks l ++ k ∷ blocks r) (omega arith) q d o in
     ((clear_left x.key (blocks l) k (blocks r) d).2, subst (IsOrderedFrom 0) i n, ap (λ (v : Shape). insert_block x (blocks v)) e ∙ i)
 
-pub single_in_order : (s : Shape) (b : Block) → IsTree s → s ≡ single b → b.key.start ≤ b.key.end
-single_in_order s b t e = let o : IsOrderedFrom 0 (b ∷ []) = rw e at t.ordered in o.1
-
 pub link_in_left_blocks : (s l : Shape) (k : Block) (r : Shape) (x : Block) → s ≡ Fork l k r → StartsBefore x.key k.key → insert_block x (blocks s) ≡ insert_block x (blocks l) ++ k ∷ blocks r
 unfolding StartsBefore
 link_in_left_blocks s l k r x e p = ap (λ (v : Shape). insert_block x (blocks v)) e ∙ insert_block_left x k (blocks l) (blocks r) p

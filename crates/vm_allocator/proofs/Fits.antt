@@ -53,8 +53,6 @@ least_fit n a s b h u l e =
     let i = up_ok b.key.start a s h u in
     ((e, i.0, i.1, l), λ t f. i.2 t f.1 f.2)
 
-pub ruleset least_fits = (no_fit_held, no_fit_over, no_fit_short, least_fit)
-
 down_ok : (x a r : ℕ) → IsAlignment a → AlignsDown x a (Ok r) → IsGreatestMultiple a x r
 unfolding AlignsDown
 down_ok x a r h u =

@@ -112,9 +112,6 @@ changed_here old new k b u = u.0 k ∙ ap (λ (t : Bool). cond t b (contains nat
 changed_other : (old new : BTreeSet ℕ) (k q : ℕ) (b : Bool) → Updates nat_cmp old new k b → (k ≡ q → ⊥) → contains nat_cmp new q ≡ contains nat_cmp old q
 changed_other old new k q b u ne = u.0 q ∙ ap (λ (t : Bool). cond t b (contains nat_cmp old q)) (apart_not_tied k q ne)
 
-none_in_empty : (s : BTreeSet ℕ) (i : ℕ) → IsEmpty s → contains nat_cmp s i ≡ false
-none_in_empty s i e = ap (list_any (eq_by_cmp nat_cmp i)) e
-
 -- Making.
 
 pub fresh : (lo hi : ℕ) (freed : BTreeSet ℕ) → IsEmpty freed → ids_of lo hi (Some lo) freed ≡ fresh_ids lo hi

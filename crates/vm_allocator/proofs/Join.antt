@@ -5,7 +5,7 @@ use Rattle.vm_allocator.specs.Range.{Range}
 use Rattle.vm_allocator.specs.Block.{Block}
 use Rattle.vm_allocator.specs.Address.{AddressState, without_range, releasing}
 use Rattle.vm_allocator.specs.Blocks.{NotBothFree, Tiles, range_if_held, held_of, IsBlocksOf}
-use Rattle.vm_allocator.specs.BlockEdits.{join_if, with_free, EndsHeld, IsSlot, IsNoSlot}
+use Rattle.vm_allocator.specs.BlockEdits.{join_if, with_free, EndsHeld, IsSlot}
 use Rattle.vm_allocator.proofs.Words.{IsHeld}
 use Rattle.std.specs.List.{All}
 use Rattle.std.proofs.lemmas.List.Elements.{All-head, All-tail}
@@ -103,12 +103,6 @@ held_slot r b bs h =
     let g : IsHeld (b.key ∷ held_of bs) r = subst (λ (v : List Range). IsHeld v r) (held_of-held b bs e) h in
     ⊎_elim (λ (i : b.key ≡ r). inl (i, e)) (λ (i : IsHeld (held_of bs) r). inr i) g)
     (state_cases b.state)
-
--- a range that no block has is not held
-pub not_held : (r : Range) (bs : List Block) → All (IsNoSlot r) bs → ¬ IsHeld (held_of bs) r
-unfolding IsNoSlot
-not_held r [] a h = h
-not_held r (b ∷ bs) a h = ⊎_elim (All-head (IsNoSlot r) b bs a) (not_held r bs (All-tail (IsNoSlot r) b bs a)) (held_slot r b bs h)
 
 -- and one that a held block has is
 pub is_held : (r : Range) (b : Block) (xs ys : List Block) → IsSlot r b → IsHeld (held_of (xs ++ b ∷ ys)) r

@@ -54,14 +54,6 @@ no_alignment_if_false a e h =
     let t : is_power_of_two a ≡ true = eq-eqb (count_ones a) 1 one in
     cc
 
--- a number is an alignment or not, so one that is not none is one
-pub stable : (a : ℕ) → a < 2 ^ 64 → ¬ (¬ IsAlignment a) → IsAlignment a
-stable a l h =
-    elim (is_power_of_two a) as (λ v. is_power_of_two a ≡ v → IsAlignment a) [
-      | true ↦ λ e. alignment_if_true a l e
-      | false ↦ λ e. absurd (h (no_alignment_if_false a e))
-    ] refl
-
 pub alignment_pos : (a : ℕ) → IsAlignment a → 0 < a
 unfolding IsAlignment
 alignment_pos a h = omega (arith, h.2, pow_pos h.0)

@@ -45,10 +45,6 @@ EndsHeld before (b ∷ bs) = EndsHeld b.state bs
 unfoldable pub IsSlot : Range → Block → Type 0
 IsSlot r b = (b.key ≡ r) × (b.state ≡ Allocated)
 
--- it does not
-unfoldable pub IsNoSlot : Range → Block → Type 0
-IsNoSlot r b = ¬ IsSlot r b
-
 -- r lies within k
 pub record IsTakenFrom (k r : Range) : Type 0 where
   pub from : k.start ≤ r.start

@@ -1,7 +1,3 @@
-use Rattle.std.proofs.Common.{◌∙◌, ap}
-use Rattle.vm_allocator.specs.Shape.{blocks}
-use Rattle.vm_allocator.specs.NodeFields.{side}
-use Rattle.vm_allocator.specs.SpaceTree.{insert_all}
 use Rattle.vm_allocator.proofs.TreeCarve.{cut_of, before_clear, after_clear, inserted_both}
 use Rattle.vm_allocator.proofs.allocation_engine.interval_tree.split.Goals as goal
 

@@ -1,7 +1,5 @@
-use Rattle.std.proofs.Common.{◌≡◌, refl, sym, ap, ◌∙◌, rules, None, Some}
-use Rattle.vm_allocator.specs.Range.{Covers}
-use Rattle.vm_allocator.specs.BlockList.{IsClearOf, find_key, find_superset}
-use Rattle.vm_allocator.specs.Shape.{blocks, first_met}
+use Rattle.std.proofs.Common.{refl, sym, None}
+use Rattle.vm_allocator.specs.Shape.{blocks}
 use Rattle.vm_allocator.specs.NodeAnswer.{TellsOverlap}
 use Rattle.vm_allocator.specs.NodeFields.{side, shape_of}
 use Rattle.vm_allocator.proofs.Meetings.{met_in_left, met_in_right, met_here, overlap_by_left, overlap_by_right, overlaps_none}

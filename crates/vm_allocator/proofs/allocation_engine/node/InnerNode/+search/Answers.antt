@@ -1,7 +1,6 @@
-use Rattle.std.proofs.Common.{◌≡◌, refl, sym, ap, ◌∙◌, rules, None, Some}
-use Rattle.vm_allocator.specs.Range.{Covers}
-use Rattle.vm_allocator.specs.BlockList.{IsClearOf, find_key, find_superset}
-use Rattle.vm_allocator.specs.Shape.{blocks, first_met}
+use Rattle.std.proofs.Common.{◌≡◌, refl}
+use Rattle.vm_allocator.specs.BlockList.{find_key}
+use Rattle.vm_allocator.specs.Shape.{blocks}
 use Rattle.vm_allocator.specs.NodeFields.{side, shape_of}
 use Rattle.vm_allocator.proofs.Replacement.{find_in_left, find_in_right}
 use Rattle.vm_allocator.proofs.allocation_engine.node.InnerNode.+search.Goals as goal
