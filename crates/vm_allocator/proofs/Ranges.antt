@@ -1,7 +1,7 @@
 -- Addresses that two ranges share.
-use Rattle.std.proofs.Common.{ℕ, ◌<◌, ◌≤◌, arith, ⊎_elim}
+use Rattle.std.proofs.Common.{◌<◌, ◌≤◌, arith, ⊎_elim}
 use Rattle.std.proofs.lemmas.Bool.{cases_lt}
-use Rattle.vm_allocator.specs.Range.{Range, IsIn, Overlaps, Covers}
+use Rattle.vm_allocator.specs.Range.{Range, Overlaps, Covers}
 
 pub meet : (r s : Range) → r.start ≤ r.end → s.start ≤ s.end → r.start ≤ s.end → s.start ≤ r.end → Overlaps r s
 unfolding Overlaps

@@ -1,9 +1,7 @@
 -- What a request is refused for.
 use Rattle.std.proofs.Common.{◌≡◌, ℕ, ◌^◌, ◌<◌, true, false, refl, arith, inl, inr, Ok, Err}
 use Rattle.std.specs.Int.{is_power_of_two}
-use Rattle.vm_allocator.specs.Alignment.{IsAlignment}
 use Rattle.vm_allocator.specs.Request.{IsRequest, IsStartAligned, ByConstraint, MakesConstraint}
-use Rattle.vm_allocator.specs.declared.error.Error.{Error}
 use Rattle.vm_allocator.specs.declared.error.Error.TheVariants.{InvalidSize, InvalidAlignment, UnalignedAddress}
 use Rattle.vm_allocator.specs.declared.constraint.AllocPolicy.{AllocPolicy}
 use Rattle.vm_allocator.proofs.Power.{alignment_if_true, no_alignment_if_false}

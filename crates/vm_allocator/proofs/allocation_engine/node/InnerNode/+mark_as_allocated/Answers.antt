@@ -1,7 +1,4 @@
-use Rattle.std.proofs.Common.{◌≡◌, refl, sym, ap, ◌∙◌, rules, None, Some}
-use Rattle.vm_allocator.specs.Range.{Covers}
-use Rattle.vm_allocator.specs.BlockList.{IsClearOf, find_key, find_superset}
-use Rattle.vm_allocator.specs.Shape.{blocks, first_met}
+use Rattle.std.proofs.Common.{refl, sym, ap}
 use Rattle.vm_allocator.specs.NodeFields.{side, shape_of}
 use Rattle.vm_allocator.proofs.Rewriting.{marks_none_left, marks_none_right, marks_here}
 use Rattle.vm_allocator.proofs.allocation_engine.node.InnerNode.+mark_as_allocated.Goals as goal

@@ -1,7 +1,7 @@
-use Rattle.std.proofs.Common.{◌≡◌, refl, sym, ap, ◌∙◌, rules, None, Some}
+use Rattle.std.proofs.Common.{◌≡◌, refl, rules}
 use Rattle.vm_allocator.specs.Range.{Covers}
-use Rattle.vm_allocator.specs.BlockList.{IsClearOf, find_key, find_superset}
-use Rattle.vm_allocator.specs.Shape.{blocks, first_met}
+use Rattle.vm_allocator.specs.BlockList.{find_superset}
+use Rattle.vm_allocator.specs.Shape.{blocks}
 use Rattle.vm_allocator.specs.NodeFields.{side, shape_of}
 use Rattle.vm_allocator.proofs.Supersets.{superset_in_left, superset_in_right, superset_here, superset_nowhere}
 use Rattle.vm_allocator.proofs.allocation_engine.node.InnerNode.+search_superset.Goals as goal
