@@ -1,11 +1,11 @@
 -- Facts on ordered lists of blocks.
-use Rattle.std.proofs.Common.{◌≡◌, ℕ, ◌+◌, ◌<◌, ◌≤◌, Bool, true, false, cond, ltb, List, [], ◌∷◌, ◌++◌, length, refl, ap, ◌∙◌, subst, sym, append_assoc, arith, length-append, inl, inr, ◌⊎◌}
+use Rattle.std.proofs.Common.{◌≡◌, ℕ, ◌+◌, ◌<◌, ◌≤◌, true, false, cond, ltb, List, [], ◌∷◌, ◌++◌, refl, ap, ◌∙◌, subst, sym, append_assoc, arith, inl, inr}
 use Rattle.std.proofs.lemmas.Bool.{lt-ltb, le-ltb, ltb-true, ltb-false}
 use Rattle.vm_allocator.specs.Range.{Range}
 use Rattle.vm_allocator.specs.RangeOrder.{StartsBefore, StartsFrom, IsInOrder, Apart}
 use Rattle.vm_allocator.specs.Block.{Block}
 use Rattle.vm_allocator.specs.BlockList.{IsOrderedFrom, IsClearOf, insert_block}
-use Rattle.vm_allocator.specs.Shape.{Shape, Tip, Fork, blocks, single, IsTree}
+use Rattle.vm_allocator.specs.Shape.{Shape, Fork, blocks, single, IsTree}
 
 pub ordered_weaken : (lo hi : ℕ) (bs : List Block) → lo ≤ hi → IsOrderedFrom hi bs → IsOrderedFrom lo bs
 ordered_weaken lo hi [] p s = tt

@@ -1,11 +1,11 @@
 -- Facts on the first key that a range overlaps on the way down.
-use Rattle.std.proofs.Common.{◌≡◌, ℕ, ◌+◌, ◌<◌, ◌≤◌, Bool, true, false, cond, ltb, List, [], ◌∷◌, ◌++◌, refl, ap, ◌∙◌, arith, Some, None, Option, inl, inr}
+use Rattle.std.proofs.Common.{◌≡◌, ℕ, ◌+◌, ◌<◌, List, [], ◌∷◌, ◌++◌, ap, ◌∙◌, arith, Some, None, Option, inl, inr}
 use Rattle.std.proofs.lemmas.Bool.{lt-ltb, le-ltb}
-use Rattle.vm_allocator.specs.Range.{Range, Overlaps}
-use Rattle.vm_allocator.specs.RangeOrder.{EndsBefore, Reaches, IsInOrder, Apart}
+use Rattle.vm_allocator.specs.Range.{Range}
+use Rattle.vm_allocator.specs.RangeOrder.{EndsBefore, Reaches, IsInOrder}
 use Rattle.vm_allocator.specs.Block.{Block}
 use Rattle.vm_allocator.specs.BlockList.{IsOrderedFrom, IsClearOf}
-use Rattle.vm_allocator.specs.Shape.{Shape, Tip, Fork, blocks, IsTree, first_met}
+use Rattle.vm_allocator.specs.Shape.{Shape, Fork, blocks, IsTree, first_met}
 use Rattle.vm_allocator.specs.NodeAnswer.{TellsOverlap}
 use Rattle.vm_allocator.proofs.BlockOrder.{ordered_middle}
 use Rattle.vm_allocator.proofs.Ranges.{meet}

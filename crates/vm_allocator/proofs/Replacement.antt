@@ -1,12 +1,12 @@
 -- Facts on a block that goes, or that another replaces.
-use Rattle.std.proofs.Common.{◌≡◌, ℕ, ◌+◌, ◌<◌, ◌≤◌, Bool, true, false, cond, eqb, List, [], ◌∷◌, ◌++◌, refl, ap, ◌∙◌, subst, sym, append_assoc, arith, inl, inr, ◌⊎◌, ◌&&◌, Option, Some, None}
+use Rattle.std.proofs.Common.{◌≡◌, ℕ, ◌+◌, ◌<◌, ◌≤◌, Bool, true, false, cond, eqb, List, [], ◌∷◌, ◌++◌, refl, ap, ◌∙◌, subst, sym, append_assoc, arith, inl, inr, ◌⊎◌, Some, None}
 use Rattle.std.proofs.lemmas.Bool.{eq-eqb, ne_eqb, eqb-true, and_parts}
 use Rattle.vm_allocator.specs.Range.{Range}
 use Rattle.vm_allocator.specs.RangeOrder.{Before, same_range}
 use Rattle.vm_allocator.specs.Block.{Block}
 use Rattle.vm_allocator.specs.BlockList.{IsOrderedFrom, replace_block, find_key}
-use Rattle.vm_allocator.specs.Shape.{Shape, Tip, Fork, blocks, IsTree, LeavesIfAbsent}
-use Rattle.vm_allocator.proofs.BlockOrder.{ordered_middle, ordered_weaken, ordered_front, ordered_back}
+use Rattle.vm_allocator.specs.Shape.{Shape, Fork, blocks, IsTree, LeavesIfAbsent}
+use Rattle.vm_allocator.proofs.BlockOrder.{ordered_middle, ordered_weaken}
 
 same_range_start : (a b : Range) → (a.start ≡ b.start → ⊥) → same_range a b ≡ false
 same_range_start a b n = rw (ne_eqb a.start b.start n)

@@ -1,11 +1,11 @@
 -- Facts on a node whose one side changed in place.
-use Rattle.std.proofs.Common.{◌≡◌, ℕ, ◌+◌, ◌≤◌, max, ◌++◌, ◌∷◌, List, [], refl, subst, sym, arith}
+use Rattle.std.proofs.Common.{◌≡◌, ◌++◌, ◌∷◌, [], refl}
 use Rattle.vm_allocator.specs.Range.{Range}
 use Rattle.vm_allocator.specs.RangeOrder.{Before, StartsBefore, StartsFrom, IsInOrder}
 use Rattle.vm_allocator.specs.Block.{Block}
 use Rattle.vm_allocator.specs.BlockList.{IsOrderedFrom, IsClearOf, insert_block, replace_block}
-use Rattle.vm_allocator.specs.Shape.{Shape, Tip, Fork, blocks, single, height_of, IsTree, IsBalanced, DifferByAtMost}
-use Rattle.vm_allocator.proofs.BlockOrder.{link_left, link_right, link_in_left, link_in_right}
+use Rattle.vm_allocator.specs.Shape.{Shape, Fork, blocks, height_of, IsTree, DifferByAtMost}
+use Rattle.vm_allocator.proofs.BlockOrder.{link_in_left, link_in_right}
 use Rattle.vm_allocator.proofs.Replacement.{removed_in_left, removed_in_right, take_left}
 
 -- the tree with the new left side, its heights within one

@@ -1,11 +1,11 @@
 -- Facts on the block whose key contains a range.
-use Rattle.std.proofs.Common.{◌≡◌, ℕ, ◌+◌, ◌<◌, ◌≤◌, Bool, true, false, cond, leb, List, [], ◌∷◌, ◌++◌, refl, ap, ◌∙◌, arith, Some, None, Option, ◌&&◌}
+use Rattle.std.proofs.Common.{◌≡◌, ℕ, ◌+◌, ◌<◌, ◌≤◌, true, false, cond, leb, List, [], ◌∷◌, ◌++◌, refl, ap, ◌∙◌, arith, Some, None}
 use Rattle.std.proofs.lemmas.Bool.{and_parts, leb-true, le-leb, false_from_ne_true}
 use Rattle.vm_allocator.specs.Range.{Range, Covers}
 use Rattle.vm_allocator.specs.RangeOrder.{EndsBefore, Reaches, IsInOrder, covers}
 use Rattle.vm_allocator.specs.Block.{Block}
 use Rattle.vm_allocator.specs.BlockList.{IsOrderedFrom, find_superset}
-use Rattle.vm_allocator.specs.Shape.{Shape, Tip, Fork, blocks, IsTree}
+use Rattle.vm_allocator.specs.Shape.{Shape, Fork, blocks, IsTree}
 use Rattle.vm_allocator.proofs.BlockOrder.{ordered_middle}
 
 covers_true : (a k : Range) → covers a k ≡ true → (a.start ≤ k.start) × (k.end ≤ a.end)

@@ -1,5 +1,5 @@
 -- Lists of blocks, from the lowest to the highest.
-use Rattle.std.specs.Prelude.{◌≡◌, ℕ, ◌+◌, ◌≤◌, cond, nat_lt, List, [], ◌∷◌, ◌++◌, Option, Some, None}
+use Rattle.std.specs.Prelude.{ℕ, ◌+◌, ◌≤◌, cond, nat_lt, List, [], ◌∷◌, ◌++◌, Option, Some, None}
 use Rattle.vm_allocator.specs.Range.{Range}
 use Rattle.vm_allocator.specs.RangeOrder.{Apart, same_range, covers}
 use Rattle.vm_allocator.specs.Block.{Block}

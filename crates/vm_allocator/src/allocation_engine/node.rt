@@ -398,13 +398,13 @@ impl InnerNode {
     {
         let _ = &self.height;
         *count += 1;
-        match self.key.order(key) {
+        match key.order(&self.key) {
             Ordering::Equal => Some(self),
-            Ordering::Greater => {
+            Ordering::Less => {
                 let Some(left) = &self.left else { return None };
                 left.search(key, count)
             }
-            Ordering::Less => {
+            Ordering::Greater => {
                 let Some(right) = &self.right else {
                     return None
                 };
@@ -444,26 +444,26 @@ impl InnerNode {
         }
     }
 
-    /// The first key that this one overlaps on the way down.
+    /// The first key that a new one overlaps on the way down.
     #[tactic(auto, using(crate::proofs::Meetings::first_meetings))]
-    fn first_met(&self, key: &RangeInclusive, count: &mut u64) -> Option<RangeInclusive>
+    fn first_met(&self, new: &RangeInclusive, count: &mut u64) -> Option<RangeInclusive>
         requires { count.old + height_of self.now ≤ MAX }
-        ensures met { result ≡ first_met key.now self.now }
-        ensures overlaps { TellsOverlap key.now result (blocks self.now) }
+        ensures met { result ≡ first_met new.now self.now }
+        ensures overlaps { TellsOverlap new.now result (blocks self.now) }
         ensures entered { count.old + 1 ≤ count.new }
         ensures steps { count.new ≤ count.old + height_of self.now }
     {
         let _ = &self.height;
         *count += 1;
-        if key.ends_before(&self.key) {
+        if new.ends_before(&self.key) {
             let Some(left) = &self.left else { return None };
-            return left.first_met(key, count);
+            return left.first_met(new, count);
         }
-        if self.key.ends_before(key) {
+        if self.key.ends_before(new) {
             let Some(right) = &self.right else {
                 return None
             };
-            return right.first_met(key, count);
+            return right.first_met(new, count);
         }
         Some(self.key)
     }
