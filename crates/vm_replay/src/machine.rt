@@ -45,20 +45,20 @@ impl Machine {
     pub fn answer(&mut self, alloc: Global, asked: Option<Command>) -> Reply
         ensures { Does self.old asked result self.new }
     {
-        match asked {
-            None => Reply::NotInLanguage,
-            Some(Command::Space { base, size }) => self.make_space(alloc, base, size),
-            Some(Command::First { size, alignment }) => self.first(alloc, size, alignment),
-            Some(Command::Free { start, end }) => self.free(start, end),
-            Some(
-                Command::Ids {
-                    range_base,
-                    range_end,
-                },
-            ) => self.make_ids(alloc, range_base, range_end),
-            Some(Command::Id) => self.take_id(),
-            Some(Command::Unid { id }) => self.release_id(id),
-            Some(Command::Has { id }) => self.has_id(id),
+        let Some(command) = asked else {
+            return Reply::NotInLanguage;
+        };
+        match command {
+            Command::Space { base, size } => self.make_space(alloc, base, size),
+            Command::First { size, alignment } => self.first(alloc, size, alignment),
+            Command::Free { start, end } => self.free(start, end),
+            Command::Ids {
+                range_base,
+                range_end,
+            } => self.make_ids(alloc, range_base, range_end),
+            Command::Id => self.take_id(),
+            Command::Unid { id } => self.release_id(id),
+            Command::Has { id } => self.has_id(id),
         }
     }
 
