@@ -1,11 +1,11 @@
 -- The words of a line, by where its first blank stands.
-use Rattle.std.proofs.Common.{◌≡◌, ℕ, ◌+◌, ◌-◌, ◌<◌, ◌≤◌, Bool, true, false, List, [], ◌∷◌, length, take, drop, Some, None, ◌==◌, refl, arith, rules}
+use Rattle.std.proofs.Common.{◌≡◌, ◌≢◌, ℕ, ◌+◌, ◌-◌, ◌<◌, ◌≤◌, Bool, true, false, List, [], ◌∷◌, length, take, drop, Option, Some, None, ◌==◌, refl, arith, rules}
 use Rattle.std.specs.Prelude.{position}
 use Rattle.std.specs.List.{position_or_len}
 use Rattle.std.proofs.lemmas.List.Splits.{slice_split_first, length-slice_split}
 use Rattle.std.proofs.lemmas.Bool.Decides.{nat_tests}
 use Rattle.std.proofs.lemmas.Grind.{common_steps}
-use Rattle.vm_replay.specs.Words.{blank, words_of, two_in}
+use Rattle.vm_replay.specs.Words.{blank, words_of, alone, one_in, two_in}
 
 abbrev is_blank : ℕ → Bool
 is_blank byte = byte == blank
@@ -31,13 +31,27 @@ none_step (x ∷ xs) h = none_cons x xs (x == blank) refl (none_step xs) h
 pub words_none : (line : List ℕ) → position is_blank line ≡ None → words_of line ≡ line ∷ []
 words_none line e = none_step line (grind (arith, nat_tests))
 
--- more than two words are not two numbers
-long : (words : List (List ℕ)) → 2 < length words → two_in words ≡ None
-long [] h = refl
-long (a ∷ []) h = absurd (omega arith)
-long (a ∷ b ∷ []) h = absurd (omega arith)
-long (a ∷ b ∷ c ∷ ds) h = refl
+-- a text has a word
+pub some_words : (text : List ℕ) → 0 < length (words_of text)
+some_words text = omega (arith, length-slice_split is_blank text)
 
--- the words behind a second blank make them more than two
-pub two_in_more : (first second rest : List ℕ) → two_in (first ∷ second ∷ words_of rest) ≡ None
-two_in_more first second rest = long (first ∷ second ∷ words_of rest) (omega (arith, length-slice_split is_blank rest))
+-- more words do not stand alone
+pub not_alone : {A : Type 0} (asked : A) (text : List ℕ) → alone asked (words_of text) ≡ None
+not_alone asked text = some_is_more asked (words_of text) (some_words text)
+  where
+    some_is_more : {A : Type 0} (asked : A) (words : List (List ℕ)) → 0 < length words → alone asked words ≡ None
+    some_is_more asked [] h = absurd (omega arith)
+    some_is_more asked (word ∷ words) h = refl
+
+-- words that are not one say no number
+pub not_one : (read : List ℕ → Option ℕ) (words : List (List ℕ)) → length words ≢ 1 → one_in read words ≡ None
+not_one read [] h = refl
+not_one read (a ∷ []) h = absurd (h refl)
+not_one read (a ∷ b ∷ cs) h = refl
+
+-- words that are not two say no two numbers
+pub not_two : (read : List ℕ → Option ℕ) (words : List (List ℕ)) → length words ≢ 2 → two_in read words ≡ None
+not_two read [] h = refl
+not_two read (a ∷ []) h = refl
+not_two read (a ∷ b ∷ []) h = absurd (h refl)
+not_two read (a ∷ b ∷ c ∷ ds) h = refl

@@ -2,18 +2,28 @@
 use Rattle.std.specs.Prelude.{ℕ, if◌then◌else◌, nat_le, List, [], ◌∷◌, length, codes, Option, None}
 use Rattle.std.specs.Option.{option_map}
 use Rattle.std.specs.Str.{bytes_eq}
-use Rattle.vm_replay.specs.Words.{words_of, two_in}
+use Rattle.vm_replay.specs.Numbers.{number_of, id_of}
+use Rattle.vm_replay.specs.Words.{words_of, alone, one_in, two_in}
 use Rattle.vm_replay.specs.declared.command.Command.{Command}
-use Rattle.vm_replay.specs.declared.command.Command.TheVariants.{Space, First, Free}
+use Rattle.vm_replay.specs.declared.command.Command.TheVariants.{Space, First, Free, Ids, Id, Unid, Has}
+
+-- what a line with this first word asks of the ids, where it is in the language
+abbrev pub asked_of_ids : List ℕ → List (List ℕ) → Option Command
+asked_of_ids name words =
+    if bytes_eq name (codes "ids") then option_map (λ p. Ids p.0 p.1) (two_in id_of words)
+    else if bytes_eq name (codes "id") then alone Id words
+    else if bytes_eq name (codes "unid") then option_map (λ i. Unid i) (one_in id_of words)
+    else if bytes_eq name (codes "has") then option_map (λ i. Has i) (one_in id_of words)
+    else None
 
 -- what the words of a line ask for, where they are in the language
 abbrev pub asked : List (List ℕ) → Option Command
 asked [] = None
 asked (name ∷ words) =
-    if bytes_eq name (codes "space") then option_map (λ p. Space p.0 p.1) (two_in words)
-    else if bytes_eq name (codes "first") then option_map (λ p. First p.0 p.1) (two_in words)
-    else if bytes_eq name (codes "free") then option_map (λ p. Free p.0 p.1) (two_in words)
-    else None
+    if bytes_eq name (codes "space") then option_map (λ p. Space p.0 p.1) (two_in number_of words)
+    else if bytes_eq name (codes "first") then option_map (λ p. First p.0 p.1) (two_in number_of words)
+    else if bytes_eq name (codes "free") then option_map (λ p. Free p.0 p.1) (two_in number_of words)
+    else asked_of_ids name words
 
 -- a longer line is not in the language
 abbrev pub longest_line : ℕ

@@ -1,31 +1,48 @@
 -- What the lines so far have made, and what a further line does to it.
-use Rattle.std.specs.Prelude.{◌≡◌, ℕ, Option, Some, None, Result, Ok, Err, MatchOption}
+use Rattle.std.specs.Prelude.{◌≡◌, ◌↔◌, ℕ, Bool, IsTrue, List, Option, Some, None, Result, Ok, Err, MatchOption, refl}
+use Rattle.std.specs.Coded.{Coded, code_by, coded×, coded_list, coded_option}
 use Rattle.vm_allocator.specs.Cases.{Unless}
-use Rattle.vm_allocator.specs.Range.{Range, IsRange}
+use Rattle.vm_allocator.specs.Range.{Range, range_code, IsRange}
 use Rattle.vm_allocator.specs.Address.{AddressState}
 use Rattle.vm_allocator.specs.Answer.{Allocates, Frees, Makes}
+use Rattle.vm_allocator.specs.Ids.{IdState, id_state_code, IsHeld, MakesIds, AllocatesId, FreesId}
 use Rattle.vm_allocator.specs.declared.constraint.AllocPolicy.{AllocPolicy}
 use Rattle.vm_allocator.specs.declared.constraint.AllocPolicy.TheVariants.{FirstMatch}
 use Rattle.vm_allocator.specs.declared.error.Error.{Error}
 use Rattle.vm_allocator.specs.declared.error.Error.TheVariants.{InvalidRange}
-use Rattle.vm_replay.specs.Replies.{done_or_refused, given_or_refused}
+use Rattle.vm_replay.specs.Replies.{done_or_refused, given_or_refused, id_or_refused}
 use Rattle.vm_replay.specs.declared.command.Command.{Command}
-use Rattle.vm_replay.specs.declared.command.Command.TheVariants.{Space, First, Free}
+use Rattle.vm_replay.specs.declared.command.Command.TheVariants.{Space, First, Free, Ids, Id, Unid, Has}
 use Rattle.vm_replay.specs.declared.reply.Reply.{Reply}
-use Rattle.vm_replay.specs.declared.reply.Reply.TheVariants.{NoSpace, NotInLanguage}
+use Rattle.vm_replay.specs.declared.reply.Reply.TheVariants.{Held, NoSpace, NoIds, NotInLanguage}
 
--- what the lines so far have made: the space of the last `space` that was done
+-- what the lines so far have made: the space of the last `space` that was done, and the ids of the last `ids`
 pub record Machine : Type 0 where
   pub space : Option AddressState
+  pub ids : Option IdState
+
+-- an address state is stored as the pair of its fields
+abbrev pub address_state_code : Coded AddressState
+address_state_code = code_by (Range × List Range) (coded× range_code (coded_list range_code)) (λ s. (s.space, s.held)) (λ p. record { space = p.0; held = p.1 }) (λ _. refl)
+
+-- a machine is stored as the pair of its fields
+abbrev pub machine_code : Coded Machine
+machine_code =
+    code_by (Option AddressState × Option IdState) (coded× (coded_option address_state_code) (coded_option id_state_code)) (λ m. (m.space, m.ids)) (λ p. record { space = p.0; ids = p.1 }) (λ _. refl)
 
 -- before the first line
 abbrev pub start : Machine
-start = record { space = None }
+start = record { space = None; ids = None }
 
 -- a space that is made takes the place of the old one, and a refused one does not
 abbrev pub with_space : Machine → Result AddressState Error → Machine
 with_space old (Ok state) = record old { space = Some state }
 with_space old (Err error) = old
+
+-- ids that are made take the place of the old ones, and refused ones do not
+abbrev pub with_ids : Machine → Result IdState Error → Machine
+with_ids old (Ok state) = record old { ids = Some state }
+with_ids old (Err error) = old
 
 -- the line needs a space: where there is one, this call settles the reply and the state that it leaves
 unfoldable pub OnSpace : Machine → Reply → Machine → (AddressState → AddressState → Type 0) → Type 0
@@ -33,6 +50,13 @@ OnSpace old reply new call =
     MatchOption old.space
     ((reply ≡ NoSpace) × (new ≡ old))
     (λ state. (later : AddressState) × call state later × (new ≡ record old { space = Some later }))
+
+-- the line needs ids: where there are some, this call settles the reply and the state that it leaves
+unfoldable pub OnIds : Machine → Reply → Machine → (IdState → IdState → Type 0) → Type 0
+OnIds old reply new call =
+    MatchOption old.ids
+    ((reply ≡ NoIds) × (new ≡ old))
+    (λ state. (later : IdState) × call state later × (new ≡ record old { ids = Some later }))
 
 -- an allocation with this policy
 unfoldable pub Places : Machine → ℕ → ℕ → AllocPolicy → Reply → Machine → Type 0
@@ -56,3 +80,14 @@ Does old (Some (First size alignment)) reply new = Places old size alignment Fir
 Does old (Some (Free start end)) reply new =
     OnSpace old reply new (λ state later.
     (answer : Result (Unit {0}) Error) × Releases state start end answer later × (reply ≡ done_or_refused answer))
+Does old (Some (Ids range_base range_end)) reply new =
+    (answer : Result IdState Error) × MakesIds range_base range_end answer × (reply ≡ done_or_refused answer) × (new ≡ with_ids old answer)
+Does old (Some Id) reply new =
+    OnIds old reply new (λ state later.
+    (answer : Result ℕ Error) × AllocatesId state answer later × (reply ≡ id_or_refused answer))
+Does old (Some (Unid id)) reply new =
+    OnIds old reply new (λ state later.
+    (answer : Result ℕ Error) × FreesId state id answer later × (reply ≡ id_or_refused answer))
+Does old (Some (Has id)) reply new =
+    OnIds old reply new (λ state later.
+    (held : Bool) × (IsTrue held ↔ IsHeld state id) × (reply ≡ Held held) × (later ≡ state))

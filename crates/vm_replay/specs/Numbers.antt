@@ -22,3 +22,7 @@ number_below bound word = if is_numeral word && nat_lt (value_from 0 word) bound
 -- the value of a numeral of 64 bits
 abbrev pub number_of : List ℕ → Option ℕ
 number_of word = number_below (2 ^ 64) word
+
+-- the value of a numeral of 32 bits
+abbrev pub id_of : List ℕ → Option ℕ
+id_of word = number_below (2 ^ 32) word

@@ -1,11 +1,11 @@
 -- How a line is answered.
-use Rattle.std.specs.Prelude.{ℕ, List, ◌∷◌, ◌++◌, codes, decimal, Result, Ok, Err}
+use Rattle.std.specs.Prelude.{ℕ, if◌then◌else◌, List, ◌∷◌, ◌++◌, codes, decimal, Result, Ok, Err}
 use Rattle.vm_allocator.specs.Range.{Range}
 use Rattle.vm_allocator.specs.declared.error.Error.{Error}
 use Rattle.vm_allocator.specs.declared.error.Error.TheVariants.{Overflow, OutOfRange, AlreadyReleased, NeverAllocated, ResourceNotAvailable, InvalidRange, InvalidAlignment, Overlap, InvalidStateTransition, UnalignedAddress, Underflow, InvalidSize, OutOfMemory}
 use Rattle.vm_replay.specs.Words.{blank}
 use Rattle.vm_replay.specs.declared.reply.Reply.{Reply}
-use Rattle.vm_replay.specs.declared.reply.Reply.TheVariants.{Done, Given, Refused, NoSpace, NotInLanguage}
+use Rattle.vm_replay.specs.declared.reply.Reply.TheVariants.{Done, Given, Id, Held, Refused, NoSpace, NoIds, NotInLanguage}
 
 -- two numbers, with a blank between them
 abbrev pub pair_text : ℕ → ℕ → List ℕ
@@ -31,8 +31,11 @@ refusal_text OutOfMemory = codes "error memory"
 abbrev pub text_of : Reply → List ℕ
 text_of Done = codes "done"
 text_of (Given range) = codes "range " ++ pair_text range.start range.end
+text_of (Id id) = codes "id " ++ decimal id
+text_of (Held held) = if held then codes "yes" else codes "no"
 text_of (Refused error) = refusal_text error
 text_of NoSpace = codes "error no-space"
+text_of NoIds = codes "error no-ids"
 text_of NotInLanguage = codes "error line"
 
 -- the reply to a call that gives nothing which is told
@@ -44,3 +47,8 @@ done_or_refused (Err error) = Refused error
 abbrev pub given_or_refused : Result Range Error → Reply
 given_or_refused (Ok range) = Given range
 given_or_refused (Err error) = Refused error
+
+-- the reply to a call that gives an id
+abbrev pub id_or_refused : Result ℕ Error → Reply
+id_or_refused (Ok id) = Id id
+id_or_refused (Err error) = Refused error

@@ -1,8 +1,9 @@
 -- A session between two bytes of its input.
-use Rattle.std.specs.Prelude.{◌≡◌, ℕ, ◌==◌, if◌then◌else◌, nat_lt, List, [], ◌∷◌, ◌++◌, length, Option, Some, None, Bool, true, MatchBool}
+use Rattle.std.specs.Prelude.{◌≡◌, ℕ, ◌==◌, if◌then◌else◌, nat_lt, List, [], ◌∷◌, ◌++◌, length, Option, Some, None, Bool, true, MatchBool, refl}
+use Rattle.std.specs.Coded.{Coded, code_by, coded×, coded_ℕ, coded_list, coded_option}
 use Rattle.vm_replay.specs.Commands.{command_of, longest_line}
 use Rattle.vm_replay.specs.Lines.{newline}
-use Rattle.vm_replay.specs.Machines.{Machine, Does}
+use Rattle.vm_replay.specs.Machines.{Machine, machine_code, Does}
 use Rattle.vm_replay.specs.Replies.{text_of}
 use Rattle.vm_replay.specs.declared.command.Command.{Command}
 use Rattle.vm_replay.specs.declared.reply.Reply.{Reply}
@@ -11,6 +12,11 @@ use Rattle.vm_replay.specs.declared.reply.Reply.{Reply}
 pub record Session : Type 0 where
   pub machine : Machine
   pub held : Option (List ℕ)
+
+-- a session is stored as the pair of its fields
+abbrev pub session_code : Coded Session
+session_code =
+    code_by (Machine × Option (List ℕ)) (coded× machine_code (coded_option (coded_list coded_ℕ))) (λ s. (s.machine, s.held)) (λ p. record { machine = p.0; held = p.1 }) (λ _. refl)
 
 -- what is held after one more byte
 abbrev pub held_after : Option (List ℕ) → ℕ → Option (List ℕ)

@@ -1,7 +1,6 @@
 -- The words of a line, and the numbers that they say.
 use Rattle.std.specs.Prelude.{ℕ, ◌==◌, List, [], ◌∷◌, Option, Some, None}
 use Rattle.std.specs.List.{slice_split}
-use Rattle.vm_replay.specs.Numbers.{number_of}
 
 -- the byte that separates words
 abbrev pub blank : ℕ
@@ -17,9 +16,20 @@ both None second = None
 both (Some first) None = None
 both (Some first) (Some second) = Some (first, second)
 
--- the numbers that the words say, where they are two
-abbrev pub two_in : List (List ℕ) → Option (ℕ × ℕ)
-two_in [] = None
-two_in (first ∷ []) = None
-two_in (first ∷ second ∷ []) = both (number_of first) (number_of second)
-two_in (first ∷ second ∷ third ∷ more) = None
+-- what is asked, where no word stands behind it
+abbrev pub alone : {A : Type 0} → A → List (List ℕ) → Option A
+alone asked [] = Some asked
+alone asked (word ∷ words) = None
+
+-- the number that the words say by this reading, where they are one
+abbrev pub one_in : (List ℕ → Option ℕ) → List (List ℕ) → Option ℕ
+one_in read [] = None
+one_in read (word ∷ []) = read word
+one_in read (word ∷ second ∷ more) = None
+
+-- the numbers that the words say by this reading, where they are two
+abbrev pub two_in : (List ℕ → Option ℕ) → List (List ℕ) → Option (ℕ × ℕ)
+two_in read [] = None
+two_in read (first ∷ []) = None
+two_in read (first ∷ second ∷ []) = both (read first) (read second)
+two_in read (first ∷ second ∷ third ∷ more) = None

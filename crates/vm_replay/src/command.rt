@@ -1,7 +1,8 @@
-ghost use Rattle.std.specs.Prelude.{◌≡◌, ◌≤◌, length};
-ghost use Rattle.vm_replay.specs.Commands.{command_of};
+ghost use Rattle.std.specs.Prelude.{◌≡◌, ◌≤◌, [], length, MatchOption};
+ghost use Rattle.vm_replay.specs.Commands.{command_of, asked_of_ids};
+ghost use Rattle.vm_replay.specs.Words.{words_of};
 
-use crate::words::{first_word, two_numbers};
+use crate::words::{first_word, one_id, two_ids, two_numbers};
 
 /// What a line asks for.
 #[derive(Clone, Copy, Debug, PartialEq, Eq)]
@@ -12,6 +13,14 @@ pub enum Command {
     First { size: u64, alignment: u64 },
     /// The release of the range from `start` to `end`.
     Free { start: u64, end: u64 },
+    /// An allocator for the ids from `range_base` to `range_end`.
+    Ids { range_base: u32, range_end: u32 },
+    /// The least id that is not held.
+    Id,
+    /// The release of an id.
+    Unid { id: u32 },
+    /// Whether an id is held.
+    Has { id: u32 },
 }
 
 /// What a line of at most 120 bytes asks for. `None` where it is not in the language.
@@ -29,6 +38,34 @@ pub fn parse(line: &[u8]) -> Option<Command>
     } else if name == b"free".as_slice() {
         let (start, end) = two_numbers(rest?)?;
         Some(Command::Free { start, end })
+    } else {
+        parse_on_ids(name, rest)
+    }
+}
+
+/// What a line with this first word asks of the ids. `rest` is what stands behind the word, if a
+/// space does.
+#[tactic(auto, using(crate::proofs::Splitting::not_alone))]
+fn parse_on_ids(name: &[u8], rest: Option<&[u8]>) -> Option<Command>
+    ensures { MatchOption rest.entry (result ≡ asked_of_ids name.now []) (λ words. result ≡ asked_of_ids name.now (words_of words.now)) }
+{
+    if name == b"ids".as_slice() {
+        let (range_base, range_end) = two_ids(rest?)?;
+        Some(Command::Ids {
+            range_base,
+            range_end,
+        })
+    } else if name == b"id".as_slice() {
+        match rest {
+            None => Some(Command::Id),
+            Some(_) => None,
+        }
+    } else if name == b"unid".as_slice() {
+        let id = one_id(rest?)?;
+        Some(Command::Unid { id })
+    } else if name == b"has".as_slice() {
+        let id = one_id(rest?)?;
+        Some(Command::Has { id })
     } else {
         None
     }

@@ -6,22 +6,25 @@ use crate::command::Command;
 use crate::reply::Reply;
 use std::alloc::Global;
 use std::marker::Model;
-use vm_allocator::{AddressAllocator, AllocPolicy, RangeInclusive, Result};
+use vm_allocator::{AddressAllocator, AllocPolicy, IdAllocator, RangeInclusive, Result};
 
 /// What the lines so far have made.
 #[derive(Drop)]
 pub struct Machine {
     space: Option<AddressAllocator>,
+    ids: Option<IdAllocator>,
 }
 
 impl Model for Machine {
     ghost use Rattle.std.specs.Option.{option_map};
     ghost use Rattle.vm_allocator.specs.Allocator.{state_of};
-    ghost use Rattle.vm_replay.specs.Machines.{Machine};
+    ghost use Rattle.vm_replay.specs.Machines.{Machine, machine_code};
 
     ghost Value = { Machine };
 
-    ghost view = { λ a. record { space = option_map state_of a.space } };
+    ghost coded = { machine_code };
+
+    ghost view = { λ a. record { space = option_map state_of a.space; ids = a.ids } };
 }
 
 impl Machine {
@@ -31,7 +34,10 @@ impl Machine {
     pub fn new() -> Machine
         ensures { result ≡ start }
     {
-        Machine { space: None }
+        Machine {
+            space: None,
+            ids: None,
+        }
     }
 
     /// Does what a line asks. `None` is a line that is not in the language.
@@ -39,11 +45,20 @@ impl Machine {
     pub fn answer(&mut self, alloc: Global, asked: Option<Command>) -> Reply
         ensures { Does self.old asked result self.new }
     {
-        match asked {
-            None => Reply::NotInLanguage,
-            Some(Command::Space { base, size }) => self.make_space(alloc, base, size),
-            Some(Command::First { size, alignment }) => self.first(alloc, size, alignment),
-            Some(Command::Free { start, end }) => self.free(start, end),
+        let Some(command) = asked else {
+            return Reply::NotInLanguage;
+        };
+        match command {
+            Command::Space { base, size } => self.make_space(alloc, base, size),
+            Command::First { size, alignment } => self.first(alloc, size, alignment),
+            Command::Free { start, end } => self.free(start, end),
+            Command::Ids {
+                range_base,
+                range_end,
+            } => self.make_ids(alloc, range_base, range_end),
+            Command::Id => self.take_id(),
+            Command::Unid { id } => self.release_id(id),
+            Command::Has { id } => self.has_id(id),
         }
     }
 
@@ -87,6 +102,59 @@ impl Machine {
             Ok(()) => Reply::Done,
             Err(error) => Reply::Refused(error),
         }
+    }
+
+    /// Makes ids, which take the place of the old ones. Refused ones do not.
+    #[tactic(auto, unfolding(crate::specs::Machines::Does))]
+    fn make_ids(&mut self, alloc: Global, range_base: u32, range_end: u32) -> Reply
+        ensures { Does self.old (Some (Command.Ids range_base range_end)) result self.new }
+    {
+        match IdAllocator::new(alloc, range_base, range_end) {
+            Ok(ids) => {
+                self.ids = Some(ids);
+                Reply::Done
+            }
+            Err(error) => Reply::Refused(error),
+        }
+    }
+
+    /// Holds the least id that is not held.
+    #[tactic(auto, unfolding(crate::specs::Machines::Does, crate::specs::Machines::OnIds))]
+    fn take_id(&mut self) -> Reply
+        ensures { Does self.old (Some Command.Id) result self.new }
+    {
+        let Some(ids) = &mut self.ids else {
+            return Reply::NoIds;
+        };
+        match ids.allocate_id() {
+            Ok(id) => Reply::Id(id),
+            Err(error) => Reply::Refused(error),
+        }
+    }
+
+    /// Gives an id back.
+    #[tactic(auto, unfolding(crate::specs::Machines::Does, crate::specs::Machines::OnIds))]
+    fn release_id(&mut self, id: u32) -> Reply
+        ensures { Does self.old (Some (Command.Unid id)) result self.new }
+    {
+        let Some(ids) = &mut self.ids else {
+            return Reply::NoIds;
+        };
+        match ids.free_id(id) {
+            Ok(id) => Reply::Id(id),
+            Err(error) => Reply::Refused(error),
+        }
+    }
+
+    /// Tells whether an id is held.
+    #[tactic(auto, unfolding(crate::specs::Machines::Does, crate::specs::Machines::OnIds))]
+    fn has_id(&self, id: u32) -> Reply
+        ensures { Does self.now (Some (Command.Has id)) result self.now }
+    {
+        let Some(ids) = &self.ids else {
+            return Reply::NoIds;
+        };
+        Reply::Held(ids.is_allocated(id))
     }
 }
 

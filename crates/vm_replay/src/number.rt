@@ -1,5 +1,5 @@
 ghost use Rattle.std.specs.Prelude.{◌≡◌};
-ghost use Rattle.vm_replay.specs.Numbers.{number_of};
+ghost use Rattle.vm_replay.specs.Numbers.{number_of, id_of};
 
 const BASE: u64 = 10;
 
@@ -22,4 +22,11 @@ pub fn parse_number(word: &[u8]) -> Option<u64>
         value = value.checked_mul(BASE)?.checked_add(digit)?;
     }
     Some(value)
+}
+
+/// The number of 32 bits that a word says.
+pub fn parse_id(word: &[u8]) -> Option<u32>
+    ensures { result ≡ id_of word.now }
+{
+    u32::try_from(parse_number(word)?).ok()
 }

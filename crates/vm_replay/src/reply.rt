@@ -14,10 +14,16 @@ pub enum Reply {
     Done,
     /// This range is held from now on.
     Given(RangeInclusive),
+    /// This id was taken or given back.
+    Id(u32),
+    /// Whether the id is held.
+    Held(bool),
     /// The call was refused.
     Refused(Error),
     /// The line needs a space, and none has been made.
     NoSpace,
+    /// The line needs ids, and none have been made.
+    NoIds,
     /// The line is not in the language, or it is too long.
     NotInLanguage,
 }
@@ -31,8 +37,12 @@ pub fn write_reply(output: &mut Buffer, reply: Reply)
     match reply {
         Reply::Done => output.push_all(b"done"),
         Reply::Given(range) => write_pair(output, b"range ", range.start(), range.end()),
+        Reply::Id(id) => write_number(output, b"id ", id.into()),
+        Reply::Held(true) => output.push_all(b"yes"),
+        Reply::Held(false) => output.push_all(b"no"),
         Reply::Refused(error) => write_refusal(output, error),
         Reply::NoSpace => output.push_all(b"error no-space"),
+        Reply::NoIds => output.push_all(b"error no-ids"),
         Reply::NotInLanguage => output.push_all(b"error line"),
     }
 }

@@ -23,10 +23,12 @@ pub struct Session {
 
 impl Model for Session {
     ghost use Rattle.std.specs.Prelude.{◌≤◌, Some, None, if◌then◌else◌, take};
-    ghost use Rattle.vm_replay.specs.Sessions.{Session};
+    ghost use Rattle.vm_replay.specs.Sessions.{Session, session_code};
     ghost use Rattle.vm_replay.specs.declared.session.TheConstants.{LONGEST_LINE};
 
     ghost Value = { Session };
+
+    ghost coded = { session_code };
 
     ghost view = { λ a. record { machine = a.machine; held = if a.is_too_long then None else Some (take a.length a.line) } };
 

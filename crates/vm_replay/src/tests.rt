@@ -209,8 +209,8 @@ fn lines_that_are_not_there_yet(rt: HostRuntime) {
     expect_row(
         &rt,
         rt.alloc(),
-        b"space 16 4\nlast 1 1\nexact 1 1 16\nids 5 5\nid\nunid 5\nhas 5\nmanager 0 1 4096 4096\ndevice 1 1\nundevice 0\n",
-        b"done\nerror line\nerror line\nerror line\nerror line\nerror line\nerror line\nerror line\nerror line\nerror line\n",
+        b"space 16 4\nlast 1 1\nexact 1 1 16\nmanager 0 1 4096 4096\ndevice 1 1\nundevice 0\n",
+        b"done\nerror line\nerror line\nerror line\nerror line\nerror line\n",
     );
 }
 
@@ -221,6 +221,56 @@ fn refusals_in_order(rt: HostRuntime) {
         rt.alloc(),
         b"free 2 1\nfirst 0 3\nfree 2 1 0\nspace 0 0\nspace 18446744073709551615 2\nfree 16 16\nspace 16 4\nfirst 0 3\nfirst 1 3\nfirst 1 1\nfree 2 1\nfree 18446744073709551615 18446744073709551614\nfree 0 18446744073709551615\nspace 0 0\nfree 16 16\nspace 18446744073709551615 1\nfirst 1 1\nfree 16 16\n",
         b"error no-space\nerror no-space\nerror line\nerror underflow\nerror overflow\nerror no-space\ndone\nerror invalid-size 0\nerror invalid-alignment\nrange 16 16\nerror invalid-range 2 1\nerror invalid-range 18446744073709551615 18446744073709551614\nerror invalid-range 0 18446744073709551615\nerror underflow\ndone\ndone\nerror overflow\nerror not-available\n",
+    );
+}
+
+#[test]
+fn program_ids(rt: HostRuntime) {
+    expect_row(
+        &rt,
+        rt.alloc(),
+        b"id\nids 5 5\nid\nid\nhas 5\nunid 5\nunid 5\nunid 6\nids 4294967294 4294967295\nid\nid\nid\nunid 4294967296\n",
+        b"error no-ids\ndone\nid 5\nerror not-available\nyes\nid 5\nerror already-released 5\nerror out-of-range 6\ndone\nid 4294967294\nid 4294967295\nerror overflow\nerror line\n",
+    );
+}
+
+#[test]
+fn refusals_of_ids_in_order(rt: HostRuntime) {
+    expect_row(
+        &rt,
+        rt.alloc(),
+        b"id 1\nunid\nhas\nids 1\nids 1 2 3\nid\nunid 7\nhas 7\nids 2 1\nid\nids 0 1\nunid 2\nunid 0\nid\nid 0\nids 3 2\nunid 1\nunid 0\nunid 0\n",
+        b"error line\nerror line\nerror line\nerror line\nerror line\nerror no-ids\nerror no-ids\nerror no-ids\nerror invalid-range 2 1\nerror no-ids\ndone\nerror out-of-range 2\nerror never-allocated 0\nid 0\nerror line\nerror invalid-range 3 2\nerror never-allocated 1\nid 0\nerror already-released 0\n",
+    );
+}
+
+#[test]
+fn held_ids(rt: HostRuntime) {
+    expect_row(
+        &rt,
+        rt.alloc(),
+        b"ids 7 9\nhas 6\nhas 7\nid\nid\nhas 7\nhas 8\nhas 9\nunid 7\nhas 7\nhas 8\nids 9 7\nhas 8\nid\nhas 7\nids 7 9\nhas 7\nhas 8\n",
+        b"done\nno\nno\nid 7\nid 8\nyes\nyes\nno\nid 7\nno\nyes\nerror invalid-range 9 7\nyes\nid 7\nyes\ndone\nno\nno\n",
+    );
+}
+
+#[test]
+fn numbers_of_32_bits(rt: HostRuntime) {
+    expect_row(
+        &rt,
+        rt.alloc(),
+        b"ids 0 4294967296\nids 4294967296 4294967297\nids 00000000000000000000 00000000004294967295\nhas 4294967295\nhas 4294967296\nunid 4294967295\nunid 18446744073709551615\nhas 18446744073709551616\nhas 000000000000000000000\nhas 1x\nid \nhas  0\nId\nid",
+        b"error line\nerror line\ndone\nno\nerror line\nerror never-allocated 4294967295\nerror line\nerror line\nerror line\nerror line\nerror line\nerror line\nerror line\nid 0\n",
+    );
+}
+
+#[test]
+fn space_and_ids_are_apart(rt: HostRuntime) {
+    expect_row(
+        &rt,
+        rt.alloc(),
+        b"ids 5 6\nid\nfirst 1 1\nspace 5 2\nhas 5\nfirst 1 1\nid\nids 5 6\nfirst 1 1\nspace 0 0\nid\n",
+        b"done\nid 5\nerror no-space\ndone\nyes\nrange 5 5\nid 6\ndone\nrange 6 6\nerror underflow\nid 5\n",
     );
 }
 
@@ -251,7 +301,11 @@ fn replies(rt: HostRuntime) -> Result<(), Fail> {
     let wide = RangeInclusive::new(1, u64::MAX)?;
     expect_text(&rt, Reply::Done, b"done");
     expect_text(&rt, Reply::Given(wide), b"range 1 18446744073709551615");
+    expect_text(&rt, Reply::Id(u32::MAX), b"id 4294967295");
+    expect_text(&rt, Reply::Held(true), b"yes");
+    expect_text(&rt, Reply::Held(false), b"no");
     expect_text(&rt, Reply::NoSpace, b"error no-space");
+    expect_text(&rt, Reply::NoIds, b"error no-ids");
     expect_text(&rt, Reply::NotInLanguage, b"error line");
     Ok(())
 }
@@ -432,6 +486,19 @@ fn a_line_refused_for_memory_is_asked_again(rt: HostRuntime) -> Result<(), Fail>
             Reply::Given(RangeInclusive::new(17, 19)?),
         ),
         (Command::Free { start: 16, end: 16 }, Reply::Done),
+        (
+            Command::Ids {
+                range_base: 5,
+                range_end: 9,
+            },
+            Reply::Done,
+        ),
+        (Command::Id, Reply::Id(5)),
+        (Command::Id, Reply::Id(6)),
+        (Command::Unid { id: 5 }, Reply::Id(5)),
+        (Command::Has { id: 5 }, Reply::Held(false)),
+        (Command::Id, Reply::Id(5)),
+        (Command::Id, Reply::Id(7)),
     ] {
         let mut reply = machine.answer(rt.alloc(), Some(command));
         if reply == Reply::Refused(Error::OutOfMemory) {
