@@ -1,5 +1,5 @@
 -- The answer to a request, from that to making its constraint.
-use Rattle.std.proofs.Common.{◌≡◌, ℕ, refl, sym, ap, inl, inr, Result, Ok, Err, ⊎_elim, subst}
+use Rattle.std.proofs.Common.{◌≡◌, ℕ, refl, ap, inl, inr, Result, Ok, Err, ⊎_elim, subst}
 use Rattle.vm_allocator.specs.Range.{Range}
 use Rattle.vm_allocator.specs.Address.{AddressState}
 use Rattle.vm_allocator.specs.Request.{Request, ByConstraint, MakesConstraint}

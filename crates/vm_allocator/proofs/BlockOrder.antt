@@ -5,7 +5,7 @@ use Rattle.vm_allocator.specs.Range.{Range}
 use Rattle.vm_allocator.specs.RangeOrder.{StartsBefore, StartsFrom, IsInOrder, Apart}
 use Rattle.vm_allocator.specs.Block.{Block}
 use Rattle.vm_allocator.specs.BlockList.{IsOrderedFrom, IsClearOf, insert_block}
-use Rattle.vm_allocator.specs.Shape.{Shape, Fork, blocks, single, IsTree}
+use Rattle.vm_allocator.specs.Shape.{Shape, Fork, blocks, IsTree}
 
 pub ordered_weaken : (lo hi : ℕ) (bs : List Block) → lo ≤ hi → IsOrderedFrom hi bs → IsOrderedFrom lo bs
 ordered_weaken lo hi [] p s = tt

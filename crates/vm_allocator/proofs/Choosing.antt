@@ -1,11 +1,10 @@
 -- From the first or the last fit of a tree to the answer of a request.
-use Rattle.std.proofs.Common.{◌≡◌, ℕ, ◌+◌, ◌-◌, ◌<◌, ◌≤◌, List, ◌∷◌, ◌++◌, refl, sym, arith, inl, inr, ⊎_elim, subst, Result, Ok, Err}
+use Rattle.std.proofs.Common.{◌≡◌, ℕ, ◌+◌, ◌-◌, ◌<◌, List, refl, sym, arith, inl, inr, ⊎_elim, subst, Result, Ok, Err}
 use Rattle.std.specs.List.{All}
 use Rattle.vm_allocator.specs.Range.{Range, MAX, span}
 use Rattle.vm_allocator.specs.Block.{Block}
-use Rattle.vm_allocator.specs.Address.{AddressState, IsLeastPlace, IsGreatestPlace}
+use Rattle.vm_allocator.specs.Address.{AddressState}
 use Rattle.vm_allocator.specs.Answer.{IsChosen, ByExactStart, ByPlace, Takes, Settles}
-use Rattle.vm_allocator.specs.Blocks.{blocks_state, TilesSpace}
 use Rattle.vm_allocator.specs.Fit.{HasNoFit, IsLeastFit, IsGreatestFit}
 use Rattle.vm_allocator.specs.BlockEdits.{free_block, IsTakenFrom, HasRoom}
 use Rattle.vm_allocator.specs.Place.{IsFirstFit, IsLastFit}

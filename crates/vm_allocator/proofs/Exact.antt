@@ -14,7 +14,7 @@ use Rattle.vm_allocator.specs.declared.error.Error.TheVariants.{Overflow, Resour
 use Rattle.vm_allocator.specs.declared.allocation_engine.NodeState.{NodeState}
 use Rattle.vm_allocator.specs.declared.allocation_engine.NodeState.TheVariants.{Free, Allocated}
 use Rattle.vm_allocator.specs.declared.constraint.AllocPolicy.TheVariants.{ExactMatch}
-use Rattle.vm_allocator.proofs.Words.{IsHeld, IsHeldAddress, contains_held, held_contains, held_address, all_miss, none_holds}
+use Rattle.vm_allocator.proofs.Words.{IsHeld, contains_held, held_contains, held_address, all_miss, none_holds}
 use Rattle.vm_allocator.proofs.Runs.{InFreeBlock, free_is_clear, in_free_block, state_cases, held_within, tiles_end}
 use Rattle.vm_allocator.proofs.Unique.{held_of-free, held_of-held, same_range}
 use Rattle.vm_allocator.proofs.Carve.{starts_after}

@@ -1,16 +1,15 @@
 -- From the block with a named start to the answer of a request.
-use Rattle.std.proofs.Common.{◌≡◌, ℕ, ◌+◌, ◌-◌, ◌%◌, ◌<◌, ◌≤◌, List, ◌∷◌, ◌++◌, Option, Some, None, refl, sym, ap, ◌∙◌, arith, inl, inr, ⊎_elim, subst, Result, Ok, Err}
-use Rattle.vm_allocator.specs.Range.{Range, MAX, IsIn, span}
+use Rattle.std.proofs.Common.{◌≡◌, ℕ, ◌+◌, ◌-◌, ◌%◌, ◌<◌, ◌≤◌, ◌∷◌, ◌++◌, Some, None, refl, sym, ap, ◌∙◌, arith, inl, inr, ⊎_elim, subst, Result, Ok, Err}
+use Rattle.vm_allocator.specs.Range.{Range, MAX, span}
 use Rattle.vm_allocator.specs.Block.{Block}
 use Rattle.vm_allocator.specs.Address.{AddressState}
 use Rattle.vm_allocator.specs.Request.{Request, IsRequest, IsStartAligned}
 use Rattle.vm_allocator.specs.Answer.{Takes, Settles}
-use Rattle.vm_allocator.specs.Blocks.{blocks_state}
-use Rattle.vm_allocator.specs.BlockEdits.{free_block, IsTakenFrom}
+use Rattle.vm_allocator.specs.BlockEdits.{free_block}
 use Rattle.vm_allocator.specs.BlockList.{find_superset}
 use Rattle.vm_allocator.specs.Shape.{Shape, blocks}
 use Rattle.vm_allocator.specs.Release.{at_address}
-use Rattle.vm_allocator.specs.SpaceTree.{space_of, tree_state, IsSpaceTree, IsChoice, IsSettledBy, Chooses, ExactIn}
+use Rattle.vm_allocator.specs.SpaceTree.{space_of, tree_state, IsSpaceTree, IsSettledBy, Chooses, ExactIn}
 use Rattle.vm_allocator.specs.declared.error.Error.{Error}
 use Rattle.vm_allocator.specs.declared.error.Error.TheVariants.{Overflow, ResourceNotAvailable, InvalidStateTransition}
 use Rattle.vm_allocator.specs.declared.allocation_engine.NodeState.{NodeState}

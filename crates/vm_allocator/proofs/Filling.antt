@@ -1,15 +1,15 @@
 -- What fills its run, and what is held, is never refused.
-use Rattle.std.proofs.Common.{◌≡◌, ℕ, ◌+◌, ◌-◌, ◌<◌, ◌≤◌, arith, refl, ⊎_elim, subst, Result, Ok, Err, IsOk}
+use Rattle.std.proofs.Common.{◌≡◌, ℕ, ◌+◌, ◌-◌, ◌<◌, arith, refl, ⊎_elim, subst, Result, Err, IsOk}
 use Rattle.std.specs.List.{Contains}
 use Rattle.vm_allocator.specs.Cases.{IfElse, Unless}
-use Rattle.vm_allocator.specs.Range.{Range, MAX, IsIn, span}
+use Rattle.vm_allocator.specs.Range.{Range, MAX, span}
 use Rattle.vm_allocator.specs.Address.{AddressState, AreClear, IsPlace, LeavesClear}
 use Rattle.vm_allocator.specs.Request.{IsRequest, ByConstraint, MakesConstraint}
 use Rattle.vm_allocator.specs.Answer.{IsChosen, ByExactStart, ByPlace, Takes, Settles, Allocates, FillsRun, Frees}
 use Rattle.vm_allocator.specs.declared.error.Error.{Error}
 use Rattle.vm_allocator.specs.declared.constraint.AllocPolicy.{AllocPolicy}
 use Rattle.vm_allocator.specs.declared.constraint.AllocPolicy.TheVariants.{FirstMatch, LastMatch, ExactMatch}
-use Rattle.vm_allocator.proofs.Words.{IsHeld, IsHeldAddress, held_contains, none_holds, held_address}
+use Rattle.vm_allocator.proofs.Words.{held_contains, none_holds, held_address}
 use Rattle.vm_allocator.proofs.Once.{chosen_once, chosen_place}
 
 -- the branch that is left where a condition does not hold, and where it does

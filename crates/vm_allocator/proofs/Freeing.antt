@@ -1,9 +1,9 @@
 -- The state of blocks is one of an allocator.
-use Rattle.std.proofs.Common.{◌≡◌, ℕ, ◌+◌, ◌<◌, ◌≤◌, zero, suc, List, [], ◌∷◌, ◌++◌, length, take, drop, get_or, refl, sym, ap, ◌∙◌, arith, inl, inr, ⊎_elim, subst, Ok, Err, cond, eqb, true, false}
+use Rattle.std.proofs.Common.{◌≡◌, ℕ, ◌+◌, ◌≤◌, List, [], ◌∷◌, sym, arith, ⊎_elim, subst, cond, eqb, true, false}
 use Rattle.vm_allocator.specs.Range.{Range, IsRange}
 use Rattle.vm_allocator.specs.Block.{Block}
-use Rattle.vm_allocator.specs.Address.{releasing, without_range, AreSlots, IsAddressState}
-use Rattle.vm_allocator.specs.Blocks.{Tiles, held_of, IsBlocksOf, blocks_state, TilesSpace, IsTiling, AreBelowMax}
+use Rattle.vm_allocator.specs.Address.{without_range, AreSlots, IsAddressState}
+use Rattle.vm_allocator.specs.Blocks.{Tiles, held_of, blocks_state, TilesSpace, IsTiling, AreBelowMax}
 use Rattle.vm_allocator.specs.declared.allocation_engine.NodeState.{NodeState}
 use Rattle.vm_allocator.specs.declared.allocation_engine.NodeState.TheVariants.{Free, Allocated}
 use Rattle.vm_allocator.proofs.Runs.{tiles_end, state_cases}

@@ -7,8 +7,6 @@ use Rattle.vm_allocator.specs.Address.{AddressState, without_range, releasing}
 use Rattle.vm_allocator.specs.Blocks.{NotBothFree, Tiles, range_if_held, held_of, IsBlocksOf}
 use Rattle.vm_allocator.specs.BlockEdits.{join_if, with_free, EndsHeld, IsSlot}
 use Rattle.vm_allocator.proofs.Words.{IsHeld}
-use Rattle.std.specs.List.{All}
-use Rattle.std.proofs.lemmas.List.Elements.{All-head, All-tail}
 use Rattle.vm_allocator.specs.declared.allocation_engine.NodeState.{NodeState}
 use Rattle.vm_allocator.specs.declared.allocation_engine.NodeState.TheVariants.{Free, Allocated}
 use Rattle.vm_allocator.proofs.Runs.{state_cases}

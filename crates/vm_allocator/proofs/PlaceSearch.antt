@@ -2,13 +2,12 @@
 use Rattle.std.proofs.Common.{◌≡◌, ℕ, false, Option, Some, None, MatchOption, List, [], ◌∷◌, ◌++◌, refl, sym, ap, ◌∙◌, subst, append_assoc}
 use Rattle.std.specs.List.{All}
 use Rattle.std.specs.Option.{is_some}
-use Rattle.std.proofs.lemmas.List.Elements.{All-head, All-tail, All-cons, All-nil}
+use Rattle.std.proofs.lemmas.List.Elements.{All-head, All-tail, All-cons}
 use Rattle.vm_allocator.specs.Block.{Block}
 use Rattle.vm_allocator.specs.Fit.{IsFit, HasNoFit, IsLeastFit, IsGreatestFit}
 use Rattle.vm_allocator.specs.BlockEdits.{free_block}
 use Rattle.vm_allocator.specs.Place.{IsFirstFit, IsLastFit}
 use Rattle.vm_allocator.specs.Shape.{Shape, Fork, blocks}
-use Rattle.vm_allocator.specs.declared.allocation_engine.NodeState.TheVariants.{Free}
 use Rattle.vm_allocator.specs.declared.allocation_engine.node.places.Place.{Place}
 use Rattle.vm_allocator.proofs.Unique.{same_block}
 

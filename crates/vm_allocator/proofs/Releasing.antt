@@ -1,5 +1,5 @@
 -- Giving a range of a tree back.
-use Rattle.std.proofs.Common.{◌≡◌, ℕ, ◌+◌, ◌-◌, ◌<◌, ◌≤◌, Bool, true, false, cond, eqb, ltb, List, [], ◌∷◌, ◌++◌, Option, Some, None, IsSome, refl, sym, ap, ◌∙◌, arith, inl, inr, ◌⊎◌, ⊎_elim, subst, append_assoc, append-nil, Ok, Err}
+use Rattle.std.proofs.Common.{◌≡◌, ℕ, ◌+◌, ◌-◌, ◌<◌, ◌≤◌, true, false, cond, eqb, ltb, List, [], ◌∷◌, ◌++◌, Option, Some, None, IsSome, refl, sym, ap, ◌∙◌, arith, inl, inr, ⊎_elim, subst, append_assoc, append-nil, Ok, Err}
 use Rattle.std.specs.List.{Contains}
 use Rattle.std.proofs.lemmas.Bool.{eq-eqb, eqb-true, ltb-false, false_from_ne_true}
 use Rattle.std.proofs.Math.Nat.{pos_of_ne-zero}
@@ -7,16 +7,16 @@ use Rattle.std.specs.Global.{Box}
 use Rattle.vm_allocator.specs.Range.{Range, MAX, IsRange, IsIn}
 use Rattle.vm_allocator.specs.RangeOrder.{same_range, covers}
 use Rattle.vm_allocator.specs.Block.{Block}
-use Rattle.vm_allocator.specs.Address.{AddressState, releasing}
+use Rattle.vm_allocator.specs.Address.{releasing}
 use Rattle.vm_allocator.specs.Answer.{Frees}
-use Rattle.vm_allocator.specs.Blocks.{NotBothFree, Tiles, TilesSpace, IsTiling, IsBlocksOf, held_of, range_if_held, blocks_state, AreBelowMax}
+use Rattle.vm_allocator.specs.Blocks.{NotBothFree, Tiles, TilesSpace, IsBlocksOf, held_of, blocks_state, AreBelowMax}
 use Rattle.vm_allocator.specs.BlockEdits.{free_block, join_if, with_free, EndsHeld}
 use Rattle.vm_allocator.specs.BlockList.{IsOrderedFrom, replace_block, find_key, find_superset}
-use Rattle.vm_allocator.specs.Shape.{Shape, Tip, Fork, blocks, height_of}
+use Rattle.vm_allocator.specs.Shape.{Shape, blocks, height_of}
 use Rattle.vm_allocator.specs.NodeFields.{side}
 use Rattle.vm_allocator.specs.declared.allocation_engine.node.InnerNode.{InnerNode}
 use Rattle.vm_allocator.specs.SpaceTree.{space_of, tree_state, IsSpaceTree}
-use Rattle.vm_allocator.specs.Release.{held_block, HasSlot, HasNoSlot, key_if_free, free_key, free_if, start_with, end_with, joined, IsAround, without_if, rejoined, at_address, free_before, free_after}
+use Rattle.vm_allocator.specs.Release.{held_block, HasSlot, HasNoSlot, key_if_free, free_key, free_if, end_with, joined, IsAround, without_if, rejoined, at_address, free_before, free_after}
 use Rattle.vm_allocator.specs.declared.error.Error.TheVariants.{ResourceNotAvailable}
 use Rattle.vm_allocator.specs.declared.allocation_engine.NodeState.{NodeState}
 use Rattle.vm_allocator.specs.declared.allocation_engine.NodeState.TheVariants.{Free, Allocated}
@@ -27,7 +27,6 @@ use Rattle.vm_allocator.proofs.Carve.{starts_after}
 use Rattle.vm_allocator.proofs.Join.{blocks_freed, blocks_freed_before}
 use Rattle.vm_allocator.proofs.Taking.{as_blocks}
 use Rattle.vm_allocator.proofs.Freeing.{below_without}
-use Rattle.vm_allocator.proofs.Exact.{in_space}
 use Rattle.vm_allocator.proofs.TreeEdits.{find_cut, covers_in, in_covers, ranges_if, tiles_ordered, ordered_without}
 use Rattle.vm_allocator.proofs.Replacement.{replace_middle, find_middle, same_range_self}
 use Rattle.vm_allocator.proofs.SpaceTrees.{space_tiled, space_tree}

@@ -1,15 +1,15 @@
 -- Trees whose blocks are those of a space.
-use Rattle.std.proofs.Common.{◌≡◌, ℕ, ◌+◌, ◌-◌, ◌*◌, ◌^◌, ◌<◌, ◌≤◌, List, [], ◌∷◌, ◌++◌, refl, sym, ap, ◌∙◌, arith, subst, Option, Some, None, IsSome}
+use Rattle.std.proofs.Common.{◌≡◌, ℕ, ◌+◌, ◌*◌, ◌≤◌, List, [], ◌∷◌, refl, sym, arith, subst, Option, Some, None, IsSome}
 use Rattle.std.specs.Global.{Box}
 use Rattle.vm_allocator.specs.Range.{Range, MAX, IsRange}
 use Rattle.vm_allocator.specs.Block.{Block}
-use Rattle.vm_allocator.specs.Blocks.{Tiles, TilesSpace, IsTiling, held_of}
-use Rattle.vm_allocator.specs.Shape.{Shape, Tip, Fork, blocks, height_of, node_count, single}
+use Rattle.vm_allocator.specs.Blocks.{Tiles, TilesSpace, IsTiling}
+use Rattle.vm_allocator.specs.Shape.{Shape, Tip, blocks, height_of, node_count, single}
 use Rattle.vm_allocator.specs.NodeFields.{side}
 use Rattle.vm_allocator.specs.declared.allocation_engine.node.InnerNode.{InnerNode}
 use Rattle.vm_allocator.specs.SpaceTree.{last_end, space_of, IsSpaceTree}
 use Rattle.vm_allocator.specs.declared.allocation_engine.NodeState.{NodeState}
-use Rattle.vm_allocator.specs.declared.allocation_engine.NodeState.TheVariants.{Free, Allocated}
+use Rattle.vm_allocator.specs.declared.allocation_engine.NodeState.TheVariants.{Free}
 use Rattle.vm_allocator.proofs.Unique.{same_range}
 use Rattle.vm_allocator.proofs.FewestNodes.{most_nodes, power_grows}
 

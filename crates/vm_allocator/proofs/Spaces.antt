@@ -1,6 +1,5 @@
 -- No call of an allocator changes the space.
-use Rattle.std.proofs.Common.{◌≡◌, ℕ, ap, ◌∙◌, ⊎_elim, ◌⊎◌, Result, Ok, Err, []}
-use Rattle.vm_allocator.specs.Cases.{IfElse, Unless}
+use Rattle.std.proofs.Common.{◌≡◌, ℕ, ap, ◌∙◌, ⊎_elim, ◌⊎◌, Result, Err, []}
 use Rattle.vm_allocator.specs.Range.{Range, span}
 use Rattle.vm_allocator.specs.Address.{AddressState}
 use Rattle.vm_allocator.specs.Answer.{ByExactStart, ByPlace, Takes, Settles, Frees}

@@ -1,23 +1,13 @@
 -- What taking a range from a block comes to, for the blocks and for the state.
-use Rattle.std.proofs.Common.{◌≡◌, ℕ, ◌+◌, ◌-◌, ◌<◌, ◌≤◌, List, [], ◌∷◌, ◌++◌, length, take, drop, get_or, refl, sym, ap, ◌∙◌, arith, inl, inr, ⊎_elim, subst, Result, Ok, Err, OnErr, cond, ltb, true, false}
-use Rattle.std.specs.List.{All, HoldsAt}
-use Rattle.std.proofs.lemmas.List.{drop_more, take-append-drop}
-use Rattle.std.proofs.lemmas.List.Elements.{at_read}
-use Rattle.vm_allocator.specs.Range.{Range, MAX, span}
+use Rattle.std.proofs.Common.{◌≡◌, ℕ, ◌+◌, ◌-◌, ◌<◌, ◌≤◌, List, [], ◌∷◌, ◌++◌, refl, sym, arith, inl, inr, ⊎_elim, subst, cond, ltb, true, false}
+use Rattle.vm_allocator.specs.Range.{Range, MAX}
 use Rattle.vm_allocator.specs.Block.{Block}
 use Rattle.vm_allocator.specs.Address.{LeavesClear, with_range}
-use Rattle.vm_allocator.specs.Answer.{IsChosen, ByExactStart, ByPlace, Takes, Settles}
-use Rattle.vm_allocator.specs.Blocks.{held_of, IsBlocksOf, blocks_state, TilesSpace, IsTiling, AreBelowMax}
+use Rattle.vm_allocator.specs.Blocks.{held_of, IsBlocksOf, blocks_state, TilesSpace, AreBelowMax}
 use Rattle.vm_allocator.specs.BlockEdits.{IsTakenFrom, LeavesPart}
 use Rattle.vm_allocator.proofs.Words.{all_miss}
-use Rattle.vm_allocator.specs.declared.error.Error.{Error}
-use Rattle.vm_allocator.specs.declared.error.Error.TheVariants.{Overflow, OutOfMemory, ResourceNotAvailable}
 use Rattle.vm_allocator.specs.declared.allocation_engine.NodeState.TheVariants.{Free, Allocated}
-use Rattle.vm_allocator.specs.declared.constraint.AllocPolicy.{AllocPolicy}
-use Rattle.vm_allocator.specs.declared.constraint.AllocPolicy.TheVariants.{FirstMatch}
 use Rattle.vm_allocator.proofs.Runs.{InFreeBlock, free_is_clear}
-use Rattle.vm_allocator.proofs.Places.{least_place, no_place}
-use Rattle.vm_allocator.proofs.Carve.{blocks_carved}
 
 pub in_block : (xs ys : List Block) (b : Block) (s e : ℕ) → b.state ≡ Free → b.key.start ≤ s → e ≤ b.key.end → InFreeBlock (xs ++ b ∷ ys) s e
 in_block [] ys b s e f l m = inl (f, l, m)

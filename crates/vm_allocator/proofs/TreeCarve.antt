@@ -1,22 +1,19 @@
 -- A range taken from within a free block of a tree.
-use Rattle.std.proofs.Common.{◌≡◌, ℕ, ◌+◌, ◌-◌, ◌<◌, ◌≤◌, Bool, true, false, cond, ltb, suc, List, [], ◌∷◌, ◌++◌, length, refl, sym, ap, ◌∙◌, arith, inl, inr, ◌⊎◌, ⊎_elim, subst, append_assoc, Result, Ok, Err, Option, Some, None, IsSome}
+use Rattle.std.proofs.Common.{◌≡◌, ℕ, ◌+◌, ◌-◌, ◌<◌, ◌≤◌, Bool, true, false, cond, ltb, suc, List, [], ◌∷◌, ◌++◌, length, refl, sym, ap, ◌∙◌, arith, inl, inr, ⊎_elim, subst, append_assoc, Ok, Err, IsSome}
 use Rattle.std.proofs.lemmas.Bool.{cases_lt, le-ltb}
-use Rattle.vm_allocator.specs.Range.{Range, MAX, IsRange}
-use Rattle.vm_allocator.specs.RangeOrder.{same_range}
+use Rattle.vm_allocator.specs.Range.{Range}
 use Rattle.vm_allocator.specs.Block.{Block}
-use Rattle.vm_allocator.specs.Address.{AddressState, LeavesClear, with_range, holding}
-use Rattle.vm_allocator.specs.Answer.{FEWEST_TOO_DEEP, IsExit, Takes}
-use Rattle.vm_allocator.specs.Blocks.{Tiles, TilesSpace, IsTiling, IsBlocksOf, held_of, blocks_state, AreBelowMax}
+use Rattle.vm_allocator.specs.Address.{LeavesClear, holding}
+use Rattle.vm_allocator.specs.Answer.{FEWEST_TOO_DEEP, Takes}
+use Rattle.vm_allocator.specs.Blocks.{Tiles, TilesSpace, IsBlocksOf, held_of, blocks_state, AreBelowMax}
 use Rattle.vm_allocator.specs.BlockEdits.{free_block, before_part, after_part, parts, IsTakenFrom, LeavesPart}
-use Rattle.vm_allocator.specs.BlockList.{IsOrderedFrom, IsClearOf, insert_block, replace_block, find_key}
+use Rattle.vm_allocator.specs.BlockList.{IsOrderedFrom, IsClearOf, replace_block, find_key}
 use Rattle.vm_allocator.specs.Shape.{Shape, blocks, height_of, node_count, single, root_block, IsTree}
 use Rattle.vm_allocator.specs.SpaceTree.{space_of, tree_state, IsSpaceTree, IsChoice, Carves, insert_all, AreClearOf}
 use Rattle.vm_allocator.specs.Release.{held_block}
 use Rattle.vm_allocator.specs.Fibonacci.{fibonacci, fibonacci_pair}
-use Rattle.vm_allocator.specs.declared.error.Error.{Error}
 use Rattle.vm_allocator.specs.declared.error.Error.TheVariants.{Overflow, OutOfMemory}
-use Rattle.vm_allocator.specs.declared.allocation_engine.NodeState.{NodeState}
-use Rattle.vm_allocator.specs.declared.allocation_engine.NodeState.TheVariants.{Free, Allocated}
+use Rattle.vm_allocator.specs.declared.allocation_engine.NodeState.TheVariants.{Allocated}
 use Rattle.vm_allocator.specs.declared.allocation_engine.interval_tree.Choice.{Choice}
 use Rattle.vm_allocator.proofs.Carve.{tiles_carved, blocks_carved}
 use Rattle.vm_allocator.proofs.Taking.{leaves_clear, as_blocks, below_with}

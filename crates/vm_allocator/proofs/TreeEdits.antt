@@ -1,16 +1,15 @@
 -- What the edits of a tree leave, seen as a list that is cut at a block.
-use Rattle.std.proofs.Common.{◌≡◌, ℕ, ◌+◌, ◌-◌, ◌<◌, ◌≤◌, Bool, true, false, cond, eqb, leb, ltb, List, [], ◌∷◌, ◌++◌, ◌&&◌, Option, Some, None, refl, sym, ap, ◌∙◌, arith, inl, inr, ⊎_elim, subst, append_assoc}
+use Rattle.std.proofs.Common.{◌≡◌, ℕ, ◌+◌, ◌<◌, ◌≤◌, true, false, cond, eqb, leb, List, [], ◌∷◌, ◌++◌, Some, None, refl, sym, ap, ◌∙◌, arith, inl, inr, subst}
 use Rattle.std.specs.List.{All}
 use Rattle.std.proofs.lemmas.List.Elements.{All-cons, All-nil}
 use Rattle.std.proofs.lemmas.Bool.{lt-ltb, le-ltb, and_parts, eqb-true, leb-true, le-leb}
 use Rattle.vm_allocator.specs.Range.{Range, IsIn}
-use Rattle.vm_allocator.specs.RangeOrder.{Apart, same_range, covers}
+use Rattle.vm_allocator.specs.RangeOrder.{same_range, covers}
 use Rattle.vm_allocator.specs.Block.{Block}
-use Rattle.vm_allocator.specs.Blocks.{Tiles, held_of}
-use Rattle.vm_allocator.specs.BlockList.{IsOrderedFrom, IsClearOf, insert_block, replace_block, find_key, find_superset}
+use Rattle.vm_allocator.specs.Blocks.{Tiles}
+use Rattle.vm_allocator.specs.BlockList.{IsOrderedFrom, IsClearOf, insert_block, find_key, find_superset}
 use Rattle.vm_allocator.specs.Release.{at_address}
 use Rattle.vm_allocator.specs.declared.allocation_engine.NodeState.{NodeState}
-use Rattle.vm_allocator.specs.declared.allocation_engine.NodeState.TheVariants.{Free, Allocated}
 use Rattle.vm_allocator.proofs.Unique.{same_range as ranges_same}
 
 -- blocks that follow one another are in order

@@ -1,14 +1,12 @@
 -- One state has one list of blocks, which is short.
-use Rattle.std.proofs.Common.{◌≡◌, ℕ, ◌+◌, ◌*◌, ◌<◌, ◌≤◌, List, [], ◌∷◌, ◌++◌, length, refl, sym, ap, ◌∙◌, arith, inl, ⊎_elim, subst}
-use Rattle.std.proofs.lemmas.Bool.{cases_order}
+use Rattle.std.proofs.Common.{◌≡◌, ℕ, ◌+◌, ◌*◌, ◌≤◌, List, [], ◌∷◌, ◌++◌, length, ap, ◌∙◌, arith, ⊎_elim}
 use Rattle.vm_allocator.specs.Range.{Range}
 use Rattle.vm_allocator.specs.Block.{Block}
 use Rattle.vm_allocator.specs.Address.{AddressState}
 use Rattle.vm_allocator.specs.Blocks.{Tiles, range_if_held, held_of, IsBlocksOf}
-use Rattle.vm_allocator.proofs.Words.{IsHeldAddress}
 use Rattle.vm_allocator.specs.declared.allocation_engine.NodeState.{NodeState}
 use Rattle.vm_allocator.specs.declared.allocation_engine.NodeState.TheVariants.{Free, Allocated}
-use Rattle.vm_allocator.proofs.Runs.{state_cases, not_both, tiles_end, held_within, next_held}
+use Rattle.vm_allocator.proofs.Runs.{state_cases, not_both}
 
 pub held_of-free : (b : Block) (bs : List Block) → b.state ≡ Free → held_of (b ∷ bs) ≡ held_of bs
 held_of-free b bs e = ap (λ (s : NodeState). range_if_held s b.key ++ held_of bs) e

@@ -1,12 +1,9 @@
 -- What is done with the list of the blocks.
-use Rattle.std.specs.Prelude.{◌≡◌, ℕ, ◌+◌, ◌-◌, ◌%◌, ◌<◌, ◌≤◌, List, [], ◌∷◌, ◌++◌, cond, nat_lt}
-use Rattle.std.specs.Prelude.{◌⊎◌, take, drop, length, slice_index_or, Result, Ok, Err}
-use Rattle.std.specs.List.{HoldsAt}
-use Rattle.vm_allocator.specs.Range.{Range, MAX, IsRange, span}
+use Rattle.std.specs.Prelude.{◌≡◌, ℕ, ◌+◌, ◌-◌, ◌<◌, ◌≤◌, List, [], ◌∷◌, ◌++◌, cond, nat_lt}
+use Rattle.std.specs.Prelude.{◌⊎◌}
+use Rattle.vm_allocator.specs.Range.{Range}
 use Rattle.vm_allocator.specs.Block.{Block}
 use Rattle.vm_allocator.specs.Blocks.{NotBothFree}
-use Rattle.vm_allocator.specs.declared.error.Error.{Error}
-use Rattle.vm_allocator.specs.declared.error.Error.TheVariants.{Overflow, OutOfMemory}
 use Rattle.vm_allocator.specs.declared.allocation_engine.NodeState.{NodeState}
 use Rattle.vm_allocator.specs.declared.allocation_engine.NodeState.TheVariants.{Free, Allocated}
 
