@@ -1,7 +1,7 @@
 //! A balanced search tree of blocks. Each function here that calls itself counts the nodes that it
 //! enters: `count` rises by one for each.
 ghost use Rattle.std.specs.Prelude.{◌≡◌, ◌+◌, ◌*◌, ◌<◌, ◌≤◌, ◌^◌, ◌++◌, [], ◌∷◌, ◌↔◌, max, Some, None, MatchOption, IsSome, IsNone, IfOk, IfErr, OnOk};
-ghost use Rattle.vm_allocator.specs.Range.{MAX, Overlaps};
+ghost use Rattle.vm_allocator.specs.Range.{MAX};
 ghost use Rattle.vm_allocator.specs.BlockList.{IsOrderedFrom, IsClearOf, insert_block, replace_block, find_key, find_superset};
 ghost use Rattle.vm_allocator.specs.Shape.{Shape, Tip, Fork, blocks, height_of, single, root_block, IsTree, DifferByAtMost, IsSameIfNot, LeavesIfAbsent, first_met};
 ghost use Rattle.vm_allocator.specs.NodeFields.{side};
