@@ -1,14 +1,17 @@
 -- Facts on the first key that a range overlaps on the way down.
-use Rattle.std.proofs.Common.{◌≡◌, ℕ, ◌+◌, ◌<◌, List, [], ◌∷◌, ◌++◌, ap, ◌∙◌, arith, Some, None, Option, inl, inr}
-use Rattle.std.proofs.lemmas.Bool.{lt-ltb, le-ltb}
-use Rattle.vm_allocator.specs.Range.{Range}
-use Rattle.vm_allocator.specs.RangeOrder.{EndsBefore, Reaches, IsInOrder}
+use Rattle.std.proofs.Common.{◌≡◌, ℕ, ◌+◌, ◌<◌, ◌≤◌, List, [], ◌∷◌, ◌++◌, ap, ◌∙◌, arith, Some, None, Option, inl, inr, ⊎_elim}
+use Rattle.std.proofs.lemmas.Bool.{lt-ltb, le-ltb, cases_lt}
+use Rattle.std.specs.Prelude.{◌↔◌}
+use Rattle.std.specs.List.{All}
+use Rattle.std.proofs.lemmas.List.Elements.{All-nil, All-cons, All-head, All-tail}
+use Rattle.vm_allocator.specs.Range.{Range, Overlaps}
+use Rattle.vm_allocator.specs.RangeOrder.{EndsBefore, Reaches, IsInOrder, Apart}
 use Rattle.vm_allocator.specs.Block.{Block}
 use Rattle.vm_allocator.specs.BlockList.{IsOrderedFrom, IsClearOf}
 use Rattle.vm_allocator.specs.Shape.{Shape, Fork, blocks, IsTree, first_met}
 use Rattle.vm_allocator.specs.NodeAnswer.{TellsOverlap}
 use Rattle.vm_allocator.proofs.BlockOrder.{ordered_middle}
-use Rattle.vm_allocator.proofs.Ranges.{meet}
+use Rattle.vm_allocator.proofs.Ranges.{meet, apart_below, apart_above}
 
 pub met_in_left : (s l : Shape) (x : Block) (r : Shape) (k : Range) → s ≡ Fork l x r → EndsBefore k x.key → first_met k s ≡ first_met k l
 unfolding EndsBefore
@@ -62,3 +65,31 @@ unfolding TellsOverlap IsClearOf
 overlaps_none k = tt
 
 pub ruleset first_meetings = (met_in_left, met_in_right, met_here, overlaps_here, overlap_by_left, overlap_by_right, overlaps_none)
+
+apart_if : (k m : Range) → k.start ≤ k.end → m.start ≤ m.end → ¬ Overlaps k m → Apart k m
+apart_if k m p q n =
+    ⊎_elim
+    (λ (c : k.end < m.start). inl c)
+    (λ (c : m.start ≤ k.end).
+    ⊎_elim (λ (d : m.end < k.start). inr d) (λ (d : k.start ≤ m.end). absurd (n (meet k m p q d c))) (cases_lt m.end k.start))
+    (cases_lt k.end m.start)
+
+no_overlap_if : (k m : Range) → Apart k m → ¬ Overlaps k m
+no_overlap_if k m (inl a) = apart_above k m a
+no_overlap_if k m (inr a) = apart_below k m a
+
+clear_if : (lo : ℕ) (k : Range) (bs : List Block) → k.start ≤ k.end → IsOrderedFrom lo bs → All (λ b. ¬ Overlaps k b.key) bs → IsClearOf k bs
+unfolding IsClearOf
+clear_if lo k [] p o a = tt
+clear_if lo k (b ∷ bs) p o a =
+    (apart_if k b.key p o.1 (All-head (λ (b : Block). ¬ Overlaps k b.key) b bs a), clear_if (b.key.end + 1) k bs p o.2 (All-tail (λ (b : Block). ¬ Overlaps k b.key) b bs a))
+
+none_if_clear : (k : Range) (bs : List Block) → IsClearOf k bs → All (λ b. ¬ Overlaps k b.key) bs
+unfolding IsClearOf
+none_if_clear k [] c = All-nil (λ (b : Block). ¬ Overlaps k b.key)
+none_if_clear k (b ∷ bs) c = All-cons (λ (b : Block). ¬ Overlaps k b.key) b bs (no_overlap_if k b.key c.0) (none_if_clear k bs c.1)
+
+pub clear_means_no_overlap : (k : Range) (bs : List Block) → k.start ≤ k.end → IsOrderedFrom 0 bs → IsClearOf k bs ↔ All (λ b. ¬ Overlaps k b.key) bs
+clear_means_no_overlap k bs p o = (none_if_clear k bs, clear_if 0 k bs p o)
+
+pub ruleset clearness = (clear_means_no_overlap)

@@ -1,7 +1,7 @@
 //! A balanced search tree of blocks. Each function here that calls itself counts the nodes that it
 //! enters: `count` rises by one for each.
 ghost use Rattle.std.specs.Prelude.{◌≡◌, ◌+◌, ◌*◌, ◌<◌, ◌≤◌, ◌^◌, ◌++◌, [], ◌∷◌, ◌↔◌, max, Some, None, MatchOption, IsSome, IsNone, IfOk, IfErr, OnOk};
-ghost use Rattle.vm_allocator.specs.Range.{MAX, Overlaps};
+ghost use Rattle.vm_allocator.specs.Range.{MAX};
 ghost use Rattle.vm_allocator.specs.BlockList.{IsOrderedFrom, IsClearOf, insert_block, replace_block, find_key, find_superset};
 ghost use Rattle.vm_allocator.specs.Shape.{Shape, Tip, Fork, blocks, height_of, single, root_block, IsTree, DifferByAtMost, IsSameIfNot, LeavesIfAbsent, first_met};
 ghost use Rattle.vm_allocator.specs.NodeFields.{side};
@@ -302,6 +302,7 @@ impl InnerNode {
         requires height { height_of tree.value ≤ 48 }
         requires count_fits { count.old + height_of tree.value ≤ MAX }
         ensures blocks { blocks result.value ≡ insert_block (root_block leaf.value) (blocks tree.value) }
+        ensures tree { IsTree result.value }
         ensures not_lower { height_of tree.value ≤ height_of result.value }
         ensures at_most_one_higher { height_of result.value ≤ height_of tree.value + 1 }
         ensures entered { count.old + 1 ≤ count.new }
@@ -329,6 +330,7 @@ impl InnerNode {
         requires count_fits { count.old + 2 * height_of tree.value ≤ MAX }
         ensures clear { OnOk result (IsClearOf key (blocks tree.value)) }
         ensures inserted { IfOk result (λ t. blocks t.value ≡ insert_block (record { key = key; state = node_state }) (blocks tree.value)) }
+        ensures tree { IfOk result (λ t. IsTree t.value) }
         ensures not_lower { IfOk result (λ t. height_of tree.value ≤ height_of t.value) }
         ensures at_most_one_higher { IfOk result (λ t. height_of t.value ≤ height_of tree.value + 1) }
         ensures refused { IfErr result (λ r. RefusesKey key tree.value r.0) }
@@ -355,6 +357,7 @@ impl InnerNode {
     ) -> Option<Box<InnerNode>>
         requires { count.old + height_of tree.value ≤ MAX }
         ensures blocks { blocks (side result) ≡ replace_block key.now [] (blocks tree.value) }
+        ensures tree { IsTree (side result) }
         ensures unchanged { find_key key.now (blocks tree.value) ≡ None → side result ≡ tree.value }
         ensures none { IsNone result ↔ (side result ≡ Tip) }
         ensures not_higher { height_of (side result) ≤ height_of tree.value }
@@ -373,6 +376,7 @@ impl InnerNode {
     pub(crate) fn delete_root(mut tree: Box<InnerNode>, count: &mut u64) -> Option<Box<InnerNode>>
         requires { count.old + height_of tree.value ≤ MAX }
         ensures blocks { blocks (side result) ≡ replace_block (root_block tree.value).key [] (blocks tree.value) }
+        ensures tree { IsTree (side result) }
         ensures none { IsNone result ↔ (side result ≡ Tip) }
         ensures no_right { (left : Shape) → tree.value ≡ Fork left (root_block tree.value) Tip → side result ≡ left }
         ensures no_left { (right : Shape) → tree.value ≡ Fork Tip (root_block tree.value) right → side result ≡ right }

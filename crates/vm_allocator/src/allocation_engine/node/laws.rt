@@ -1,6 +1,10 @@
 //! Facts that follow from the definitions alone. Each function carries one in its contract, and
 //! does nothing.
-ghost use Rattle.std.specs.Prelude.{◌≡◌, ◌+◌, ◌≤◌, ◌^◌, length};
+ghost use Rattle.std.specs.Prelude.{◌≡◌, ◌+◌, ◌≤◌, ◌^◌, ◌↔◌, List, length};
+ghost use Rattle.std.specs.List.{All};
+ghost use Rattle.vm_allocator.specs.Range.{Range, Overlaps};
+ghost use Rattle.vm_allocator.specs.Block.{Block};
+ghost use Rattle.vm_allocator.specs.BlockList.{IsOrderedFrom, IsClearOf};
 ghost use Rattle.vm_allocator.specs.Shape.{Shape, blocks, height_of, node_count, IsBalanced};
 ghost use Rattle.vm_allocator.specs.Fibonacci.{fibonacci};
 
@@ -11,4 +15,10 @@ fn node_numbers()
     ensures fewest { (s : Shape) → IsBalanced s → fibonacci (height_of s + 2) ≤ node_count s + 1 }
     ensures most { (s : Shape) → node_count s + 1 ≤ 2 ^ height_of s }
     ensures blocks { (s : Shape) → node_count s ≡ length (blocks s) }
+{}
+
+/// A range that is in order is clear of blocks in order exactly where it overlaps no key of theirs.
+#[tactic(auto, using(crate::proofs::Meetings::clearness))]
+fn clear_means_no_overlap()
+    ensures { (k : Range) (bs : List Block) → k.start ≤ k.end → IsOrderedFrom 0 bs → IsClearOf k bs ↔ All (λ b. ¬ Overlaps k b.key) bs }
 {}
