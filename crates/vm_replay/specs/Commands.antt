@@ -3,9 +3,9 @@ use Rattle.std.specs.Prelude.{ℕ, if◌then◌else◌, nat_le, List, [], ◌∷
 use Rattle.std.specs.Option.{option_map}
 use Rattle.std.specs.Str.{bytes_eq}
 use Rattle.vm_replay.specs.Numbers.{number_of, id_of}
-use Rattle.vm_replay.specs.Words.{words_of, alone, one_in, two_in}
+use Rattle.vm_replay.specs.Words.{words_of, alone, one_in, two_in, three_in}
 use Rattle.vm_replay.specs.declared.command.Command.{Command}
-use Rattle.vm_replay.specs.declared.command.Command.TheVariants.{Space, First, Free, Ids, Id, Unid, Has}
+use Rattle.vm_replay.specs.declared.command.Command.TheVariants.{Space, First, Last, Exact, Free, Ids, Id, Unid, Has}
 
 -- what a line with this first word asks of the ids, where it is in the language
 abbrev pub asked_of_ids : List ℕ → List (List ℕ) → Option Command
@@ -22,6 +22,8 @@ asked [] = None
 asked (name ∷ words) =
     if bytes_eq name (codes "space") then option_map (λ p. Space p.0 p.1) (two_in number_of words)
     else if bytes_eq name (codes "first") then option_map (λ p. First p.0 p.1) (two_in number_of words)
+    else if bytes_eq name (codes "last") then option_map (λ p. Last p.0 p.1) (two_in number_of words)
+    else if bytes_eq name (codes "exact") then option_map (λ p. Exact p.0 p.1 p.2) (three_in number_of words)
     else if bytes_eq name (codes "free") then option_map (λ p. Free p.0 p.1) (two_in number_of words)
     else asked_of_ids name words
 

@@ -7,12 +7,12 @@ use Rattle.vm_allocator.specs.Address.{AddressState}
 use Rattle.vm_allocator.specs.Answer.{Allocates, Frees, Makes}
 use Rattle.vm_allocator.specs.Ids.{IdState, id_state_code, IsHeld, MakesIds, AllocatesId, FreesId}
 use Rattle.vm_allocator.specs.declared.constraint.AllocPolicy.{AllocPolicy}
-use Rattle.vm_allocator.specs.declared.constraint.AllocPolicy.TheVariants.{FirstMatch}
+use Rattle.vm_allocator.specs.declared.constraint.AllocPolicy.TheVariants.{FirstMatch, LastMatch, ExactMatch}
 use Rattle.vm_allocator.specs.declared.error.Error.{Error}
 use Rattle.vm_allocator.specs.declared.error.Error.TheVariants.{InvalidRange}
 use Rattle.vm_replay.specs.Replies.{done_or_refused, given_or_refused, id_or_refused}
 use Rattle.vm_replay.specs.declared.command.Command.{Command}
-use Rattle.vm_replay.specs.declared.command.Command.TheVariants.{Space, First, Free, Ids, Id, Unid, Has}
+use Rattle.vm_replay.specs.declared.command.Command.TheVariants.{Space, First, Last, Exact, Free, Ids, Id, Unid, Has}
 use Rattle.vm_replay.specs.declared.reply.Reply.{Reply}
 use Rattle.vm_replay.specs.declared.reply.Reply.TheVariants.{Held, NoSpace, NoIds, NotInLanguage}
 
@@ -77,6 +77,8 @@ Does old None reply new = (reply ≡ NotInLanguage) × (new ≡ old)
 Does old (Some (Space base size)) reply new =
     (answer : Result AddressState Error) × Makes base size answer × (reply ≡ done_or_refused answer) × (new ≡ with_space old answer)
 Does old (Some (First size alignment)) reply new = Places old size alignment FirstMatch reply new
+Does old (Some (Last size alignment)) reply new = Places old size alignment LastMatch reply new
+Does old (Some (Exact size alignment start)) reply new = Places old size alignment (ExactMatch start) reply new
 Does old (Some (Free start end)) reply new =
     OnSpace old reply new (λ state later.
     (answer : Result (Unit {0}) Error) × Releases state start end answer later × (reply ≡ done_or_refused answer))

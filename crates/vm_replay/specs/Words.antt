@@ -16,6 +16,12 @@ both None second = None
 both (Some first) None = None
 both (Some first) (Some second) = Some (first, second)
 
+-- three numbers, where all are there
+abbrev pub all_three : Option ℕ → Option (ℕ × ℕ) → Option (ℕ × ℕ × ℕ)
+all_three None rest = None
+all_three (Some first) None = None
+all_three (Some first) (Some rest) = Some (first, rest.0, rest.1)
+
 -- what is asked, where no word stands behind it
 abbrev pub alone : {A : Type 0} → A → List (List ℕ) → Option A
 alone asked [] = Some asked
@@ -33,3 +39,8 @@ two_in read [] = None
 two_in read (first ∷ []) = None
 two_in read (first ∷ second ∷ []) = both (read first) (read second)
 two_in read (first ∷ second ∷ third ∷ more) = None
+
+-- the numbers that the words say by this reading, where they are three
+abbrev pub three_in : (List ℕ → Option ℕ) → List (List ℕ) → Option (ℕ × ℕ × ℕ)
+three_in read [] = None
+three_in read (first ∷ words) = all_three (read first) (two_in read words)

@@ -2,25 +2,52 @@ ghost use Rattle.std.specs.Prelude.{◌≡◌, ◌≤◌, [], length, MatchOptio
 ghost use Rattle.vm_replay.specs.Commands.{command_of, asked_of_ids};
 ghost use Rattle.vm_replay.specs.Words.{words_of};
 
-use crate::words::{first_word, one_id, two_ids, two_numbers};
+use crate::words::{first_word, one_id, three_numbers, two_ids, two_numbers};
 
 /// What a line asks for.
 #[derive(Clone, Copy, Debug, PartialEq, Eq)]
 pub enum Command {
     /// An allocator for the space of `size` addresses from `base` on.
-    Space { base: u64, size: u64 },
+    Space {
+        base: u64,
+        size: u64,
+    },
     /// The first place for `size` addresses at a multiple of `alignment`.
-    First { size: u64, alignment: u64 },
+    First {
+        size: u64,
+        alignment: u64,
+    },
+    /// The last place for `size` addresses at a multiple of `alignment`.
+    Last {
+        size: u64,
+        alignment: u64,
+    },
+    /// The place of the `size` addresses from `start` on, a multiple of `alignment`.
+    Exact {
+        size: u64,
+        alignment: u64,
+        start: u64,
+    },
     /// The release of the range from `start` to `end`.
-    Free { start: u64, end: u64 },
+    Free {
+        start: u64,
+        end: u64,
+    },
     /// An allocator for the ids from `range_base` to `range_end`.
-    Ids { range_base: u32, range_end: u32 },
+    Ids {
+        range_base: u32,
+        range_end: u32,
+    },
     /// The least id that is not held.
     Id,
     /// The release of an id.
-    Unid { id: u32 },
+    Unid {
+        id: u32,
+    },
     /// Whether an id is held.
-    Has { id: u32 },
+    Has {
+        id: u32,
+    },
 }
 
 /// What a line of at most 120 bytes asks for. `None` where it is not in the language.
@@ -35,6 +62,16 @@ pub fn parse(line: &[u8]) -> Option<Command>
     } else if name == b"first".as_slice() {
         let (size, alignment) = two_numbers(rest?)?;
         Some(Command::First { size, alignment })
+    } else if name == b"last".as_slice() {
+        let (size, alignment) = two_numbers(rest?)?;
+        Some(Command::Last { size, alignment })
+    } else if name == b"exact".as_slice() {
+        let (size, alignment, start) = three_numbers(rest?)?;
+        Some(Command::Exact {
+            size,
+            alignment,
+            start,
+        })
     } else if name == b"free".as_slice() {
         let (start, end) = two_numbers(rest?)?;
         Some(Command::Free { start, end })

@@ -1,6 +1,6 @@
 ghost use Rattle.std.specs.Prelude.{◌≡◌, Some};
 ghost use Rattle.vm_allocator.specs.Allocator.{state_of};
-ghost use Rattle.vm_replay.specs.Machines.{Releases};
+ghost use Rattle.vm_replay.specs.Machines.{Places, Releases};
 
 use crate::command::Command;
 use crate::reply::Reply;
@@ -50,7 +50,17 @@ impl Machine {
         };
         match command {
             Command::Space { base, size } => self.make_space(alloc, base, size),
-            Command::First { size, alignment } => self.first(alloc, size, alignment),
+            Command::First { size, alignment } => {
+                self.place(alloc, size, alignment, AllocPolicy::FirstMatch)
+            }
+            Command::Last { size, alignment } => {
+                self.place(alloc, size, alignment, AllocPolicy::LastMatch)
+            }
+            Command::Exact {
+                size,
+                alignment,
+                start,
+            } => self.place(alloc, size, alignment, AllocPolicy::ExactMatch(start)),
             Command::Free { start, end } => self.free(start, end),
             Command::Ids {
                 range_base,
@@ -76,15 +86,15 @@ impl Machine {
         }
     }
 
-    /// Holds the `size` addresses at the first place for them.
-    #[tactic(auto, unfolding(crate::specs::Machines::Does, crate::specs::Machines::Places, crate::specs::Machines::OnSpace))]
-    fn first(&mut self, alloc: Global, size: u64, alignment: u64) -> Reply
-        ensures { Does self.old (Some (Command.First size alignment)) result self.new }
+    /// Holds the `size` addresses at the place that the policy chooses.
+    #[tactic(auto, unfolding(crate::specs::Machines::Places, crate::specs::Machines::OnSpace))]
+    fn place(&mut self, alloc: Global, size: u64, alignment: u64, policy: AllocPolicy) -> Reply
+        ensures { Places self.old size alignment policy result self.new }
     {
         let Some(space) = &mut self.space else {
             return Reply::NoSpace;
         };
-        match space.allocate(alloc, size, alignment, AllocPolicy::FirstMatch) {
+        match space.allocate(alloc, size, alignment, policy) {
             Ok(range) => Reply::Given(range),
             Err(error) => Reply::Refused(error),
         }

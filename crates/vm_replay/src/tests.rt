@@ -209,8 +209,8 @@ fn lines_that_are_not_there_yet(rt: HostRuntime) {
     expect_row(
         &rt,
         rt.alloc(),
-        b"space 16 4\nlast 1 1\nexact 1 1 16\nmanager 0 1 4096 4096\ndevice 1 1\nundevice 0\n",
-        b"done\nerror line\nerror line\nerror line\nerror line\nerror line\n",
+        b"space 16 4\nmanager 0 1 4096 4096\ndevice 1 1\nundevice 0\n",
+        b"done\nerror line\nerror line\nerror line\n",
     );
 }
 
@@ -221,6 +221,36 @@ fn refusals_in_order(rt: HostRuntime) {
         rt.alloc(),
         b"free 2 1\nfirst 0 3\nfree 2 1 0\nspace 0 0\nspace 18446744073709551615 2\nfree 16 16\nspace 16 4\nfirst 0 3\nfirst 1 3\nfirst 1 1\nfree 2 1\nfree 18446744073709551615 18446744073709551614\nfree 0 18446744073709551615\nspace 0 0\nfree 16 16\nspace 18446744073709551615 1\nfirst 1 1\nfree 16 16\n",
         b"error no-space\nerror no-space\nerror line\nerror underflow\nerror overflow\nerror no-space\ndone\nerror invalid-size 0\nerror invalid-alignment\nrange 16 16\nerror invalid-range 2 1\nerror invalid-range 18446744073709551615 18446744073709551614\nerror invalid-range 0 18446744073709551615\nerror underflow\ndone\ndone\nerror overflow\nerror not-available\n",
+    );
+}
+
+#[test]
+fn program_refusals(rt: HostRuntime) {
+    expect_row(
+        &rt,
+        rt.alloc(),
+        b"space 0 0\nspace 18446744073709551615 2\nspace 4096 4096\nfirst 0 4\nfirst 4 3\nexact 4 4 4099\nexact 256 256 4096\nexact 256 256 4096\nfree 4351 4096\nfree 4096 4350\nlast 4096 1\nlast 16 16\nfree 4096 4351\nspace 0 0\nfirst 3840 1\n",
+        b"error underflow\nerror overflow\ndone\nerror invalid-size 0\nerror invalid-alignment\nerror unaligned\nrange 4096 4351\nerror state 4096 4351\nerror invalid-range 4351 4096\nerror not-available\nerror not-available\nrange 8176 8191\ndone\nerror underflow\nrange 4096 7935\n",
+    );
+}
+
+#[test]
+fn places_of_a_start(rt: HostRuntime) {
+    expect_row(
+        &rt,
+        rt.alloc(),
+        b"space 0 10\nexact 1 1 3\nexact 1 1 5\nexact 1 1 4\nfree 3 3\nfree 5 5\nexact 2 1 3\nexact 2 1 2\nfree 2 3\nfree 4 4\nlast 10 1\n",
+        b"done\nrange 3 3\nrange 5 5\nrange 4 4\ndone\ndone\nerror not-available\nrange 2 3\ndone\ndone\nrange 0 9\n",
+    );
+}
+
+#[test]
+fn lines_of_all_policies(rt: HostRuntime) {
+    expect_row(
+        &rt,
+        rt.alloc(),
+        b"last 1 1\nexact 1 1 16\nlast 1\nlast 1 1 1\nexact 1 1\nexact 1 1 1 1\nexact\nexact 1 1 18446744073709551616\nspace 16 4\nlast 0 3\nexact 0 3 17\nexact 1 3 17\nexact 2 2 17\nexact 1 1 15\nexact 1 1 18446744073709551615\nlast 2 2\nexact 1 1 18\nexact 2 2 18\nexact 1 1 17\nlast 1 1\n",
+        b"error no-space\nerror no-space\nerror line\nerror line\nerror line\nerror line\nerror line\nerror line\ndone\nerror invalid-size 0\nerror invalid-size 0\nerror invalid-alignment\nerror unaligned\nerror not-available\nerror overflow\nrange 18 19\nerror not-available\nerror state 18 19\nrange 17 17\nrange 16 16\n",
     );
 }
 

@@ -1,6 +1,6 @@
 ghost use Rattle.std.specs.Prelude.{◌≡◌, ◌≢◌, ◌==◌, ◌∷◌, [], MatchOption, length, position};
 ghost use Rattle.vm_replay.specs.Numbers.{number_of, id_of};
-ghost use Rattle.vm_replay.specs.Words.{blank, words_of, one_in, two_in};
+ghost use Rattle.vm_replay.specs.Words.{blank, words_of, one_in, two_in, three_in};
 
 use crate::number::{parse_id, parse_number};
 
@@ -49,6 +49,15 @@ pub fn two_numbers(text: &[u8]) -> Option<(u64, u64)>
 {
     let (first, second) = two_words(text)?;
     Some((parse_number(first)?, parse_number(second)?))
+}
+
+/// The numbers that the words of a text say, where they are three.
+pub fn three_numbers(text: &[u8]) -> Option<(u64, u64, u64)>
+    ensures { result ≡ three_in number_of (words_of text.now) }
+{
+    let (first, rest) = first_word(text);
+    let (second, third) = two_numbers(rest?)?;
+    Some((parse_number(first)?, second, third))
 }
 
 /// The ids that the words of a text say, where they are two.
