@@ -496,6 +496,16 @@ fn statuses(rt: HostRuntime) {
     assert_eq!(rt; status(Err(RunError::Write)), 2);
 }
 
+/// The reply to a command, which is asked again where a request for memory was refused.
+fn ask(alloc: Global, machine: &mut Machine, command: Command) -> Reply {
+    let reply = machine.answer(alloc, Some(command));
+    if reply == Reply::Refused(Error::OutOfMemory) {
+        machine.answer(alloc, Some(command))
+    } else {
+        reply
+    }
+}
+
 #[test]
 fn a_line_refused_for_memory_is_asked_again(rt: HostRuntime) -> Result<(), Fail> {
     let mut machine = Machine::new();
@@ -516,6 +526,16 @@ fn a_line_refused_for_memory_is_asked_again(rt: HostRuntime) -> Result<(), Fail>
             Reply::Given(RangeInclusive::new(17, 19)?),
         ),
         (Command::Free { start: 16, end: 16 }, Reply::Done),
+    ] {
+        assert_eq!(rt; ask(rt.alloc(), &mut machine, command), want);
+    }
+    Ok(())
+}
+
+#[test]
+fn an_id_refused_for_memory_is_given_back_again(rt: HostRuntime) {
+    let mut machine = Machine::new();
+    for (command, want) in [
         (
             Command::Ids {
                 range_base: 5,
@@ -527,14 +547,10 @@ fn a_line_refused_for_memory_is_asked_again(rt: HostRuntime) -> Result<(), Fail>
         (Command::Id, Reply::Id(6)),
         (Command::Unid { id: 5 }, Reply::Id(5)),
         (Command::Has { id: 5 }, Reply::Held(false)),
+        (Command::Has { id: 6 }, Reply::Held(true)),
         (Command::Id, Reply::Id(5)),
         (Command::Id, Reply::Id(7)),
     ] {
-        let mut reply = machine.answer(rt.alloc(), Some(command));
-        if reply == Reply::Refused(Error::OutOfMemory) {
-            reply = machine.answer(rt.alloc(), Some(command));
-        }
-        assert_eq!(rt; reply, want);
+        assert_eq!(rt; ask(rt.alloc(), &mut machine, command), want);
     }
-    Ok(())
 }
