@@ -13,7 +13,7 @@ pub below_without : (r : Range) (hs : List Range) → AreBelowMax hs → AreBelo
 below_without r [] h = tt
 below_without r (x ∷ xs) h = elim (eqb r.start x.start) as (λ v. AreBelowMax (cond v xs (x ∷ without_range r xs))) [ true ↦ h.1 | false ↦ (h.0, below_without r xs h.1) ]
 
-slots_from : (lo m hi : ℕ) (rs : List Range) → lo ≤ m → AreSlots m rs hi → AreSlots lo rs hi
+pub slots_from : (lo m hi : ℕ) (rs : List Range) → lo ≤ m → AreSlots m rs hi → AreSlots lo rs hi
 slots_from lo m hi [] l s = tt
 slots_from lo m hi (r ∷ rs) l s = (omega (arith, s.0), s.1, s.2, s.3, s.4)
 

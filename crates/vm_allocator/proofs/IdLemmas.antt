@@ -23,7 +23,7 @@ tied_is i j e = eqb-true i j (sym (unsigned_tied i j) ∙ e)
 apart_not_tied : (i j : ℕ) → (i ≡ j → ⊥) → eq_by_cmp nat_cmp i j ≡ false
 apart_not_tied i j ne = unsigned_tied i j ∙ ne_eqb i j ne
 
-same_test : (a b : Bool) → (a ≡ true → b ≡ true) → (b ≡ true → a ≡ true) → a ≡ b
+pub same_test : (a b : Bool) → (a ≡ true → b ≡ true) → (b ≡ true → a ≡ true) → a ≡ b
 same_test true b f g = sym (f refl)
 same_test false true f g = g refl
 same_test false false f g = refl

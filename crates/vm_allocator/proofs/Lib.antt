@@ -34,3 +34,9 @@ pub mod TreeCarve
 pub mod Releasing
 pub mod Freeing
 pub mod Making
+pub mod Histories
+pub mod IdHistories
+pub mod Neighbours
+pub mod HeldSets
+pub mod Outcomes
+pub mod HistoryAnswers

@@ -8,10 +8,10 @@ use Rattle.vm_allocator.specs.BlockList.{IsOrderedFrom, replace_block, find_key}
 use Rattle.vm_allocator.specs.Shape.{Shape, Fork, blocks, IsTree, LeavesIfAbsent}
 use Rattle.vm_allocator.proofs.BlockOrder.{ordered_middle, ordered_weaken}
 
-same_range_start : (a b : Range) → (a.start ≡ b.start → ⊥) → same_range a b ≡ false
+pub same_range_start : (a b : Range) → (a.start ≡ b.start → ⊥) → same_range a b ≡ false
 same_range_start a b n = rw (ne_eqb a.start b.start n)
 
-same_range_before : (a b : Range) → Before a b ⊎ Before b a → same_range a b ≡ false
+pub same_range_before : (a b : Range) → Before a b ⊎ Before b a → same_range a b ≡ false
 unfolding Before
 same_range_before a b (inl (inl p)) = same_range_start a b (λ e. omega arith)
 same_range_before a b (inr (inl p)) = same_range_start a b (λ e. omega arith)

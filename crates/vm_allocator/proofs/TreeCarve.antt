@@ -1,14 +1,18 @@
 -- A range taken from within a free block of a tree.
-use Rattle.std.proofs.Common.{◌≡◌, ℕ, ◌+◌, ◌-◌, ◌<◌, ◌≤◌, Bool, true, false, cond, ltb, suc, List, [], ◌∷◌, ◌++◌, length, refl, sym, ap, ◌∙◌, arith, inl, inr, ⊎_elim, subst, append_assoc, Ok, Err, IsSome}
-use Rattle.std.proofs.lemmas.Bool.{cases_lt, le-ltb}
+use Rattle.std.proofs.Common.{◌≡◌, ℕ, ◌+◌, ◌-◌, ◌<◌, ◌≤◌, Bool, true, false, cond, ltb, suc, List, [], ◌∷◌, ◌++◌, length, refl, sym, ap, ◌∙◌, arith, inl, inr, ⊎_elim, subst, append_assoc, append-nil, Option, Some, None, Ok, Err, IsSome, ◌⊎◌}
+use Rattle.std.proofs.lemmas.Bool.{cases_lt, le-ltb, lt-ltb}
+use Rattle.std.specs.Global.{Box}
+use Rattle.vm_allocator.specs.RangeOrder.{Before}
+use Rattle.vm_allocator.specs.NodeFields.{side}
+use Rattle.vm_allocator.specs.declared.allocation_engine.node.InnerNode.{InnerNode}
 use Rattle.vm_allocator.specs.Range.{Range}
 use Rattle.vm_allocator.specs.Block.{Block}
 use Rattle.vm_allocator.specs.Address.{LeavesClear, holding}
 use Rattle.vm_allocator.specs.Answer.{FEWEST_TOO_DEEP, Takes}
 use Rattle.vm_allocator.specs.Blocks.{Tiles, TilesSpace, IsBlocksOf, held_of, blocks_state, AreBelowMax}
 use Rattle.vm_allocator.specs.BlockEdits.{free_block, before_part, after_part, parts, IsTakenFrom, LeavesPart}
-use Rattle.vm_allocator.specs.BlockList.{IsOrderedFrom, IsClearOf, replace_block, find_key}
-use Rattle.vm_allocator.specs.Shape.{Shape, blocks, height_of, node_count, single, root_block, IsTree}
+use Rattle.vm_allocator.specs.BlockList.{IsOrderedFrom, IsClearOf, insert_block, replace_block, find_key}
+use Rattle.vm_allocator.specs.Shape.{Shape, Fork, blocks, height_of, node_count, single, root_block, IsTree, DifferByAtMost}
 use Rattle.vm_allocator.specs.SpaceTree.{space_of, tree_state, IsSpaceTree, IsChoice, Carves, insert_all, AreClearOf}
 use Rattle.vm_allocator.specs.Release.{held_block}
 use Rattle.vm_allocator.specs.Fibonacci.{fibonacci, fibonacci_pair}
@@ -17,28 +21,89 @@ use Rattle.vm_allocator.specs.declared.allocation_engine.NodeState.TheVariants.{
 use Rattle.vm_allocator.specs.declared.allocation_engine.interval_tree.Choice.{Choice}
 use Rattle.vm_allocator.proofs.Carve.{tiles_carved, blocks_carved}
 use Rattle.vm_allocator.proofs.Taking.{leaves_clear, as_blocks, below_with}
-use Rattle.vm_allocator.proofs.Replacement.{replace_middle, find_middle}
+use Rattle.vm_allocator.proofs.BlockOrder.{ordered_front, ordered_back}
+use Rattle.vm_allocator.proofs.Rewriting.{known_left, known_right, rewritten_left, rewritten_right}
+use Rattle.vm_allocator.proofs.Replacement.{replace_middle, find_middle, replace_in_left, replace_in_right, replace_in_middle}
 use Rattle.vm_allocator.proofs.TreeEdits.{tiles_ordered, insert_between, clear_between, ordered_without}
 use Rattle.vm_allocator.proofs.Unique.{few_blocks}
 use Rattle.vm_allocator.proofs.FewestNodes.{fewest_nodes, node_count-blocks, fibonacci_grows}
 use Rattle.vm_allocator.proofs.SpaceTrees.{space_tiled, space_tree}
 
--- at most one block that stands between others
-abbrev at_most_one : Bool → Block → List Block
-at_most_one b g = cond b (g ∷ []) []
+-- blocks that go in after others, and before others
+all_last : (lo : ℕ) (xs l rest : List Block) → IsOrderedFrom lo (l ++ (xs ++ rest)) → insert_all xs l ≡ l ++ xs
+all_last lo [] l rest o = sym (append-nil l)
+all_last lo (x ∷ xs) l rest o =
+    ap (insert_block x) (all_last lo xs l rest (ordered_without lo x l (xs ++ rest) o))
+    ∙ insert_between lo x l xs (ordered_front lo (l ++ x ∷ xs) rest (subst (IsOrderedFrom lo) (sym (append_assoc l (x ∷ xs) rest)) o))
 
-one_inserted : (lo : ℕ) (b : Bool) (g : Block) (us vs : List Block) → IsOrderedFrom lo (us ++ (at_most_one b g ++ vs)) → insert_all (at_most_one b g) (us ++ vs) ≡ us ++ (at_most_one b g ++ vs)
-one_inserted lo true g us vs o = insert_between lo g us vs o
-one_inserted lo false g us vs o = refl
+all_first : (lo : ℕ) (xs r : List Block) → IsOrderedFrom lo (xs ++ r) → insert_all xs r ≡ xs ++ r
+all_first lo [] r o = refl
+all_first lo (x ∷ xs) r o = ap (insert_block x) (all_first (x.key.end + 1) xs r o.2) ∙ insert_between lo x [] (xs ++ r) o
 
-one_clear : (lo : ℕ) (b : Bool) (g : Block) (us vs : List Block) → IsOrderedFrom lo (us ++ (at_most_one b g ++ vs)) → AreClearOf (at_most_one b g) (us ++ vs)
-unfolding AreClearOf
-one_clear lo true g us vs o = (clear_between lo g us vs o, tt)
-one_clear lo false g us vs o = tt
+last_clear : (lo : ℕ) (xs l rest : List Block) → IsOrderedFrom lo (l ++ (xs ++ rest)) → AreClearOf xs l
+unfolding AreClearOf IsClearOf
+last_clear lo [] l rest o = tt
+last_clear lo (x ∷ xs) l rest o = (front_clear x.key l (xs ++ rest) (clear_between lo x l (xs ++ rest) o), last_clear lo xs l rest (ordered_without lo x l (xs ++ rest) o))
+  where
+    front_clear : (k : Range) (l r : List Block) → IsClearOf k (l ++ r) → IsClearOf k l
+    front_clear k [] r c = tt
+    front_clear k (b ∷ l) r c = (c.0, front_clear k l r c.1)
 
-one_without : (lo : ℕ) (b : Bool) (g : Block) (us vs : List Block) → IsOrderedFrom lo (us ++ (at_most_one b g ++ vs)) → IsOrderedFrom lo (us ++ vs)
-one_without lo true g us vs o = ordered_without lo g us vs o
-one_without lo false g us vs o = o
+first_clear : (lo : ℕ) (xs r : List Block) → IsOrderedFrom lo (xs ++ r) → AreClearOf xs r
+unfolding AreClearOf IsClearOf
+first_clear lo [] r o = tt
+first_clear lo (x ∷ xs) r o = (back_clear x.key xs r (clear_between lo x [] (xs ++ r) o), first_clear (x.key.end + 1) xs r o.2)
+  where
+    back_clear : (k : Range) (l r : List Block) → IsClearOf k (l ++ r) → IsClearOf k r
+    back_clear k [] r c = c
+    back_clear k (b ∷ l) r c = back_clear k l r c.1
+
+-- what becomes of the sides of a tree s whose topmost block gives way to others
+module _ (s l : Shape) (x : Block) (r : Shape) (us vs : List Block) (y : Block) (e : s ≡ Fork l x r) (t : IsTree s) (o : IsOrderedFrom 0 (replace_block x.key (us ++ y ∷ vs) (blocks s))) where
+  abbrev carved_blocks : List Block
+  carved_blocks = blocks l ++ (us ++ y ∷ (vs ++ blocks r))
+
+  here_is : replace_block x.key (us ++ y ∷ vs) (blocks s) ≡ carved_blocks
+  here_is = replace_in_middle s l x r x.key (us ++ y ∷ vs) e refl t ∙ ap (λ (v : List Block). blocks l ++ v) (append_assoc us (y ∷ vs) (blocks r))
+
+  ordered_here : IsOrderedFrom 0 carved_blocks
+  ordered_here = subst (IsOrderedFrom 0) here_is o
+
+  ordered_after : IsOrderedFrom 0 (vs ++ blocks r)
+  ordered_after = ordered_back (blocks l ++ us) y (vs ++ blocks r) (subst (IsOrderedFrom 0) (sym (append_assoc (blocks l) us (y ∷ (vs ++ blocks r)))) ordered_here)
+
+  pub before_clear : AreClearOf us (blocks l)
+  before_clear = last_clear 0 us (blocks l) (y ∷ (vs ++ blocks r)) ordered_here
+
+  pub after_clear : AreClearOf vs (blocks r)
+  after_clear = first_clear 0 vs (blocks r) ordered_after
+
+  pub carved_here : (m n : List Block) → m ≡ insert_all us (blocks l) → n ≡ insert_all vs (blocks r) → m ++ y ∷ n ≡ replace_block x.key (us ++ y ∷ vs) (blocks s)
+  carved_here m n p q =
+      ap (λ (v : List Block). v ++ y ∷ n) (p ∙ all_last 0 us (blocks l) (y ∷ (vs ++ blocks r)) ordered_here)
+      ∙ ap (λ (v : List Block). (blocks l ++ us) ++ y ∷ v) (q ∙ all_first 0 vs (blocks r) ordered_after)
+      ∙ append_assoc (blocks l) us (y ∷ (vs ++ blocks r))
+      ∙ sym here_is
+
+  pub ordered_carved : (m n : List Block) → m ≡ insert_all us (blocks l) → n ≡ insert_all vs (blocks r) → IsOrderedFrom 0 (m ++ y ∷ n)
+  ordered_carved m n p q = subst (IsOrderedFrom 0) (sym (carved_here m n p q)) o
+
+-- the tree with a new side, in which a block gave way to others
+pub tree_carved_left : (l n : Shape) (x : Block) (r : Shape) (k : Range) (ys : List Block) → Before k x.key → IsTree (Fork l x r) → IsOrderedFrom 0 (replace_block k ys (blocks (Fork l x r)))
+    → blocks n ≡ replace_block k ys (blocks l) → IsTree n → DifferByAtMost 1 (height_of n) (height_of r) → IsTree (Fork n x r)
+tree_carved_left l n x r k ys p t o e m d = record {
+  ordered = rw e (subst (IsOrderedFrom 0) (replace_in_left (Fork l x r) l x r k ys refl p t) o);
+  balanced = (m.balanced, t.balanced.1, d);
+}
+
+pub tree_carved_right : (l n : Shape) (x : Block) (r : Shape) (k : Range) (ys : List Block) → Before x.key k → IsTree (Fork l x r) → IsOrderedFrom 0 (replace_block k ys (blocks (Fork l x r)))
+    → blocks n ≡ replace_block k ys (blocks r) → IsTree n → DifferByAtMost 1 (height_of l) (height_of n) → IsTree (Fork l x n)
+tree_carved_right l n x r k ys p t o e m d = record {
+  ordered = rw e (subst (IsOrderedFrom 0) (replace_in_right (Fork l x r) l x r k ys refl p t) o);
+  balanced = (t.balanced.0, m.balanced, d);
+}
+
+pub ruleset carvings = (replace_in_left, replace_in_right, known_left, known_right, rewritten_left, rewritten_right, tree_carved_left, tree_carved_right, before_clear, after_clear, carved_here, ordered_carved)
 
 -- the blocks of a space with a free one among them, from which a range is taken
 pub record IsCut (bs : List Block) (k r : Range) : Type 0 where
@@ -47,7 +112,7 @@ pub record IsCut (bs : List Block) (k r : Range) : Type 0 where
   pub cut : bs ≡ before ++ free_block k ∷ after
   pub within : IsTakenFrom k r
   pub old : IsOrderedFrom 0 bs
-  pub ordered : IsOrderedFrom 0 (before ++ (parts k r ++ after))
+  pub new : IsOrderedFrom 0 (before ++ (parts k r ++ after))
 
 pub cut_of : (s : Shape) (choice : Choice) → IsSpaceTree s → IsChoice (blocks s) choice → IsCut (blocks s) choice.key choice.range
 unfolding TilesSpace
@@ -60,77 +125,45 @@ cut_of s choice h c =
       cut = c.cut;
       within = c.within;
       old = ordered_from 0 sp.start (blocks s) (omega arith) (tiles_ordered Allocated sp.start sp.end (blocks s) h.tiling.tiles);
-      ordered = ordered_from 0 sp.start _ (omega arith) (tiles_ordered Allocated sp.start sp.end _ (tiles_carved Allocated sp.start sp.end choice.range (free_block choice.key) c.before c.after refl c.within t));
+      new = ordered_from 0 sp.start _ (omega arith) (tiles_ordered Allocated sp.start sp.end _ (tiles_carved Allocated sp.start sp.end choice.range (free_block choice.key) c.before c.after refl c.within t));
     }
   where
     ordered_from : (lo m : ℕ) (bs : List Block) → lo ≤ m → IsOrderedFrom m bs → IsOrderedFrom lo bs
     ordered_from lo m [] p o = tt
     ordered_from lo m (b ∷ bs) p o = (omega (arith, o.0), o.1, o.2)
 
--- what stands in the place of the free block, in three steps
+-- what stands in the place of the free block
 module _ (bs : List Block) (k r : Range) (c : IsCut bs k r) where
-  abbrev front : List Block
-  front = c.before
+  old_ordered : IsOrderedFrom 0 (c.before ++ free_block k ∷ c.after)
+  old_ordered = subst (IsOrderedFrom 0) c.cut c.old
 
-  abbrev back : List Block
-  back = c.after
-
-  abbrev with_before : List Block
-  with_before = front ++ (before_part k r ++ held_block r ∷ back)
-
-  all_is : front ++ (parts k r ++ back) ≡ (front ++ (before_part k r ++ held_block r ∷ [])) ++ (after_part k r ++ back)
-  all_is =
-      ap (λ (v : List Block). front ++ v) (append_assoc (before_part k r) (held_block r ∷ after_part k r) back)
-      ∙ sym (append_assoc front (before_part k r ++ held_block r ∷ []) (after_part k r ++ back) ∙ ap (λ (v : List Block). front ++ v) (append_assoc (before_part k r) (held_block r ∷ []) (after_part k r ++ back)))
-
-  without_after : (front ++ (before_part k r ++ held_block r ∷ [])) ++ back ≡ with_before
-  without_after = append_assoc front (before_part k r ++ held_block r ∷ []) back ∙ ap (λ (v : List Block). front ++ v) (append_assoc (before_part k r) (held_block r ∷ []) back)
-
-  all_ordered : IsOrderedFrom 0 ((front ++ (before_part k r ++ held_block r ∷ [])) ++ (after_part k r ++ back))
-  all_ordered = subst (IsOrderedFrom 0) all_is c.ordered
-
-  before_ordered : IsOrderedFrom 0 with_before
-  before_ordered = subst (IsOrderedFrom 0) without_after (one_without 0 (ltb r.end k.end) (free_block (record { start = r.end + 1; end = k.end })) (front ++ (before_part k r ++ held_block r ∷ [])) back all_ordered)
-
-  held_ordered : IsOrderedFrom 0 (front ++ held_block r ∷ back)
-  held_ordered = one_without 0 (ltb k.start r.start) (free_block (record { start = k.start; end = r.start - 1 })) front (held_block r ∷ back) before_ordered
-
-  rewritten : replace_block k (held_block r ∷ []) bs ≡ front ++ held_block r ∷ back
-  rewritten = ap (replace_block k (held_block r ∷ [])) c.cut ∙ replace_middle 0 k (held_block r ∷ []) front (free_block k) back refl (subst (IsOrderedFrom 0) c.cut c.old)
+  replaced : replace_block k (parts k r) bs ≡ c.before ++ (parts k r ++ c.after)
+  replaced = ap (replace_block k (parts k r)) c.cut ∙ replace_middle 0 k (parts k r) c.before (free_block k) c.after refl old_ordered
 
   pub known : IsSome (find_key k bs)
-  known = subst (λ (v : List Block). IsSome (find_key k v)) (sym c.cut) (rw (find_middle 0 k front (free_block k) back refl (subst (IsOrderedFrom 0) c.cut c.old)) refl)
+  known = subst (λ (v : List Block). IsSome (find_key k v)) (sym c.cut) (rw (find_middle 0 k c.before (free_block k) c.after refl old_ordered) refl)
 
-  pub rewrite_ordered : IsOrderedFrom 0 (replace_block k (held_block r ∷ []) bs)
-  rewrite_ordered = subst (IsOrderedFrom 0) (sym rewritten) held_ordered
+  pub parts_ordered : (us vs : List Block) → us ≡ before_part k r → vs ≡ after_part k r → IsOrderedFrom 0 (replace_block k (us ++ held_block r ∷ vs) bs)
+  parts_ordered us vs p q = rw (p, q) (subst (IsOrderedFrom 0) (sym replaced) c.new)
 
-  pub before_clear : (news : List Block) → news ≡ replace_block k (held_block r ∷ []) bs → AreClearOf (before_part k r) news
-  before_clear news e = subst (AreClearOf (before_part k r)) (sym (e ∙ rewritten)) (one_clear 0 (ltb k.start r.start) (free_block (record { start = k.start; end = r.start - 1 })) front (held_block r ∷ back) before_ordered)
+  pub carved : (us vs news : List Block) → us ≡ before_part k r → vs ≡ after_part k r → news ≡ replace_block k (us ++ held_block r ∷ vs) bs → Carves bs k r news
+  carved us vs news p q e = record { before = c.before; after = c.after; cut = c.cut; is = e ∙ rw (p, q) replaced }
 
-  before_in : (news : List Block) → news ≡ insert_all (before_part k r) (replace_block k (held_block r ∷ []) bs) → news ≡ with_before
-  before_in news e = e ∙ ap (insert_all (before_part k r)) rewritten ∙ one_inserted 0 (ltb k.start r.start) (free_block (record { start = k.start; end = r.start - 1 })) front (held_block r ∷ back) before_ordered
+-- nothing is left beside a range that fills its block
+pub none_before : (k r : Range) → ¬ LeavesPart k r → [] ≡ before_part k r
+none_before k r n = rw (le-ltb k.start r.start (⊎_elim (λ (l : k.start < r.start). absurd (n (inl l))) (λ (l : r.start ≤ k.start). l) (cases_lt k.start r.start))) refl
 
-  pub after_clear : (news : List Block) → news ≡ insert_all (before_part k r) (replace_block k (held_block r ∷ []) bs) → AreClearOf (after_part k r) news
-  after_clear news e = subst (AreClearOf (after_part k r)) (without_after ∙ sym (before_in news e)) (one_clear 0 (ltb r.end k.end) (free_block (record { start = r.end + 1; end = k.end })) (front ++ (before_part k r ++ held_block r ∷ [])) back all_ordered)
+pub none_after : (k r : Range) → ¬ LeavesPart k r → [] ≡ after_part k r
+none_after k r n = rw (le-ltb r.end k.end (⊎_elim (λ (l : r.end < k.end). absurd (n (inr l))) (λ (l : k.end ≤ r.end). l) (cases_lt r.end k.end))) refl
 
-  pub carved : (news : List Block) → news ≡ insert_all (after_part k r) (insert_all (before_part k r) (replace_block k (held_block r ∷ []) bs)) → Carves bs k r news
-  carved news e = record {
-    before = front;
-    after = back;
-    cut = c.cut;
-    is = e ∙ ap (insert_all (after_part k r)) (before_in _ refl ∙ sym without_after) ∙ one_inserted 0 (ltb r.end k.end) (free_block (record { start = r.end + 1; end = k.end })) (front ++ (before_part k r ++ held_block r ∷ [])) back all_ordered ∙ sym all_is;
-  }
+-- and there is a leaf for what is left beside one that does not
+pub some_leaf : (k r : Range) (before after : Option (Box InnerNode)) → LeavesPart k r → blocks (side before) ≡ before_part k r → blocks (side after) ≡ after_part k r → IsSome before ⊎ IsSome after
+some_leaf k r (Some b) after l p q = inl refl
+some_leaf k r None (Some a) l p q = inr refl
+some_leaf k r None None (inl l) p q = absurd (let e = lt-ltb k.start r.start l in let bad : [] ≡ free_block (record { start = k.start; end = r.start - 1 }) ∷ [] = rw e at p in cc)
+some_leaf k r None None (inr l) p q = absurd (let e = lt-ltb r.end k.end l in let bad : [] ≡ free_block (record { start = r.end + 1; end = k.end }) ∷ [] = rw e at q in cc)
 
-  -- where nothing is left beside the range
-  pub filled : (news : List Block) → ¬ LeavesPart k r → news ≡ replace_block k (held_block r ∷ []) bs → Carves bs k r news
-  filled news n e =
-      let not_before : r.start ≤ k.start = ⊎_elim (λ (l : k.start < r.start). absurd (n (inl l))) (λ (l : r.start ≤ k.start). l) (cases_lt k.start r.start) in
-      let not_after : k.end ≤ r.end = ⊎_elim (λ (l : r.end < k.end). absurd (n (inr l))) (λ (l : k.end ≤ r.end). l) (cases_lt r.end k.end) in
-      let low = le-ltb k.start r.start (not_before) in
-      let high = le-ltb r.end k.end (not_after) in
-      record { before = front; after = back; cut = c.cut; is = e ∙ rewritten ∙ rw (low, high) refl }
-
-pub ruleset carves = (cut_of, known, rewrite_ordered, before_clear, after_clear, carved, filled)
+pub ruleset carves = (cut_of, known, parts_ordered, carved, none_before, none_after, some_leaf)
 
 -- the state after
 taken_blocks : (s n : Shape) (choice : Choice) → IsSpaceTree s → IsTakenFrom choice.key choice.range → Carves (blocks s) choice.key choice.range (blocks n) → IsBlocksOf (holding choice.range (tree_state s)) (blocks n)
@@ -186,7 +219,3 @@ unfolding AreClearOf
 leaf_clear n bs e c = let d : AreClearOf (root_block n ∷ []) bs = subst (λ (v : Shape). AreClearOf (blocks v) bs) e c in d.0
 
 pub ruleset leaves = (leaf_clear)
-
--- a leaf goes in after the block is narrowed
-pub inserted_both : (news mid bs leaf part : List Block) → news ≡ insert_all leaf mid → leaf ≡ part → mid ≡ bs → news ≡ insert_all part bs
-inserted_both news mid bs leaf part e p q = e ∙ ap (λ (v : List Block). insert_all v mid) p ∙ ap (insert_all part) q

@@ -21,3 +21,7 @@ pub mod NodeAnswer
 pub mod Fibonacci
 pub mod Ids
 pub mod IdLaws
+pub mod Histories
+pub mod HistoryLaws
+pub mod IdHistories
+pub mod IdHistoryLaws

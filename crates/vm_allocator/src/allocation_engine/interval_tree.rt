@@ -1,17 +1,19 @@
-ghost use Rattle.std.specs.Prelude.{◌≡◌, ℕ, ◌+◌, ◌*◌, ◌<◌, ◌≤◌, ◌++◌, ◌∷◌, [], OnErr, IfOk, IfErr, IfSome, IsSome, MatchResult, MatchBool, Some};
+ghost use Rattle.std.specs.Prelude.{◌≡◌, ℕ, ◌+◌, ◌*◌, ◌<◌, ◌≤◌, ◌++◌, ◌∷◌, [], OnErr, IfOk, IfErr, IfSome, IsSome, MatchResult, MatchBool, OnOk, Some};
 ghost use Rattle.vm_allocator.specs.Range.{MAX, IsRange};
 ghost use Rattle.vm_allocator.specs.Answer.{Takes, Settles, Frees};
 ghost use Rattle.vm_allocator.specs.BlockEdits.{free_block, IsTakenFrom, HasRoom, LeavesPart, before_part, after_part};
-ghost use Rattle.vm_allocator.specs.BlockList.{replace_block, find_superset};
+ghost use Rattle.vm_allocator.specs.BlockList.{replace_block};
 ghost use Rattle.vm_allocator.specs.Shape.{blocks, height_of, node_count, single, root_block, IsTree};
 ghost use Rattle.vm_allocator.specs.NodeFields.{side};
-ghost use Rattle.vm_allocator.specs.SpaceTree.{tree_state, IsSpaceTree, Chooses, IsChoice, EndsBelowMax, ExactIn, Carves, AreClearOf, insert_all};
-ghost use Rattle.vm_allocator.specs.Release.{HasSlot, HasNoSlot, free_key, free_before, free_after, IsAround, joined, rejoined, without_if, start_with, end_with, at_address};
+ghost use Rattle.vm_allocator.specs.SpaceTree.{tree_state, IsSpaceTree, Chooses, IsChoice, EndsBelowMax, ExactIn, Carves};
+ghost use Rattle.vm_allocator.specs.Release.{IsAround, joined, rejoined, without_if, start_with, end_with};
 ghost use Rattle.vm_allocator.specs.declared.constraint.AllocPolicy.TheVariants.{FirstMatch, LastMatch, ExactMatch};
 
 use super::NodeState;
+use super::node::carve::carve_at;
+use super::node::neighbours::Neighbours;
 use super::node::places::Place;
-use super::node::{InnerNode, delete_at, link_at};
+use super::node::{InnerNode, delete_at};
 use crate::constraint::{AllocPolicy, Constraint};
 use crate::error::{Error, Result};
 use crate::range::RangeInclusive;
@@ -177,14 +179,16 @@ impl IntervalTree {
     #[tactic(auto, using(crate::proofs::TreeCarve::takings, crate::proofs::SpaceTrees::rooted))]
     fn take(&mut self, alloc: Global, choice: Choice, count: &mut u64) -> Result<RangeInclusive>
         requires choice { IsChoice (blocks self.old) choice }
-        requires count_fits { count.old + 3 * height_of self.old + 1 ≤ MAX }
+        requires count_fits { count.old + 2 * height_of self.old ≤ MAX }
         ensures answer { Takes (tree_state self.old) choice.range result (tree_state self.new) }
         ensures unchanged { OnErr result (self.new ≡ self.old) }
         ensures entered { count.old ≤ count.new }
-        ensures steps { count.new ≤ count.old + 3 * height_of self.old + 1 }
+        ensures success { OnOk result (count.old + 1 ≤ count.new) }
+        ensures half { LeavesPart choice.key choice.range → OnOk result (2 * count.old + height_of self.old ≤ 2 * count.new) }
+        ensures steps { count.new ≤ count.old + 2 * height_of self.old }
     {
         if !leaves_part(&choice) {
-            narrow(&mut self.root, choice, count);
+            fill(&mut self.root, choice, count);
             return Ok(choice.range);
         }
         if self.height() >= TOO_HIGH {
@@ -204,11 +208,11 @@ impl IntervalTree {
         constraint: Constraint,
         count: &mut u64,
     ) -> Result<RangeInclusive>
-        requires { count.old + node_count self.old + 4 * height_of self.old + 1 ≤ MAX }
+        requires { count.old + node_count self.old + 3 * height_of self.old ≤ MAX }
         ensures answer { Settles (tree_state self.old) constraint.size constraint.align constraint.policy result (tree_state self.new) }
         ensures unchanged { OnErr result (self.new ≡ self.old) }
         ensures entered { count.old ≤ count.new }
-        ensures steps { count.new ≤ count.old + node_count self.old + 4 * height_of self.old + 1 }
+        ensures steps { count.new ≤ count.old + node_count self.old + 3 * height_of self.old }
     {
         let choice = self.choose(constraint, count)?;
         self.take(alloc, choice, count)
@@ -228,79 +232,19 @@ impl IntervalTree {
         self.allocate_counted(alloc, constraint, &mut count)
     }
 
-    /// Whether the range is exactly a held one.
-    #[tactic(auto, using(crate::proofs::Releasing::slots))]
-    fn is_slot(&self, key: &RangeInclusive, count: &mut u64) -> bool
-        requires { count.old + height_of self.now ≤ MAX }
-        ensures value { MatchBool result (HasSlot (blocks self.now) key.now) (HasNoSlot (blocks self.now) key.now) }
-        ensures entered { count.old + 1 ≤ count.new }
-        ensures steps { count.new ≤ count.old + height_of self.now }
-    {
-        let Some(node) = self.root().search(key, count) else {
-            return false;
-        };
-        match node.state() {
-            NodeState::Free => false,
-            NodeState::Allocated => true,
-        }
-    }
-
-    /// The free block with an address.
-    fn free_at(&self, address: u64, count: &mut u64) -> Option<RangeInclusive>
-        requires { count.old + height_of self.now ≤ MAX }
-        ensures value { result ≡ free_key (find_superset (at_address address) (blocks self.now)) }
-        ensures entered { count.old ≤ count.new }
-        ensures steps { count.new ≤ count.old + height_of self.now }
-    {
-        let first = RangeInclusive::between(address, address);
-        let node = self.root().search_superset(&first, count)?;
-        match node.state() {
-            NodeState::Free => Some(node.key()),
-            NodeState::Allocated => None,
-        }
-    }
-
-    /// The free block that ends right before a range.
-    fn free_before(&self, key: &RangeInclusive, count: &mut u64) -> Option<RangeInclusive>
-        requires { count.old + height_of self.now ≤ MAX }
-        ensures value { result ≡ free_before key.now (blocks self.now) }
-        ensures entered { count.old ≤ count.new }
-        ensures steps { count.new ≤ count.old + height_of self.now }
-    {
-        if key.start() == 0 {
-            return None;
-        }
-        self.free_at(key.start() - 1, count)
-    }
-
-    /// The free block that starts right after a range.
-    fn free_after(&self, key: &RangeInclusive, count: &mut u64) -> Option<RangeInclusive>
-        requires { count.old + height_of self.now ≤ MAX }
-        ensures value { result ≡ free_after key.now (blocks self.now) }
-        ensures entered { count.old ≤ count.new }
-        ensures steps { count.new ≤ count.old + height_of self.now }
-    {
-        if key.end() == u64::MAX {
-            return None;
-        }
-        self.free_at(key.end() + 1, count)
-    }
-
     /// `free`, with the nodes entered counted.
     #[tactic(auto, using(crate::proofs::Releasing::releases))]
     pub(crate) fn free_counted(&mut self, key: &RangeInclusive, count: &mut u64) -> Result<()>
-        requires { count.old + 6 * height_of self.old ≤ MAX }
+        requires { count.old + 5 * height_of self.old ≤ MAX }
         ensures answer { Frees (tree_state self.old) key.now result (tree_state self.new) }
         ensures unchanged { OnErr result (self.new ≡ self.old) }
         ensures entered { count.old + 1 ≤ count.new }
-        ensures steps { count.new ≤ count.old + 6 * height_of self.old }
+        ensures steps { count.new ≤ count.old + 5 * height_of self.old }
     {
-        if !self.is_slot(key, count) {
+        let Some(beside) = self.root().neighbours(key, None, None, count) else {
             return Err(Error::ResourceNotAvailable);
-        }
-        let before = self.free_before(key, count);
-        let after = self.free_after(key, count);
-        rejoin(&mut self.root, key, &before, &after, count);
+        };
+        rejoin(&mut self.root, key, &beside, count);
         Ok(())
     }
 
@@ -317,44 +261,38 @@ impl IntervalTree {
     }
 }
 
-/// Removes the free blocks before and after a held one, and gives the held one all their addresses,
-/// free again.
+/// Removes the free blocks beside a held one, and gives the held one all their addresses, free again.
 #[tactic(auto, using(crate::proofs::Releasing::rejoins))]
 fn rejoin(
     root: &mut Option<Box<InnerNode>>,
     key: &RangeInclusive,
-    before: &Option<RangeInclusive>,
-    after: &Option<RangeInclusive>,
+    beside: &Neighbours,
     count: &mut u64,
 )
-    requires around { IsAround (blocks (side root.old)) key.now before.now after.now }
+    requires around { IsAround (blocks (side root.old)) key.now beside.now }
     requires count_fits { count.old + 3 * height_of (side root.old) ≤ MAX }
-    ensures blocks { blocks (side root.new) ≡ rejoined key.now before.now after.now (blocks (side root.old)) }
+    ensures blocks { blocks (side root.new) ≡ rejoined key.now beside.now (blocks (side root.old)) }
     ensures height { height_of (side root.new) ≤ height_of (side root.old) }
     ensures entered { count.old ≤ count.new }
     ensures steps { count.new ≤ count.old + 3 * height_of (side root.old) }
 {
-    let range = joined(key, before, after);
-    drop_if(root, before, count);
-    drop_if(root, after, count);
+    let range = joined(key, beside);
+    drop_if(root, &beside.before, count);
+    drop_if(root, &beside.after, count);
     let Some(root) = root else { unreachable!() };
     root.rewrite(key, range, NodeState::Free, count);
 }
 
-/// A range with the ones before and after it.
-fn joined(
-    key: &RangeInclusive,
-    before: &Option<RangeInclusive>,
-    after: &Option<RangeInclusive>,
-) -> RangeInclusive
-    requires { IsRange (start_with before.now key.now) (end_with key.now after.now) }
-    ensures { result ≡ joined before.now key.now after.now }
+/// A range with the free ones beside it.
+fn joined(key: &RangeInclusive, beside: &Neighbours) -> RangeInclusive
+    requires { IsRange (start_with beside.now.before key.now) (end_with key.now beside.now.after) }
+    ensures { result ≡ joined key.now beside.now }
 {
-    let start = match before {
+    let start = match &beside.before {
         None => key.start(),
         Some(before) => before.start(),
     };
-    let end = match after {
+    let end = match &beside.after {
         None => key.end(),
         Some(after) => after.end(),
     };
@@ -424,7 +362,7 @@ fn leaf_of(alloc: Global, key: RangeInclusive) -> Result<Option<Box<InnerNode>>>
     }
 }
 
-/// Narrows the free block to the range, which is held, and links what is left beside it.
+/// Holds a range that leaves a part of its free block, for which there are leaves.
 #[tactic(auto, using(crate::proofs::TreeCarve::carves))]
 fn split(
     root: &mut Option<Box<InnerNode>>,
@@ -436,56 +374,37 @@ fn split(
     requires some { IsSome root.old }
     requires space { IsSpaceTree (side root.old) }
     requires choice { IsChoice (blocks (side root.old)) choice }
+    requires part { LeavesPart choice.key choice.range }
     requires before { blocks (side before) ≡ before_part choice.key choice.range }
     requires before_leaf { IfSome before (λ n. n.value ≡ single (root_block n.value)) }
     requires after { blocks (side after) ≡ after_part choice.key choice.range }
     requires after_leaf { IfSome after (λ n. n.value ≡ single (root_block n.value)) }
     requires height { height_of (side root.old) < 48 }
-    requires count_fits { count.old + 3 * height_of (side root.old) + 1 ≤ MAX }
+    requires count_fits { count.old + 2 * height_of (side root.old) ≤ MAX }
     ensures carves { Carves (blocks (side root.old)) choice.key choice.range (blocks (side root.new)) }
-    ensures height { height_of (side root.new) ≤ height_of (side root.old) + 2 }
+    ensures height { height_of (side root.new) ≤ height_of (side root.old) + 1 }
     ensures entered { count.old + 1 ≤ count.new }
-    ensures steps { count.new ≤ count.old + 3 * height_of (side root.old) + 1 }
+    ensures steps { count.new ≤ count.old + 2 * height_of (side root.old) }
+    ensures half { 2 * count.old + height_of (side root.old) ≤ 2 * count.new }
 {
-    narrow(root, choice, count);
-    link_if(root, before, count);
-    link_if(root, after, count);
+    carve_at(root, &choice.key, choice.range, before, after, count);
 }
 
-/// Gives the node of the free block the range, which is held.
+/// Holds a range that fills its free block.
 #[tactic(auto, using(crate::proofs::TreeCarve::carves))]
-fn narrow(root: &mut Option<Box<InnerNode>>, choice: Choice, count: &mut u64)
+fn fill(root: &mut Option<Box<InnerNode>>, choice: Choice, count: &mut u64)
     requires some { IsSome root.old }
     requires space { IsSpaceTree (side root.old) }
     requires choice { IsChoice (blocks (side root.old)) choice }
+    requires whole { ¬ LeavesPart choice.key choice.range }
     requires count_fits { count.old + height_of (side root.old) ≤ MAX }
-    ensures some { IsSome root.new }
-    ensures blocks { blocks (side root.new) ≡ replace_block choice.key (record { key = choice.range; state = NodeState.Allocated } ∷ []) (blocks (side root.old)) }
+    ensures carves { Carves (blocks (side root.old)) choice.key choice.range (blocks (side root.new)) }
     ensures height { height_of (side root.new) ≡ height_of (side root.old) }
     ensures entered { count.old + 1 ≤ count.new }
     ensures steps { count.new ≤ count.old + height_of (side root.old) }
 {
     let Some(root) = root else { unreachable!() };
     root.rewrite(&choice.key, choice.range, NodeState::Allocated, count);
-}
-
-/// Links a leaf, if there is one.
-#[tactic(auto, using(crate::proofs::TreeCarve::leaves))]
-fn link_if(root: &mut Option<Box<InnerNode>>, leaf: Option<Box<InnerNode>>, count: &mut u64)
-    requires some { IsSome root.old }
-    requires leaf { IfSome leaf (λ n. n.value ≡ single (root_block n.value)) }
-    requires clear { AreClearOf (blocks (side leaf)) (blocks (side root.old)) }
-    requires height { height_of (side root.old) ≤ 48 }
-    requires count_fits { count.old + height_of (side root.old) ≤ MAX }
-    ensures some { IsSome root.new }
-    ensures blocks { blocks (side root.new) ≡ insert_all (blocks (side leaf)) (blocks (side root.old)) }
-    ensures height { height_of (side root.new) ≤ height_of (side root.old) + 1 }
-    ensures entered { count.old ≤ count.new }
-    ensures steps { count.new ≤ count.old + height_of (side root.old) }
-{
-    if let Some(leaf) = leaf {
-        link_at(root, leaf, count);
-    }
 }
 
 /// What the block with a start says to a request from there to `last`. A held block of exactly this

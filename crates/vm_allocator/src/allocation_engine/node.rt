@@ -8,7 +8,9 @@ ghost use Rattle.vm_allocator.specs.NodeFields.{side};
 ghost use Rattle.vm_allocator.specs.NodeAnswer.{TellsOverlap, RefusesKey, Marks};
 
 mod balance;
+pub(crate) mod carve;
 mod laws;
+pub(crate) mod neighbours;
 pub(crate) mod places;
 #[cfg(test)]
 mod tests;

@@ -1,0 +1,8 @@
+use Rattle.vm_allocator.proofs.HistoryAnswers.{places_answer, refusals_change_nothing}
+use Rattle.vm_allocator.proofs.laws.histories.places_answer.Goals as goal
+
+pub returns-clause-answers : goal.returns-clause-answers
+returns-clause-answers c = places_answer
+
+pub returns-clause-refusals : goal.returns-clause-refusals
+returns-clause-refusals c = refusals_change_nothing

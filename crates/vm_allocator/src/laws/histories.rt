@@ -1,0 +1,35 @@
+//! Laws of whole runs: every list of calls of an address allocator, from a new one on.
+ghost use Rattle.vm_allocator.specs.HistoryLaws.{FirstIsLeast, LastIsGreatest, ExactIsNamed, PlacesAnswer, RefusalsChangeNothing, SlotsAreGood, StateDecides, ReleaseUndoes, OrderOfReleasesIsFree};
+
+/// Along every run `FirstMatch` gives the least place, `LastMatch` the greatest and `ExactMatch` the
+/// named one.
+fn chosen_places_are_given()
+    ensures first { FirstIsLeast }
+    ensures last { LastIsGreatest }
+    ensures exact { ExactIsNamed }
+{}
+
+/// Each request is answered by the places, and a refusal changes nothing.
+fn places_answer()
+    ensures answers { PlacesAnswer }
+    ensures refusals { RefusalsChangeNothing }
+{}
+
+/// The held ranges have no address in common, lie in the space, do not contain `u64::MAX`, and are
+/// aligned and as long as was asked.
+#[tactic(auto, using(crate::proofs::Histories::slots_good))]
+fn slots_are_good()
+    ensures { SlotsAreGood }
+{}
+
+/// The space and the held ranges alone decide what a call answers.
+#[tactic(auto, using(crate::proofs::Histories::decided))]
+fn state_decides()
+    ensures { StateDecides }
+{}
+
+/// What is given back leaves no trace, in whatever order.
+fn releases_leave_no_trace()
+    ensures undone { ReleaseUndoes }
+    ensures order { OrderOfReleasesIsFree }
+{}
