@@ -40,3 +40,4 @@ pub mod Neighbours
 pub mod HeldSets
 pub mod Outcomes
 pub mod HistoryAnswers
+pub mod Counting

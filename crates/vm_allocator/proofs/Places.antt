@@ -39,7 +39,7 @@ fit_within (x ∷ xs) ys b n a t z f = inr (fit_within xs ys b n a t z f)
 fit_here : (b : Block) (n a t : ℕ) → 0 < n → t % a ≡ 0 → (b.state ≡ Free) × (b.key.start ≤ t) × (t + n - 1 ≤ b.key.end) → IsFit n a b t
 fit_here b n a t z d f = (f.0, d, f.1, omega (arith, f.2))
 
-above : (p : NodeState) (lo hi s e : ℕ) (bs : List Block) → Tiles p lo bs hi → s ≤ e → InFreeBlock bs s e → lo ≤ s
+pub above : (p : NodeState) (lo hi s e : ℕ) (bs : List Block) → Tiles p lo bs hi → s ≤ e → InFreeBlock bs s e → lo ≤ s
 above p lo hi s e bs t l f = (free_is_clear p lo hi s e s bs t f (omega arith) l).0
 
 not_below : (p : NodeState) (lo hi n a t u : ℕ) (xs ys : List Block) (b : Block) → Tiles p lo (xs ++ b ∷ ys) hi → All (HasNoFit n a) xs → IsLeastFit n a b t → 0 < n → u % a ≡ 0 → InFreeBlock (xs ++ b ∷ ys) u (u + n - 1) → t ≤ u

@@ -25,3 +25,4 @@ pub mod Histories
 pub mod HistoryLaws
 pub mod IdHistories
 pub mod IdHistoryLaws
+pub mod Steps

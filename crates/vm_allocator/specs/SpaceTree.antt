@@ -8,12 +8,13 @@ use Rattle.vm_allocator.specs.Answer.{Takes, Settles}
 use Rattle.vm_allocator.specs.Blocks.{blocks_state, IsTiling}
 use Rattle.vm_allocator.specs.BlockEdits.{free_block, parts, IsTakenFrom}
 use Rattle.vm_allocator.specs.BlockList.{IsClearOf, insert_block}
-use Rattle.vm_allocator.specs.Shape.{Shape, blocks, height_of}
+use Rattle.vm_allocator.specs.Shape.{Shape, blocks, height_of, node_count}
 use Rattle.vm_allocator.specs.declared.error.Error.{Error}
 use Rattle.vm_allocator.specs.declared.error.Error.TheVariants.{Overflow, ResourceNotAvailable, InvalidStateTransition}
 use Rattle.vm_allocator.specs.declared.allocation_engine.NodeState.{NodeState}
 use Rattle.vm_allocator.specs.declared.allocation_engine.NodeState.TheVariants.{Free, Allocated}
 use Rattle.vm_allocator.specs.declared.constraint.AllocPolicy.{AllocPolicy}
+use Rattle.vm_allocator.specs.declared.constraint.AllocPolicy.TheVariants.{FirstMatch, LastMatch, ExactMatch}
 use Rattle.vm_allocator.specs.declared.allocation_engine.interval_tree.Choice.{Choice}
 
 -- where the last of the blocks ends
@@ -84,3 +85,9 @@ ExactIn key Allocated t last answer =
 ExactIn key Free t last answer =
     IfElse (key.end < last) (answer ≡ Err ResourceNotAvailable) (
     IfElse (last ≡ MAX) (answer ≡ Err Overflow) (answer ≡ Ok (record { key = key; range = record { start = t; end = last } })))
+
+-- the most nodes that are entered to find what a policy chooses: all, or for a named start those of one way down
+abbrev pub most_searched : AllocPolicy → Shape → ℕ
+most_searched FirstMatch s = node_count s
+most_searched LastMatch s = node_count s
+most_searched (ExactMatch t) s = height_of s

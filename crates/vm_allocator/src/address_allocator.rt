@@ -3,6 +3,8 @@ ghost use Rattle.std.specs.List.{Contains};
 ghost use Rattle.vm_allocator.specs.Address.{IsAddressState};
 ghost use Rattle.vm_allocator.specs.Answer.{Allocates, FillsRun, Frees, Makes};
 ghost use Rattle.vm_allocator.specs.Allocator.{state_of, made_state};
+ghost use Rattle.vm_allocator.specs.Shape.{height_of};
+ghost use Rattle.vm_allocator.specs.Steps.{IsAllocationCount, IsReleaseCount, IsBalancedTreeOf};
 
 use crate::allocation_engine::IntervalTree;
 use crate::constraint::{AllocPolicy, Constraint};
@@ -65,7 +67,6 @@ impl AddressAllocator {
     /// ends at `u64::MAX` is `Overflow`, also where there is another place. Only where the place
     /// leaves a part of its clear run over come `Overflow` for a tree of height 48 or more, which
     /// takes more than 6 * 10^9 held ranges, and `OutOfMemory`. A refusal changes nothing.
-    #[tactic(auto, using(crate::proofs::Answers::allocating, crate::proofs::Spaces::spaces, crate::proofs::Filling::succeeding))]
     pub fn allocate(
         &mut self,
         alloc: Global,
@@ -79,13 +80,36 @@ impl AddressAllocator {
         // What fills its clear run needs no memory, and succeeds.
         ensures filling { (s : ℕ) → FillsRun (state_of self.old) size alignment policy s → IsOk result }
     {
-        let constraint = Constraint::new(size, alignment, policy)?;
-        self.interval_tree.allocate(alloc, constraint)
+        self.allocate_counted(alloc, size, alignment, policy).0
+    }
+
+    /// Does what `allocate` does, and answers besides how many nodes of the tree it entered. With the
+    /// height h and k held ranges before, these are at most 8h + 8 for `ExactMatch` and at most
+    /// 2k + 1 + 8h + 8 for the other policies, and none where the request makes no sense; a success
+    /// enters one at least, and one that leaves a part of its clear run over h / 2 at least.
+    #[tactic(auto, using(crate::proofs::Answers::allocating, crate::proofs::Spaces::spaces, crate::proofs::Filling::succeeding, crate::proofs::Counting::allocations))]
+    pub fn allocate_counted(
+        &mut self,
+        alloc: Global,
+        size: u64,
+        alignment: u64,
+        policy: AllocPolicy,
+    ) -> (Result<RangeInclusive>, u64)
+        ensures answer { Allocates (state_of self.old) size alignment policy result.0 (state_of self.new) }
+        ensures unchanged { OnErr result.0 (self.new ≡ self.old) }
+
+        // What fills its clear run needs no memory, and succeeds.
+        ensures filling { (s : ℕ) → FillsRun (state_of self.old) size alignment policy s → IsOk result.0 }
+        ensures steps { IsAllocationCount (height_of self.old.tree) (state_of self.old) size alignment policy result.0 result.1 }
+    {
+        match Constraint::new(size, alignment, policy) {
+            Err(error) => (Err(error), 0),
+            Ok(constraint) => self.interval_tree.allocate_counted(alloc, constraint),
+        }
     }
 
     /// Gives a held range back. Any other range is `ResourceNotAvailable`, a part of a held one and
     /// a clear one among them. Takes no memory, and a refusal changes nothing.
-    #[tactic(auto, using(crate::proofs::Spaces::spaces, crate::proofs::Filling::succeeding))]
     pub fn free(&mut self, key: &RangeInclusive) -> Result<()>
         ensures answer { Frees (state_of self.old) key.now result (state_of self.new) }
         ensures unchanged { OnErr result (self.new ≡ self.old) }
@@ -93,7 +117,31 @@ impl AddressAllocator {
         // Giving back needs no memory, and succeeds.
         ensures held { Contains (state_of self.old).held key.now → IsOk result }
     {
-        self.interval_tree.free(key)
+        self.free_counted(key).0
+    }
+
+    /// Does what `free` does, and answers besides how many nodes of the tree it entered: with the
+    /// height h before at most 8h + 8, and one at least where it succeeds.
+    #[tactic(auto, using(crate::proofs::Spaces::spaces, crate::proofs::Filling::succeeding))]
+    pub fn free_counted(&mut self, key: &RangeInclusive) -> (Result<()>, u64)
+        ensures answer { Frees (state_of self.old) key.now result.0 (state_of self.new) }
+        ensures unchanged { OnErr result.0 (self.new ≡ self.old) }
+
+        // Giving back needs no memory, and succeeds.
+        ensures held { Contains (state_of self.old).held key.now → IsOk result.0 }
+        ensures steps { IsReleaseCount (height_of self.old.tree) result.0 result.1 }
+    {
+        self.interval_tree.free_counted(key)
+    }
+
+    /// How many nodes the longest way down the tree has. The tree is balanced: with k held ranges its
+    /// height h has F(h + 2) at most 2k + 2, where F is the sequence 1, 1, 2, 3, 5 of Fibonacci, and is
+    /// 49 at most.
+    pub fn height(&self) -> u64
+        ensures value { result ≡ height_of self.now.tree }
+        ensures tree { IsBalancedTreeOf (state_of self.now) self.now.tree }
+    {
+        self.interval_tree.height()
     }
 
     /// The first address of the space.

@@ -5,7 +5,8 @@ ghost use Rattle.vm_allocator.specs.BlockEdits.{free_block, IsTakenFrom, HasRoom
 ghost use Rattle.vm_allocator.specs.BlockList.{replace_block};
 ghost use Rattle.vm_allocator.specs.Shape.{blocks, height_of, node_count, single, root_block, IsTree};
 ghost use Rattle.vm_allocator.specs.NodeFields.{side};
-ghost use Rattle.vm_allocator.specs.SpaceTree.{tree_state, IsSpaceTree, Chooses, IsChoice, EndsBelowMax, ExactIn, Carves};
+ghost use Rattle.vm_allocator.specs.Steps.{IsBalancedTreeOf, IsSettlingCount, IsReleaseCount};
+ghost use Rattle.vm_allocator.specs.SpaceTree.{tree_state, IsSpaceTree, Chooses, IsChoice, EndsBelowMax, ExactIn, Carves, most_searched};
 ghost use Rattle.vm_allocator.specs.Release.{IsAround, joined, rejoined, without_if, start_with, end_with};
 ghost use Rattle.vm_allocator.specs.declared.constraint.AllocPolicy.TheVariants.{FirstMatch, LastMatch, ExactMatch};
 
@@ -156,7 +157,7 @@ impl IntervalTree {
         requires { count.old + node_count self.now + height_of self.now ≤ MAX }
         ensures answer { Chooses self.now constraint.size constraint.align constraint.policy result }
         ensures entered { count.old ≤ count.new }
-        ensures steps { count.new ≤ count.old + node_count self.now + height_of self.now }
+        ensures steps { count.new ≤ count.old + most_searched constraint.policy self.now }
     {
         match constraint.policy() {
             AllocPolicy::FirstMatch => self.choose_first(constraint, count),
@@ -170,6 +171,7 @@ impl IntervalTree {
         ensures value { result ≡ height_of self.now }
         ensures space { IsSpaceTree self.now }
         ensures tree { IsTree self.now }
+        ensures balanced { IsBalancedTreeOf (tree_state self.now) self.now }
     {
         self.root().height()
     }
@@ -200,64 +202,62 @@ impl IntervalTree {
         Ok(choice.range)
     }
 
-    /// `allocate`, with the nodes entered counted.
-    #[tactic(auto, using(crate::proofs::Choosing::settling))]
+    /// `allocate`, and how many nodes it entered.
+    #[tactic(auto, using(crate::proofs::Choosing::settling, crate::proofs::Counting::settlings))]
     pub(crate) fn allocate_counted(
         &mut self,
         alloc: Global,
         constraint: Constraint,
-        count: &mut u64,
-    ) -> Result<RangeInclusive>
-        requires { count.old + node_count self.old + 3 * height_of self.old ≤ MAX }
-        ensures answer { Settles (tree_state self.old) constraint.size constraint.align constraint.policy result (tree_state self.new) }
-        ensures unchanged { OnErr result (self.new ≡ self.old) }
-        ensures entered { count.old ≤ count.new }
-        ensures steps { count.new ≤ count.old + node_count self.old + 3 * height_of self.old }
+    ) -> (Result<RangeInclusive>, u64)
+        ensures answer { Settles (tree_state self.old) constraint.size constraint.align constraint.policy result.0 (tree_state self.new) }
+        ensures unchanged { OnErr result.0 (self.new ≡ self.old) }
+        ensures steps { IsSettlingCount (height_of self.old) (tree_state self.old) constraint.policy result.0 result.1 }
     {
-        let choice = self.choose(constraint, count)?;
-        self.take(alloc, choice, count)
+        let _ = self.height();
+        let mut count = 0;
+        match self.choose(constraint, &mut count) {
+            Err(error) => (Err(error), count),
+            Ok(choice) => {
+                let answer = self.take(alloc, choice, &mut count);
+                (answer, count)
+            }
+        }
     }
 
     /// Holds the range at the place that the policy chooses. In this order: where there is no such
     /// place `ResourceNotAvailable`, or for `ExactMatch` the first of its faults; `Overflow` where the
     /// range ends at `u64::MAX`; and where a part of its clear run is left, `Overflow` for a tree of
     /// height 48 or more, and `OutOfMemory`. A refusal changes nothing.
-    #[tactic(auto, using(crate::proofs::SpaceTrees::few_nodes))]
     pub fn allocate(&mut self, alloc: Global, constraint: Constraint) -> Result<RangeInclusive>
         ensures answer { Settles (tree_state self.old) constraint.size constraint.align constraint.policy result (tree_state self.new) }
         ensures unchanged { OnErr result (self.new ≡ self.old) }
     {
-        let _ = self.height();
-        let mut count = 0;
-        self.allocate_counted(alloc, constraint, &mut count)
+        self.allocate_counted(alloc, constraint).0
     }
 
-    /// `free`, with the nodes entered counted.
-    #[tactic(auto, using(crate::proofs::Releasing::releases))]
-    pub(crate) fn free_counted(&mut self, key: &RangeInclusive, count: &mut u64) -> Result<()>
-        requires { count.old + 5 * height_of self.old ≤ MAX }
-        ensures answer { Frees (tree_state self.old) key.now result (tree_state self.new) }
-        ensures unchanged { OnErr result (self.new ≡ self.old) }
-        ensures entered { count.old + 1 ≤ count.new }
-        ensures steps { count.new ≤ count.old + 5 * height_of self.old }
+    /// `free`, and how many nodes it entered.
+    #[tactic(auto, using(crate::proofs::Releasing::releases, crate::proofs::Counting::releasings))]
+    pub(crate) fn free_counted(&mut self, key: &RangeInclusive) -> (Result<()>, u64)
+        ensures answer { Frees (tree_state self.old) key.now result.0 (tree_state self.new) }
+        ensures unchanged { OnErr result.0 (self.new ≡ self.old) }
+        ensures steps { IsReleaseCount (height_of self.old) result.0 result.1 }
     {
-        let Some(beside) = self.root().neighbours(key, None, None, count) else {
-            return Err(Error::ResourceNotAvailable);
+        let _ = self.height();
+        let mut count = 0;
+        let Some(beside) = self.root().neighbours(key, None, None, &mut count) else {
+            return (Err(Error::ResourceNotAvailable), count);
         };
-        rejoin(&mut self.root, key, &beside, count);
-        Ok(())
+        rejoin(&mut self.root, key, &beside, &mut count);
+        (Ok(()), count)
     }
 
     /// Gives a held range back, and joins its addresses with the clear ones on both sides. Any other
     /// range is `ResourceNotAvailable`. It takes no memory, and a refusal changes nothing.
-    #[tactic(auto, using(crate::proofs::SpaceTrees::few_nodes))]
     pub fn free(&mut self, key: &RangeInclusive) -> Result<()>
         ensures answer { Frees (tree_state self.old) key.now result (tree_state self.new) }
         ensures unchanged { OnErr result (self.new ≡ self.old) }
     {
-        let _ = self.height();
-        let mut count = 0;
-        self.free_counted(key, &mut count)
+        self.free_counted(key).0
     }
 }
 

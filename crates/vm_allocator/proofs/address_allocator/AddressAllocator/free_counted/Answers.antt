@@ -1,0 +1,5 @@
+use Rattle.vm_allocator.proofs.Spaces.{frees_keeps}
+use Rattle.vm_allocator.proofs.address_allocator.AddressAllocator.free_counted.Goals as goal
+
+pub invariant_of-self : goal.invariant_of-self
+invariant_of-self c = frees_keeps _ c.self.inside.interval_tree c.free_counted.new.self c.args.key.now _ c.self.invariant c.free_counted.ensures.answer

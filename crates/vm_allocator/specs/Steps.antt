@@ -1,0 +1,49 @@
+-- How many nodes of a balanced tree a call enters.
+use Rattle.std.specs.Prelude.{◌≡◌, ℕ, ◌+◌, ◌*◌, ◌^◌, ◌<◌, ◌≤◌, Result, IfOk, IsOk, Err, length}
+use Rattle.vm_allocator.specs.Range.{Range}
+use Rattle.vm_allocator.specs.Address.{AddressState, LeavesClear}
+use Rattle.vm_allocator.specs.Blocks.{IsBlocksOf}
+use Rattle.vm_allocator.specs.Request.{MakesConstraint}
+use Rattle.vm_allocator.specs.Shape.{Shape, blocks, height_of, node_count, IsBalanced}
+use Rattle.vm_allocator.specs.Fibonacci.{fibonacci}
+use Rattle.vm_allocator.specs.declared.error.Error.{Error}
+use Rattle.vm_allocator.specs.declared.constraint.AllocPolicy.{AllocPolicy}
+use Rattle.vm_allocator.specs.declared.constraint.AllocPolicy.TheVariants.{FirstMatch, LastMatch, ExactMatch}
+
+-- A balanced tree of the blocks of the state, in order. It has at least as many nodes as a balanced tree of its height
+-- must have, and at most two for each held range and one more.
+pub record IsBalancedTreeOf (state : AddressState) (s : Shape) : Type 0 where
+  pub blocks : IsBlocksOf state (blocks s)
+  pub balanced : IsBalanced s
+  pub fewest : fibonacci (height_of s + 2) ≤ node_count s + 1
+  pub most : node_count s < 2 ^ height_of s
+  pub few : node_count s ≤ 2 * length state.held + 1
+  pub low : fibonacci (height_of s + 2) ≤ 2 * length state.held + 2
+  pub height : height_of s ≤ 49
+
+-- the most nodes that a way down and back up, with what is changed on it, may enter in a tree of height h
+abbrev pub most_on_ways : ℕ → ℕ
+most_on_ways h = 8 * h + 8
+
+-- the most that a request may enter where k ranges are held: a place is searched among all nodes, a named start on one way
+abbrev pub most_entered : AllocPolicy → ℕ → ℕ → ℕ
+most_entered FirstMatch h k = 2 * k + 1 + most_on_ways h
+most_entered LastMatch h k = 2 * k + 1 + most_on_ways h
+most_entered (ExactMatch t) h k = most_on_ways h
+
+-- the nodes that a request entered in a tree of height h: a success enters one at least, and a split half the height, as
+-- each way from the root to an absent child is that long
+pub record IsSettlingCount (h : ℕ) (old : AddressState) (policy : AllocPolicy) (answer : Result Range Error) (count : ℕ) : Type 0 where
+  pub most : count ≤ most_entered policy h (length old.held)
+  pub success : IsOk answer → 1 ≤ count
+  pub split : IfOk answer (λ r. LeavesClear old r → h ≤ 2 * count)
+
+-- the same, also where the request makes no sense: then no node is entered
+pub record IsAllocationCount (h : ℕ) (old : AddressState) (n a : ℕ) (policy : AllocPolicy) (answer : Result Range Error) (count : ℕ) : Type 0 where
+  pub settling : IsSettlingCount h old policy answer count
+  pub senseless : (e : Error) → MakesConstraint n a policy (Err e) → count ≡ 0
+
+-- the nodes that giving a range back entered
+pub record IsReleaseCount (h : ℕ) (answer : Result (Unit {0}) Error) (count : ℕ) : Type 0 where
+  pub most : count ≤ most_on_ways h
+  pub success : IsOk answer → 1 ≤ count
