@@ -1,5 +1,5 @@
 -- Whole runs of an address allocator.
-use Rattle.std.proofs.Common.{◌≡◌, ℕ, ◌+◌, ◌-◌, ◌<◌, ◌≤◌, ◌⊎◌, ◌↔◌, List, [], ◌∷◌, suc, refl, sym, ap, ◌∙◌, arith, inl, inr, ⊎_elim, subst, Result, Ok, Err}
+use Rattle.std.proofs.Common.{◌≡◌, ℕ, ◌+◌, ◌-◌, ◌<◌, ◌≤◌, ◌⊎◌, ◌↔◌, List, [], ◌∷◌, suc, refl, sym, ap, ◌∙◌, arith, inl, inr, ⊎_elim, subst, Result, Ok}
 use Rattle.std.specs.List.{Contains}
 use Rattle.vm_allocator.specs.Range.{Range, MAX, Overlaps, span}
 use Rattle.vm_allocator.specs.Address.{AddressState, IsPlace, IsAddressState, holding, releasing, with_range, without_range}

@@ -1,12 +1,11 @@
 -- A held block and the free ones beside it, in a tree.
-use Rattle.std.proofs.Common.{◌≡◌, ℕ, ◌+◌, ◌<◌, ◌≤◌, true, false, cond, List, [], ◌∷◌, ◌++◌, Option, Some, None, refl, sym, ap, ◌∙◌, arith, inl, inr}
+use Rattle.std.proofs.Common.{◌≡◌, ℕ, ◌+◌, ◌<◌, ◌≤◌, true, false, cond, List, [], ◌∷◌, ◌++◌, Option, None, refl, ap, ◌∙◌, arith, inl, inr}
 use Rattle.vm_allocator.specs.Range.{Range}
 use Rattle.vm_allocator.specs.RangeOrder.{Before, same_range}
 use Rattle.vm_allocator.specs.Block.{Block}
 use Rattle.vm_allocator.specs.BlockList.{IsOrderedFrom}
 use Rattle.vm_allocator.specs.Shape.{Shape, Fork, blocks, IsTree}
 use Rattle.vm_allocator.specs.Release.{key_if_free, last_free, first_free, if_held, neighbours}
-use Rattle.vm_allocator.specs.declared.allocation_engine.node.neighbours.Neighbours.{Neighbours}
 use Rattle.vm_allocator.proofs.BlockOrder.{ordered_middle}
 use Rattle.vm_allocator.proofs.Replacement.{same_range_start, same_range_before, same_range_self}
 

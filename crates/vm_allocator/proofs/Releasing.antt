@@ -1,10 +1,8 @@
 -- Giving a range of a tree back.
-use Rattle.std.proofs.Common.{◌≡◌, ℕ, ◌+◌, ◌-◌, ◌<◌, ◌≤◌, true, false, cond, eqb, ltb, List, [], ◌∷◌, ◌++◌, Option, Some, None, IsSome, refl, sym, ap, ◌∙◌, arith, inl, inr, ⊎_elim, subst, append_assoc, append-nil, Ok, Err}
+use Rattle.std.proofs.Common.{◌≡◌, ℕ, ◌+◌, ◌≤◌, true, false, cond, List, [], ◌∷◌, ◌++◌, Option, Some, None, IsSome, refl, sym, ap, ◌∙◌, arith, inl, inr, ⊎_elim, subst, append_assoc, append-nil, Ok, Err}
 use Rattle.std.specs.List.{Contains}
-use Rattle.std.proofs.lemmas.Bool.{eq-eqb, eqb-true, ltb-false, false_from_ne_true}
-use Rattle.std.proofs.Math.Nat.{pos_of_ne-zero}
 use Rattle.std.specs.Global.{Box}
-use Rattle.vm_allocator.specs.Range.{Range, MAX, IsRange, IsIn}
+use Rattle.vm_allocator.specs.Range.{Range, IsRange}
 use Rattle.vm_allocator.specs.RangeOrder.{same_range}
 use Rattle.vm_allocator.specs.Block.{Block}
 use Rattle.vm_allocator.specs.Address.{releasing}
@@ -24,7 +22,6 @@ use Rattle.vm_allocator.specs.declared.allocation_engine.NodeState.TheVariants.{
 use Rattle.vm_allocator.proofs.Words.{IsHeld, contains_held, held_contains}
 use Rattle.vm_allocator.proofs.Runs.{state_cases, tiles_end}
 use Rattle.vm_allocator.proofs.Unique.{held_of-free, held_of-held, same_block}
-use Rattle.vm_allocator.proofs.Carve.{starts_after}
 use Rattle.vm_allocator.proofs.Join.{blocks_freed, blocks_freed_before}
 use Rattle.vm_allocator.proofs.Taking.{as_blocks}
 use Rattle.vm_allocator.proofs.Freeing.{below_without}

@@ -1,5 +1,5 @@
 -- A range taken from within a free block of a tree.
-use Rattle.std.proofs.Common.{◌≡◌, ℕ, ◌+◌, ◌-◌, ◌<◌, ◌≤◌, Bool, true, false, cond, ltb, suc, List, [], ◌∷◌, ◌++◌, length, refl, sym, ap, ◌∙◌, arith, inl, inr, ⊎_elim, subst, append_assoc, append-nil, Option, Some, None, Ok, Err, IsSome, ◌⊎◌}
+use Rattle.std.proofs.Common.{◌≡◌, ℕ, ◌+◌, ◌-◌, ◌<◌, ◌≤◌, suc, List, [], ◌∷◌, ◌++◌, length, refl, sym, ap, ◌∙◌, arith, inl, inr, ⊎_elim, subst, append_assoc, append-nil, Option, Some, None, Ok, Err, IsSome, ◌⊎◌}
 use Rattle.std.proofs.lemmas.Bool.{cases_lt, le-ltb, lt-ltb}
 use Rattle.std.specs.Global.{Box}
 use Rattle.vm_allocator.specs.RangeOrder.{Before}
@@ -11,9 +11,9 @@ use Rattle.vm_allocator.specs.Address.{LeavesClear, holding}
 use Rattle.vm_allocator.specs.Answer.{FEWEST_TOO_DEEP, Takes}
 use Rattle.vm_allocator.specs.Blocks.{Tiles, TilesSpace, IsBlocksOf, held_of, blocks_state, AreBelowMax}
 use Rattle.vm_allocator.specs.BlockEdits.{free_block, before_part, after_part, parts, IsTakenFrom, LeavesPart}
-use Rattle.vm_allocator.specs.BlockList.{IsOrderedFrom, IsClearOf, insert_block, replace_block, find_key}
+use Rattle.vm_allocator.specs.BlockList.{IsOrderedFrom, IsClearOf, insert_block, insert_all, AreClearOf, replace_block, find_key}
 use Rattle.vm_allocator.specs.Shape.{Shape, Fork, blocks, height_of, node_count, single, root_block, IsTree, DifferByAtMost}
-use Rattle.vm_allocator.specs.SpaceTree.{space_of, tree_state, IsSpaceTree, IsChoice, Carves, insert_all, AreClearOf}
+use Rattle.vm_allocator.specs.SpaceTree.{space_of, tree_state, IsSpaceTree, IsChoice, Carves}
 use Rattle.vm_allocator.specs.Release.{held_block}
 use Rattle.vm_allocator.specs.Fibonacci.{fibonacci, fibonacci_pair}
 use Rattle.vm_allocator.specs.declared.error.Error.TheVariants.{Overflow, OutOfMemory}

@@ -1,9 +1,7 @@
 -- A held block that is given back, between what stands before and after it.
-use Rattle.std.specs.Prelude.{◌≡◌, ℕ, ◌+◌, ◌-◌, cond, List, [], ◌∷◌, ◌++◌, Option, Some, None}
-use Rattle.std.specs.List.{Contains}
-use Rattle.vm_allocator.specs.Range.{Range, MAX, IsRange}
+use Rattle.std.specs.Prelude.{◌≡◌, ℕ, cond, List, [], ◌∷◌, ◌++◌, Option, Some, None}
+use Rattle.vm_allocator.specs.Range.{Range, IsRange}
 use Rattle.vm_allocator.specs.Block.{Block}
-use Rattle.vm_allocator.specs.Blocks.{held_of}
 use Rattle.vm_allocator.specs.BlockEdits.{free_block}
 use Rattle.vm_allocator.specs.BlockList.{IsOrderedFrom, replace_block}
 use Rattle.vm_allocator.specs.RangeOrder.{same_range}

@@ -7,7 +7,6 @@ use Rattle.vm_allocator.specs.Address.{AddressState}
 use Rattle.vm_allocator.specs.Answer.{Takes, Settles}
 use Rattle.vm_allocator.specs.Blocks.{blocks_state, IsTiling}
 use Rattle.vm_allocator.specs.BlockEdits.{free_block, parts, IsTakenFrom}
-use Rattle.vm_allocator.specs.BlockList.{IsClearOf, insert_block}
 use Rattle.vm_allocator.specs.Shape.{Shape, blocks, height_of, node_count}
 use Rattle.vm_allocator.specs.declared.error.Error.{Error}
 use Rattle.vm_allocator.specs.declared.error.Error.TheVariants.{Overflow, ResourceNotAvailable, InvalidStateTransition}
@@ -59,16 +58,6 @@ unfoldable pub EndsBelowMax : Range → ℕ → ℕ → Result Choice Error → 
 EndsBelowMax key s n answer =
     ((s + n - 1 ≡ MAX) × (answer ≡ Err Overflow))
     ⊎ ((s + n - 1 < MAX) × (answer ≡ Ok (record { key = key; range = span s n })))
-
--- the blocks with some others, each in its place
-abbrev pub insert_all : List Block → List Block → List Block
-insert_all [] bs = bs
-insert_all (x ∷ xs) bs = insert_block x (insert_all xs bs)
-
--- none of some blocks overlaps any of the others
-unfoldable pub AreClearOf : List Block → List Block → Type 0
-AreClearOf [] bs = Unit {0}
-AreClearOf (x ∷ xs) bs = IsClearOf x.key bs × AreClearOf xs bs
 
 -- the range is held, and what is left of its free block stands beside it
 pub record Carves (old : List Block) (key range : Range) (new : List Block) : Type 0 where

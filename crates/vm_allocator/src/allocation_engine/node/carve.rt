@@ -1,11 +1,10 @@
 //! A range taken from a free block, in one descent.
 ghost use Rattle.std.specs.Prelude.{◌≡◌, ◌+◌, ◌*◌, ◌<◌, ◌≤◌, ◌++◌, ◌∷◌, ◌⊎◌, IfSome, IsSome};
 ghost use Rattle.vm_allocator.specs.Range.{MAX};
-ghost use Rattle.vm_allocator.specs.BlockList.{IsOrderedFrom, replace_block, find_key};
+ghost use Rattle.vm_allocator.specs.BlockList.{IsOrderedFrom, insert_all, AreClearOf, replace_block, find_key};
 ghost use Rattle.vm_allocator.specs.Release.{held_block};
 ghost use Rattle.vm_allocator.specs.Shape.{blocks, height_of, single, root_block, IsTree, IsSameIfNot};
 ghost use Rattle.vm_allocator.specs.NodeFields.{side};
-ghost use Rattle.vm_allocator.specs.SpaceTree.{insert_all, AreClearOf};
 
 use super::balance::{rebalance, refresh, strip};
 use super::{InnerNode, height, link_at};
