@@ -380,3 +380,76 @@ fn six_single_addresses(rt: HostRuntime) -> std::result::Result<(), Fail> {
     }
     Ok(())
 }
+
+#[test]
+fn height_of_one_block(rt: HostRuntime) -> std::result::Result<(), Fail> {
+    let mut space = made(rt.alloc(), 0, 0x1000)?;
+    assert_eq!(rt; space.height(), 1);
+    let (answer, count) = space.allocate_counted(rt.alloc(), 0, 1, FirstMatch);
+    assert_eq!(rt; answer, Err(Error::InvalidSize(0)));
+    assert_eq!(rt; count, 0);
+    Ok(())
+}
+
+/// The number at `n` of the sequence 0, 1, 1, 2, 3, 5, .. of Fibonacci.
+fn fibonacci(n: u64) -> u64 {
+    let mut low: u64 = 0;
+    let mut high: u64 = 1;
+    for _ in 0..n {
+        let sum = low.saturating_add(high);
+        low = high;
+        high = sum;
+    }
+    low
+}
+
+/// Whether the tree is as low as `held` ranges ask for.
+fn is_low(space: &AddressAllocator, held: u64) -> bool {
+    fibonacci(space.height().saturating_add(2)) <= held.saturating_mul(2).saturating_add(2)
+}
+
+/// The most nodes that a release may enter in a tree of a height.
+fn most_on_ways(height: u64) -> u64 {
+    height.saturating_mul(8).saturating_add(8)
+}
+
+/// The least single address, taken where `held` ranges are held, with its bounds on the nodes entered.
+fn take_first_counted(
+    rt: &(impl Abort + AllocGlobal),
+    space: &mut AddressAllocator,
+    held: u64,
+) -> Result<u64> {
+    let height = space.height();
+    let (mut answer, mut count) = space.allocate_counted(rt.alloc(), 1, 1, FirstMatch);
+    if answer == Err(Error::OutOfMemory) {
+        (answer, count) = space.allocate_counted(rt.alloc(), 1, 1, FirstMatch);
+    }
+    let blocks = held.saturating_mul(2).saturating_add(1);
+    assert!(rt; count >= 1);
+    assert!(rt; count <= blocks.saturating_add(most_on_ways(height)), "{held} held, {count} entered");
+    Ok(answer?.start())
+}
+
+#[test]
+fn balanced_and_counted(rt: HostRuntime) -> std::result::Result<(), Fail> {
+    let mut space = made(rt.alloc(), 0, 2047)?;
+    for i in 0..2047 {
+        assert_eq!(rt; take_first_counted(&rt, &mut space, i), Ok(i));
+        assert!(rt; is_low(&space, i + 1), "after {i} is taken");
+    }
+    let mut held: u64 = 2047;
+    for i in 0..1023 {
+        let address = 2 * i + 1;
+        let height = space.height();
+        let (answer, count) = space.free_counted(&RangeInclusive::new(address, address)?);
+        held = held.saturating_sub(1);
+        assert_eq!(rt; answer, Ok(()));
+        assert!(rt; count >= 1);
+        assert!(rt; count <= most_on_ways(height), "{count} entered for {address}");
+        assert!(rt; is_low(&space, held), "after {address} is given back");
+    }
+    assert_eq!(rt; held, 1024);
+    assert!(rt; space.height() <= 15);
+    assert_eq!(rt; space.interval_tree.block_count(), 2047);
+    Ok(())
+}

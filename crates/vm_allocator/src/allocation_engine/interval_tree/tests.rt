@@ -1,7 +1,7 @@
 ghost use Rattle.std.specs.Prelude.{◌≡◌, IfOk};
 
 use super::*;
-use crate::allocation_engine::node::walks::{copy, same};
+use crate::allocation_engine::node::walks::{copy, node_count, same};
 use std::alloc::AllocError;
 
 impl IntervalTree {
@@ -12,6 +12,11 @@ impl IntervalTree {
         Ok(IntervalTree {
             root: Some(copy(self.root(), alloc)?),
         })
+    }
+
+    /// How many blocks there are.
+    pub(crate) fn block_count(&self) -> u64 {
+        node_count(&self.root)
     }
 
     /// Whether two trees are equal node for node.

@@ -53,3 +53,14 @@ pub(crate) fn copy(tree: &InnerNode, alloc: Global) -> Result<Box<InnerNode>, Al
     };
     Ok(Box::new(alloc, node)?)
 }
+
+/// How many nodes there are, or `u64::MAX` where there are more.
+#[cfg(test)]
+pub(crate) fn node_count(tree: &Option<Box<InnerNode>>) -> u64 {
+    match tree {
+        None => 0,
+        Some(node) => node_count(&node.left)
+            .saturating_add(node_count(&node.right))
+            .saturating_add(1),
+    }
+}
