@@ -1,5 +1,5 @@
 -- How many nodes the calls of a tree enter.
-use Rattle.std.proofs.Common.{◌≡◌, ℕ, ◌+◌, ◌*◌, ◌<◌, ◌≤◌, List, [], ◌∷◌, ◌++◌, refl, sym, ap, subst, arith, inl, inr, ⊎_elim, Result, Ok, Err, IsOk, OnOk, IfOk, length}
+use Rattle.std.proofs.Common.{◌≡◌, ◌≢◌, ℕ, ◌+◌, ◌*◌, ◌<◌, ◌≤◌, List, [], ◌∷◌, ◌++◌, refl, sym, ap, subst, arith, inl, inr, ⊎_elim, Result, Ok, Err, IsOk, OnOk, IfOk, length}
 use Rattle.std.proofs.lemmas.Bool.{cases_lt}
 use Rattle.vm_allocator.specs.Range.{Range}
 use Rattle.vm_allocator.specs.Block.{Block}
@@ -10,8 +10,9 @@ use Rattle.vm_allocator.specs.Blocks.{Tiles, TilesSpace, held_of, blocks_state}
 use Rattle.vm_allocator.specs.BlockEdits.{free_block, IsTakenFrom, LeavesPart}
 use Rattle.vm_allocator.specs.Shape.{Shape, blocks, height_of, node_count, IsTree}
 use Rattle.vm_allocator.specs.SpaceTree.{space_of, tree_state, most_searched, IsSpaceTree, IsChoice}
-use Rattle.vm_allocator.specs.Steps.{IsBalancedTreeOf, most_entered, IsSettlingCount, IsAllocationCount, IsReleaseCount}
+use Rattle.vm_allocator.specs.Steps.{IsBalancedTreeOf, most_entered, IsSettlingCount, IsAllocationCount, IsReleaseCount, SplitsIfLow}
 use Rattle.vm_allocator.specs.declared.error.Error.{Error}
+use Rattle.vm_allocator.specs.declared.error.Error.TheVariants.{OutOfMemory}
 use Rattle.vm_allocator.specs.declared.constraint.AllocPolicy.{AllocPolicy}
 use Rattle.vm_allocator.specs.declared.constraint.AllocPolicy.TheVariants.{FirstMatch, LastMatch, ExactMatch}
 use Rattle.vm_allocator.specs.declared.allocation_engine.NodeState.{NodeState}
@@ -109,33 +110,46 @@ searched (ExactMatch t) s m h l = omega arith
 pub refused_count : (s : Shape) (policy : AllocPolicy) (e : Error) (m : ℕ) → IsSpaceTree s → m ≤ most_searched policy s → IsSettlingCount (height_of s) (tree_state s) policy (Err e) m
 refused_count s policy e m h l = record { most = searched policy s m h (omega arith); success = λ k. absurd (cc); split = tt }
 
-split_of : (s : Shape) (choice : Choice) (m c : ℕ) (answer : Result Range Error) (new : AddressState) → IsSpaceTree s → IsChoice (blocks s) choice → Takes (tree_state s) choice.range answer new → (LeavesPart choice.key choice.range → OnOk answer (2 * m + height_of s ≤ 2 * c)) → IfOk answer (λ r. LeavesClear (tree_state s) r → height_of s ≤ 2 * c)
+-- a range that leaves a clear address beside it leaves a part of its block
+given_part : (s : Shape) (choice : Choice) (r : Range) (new : AddressState) → IsSpaceTree s → IsChoice (blocks s) choice → Takes (tree_state s) choice.range (Ok r) new → LeavesClear (tree_state s) r → LeavesPart choice.key choice.range
 unfolding Takes
-split_of s choice m c (Err e) new h i t half = tt
-split_of s choice m c (Ok r) new h i t half =
-    λ left.
+given_part s choice r new h i t left =
     ⊎_elim
     (λ k.
     let same : r ≡ choice.range = cc (k.0) in
-    let part = leaves_part (space_of (blocks s)) (blocks s) i.before i.after (free_block choice.key) choice.range h.tiling.tiles i.cut refl i.within (subst (LeavesClear (tree_state s)) same left) in
-    omega (arith, half part))
+    leaves_part (space_of (blocks s)) (blocks s) i.before i.after (free_block choice.key) choice.range h.tiling.tiles i.cut refl i.within (subst (LeavesClear (tree_state s)) same left))
     (λ k. ⊎_elim (λ o. absurd (cc o)) (λ o. absurd (cc (o.1))) k.2)
     t
+
+-- what holds of a success where a part is left holds of a split
+of_splits : (P : Type 0) (s : Shape) (choice : Choice) (answer : Result Range Error) (new : AddressState) → IsSpaceTree s → IsChoice (blocks s) choice → Takes (tree_state s) choice.range answer new → (LeavesPart choice.key choice.range → OnOk answer P) → IfOk answer (λ r. LeavesClear (tree_state s) r → P)
+of_splits P s choice (Err e) new h i t f = tt
+of_splits P s choice (Ok r) new h i t f = λ left. f (given_part s choice r new h i t left)
+
+pub split_low : (s : Shape) (choice : Choice) (answer : Result Range Error) (new : AddressState) → IsSpaceTree s → IsChoice (blocks s) choice → Takes (tree_state s) choice.range answer new → (LeavesPart choice.key choice.range → OnOk answer (height_of s < 48)) → (answer ≡ Err OutOfMemory → height_of s < 48) → SplitsIfLow (height_of s) (tree_state s) answer
+split_low s choice answer new h i t low memory = record { split = of_splits (height_of s < 48) s choice answer new h i t low; memory = memory }
+
+pub refused_low : (h : ℕ) (old : AddressState) (e : Error) → e ≢ OutOfMemory → SplitsIfLow h old (Err e)
+refused_low h old e n = record { split = tt; memory = λ m. absurd (n (cc m)) }
 
 -- and one whose range is taken
 pub taken_count : (s : Shape) (policy : AllocPolicy) (choice : Choice) (m c : ℕ) (answer : Result Range Error) (new : AddressState) → IsSpaceTree s → IsChoice (blocks s) choice → Takes (tree_state s) choice.range answer new
     → m ≤ most_searched policy s → c ≤ m + 2 * height_of s → OnOk answer (m + 1 ≤ c) → (LeavesPart choice.key choice.range → OnOk answer (2 * m + height_of s ≤ 2 * c)) → IsSettlingCount (height_of s) (tree_state s) policy answer c
 taken_count s policy choice m c answer new h i t l k some half =
-    record { most = searched policy s c h (omega arith); success = one answer some; split = split_of s choice m c answer new h i t half }
+    record { most = searched policy s c h (omega arith); success = one answer some; split = of_splits (height_of s ≤ 2 * c) s choice answer new h i t (λ left. weaker answer (half left)) }
   where
     one : (answer : Result Range Error) → OnOk answer (m + 1 ≤ c) → IsOk answer → 1 ≤ c
     one (Ok r) some q = omega arith
     one (Err e) some q = absurd (cc)
 
+    weaker : (answer : Result Range Error) → OnOk answer (2 * m + height_of s ≤ 2 * c) → OnOk answer (height_of s ≤ 2 * c)
+    weaker (Ok r) l = omega arith
+    weaker (Err e) l = tt
+
 pub ruleset settlings = (few_nodes, refused_count)
 
-pub release_count : (h : ℕ) (answer : Result (Unit {0}) Error) (c : ℕ) → 1 ≤ c → c ≤ 5 * h → IsReleaseCount h answer c
-release_count h answer c l m = record { most = omega arith; success = λ k. l }
+pub release_count : (h c : ℕ) → 1 ≤ c → c ≤ 5 * h → IsReleaseCount h c
+release_count h c l m = record { most = omega arith; some = l }
 
 pub ruleset releasings = (few_nodes, release_count)
 
@@ -171,5 +185,13 @@ settling_count h old n a policy k answer c m s =
       settling = subst (λ (v : AllocPolicy). IsSettlingCount h old v answer c) (ap (λ (v : Request). v.policy) made.0) s;
       senseless = λ x f. absurd (no_constraint_fault n a policy x f made.1);
     }
+
+-- no constraint is refused for want of memory
+pub senseless_low : (h : ℕ) (old : AddressState) (n a : ℕ) (policy : AllocPolicy) (e : Error) → MakesConstraint n a policy (Err e) → SplitsIfLow h old (Err e)
+unfolding MakesConstraint ByConstraint
+senseless_low h old n a policy e (inl z) = record { split = tt; memory = λ m. absurd (cc (m, z.1)) }
+senseless_low h old n a policy e (inr (some, inl z)) = record { split = tt; memory = λ m. absurd (cc (m, z.1)) }
+senseless_low h old n a policy e (inr (some, inr (aligned, inl z))) = record { split = tt; memory = λ m. absurd (cc (m, z.1)) }
+senseless_low h old n a policy e (inr (some, inr (aligned, inr (start, made)))) = absurd (cc (made))
 
 pub ruleset allocations = (senseless_count, settling_count)

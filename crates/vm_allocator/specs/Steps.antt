@@ -7,6 +7,7 @@ use Rattle.vm_allocator.specs.Request.{MakesConstraint}
 use Rattle.vm_allocator.specs.Shape.{Shape, blocks, height_of, node_count, IsBalanced}
 use Rattle.vm_allocator.specs.Fibonacci.{fibonacci}
 use Rattle.vm_allocator.specs.declared.error.Error.{Error}
+use Rattle.vm_allocator.specs.declared.error.Error.TheVariants.{OutOfMemory}
 use Rattle.vm_allocator.specs.declared.constraint.AllocPolicy.{AllocPolicy}
 use Rattle.vm_allocator.specs.declared.constraint.AllocPolicy.TheVariants.{FirstMatch, LastMatch, ExactMatch}
 
@@ -43,7 +44,16 @@ pub record IsAllocationCount (h : ℕ) (old : AddressState) (n a : ℕ) (policy 
   pub settling : IsSettlingCount h old policy answer count
   pub senseless : (e : Error) → MakesConstraint n a policy (Err e) → count ≡ 0
 
--- the nodes that giving a range back entered
-pub record IsReleaseCount (h : ℕ) (answer : Result (Unit {0}) Error) (count : ℕ) : Type 0 where
+-- the nodes that giving a range back entered: whatever the answer, the root is one
+pub record IsReleaseCount (h count : ℕ) : Type 0 where
   pub most : count ≤ most_on_ways h
-  pub success : IsOk answer → 1 ≤ count
+  pub some : 1 ≤ count
+
+-- the height from which on no split is made
+abbrev pub TOO_HIGH : ℕ
+TOO_HIGH = 48
+
+-- a split, and want of memory for one, are answered only where the tree is not too high
+pub record SplitsIfLow (h : ℕ) (old : AddressState) (answer : Result Range Error) : Type 0 where
+  pub split : IfOk answer (λ r. LeavesClear old r → h < TOO_HIGH)
+  pub memory : answer ≡ Err OutOfMemory → h < TOO_HIGH

@@ -4,7 +4,7 @@ ghost use Rattle.vm_allocator.specs.Address.{IsAddressState};
 ghost use Rattle.vm_allocator.specs.Answer.{Allocates, FillsRun, Frees, Makes};
 ghost use Rattle.vm_allocator.specs.Allocator.{state_of, made_state};
 ghost use Rattle.vm_allocator.specs.Shape.{height_of};
-ghost use Rattle.vm_allocator.specs.Steps.{IsAllocationCount, IsReleaseCount, IsBalancedTreeOf};
+ghost use Rattle.vm_allocator.specs.Steps.{IsAllocationCount, IsReleaseCount, IsBalancedTreeOf, SplitsIfLow};
 
 use crate::allocation_engine::IntervalTree;
 use crate::constraint::{AllocPolicy, Constraint};
@@ -79,6 +79,9 @@ impl AddressAllocator {
 
         // What fills its clear run needs no memory, and succeeds.
         ensures filling { (s : ℕ) → FillsRun (state_of self.old) size alignment policy s → IsOk result }
+
+        // The refusal for depth comes before want of memory.
+        ensures depth { SplitsIfLow (height_of self.old.tree) (state_of self.old) result }
     {
         self.allocate_counted(alloc, size, alignment, policy).0
     }
@@ -100,6 +103,9 @@ impl AddressAllocator {
 
         // What fills its clear run needs no memory, and succeeds.
         ensures filling { (s : ℕ) → FillsRun (state_of self.old) size alignment policy s → IsOk result.0 }
+
+        // The refusal for depth comes before want of memory.
+        ensures depth { SplitsIfLow (height_of self.old.tree) (state_of self.old) result.0 }
         ensures steps { IsAllocationCount (height_of self.old.tree) (state_of self.old) size alignment policy result.0 result.1 }
     {
         match Constraint::new(size, alignment, policy) {
@@ -121,7 +127,7 @@ impl AddressAllocator {
     }
 
     /// Does what `free` does, and answers besides how many nodes of the tree it entered: with the
-    /// height h before at most 8h + 8, and one at least where it succeeds.
+    /// height h before at most 8h + 8, and always one at least.
     #[tactic(auto, using(crate::proofs::Spaces::spaces, crate::proofs::Filling::succeeding))]
     pub fn free_counted(&mut self, key: &RangeInclusive) -> (Result<()>, u64)
         ensures answer { Frees (state_of self.old) key.now result.0 (state_of self.new) }
@@ -129,7 +135,7 @@ impl AddressAllocator {
 
         // Giving back needs no memory, and succeeds.
         ensures held { Contains (state_of self.old).held key.now → IsOk result.0 }
-        ensures steps { IsReleaseCount (height_of self.old.tree) result.0 result.1 }
+        ensures steps { IsReleaseCount (height_of self.old.tree) result.1 }
     {
         self.interval_tree.free_counted(key)
     }

@@ -1,11 +1,11 @@
-ghost use Rattle.std.specs.Prelude.{◌≡◌, ℕ, ◌+◌, ◌*◌, ◌<◌, ◌≤◌, ◌++◌, ◌∷◌, [], OnErr, IfOk, IfErr, IfSome, IsSome, MatchResult, MatchBool, OnOk, Some};
+ghost use Rattle.std.specs.Prelude.{◌≡◌, ◌≢◌, Err, ℕ, ◌+◌, ◌*◌, ◌<◌, ◌≤◌, ◌++◌, ◌∷◌, [], OnErr, IfOk, IfErr, IfSome, IsSome, MatchResult, MatchBool, OnOk, Some};
 ghost use Rattle.vm_allocator.specs.Range.{MAX, IsRange};
 ghost use Rattle.vm_allocator.specs.Answer.{Takes, Settles, Frees};
 ghost use Rattle.vm_allocator.specs.BlockEdits.{free_block, IsTakenFrom, HasRoom, LeavesPart, before_part, after_part};
 ghost use Rattle.vm_allocator.specs.BlockList.{replace_block};
 ghost use Rattle.vm_allocator.specs.Shape.{blocks, height_of, node_count, single, root_block, IsTree};
 ghost use Rattle.vm_allocator.specs.NodeFields.{side};
-ghost use Rattle.vm_allocator.specs.Steps.{IsBalancedTreeOf, IsSettlingCount, IsReleaseCount};
+ghost use Rattle.vm_allocator.specs.Steps.{IsBalancedTreeOf, IsSettlingCount, IsReleaseCount, SplitsIfLow};
 ghost use Rattle.vm_allocator.specs.SpaceTree.{tree_state, IsSpaceTree, Chooses, IsChoice, EndsBelowMax, ExactIn, Carves, most_searched};
 ghost use Rattle.vm_allocator.specs.Release.{IsAround, joined, rejoined, without_if, start_with, end_with};
 ghost use Rattle.vm_allocator.specs.declared.constraint.AllocPolicy.TheVariants.{FirstMatch, LastMatch, ExactMatch};
@@ -58,7 +58,8 @@ impl Model for IntervalTree {
 fn range_at(place: Place, size: u64) -> Result<Choice>
     requires some { 0 < size }
     requires room { HasRoom place.start size (free_block place.key) }
-    ensures { EndsBelowMax place.key place.start size result }
+    ensures answer { EndsBelowMax place.key place.start size result }
+    ensures no_memory { IfErr result (λ error. error ≢ Error.OutOfMemory) }
 {
     let _ = place.key.end();
     let last = place.start + (size - 1);
@@ -102,6 +103,7 @@ impl IntervalTree {
     fn choose_first(&self, constraint: Constraint, count: &mut u64) -> Result<Choice>
         requires { count.old + node_count self.now ≤ MAX }
         ensures answer { Chooses self.now constraint.size constraint.align FirstMatch result }
+        ensures no_memory { IfErr result (λ error. error ≢ Error.OutOfMemory) }
         ensures entered { count.old + 1 ≤ count.new }
         ensures steps { count.new ≤ count.old + node_count self.now }
     {
@@ -117,6 +119,7 @@ impl IntervalTree {
     fn choose_last(&self, constraint: Constraint, count: &mut u64) -> Result<Choice>
         requires { count.old + node_count self.now ≤ MAX }
         ensures answer { Chooses self.now constraint.size constraint.align LastMatch result }
+        ensures no_memory { IfErr result (λ error. error ≢ Error.OutOfMemory) }
         ensures entered { count.old + 1 ≤ count.new }
         ensures steps { count.new ≤ count.old + node_count self.now }
     {
@@ -135,6 +138,7 @@ impl IntervalTree {
         requires policy { constraint.policy ≡ ExactMatch start }
         requires count_fits { count.old + height_of self.now ≤ MAX }
         ensures answer { Chooses self.now constraint.size constraint.align (ExactMatch start) result }
+        ensures no_memory { IfErr result (λ error. error ≢ Error.OutOfMemory) }
         ensures entered { count.old ≤ count.new }
         ensures steps { count.new ≤ count.old + height_of self.now }
     {
@@ -156,6 +160,7 @@ impl IntervalTree {
     fn choose(&self, constraint: Constraint, count: &mut u64) -> Result<Choice>
         requires { count.old + node_count self.now + height_of self.now ≤ MAX }
         ensures answer { Chooses self.now constraint.size constraint.align constraint.policy result }
+        ensures no_memory { IfErr result (λ error. error ≢ Error.OutOfMemory) }
         ensures entered { count.old ≤ count.new }
         ensures steps { count.new ≤ count.old + most_searched constraint.policy self.now }
     {
@@ -186,6 +191,8 @@ impl IntervalTree {
         ensures unchanged { OnErr result (self.new ≡ self.old) }
         ensures entered { count.old ≤ count.new }
         ensures success { OnOk result (count.old + 1 ≤ count.new) }
+        ensures low { LeavesPart choice.key choice.range → OnOk result (height_of self.old < 48) }
+        ensures memory { result ≡ Err Error.OutOfMemory → height_of self.old < 48 }
         ensures half { LeavesPart choice.key choice.range → OnOk result (2 * count.old + height_of self.old ≤ 2 * count.new) }
         ensures steps { count.new ≤ count.old + 2 * height_of self.old }
     {
@@ -211,6 +218,7 @@ impl IntervalTree {
     ) -> (Result<RangeInclusive>, u64)
         ensures answer { Settles (tree_state self.old) constraint.size constraint.align constraint.policy result.0 (tree_state self.new) }
         ensures unchanged { OnErr result.0 (self.new ≡ self.old) }
+        ensures depth { SplitsIfLow (height_of self.old) (tree_state self.old) result.0 }
         ensures steps { IsSettlingCount (height_of self.old) (tree_state self.old) constraint.policy result.0 result.1 }
     {
         let _ = self.height();
@@ -231,6 +239,7 @@ impl IntervalTree {
     pub fn allocate(&mut self, alloc: Global, constraint: Constraint) -> Result<RangeInclusive>
         ensures answer { Settles (tree_state self.old) constraint.size constraint.align constraint.policy result (tree_state self.new) }
         ensures unchanged { OnErr result (self.new ≡ self.old) }
+        ensures depth { SplitsIfLow (height_of self.old) (tree_state self.old) result }
     {
         self.allocate_counted(alloc, constraint).0
     }
@@ -240,7 +249,7 @@ impl IntervalTree {
     pub(crate) fn free_counted(&mut self, key: &RangeInclusive) -> (Result<()>, u64)
         ensures answer { Frees (tree_state self.old) key.now result.0 (tree_state self.new) }
         ensures unchanged { OnErr result.0 (self.new ≡ self.old) }
-        ensures steps { IsReleaseCount (height_of self.old) result.0 result.1 }
+        ensures steps { IsReleaseCount (height_of self.old) result.1 }
     {
         let _ = self.height();
         let mut count = 0;
@@ -414,7 +423,8 @@ fn fill(root: &mut Option<Box<InnerNode>>, choice: Choice, count: &mut u64)
 fn exact_in(key: RangeInclusive, state: NodeState, start: u64, last: u64) -> Result<Choice>
     requires ordered { start ≤ last }
     requires below { start < MAX }
-    ensures { ExactIn key state start last result }
+    ensures answer { ExactIn key state start last result }
+    ensures no_memory { IfErr result (λ error. error ≢ Error.OutOfMemory) }
 {
     match state {
         NodeState::Allocated => {
