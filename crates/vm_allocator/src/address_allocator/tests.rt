@@ -426,7 +426,10 @@ fn take_first_counted(
     }
     let blocks = held.saturating_mul(2).saturating_add(1);
     assert!(rt; count >= 1);
-    assert!(rt; count <= blocks.saturating_add(most_on_ways(height)), "{held} held, {count} entered");
+    assert!(rt;
+        count <= blocks.saturating_add(most_on_ways(height)),
+        "{held} held, {count} entered"
+    );
     Ok(answer?.start())
 }
 
@@ -445,7 +448,10 @@ fn balanced_and_counted(rt: HostRuntime) -> std::result::Result<(), Fail> {
         held = held.saturating_sub(1);
         assert_eq!(rt; answer, Ok(()));
         assert!(rt; count >= 1);
-        assert!(rt; count <= most_on_ways(height), "{count} entered for {address}");
+        assert!(rt;
+            count <= most_on_ways(height),
+            "{count} entered for {address}"
+        );
         assert!(rt; is_low(&space, held), "after {address} is given back");
     }
     assert_eq!(rt; held, 1024);
