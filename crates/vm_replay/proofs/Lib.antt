@@ -4,3 +4,4 @@ pub mod Decimals
 pub mod Parts
 pub mod Known
 pub mod Progress
+pub mod OneText

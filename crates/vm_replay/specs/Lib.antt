@@ -8,3 +8,4 @@ pub mod Runs
 pub mod Sessions
 pub mod Moving
 pub mod Status
+pub mod Laws

@@ -7,6 +7,7 @@ ghost use Rattle.vm_replay.specs.Status.{status_of};
 
 mod buffer;
 mod command;
+mod laws;
 mod machine;
 mod number;
 mod reply;
