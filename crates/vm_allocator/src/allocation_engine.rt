@@ -1,4 +1,5 @@
 //! How addresses are aligned, and how a space is cut into blocks.
+ghost use Rattle.std.specs.Prelude.{◌≡◌, ◌↔◌, IsTrue};
 ghost use Rattle.vm_allocator.specs.Alignment.{AlignsDown, AlignsUp};
 
 pub(crate) mod interval_tree;
@@ -17,7 +18,10 @@ pub enum NodeState {
 }
 
 impl NodeState {
-    fn is_free(&self) -> bool {
+    /// Whether no one holds the block.
+    fn is_free(&self) -> bool
+        ensures { IsTrue result ↔ (self.now ≡ NodeState.Free) }
+    {
         *self == NodeState::Free
     }
 }
