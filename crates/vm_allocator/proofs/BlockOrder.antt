@@ -11,6 +11,11 @@ pub ordered_weaken : (lo hi : ℕ) (bs : List Block) → lo ≤ hi → IsOrdered
 ordered_weaken lo hi [] p s = tt
 ordered_weaken lo hi (b ∷ bs) p s = (omega arith, s.1, s.2)
 
+-- without one of them, blocks in order stay in order
+pub ordered_drop : (lo : ℕ) (l : List Block) (x : Block) (r : List Block) → IsOrderedFrom lo (l ++ x ∷ r) → IsOrderedFrom lo (l ++ r)
+ordered_drop lo [] x r o = ordered_weaken lo (x.key.end + 1) r (omega arith) o.2
+ordered_drop lo (b ∷ l) x r o = (o.0, o.1, ordered_drop (b.key.end + 1) l x r o.2)
+
 pub ordered_front : (lo : ℕ) (l m : List Block) → IsOrderedFrom lo (l ++ m) → IsOrderedFrom lo l
 ordered_front lo [] m s = tt
 ordered_front lo (b ∷ l) m s = (s.0, s.1, ordered_front (b.key.end + 1) l m s.2)

@@ -25,7 +25,8 @@ use Rattle.vm_allocator.proofs.Unique.{held_of-free, held_of-held, same_block}
 use Rattle.vm_allocator.proofs.Join.{blocks_freed, blocks_freed_before}
 use Rattle.vm_allocator.proofs.Taking.{as_blocks}
 use Rattle.vm_allocator.proofs.Freeing.{below_without}
-use Rattle.vm_allocator.proofs.TreeEdits.{ranges_if, tiles_ordered, ordered_without}
+use Rattle.vm_allocator.proofs.TreeEdits.{ranges_if, tiles_ordered}
+use Rattle.vm_allocator.proofs.BlockOrder.{ordered_weaken, ordered_drop}
 use Rattle.vm_allocator.proofs.Replacement.{replace_middle, find_middle, same_range_self}
 use Rattle.vm_allocator.proofs.SpaceTrees.{space_tiled, space_tree}
 
@@ -141,10 +142,6 @@ pub record Given (s : Shape) (k : Range) (n : Neighbours) : Type 0 where
   pub around : IsAround (blocks s) k n
   pub blocks_of : IsBlocksOf (releasing k (tree_state s)) (around.front ++ free_block (joined k n) ∷ around.back)
 
-ordered_from : (lo m : ℕ) (bs : List Block) → lo ≤ m → IsOrderedFrom m bs → IsOrderedFrom lo bs
-ordered_from lo m [] p o = tt
-ordered_from lo m (b ∷ bs) p o = (omega (arith, o.0), o.1, o.2)
-
 -- the bounds of a block in a tiling
 block_bounds : (p : NodeState) (lo hi : ℕ) (b : Block) (xs ys : List Block) → Tiles p lo (xs ++ b ∷ ys) hi → (lo ≤ b.key.start) × (b.key.start ≤ b.key.end) × (b.key.end ≤ hi)
 block_bounds p lo hi b [] ys t = (omega (arith, t.0), omega (arith, t.0, t.1), omega (arith, tiles_end b.state (b.key.end + 1) hi ys t.3))
@@ -163,8 +160,8 @@ around_of s k front back n h e t =
       back = back;
       cut = e;
       range = range_within sp (joined k n) h.space b.0 b.1 b.2;
-      old = ordered_from 0 sp.start (blocks s) (omega arith) (tiles_ordered Allocated sp.start sp.end (blocks s) h.tiling.tiles);
-      new = ordered_from 0 sp.start _ (omega arith) (tiles_ordered Allocated sp.start sp.end _ t);
+      old = ordered_weaken 0 sp.start (blocks s) (omega arith) (tiles_ordered Allocated sp.start sp.end (blocks s) h.tiling.tiles);
+      new = ordered_weaken 0 sp.start _ (omega arith) (tiles_ordered Allocated sp.start sp.end _ t);
     }
 
 same_end : (a b : Range) (after : Option Range) → a.end ≡ b.end → end_with a after ≡ end_with b after
@@ -210,7 +207,11 @@ without_before (Some p) front rest o = replace_middle 0 p [] front (free_block p
 
 ordered_rest : (before : Option Range) (front rest : List Block) → IsOrderedFrom 0 (front ++ (free_if before ++ rest)) → IsOrderedFrom 0 (front ++ rest)
 ordered_rest None front rest o = o
-ordered_rest (Some p) front rest o = ordered_without 0 (free_block p) front rest o
+ordered_rest (Some p) front rest o = ordered_drop 0 front (free_block p) rest o
+
+no_middle : (front : List Block) (b : Block) (rest : List Block) → front ++ b ∷ rest ≡ [] → ⊥
+no_middle [] b rest e = cc
+no_middle (x ∷ xs) b rest e = cc
 
 module _ (bs : List Block) (k : Range) (n : Neighbours) (a : IsAround bs k n) where
   old_ordered : IsOrderedFrom 0 (a.front ++ (free_if n.before ++ held_block k ∷ (free_if n.after ++ a.back)))
@@ -238,26 +239,13 @@ module _ (bs : List Block) (k : Range) (n : Neighbours) (a : IsAround bs k n) wh
   rejoin_ordered news e = subst (λ (v : List Block). IsOrderedFrom 0 (replace_block k (free_block (joined k n) ∷ []) v)) (sym e) (subst (IsOrderedFrom 0) (sym rejoined_is) a.new)
 
   pub not_empty : bs ≡ [] → ⊥
-  not_empty e = no_middle a.front n.before (held_block k) (free_if n.after ++ a.back) (sym a.cut ∙ e)
-    where
-      no_middle : (front : List Block) (before : Option Range) (b : Block) (rest : List Block) → front ++ (free_if before ++ b ∷ rest) ≡ [] → ⊥
-      no_middle [] None b rest e = cc
-      no_middle [] (Some p) b rest e = cc
-      no_middle (x ∷ xs) before b rest e = cc
+  not_empty e = no_middle (a.front ++ free_if n.before) (held_block k) (free_if n.after ++ a.back) (append_assoc a.front (free_if n.before) (held_block k ∷ (free_if n.after ++ a.back)) ∙ sym a.cut ∙ e)
 
   pub not_empty_mid : (news : List Block) → news ≡ without_if n.before bs → news ≡ [] → ⊥
   not_empty_mid news e z = no_middle a.front (held_block k) (free_if n.after ++ a.back) (sym (append_assoc a.front (held_block k ∷ []) (free_if n.after ++ a.back)) ∙ sym mid_is ∙ sym e ∙ z)
-    where
-      no_middle : (front : List Block) (b : Block) (rest : List Block) → front ++ b ∷ rest ≡ [] → ⊥
-      no_middle [] b rest e = cc
-      no_middle (x ∷ xs) b rest e = cc
 
 pub not_empty_last : (bs : List Block) (k : Range) (n : Neighbours) (a : IsAround bs k n) (news : List Block) → news ≡ without_if n.after (without_if n.before bs) → news ≡ [] → ⊥
 not_empty_last bs k n a news e z = no_middle a.front (held_block k) a.back (sym (last_is bs k n a) ∙ sym e ∙ z)
-  where
-    no_middle : (front : List Block) (b : Block) (rest : List Block) → front ++ b ∷ rest ≡ [] → ⊥
-    no_middle [] b rest e = cc
-    no_middle (x ∷ xs) b rest e = cc
 
 -- a tree with blocks has a node
 pub some_node : (root : Option (Box InnerNode)) → (blocks (side root) ≡ [] → ⊥) → IsSome root

@@ -6,7 +6,7 @@ use Rattle.vm_allocator.specs.RangeOrder.{Before, same_range}
 use Rattle.vm_allocator.specs.Block.{Block}
 use Rattle.vm_allocator.specs.BlockList.{IsOrderedFrom, replace_block, find_key}
 use Rattle.vm_allocator.specs.Shape.{Shape, Fork, blocks, IsTree, LeavesIfAbsent}
-use Rattle.vm_allocator.proofs.BlockOrder.{ordered_middle, ordered_weaken}
+use Rattle.vm_allocator.proofs.BlockOrder.{ordered_middle, ordered_weaken, ordered_drop}
 
 pub same_range_start : (a b : Range) → (a.start ≡ b.start → ⊥) → same_range a b ≡ false
 same_range_start a b n = rw (ne_eqb a.start b.start n)
@@ -142,10 +142,6 @@ pub ruleset findings = (find_in_left, find_in_right, find_in_middle)
 
 pub same_range_true : (a b : Range) → same_range a b ≡ true → (a.start ≡ b.start) × (a.end ≡ b.end)
 same_range_true a b e = let t = and_parts (eqb a.start b.start) (eqb a.end b.end) e in (eqb-true a.start b.start t.0, eqb-true a.end b.end t.1)
-
-ordered_drop : (lo : ℕ) (l : List Block) (x : Block) (r : List Block) → IsOrderedFrom lo (l ++ x ∷ r) → IsOrderedFrom lo (l ++ r)
-ordered_drop lo [] x r o = ordered_weaken lo (x.key.end + 1) r (omega arith) o.2
-ordered_drop lo (b ∷ l) x r o = (o.0, o.1, ordered_drop (b.key.end + 1) l x r o.2)
 
 pub ordered_removed : (lo : ℕ) (k : Range) (bs : List Block) → IsOrderedFrom lo bs → IsOrderedFrom lo (replace_block k [] bs)
 ordered_removed lo k [] o = tt

@@ -21,10 +21,10 @@ use Rattle.vm_allocator.specs.declared.allocation_engine.NodeState.TheVariants.{
 use Rattle.vm_allocator.specs.declared.allocation_engine.interval_tree.Choice.{Choice}
 use Rattle.vm_allocator.proofs.Carve.{tiles_carved, blocks_carved}
 use Rattle.vm_allocator.proofs.Taking.{leaves_clear, as_blocks, below_with}
-use Rattle.vm_allocator.proofs.BlockOrder.{ordered_front, ordered_back}
+use Rattle.vm_allocator.proofs.BlockOrder.{ordered_weaken, ordered_drop, ordered_front, ordered_back}
 use Rattle.vm_allocator.proofs.Rewriting.{known_left, known_right, rewritten_left, rewritten_right}
 use Rattle.vm_allocator.proofs.Replacement.{replace_middle, find_middle, replace_in_left, replace_in_right, replace_in_middle}
-use Rattle.vm_allocator.proofs.TreeEdits.{tiles_ordered, insert_between, clear_between, ordered_without}
+use Rattle.vm_allocator.proofs.TreeEdits.{tiles_ordered, insert_between, clear_between}
 use Rattle.vm_allocator.proofs.Unique.{few_blocks}
 use Rattle.vm_allocator.proofs.FewestNodes.{fewest_nodes, node_count-blocks, fibonacci_grows}
 use Rattle.vm_allocator.proofs.SpaceTrees.{space_tiled, space_tree}
@@ -33,7 +33,7 @@ use Rattle.vm_allocator.proofs.SpaceTrees.{space_tiled, space_tree}
 all_last : (lo : ℕ) (xs l rest : List Block) → IsOrderedFrom lo (l ++ (xs ++ rest)) → insert_all xs l ≡ l ++ xs
 all_last lo [] l rest o = sym (append-nil l)
 all_last lo (x ∷ xs) l rest o =
-    ap (insert_block x) (all_last lo xs l rest (ordered_without lo x l (xs ++ rest) o))
+    ap (insert_block x) (all_last lo xs l rest (ordered_drop lo l x (xs ++ rest) o))
     ∙ insert_between lo x l xs (ordered_front lo (l ++ x ∷ xs) rest (subst (IsOrderedFrom lo) (sym (append_assoc l (x ∷ xs) rest)) o))
 
 all_first : (lo : ℕ) (xs r : List Block) → IsOrderedFrom lo (xs ++ r) → insert_all xs r ≡ xs ++ r
@@ -43,7 +43,7 @@ all_first lo (x ∷ xs) r o = ap (insert_block x) (all_first (x.key.end + 1) xs 
 last_clear : (lo : ℕ) (xs l rest : List Block) → IsOrderedFrom lo (l ++ (xs ++ rest)) → AreClearOf xs l
 unfolding AreClearOf IsClearOf
 last_clear lo [] l rest o = tt
-last_clear lo (x ∷ xs) l rest o = (front_clear x.key l (xs ++ rest) (clear_between lo x l (xs ++ rest) o), last_clear lo xs l rest (ordered_without lo x l (xs ++ rest) o))
+last_clear lo (x ∷ xs) l rest o = (front_clear x.key l (xs ++ rest) (clear_between lo x l (xs ++ rest) o), last_clear lo xs l rest (ordered_drop lo l x (xs ++ rest) o))
   where
     front_clear : (k : Range) (l r : List Block) → IsClearOf k (l ++ r) → IsClearOf k l
     front_clear k [] r c = tt
@@ -124,13 +124,9 @@ cut_of s choice h c =
       after = c.after;
       cut = c.cut;
       within = c.within;
-      old = ordered_from 0 sp.start (blocks s) (omega arith) (tiles_ordered Allocated sp.start sp.end (blocks s) h.tiling.tiles);
-      new = ordered_from 0 sp.start _ (omega arith) (tiles_ordered Allocated sp.start sp.end _ (tiles_carved Allocated sp.start sp.end choice.range (free_block choice.key) c.before c.after refl c.within t));
+      old = ordered_weaken 0 sp.start (blocks s) (omega arith) (tiles_ordered Allocated sp.start sp.end (blocks s) h.tiling.tiles);
+      new = ordered_weaken 0 sp.start _ (omega arith) (tiles_ordered Allocated sp.start sp.end _ (tiles_carved Allocated sp.start sp.end choice.range (free_block choice.key) c.before c.after refl c.within t));
     }
-  where
-    ordered_from : (lo m : ℕ) (bs : List Block) → lo ≤ m → IsOrderedFrom m bs → IsOrderedFrom lo bs
-    ordered_from lo m [] p o = tt
-    ordered_from lo m (b ∷ bs) p o = (omega (arith, o.0), o.1, o.2)
 
 -- what stands in the place of the free block
 module _ (bs : List Block) (k r : Range) (c : IsCut bs k r) where

@@ -7,7 +7,7 @@ use Rattle.vm_allocator.specs.Range.{Range, IsIn}
 use Rattle.vm_allocator.specs.RangeOrder.{same_range, covers}
 use Rattle.vm_allocator.specs.Block.{Block}
 use Rattle.vm_allocator.specs.Blocks.{Tiles}
-use Rattle.vm_allocator.specs.BlockList.{IsOrderedFrom, IsClearOf, insert_block, find_key, find_superset}
+use Rattle.vm_allocator.specs.BlockList.{IsOrderedFrom, IsClearOf, insert_block, find_superset}
 use Rattle.vm_allocator.specs.Release.{at_address}
 use Rattle.vm_allocator.specs.declared.allocation_engine.NodeState.{NodeState}
 use Rattle.vm_allocator.proofs.Unique.{same_range as ranges_same}
@@ -31,17 +31,6 @@ some_same x y e = cc
 
 pub ranges_if : (a b : Range) → same_range a b ≡ true → a ≡ b
 ranges_if a b e = let t = and_parts (eqb a.start b.start) (eqb a.end b.end) e in ranges_same a b (eqb-true a.start b.start t.0) (eqb-true a.end b.end t.1)
-
--- a block that is found by its key
-pub find_cut : (k : Range) (b : Block) (bs : List Block) → find_key k bs ≡ Some b → Cut bs b × (b.key ≡ k)
-find_cut k b [] e = absurd (cc)
-find_cut k b (x ∷ bs) e =
-    elim (same_range k x.key) as (λ v. same_range k x.key ≡ v → cond v (Some x) (find_key k bs) ≡ Some b → Cut (x ∷ bs) b × (b.key ≡ k)) [
-      | true ↦ λ s f.
-          let same = some_same x b f in
-          (record { before = []; after = bs; is = ap (λ (v : Block). v ∷ bs) same }, ap (λ (v : Block). v.key) (sym same) ∙ sym (ranges_if k x.key s))
-      | false ↦ λ s f. let i = find_cut k b bs f in (cut_later x b bs i.0, i.1)
-    ] refl e
 
 pub covers_in : (a : Range) (x : ℕ) → covers a (at_address x) ≡ true → IsIn a x
 unfolding covers
@@ -71,6 +60,11 @@ address_missed x (y ∷ bs) e =
       | false ↦ λ s f. All-cons (λ b. ¬ IsIn b.key x) y bs (λ i. let c = in_covers y.key x i in let bad : false ≡ true = sym s ∙ c in cc) (address_missed x bs f)
     ] refl e
 
+-- none of them starts below all
+starts_from : (lo : ℕ) (g : Block) (us vs : List Block) → IsOrderedFrom lo (us ++ g ∷ vs) → lo ≤ g.key.start
+starts_from lo g [] vs o = o.0
+starts_from lo g (u ∷ us) vs o = omega (arith, starts_from (u.key.end + 1) g us vs o.2, o.0, o.1)
+
 -- the block that stands between others goes in by its start
 pub insert_between : (lo : ℕ) (g : Block) (us vs : List Block) → IsOrderedFrom lo (us ++ g ∷ vs) → insert_block g (us ++ vs) ≡ us ++ g ∷ vs
 insert_between lo g [] [] o = refl
@@ -78,10 +72,6 @@ insert_between lo g [] (v ∷ vs) o = rw (lt-ltb g.key.start v.key.start (omega 
 insert_between lo g (u ∷ us) vs o =
     let i = starts_from (u.key.end + 1) g us vs o.2 in
     rw (le-ltb g.key.start u.key.start (omega (arith, i, o.1))) (ap (λ (w : List Block). u ∷ w) (insert_between (u.key.end + 1) g us vs o.2))
-  where
-    starts_from : (lo : ℕ) (g : Block) (us vs : List Block) → IsOrderedFrom lo (us ++ g ∷ vs) → lo ≤ g.key.start
-    starts_from lo g [] vs o = o.0
-    starts_from lo g (u ∷ us) vs o = omega (arith, starts_from (u.key.end + 1) g us vs o.2, o.0, o.1)
 
 clear_above : (lo : ℕ) (k : Range) (bs : List Block) → k.end < lo → IsOrderedFrom lo bs → IsClearOf k bs
 unfolding IsClearOf
@@ -95,16 +85,3 @@ clear_between lo g [] vs o = clear_above (g.key.end + 1) g.key vs (omega arith) 
 clear_between lo g (u ∷ us) vs o =
     let i = starts_from (u.key.end + 1) g us vs o.2 in
     (inr (omega (arith, i)), clear_between (u.key.end + 1) g us vs o.2)
-  where
-    starts_from : (lo : ℕ) (g : Block) (us vs : List Block) → IsOrderedFrom lo (us ++ g ∷ vs) → lo ≤ g.key.start
-    starts_from lo g [] vs o = o.0
-    starts_from lo g (u ∷ us) vs o = omega (arith, starts_from (u.key.end + 1) g us vs o.2, o.0, o.1)
-
-ordered_lower : (lo m : ℕ) (bs : List Block) → lo ≤ m → IsOrderedFrom m bs → IsOrderedFrom lo bs
-ordered_lower lo m [] p o = tt
-ordered_lower lo m (b ∷ bs) p o = (omega (arith, o.0), o.1, o.2)
-
--- without one of them, blocks in order stay in order
-pub ordered_without : (lo : ℕ) (g : Block) (us vs : List Block) → IsOrderedFrom lo (us ++ g ∷ vs) → IsOrderedFrom lo (us ++ vs)
-ordered_without lo g [] vs o = ordered_lower lo (g.key.end + 1) vs (omega (arith, o.0, o.1)) o.2
-ordered_without lo g (u ∷ us) vs o = (o.0, o.1, ordered_without (u.key.end + 1) g us vs o.2)
