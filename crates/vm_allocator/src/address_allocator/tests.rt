@@ -1,11 +1,15 @@
 use super::*;
 use crate::allocation_engine::NodeState::Allocated;
 use AllocPolicy::{ExactMatch, FirstMatch, LastMatch};
+use Call::{Allocate, Free};
 use std::alloc::AllocError;
 use std::process::Abort;
 use std::test::Fail;
 
 const MAX: u64 = u64::MAX;
+
+/// Half of all addresses.
+const HALF: u64 = 1 << 63;
 
 /// The allocator of a space. A second try stands for a run in which one request for memory is
 /// refused, here and below.
@@ -67,6 +71,26 @@ fn free(space: &mut AddressAllocator, start: u64, end: u64) -> Result<()> {
     space.free(&RangeInclusive::new(start, end)?)
 }
 
+/// A call, with the answer that it has to have.
+#[derive(Drop)]
+enum Call {
+    Allocate(u64, u64, AllocPolicy, Result<(u64, u64)>),
+    Free(u64, u64, Result<()>),
+}
+
+/// Does the calls in turn.
+fn replay(rt: &(impl Abort + AllocGlobal), space: &mut AddressAllocator, calls: &[Call]) {
+    for (number, call) in calls.iter().enumerate() {
+        let is_right = match call {
+            Allocate(size, alignment, policy, want) => {
+                ask(rt, space, *size, *alignment, *policy) == *want
+            }
+            Free(start, end, want) => free(space, *start, *end) == *want,
+        };
+        assert!(rt; is_right, "call {number}");
+    }
+}
+
 #[test]
 fn test_new_fails_overflow(rt: HostRuntime) {
     assert_eq!(rt; made(rt.alloc(), MAX, 0x100).err(), Some(Error::Overflow));
@@ -95,10 +119,8 @@ fn making_spaces(rt: HostRuntime) -> std::result::Result<(), Fail> {
 #[test]
 fn test_allocate_fails_alignment_zero(rt: HostRuntime) -> std::result::Result<(), Fail> {
     let mut space = made(rt.alloc(), 0x1000, 0x10000)?;
-    assert_eq!(rt;
-        first(&rt, &mut space, 0x100, 0),
-        Err(Error::InvalidAlignment)
-    );
+    let calls = [Allocate(0x100, 0, FirstMatch, Err(Error::InvalidAlignment))];
+    replay(&rt, &mut space, &calls);
     Ok(())
 }
 
@@ -107,77 +129,87 @@ fn test_allocate_fails_alignment_non_power_of_two(
     rt: HostRuntime,
 ) -> std::result::Result<(), Fail> {
     let mut space = made(rt.alloc(), 0x1000, 0x10000)?;
-    assert_eq!(rt;
-        first(&rt, &mut space, 0x100, 200),
-        Err(Error::InvalidAlignment)
-    );
-    assert_eq!(rt; first(&rt, &mut space, 0, 200), Err(Error::InvalidSize(0)));
+    let calls = [
+        Allocate(0x100, 200, FirstMatch, Err(Error::InvalidAlignment)),
+        Allocate(0, 200, FirstMatch, Err(Error::InvalidSize(0))),
+    ];
+    replay(&rt, &mut space, &calls);
     Ok(())
 }
 
 #[test]
 fn test_allocate_with_alignment_first_ok(rt: HostRuntime) -> std::result::Result<(), Fail> {
     let mut space = made(rt.alloc(), 0x1000, 0x1000)?;
-    for (size, want) in [
-        (0x110, (0x1000, 0x110F)),
-        (0x100, (0x1200, 0x12FF)),
-        (0x10, (0x1300, 0x130F)),
-    ] {
-        assert_eq!(rt; first(&rt, &mut space, size, 0x100), Ok(want));
-    }
+    let calls = [
+        Allocate(0x110, 0x100, FirstMatch, Ok((0x1000, 0x110F))),
+        Allocate(0x100, 0x100, FirstMatch, Ok((0x1200, 0x12FF))),
+        Allocate(0x10, 0x100, FirstMatch, Ok((0x1300, 0x130F))),
+    ];
+    replay(&rt, &mut space, &calls);
     Ok(())
 }
 
 #[test]
 fn test_allow_range_size_one_left(rt: HostRuntime) -> std::result::Result<(), Fail> {
     let mut space = made(rt.alloc(), 1, 1000)?;
-    assert_eq!(rt; first(&rt, &mut space, 10, 2), Ok((2, 11)));
-    assert_eq!(rt; first(&rt, &mut space, 1, 1), Ok((1, 1)));
+    let calls = [
+        Allocate(10, 2, FirstMatch, Ok((2, 11))),
+        Allocate(1, 1, FirstMatch, Ok((1, 1))),
+    ];
+    replay(&rt, &mut space, &calls);
     Ok(())
 }
 
 #[test]
 fn test_tree_allocate_address_free_and_realloc(rt: HostRuntime) -> std::result::Result<(), Fail> {
     let mut space = made(rt.alloc(), 0x1000, 0x1000)?;
-    assert_eq!(rt; first(&rt, &mut space, 0x800, 0x100), Ok((0x1000, 0x17FF)));
-    assert_eq!(rt; free(&mut space, 0x1000, 0x17FF), Ok(()));
-    assert_eq!(rt; first(&rt, &mut space, 0x800, 0x100), Ok((0x1000, 0x17FF)));
+    let calls = [
+        Allocate(0x800, 0x100, FirstMatch, Ok((0x1000, 0x17FF))),
+        Free(0x1000, 0x17FF, Ok(())),
+        Allocate(0x800, 0x100, FirstMatch, Ok((0x1000, 0x17FF))),
+    ];
+    replay(&rt, &mut space, &calls);
     Ok(())
 }
 
 #[test]
 fn slot_starting_at_one(rt: HostRuntime) -> std::result::Result<(), Fail> {
     let mut space = made(rt.alloc(), 1, 0x10)?;
-    assert_eq!(rt; first(&rt, &mut space, 4, 1), Ok((1, 4)));
-    assert_eq!(rt; free(&mut space, 1, 4), Ok(()));
-    assert_eq!(rt; first(&rt, &mut space, 0x10, 1), Ok((1, 0x10)));
+    let calls = [
+        Allocate(4, 1, FirstMatch, Ok((1, 4))),
+        Free(1, 4, Ok(())),
+        Allocate(0x10, 1, FirstMatch, Ok((1, 0x10))),
+    ];
+    replay(&rt, &mut space, &calls);
     Ok(())
 }
 
 #[test]
 fn freeing_parts(rt: HostRuntime) -> std::result::Result<(), Fail> {
     let mut space = made(rt.alloc(), 0x10, 4)?;
-    let refused = Err(Error::ResourceNotAvailable);
-    assert_eq!(rt; free(&mut space, 0x10, 0x13), refused);
-    assert_eq!(rt; first(&rt, &mut space, 4, 1), Ok((0x10, 0x13)));
-    assert_eq!(rt; free(&mut space, 0x10, 0x11), refused);
-    assert_eq!(rt; free(&mut space, 0x10, 0x13), Ok(()));
-    assert_eq!(rt; free(&mut space, 0x10, 0x13), refused);
+    let calls = [
+        Free(0x10, 0x13, Err(Error::ResourceNotAvailable)),
+        Allocate(4, 1, FirstMatch, Ok((0x10, 0x13))),
+        Free(0x10, 0x11, Err(Error::ResourceNotAvailable)),
+        Free(0x10, 0x13, Ok(())),
+        Free(0x10, 0x13, Err(Error::ResourceNotAvailable)),
+    ];
+    replay(&rt, &mut space, &calls);
     Ok(())
 }
 
 #[test]
 fn ends_of_all_addresses(rt: HostRuntime) -> std::result::Result<(), Fail> {
     let mut space = made(rt.alloc(), 1, MAX)?;
-    assert_eq!(rt; first(&rt, &mut space, MAX, 1), Err(Error::Overflow));
-    assert_eq!(rt; first(&rt, &mut space, MAX - 1, 1), Ok((1, MAX - 1)));
-    assert_eq!(rt; first(&rt, &mut space, 1, 1), Err(Error::Overflow));
-    assert_eq!(rt; free(&mut space, 1, MAX - 1), Ok(()));
-    assert_eq!(rt; first(&rt, &mut space, 1, 1 << 63), Ok((1 << 63, 1 << 63)));
-    assert_eq!(rt;
-        first(&rt, &mut space, 1, 1 << 63),
-        Err(Error::ResourceNotAvailable)
-    );
+    let calls = [
+        Allocate(MAX, 1, FirstMatch, Err(Error::Overflow)),
+        Allocate(MAX - 1, 1, FirstMatch, Ok((1, MAX - 1))),
+        Allocate(1, 1, FirstMatch, Err(Error::Overflow)),
+        Free(1, MAX - 1, Ok(())),
+        Allocate(1, HALF, FirstMatch, Ok((HALF, HALF))),
+        Allocate(1, HALF, FirstMatch, Err(Error::ResourceNotAvailable)),
+    ];
+    replay(&rt, &mut space, &calls);
     Ok(())
 }
 
@@ -205,90 +237,92 @@ fn joins_what_is_given_back(rt: HostRuntime) -> std::result::Result<(), Fail> {
 #[test]
 fn test_allocate_with_alignment_last_ok(rt: HostRuntime) -> std::result::Result<(), Fail> {
     let mut space = made(rt.alloc(), 0x1000, 0x10000)?;
-    for (size, want) in [
-        (0x110, (0x10E00, 0x10F0F)),
-        (0x100, (0x10D00, 0x10DFF)),
-        (0x10, (0x10C00, 0x10C0F)),
-    ] {
-        assert_eq!(rt; ask(&rt, &mut space, size, 0x100, LastMatch), Ok(want));
-    }
+    let calls = [
+        Allocate(0x110, 0x100, LastMatch, Ok((0x10E00, 0x10F0F))),
+        Allocate(0x100, 0x100, LastMatch, Ok((0x10D00, 0x10DFF))),
+        Allocate(0x10, 0x100, LastMatch, Ok((0x10C00, 0x10C0F))),
+    ];
+    replay(&rt, &mut space, &calls);
     Ok(())
 }
 
 #[test]
 fn test_allocate_fails_not_enough_space(rt: HostRuntime) -> std::result::Result<(), Fail> {
     let mut space = made(rt.alloc(), 0x1000, 0x1000)?;
-    for (size, policy, want) in [
-        (0x800, LastMatch, Ok((0x1800, 0x1FFF))),
-        (0x900, FirstMatch, Err(Error::ResourceNotAvailable)),
-        (0x400, FirstMatch, Ok((0x1000, 0x13FF))),
-    ] {
-        assert_eq!(rt; ask(&rt, &mut space, size, 0x100, policy), want);
-    }
+    let calls = [
+        Allocate(0x800, 0x100, LastMatch, Ok((0x1800, 0x1FFF))),
+        Allocate(0x900, 0x100, FirstMatch, Err(Error::ResourceNotAvailable)),
+        Allocate(0x400, 0x100, FirstMatch, Ok((0x1000, 0x13FF))),
+    ];
+    replay(&rt, &mut space, &calls);
     Ok(())
 }
 
 #[test]
 fn test_allocate_address_not_enough_space(rt: HostRuntime) -> std::result::Result<(), Fail> {
     let mut space = made(rt.alloc(), 0x1000, 0x1000)?;
-    for (size, policy, want) in [
-        (0x800, FirstMatch, Ok((0x1000, 0x17FF))),
-        (0x200, ExactMatch(0x1A00), Ok((0x1A00, 0x1BFF))),
-        (0x800, ExactMatch(0x1800), Err(Error::ResourceNotAvailable)),
-        (0x100, ExactMatch(0x1800), Ok((0x1800, 0x18FF))),
-    ] {
-        assert_eq!(rt; ask(&rt, &mut space, size, 0x100, policy), want);
-    }
+    let calls = [
+        Allocate(0x800, 0x100, FirstMatch, Ok((0x1000, 0x17FF))),
+        Allocate(0x200, 0x100, ExactMatch(0x1A00), Ok((0x1A00, 0x1BFF))),
+        Allocate(
+            0x800,
+            0x100,
+            ExactMatch(0x1800),
+            Err(Error::ResourceNotAvailable),
+        ),
+        Allocate(0x100, 0x100, ExactMatch(0x1800), Ok((0x1800, 0x18FF))),
+    ];
+    replay(&rt, &mut space, &calls);
     Ok(())
 }
 
 #[test]
 fn test_allocate_address_fail_free_and_realloc(rt: HostRuntime) -> std::result::Result<(), Fail> {
     let mut space = made(rt.alloc(), 0, 0x1000)?;
-    let refused = Error::ResourceNotAvailable;
-    assert_eq!(rt; first(&rt, &mut space, 0x2000, 0x100), Err(refused));
-    assert_eq!(rt;
-        free(&mut space, 0x1200, 0x3200),
-        Err(Error::ResourceNotAvailable)
-    );
-    let exact = ExactMatch(0x500);
-    assert_eq!(rt;
-        ask(&rt, &mut space, 0x4FE, 0x100, exact),
-        Ok((0x500, 0x9FD))
-    );
-    assert_eq!(rt; free(&mut space, 0x500, 0x9FD), Ok(()));
+    let calls = [
+        Allocate(0x2000, 0x100, FirstMatch, Err(Error::ResourceNotAvailable)),
+        Free(0x1200, 0x3200, Err(Error::ResourceNotAvailable)),
+        Allocate(0x4FE, 0x100, ExactMatch(0x500), Ok((0x500, 0x9FD))),
+        Free(0x500, 0x9FD, Ok(())),
+    ];
+    replay(&rt, &mut space, &calls);
     Ok(())
 }
 
 #[test]
 fn test_regression_exact_match_length_check(rt: HostRuntime) -> std::result::Result<(), Fail> {
     let mut space = made(rt.alloc(), 0, 0x2000)?;
-    for (size, policy, want) in [
-        (0x1000, ExactMatch(0x1000), Ok((0x1000, 0x1FFF))),
-        (0, FirstMatch, Err(Error::InvalidSize(0))),
-        (0x1000, ExactMatch(3), Err(Error::UnalignedAddress)),
-        (0x1000, ExactMatch(0), Ok((0, 0xFFF))),
-    ] {
-        assert_eq!(rt; ask(&rt, &mut space, size, 0x1000, policy), want);
-    }
+    let calls = [
+        Allocate(0x1000, 0x1000, ExactMatch(0x1000), Ok((0x1000, 0x1FFF))),
+        Allocate(0, 0x1000, FirstMatch, Err(Error::InvalidSize(0))),
+        Allocate(0x1000, 0x1000, ExactMatch(3), Err(Error::UnalignedAddress)),
+        Allocate(0x1000, 0x1000, ExactMatch(0), Ok((0, 0xFFF))),
+    ];
+    replay(&rt, &mut space, &calls);
     Ok(())
 }
 
 #[test]
 fn last_fills_space(rt: HostRuntime) -> std::result::Result<(), Fail> {
     let mut space = made(rt.alloc(), 0, 0x1000)?;
-    assert_eq!(rt; ask(&rt, &mut space, 0x1000, 1, LastMatch), Ok((0, 0xFFF)));
+    let calls = [Allocate(0x1000, 1, LastMatch, Ok((0, 0xFFF)))];
+    replay(&rt, &mut space, &calls);
     Ok(())
 }
 
 #[test]
 fn exact_inside_held(rt: HostRuntime) -> std::result::Result<(), Fail> {
     let mut space = made(rt.alloc(), 0x1000, 0x1000)?;
-    assert_eq!(rt; first(&rt, &mut space, 0x800, 0x100), Ok((0x1000, 0x17FF)));
-    assert_eq!(rt;
-        ask(&rt, &mut space, 0x100, 0x100, ExactMatch(0x1000)),
-        Err(Error::ResourceNotAvailable)
-    );
+    let calls = [
+        Allocate(0x800, 0x100, FirstMatch, Ok((0x1000, 0x17FF))),
+        Allocate(
+            0x100,
+            0x100,
+            ExactMatch(0x1000),
+            Err(Error::ResourceNotAvailable),
+        ),
+    ];
+    replay(&rt, &mut space, &calls);
     Ok(())
 }
 
@@ -302,56 +336,66 @@ fn is_held(start: u64, end: u64) -> Error {
 #[test]
 fn exact_match(rt: HostRuntime) -> std::result::Result<(), Fail> {
     let mut space = made(rt.alloc(), 0x1000, 0x1000)?;
-    for (size, alignment, start, want) in [
-        (0x100, 0x100, 0x1000, Ok((0x1000, 0x10FF))),
-        (0x100, 0x100, 0x1000, Err(is_held(0x1000, 0x10FF))),
-        (0x80, 0x80, 0x1080, Err(Error::ResourceNotAvailable)),
-        (0x100, 1, 0x800, Err(Error::ResourceNotAvailable)),
-        (0x900, 1, 0x1800, Err(Error::ResourceNotAvailable)),
-        (MAX, 1, 0x1800, Err(Error::Overflow)),
-        (1, 1, MAX, Err(Error::Overflow)),
-        (1, 1, 0x1FFF, Ok((0x1FFF, 0x1FFF))),
-        (1, 1, 0x1FFF, Err(is_held(0x1FFF, 0x1FFF))),
-    ] {
-        assert_eq!(rt;
-            ask(&rt, &mut space, size, alignment, ExactMatch(start)),
-            want,
-            "{size} from {start}"
-        );
-    }
+    let calls = [
+        Allocate(0x100, 0x100, ExactMatch(0x1000), Ok((0x1000, 0x10FF))),
+        Allocate(
+            0x100,
+            0x100,
+            ExactMatch(0x1000),
+            Err(is_held(0x1000, 0x10FF)),
+        ),
+        Allocate(
+            0x80,
+            0x80,
+            ExactMatch(0x1080),
+            Err(Error::ResourceNotAvailable),
+        ),
+        Allocate(
+            0x100,
+            1,
+            ExactMatch(0x800),
+            Err(Error::ResourceNotAvailable),
+        ),
+        Allocate(
+            0x900,
+            1,
+            ExactMatch(0x1800),
+            Err(Error::ResourceNotAvailable),
+        ),
+        Allocate(MAX, 1, ExactMatch(0x1800), Err(Error::Overflow)),
+        Allocate(1, 1, ExactMatch(MAX), Err(Error::Overflow)),
+        Allocate(1, 1, ExactMatch(0x1FFF), Ok((0x1FFF, 0x1FFF))),
+        Allocate(1, 1, ExactMatch(0x1FFF), Err(is_held(0x1FFF, 0x1FFF))),
+    ];
+    replay(&rt, &mut space, &calls);
     Ok(())
 }
 
 #[test]
 fn space_ending_at_max(rt: HostRuntime) -> std::result::Result<(), Fail> {
     let mut space = made(rt.alloc(), 1, MAX)?;
-    assert_eq!(rt; ask(&rt, &mut space, 1, 1, LastMatch), Err(Error::Overflow));
-    assert_eq!(rt;
-        ask(&rt, &mut space, 1, 2, LastMatch),
-        Ok((MAX - 1, MAX - 1))
-    );
-    assert_eq!(rt; free(&mut space, MAX - 1, MAX - 1), Ok(()));
-    assert_eq!(rt; first(&rt, &mut space, MAX, 1), Err(Error::Overflow));
-    assert_eq!(rt; first(&rt, &mut space, MAX - 1, 1), Ok((1, MAX - 1)));
+    let calls = [
+        Allocate(1, 1, LastMatch, Err(Error::Overflow)),
+        Allocate(1, 2, LastMatch, Ok((MAX - 1, MAX - 1))),
+        Free(MAX - 1, MAX - 1, Ok(())),
+        Allocate(MAX, 1, FirstMatch, Err(Error::Overflow)),
+        Allocate(MAX - 1, 1, FirstMatch, Ok((1, MAX - 1))),
+    ];
+    replay(&rt, &mut space, &calls);
     Ok(())
 }
 
 #[test]
 fn half_space_alignment(rt: HostRuntime) -> std::result::Result<(), Fail> {
     let mut space = made(rt.alloc(), 1, MAX)?;
-    let half = 1 << 63;
-    assert_eq!(rt; first(&rt, &mut space, 1, half), Ok((half, half)));
-    assert_eq!(rt;
-        first(&rt, &mut space, 1, half),
-        Err(Error::ResourceNotAvailable)
-    );
-    assert_eq!(rt; free(&mut space, half, half), Ok(()));
-    for policy in [ExactMatch(half), FirstMatch] {
-        assert_eq!(rt;
-            ask(&rt, &mut space, half, half, policy),
-            Err(Error::Overflow)
-        );
-    }
+    let calls = [
+        Allocate(1, HALF, FirstMatch, Ok((HALF, HALF))),
+        Allocate(1, HALF, FirstMatch, Err(Error::ResourceNotAvailable)),
+        Free(HALF, HALF, Ok(())),
+        Allocate(HALF, HALF, ExactMatch(HALF), Err(Error::Overflow)),
+        Allocate(HALF, HALF, FirstMatch, Err(Error::Overflow)),
+    ];
+    replay(&rt, &mut space, &calls);
     Ok(())
 }
 

@@ -1,4 +1,5 @@
 use super::*;
+use Call::{Allocate, Free, Holds, Peek};
 use std::process::Abort;
 use std::test::Fail;
 
@@ -37,6 +38,28 @@ fn are_freed(ids: &IdAllocator, freed: &[u32]) -> bool {
     ids.freed_ids.len() == freed.len() && freed.iter().all(|id| ids.freed_ids.contains(id))
 }
 
+/// A call, with the answer that it has to have.
+#[derive(Drop)]
+enum Call {
+    Allocate(Result<u32>),
+    Free(u32, Result<u32>),
+    Holds(u32, bool),
+    Peek(Result<u32>),
+}
+
+/// Does the calls in turn.
+fn replay(rt: &impl Abort, ids: &mut IdAllocator, calls: &[Call]) {
+    for (number, call) in calls.iter().enumerate() {
+        let is_right = match call {
+            Allocate(want) => ids.allocate_id() == *want,
+            Free(id, want) => give_back(rt, ids, *id) == *want,
+            Holds(id, want) => ids.is_allocated(*id) == *want,
+            Peek(want) => ids.peek_id() == *want,
+        };
+        assert!(rt; is_right, "call {number}");
+    }
+}
+
 #[test]
 fn test_slot_id_allocation(rt: HostRuntime) -> std::result::Result<(), Fail> {
     let refused = IdAllocator::new(rt.alloc(), 23, 5);
@@ -54,63 +77,64 @@ fn test_slot_id_allocation(rt: HostRuntime) -> std::result::Result<(), Fail> {
 #[test]
 fn test_u32_overflow(rt: HostRuntime) -> std::result::Result<(), Fail> {
     let mut ids = IdAllocator::new(rt.alloc(), 4294967294, 4294967295)?;
-    assert_eq!(rt; ids.allocate_id(), Ok(4294967294));
-    assert_eq!(rt; ids.allocate_id(), Ok(4294967295));
-    assert_eq!(rt; ids.allocate_id(), Err(Error::Overflow));
+    let calls = [
+        Allocate(Ok(4294967294)),
+        Allocate(Ok(4294967295)),
+        Allocate(Err(Error::Overflow)),
+    ];
+    replay(&rt, &mut ids, &calls);
     Ok(())
 }
 
 #[test]
 fn test_slot_id_free(rt: HostRuntime) -> std::result::Result<(), Fail> {
     let mut ids = IdAllocator::new(rt.alloc(), 5, 23)?;
-    assert_eq!(rt; give_back(&rt, &mut ids, 3), Err(Error::OutOfRange(3)));
+    replay(&rt, &mut ids, &[Free(3, Err(Error::OutOfRange(3)))]);
     assert!(rt; are_freed(&ids, &[]));
 
     take_all(&rt, &mut ids, 5, 13);
-    assert_eq!(rt; give_back(&rt, &mut ids, 10), Ok(10));
-    assert_eq!(rt;
-        give_back(&rt, &mut ids, 10),
-        Err(Error::AlreadyReleased(10))
-    );
-    assert_eq!(rt; give_back(&rt, &mut ids, 9), Ok(9));
+    let calls = [
+        Free(10, Ok(10)),
+        Free(10, Err(Error::AlreadyReleased(10))),
+        Free(9, Ok(9)),
+    ];
+    replay(&rt, &mut ids, &calls);
     assert!(rt; are_freed(&ids, &[9, 10]));
 
-    assert_eq!(rt; ids.allocate_id(), Ok(9));
+    replay(&rt, &mut ids, &[Allocate(Ok(9))]);
     assert!(rt; are_freed(&ids, &[10]));
-    assert_eq!(rt;
-        give_back(&rt, &mut ids, 21),
-        Err(Error::NeverAllocated(21))
-    );
+    replay(&rt, &mut ids, &[Free(21, Err(Error::NeverAllocated(21)))]);
     Ok(())
 }
 
 #[test]
 fn test_free_id_never_allocated_boundary(rt: HostRuntime) -> std::result::Result<(), Fail> {
     let mut ids = IdAllocator::new(rt.alloc(), 5, 23)?;
-    assert_eq!(rt; give_back(&rt, &mut ids, 5), Err(Error::NeverAllocated(5)));
-    assert_eq!(rt; ids.next_id, Some(5));
-    assert!(rt; are_freed(&ids, &[]));
-
-    take_all(&rt, &mut ids, 5, 7);
-    assert_eq!(rt; give_back(&rt, &mut ids, 8), Err(Error::NeverAllocated(8)));
-    assert_eq!(rt; ids.next_id, Some(8));
-    assert!(rt; are_freed(&ids, &[]));
+    for (id, taken) in [(5, 7), (8, 8)] {
+        replay(&rt, &mut ids, &[Free(id, Err(Error::NeverAllocated(id)))]);
+        assert_eq!(rt; ids.next_id, Some(id));
+        assert!(rt; are_freed(&ids, &[]), "at {id}");
+        take_all(&rt, &mut ids, id, taken);
+    }
     Ok(())
 }
 
 #[test]
 fn test_is_allocated(rt: HostRuntime) -> std::result::Result<(), Fail> {
     let mut ids = IdAllocator::new(rt.alloc(), 5, 23)?;
-    for id in [4, 24, 10] {
-        assert!(rt; !ids.is_allocated(id), "at {id}");
-    }
-    take_all(&rt, &mut ids, 5, 5);
-    assert!(rt; ids.is_allocated(5));
-    assert!(rt; !ids.is_allocated(6));
-    assert_eq!(rt; give_back(&rt, &mut ids, 5), Ok(5));
-    assert!(rt; !ids.is_allocated(5));
-    take_all(&rt, &mut ids, 5, 5);
-    assert!(rt; ids.is_allocated(5));
+    let calls = [
+        Holds(4, false),
+        Holds(24, false),
+        Holds(10, false),
+        Allocate(Ok(5)),
+        Holds(5, true),
+        Holds(6, false),
+        Free(5, Ok(5)),
+        Holds(5, false),
+        Allocate(Ok(5)),
+        Holds(5, true),
+    ];
+    replay(&rt, &mut ids, &calls);
     Ok(())
 }
 
@@ -118,19 +142,21 @@ fn test_is_allocated(rt: HostRuntime) -> std::result::Result<(), Fail> {
 fn test_is_allocated_full_range(rt: HostRuntime) -> std::result::Result<(), Fail> {
     let (low, high) = (4294967294, 4294967295);
     let mut ids = IdAllocator::new(rt.alloc(), low, high)?;
-    assert!(rt; !ids.is_allocated(low));
-    assert!(rt; !ids.is_allocated(high));
-    assert_eq!(rt; ids.allocate_id(), Ok(low));
-    assert!(rt; ids.is_allocated(low));
-    assert!(rt; !ids.is_allocated(high));
-    assert_eq!(rt; ids.allocate_id(), Ok(high));
-    assert!(rt; ids.is_allocated(low));
-    assert!(rt; ids.is_allocated(high));
+    let calls = [
+        Holds(low, false),
+        Holds(high, false),
+        Allocate(Ok(low)),
+        Holds(low, true),
+        Holds(high, false),
+        Allocate(Ok(high)),
+        Holds(low, true),
+        Holds(high, true),
+    ];
+    replay(&rt, &mut ids, &calls);
     assert_eq!(rt; ids.next_id, None);
 
-    assert_eq!(rt; give_back(&rt, &mut ids, high), Ok(high));
-    assert!(rt; !ids.is_allocated(high));
-    assert!(rt; ids.is_allocated(low));
+    let calls = [Free(high, Ok(high)), Holds(high, false), Holds(low, true)];
+    replay(&rt, &mut ids, &calls);
     Ok(())
 }
 
@@ -139,45 +165,44 @@ fn test_is_allocated_with_freed(rt: HostRuntime) -> std::result::Result<(), Fail
     let mut ids = IdAllocator::new(rt.alloc(), 5, 23)?;
     take_all(&rt, &mut ids, 5, 6);
     assert_eq!(rt; ids.next_id, Some(7));
-    assert!(rt; ids.is_allocated(6));
-    assert!(rt; !ids.is_allocated(7));
-
-    assert_eq!(rt; give_back(&rt, &mut ids, 5), Ok(5));
-    assert!(rt; !ids.is_allocated(5));
-    assert!(rt; ids.is_allocated(6));
-    assert!(rt; !ids.is_allocated(7));
+    let calls = [
+        Holds(6, true),
+        Holds(7, false),
+        Free(5, Ok(5)),
+        Holds(5, false),
+        Holds(6, true),
+        Holds(7, false),
+    ];
+    replay(&rt, &mut ids, &calls);
     Ok(())
 }
 
 #[test]
 fn test_id_sanity_checks(rt: HostRuntime) -> std::result::Result<(), Fail> {
     let ids = IdAllocator::new(rt.alloc(), 5, 23)?;
-    assert!(rt; ids.id_in_range(6));
-    assert!(rt; !ids.id_in_range(4));
-    assert!(rt; !ids.id_in_range(25));
+    for (id, want) in [(6, true), (4, false), (25, false)] {
+        assert_eq!(rt; ids.id_in_range(id), want, "at {id}");
+    }
     Ok(())
 }
 
 #[test]
 fn ids_of_a_range(rt: HostRuntime) -> std::result::Result<(), Fail> {
     let mut ids = IdAllocator::new(rt.alloc(), 5, 23)?;
-    assert_eq!(rt; give_back(&rt, &mut ids, 3), Err(Error::OutOfRange(3)));
+    replay(&rt, &mut ids, &[Free(3, Err(Error::OutOfRange(3)))]);
     take_all(&rt, &mut ids, 5, 13);
-    assert_eq!(rt; give_back(&rt, &mut ids, 10), Ok(10));
-    assert_eq!(rt;
-        give_back(&rt, &mut ids, 10),
-        Err(Error::AlreadyReleased(10))
-    );
-    assert_eq!(rt; give_back(&rt, &mut ids, 9), Ok(9));
-    assert_eq!(rt; ids.peek_id(), Ok(9));
-    assert_eq!(rt; ids.allocate_id(), Ok(9));
-    assert_eq!(rt;
-        give_back(&rt, &mut ids, 21),
-        Err(Error::NeverAllocated(21))
-    );
-    assert!(rt; !ids.is_allocated(10));
-    assert!(rt; ids.is_allocated(9));
-    assert!(rt; !ids.is_allocated(14));
+    let calls = [
+        Free(10, Ok(10)),
+        Free(10, Err(Error::AlreadyReleased(10))),
+        Free(9, Ok(9)),
+        Peek(Ok(9)),
+        Allocate(Ok(9)),
+        Free(21, Err(Error::NeverAllocated(21))),
+        Holds(10, false),
+        Holds(9, true),
+        Holds(14, false),
+    ];
+    replay(&rt, &mut ids, &calls);
 
     let refused = IdAllocator::new(rt.alloc(), 23, 5);
     assert_eq!(rt; refused.err(), Some(Error::InvalidRange(23, 5)));
@@ -188,18 +213,17 @@ fn ids_of_a_range(rt: HostRuntime) -> std::result::Result<(), Fail> {
 fn greatest_id_alone(rt: HostRuntime) -> std::result::Result<(), Fail> {
     let id = 4294967295;
     let mut ids = IdAllocator::new(rt.alloc(), id, id)?;
-    assert_eq!(rt;
-        give_back(&rt, &mut ids, id),
-        Err(Error::NeverAllocated(id))
-    );
-    assert_eq!(rt; ids.allocate_id(), Ok(id));
-    assert_eq!(rt; ids.allocate_id(), Err(Error::Overflow));
-    assert_eq!(rt; ids.peek_id(), Err(Error::Overflow));
-
-    assert_eq!(rt; give_back(&rt, &mut ids, id), Ok(id));
-    assert!(rt; !ids.is_allocated(id));
-    assert_eq!(rt; ids.peek_id(), Ok(id));
-    assert_eq!(rt; ids.allocate_id(), Ok(id));
-    assert_eq!(rt; ids.allocate_id(), Err(Error::Overflow));
+    let calls = [
+        Free(id, Err(Error::NeverAllocated(id))),
+        Allocate(Ok(id)),
+        Allocate(Err(Error::Overflow)),
+        Peek(Err(Error::Overflow)),
+        Free(id, Ok(id)),
+        Holds(id, false),
+        Peek(Ok(id)),
+        Allocate(Ok(id)),
+        Allocate(Err(Error::Overflow)),
+    ];
+    replay(&rt, &mut ids, &calls);
     Ok(())
 }
