@@ -1,18 +1,15 @@
 //! Trees made by hand, in the orders of insertion that lean each way.
-ghost use Rattle.std.specs.Prelude.{◌≡◌};
-ghost use Rattle.vm_allocator.specs.Range.{IsRange};
-
 use super::walks::{copy, same};
 use super::*;
 use std::process::Abort;
 
 type Inserted = std::result::Result<Box<InnerNode>, (Error, Box<InnerNode>)>;
 
-fn range(start: u64, end: u64) -> RangeInclusive
-    requires { IsRange start end }
-    ensures { result ≡ record { start = start; end = end } }
-{
-    RangeInclusive::between(start, end)
+/// The first and the last address of a key.
+type Key = (u64, u64);
+
+fn range(rt: &impl Abort, key: Key) -> RangeInclusive {
+    RangeInclusive::new(key.0, key.1).expect(rt, "a range")
 }
 
 /// A copy, made again where memory is refused once.
@@ -24,7 +21,8 @@ fn copied(rt: &impl Abort, alloc: Global, tree: &InnerNode) -> Option<Box<InnerN
 }
 
 /// A node without children, made again where memory is refused once.
-fn leaf(rt: &impl Abort, alloc: Global, key: RangeInclusive, state: NodeState) -> Box<InnerNode> {
+fn leaf(rt: &impl Abort, alloc: Global, key: Key, state: NodeState) -> Box<InnerNode> {
+    let key = range(rt, key);
     match Box::new(alloc, InnerNode::new(key, state)) {
         Ok(node) => node,
         Err(_) => Box::new(alloc, InnerNode::new(key, state)).expect(rt, "memory is refused once"),
@@ -42,12 +40,8 @@ fn insert(rt: &impl Abort, alloc: Global, tree: Box<InnerNode>, key: RangeInclus
 }
 
 /// The tree with a free key. Where memory is refused once, the tree stays and the next try succeeds.
-fn inserted(
-    rt: &impl Abort,
-    alloc: Global,
-    tree: Box<InnerNode>,
-    key: RangeInclusive,
-) -> Box<InnerNode> {
+fn inserted(rt: &impl Abort, alloc: Global, tree: Box<InnerNode>, key: Key) -> Box<InnerNode> {
+    let key = range(rt, key);
     let before = copied(rt, alloc, &tree);
     match insert(rt, alloc, tree, key) {
         Ok(tree) => tree,
@@ -62,12 +56,7 @@ fn inserted(
 }
 
 /// The tree of an allocated root and free keys.
-fn tree_of(
-    rt: &impl Abort,
-    alloc: Global,
-    first: RangeInclusive,
-    keys: &[RangeInclusive],
-) -> Box<InnerNode> {
+fn tree_of(rt: &impl Abort, alloc: Global, first: Key, keys: &[Key]) -> Box<InnerNode> {
     let mut tree = leaf(rt, alloc, first, NodeState::Allocated);
     for key in keys {
         tree = inserted(rt, alloc, tree, *key);
@@ -77,35 +66,38 @@ fn tree_of(
 }
 
 /// What inserting a key that overlaps is refused with; the tree handed back is the one from before.
-fn refusal(rt: &impl Abort, alloc: Global, tree: Box<InnerNode>, key: RangeInclusive) -> Error {
+fn refusal(rt: &impl Abort, alloc: Global, tree: Box<InnerNode>, key: Key) -> Error {
     let before = copied(rt, alloc, &tree);
-    let (error, tree) = insert(rt, alloc, tree, key).expect_err(rt, "the key overlaps");
+    let (error, tree) = insert(rt, alloc, tree, range(rt, key)).expect_err(rt, "the key overlaps");
     assert!(rt; same(&Some(tree), &before));
     error
 }
 
 /// The tree without a key, where others are left.
-fn deleted(rt: &impl Abort, tree: Box<InnerNode>, key: RangeInclusive) -> Box<InnerNode> {
+fn deleted(rt: &impl Abort, tree: Box<InnerNode>, key: Key) -> Box<InnerNode> {
     let height = tree.height();
     let mut count = 0;
-    let tree = InnerNode::delete(tree, &key, &mut count).expect(rt, "other keys are left");
+    let tree = InnerNode::delete(tree, &range(rt, key), &mut count).expect(
+        rt,
+        "other keys are left",
+    );
     assert!(rt; 1 <= count && count <= height);
     assert!(rt; is_balanced(&tree));
     tree
 }
 
 /// What a search finds: the state of the node and whether it is a leaf.
-fn found(tree: &InnerNode, key: RangeInclusive) -> Option<(NodeState, bool)> {
+fn found(rt: &impl Abort, tree: &InnerNode, key: Key) -> Option<(NodeState, bool)> {
     let _ = tree.height();
-    let node = tree.search(&key, &mut 0)?;
+    let node = tree.search(&range(rt, key), &mut 0)?;
     Some((node.state(), node.height() == 1))
 }
 
 /// The key that contains another one.
-fn superset(tree: &InnerNode, key: RangeInclusive) -> Option<RangeInclusive> {
+fn superset(rt: &impl Abort, tree: &InnerNode, key: Key) -> Option<Key> {
     let _ = tree.height();
-    let node = tree.search_superset(&key, &mut 0)?;
-    Some(node.key())
+    let key = tree.search_superset(&range(rt, key), &mut 0)?.key();
+    Some((key.start(), key.end()))
 }
 
 /// Whether each kept height is true and the heights of two children differ by at most one.
@@ -132,71 +124,58 @@ fn write_starts(child: &Option<Box<InnerNode>>, starts: &mut [u64; 8], place: us
 
 #[test]
 fn test_search(rt: HostRuntime) {
-    let keys = [range(0x90, 0x99), range(0x200, 0x2FF)];
-    let tree = tree_of(&rt, rt.alloc(), range(0x100, 0x110), &keys);
+    let keys = [(0x90, 0x99), (0x200, 0x2FF)];
+    let tree = tree_of(&rt, rt.alloc(), (0x100, 0x110), &keys);
     assert_eq!(rt;
-        found(&tree, range(0x90, 0x99)),
+        found(&rt, &tree, (0x90, 0x99)),
         Some((NodeState::Free, true))
     );
-    assert_eq!(rt; found(&tree, range(0x200, 0x250)), None);
-    assert_eq!(rt; found(&tree, range(0x111, 0x1FE)), None);
+    assert_eq!(rt; found(&rt, &tree, (0x200, 0x250)), None);
+    assert_eq!(rt; found(&rt, &tree, (0x111, 0x1FE)), None);
 }
 
 #[test]
 fn test_search_superset(rt: HostRuntime) {
-    let (low, top, high) = (range(0x90, 0x9F), range(0x100, 0x110), range(0x200, 0x2FF));
+    let (low, top, high) = ((0x90, 0x9F), (0x100, 0x110), (0x200, 0x2FF));
     let tree = tree_of(&rt, rt.alloc(), top, &[low, high]);
-    assert_eq!(rt; superset(&tree, range(0x100, 0x101)), Some(top));
-    assert_eq!(rt; superset(&tree, range(0x90, 0x95)), Some(low));
-    for inner in [
-        range(0x200, 0x201),
-        high,
-        range(0x209, 0x210),
-        range(0x2EF, 0x2FF),
-    ] {
-        assert_eq!(rt; superset(&tree, inner), Some(high), "for {inner:?}");
+    assert_eq!(rt; superset(&rt, &tree, (0x100, 0x101)), Some(top));
+    assert_eq!(rt; superset(&rt, &tree, (0x90, 0x95)), Some(low));
+    for inner in [(0x200, 0x201), high, (0x209, 0x210), (0x2EF, 0x2FF)] {
+        assert_eq!(rt; superset(&rt, &tree, inner), Some(high), "for {inner:?}");
     }
-    for outer in [
-        range(0x2FF, 0x300),
-        range(0x300, 0x301),
-        range(0x1FF, 0x300),
-    ] {
-        assert_eq!(rt; superset(&tree, outer), None, "for {outer:?}");
+    for outer in [(0x2FF, 0x300), (0x300, 0x301), (0x1FF, 0x300)] {
+        assert_eq!(rt; superset(&rt, &tree, outer), None, "for {outer:?}");
     }
 }
 
 #[test]
 fn test_tree_insert_balanced(rt: HostRuntime) {
-    let first = range(0x300, 0x310);
+    let first = (0x300, 0x310);
     let keys = [
-        range(0x100, 0x110),
-        range(0x350, 0x360),
-        range(0x340, 0x34F),
-        range(0x311, 0x33F),
+        (0x100, 0x110),
+        (0x350, 0x360),
+        (0x340, 0x34F),
+        (0x311, 0x33F),
     ];
     let tree = tree_of(&rt, rt.alloc(), first, &keys);
     let _ = tree.height();
     let tree = InnerNode::delete_root(tree, &mut 0).expect(&rt, "four keys are left");
     assert!(rt; is_balanced(&tree));
-    assert_eq!(rt; found(&tree, first), None);
+    assert_eq!(rt; found(&rt, &tree, first), None);
 
     let keys = [
-        range(0x100, 0x110),
-        range(0x90, 0x9F),
-        range(0x311, 0x313),
-        range(0x314, 0x316),
-        range(0x317, 0x319),
-        range(0x321, 0x323),
+        (0x100, 0x110),
+        (0x90, 0x9F),
+        (0x311, 0x313),
+        (0x314, 0x316),
+        (0x317, 0x319),
+        (0x321, 0x323),
     ];
     let mut tree = tree_of(&rt, rt.alloc(), first, &keys);
-    for key in [
-        range(0x321, 0x323),
-        range(0x314, 0x316),
-        range(0x317, 0x319),
-    ] {
+    for key in [(0x321, 0x323), (0x314, 0x316), (0x317, 0x319)] {
         tree = deleted(&rt, tree, key);
     }
-    for key in [range(0x80, 0x8F), range(0x70, 0x7F), range(0x60, 0x6F)] {
+    for key in [(0x80, 0x8F), (0x70, 0x7F), (0x60, 0x6F)] {
         tree = inserted(&rt, rt.alloc(), tree, key);
         assert!(rt; is_balanced(&tree));
     }
@@ -204,81 +183,78 @@ fn test_tree_insert_balanced(rt: HostRuntime) {
 
 #[test]
 fn test_tree_insert_intersect_negative(rt: HostRuntime) {
-    let (first, high, low) = (range(0x100, 0x200), range(0x201, 0x2FF), range(0x90, 0x9F));
-    let (in_high, in_low) = (range(0x201, 0x2FE), range(0x90, 0x9E));
+    let (first, high, low) = ((0x100, 0x200), (0x201, 0x2FF), (0x90, 0x9F));
+    let (in_high, in_low) = ((0x201, 0x2FE), (0x90, 0x9E));
     let tree = tree_of(&rt, rt.alloc(), first, &[high]);
     assert_eq!(rt;
         refusal(&rt, rt.alloc(), tree, in_high),
-        Error::Overlap(in_high, high)
+        Error::Overlap(range(&rt, in_high), range(&rt, high))
     );
     let tree = tree_of(&rt, rt.alloc(), first, &[high, low]);
     assert_eq!(rt;
         refusal(&rt, rt.alloc(), tree, in_low),
-        Error::Overlap(in_low, low)
+        Error::Overlap(range(&rt, in_low), range(&rt, low))
     );
 }
 
 #[test]
 fn test_tree_insert_duplicate_negative(rt: HostRuntime) {
-    let key = range(0x100, 0x200);
+    let key = (0x100, 0x200);
     let tree = tree_of(&rt, rt.alloc(), key, &[]);
     assert_eq!(rt;
         refusal(&rt, rt.alloc(), tree, key),
-        Error::Overlap(key, key)
+        Error::Overlap(range(&rt, key), range(&rt, key))
     );
 }
 
 #[test]
 fn test_tree_mark_as_allocated_invalid_transition(rt: HostRuntime) {
-    let key = range(0x100, 0x110);
+    let key = (0x100, 0x110);
     let mut tree = tree_of(&rt, rt.alloc(), key, &[]);
     let _ = tree.height();
+    let key = range(&rt, key);
     let error = Error::InvalidStateTransition(key, NodeState::Allocated);
     assert_eq!(rt; tree.mark_as_allocated(&key, &mut 0), Err(error));
 }
 
 #[test]
 fn test_tree_mark_as_allocated_resource_not_available(rt: HostRuntime) {
-    let mut tree = tree_of(&rt, rt.alloc(), range(0x100, 0x110), &[]);
-    for key in [range(0x111, 0x112), range(0x90, 0x92)] {
+    let mut tree = tree_of(&rt, rt.alloc(), (0x100, 0x110), &[]);
+    for key in [(0x111, 0x112), (0x90, 0x92)] {
         let _ = tree.height();
-        let result = tree.mark_as_allocated(&key, &mut 0);
+        let result = tree.mark_as_allocated(&range(&rt, key), &mut 0);
         assert_eq!(rt; result, Err(Error::ResourceNotAvailable), "for {key:?}");
     }
 }
 
 #[test]
 fn test_tree_mark_as_allocated(rt: HostRuntime) {
-    let key = range(0x200, 0x2FF);
-    let mut tree = tree_of(&rt, rt.alloc(), range(0x100, 0x110), &[key]);
+    let key = (0x200, 0x2FF);
+    let mut tree = tree_of(&rt, rt.alloc(), (0x100, 0x110), &[key]);
     let _ = tree.height();
-    assert_eq!(rt; found(&tree, key), Some((NodeState::Free, true)));
-    assert_eq!(rt; tree.mark_as_allocated(&key, &mut 0), Ok(()));
-    assert_eq!(rt; found(&tree, key), Some((NodeState::Allocated, true)));
+    assert_eq!(rt; found(&rt, &tree, key), Some((NodeState::Free, true)));
+    assert_eq!(rt; tree.mark_as_allocated(&range(&rt, key), &mut 0), Ok(()));
+    assert_eq!(rt; found(&rt, &tree, key), Some((NodeState::Allocated, true)));
 }
 
 #[test]
 fn test_tree_delete(rt: HostRuntime) {
-    let (low, first, high) = (
-        range(0x100, 0x110),
-        range(0x200, 0x290),
-        range(0x300, 0x3FF),
-    );
+    let (low, first, high) = ((0x100, 0x110), (0x200, 0x290), (0x300, 0x3FF));
     let tree = tree_of(&rt, rt.alloc(), first, &[high]);
     let tree = deleted(&rt, tree, first);
     let tree = inserted(&rt, rt.alloc(), tree, first);
     let tree = inserted(&rt, rt.alloc(), tree, low);
-    assert_eq!(rt; found(&tree, low), Some((NodeState::Free, true)));
-    assert_eq!(rt; found(&tree, high), Some((NodeState::Free, true)));
+    assert_eq!(rt; found(&rt, &tree, low), Some((NodeState::Free, true)));
+    assert_eq!(rt; found(&rt, &tree, high), Some((NodeState::Free, true)));
     let tree = deleted(&rt, tree, first);
     let tree = deleted(&rt, tree, high);
-    assert_eq!(rt; tree.key(), low);
+    assert_eq!(rt; tree.key(), range(&rt, low));
     assert_eq!(rt; tree.height(), 1);
 }
 
 #[test]
 fn orders_of_three_keys(rt: HostRuntime) {
-    let (a, b, c) = (range(10, 10), range(20, 20), range(30, 30));
+    let (a, b, c) = ((10, 10), (20, 20), (30, 30));
     for [x, y, z] in [
         [a, b, c],
         [a, c, b],
@@ -288,27 +264,20 @@ fn orders_of_three_keys(rt: HostRuntime) {
         [c, b, a],
     ] {
         let tree = tree_of(&rt, rt.alloc(), x, &[y, z]);
-        assert_eq!(rt; tree.key(), b, "after {x:?}, {y:?}, {z:?}");
+        assert_eq!(rt; tree.key(), range(&rt, b), "after {x:?}, {y:?}, {z:?}");
         assert_eq!(rt; tree.height(), 2, "after {x:?}, {y:?}, {z:?}");
     }
 }
 
 #[test]
 fn rising_keys(rt: HostRuntime) {
-    let keys = [
-        range(2, 2),
-        range(3, 3),
-        range(4, 4),
-        range(5, 5),
-        range(6, 6),
-        range(7, 7),
-    ];
-    let tree = tree_of(&rt, rt.alloc(), range(1, 1), &keys);
+    let keys = [(2, 2), (3, 3), (4, 4), (5, 5), (6, 6), (7, 7)];
+    let tree = tree_of(&rt, rt.alloc(), (1, 1), &keys);
     assert_eq!(rt; tree.height(), 3);
-    let tree = deleted(&rt, tree, range(4, 4));
+    let tree = deleted(&rt, tree, (4, 4));
     assert_eq!(rt; tree.height(), 3);
     let before = copied(&rt, rt.alloc(), &tree);
-    let tree = Some(deleted(&rt, tree, range(9, 9)));
+    let tree = Some(deleted(&rt, tree, (9, 9)));
     assert!(rt; same(&tree, &before));
     let mut starts = [0; 8];
     assert_eq!(rt; write_starts(&tree, &mut starts, 0), 6);
@@ -317,11 +286,11 @@ fn rising_keys(rt: HostRuntime) {
 
 #[test]
 fn free_key_between_others(rt: HostRuntime) {
-    let keys = [range(20, 20), range(30, 30)];
-    let tree = tree_of(&rt, rt.alloc(), range(10, 10), &keys);
-    let tree = inserted(&rt, rt.alloc(), tree, range(5, 8));
-    assert_eq!(rt; found(&tree, range(5, 8)), Some((NodeState::Free, true)));
-    let tree = tree_of(&rt, rt.alloc(), range(10, 10), &keys);
-    let error = Error::Overlap(range(25, 30), range(30, 30));
-    assert_eq!(rt; refusal(&rt, rt.alloc(), tree, range(25, 30)), error);
+    let keys = [(20, 20), (30, 30)];
+    let tree = tree_of(&rt, rt.alloc(), (10, 10), &keys);
+    let tree = inserted(&rt, rt.alloc(), tree, (5, 8));
+    assert_eq!(rt; found(&rt, &tree, (5, 8)), Some((NodeState::Free, true)));
+    let tree = tree_of(&rt, rt.alloc(), (10, 10), &keys);
+    let error = Error::Overlap(range(&rt, (25, 30)), range(&rt, (30, 30)));
+    assert_eq!(rt; refusal(&rt, rt.alloc(), tree, (25, 30)), error);
 }
