@@ -126,25 +126,31 @@ fn write_starts(child: &Option<Box<InnerNode>>, starts: &mut [u64; 8], place: us
 fn test_search(rt: HostRuntime) {
     let keys = [(0x90, 0x99), (0x200, 0x2FF)];
     let tree = tree_of(&rt, rt.alloc(), (0x100, 0x110), &keys);
-    assert_eq!(rt;
-        found(&rt, &tree, (0x90, 0x99)),
-        Some((NodeState::Free, true))
-    );
-    assert_eq!(rt; found(&rt, &tree, (0x200, 0x250)), None);
-    assert_eq!(rt; found(&rt, &tree, (0x111, 0x1FE)), None);
+    for (key, want) in [
+        ((0x90, 0x99), Some((NodeState::Free, true))),
+        ((0x200, 0x250), None),
+        ((0x111, 0x1FE), None),
+    ] {
+        assert_eq!(rt; found(&rt, &tree, key), want, "for {key:?}");
+    }
 }
 
 #[test]
 fn test_search_superset(rt: HostRuntime) {
     let (low, top, high) = ((0x90, 0x9F), (0x100, 0x110), (0x200, 0x2FF));
     let tree = tree_of(&rt, rt.alloc(), top, &[low, high]);
-    assert_eq!(rt; superset(&rt, &tree, (0x100, 0x101)), Some(top));
-    assert_eq!(rt; superset(&rt, &tree, (0x90, 0x95)), Some(low));
-    for inner in [(0x200, 0x201), high, (0x209, 0x210), (0x2EF, 0x2FF)] {
-        assert_eq!(rt; superset(&rt, &tree, inner), Some(high), "for {inner:?}");
-    }
-    for outer in [(0x2FF, 0x300), (0x300, 0x301), (0x1FF, 0x300)] {
-        assert_eq!(rt; superset(&rt, &tree, outer), None, "for {outer:?}");
+    for (key, want) in [
+        ((0x100, 0x101), Some(top)),
+        ((0x90, 0x95), Some(low)),
+        ((0x200, 0x201), Some(high)),
+        (high, Some(high)),
+        ((0x209, 0x210), Some(high)),
+        ((0x2EF, 0x2FF), Some(high)),
+        ((0x2FF, 0x300), None),
+        ((0x300, 0x301), None),
+        ((0x1FF, 0x300), None),
+    ] {
+        assert_eq!(rt; superset(&rt, &tree, key), want, "for {key:?}");
     }
 }
 
