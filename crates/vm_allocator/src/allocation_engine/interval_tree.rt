@@ -1,8 +1,7 @@
-ghost use Rattle.std.specs.Prelude.{◌≡◌, ◌≢◌, Err, ℕ, ◌+◌, ◌*◌, ◌<◌, ◌≤◌, ◌++◌, ◌∷◌, [], OnErr, IfOk, IfErr, IfSome, IsSome, MatchResult, MatchBool, OnOk, Some};
+ghost use Rattle.std.specs.Prelude.{◌≡◌, ◌≢◌, Err, ◌+◌, ◌*◌, ◌<◌, ◌≤◌, [], OnErr, IfOk, IfErr, IfSome, IsSome, MatchResult, MatchBool, OnOk, Some};
 ghost use Rattle.vm_allocator.specs.Range.{MAX, IsRange};
 ghost use Rattle.vm_allocator.specs.Answer.{Takes, Settles, Frees};
 ghost use Rattle.vm_allocator.specs.BlockEdits.{free_block, IsTakenFrom, HasRoom, LeavesPart, before_part, after_part};
-ghost use Rattle.vm_allocator.specs.BlockList.{replace_block};
 ghost use Rattle.vm_allocator.specs.Shape.{blocks, height_of, node_count, single, root_block, IsTree};
 ghost use Rattle.vm_allocator.specs.NodeFields.{side};
 ghost use Rattle.vm_allocator.specs.Steps.{IsBalancedTreeOf, IsSettlingCount, IsReleaseCount, SplitsIfLow};
