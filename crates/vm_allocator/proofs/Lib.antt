@@ -41,3 +41,5 @@ pub mod HeldSets
 pub mod Outcomes
 pub mod HistoryAnswers
 pub mod Counting
+pub mod Ways
+pub mod DeleteWays

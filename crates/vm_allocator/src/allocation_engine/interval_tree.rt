@@ -308,6 +308,7 @@ fn joined(key: &RangeInclusive, beside: &Neighbours) -> RangeInclusive
 }
 
 /// Removes the node with a key, if there is such a key.
+#[tactic(auto, using(crate::proofs::DeleteWays::delete_bounds))]
 fn drop_if(root: &mut Option<Box<InnerNode>>, key: &Option<RangeInclusive>, count: &mut u64)
     requires some { IsSome root.old }
     requires count_fits { count.old + height_of (side root.old) ≤ MAX }

@@ -3,7 +3,7 @@
 ghost use Rattle.std.specs.Prelude.{◌≡◌, ◌+◌, ◌*◌, ◌<◌, ◌≤◌, ◌^◌, ◌++◌, [], ◌∷◌, ◌↔◌, max, Some, None, MatchOption, IsSome, IsNone, IfOk, IfErr, OnOk};
 ghost use Rattle.vm_allocator.specs.Range.{MAX};
 ghost use Rattle.vm_allocator.specs.BlockList.{IsOrderedFrom, IsClearOf, insert_block, replace_block, find_key, find_superset};
-ghost use Rattle.vm_allocator.specs.Shape.{Shape, Tip, Fork, blocks, height_of, single, root_block, IsTree, DifferByAtMost, IsSameIfNot, LeavesIfAbsent, first_met};
+ghost use Rattle.vm_allocator.specs.Shape.{Shape, Tip, Fork, blocks, height_of, single, root_block, IsTree, IsLeaf, Grows, Shrinks, DifferByAtMost, IsSameIfNot, LeavesIfAbsent, first_met, way_down, least_way, join_way, delete_way};
 ghost use Rattle.vm_allocator.specs.NodeFields.{side};
 ghost use Rattle.vm_allocator.specs.NodeAnswer.{TellsOverlap, RefusesKey, Marks};
 
@@ -34,6 +34,9 @@ pub(crate) struct InnerNode {
     right: Option<Box<InnerNode>>,
     height: u64,
 }
+
+/// A place for a child.
+pub(crate) type Child = Option<Box<InnerNode>>;
 
 impl Model for InnerNode {
     ghost use Rattle.vm_allocator.specs.Shape.{Shape, shape_code, node_count};
@@ -86,6 +89,18 @@ impl InnerNode {
         self.node_state
     }
 
+    /// Counts this node as entered.
+    #[inline(always)]
+    fn enter(&self, count: &mut u64)
+        requires { count.old + height_of self.now ≤ MAX }
+        ensures count { count.new ≡ count.old + 1 }
+        ensures some { 0 < height_of self.now }
+        ensures tree { IsTree self.now }
+    {
+        let _ = &self.height;
+        *count += 1;
+    }
+
     /// How many nodes the longest way down from here has.
     pub(crate) fn height(&self) -> u64
         ensures value { result ≡ height_of self.now }
@@ -109,106 +124,69 @@ pub(crate) fn height(child: &Option<Box<InnerNode>>) -> u64
     }
 }
 
-/// Adds a leaf below the node at a place; says whether the height there changed.
-#[tactic(auto, using(crate::proofs::BlockOrder::links, crate::proofs::SideChange::places))]
+/// Adds a leaf at a place, or below the node there.
+#[tactic(auto, using(crate::proofs::BlockOrder::links, crate::proofs::Ways::ways_down))]
 pub(crate) fn link_at(
-    at: &mut Option<Box<InnerNode>>,
+    at: &mut Child,
     leaf: Box<InnerNode>,
     count: &mut u64,
-) -> bool
-    requires some { IsSome at.old }
-    requires leaf { leaf.value ≡ single (root_block leaf.value) }
+)
+    requires leaf { IsLeaf leaf.value }
     requires clear { IsClearOf (root_block leaf.value).key (blocks (side at.old)) }
     requires height { height_of (side at.old) ≤ 48 }
     requires count_fits { count.old + height_of (side at.old) ≤ MAX }
     ensures some { IsSome at.new }
     ensures blocks { blocks (side at.new) ≡ insert_block (root_block leaf.value) (blocks (side at.old)) }
-    ensures tree { IsTree (side at.new) }
-    ensures not_lower { height_of (side at.old) ≤ height_of (side at.new) }
-    ensures at_most_one_higher { height_of (side at.new) ≤ height_of (side at.old) + 1 }
-    ensures same { IsSameIfNot result (height_of (side at.old)) (height_of (side at.new)) }
-    ensures entered { count.old + 1 ≤ count.new }
-    ensures steps { count.new ≤ count.old + height_of (side at.old) }
-    ensures half { 2 * count.old + height_of (side at.old) ≤ 2 * count.new }
+    ensures grows { Grows (side at.old) (side at.new) }
+    ensures count { count.new ≡ count.old + way_down (root_block leaf.value).key (side at.old) }
 {
-    let Some(tree) = at else { unreachable!() };
+    let key = leaf.key();
+    let Some(tree) = at else {
+        *at = Some(leaf);
+        return;
+    };
     let tree: &mut InnerNode = tree;
-    let _ = &tree.height;
-    *count += 1;
-    if leaf.key().starts_before(&tree.key) {
-        if tree.left.is_none() {
-            tree.left = Some(leaf);
-            return refresh(&tree.left, &tree.right, &mut tree.height);
-        }
-        if !link_at(&mut tree.left, leaf, count) {
-            return false;
-        }
-        if height(&tree.left) <= height(&tree.right) + 1 {
-            return refresh(&tree.left, &tree.right, &mut tree.height);
-        }
-        let (left, right) = strip(&mut tree.left, &mut tree.right, &mut tree.height);
-        rebalance(at, left, right);
-        return true;
+    tree.enter(count);
+    let goes_left = key.starts_before(&tree.key);
+    let (mut left, mut right) = strip(&mut tree.left, &mut tree.right, &mut tree.height);
+    if goes_left {
+        link_at(&mut left, leaf, count);
+    } else {
+        link_at(&mut right, leaf, count);
     }
-    if tree.right.is_none() {
-        tree.right = Some(leaf);
-        return refresh(&tree.left, &tree.right, &mut tree.height);
-    }
-    if !link_at(&mut tree.right, leaf, count) {
-        return false;
-    }
-    if height(&tree.right) <= height(&tree.left) + 1 {
-        return refresh(&tree.left, &tree.right, &mut tree.height);
-    }
-    let (left, right) = strip(&mut tree.left, &mut tree.right, &mut tree.height);
     rebalance(at, left, right);
-    true
 }
 
-/// Takes the node with the least key out from below the node at a place; says whether the height
-/// there changed.
-#[tactic(auto, using(crate::proofs::Replacement::leasts, crate::proofs::SideChange::takes))]
-fn take_least_at(at: &mut Option<Box<InnerNode>>, count: &mut u64) -> (Box<InnerNode>, bool)
+/// Takes the node with the least key out from below the node at a place.
+#[tactic(auto, using(crate::proofs::Replacement::leasts, crate::proofs::SideChange::takes, crate::proofs::DeleteWays::least_ways))]
+fn take_least_at(at: &mut Option<Box<InnerNode>>, count: &mut u64) -> Box<InnerNode>
     requires some { IsSome at.old }
     requires count_fits { count.old + height_of (side at.old) ≤ MAX }
-    ensures blocks { blocks (side at.old) ≡ root_block result.0.value ∷ blocks (side at.new) }
-    ensures leaf { result.0.value ≡ single (root_block result.0.value) }
-    ensures tree { IsTree (side at.new) }
-    ensures not_higher { height_of (side at.new) ≤ height_of (side at.old) }
-    ensures at_most_one_lower { height_of (side at.old) ≤ height_of (side at.new) + 1 }
-    ensures same { IsSameIfNot result.1 (height_of (side at.old)) (height_of (side at.new)) }
-    ensures entered { count.old + 1 ≤ count.new }
-    ensures steps { count.new ≤ count.old + height_of (side at.old) }
+    ensures blocks { blocks (side at.old) ≡ root_block result.value ∷ blocks (side at.new) }
+    ensures leaf { result.value ≡ single (root_block result.value) }
+    ensures shrinks { Shrinks (side at.old) (side at.new) }
+    ensures count { count.new ≡ count.old + least_way (side at.old) }
 {
     let Some(tree) = at else { unreachable!() };
     let tree: &mut InnerNode = tree;
-    let _ = &tree.height;
-    *count += 1;
-    if tree.left.is_none() {
-        let (_, right) = strip(&mut tree.left, &mut tree.right, &mut tree.height);
-        let _ = height(&right);
+    tree.enter(count);
+    let (mut left, right) = strip(&mut tree.left, &mut tree.right, &mut tree.height);
+    let _ = height(&right);
+    if left.is_none() {
         let Some(least) = at.take() else {
             unreachable!()
         };
         *at = right;
-        return (least, true);
+        return least;
     }
-    let (least, changed) = take_least_at(&mut tree.left, count);
-    if !changed {
-        return (least, false);
-    }
-    if height(&tree.right) <= height(&tree.left) + 1 {
-        let changed = refresh(&tree.left, &tree.right, &mut tree.height);
-        return (least, changed);
-    }
-    let (left, right) = strip(&mut tree.left, &mut tree.right, &mut tree.height);
+    let least = take_least_at(&mut left, count);
     rebalance(at, left, right);
-    (least, true)
+    least
 }
 
 /// What is left of a tree without its root, from the root's children: the other child where one is
 /// absent, and else both below the least node of the right one.
-#[tactic(auto, using(crate::proofs::Replacement::leasts, crate::proofs::SideChange::takes))]
+#[tactic(auto, using(crate::proofs::Replacement::leasts, crate::proofs::SideChange::takes, crate::proofs::DeleteWays::join_ways))]
 fn join(
     left: Option<Box<InnerNode>>,
     mut right: Option<Box<InnerNode>>,
@@ -224,8 +202,7 @@ fn join(
     ensures only_right { side left ≡ Tip → side result ≡ side right }
     ensures not_lower { max (height_of (side left)) (height_of (side right)) ≤ height_of (side result) }
     ensures at_most_one_higher { height_of (side result) ≤ max (height_of (side left)) (height_of (side right)) + 1 }
-    ensures entered { count.old ≤ count.new }
-    ensures steps { count.new ≤ count.old + height_of (side right) }
+    ensures count { count.new ≡ count.old + join_way (side left) (side right) }
 {
     let _ = (height(&left), height(&right));
     if right.is_none() {
@@ -234,62 +211,39 @@ fn join(
     if left.is_none() {
         return right;
     }
-    let (least, _) = take_least_at(&mut right, count);
+    let least = take_least_at(&mut right, count);
     Some(balance(left, least, right))
 }
 
 /// Removes the node with a key from below the node at a place, if there is one; says whether the
 /// height there changed.
-#[tactic(auto, using(crate::proofs::Replacement::removals, crate::proofs::Replacement::leavings, crate::proofs::SideChange::takes))]
+#[tactic(auto, using(crate::proofs::Replacement::removals, crate::proofs::Replacement::leavings, crate::proofs::SideChange::takes, crate::proofs::DeleteWays::delete_ways))]
 pub(crate) fn delete_at(
     at: &mut Option<Box<InnerNode>>,
     key: &RangeInclusive,
     count: &mut u64,
-) -> bool
-    requires some { IsSome at.old }
+)
     requires count_fits { count.old + height_of (side at.old) ≤ MAX }
     ensures blocks { blocks (side at.new) ≡ replace_block key.now [] (blocks (side at.old)) }
-    ensures absent { LeavesIfAbsent key.now result (side at.old) (side at.new) }
-    ensures tree { IsTree (side at.new) }
-    ensures not_higher { height_of (side at.new) ≤ height_of (side at.old) }
-    ensures at_most_one_lower { height_of (side at.old) ≤ height_of (side at.new) + 1 }
-    ensures same { IsSameIfNot result (height_of (side at.old)) (height_of (side at.new)) }
-    ensures entered { count.old + 1 ≤ count.new }
-    ensures steps { count.new ≤ count.old + height_of (side at.old) }
+    ensures absent { LeavesIfAbsent key.now (side at.old) (side at.new) }
+    ensures shrinks { Shrinks (side at.old) (side at.new) }
+    ensures count { count.new ≡ count.old + delete_way key.now (side at.old) }
 {
-    let Some(tree) = at else { unreachable!() };
+    let Some(tree) = at else { return };
     let tree: &mut InnerNode = tree;
     let _ = &tree.height;
     *count += 1;
-    match tree.key.order(key) {
+    let order = tree.key.order(key);
+    let (mut left, mut right) = strip(&mut tree.left, &mut tree.right, &mut tree.height);
+    match order {
         Ordering::Equal => {
-            let (left, right) = strip(&mut tree.left, &mut tree.right, &mut tree.height);
             *at = join(left, right, count);
-            true
+            return;
         }
-        Ordering::Greater => {
-            if tree.left.is_none() || !delete_at(&mut tree.left, key, count) {
-                return false;
-            }
-            if height(&tree.right) <= height(&tree.left) + 1 {
-                return refresh(&tree.left, &tree.right, &mut tree.height);
-            }
-            let (left, right) = strip(&mut tree.left, &mut tree.right, &mut tree.height);
-            rebalance(at, left, right);
-            true
-        }
-        Ordering::Less => {
-            if tree.right.is_none() || !delete_at(&mut tree.right, key, count) {
-                return false;
-            }
-            if height(&tree.left) <= height(&tree.right) + 1 {
-                return refresh(&tree.left, &tree.right, &mut tree.height);
-            }
-            let (left, right) = strip(&mut tree.left, &mut tree.right, &mut tree.height);
-            rebalance(at, left, right);
-            true
-        }
+        Ordering::Greater => delete_at(&mut left, key, count),
+        Ordering::Less => delete_at(&mut right, key, count),
     }
+    rebalance(at, left, right);
 }
 
 impl InnerNode {
@@ -307,12 +261,10 @@ impl InnerNode {
         ensures tree { IsTree result.value }
         ensures not_lower { height_of tree.value ≤ height_of result.value }
         ensures at_most_one_higher { height_of result.value ≤ height_of tree.value + 1 }
-        ensures entered { count.old + 1 ≤ count.new }
-        ensures steps { count.new ≤ count.old + height_of tree.value }
-        ensures half { 2 * count.old + height_of tree.value ≤ 2 * count.new }
+        ensures count { count.new ≡ count.old + way_down (root_block leaf.value).key tree.value }
     {
         let mut at = Some(tree);
-        let _ = link_at(&mut at, leaf, count);
+        link_at(&mut at, leaf, count);
         let Some(tree) = at else { unreachable!() };
         tree
     }
@@ -320,7 +272,7 @@ impl InnerNode {
     /// The tree with one more key. A key that overlaps is refused by `Overlap` of it with the first
     /// key met on the way down, and only then may memory run out, `OutOfMemory`. A refusal hands the
     /// same tree back.
-    #[tactic(auto, unfolding(crate::specs::NodeAnswer::TellsOverlap, crate::specs::NodeAnswer::RefusesKey))]
+    #[tactic(auto, using(crate::proofs::Ways::way_bounds), unfolding(crate::specs::NodeAnswer::TellsOverlap, crate::specs::NodeAnswer::RefusesKey))]
     pub(crate) fn insert(
         tree: Box<InnerNode>,
         alloc: Global,
@@ -364,17 +316,17 @@ impl InnerNode {
         ensures none { IsNone result ↔ (side result ≡ Tip) }
         ensures not_higher { height_of (side result) ≤ height_of tree.value }
         ensures at_most_one_lower { height_of tree.value ≤ height_of (side result) + 1 }
-        ensures entered { count.old + 1 ≤ count.new }
-        ensures steps { count.new ≤ count.old + height_of tree.value }
+        ensures count { count.new ≡ count.old + delete_way key.now tree.value }
     {
         let mut at = Some(tree);
-        let _ = delete_at(&mut at, key, count);
+        delete_at(&mut at, key, count);
         let _ = height(&at);
         at
     }
 
     /// The tree without its root's key: its child where it has one alone, none where it has none,
     /// and else both children below the least node of the right one. It takes no memory.
+    #[tactic(auto, using(crate::proofs::DeleteWays::delete_bounds))]
     pub(crate) fn delete_root(mut tree: Box<InnerNode>, count: &mut u64) -> Option<Box<InnerNode>>
         requires { count.old + height_of tree.value ≤ MAX }
         ensures blocks { blocks (side result) ≡ replace_block (root_block tree.value).key [] (blocks tree.value) }
@@ -459,8 +411,7 @@ impl InnerNode {
         ensures entered { count.old + 1 ≤ count.new }
         ensures steps { count.new ≤ count.old + height_of self.now }
     {
-        let _ = &self.height;
-        *count += 1;
+        self.enter(count);
         if new.ends_before(&self.key) {
             let Some(left) = &self.left else { return None };
             return left.first_met(new, count);

@@ -1,7 +1,7 @@
 //! Heights and rotations. Nothing here calls itself, and nothing takes memory.
 ghost use Rattle.std.specs.Prelude.{◌≡◌, ◌+◌, ◌<◌, ◌≤◌, ◌^◌, ◌++◌, ◌∷◌, max, None, IsSome, ◌↔◌, IsNone};
 ghost use Rattle.vm_allocator.specs.BlockList.{IsOrderedFrom};
-ghost use Rattle.vm_allocator.specs.Shape.{Fork, blocks, height_of, single, root_block, IsTree, DifferByAtMost, IsHeightAfterBalance, IsSameIfNot};
+ghost use Rattle.vm_allocator.specs.Shape.{Fork, blocks, height_of, single, root_block, IsTree, DifferByAtMost, IsHeightAfterBalance, IsForkIfClose, IsSameIfNot};
 ghost use Rattle.vm_allocator.specs.NodeFields.{side};
 
 use super::{InnerNode, height};
@@ -135,6 +135,7 @@ fn lean_right(
 }
 
 /// A node with these sides, whose heights differ by at most two.
+#[tactic(auto, unfolding(crate::specs::Shape::IsForkIfClose))]
 pub(super) fn balance(
     left: Option<Box<InnerNode>>,
     middle: Box<InnerNode>,
@@ -147,6 +148,7 @@ pub(super) fn balance(
     ensures tree { IsTree result.value }
     ensures blocks { blocks result.value ≡ blocks (side left) ++ root_block middle.value ∷ blocks (side right) }
     ensures height { IsHeightAfterBalance (height_of (side left)) (height_of (side right)) (height_of result.value) }
+    ensures kept { IsForkIfClose (side left) (root_block middle.value) (side right) result.value }
 {
     let left_height = height(&left);
     let right_height = height(&right);
@@ -177,6 +179,7 @@ pub(super) fn rebalance(
     ensures tree { IsTree (side at.new) }
     ensures blocks { blocks (side at.new) ≡ blocks (side left) ++ root_block (side at.old) ∷ blocks (side right) }
     ensures height { IsHeightAfterBalance (height_of (side left)) (height_of (side right)) (height_of (side at.new)) }
+    ensures kept { IsForkIfClose (side left) (root_block (side at.old)) (side right) (side at.new) }
 {
     let Some(middle) = at.take() else {
         unreachable!()

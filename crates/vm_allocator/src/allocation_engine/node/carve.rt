@@ -13,7 +13,7 @@ use crate::range::RangeInclusive;
 use std::cmp::Ordering;
 
 /// Links a leaf, if there is one, below a side.
-#[tactic(auto, using(crate::proofs::TreeCarve::leaves))]
+#[tactic(auto, using(crate::proofs::TreeCarve::leaves, crate::proofs::Ways::way_bounds))]
 fn link_if(child: &mut Option<Box<InnerNode>>, leaf: Option<Box<InnerNode>>, count: &mut u64)
     requires leaf { IfSome leaf (λ n. n.value ≡ single (root_block n.value)) }
     requires clear { AreClearOf (blocks (side leaf)) (blocks (side child.old)) }
@@ -29,11 +29,6 @@ fn link_if(child: &mut Option<Box<InnerNode>>, leaf: Option<Box<InnerNode>>, cou
 {
     let _ = height(child);
     let Some(leaf) = leaf else { return };
-    if child.is_none() {
-        *child = Some(leaf);
-        let _ = height(child);
-        return;
-    }
     link_at(child, leaf, count);
 }
 
