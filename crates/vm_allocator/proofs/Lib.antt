@@ -42,4 +42,5 @@ pub mod Outcomes
 pub mod HistoryAnswers
 pub mod Counting
 pub mod Ways
-pub mod DeleteWays
+pub mod CarveWays
+pub mod SearchWays

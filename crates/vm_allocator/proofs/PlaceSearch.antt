@@ -1,12 +1,11 @@
 -- The first and the last fit of a tree, from those of its sides.
-use Rattle.std.proofs.Common.{◌≡◌, ℕ, false, Option, Some, None, MatchOption, List, [], ◌∷◌, ◌++◌, refl, sym, ap, ◌∙◌, subst, append_assoc}
+use Rattle.std.proofs.Common.{◌≡◌, ℕ, Option, Some, None, List, [], ◌∷◌, ◌++◌, refl, sym, ap, ◌∙◌, subst, append_assoc}
 use Rattle.std.specs.List.{All}
-use Rattle.std.specs.Option.{is_some}
 use Rattle.std.proofs.lemmas.List.Elements.{All-head, All-tail, All-cons}
 use Rattle.vm_allocator.specs.Block.{Block}
 use Rattle.vm_allocator.specs.Fit.{IsFit, HasNoFit, IsLeastFit, IsGreatestFit}
 use Rattle.vm_allocator.specs.BlockEdits.{free_block}
-use Rattle.vm_allocator.specs.Place.{IsFirstFit, IsLastFit}
+use Rattle.vm_allocator.specs.Place.{IsFirstFit, IsLastFit, FindsFirst, FindsLast}
 use Rattle.vm_allocator.specs.Shape.{Shape, Fork, blocks}
 use Rattle.vm_allocator.specs.declared.allocation_engine.node.places.Place.{Place}
 use Rattle.vm_allocator.proofs.Unique.{same_block}
@@ -61,8 +60,6 @@ first_in_right n a s l b r place e h k f = record {
   fit = f.fit;
 }
 
-pub ruleset firsts = (none_of, first_in_left, first_here, first_in_right)
-
 pub last_in_right : (n a : ℕ) (s l : Shape) (b : Block) (r : Shape) (place : Place) → s ≡ Fork l b r → IsLastFit n a (blocks r) place → IsLastFit n a (blocks s) place
 last_in_right n a s l b r place e f = record {
   before = blocks l ++ b ∷ f.before;
@@ -92,19 +89,16 @@ last_in_left n a s l b r place e h k f = record {
   fit = f.fit;
 }
 
-pub ruleset lasts = (none_of, last_in_right, last_here, last_in_left)
-
--- what a search that found nothing knows
-pub nothing_found : (found : Option Place) (P : Type 0) (Q : Place → Type 0) → MatchOption found P Q → is_some found ≡ false → P
-nothing_found None P Q h e = h
-nothing_found (Some place) P Q h e = absurd (cc)
-
 -- where the left side and the root have no fit, the search goes on in the right side
-pub first_through_right : (n a : ℕ) (s l : Shape) (b : Block) (r : Shape) (found : Option Place) → s ≡ Fork l b r → All (HasNoFit n a) (blocks l) → HasNoFit n a b → MatchOption found (All (HasNoFit n a) (blocks r)) (IsFirstFit n a (blocks r)) → MatchOption found (All (HasNoFit n a) (blocks s)) (IsFirstFit n a (blocks s))
+pub first_through_right : (n a : ℕ) (s l : Shape) (b : Block) (r : Shape) (found : Option Place) → s ≡ Fork l b r → All (HasNoFit n a) (blocks l) → HasNoFit n a b → FindsFirst n a (blocks r) found → FindsFirst n a (blocks s) found
 first_through_right n a s l b r None e h k m = none_of n a s l b r e h k m
 first_through_right n a s l b r (Some place) e h k m = first_in_right n a s l b r place e h k m
 
 -- and the mirror image
-pub last_through_left : (n a : ℕ) (s l : Shape) (b : Block) (r : Shape) (found : Option Place) → s ≡ Fork l b r → All (HasNoFit n a) (blocks r) → HasNoFit n a b → MatchOption found (All (HasNoFit n a) (blocks l)) (IsLastFit n a (blocks l)) → MatchOption found (All (HasNoFit n a) (blocks s)) (IsLastFit n a (blocks s))
+pub last_through_left : (n a : ℕ) (s l : Shape) (b : Block) (r : Shape) (found : Option Place) → s ≡ Fork l b r → All (HasNoFit n a) (blocks r) → HasNoFit n a b → FindsLast n a (blocks l) found → FindsLast n a (blocks s) found
 last_through_left n a s l b r None e h k m = none_of n a s l b r e m k h
 last_through_left n a s l b r (Some place) e h k m = last_in_left n a s l b r place e h k m
+
+pub ruleset firsts = (first_in_left, first_here, first_through_right)
+
+pub ruleset lasts = (last_in_right, last_here, last_through_left)

@@ -1,11 +1,26 @@
--- How many nodes the ways down a tree have.
-use Rattle.std.proofs.Common.{◌≡◌, ℕ, ◌+◌, ◌*◌, ◌≤◌, Bool, true, false, cond, refl, ap, ◌∙◌, arith, ltb}
-use Rattle.std.proofs.lemmas.Bool.{lt-ltb, le-ltb}
+-- How many nodes the ways through a tree enter, case by case, and at most.
+use Rattle.std.proofs.Common.{◌≡◌, ◌≢◌, ℕ, ◌+◌, ◌-◌, ◌*◌, ◌≤◌, Bool, true, false, cond, refl, sym, ap, ◌∙◌, arith, ltb, inl, inr}
+use Rattle.std.proofs.lemmas.Bool.{lt-ltb, le-ltb, eq-eqb, ne_eqb}
 use Rattle.vm_allocator.specs.Range.{Range}
-use Rattle.vm_allocator.specs.RangeOrder.{StartsBefore, StartsFrom}
+use Rattle.vm_allocator.specs.RangeOrder.{Before, StartsBefore, StartsFrom, EndsBefore, Reaches, same_range, comes_first}
 use Rattle.vm_allocator.specs.Block.{Block}
-use Rattle.vm_allocator.specs.Shape.{Shape, Tip, Fork, height_of, IsBalanced, IsTree, way_down}
+use Rattle.vm_allocator.specs.Shape.{Shape, Tip, Fork, height_of, IsBalanced, IsTree}
+use Rattle.vm_allocator.specs.Ways.{way_down, way_to, way_across, way_to_first, way_to_last, way_to_join, way_to_remove, way_beside, way_around}
+use Rattle.vm_allocator.specs.declared.allocation_engine.NodeState.{NodeState}
+use Rattle.vm_allocator.specs.declared.allocation_engine.NodeState.TheVariants.{Free, Allocated}
+use Rattle.vm_allocator.proofs.Replacement.{same_range_before, same_range_self}
 
+pub before_first : (a b : Range) → Before a b → comes_first a b ≡ true
+unfolding Before
+before_first a b (inl p) = rw (lt-ltb a.start b.start p)
+before_first a b (inr p) = rw (le-ltb a.start b.start (omega (arith, p.0)), eq-eqb a.start b.start p.0, lt-ltb a.end b.end p.1)
+
+pub after_first : (a b : Range) → Before b a → comes_first a b ≡ false
+unfolding Before
+after_first a b (inl p) = rw (le-ltb a.start b.start (omega arith), ne_eqb a.start b.start (λ e. omega arith))
+after_first a b (inr p) = rw (le-ltb a.start b.start (omega (arith, p.0)), eq-eqb a.start b.start (sym p.0), le-ltb a.end b.end (omega (arith, p.1)))
+
+-- ---- to where a leaf would hang
 pub way_down_tip : (k : Range) → way_down k Tip ≡ 0
 unfolding way_down
 way_down_tip k = refl
@@ -18,31 +33,205 @@ pub way_down_right : (k : Range) (l : Shape) (b : Block) (r : Shape) → StartsF
 unfolding way_down StartsFrom
 way_down_right k l b r p = rw (le-ltb k.start b.key.start p)
 
+pub ruleset ways_down = (way_down_tip, way_down_left, way_down_right)
+
+-- ---- to the block of a key
+pub way_to_tip : (k : Range) → way_to k Tip ≡ 0
+unfolding way_to
+way_to_tip k = refl
+
+pub way_to_here : (k : Range) (l : Shape) (b : Block) (r : Shape) → k ≡ b.key → way_to k (Fork l b r) ≡ 1
+unfolding way_to
+way_to_here k l b r e = rw (e, same_range_self b.key)
+
+pub way_to_left : (k : Range) (l : Shape) (b : Block) (r : Shape) → Before k b.key → way_to k (Fork l b r) ≡ way_to k l + 1
+unfolding way_to
+way_to_left k l b r p = rw (same_range_before k b.key (inl p), before_first k b.key p)
+
+pub way_to_right : (k : Range) (l : Shape) (b : Block) (r : Shape) → Before b.key k → way_to k (Fork l b r) ≡ way_to k r + 1
+unfolding way_to
+way_to_right k l b r p = rw (same_range_before k b.key (inr p), after_first k b.key p)
+
+pub ruleset ways_to = (way_to_tip, way_to_here, way_to_left, way_to_right)
+
+-- ---- to the first block that a range does not lie wholly beside
+pub way_across_tip : (k : Range) → way_across k Tip ≡ 0
+unfolding way_across
+way_across_tip k = refl
+
+pub way_across_left : (k : Range) (l : Shape) (b : Block) (r : Shape) → EndsBefore k b.key → way_across k (Fork l b r) ≡ way_across k l + 1
+unfolding way_across EndsBefore
+way_across_left k l b r p = rw (lt-ltb k.end b.key.start p)
+
+pub way_across_right : (k : Range) (l : Shape) (b : Block) (r : Shape) → Reaches k b.key → EndsBefore b.key k → way_across k (Fork l b r) ≡ way_across k r + 1
+unfolding way_across EndsBefore Reaches
+way_across_right k l b r p q = rw (le-ltb k.end b.key.start p, lt-ltb b.key.end k.start q)
+
+pub way_across_here : (k : Range) (l : Shape) (b : Block) (r : Shape) → Reaches k b.key → Reaches b.key k → way_across k (Fork l b r) ≡ 1
+unfolding way_across Reaches
+way_across_here k l b r p q = rw (le-ltb k.end b.key.start p, le-ltb b.key.end k.start q)
+
+pub ruleset ways_across = (way_across_tip, way_across_left, way_across_right, way_across_here)
+
+-- ---- to the first and to the last block
+pub way_to_first_tip : way_to_first Tip ≡ 0
+unfolding way_to_first
+way_to_first_tip = refl
+
+pub way_to_first_fork : (l : Shape) (b : Block) (r : Shape) → way_to_first (Fork l b r) ≡ way_to_first l + 1
+unfolding way_to_first
+way_to_first_fork l b r = refl
+
+pub way_to_last_tip : way_to_last Tip ≡ 0
+unfolding way_to_last
+way_to_last_tip = refl
+
+pub way_to_last_fork : (l : Shape) (b : Block) (r : Shape) → way_to_last (Fork l b r) ≡ way_to_last r + 1
+unfolding way_to_last
+way_to_last_fork l b r = refl
+
+pub ruleset ways_to_first = (way_to_first_tip, way_to_first_fork)
+
+pub ruleset ways_to_ends = (way_to_first_tip, way_to_first_fork, way_to_last_tip, way_to_last_fork)
+
+-- ---- what joins two sides
+pub join_no_left : (r : Shape) → way_to_join Tip r ≡ 0
+unfolding way_to_join
+join_no_left r = refl
+
+pub join_no_right : (l : Shape) → way_to_join l Tip ≡ 0
+unfolding way_to_join way_to_first
+join_no_right Tip = refl
+join_no_right (Fork l b m) = refl
+
+pub join_both : (l r : Shape) → l ≢ Tip → way_to_join l r ≡ way_to_first r
+unfolding way_to_join
+join_both Tip r n = absurd (n refl)
+join_both (Fork l b m) r n = refl
+
+pub ruleset ways_to_join = (join_no_left, join_no_right, join_both)
+
+-- ---- what removes a block
+pub remove_tip : (k : Range) → way_to_remove k Tip ≡ 0
+unfolding way_to_remove
+remove_tip k = refl
+
+pub remove_here : (k : Range) (l : Shape) (b : Block) (r : Shape) → b.key ≡ k → way_to_remove k (Fork l b r) ≡ way_to_join l r + 1
+unfolding way_to_remove
+remove_here k l b r e = rw (e, same_range_self k)
+
+pub remove_left : (k : Range) (l : Shape) (b : Block) (r : Shape) → Before k b.key → way_to_remove k (Fork l b r) ≡ way_to_remove k l + 1
+unfolding way_to_remove
+remove_left k l b r p = rw (same_range_before k b.key (inl p), before_first k b.key p)
+
+pub remove_right : (k : Range) (l : Shape) (b : Block) (r : Shape) → Before b.key k → way_to_remove k (Fork l b r) ≡ way_to_remove k r + 1
+unfolding way_to_remove
+remove_right k l b r p = rw (same_range_before k b.key (inr p), after_first k b.key p)
+
+pub ruleset ways_to_remove = (remove_tip, remove_here, remove_left, remove_right)
+
+-- ---- what finds a held block and those beside it
+pub around_tip : (k : Range) → way_around k Tip ≡ 0
+unfolding way_around
+around_tip k = refl
+
+pub around_held : (k : Range) (l : Shape) (b : Block) (r : Shape) → k ≡ b.key → b.state ≡ Allocated → way_around k (Fork l b r) ≡ way_to_last l + way_to_first r + 1
+unfolding way_around
+around_held k l b r e s = rw (e, same_range_self b.key, s)
+
+pub around_free : (k : Range) (l : Shape) (b : Block) (r : Shape) → k ≡ b.key → b.state ≡ Free → way_around k (Fork l b r) ≡ 1
+unfolding way_around
+around_free k l b r e s = rw (e, same_range_self b.key, s)
+
+pub around_left : (k : Range) (l : Shape) (b : Block) (r : Shape) → Before k b.key → way_around k (Fork l b r) ≡ way_around k l + 1
+unfolding way_around
+around_left k l b r p = rw (same_range_before k b.key (inl p), before_first k b.key p)
+
+pub around_right : (k : Range) (l : Shape) (b : Block) (r : Shape) → Before b.key k → way_around k (Fork l b r) ≡ way_around k r + 1
+unfolding way_around
+around_right k l b r p = rw (same_range_before k b.key (inr p), after_first k b.key p)
+
+pub ruleset ways_around = (around_tip, around_held, around_free, around_left, around_right)
+
+-- ---- at most
+-- a test picks one of two, and both are at most a third
+pub either_at_most : (t : Bool) (x y most : ℕ) → x ≤ most → y ≤ most → cond t x y ≤ most
+either_at_most true x y most p q = p
+either_at_most false x y most p q = q
+
 pub way_down_at_most : (k : Range) (s : Shape) → way_down k s ≤ height_of s
 unfolding way_down
 way_down_at_most k Tip = omega arith
 way_down_at_most k (Fork l b r) =
-    let p = way_down_at_most k l in
-    let q = way_down_at_most k r in
-    elim (ltb k.start b.key.start) as (λ v. cond v (way_down k l) (way_down k r) + 1 ≤ height_of (Fork l b r)) [
-      | true ↦ omega (arith, p)
-      | false ↦ omega (arith, q)
-    ]
+    let p = either_at_most (ltb k.start b.key.start) (way_down k l) (way_down k r) (height_of (Fork l b r) - 1) (omega (arith, way_down_at_most k l)) (omega (arith, way_down_at_most k r)) in
+    omega (arith, p)
 
-twice : (k : Range) (s : Shape) → IsBalanced s → height_of s ≤ 2 * way_down k s
+pub twice : (k : Range) (s : Shape) → IsBalanced s → height_of s ≤ 2 * way_down k s
 unfolding way_down
 twice k Tip t = omega arith
 twice k (Fork l b r) t =
-    let p = twice k l t.0 in
-    let q = twice k r t.1 in
     elim (ltb k.start b.key.start) as (λ v. height_of (Fork l b r) ≤ 2 * (cond v (way_down k l) (way_down k r) + 1)) [
-      | true ↦ omega (arith, p, t.2.0, t.2.1)
-      | false ↦ omega (arith, q, t.2.0, t.2.1)
+      | true ↦ omega (arith, twice k l t.0, t.2.0, t.2.1)
+      | false ↦ omega (arith, twice k r t.1, t.2.0, t.2.1)
     ]
 
+-- each way to where a leaf would hang is at least half as long as the longest
 pub height_at_most_twice : (k : Range) (s : Shape) → IsTree s → height_of s ≤ 2 * way_down k s
 height_at_most_twice k s t = twice k s t.balanced
 
-pub ruleset ways_down = (way_down_tip, way_down_left, way_down_right)
+pub way_to_at_most : (k : Range) (s : Shape) → way_to k s ≤ height_of s
+unfolding way_to
+way_to_at_most k Tip = omega arith
+way_to_at_most k (Fork l b r) =
+    let most = height_of (Fork l b r) - 1 in
+    omega (arith, either_at_most (same_range k b.key) 0 _ most (omega arith)
+      (either_at_most (comes_first k b.key) (way_to k l) (way_to k r) most (omega (arith, way_to_at_most k l)) (omega (arith, way_to_at_most k r))))
 
-pub ruleset way_bounds = (way_down_at_most, height_at_most_twice)
+pub way_across_at_most : (k : Range) (s : Shape) → way_across k s ≤ height_of s
+unfolding way_across
+way_across_at_most k Tip = omega arith
+way_across_at_most k (Fork l b r) =
+    let most = height_of (Fork l b r) - 1 in
+    omega (arith, either_at_most (ltb k.end b.key.start) (way_across k l) _ most (omega (arith, way_across_at_most k l))
+      (either_at_most (ltb b.key.end k.start) (way_across k r) 0 most (omega (arith, way_across_at_most k r)) (omega arith)))
+
+pub ruleset way_bounds = (way_down_at_most, height_at_most_twice, way_to_at_most, way_across_at_most)
+
+pub way_to_first_at_most : (s : Shape) → way_to_first s ≤ height_of s
+unfolding way_to_first
+way_to_first_at_most Tip = omega arith
+way_to_first_at_most (Fork l b r) = omega (arith, way_to_first_at_most l)
+
+pub way_to_last_at_most : (s : Shape) → way_to_last s ≤ height_of s
+unfolding way_to_last
+way_to_last_at_most Tip = omega arith
+way_to_last_at_most (Fork l b r) = omega (arith, way_to_last_at_most r)
+
+pub way_to_join_at_most : (l r : Shape) → way_to_join l r ≤ height_of r
+unfolding way_to_join
+way_to_join_at_most Tip r = omega arith
+way_to_join_at_most (Fork l b m) r = way_to_first_at_most r
+
+pub way_to_remove_at_most : (k : Range) (s : Shape) → way_to_remove k s ≤ height_of s
+unfolding way_to_remove
+way_to_remove_at_most k Tip = omega arith
+way_to_remove_at_most k (Fork l b r) =
+    let most = height_of (Fork l b r) - 1 in
+    omega (arith, either_at_most (same_range k b.key) (way_to_join l r) _ most (omega (arith, way_to_join_at_most l r))
+      (either_at_most (comes_first k b.key) (way_to_remove k l) (way_to_remove k r) most (omega (arith, way_to_remove_at_most k l)) (omega (arith, way_to_remove_at_most k r))))
+
+pub ruleset removal_bounds = (way_to_first_at_most, way_to_join_at_most, way_to_remove_at_most)
+
+beside_at_most : (state : NodeState) (l r : Shape) → way_beside state l r ≤ height_of l + height_of r
+beside_at_most Free l r = omega arith
+beside_at_most Allocated l r = omega (arith, way_to_last_at_most l, way_to_first_at_most r)
+
+pub way_around_at_most : (k : Range) (s : Shape) → way_around k s ≤ 2 * height_of s
+unfolding way_around
+way_around_at_most k Tip = omega arith
+way_around_at_most k (Fork l b r) =
+    let most = 2 * height_of (Fork l b r) - 1 in
+    omega (arith, either_at_most (same_range k b.key) (way_beside b.state l r) _ most (omega (arith, beside_at_most b.state l r))
+      (either_at_most (comes_first k b.key) (way_around k l) (way_around k r) most (omega (arith, way_around_at_most k l)) (omega (arith, way_around_at_most k r))))
+
+pub ruleset bounds_around = (way_to_first_at_most, way_to_last_at_most, way_around_at_most)

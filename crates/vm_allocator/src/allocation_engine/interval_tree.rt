@@ -10,10 +10,11 @@ ghost use Rattle.vm_allocator.specs.Release.{IsAround, joined, rejoined, without
 ghost use Rattle.vm_allocator.specs.declared.constraint.AllocPolicy.TheVariants.{FirstMatch, LastMatch, ExactMatch};
 
 use super::NodeState;
-use super::node::carve::carve_at;
+use super::node::carve::{Rest, carve_at};
 use super::node::neighbours::Neighbours;
-use super::node::places::Place;
-use super::node::{InnerNode, delete_at};
+use super::node::places::{Place, first_place, last_place};
+use super::node::remove::delete_at;
+use super::node::InnerNode;
 use crate::constraint::{AllocPolicy, Constraint};
 use crate::error::{Error, Result};
 use crate::range::RangeInclusive;
@@ -107,7 +108,7 @@ impl IntervalTree {
         ensures steps { count.new ≤ count.old + node_count self.now }
     {
         let size = constraint.size();
-        match self.root().first_place(size, constraint.align(), count) {
+        match first_place(&self.root, size, constraint.align(), count) {
             None => Err(Error::ResourceNotAvailable),
             Some(place) => range_at(place, size),
         }
@@ -123,7 +124,7 @@ impl IntervalTree {
         ensures steps { count.new ≤ count.old + node_count self.now }
     {
         let size = constraint.size();
-        match self.root().last_place(size, constraint.align(), count) {
+        match last_place(&self.root, size, constraint.align(), count) {
             None => Err(Error::ResourceNotAvailable),
             Some(place) => range_at(place, size),
         }
@@ -308,7 +309,6 @@ fn joined(key: &RangeInclusive, beside: &Neighbours) -> RangeInclusive
 }
 
 /// Removes the node with a key, if there is such a key.
-#[tactic(auto, using(crate::proofs::DeleteWays::delete_bounds))]
 fn drop_if(root: &mut Option<Box<InnerNode>>, key: &Option<RangeInclusive>, count: &mut u64)
     requires some { IsSome root.old }
     requires count_fits { count.old + height_of (side root.old) ≤ MAX }
@@ -396,7 +396,7 @@ fn split(
     ensures steps { count.new ≤ count.old + 2 * height_of (side root.old) }
     ensures half { 2 * count.old + height_of (side root.old) ≤ 2 * count.new }
 {
-    carve_at(root, &choice.key, choice.range, before, after, count);
+    carve_at(root, &choice.key, choice.range, Rest { before, after }, count);
 }
 
 /// Holds a range that fills its free block.

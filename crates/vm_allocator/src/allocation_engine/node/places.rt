@@ -1,19 +1,23 @@
 //! The searches for the place of a request.
-ghost use Rattle.std.specs.Prelude.{◌≡◌, ◌+◌, ◌<◌, ◌≤◌, MatchOption, All};
+ghost use Rattle.std.specs.Prelude.{◌≡◌, ◌+◌, ◌<◌, ◌≤◌};
 ghost use Rattle.vm_allocator.specs.Range.{MAX};
 ghost use Rattle.vm_allocator.specs.Alignment.{IsAlignment};
-ghost use Rattle.vm_allocator.specs.Fit.{HasNoFit, IsLeastFit, IsGreatestFit};
-ghost use Rattle.vm_allocator.specs.Place.{IsFirstFit, IsLastFit};
+ghost use Rattle.vm_allocator.specs.Fit.{FindsLeastFit, FindsGreatestFit};
+ghost use Rattle.vm_allocator.specs.Place.{FindsFirst, FindsLast};
 ghost use Rattle.vm_allocator.specs.Shape.{blocks, node_count};
+ghost use Rattle.vm_allocator.specs.Ways.{way_of_first, way_of_last};
+ghost use Rattle.vm_allocator.specs.NodeFields.{side};
 
-use super::InnerNode;
+use super::{Child, InnerNode};
 use crate::allocation_engine::{NodeState, align_down, align_up};
 use crate::range::RangeInclusive;
 
 /// A start in a free block.
 #[derive(Clone, Copy, Debug)]
 pub(crate) struct Place {
+    /// The free block.
     pub(crate) key: RangeInclusive,
+    /// An address of it.
     pub(crate) start: u64,
 }
 
@@ -22,23 +26,19 @@ pub(crate) struct Place {
 fn least_fit(key: &RangeInclusive, state: NodeState, size: u64, alignment: u64) -> Option<u64>
     requires some { 0 < size }
     requires aligned { IsAlignment alignment }
-    ensures { MatchOption result (HasNoFit size alignment (record { key = key.now; state = state })) (IsLeastFit size alignment (record { key = key.now; state = state })) }
+    ensures { FindsLeastFit size alignment (record { key = key.now; state = state }) result }
 {
-    match state {
-        NodeState::Allocated => None,
-        NodeState::Free => {
-            let end = key.end();
-            match align_up(key.start(), alignment) {
-                Err(_) => None,
-                Ok(start) => {
-                    if start <= end && size - 1 <= end - start {
-                        Some(start)
-                    } else {
-                        None
-                    }
-                }
-            }
-        }
+    if state == NodeState::Allocated {
+        return None;
+    }
+    let Ok(start) = align_up(key.start(), alignment) else {
+        return None;
+    };
+    let end = key.end();
+    if start <= end && size - 1 <= end - start {
+        Some(start)
+    } else {
+        None
     }
 }
 
@@ -47,82 +47,72 @@ fn least_fit(key: &RangeInclusive, state: NodeState, size: u64, alignment: u64) 
 fn greatest_fit(key: &RangeInclusive, state: NodeState, size: u64, alignment: u64) -> Option<u64>
     requires some { 0 < size }
     requires aligned { IsAlignment alignment }
-    ensures { MatchOption result (HasNoFit size alignment (record { key = key.now; state = state })) (IsGreatestFit size alignment (record { key = key.now; state = state })) }
+    ensures { FindsGreatestFit size alignment (record { key = key.now; state = state }) result }
 {
-    match state {
-        NodeState::Allocated => None,
-        NodeState::Free => {
-            let end = key.end();
-            let start = key.start();
-            if end - start < size - 1 {
-                return None;
-            }
-            match align_down(end - (size - 1), alignment) {
-                Err(_) => None,
-                Ok(place) => { if start <= place { Some(place) } else { None } }
-            }
-        }
+    let (start, end) = (key.start(), key.end());
+    if state == NodeState::Allocated || end - start < size - 1 {
+        return None;
     }
+    let Ok(place) = align_down(end - (size - 1), alignment) else {
+        return None;
+    };
+    if start <= place { Some(place) } else { None }
 }
 
-impl InnerNode {
-    /// The least place: the first block with a fit, and its least fit.
-    #[tactic(auto, using(crate::proofs::PlaceSearch::firsts))]
-    pub(crate) fn first_place(&self, size: u64, alignment: u64, count: &mut u64) -> Option<Place>
-        requires some { 0 < size }
-        requires aligned { IsAlignment alignment }
-        requires count_fits { count.old + node_count self.now ≤ MAX }
-        ensures place { MatchOption result (All (HasNoFit size alignment) (blocks self.now)) (IsFirstFit size alignment (blocks self.now)) }
-        ensures entered { count.old + 1 ≤ count.new }
-        ensures steps { count.new ≤ count.old + node_count self.now }
-    {
-        let _ = &self.height;
-        *count += 1;
-        let below = match &self.left {
-            None => None,
-            Some(left) => left.first_place(size, alignment, count),
-        };
-        if below.is_some() {
-            return below;
-        }
-        if let Some(start) = least_fit(&self.key, self.node_state, size, alignment) {
-            return Some(Place {
-                key: self.key,
-                start,
-            });
-        }
-        let Some(right) = &self.right else {
-            return None
-        };
-        right.first_place(size, alignment, count)
+/// The least place below a node: the first block with a fit, and its least fit.
+#[tactic(auto, using(crate::proofs::PlaceSearch::firsts, crate::proofs::SearchWays::firsts))]
+pub(crate) fn first_place(
+    tree: &Child,
+    size: u64,
+    alignment: u64,
+    count: &mut u64,
+) -> Option<Place>
+    requires some { 0 < size }
+    requires aligned { IsAlignment alignment }
+    requires count_fits { count.old + node_count (side tree.now) ≤ MAX }
+    ensures place { FindsFirst size alignment (blocks (side tree.now)) result }
+    ensures count { count.new ≡ count.old + way_of_first size alignment (side tree.now) }
+{
+    let Some(node) = tree else { return None };
+    let node: &InnerNode = node;
+    node.enter(count);
+    if let Some(place) = first_place(&node.left, size, alignment, count) {
+        return Some(place);
     }
+    if let Some(start) = least_fit(&node.key, node.node_state, size, alignment) {
+        return Some(Place {
+            key: node.key,
+            start,
+        });
+    }
+    first_place(&node.right, size, alignment, count)
+}
 
-    /// The greatest place: the last block with a fit, and its greatest fit.
-    #[tactic(auto, using(crate::proofs::PlaceSearch::lasts))]
-    pub(crate) fn last_place(&self, size: u64, alignment: u64, count: &mut u64) -> Option<Place>
-        requires some { 0 < size }
-        requires aligned { IsAlignment alignment }
-        requires count_fits { count.old + node_count self.now ≤ MAX }
-        ensures place { MatchOption result (All (HasNoFit size alignment) (blocks self.now)) (IsLastFit size alignment (blocks self.now)) }
-        ensures entered { count.old + 1 ≤ count.new }
-        ensures steps { count.new ≤ count.old + node_count self.now }
-    {
-        let _ = &self.height;
-        *count += 1;
-        let below = match &self.right {
-            None => None,
-            Some(right) => right.last_place(size, alignment, count),
-        };
-        if below.is_some() {
-            return below;
-        }
-        if let Some(start) = greatest_fit(&self.key, self.node_state, size, alignment) {
-            return Some(Place {
-                key: self.key,
-                start,
-            });
-        }
-        let Some(left) = &self.left else { return None };
-        left.last_place(size, alignment, count)
+/// The greatest place below a node: the last block with a fit, and its greatest fit.
+#[tactic(auto, using(crate::proofs::PlaceSearch::lasts, crate::proofs::SearchWays::lasts))]
+pub(crate) fn last_place(
+    tree: &Child,
+    size: u64,
+    alignment: u64,
+    count: &mut u64,
+) -> Option<Place>
+    requires some { 0 < size }
+    requires aligned { IsAlignment alignment }
+    requires count_fits { count.old + node_count (side tree.now) ≤ MAX }
+    ensures place { FindsLast size alignment (blocks (side tree.now)) result }
+    ensures count { count.new ≡ count.old + way_of_last size alignment (side tree.now) }
+{
+    let Some(node) = tree else { return None };
+    let node: &InnerNode = node;
+    node.enter(count);
+    if let Some(place) = last_place(&node.right, size, alignment, count) {
+        return Some(place);
     }
+    if let Some(start) = greatest_fit(&node.key, node.node_state, size, alignment) {
+        return Some(Place {
+            key: node.key,
+            start,
+        });
+    }
+    last_place(&node.left, size, alignment, count)
 }

@@ -13,4 +13,4 @@ returns-clause-blocks c =
     let i = c.open.inside in
     let d = remove_in_middle (shape_of i) (side i.left) _ (side i.right) i.key refl refl c.open.invariant.tree in
     let e : c.args.tree.value ≡ shape_of i = cc in
-    rw (e, d, c.join-joined.ensures.blocks, c.strip-left.ensures.sides)
+    rw (e, d, c.join-joined.ensures.joins.blocks, c.strip-left.ensures.sides)
