@@ -1,15 +1,14 @@
 -- The answer to a request, from that to making its constraint.
-use Rattle.std.proofs.Common.{◌≡◌, ℕ, refl, ap, inl, inr, Result, Ok, Err, ⊎_elim, subst}
+use Rattle.std.proofs.Common.{◌≡◌, refl, ap, inl, inr, Result, Ok, Err, ⊎_elim, subst}
 use Rattle.vm_allocator.specs.Range.{Range}
 use Rattle.vm_allocator.specs.Address.{AddressState}
 use Rattle.vm_allocator.specs.Request.{Request, ByConstraint, MakesConstraint}
 use Rattle.vm_allocator.specs.Answer.{Settles, Allocates}
 use Rattle.vm_allocator.specs.declared.error.Error.{Error}
-use Rattle.vm_allocator.specs.declared.constraint.AllocPolicy.{AllocPolicy}
 
-constraint_map : (n a : ℕ) (p : AllocPolicy) (P Q : Error → Type 0) (R S : Type 0) → ((e : Error) → P e → Q e) → (R → S) → ByConstraint n a p P R → ByConstraint n a p Q S
+constraint_map : (request : Request) (P Q : Error → Type 0) (R S : Type 0) → ((e : Error) → P e → Q e) → (R → S) → ByConstraint request P R → ByConstraint request Q S
 unfolding ByConstraint
-constraint_map n a p P Q R S f g h =
+constraint_map request P Q R S f g h =
     ⊎_elim (λ l. inl (l.0, f _ l.1)) (λ r. inr (
       r.0,
       ⊎_elim (λ l. inl (l.0, f _ l.1)) (λ r. inr (
@@ -19,22 +18,22 @@ constraint_map n a p P Q R S f g h =
     )) h
 
 -- what makes no constraint is refused alike
-pub allocates_refused : (old : AddressState) (n a : ℕ) (p : AllocPolicy) (x : Error) → MakesConstraint n a p (Err x) → Allocates old n a p (Err x) old
+pub allocates_refused : (old : AddressState) (request : Request) (x : Error) → MakesConstraint request (Err x) → Allocates old request (Err x) old
 unfolding MakesConstraint Allocates
-allocates_refused old n a p x h =
+allocates_refused old request x h =
     let made : Result Request Error = Err x in
     let answer : Result Range Error = Err x in
-    constraint_map n a p (λ e. made ≡ Err e) (λ e. (answer ≡ Err e) × (old ≡ old)) (made ≡ Ok (record { size = n; align = a; policy = p })) (Settles old n a p (Err x) old)
+    constraint_map request (λ e. made ≡ Err e) (λ e. (answer ≡ Err e) × (old ≡ old)) (made ≡ Ok request) (Settles old request (Err x) old)
     (λ e k. let same : x ≡ e = cc in (ap (λ (v : Error). Err v) same, refl)) (λ k. absurd (cc)) h
 
 -- and the constraint that is made is settled
-pub allocates_settled : (old new : AddressState) (n a : ℕ) (p : AllocPolicy) (k : Request) (answer : Result Range Error) → MakesConstraint n a p (Ok k) → Settles old k.size k.align k.policy answer new → Allocates old n a p answer new
+pub allocates_settled : (old new : AddressState) (request made : Request) (answer : Result Range Error) → MakesConstraint request (Ok made) → Settles old made answer new → Allocates old request answer new
 unfolding MakesConstraint Allocates
-allocates_settled old new n a p k answer h s =
-    let made : Result Request Error = Ok k in
-    constraint_map n a p (λ x. made ≡ Err x) (λ x. (answer ≡ Err x) × (new ≡ old)) (made ≡ Ok (record { size = n; align = a; policy = p })) (Settles old n a p answer new)
+allocates_settled old new request made answer h s =
+    let constraint : Result Request Error = Ok made in
+    constraint_map request (λ x. constraint ≡ Err x) (λ x. (answer ≡ Err x) × (new ≡ old)) (constraint ≡ Ok request) (Settles old request answer new)
     (λ x m. absurd (cc))
-    (λ m. let same : k ≡ record { size = n; align = a; policy = p } = cc in subst (λ (v : Request). Settles old v.size v.align v.policy answer new) same s)
+    (λ m. let same : made ≡ request = cc in subst (λ (v : Request). Settles old v answer new) same s)
     h
 
 pub ruleset allocating = (allocates_refused, allocates_settled)

@@ -1,5 +1,5 @@
 -- How many nodes the calls of a tree enter.
-use Rattle.std.proofs.Common.{◌≡◌, ◌≢◌, ℕ, ◌+◌, ◌*◌, ◌<◌, ◌≤◌, List, [], ◌∷◌, ◌++◌, refl, sym, ap, subst, arith, inl, inr, ⊎_elim, Result, Ok, Err, IsOk, OnOk, IfOk, length}
+use Rattle.std.proofs.Common.{◌≡◌, ◌≢◌, ℕ, ◌+◌, ◌*◌, ◌<◌, ◌≤◌, List, [], ◌∷◌, ◌++◌, refl, sym, subst, arith, inl, inr, ⊎_elim, Result, Ok, Err, IsOk, OnOk, IfOk, length}
 use Rattle.std.proofs.lemmas.Bool.{cases_lt}
 use Rattle.vm_allocator.specs.Range.{Range}
 use Rattle.vm_allocator.specs.Block.{Block}
@@ -107,8 +107,8 @@ searched LastMatch s m h l = omega (arith, few_in s h)
 searched (ExactMatch t) s m h l = omega arith
 
 -- a request that is refused before anything is taken
-pub refused_count : (s : Shape) (policy : AllocPolicy) (e : Error) (m : ℕ) → IsSpaceTree s → m ≤ most_searched policy s → IsSettlingCount (height_of s) (tree_state s) policy (Err e) m
-refused_count s policy e m h l = record { most = searched policy s m h (omega arith); success = λ k. absurd (cc); split = tt }
+pub refused_count : (s : Shape) (request : Request) (e : Error) (m : ℕ) → IsSpaceTree s → m ≤ most_searched request.policy s → IsSettlingCount (height_of s) (tree_state s) request (Err e) m
+refused_count s request e m h l = record { most = searched request.policy s m h (omega arith); success = λ k. absurd (cc); split = tt }
 
 -- a range that leaves a clear address beside it leaves a part of its block
 given_part : (s : Shape) (choice : Choice) (r : Range) (new : AddressState) → IsSpaceTree s → IsChoice (blocks s) choice → Takes (tree_state s) choice.range (Ok r) new → LeavesClear (tree_state s) r → LeavesPart choice.key choice.range
@@ -133,10 +133,10 @@ pub refused_low : (h : ℕ) (old : AddressState) (e : Error) → e ≢ OutOfMemo
 refused_low h old e n = record { split = tt; memory = λ m. absurd (n (cc m)) }
 
 -- and one whose range is taken
-pub taken_count : (s : Shape) (policy : AllocPolicy) (choice : Choice) (m c : ℕ) (answer : Result Range Error) (new : AddressState) → IsSpaceTree s → IsChoice (blocks s) choice → Takes (tree_state s) choice.range answer new
-    → m ≤ most_searched policy s → c ≤ m + 2 * height_of s → OnOk answer (m + 1 ≤ c) → (LeavesPart choice.key choice.range → OnOk answer (2 * m + height_of s ≤ 2 * c)) → IsSettlingCount (height_of s) (tree_state s) policy answer c
-taken_count s policy choice m c answer new h i t l k some half =
-    record { most = searched policy s c h (omega arith); success = one answer some; split = of_splits (height_of s ≤ 2 * c) s choice answer new h i t (λ left. weaker answer (half left)) }
+pub taken_count : (s : Shape) (request : Request) (choice : Choice) (m c : ℕ) (answer : Result Range Error) (new : AddressState) → IsSpaceTree s → IsChoice (blocks s) choice → Takes (tree_state s) choice.range answer new
+    → m ≤ most_searched request.policy s → c ≤ m + 2 * height_of s → OnOk answer (m + 1 ≤ c) → (LeavesPart choice.key choice.range → OnOk answer (2 * m + height_of s ≤ 2 * c)) → IsSettlingCount (height_of s) (tree_state s) request answer c
+taken_count s request choice m c answer new h i t l k some half =
+    record { most = searched request.policy s c h (omega arith); success = one answer some; split = of_splits (height_of s ≤ 2 * c) s choice answer new h i t (λ left. weaker answer (half left)) }
   where
     one : (answer : Result Range Error) → OnOk answer (m + 1 ≤ c) → IsOk answer → 1 ≤ c
     one (Ok r) some q = omega arith
@@ -166,32 +166,32 @@ balanced_tree s h t = record {
 }
 
 -- ---- requests that may make no sense
-pub senseless_count : (h : ℕ) (old : AddressState) (n a : ℕ) (policy : AllocPolicy) (e : Error) → IsAllocationCount h old n a policy (Err e) 0
-senseless_count h old n a policy e = record { settling = record { most = omega arith; success = λ k. absurd (cc); split = tt }; senseless = λ x m. refl }
+pub senseless_count : (h : ℕ) (old : AddressState) (request : Request) (e : Error) → IsAllocationCount h old request (Err e) 0
+senseless_count h old request e = record { settling = record { most = omega arith; success = λ k. absurd (cc); split = tt }; senseless = λ x m. refl }
 
 -- the constraint that is made is what was asked for, and makes sense
-constraint_made : (n a : ℕ) (policy : AllocPolicy) (k : Request) → MakesConstraint n a policy (Ok k) → (k ≡ record { size = n; align = a; policy = policy }) × IsRequest (record { size = n; align = a; policy = policy })
+constraint_made : (request k : Request) → MakesConstraint request (Ok k) → (k ≡ request) × IsRequest request
 unfolding MakesConstraint ByConstraint
-constraint_made n a policy k (inl z) = absurd (cc (z.1))
-constraint_made n a policy k (inr (some, inl z)) = absurd (cc (z.1))
-constraint_made n a policy k (inr (some, inr (aligned, inl z))) = absurd (cc (z.1))
-constraint_made n a policy k (inr (some, inr (aligned, inr (start, made)))) =
+constraint_made request k (inl z) = absurd (cc (z.1))
+constraint_made request k (inr (some, inl z)) = absurd (cc (z.1))
+constraint_made request k (inr (some, inr (aligned, inl z))) = absurd (cc (z.1))
+constraint_made request k (inr (some, inr (aligned, inr (start, made)))) =
     (cc (made), record { some = omega (arith, some); aligned = aligned; start = start })
 
-pub settling_count : (h : ℕ) (old : AddressState) (n a : ℕ) (policy : AllocPolicy) (k : Request) (answer : Result Range Error) (c : ℕ) → MakesConstraint n a policy (Ok k) → IsSettlingCount h old k.policy answer c → IsAllocationCount h old n a policy answer c
-settling_count h old n a policy k answer c m s =
-    let made = constraint_made n a policy k m in
+pub settling_count : (h : ℕ) (old : AddressState) (request k : Request) (answer : Result Range Error) (c : ℕ) → MakesConstraint request (Ok k) → IsSettlingCount h old k answer c → IsAllocationCount h old request answer c
+settling_count h old request k answer c m s =
+    let made = constraint_made request k m in
     record {
-      settling = subst (λ (v : AllocPolicy). IsSettlingCount h old v answer c) (ap (λ (v : Request). v.policy) made.0) s;
-      senseless = λ x f. absurd (no_constraint_fault n a policy x f made.1);
+      settling = subst (λ (v : Request). IsSettlingCount h old v answer c) made.0 s;
+      senseless = λ x f. absurd (no_constraint_fault request x f made.1);
     }
 
 -- no constraint is refused for want of memory
-pub senseless_low : (h : ℕ) (old : AddressState) (n a : ℕ) (policy : AllocPolicy) (e : Error) → MakesConstraint n a policy (Err e) → SplitsIfLow h old (Err e)
+pub senseless_low : (h : ℕ) (old : AddressState) (request : Request) (e : Error) → MakesConstraint request (Err e) → SplitsIfLow h old (Err e)
 unfolding MakesConstraint ByConstraint
-senseless_low h old n a policy e (inl z) = record { split = tt; memory = λ m. absurd (cc (m, z.1)) }
-senseless_low h old n a policy e (inr (some, inl z)) = record { split = tt; memory = λ m. absurd (cc (m, z.1)) }
-senseless_low h old n a policy e (inr (some, inr (aligned, inl z))) = record { split = tt; memory = λ m. absurd (cc (m, z.1)) }
-senseless_low h old n a policy e (inr (some, inr (aligned, inr (start, made)))) = absurd (cc (made))
+senseless_low h old request e (inl z) = record { split = tt; memory = λ m. absurd (cc (m, z.1)) }
+senseless_low h old request e (inr (some, inl z)) = record { split = tt; memory = λ m. absurd (cc (m, z.1)) }
+senseless_low h old request e (inr (some, inr (aligned, inl z))) = record { split = tt; memory = λ m. absurd (cc (m, z.1)) }
+senseless_low h old request e (inr (some, inr (aligned, inr (start, made)))) = absurd (cc (made))
 
 pub ruleset allocations = (senseless_count, settling_count)

@@ -19,7 +19,8 @@ use Rattle.vm_allocator.specs.declared.constraint.AllocPolicy.TheVariants.{Exact
 use Rattle.vm_allocator.specs.declared.allocation_engine.interval_tree.Choice.{Choice}
 use Rattle.vm_allocator.proofs.Unique.{same_range, same_block}
 use Rattle.vm_allocator.proofs.TreeEdits.{address_cut, address_missed}
-use Rattle.vm_allocator.proofs.Exact.{IsWithin, exact_at_max, exact_outside, exact_over, exact_held, exact_other, exact_short, exact_at_end, exact_taken}
+use Rattle.vm_allocator.proofs.Requests.{with_policy}
+use Rattle.vm_allocator.proofs.Exact.{named, IsWithin, exact_at_max, exact_outside, exact_over, exact_held, exact_other, exact_short, exact_at_end, exact_taken}
 
 pub in_held : (k : Range) (st : NodeState) (t last : ℕ) → st ≡ Allocated → k.start ≡ t → k.end ≡ last → ExactIn k st t last (Err (InvalidStateTransition k Allocated))
 unfolding ExactIn
@@ -57,27 +58,41 @@ aligned_if : (a t : ℕ) (p : AllocPolicy) → p ≡ ExactMatch t → IsStartAli
 unfolding IsStartAligned
 aligned_if a t p e h = let g : IsStartAligned a (ExactMatch t) = subst (IsStartAligned a) e h in g
 
-pub at_max : (n a t : ℕ) (s : Shape) → t ≡ MAX → Chooses s n a (ExactMatch t) (Err Overflow)
-unfolding Chooses
-at_max n a t s e = exact_at_max (tree_state s) n a t e
+-- ---- a request of which the start is known
+known_start : (request : Request) (t : ℕ) (s : Shape) (answer : Result Choice Error) → request.policy ≡ ExactMatch t → Chooses s (named request.size request.align t) answer → Chooses s request answer
+known_start request t s answer p h = subst (λ (v : Request). Chooses s v answer) (with_policy request (ExactMatch t) p) h
 
-pub outside : (n a t : ℕ) (k : Range) (s : Shape) → IsSpaceTree s → t < MAX → k ≡ at_address t → find_superset k (blocks s) ≡ None → Chooses s n a (ExactMatch t) (Err ResourceNotAvailable)
+max_named : (n a t : ℕ) (s : Shape) → t ≡ MAX → Chooses s (named n a t) (Err Overflow)
 unfolding Chooses
-outside n a t k s h m e f = exact_outside (space_of (blocks s)) (blocks s) n a t m h.tiling.tiles (address_missed t (blocks s) (subst (λ (v : Range). find_superset v (blocks s) ≡ None) e f))
+max_named n a t s e = exact_at_max (tree_state s) n a t e
+
+pub at_max : (request : Request) (t : ℕ) (s : Shape) → request.policy ≡ ExactMatch t → t ≡ MAX → Chooses s request (Err Overflow)
+at_max request t s p e = known_start request t s (Err Overflow) p (max_named request.size request.align t s e)
+
+outside_named : (n a t : ℕ) (k : Range) (s : Shape) → IsSpaceTree s → t < MAX → k ≡ at_address t → find_superset k (blocks s) ≡ None → Chooses s (named n a t) (Err ResourceNotAvailable)
+unfolding Chooses
+outside_named n a t k s h m e f = exact_outside (space_of (blocks s)) (blocks s) n a t m h.tiling.tiles (address_missed t (blocks s) (subst (λ (v : Range). find_superset v (blocks s) ≡ None) e f))
+
+pub outside : (request : Request) (t : ℕ) (k : Range) (s : Shape) → request.policy ≡ ExactMatch t → IsSpaceTree s → t < MAX → k ≡ at_address t → find_superset k (blocks s) ≡ None → Chooses s request (Err ResourceNotAvailable)
+outside request t k s p h m e f = known_start request t s (Err ResourceNotAvailable) p (outside_named request.size request.align t k s h m e f)
 
 within : (n t : ℕ) (k : Range) (s : Shape) (b : Block) → IsSpaceTree s → 0 < n → t < MAX → k ≡ at_address t → find_superset k (blocks s) ≡ Some b → IsWithin (space_of (blocks s)) (blocks s) b n t
 within n t k s b h z m e f =
     let c = address_cut t b (blocks s) (subst (λ (v : Range). find_superset v (blocks s) ≡ Some b) e f) in
     record { tiles = h.tiling.tiles; before = c.0.before; after = c.0.after; cut = c.0.is; start = c.1; some = z; below = m }
 
-pub over : (n a t : ℕ) (k : Range) (s : Shape) (b : Block) → IsSpaceTree s → 0 < n → t < MAX → k ≡ at_address t → find_superset k (blocks s) ≡ Some b → MAX < t + (n - 1) → Chooses s n a (ExactMatch t) (Err Overflow)
+over_named : (n a t : ℕ) (s : Shape) (b : Block) → IsWithin (space_of (blocks s)) (blocks s) b n t → MAX < t + n - 1 → Chooses s (named n a t) (Err Overflow)
 unfolding Chooses
-over n a t k s b h z m e f o = exact_over (space_of (blocks s)) (blocks s) b n a t (within n t k s b h z m e f) (omega arith)
+over_named n a t s b w o = exact_over (space_of (blocks s)) (blocks s) b n a t w o
+
+pub over : (request : Request) (t : ℕ) (k : Range) (s : Shape) (b : Block) → request.policy ≡ ExactMatch t → IsSpaceTree s → IsRequest request → t < MAX → k ≡ at_address t → find_superset k (blocks s) ≡ Some b → MAX < t + (request.size - 1) → Chooses s request (Err Overflow)
+over request t k s b p h r m e f o =
+    let z = r.some in known_start request t s (Err Overflow) p (over_named request.size request.align t s b (within request.size t k s b h z m e f) (omega arith))
 
 free_is : (b : Block) → b.state ≡ Free → b ≡ free_block b.key
 free_is b e = same_block b (free_block b.key) refl e
 
-choice_in : (n a t last : ℕ) (s : Shape) (b : Block) (w : IsWithin (space_of (blocks s)) (blocks s) b n t) → b.state ≡ Free → t % a ≡ 0 → last ≡ t + (n - 1) → last ≤ b.key.end → last < MAX → Chooses s n a (ExactMatch t) (Ok (record { key = b.key; range = record { start = t; end = last } }))
+choice_in : (n a t last : ℕ) (s : Shape) (b : Block) (w : IsWithin (space_of (blocks s)) (blocks s) b n t) → b.state ≡ Free → t % a ≡ 0 → last ≡ t + (n - 1) → last ≤ b.key.end → last < MAX → Chooses s (named n a t) (Ok (record { key = b.key; range = record { start = t; end = last } }))
 unfolding Chooses IsSettledBy
 choice_in n a t last s b w f d e l m =
     let z = w.some in
@@ -93,31 +108,30 @@ choice_in n a t last s b w f d e l m =
           exact_taken_new answer new (subst (λ (v : Range). Takes (tree_state s) v answer new) span_is h),
     )
   where
-    exact_taken_new : (answer : Result Range Error) (new : AddressState) → Takes (tree_state s) (span t n) answer new → Settles (tree_state s) n a (ExactMatch t) answer new
+    exact_taken_new : (answer : Result Range Error) (new : AddressState) → Takes (tree_state s) (span t n) answer new → Settles (tree_state s) (named n a t) answer new
     exact_taken_new answer new h = exact_taken (space_of (blocks s)) (blocks s) b n a t new answer w f (let z = w.some in omega arith) (let z = w.some in omega arith) d h
 
-chooses_in : (n a t last : ℕ) (s : Shape) (b : Block) (st : NodeState) (answer : Result Choice Error) → IsWithin (space_of (blocks s)) (blocks s) b n t → st ≡ b.state → t % a ≡ 0 → last ≡ t + (n - 1) → last ≤ MAX → ExactIn b.key st t last answer → Chooses s n a (ExactMatch t) answer
+chooses_in : (n a t last : ℕ) (s : Shape) (b : Block) (st : NodeState) (answer : Result Choice Error) → IsWithin (space_of (blocks s)) (blocks s) b n t → st ≡ b.state → t % a ≡ 0 → last ≡ t + (n - 1) → last ≤ MAX → ExactIn b.key st t last answer → Chooses s (named n a t) answer
 unfolding ExactIn Chooses
 chooses_in n a t last s b Allocated answer w e d q o h =
     let z = w.some in
     ⊎_elim
-    (λ l. subst (λ (v : Result Choice Error). Chooses s n a (ExactMatch t) v) (sym l.1) (exact_held (space_of (blocks s)) (blocks s) b n a t w (omega arith) (sym e) l.0.0 (omega (arith, l.0.1))))
-    (λ l. subst (λ (v : Result Choice Error). Chooses s n a (ExactMatch t) v) (sym l.1) (exact_other (space_of (blocks s)) (blocks s) b n a t w (omega arith) (sym e) (λ k. l.0 (k.0, omega (arith, k.1)))))
+    (λ l. subst (λ (v : Result Choice Error). Chooses s (named n a t) v) (sym l.1) (exact_held (space_of (blocks s)) (blocks s) b n a t w (omega arith) (sym e) l.0.0 (omega (arith, l.0.1))))
+    (λ l. subst (λ (v : Result Choice Error). Chooses s (named n a t) v) (sym l.1) (exact_other (space_of (blocks s)) (blocks s) b n a t w (omega arith) (sym e) (λ k. l.0 (k.0, omega (arith, k.1)))))
     h
 chooses_in n a t last s b Free answer w e d q o h =
     let z = w.some in
     ⊎_elim
-    (λ l. subst (λ (v : Result Choice Error). Chooses s n a (ExactMatch t) v) (sym l.1) (exact_short (space_of (blocks s)) (blocks s) b n a t w (omega arith) (sym e) (omega (arith, l.0))))
+    (λ l. subst (λ (v : Result Choice Error). Chooses s (named n a t) v) (sym l.1) (exact_short (space_of (blocks s)) (blocks s) b n a t w (omega arith) (sym e) (omega (arith, l.0))))
     (λ l. ⊎_elim
-    (λ m. subst (λ (v : Result Choice Error). Chooses s n a (ExactMatch t) v) (sym m.1) (exact_at_end (space_of (blocks s)) (blocks s) b n a t w (sym e) (omega (arith, l.0)) (omega (arith, m.0))))
-    (λ m. subst (λ (v : Result Choice Error). Chooses s n a (ExactMatch t) v) (sym m.1) (choice_in n a t last s b w (sym e) d q (omega (arith, l.0)) (omega (arith, m.0))))
+    (λ m. subst (λ (v : Result Choice Error). Chooses s (named n a t) v) (sym m.1) (exact_at_end (space_of (blocks s)) (blocks s) b n a t w (sym e) (omega (arith, l.0)) (omega (arith, m.0))))
+    (λ m. subst (λ (v : Result Choice Error). Chooses s (named n a t) v) (sym m.1) (choice_in n a t last s b w (sym e) d q (omega (arith, l.0)) (omega (arith, m.0))))
     l.1)
     h
 
-pub chooses_exact : (request : Request) (n a t last : ℕ) (k key : Range) (s : Shape) (b : Block) (st : NodeState) (answer : Result Choice Error) → IsSpaceTree s → IsRequest request → request.policy ≡ ExactMatch t → n ≡ request.size → a ≡ request.align → t < MAX → k ≡ at_address t → find_superset k (blocks s) ≡ Some b → key ≡ b.key → st ≡ b.state → last ≡ t + (n - 1) → last ≤ MAX → ExactIn key st t last answer → Chooses s n a (ExactMatch t) answer
-chooses_exact request n a t last k key s b st answer h r p en ea m e f ek es q o x =
-    let z : 0 < n = omega (arith, r.some) in
-    let d : t % a ≡ 0 = ap (λ (v : ℕ). t % v) ea ∙ aligned_if request.align t request.policy p r.start in
-    chooses_in n a t last s b st answer (within n t k s b h z m e f) es d q o (subst (λ (v : Range). ExactIn v st t last answer) ek x)
+pub chooses_exact : (request : Request) (t last : ℕ) (k key : Range) (s : Shape) (b : Block) (st : NodeState) (answer : Result Choice Error) → IsSpaceTree s → IsRequest request → request.policy ≡ ExactMatch t → t < MAX → k ≡ at_address t → find_superset k (blocks s) ≡ Some b → key ≡ b.key → st ≡ b.state → last ≡ t + (request.size - 1) → last ≤ MAX → ExactIn key st t last answer → Chooses s request answer
+chooses_exact request t last k key s b st answer h r p m e f ek es q o x =
+    let d : t % request.align ≡ 0 = aligned_if request.align t request.policy p r.start in
+    known_start request t s answer p (chooses_in request.size request.align t last s b st answer (within request.size t k s b h r.some m e f) es d q o (subst (λ (v : Range). ExactIn v st t last answer) ek x))
 
-pub ruleset exact_choices = (at_max, outside, over, chooses_exact)
+pub ruleset exact_choices = (at_max, chooses_exact)

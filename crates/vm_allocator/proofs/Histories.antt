@@ -3,12 +3,12 @@ use Rattle.std.proofs.Common.{◌≡◌, ℕ, ◌+◌, ◌-◌, ◌<◌, ◌≤�
 use Rattle.std.specs.List.{Contains}
 use Rattle.vm_allocator.specs.Range.{Range, MAX, Overlaps, span}
 use Rattle.vm_allocator.specs.Address.{AddressState, IsPlace, IsAddressState, holding, releasing, with_range, without_range}
+use Rattle.vm_allocator.specs.Request.{Request}
 use Rattle.vm_allocator.specs.Answer.{Takes, Allocates, Frees, Makes}
 use Rattle.vm_allocator.specs.Histories.{Step, Allocation, Release, IsStep, IsRun, IsReached, WasGiven, releases}
 use Rattle.vm_allocator.specs.HistoryLaws.{LieApart, SlotsAreGood, AreAlike, StateDecides, ReleaseUndoes, OrderOfReleasesIsFree}
 use Rattle.vm_allocator.specs.declared.error.Error.{Error}
 use Rattle.vm_allocator.specs.declared.error.Error.TheVariants.{Overflow, OutOfMemory}
-use Rattle.vm_allocator.specs.declared.constraint.AllocPolicy.{AllocPolicy}
 use Rattle.vm_allocator.proofs.Words.{IsHeld, contains_held, held_contains, none_holds}
 use Rattle.vm_allocator.proofs.Outcomes.{IsRefused, allocates_outcome}
 use Rattle.vm_allocator.proofs.Ranges.{covers}
@@ -17,48 +17,48 @@ use Rattle.vm_allocator.proofs.HeldSets.{Misses, held_lies, one_held, same_slots
 
 -- ---- the two outcomes of a request
 -- it is refused and nothing changes, or the range at a place is given
-record IsGiven (old : AddressState) (n a : ℕ) (answer : Result Range Error) (new : AddressState) : Type 0 where
+record IsGiven (old : AddressState) (request : Request) (answer : Result Range Error) (new : AddressState) : Type 0 where
   from : ℕ
-  some : 0 < n
-  place : IsPlace n a old from
-  not_max : ¬ (from + n - 1 ≡ MAX)
-  given : answer ≡ Ok (span from n)
-  left : new ≡ holding (span from n) old
+  some : 0 < request.size
+  place : IsPlace request.size request.align old from
+  not_max : ¬ (from + request.size - 1 ≡ MAX)
+  given : answer ≡ Ok (span from request.size)
+  left : new ≡ holding (span from request.size) old
 
-outcome : (policy : AllocPolicy) (old new : AddressState) (n a : ℕ) (answer : Result Range Error) → Allocates old n a policy answer new → IsRefused old answer new ⊎ IsGiven old n a answer new
+outcome : (request : Request) (old new : AddressState) (answer : Result Range Error) → Allocates old request answer new → IsRefused old answer new ⊎ IsGiven old request answer new
 unfolding Takes
-outcome policy old new n a answer h =
+outcome request old new answer h =
     ⊎_elim
     (λ l. inl l)
     (λ k.
     let t = k.1 in
     ⊎_elim
-    (λ g. inr (record { from = t.0; some = k.0.some; place = chosen_place policy n a t.0 old t.1; not_max = t.2; given = g.0; left = g.1 }))
+    (λ g. inr (record { from = t.0; some = k.0.some; place = chosen_place request t.0 old t.1; not_max = t.2; given = g.0; left = g.1 }))
     (λ x. ⊎_elim (λ m. inl (OutOfMemory, m, x.1)) (λ d. inl (Overflow, d.1, x.1)) x.2)
     t.3)
-    (allocates_outcome policy n a old new answer h)
+    (allocates_outcome old new answer request h)
 
 -- ---- every state that is reached is one
 -- a range that is given lies in the space, ends below MAX, and no address of it was held
-lies_clear : (old new : AddressState) (n a : ℕ) (answer : Result Range Error) (g : IsGiven old n a answer new) → IsAddressState old → (old.space.start ≤ g.from) × (g.from + n - 1 ≤ old.space.end) × (g.from + n - 1 < MAX) × Misses old.held (span g.from n)
+lies_clear : (old new : AddressState) (request : Request) (answer : Result Range Error) (g : IsGiven old request answer new) → IsAddressState old → (old.space.start ≤ g.from) × (g.from + request.size - 1 ≤ old.space.end) × (g.from + request.size - 1 < MAX) × Misses old.held (span g.from request.size)
 unfolding IsPlace
-lies_clear old new n a answer g i =
+lies_clear old new request answer g i =
     let some = g.some in
     let first = g.place.1 g.from (omega arith) (omega arith) in
-    let last = g.place.1 (g.from + n - 1) (omega arith) (omega arith) in (
+    let last = g.place.1 (g.from + request.size - 1) (omega arith) (omega arith) in (
       first.0.0,
       last.0.1,
       omega (arith, last.0.1, i.space.1, g.not_max),
       λ x m. none_holds old.held x (g.place.1 x m.0 (omega (arith, m.1))).1,
     )
 
-given_state : (old new : AddressState) (n a : ℕ) (answer : Result Range Error) → IsGiven old n a answer new → IsAddressState old → IsAddressState new
-given_state old new n a answer g i =
-    let l = lies_clear old new n a answer g i in
+given_state : (old new : AddressState) (request : Request) (answer : Result Range Error) → IsGiven old request answer new → IsAddressState old → IsAddressState new
+given_state old new request answer g i =
+    let l = lies_clear old new request answer g i in
     let some = g.some in
     subst IsAddressState (sym g.left) (record {
       space = i.space;
-      slots = slots_with old.space.start old.space.end (span g.from n) old.held i.slots l.0 (omega arith) l.1 l.2 l.3;
+      slots = slots_with old.space.start old.space.end (span g.from request.size) old.held i.slots l.0 (omega arith) l.1 l.2 l.3;
     })
 
 released_state : (old : AddressState) (r : Range) → IsAddressState old → IsAddressState (releasing r old)
@@ -66,11 +66,11 @@ released_state old r i = record { space = i.space; slots = slots_without old.spa
 
 step_state : (old new : AddressState) (step : Step) → IsStep old step new → IsAddressState old → IsAddressState new
 unfolding Frees
-step_state old new (Allocation n a policy answer) s i =
+step_state old new (Allocation request answer) s i =
     ⊎_elim
     (λ (l : IsRefused old answer new). subst IsAddressState (sym l.2) i)
-    (λ (g : IsGiven old n a answer new). given_state old new n a answer g i)
-    (outcome policy old new n a answer s)
+    (λ (g : IsGiven old request answer new). given_state old new request answer g i)
+    (outcome request old new answer s)
 step_state old new (Release r answer) s i =
     ⊎_elim (λ l. subst IsAddressState (sym l.1.1) (released_state old r i)) (λ l. subst IsAddressState (sym l.1.1) i) s
 
@@ -116,27 +116,27 @@ reached_apart steps state h =
 given_later : (step : Step) (steps : List Step) (r : Range) → WasGiven steps r → WasGiven (step ∷ steps) r
 given_later step steps r g =
     let c = g.step in
-    record { size = g.size; alignment = g.alignment; policy = g.policy; step = (suc c.0, omega (arith, c.1), c.2); aligned = g.aligned; long = g.long }
+    record { request = g.request; step = (suc c.0, omega (arith, c.1), c.2); aligned = g.aligned; long = g.long }
 
-given_here : (old new : AddressState) (n a : ℕ) (policy : AllocPolicy) (answer : Result Range Error) (steps : List Step) (g : IsGiven old n a answer new) → WasGiven (Allocation n a policy answer ∷ steps) (span g.from n)
+given_here : (old new : AddressState) (request : Request) (answer : Result Range Error) (steps : List Step) (g : IsGiven old request answer new) → WasGiven (Allocation request answer ∷ steps) (span g.from request.size)
 unfolding IsPlace
-given_here old new n a policy answer steps g =
-    record { size = n; alignment = a; policy = policy; step = (0, omega arith, ap (Allocation n a policy) g.given); aligned = g.place.0; long = refl }
+given_here old new request answer steps g =
+    record { request = request; step = (0, omega arith, ap (Allocation request) g.given); aligned = g.place.0; long = refl }
 
 -- a range that is held after a step was held before it, or given by it
 step_gives : (old new : AddressState) (step : Step) (steps : List Step) (r : Range) → IsStep old step new → IsHeld new.held r → IsHeld old.held r ⊎ WasGiven (step ∷ steps) r
 unfolding Frees
-step_gives old new (Allocation n a policy answer) steps r s h =
+step_gives old new (Allocation request answer) steps r s h =
     let P : AddressState → Type 0 = λ v. IsHeld v.held r in
-    let made : List Step = Allocation n a policy answer ∷ steps in
+    let made : List Step = Allocation request answer ∷ steps in
     ⊎_elim
     (λ (l : IsRefused old answer new). inl (subst P l.2 h))
-    (λ (g : IsGiven old n a answer new).
+    (λ (g : IsGiven old request answer new).
     ⊎_elim
-    (λ (e : span g.from n ≡ r). inr (subst (WasGiven made) e (given_here old new n a policy answer steps g)))
+    (λ (e : span g.from request.size ≡ r). inr (subst (WasGiven made) e (given_here old new request answer steps g)))
     (λ (k : IsHeld old.held r). inl k)
-    (held_with (span g.from n) r old.held (subst P g.left h)))
-    (outcome policy old new n a answer s)
+    (held_with (span g.from request.size) r old.held (subst P g.left h)))
+    (outcome request old new answer s)
 step_gives old new (Release q answer) steps r s h =
     let P : AddressState → Type 0 = λ v. IsHeld v.held r in
     ⊎_elim (λ l. inl (held_without q r old.held (subst P l.1.1 h))) (λ l. inl (subst P l.1.1 h)) s
@@ -177,20 +177,20 @@ alike_state steps others x y i j h = same_state x y (reached_state steps x i) (r
 
 pub decided : StateDecides
 decided = record {
-  allocation = λ steps others x y m k n a policy p q i j h s t.
+  allocation = λ steps others x y m k request p q i j h s t.
       let e = alike_state steps others x y i j h in
-      allocates_once x m k n a policy p q s (subst (λ (v : AddressState). Allocates v n a policy q k) (sym e) t);
+      allocates_once x m k request p q s (subst (λ (v : AddressState). Allocates v request q k) (sym e) t);
   release = λ steps others x y m k r p q i j h s t.
       let e = alike_state steps others x y i j h in
       frees_once x m k r p q s (subst (λ (v : AddressState). Frees v r q k) (sym e) t);
 }
 
 -- ---- ranges given back
-given_back : (old new : AddressState) (n a : ℕ) (answer : Result Range Error) (g : IsGiven old n a answer new) → IsAddressState old → releasing (span g.from n) (holding (span g.from n) old) ≡ old
-given_back old new n a answer g i =
-    let l = lies_clear old new n a answer g i in
+given_back : (old new : AddressState) (request : Request) (answer : Result Range Error) (g : IsGiven old request answer new) → IsAddressState old → releasing (span g.from request.size) (holding (span g.from request.size) old) ≡ old
+given_back old new request answer g i =
+    let l = lies_clear old new request answer g i in
     let some = g.some in
-    ap (λ (hs : List Range). record old { held = hs }) (without_with old.space.start old.space.end (span g.from n) old.held i.slots (omega arith) l.3)
+    ap (λ (hs : List Range). record old { held = hs }) (without_with old.space.start old.space.end (span g.from request.size) old.held i.slots (omega arith) l.3)
 
 -- a held range is given back with success
 frees_held : (old new : AddressState) (r : Range) (answer : Result (Unit {0}) Error) → IsHeld old.held r → Frees old r answer new → (answer ≡ Ok tt) × (new ≡ releasing r old)
@@ -203,18 +203,18 @@ unfolding Frees
 freed_held old new r f = ⊎_elim (λ l. (held_contains old.held r l.0, l.1.1)) (λ l. absurd (cc (l.1.0))) f
 
 pub release_undoes : ReleaseUndoes
-release_undoes steps old mid new n a policy r answer h s f =
+release_undoes steps old mid new request r answer h s f =
     let given : Result Range Error = Ok r in
     ⊎_elim
     (λ (l : IsRefused old given mid). absurd (cc (l.1)))
-    (λ (g : IsGiven old n a given mid).
-    let e : r ≡ span g.from n = cc (g.given) in
-    let held : IsHeld mid.held r = subst (λ (v : AddressState). IsHeld v.held r) (sym g.left) (subst (λ (v : Range). IsHeld (with_range (span g.from n) old.held) v) (sym e) (held_now (span g.from n) old.held)) in
+    (λ (g : IsGiven old request given mid).
+    let e : r ≡ span g.from request.size = cc (g.given) in
+    let held : IsHeld mid.held r = subst (λ (v : AddressState). IsHeld v.held r) (sym g.left) (subst (λ (v : Range). IsHeld (with_range (span g.from request.size) old.held) v) (sym e) (held_now (span g.from request.size) old.held)) in
     let freed = frees_held mid new r answer held f in
-    let back = given_back old mid n a given g (reached_state steps old h) in
-    let same : releasing r mid ≡ releasing (span g.from n) (holding (span g.from n) old) = rw (e, g.left) refl in
+    let back = given_back old mid request given g (reached_state steps old h) in
+    let same : releasing r mid ≡ releasing (span g.from request.size) (holding (span g.from request.size) old) = rw (e, g.left) refl in
     (freed.0, freed.1 ∙ (same ∙ back)))
-    (outcome policy old mid n a given s)
+    (outcome request old mid given s)
 
 -- what is held once ranges are given back: those from before but for them
 left_held : (rs : List Range) (old x : AddressState) (q : Range) → IsAddressState old → IsRun old (releases rs) x → IsHeld x.held q ↔ (IsHeld old.held q × ¬ IsHeld rs q)

@@ -3,9 +3,9 @@ use Rattle.std.proofs.Common.{◌≡◌, ℕ, ◌+◌, ◌-◌, sym, ◌∙◌, 
 use Rattle.vm_allocator.specs.Cases.{IfElse, Unless}
 use Rattle.vm_allocator.specs.Range.{Range, MAX, span}
 use Rattle.vm_allocator.specs.Address.{AddressState, IsPlace, IsLeastPlace, IsGreatestPlace}
-use Rattle.vm_allocator.specs.Request.{ByConstraint}
-use Rattle.vm_allocator.specs.Answer.{IsChosen, ByExactStart, ByPlace, Takes, Settles, Allocates, Frees}
-use Rattle.vm_allocator.specs.Laws.{AgreeUnlessExit}
+use Rattle.vm_allocator.specs.Request.{Request, request_for, ByConstraint}
+use Rattle.vm_allocator.specs.Answer.{IsChosen, ByStart, ByExactStart, ByPlace, Takes, Settles, Allocates, Frees}
+use Rattle.vm_allocator.specs.Laws.{AgreeUnlessExit, AllocatesOnce, FreesOnce}
 use Rattle.vm_allocator.specs.declared.error.Error.{Error}
 use Rattle.vm_allocator.specs.declared.error.Error.TheVariants.{Overflow, ResourceNotAvailable}
 use Rattle.vm_allocator.specs.declared.constraint.AllocPolicy.{AllocPolicy}
@@ -13,18 +13,24 @@ use Rattle.vm_allocator.specs.declared.constraint.AllocPolicy.TheVariants.{First
 use Rattle.vm_allocator.proofs.CaseLemmas.{if_same, unless_same}
 
 -- there is one chosen place
-pub chosen_once : (policy : AllocPolicy) (n a s t : ℕ) (state : AddressState) → IsChosen policy n a state s → IsChosen policy n a state t → s ≡ t
+chosen_by : (policy : AllocPolicy) (n a s t : ℕ) (state : AddressState) → IsChosen (request_for n a policy) state s → IsChosen (request_for n a policy) state t → s ≡ t
 unfolding IsChosen IsLeastPlace IsGreatestPlace
-chosen_once FirstMatch n a s t state p q = omega (arith, p.1 t q.0, q.1 s p.0)
-chosen_once LastMatch n a s t state p q = omega (arith, p.1 t q.0, q.1 s p.0)
-chosen_once (ExactMatch u) n a s t state p q = p.0 ∙ sym q.0
+chosen_by FirstMatch n a s t state p q = omega (arith, p.1 t q.0, q.1 s p.0)
+chosen_by LastMatch n a s t state p q = omega (arith, p.1 t q.0, q.1 s p.0)
+chosen_by (ExactMatch u) n a s t state p q = p.0 ∙ sym q.0
+
+pub chosen_once : (request : Request) (s t : ℕ) (state : AddressState) → IsChosen request state s → IsChosen request state t → s ≡ t
+chosen_once request s t state = chosen_by request.policy request.size request.align s t state
 
 -- and it is a place
-pub chosen_place : (policy : AllocPolicy) (n a s : ℕ) (state : AddressState) → IsChosen policy n a state s → IsPlace n a state s
+place_by : (policy : AllocPolicy) (n a s : ℕ) (state : AddressState) → IsChosen (request_for n a policy) state s → IsPlace n a state s
 unfolding IsChosen IsLeastPlace IsGreatestPlace
-chosen_place FirstMatch n a s state p = p.0
-chosen_place LastMatch n a s state p = p.0
-chosen_place (ExactMatch u) n a s state p = p.1
+place_by FirstMatch n a s state p = p.0
+place_by LastMatch n a s state p = p.0
+place_by (ExactMatch u) n a s state p = p.1
+
+pub chosen_place : (request : Request) (s : ℕ) (state : AddressState) → IsChosen request state s → IsPlace request.size request.align state s
+chosen_place request s state = place_by request.policy request.size request.align s state
 
 -- two facts by one condition, as functions of both
 both : (c P Q S T R : Type 0) → (P → S → R) → (Q → T → R) → IfElse c P Q → IfElse c S T → R
@@ -34,54 +40,65 @@ both_unless : (c P Q S T R : Type 0) → (P → S → R) → (Q → T → R) →
 both_unless c P Q S T R f g h k = unless_same c P Q S T h k f g
 
 abbrev Refused : AddressState → Result Range Error → AddressState → Error → Type 0
-Refused old x m e = (x ≡ Err e) × (m ≡ old)
+Refused old answer new e = (answer ≡ Err e) × (new ≡ old)
 
-refused_once : (old m n : AddressState) (x y : Result Range Error) (e : Error) → Refused old x m e → Refused old y n e → AgreeUnlessExit old x m y n
-refused_once old m n x y e p q = inl (p.0 ∙ sym q.0, p.1 ∙ sym q.1)
+-- two answers to one request, with the states that they leave
+module _ (old new later : AddressState) (answer other : Result Range Error) where
+  abbrev Agree : Type 0
+  Agree = AgreeUnlessExit old answer new other later
 
-takes_once : (old m n : AddressState) (x y : Result Range Error) (r : Range) → Takes old r x m → Takes old r y n → AgreeUnlessExit old x m y n
-unfolding Takes
-takes_once old m n x y r p q =
-    ⊎_elim
-    (λ a. ⊎_elim (λ b. inl (a.0 ∙ sym b.0, a.1 ∙ sym b.1)) (λ b. inr (inr b.2)) q)
-    (λ a. inr (inl a.2)) p
+  refused_once : (e : Error) → Refused old answer new e → Refused old other later e → Agree
+  refused_once e p q = inl (p.0 ∙ sym q.0, p.1 ∙ sym q.1)
 
-place_once : (policy : AllocPolicy) (n a : ℕ) (old m k : AddressState) (x y : Result Range Error) → ByPlace policy n a old (Refused old x m) (λ r. Takes old r x m) → ByPlace policy n a old (Refused old y k) (λ r. Takes old r y k) → AgreeUnlessExit old x m y k
-unfolding ByPlace
-place_once policy n a old m k x y p q =
-    ⊎_elim
-    (λ u. ⊎_elim (λ v. refused_once old m k x y ResourceNotAvailable u.1 v.1) (λ v. absurd (u.0 v.0 (chosen_place policy n a v.0 old v.1))) q)
-    (λ u. ⊎_elim (λ v. absurd (v.0 u.0 (chosen_place policy n a u.0 old u.1)))
-    (λ v.
-    let e : v.0 ≡ u.0 = chosen_once policy n a v.0 u.0 old v.1 u.1 in
-    let w : IfElse (u.0 + n - 1 ≡ MAX) (Refused old y k Overflow) (Takes old (span u.0 n) y k) = subst (λ (s : ℕ). IfElse (s + n - 1 ≡ MAX) (Refused old y k Overflow) (Takes old (span s n) y k)) e v.2 in
-    both (u.0 + n - 1 ≡ MAX) (Refused old x m Overflow) (Takes old (span u.0 n) x m) (Refused old y k Overflow) (Takes old (span u.0 n) y k) (AgreeUnlessExit old x m y k)
-    (refused_once old m k x y Overflow) (takes_once old m k x y (span u.0 n)) u.2 w)
-    q)
-    p
+  takes_once : (r : Range) → Takes old r answer new → Takes old r other later → Agree
+  unfolding Takes
+  takes_once r p q =
+      ⊎_elim
+      (λ a. ⊎_elim (λ b. inl (a.0 ∙ sym b.0, a.1 ∙ sym b.1)) (λ b. inr (inr b.2)) q)
+      (λ a. inr (inl a.2)) p
 
-settles_once : (policy : AllocPolicy) (n a : ℕ) (old m k : AddressState) (x y : Result Range Error) → Settles old n a policy x m → Settles old n a policy y k → AgreeUnlessExit old x m y k
-unfolding Settles ByExactStart
-settles_once FirstMatch n a old m k x y p q = place_once FirstMatch n a old m k x y p q
-settles_once LastMatch n a old m k x y p q = place_once LastMatch n a old m k x y p q
-settles_once (ExactMatch t) n a old m k x y p q =
-    let R : Type 0 = AgreeUnlessExit old x m y k in
-    both _ _ _ _ _ R (refused_once old m k x y _)
-    (both_unless _ _ _ _ _ R (refused_once old m k x y _)
-    (both _ _ _ _ _ R (refused_once old m k x y _)
-    (both _ _ _ _ _ R (refused_once old m k x y _)
-    (both_unless _ _ _ _ _ R (refused_once old m k x y _)
-    (both _ _ _ _ _ R (refused_once old m k x y _) (place_once (ExactMatch t) n a old m k x y)))))) p q
+  place_once : (request : Request) → ByPlace request old (Refused old answer new) (λ r. Takes old r answer new) → ByPlace request old (Refused old other later) (λ r. Takes old r other later) → Agree
+  unfolding ByPlace
+  place_once request p q =
+      let n = request.size in
+      ⊎_elim
+      (λ u. ⊎_elim (λ v. refused_once ResourceNotAvailable u.1 v.1) (λ v. absurd (u.0 v.0 (chosen_place request v.0 old v.1))) q)
+      (λ u. ⊎_elim (λ v. absurd (v.0 u.0 (chosen_place request u.0 old u.1)))
+      (λ v.
+      let e : v.0 ≡ u.0 = chosen_once request v.0 u.0 old v.1 u.1 in
+      let w : IfElse (u.0 + n - 1 ≡ MAX) (Refused old other later Overflow) (Takes old (span u.0 n) other later) = subst (λ (s : ℕ). IfElse (s + n - 1 ≡ MAX) (Refused old other later Overflow) (Takes old (span s n) other later)) e v.2 in
+      both (u.0 + n - 1 ≡ MAX) (Refused old answer new Overflow) (Takes old (span u.0 n) answer new) (Refused old other later Overflow) (Takes old (span u.0 n) other later) Agree
+      (refused_once Overflow) (takes_once (span u.0 n)) u.2 w)
+      q)
+      p
 
-pub allocates_once : (old m k : AddressState) (n a : ℕ) (policy : AllocPolicy) (x y : Result Range Error) → Allocates old n a policy x m → Allocates old n a policy y k → AgreeUnlessExit old x m y k
-unfolding Allocates ByConstraint
-allocates_once old m k n a policy x y p q =
-    let R : Type 0 = AgreeUnlessExit old x m y k in
-    both _ _ _ _ _ R (refused_once old m k x y _)
-    (both_unless _ _ _ _ _ R (refused_once old m k x y _)
-    (both_unless _ _ _ _ _ R (refused_once old m k x y _) (settles_once policy n a old m k x y))) p q
+  start_once : (t n : ℕ) (P Q : Type 0) → (P → Q → Agree) → ByStart t n old (Refused old answer new) P → ByStart t n old (Refused old other later) Q → Agree
+  unfolding ByStart
+  start_once t n P Q rest =
+      both _ _ _ _ _ Agree (refused_once _)
+      (both_unless _ _ _ _ _ Agree (refused_once _)
+      (both _ _ _ _ _ Agree (refused_once _)
+      (both _ _ _ _ _ Agree (refused_once _)
+      (both_unless _ _ _ _ _ Agree (refused_once _)
+      (both _ _ _ _ _ Agree (refused_once _) rest)))))
 
-pub frees_once : (old m k : AddressState) (r : Range) (x y : Result (Unit {0}) Error) → Frees old r x m → Frees old r y k → (x ≡ y) × (m ≡ k)
+  settles_by : (policy : AllocPolicy) (n a : ℕ) → Settles old (request_for n a policy) answer new → Settles old (request_for n a policy) other later → Agree
+  unfolding Settles ByExactStart
+  settles_by FirstMatch n a p q = place_once (request_for n a FirstMatch) p q
+  settles_by LastMatch n a p q = place_once (request_for n a LastMatch) p q
+  settles_by (ExactMatch t) n a p q = start_once t n _ _ (place_once (request_for n a (ExactMatch t))) p q
+
+  request_once : (request : Request) → Allocates old request answer new → Allocates old request other later → Agree
+  unfolding Allocates ByConstraint
+  request_once request p q =
+      both _ _ _ _ _ Agree (refused_once _)
+      (both_unless _ _ _ _ _ Agree (refused_once _)
+      (both_unless _ _ _ _ _ Agree (refused_once _) (settles_by request.policy request.size request.align))) p q
+
+pub allocates_once : AllocatesOnce
+allocates_once old new later request answer other = request_once old new later answer other request
+
+pub frees_once : FreesOnce
 unfolding Frees
-frees_once old m k r x y p q =
-    both _ _ _ _ _ ((x ≡ y) × (m ≡ k)) (λ u v. (u.0 ∙ sym v.0, u.1 ∙ sym v.1)) (λ u v. (u.0 ∙ sym v.0, u.1 ∙ sym v.1)) p q
+frees_once old new later r answer other p q =
+    both _ _ _ _ _ ((answer ≡ other) × (new ≡ later)) (λ u v. (u.0 ∙ sym v.0, u.1 ∙ sym v.1)) (λ u v. (u.0 ∙ sym v.0, u.1 ∙ sym v.1)) p q

@@ -2,8 +2,8 @@
 use Rattle.std.proofs.Common.{◌≡◌, ℕ, ◌+◌, ◌-◌, arith, inl, inr, ◌⊎◌, ⊎_elim, Result, Err}
 use Rattle.vm_allocator.specs.Range.{Range, MAX, span}
 use Rattle.vm_allocator.specs.Address.{AddressState}
-use Rattle.vm_allocator.specs.Request.{IsRequest, ByConstraint}
-use Rattle.vm_allocator.specs.Answer.{IsChosen, ByExactStart, ByPlace, Takes, Settles, Allocates}
+use Rattle.vm_allocator.specs.Request.{Request, request_for, IsRequest, ByConstraint}
+use Rattle.vm_allocator.specs.Answer.{IsChosen, ByStart, ByExactStart, ByPlace, Takes, Settles, Allocates}
 use Rattle.vm_allocator.specs.declared.error.Error.{Error}
 use Rattle.vm_allocator.specs.declared.error.Error.TheVariants.{Overflow, ResourceNotAvailable}
 use Rattle.vm_allocator.specs.declared.constraint.AllocPolicy.{AllocPolicy}
@@ -14,44 +14,54 @@ abbrev pub IsRefused : AddressState → Result Range Error → AddressState → 
 IsRefused old answer new = (e : Error) × (answer ≡ Err e) × (new ≡ old)
 
 -- the range at the chosen place is taken, and does not end at MAX
-abbrev pub IsTaken : ℕ → ℕ → AllocPolicy → AddressState → Result Range Error → AddressState → Type 0
-IsTaken n a policy old answer new = (s : ℕ) × IsChosen policy n a old s × ¬ (s + n - 1 ≡ MAX) × Takes old (span s n) answer new
+abbrev pub IsTaken : Request → AddressState → Result Range Error → AddressState → Type 0
+IsTaken request old answer new =
+    (s : ℕ) × IsChosen request old s × ¬ (s + request.size - 1 ≡ MAX) × Takes old (span s request.size) answer new
 
--- a test before the rest: a refusal, or what the rest comes to
-or_rest : (C D Q G : Type 0) (e : Error) (old new : AddressState) (answer : Result Range Error) → (D → Q → IsRefused old answer new ⊎ G) → (C × ((answer ≡ Err e) × (new ≡ old))) ⊎ (D × Q) → IsRefused old answer new ⊎ G
-or_rest C D Q G e old new answer f h = ⊎_elim (λ l. inl (e, l.1.0, l.1.1)) (λ r. f r.0 r.1) h
+-- an answer, with the state that it leaves
+module _ (old new : AddressState) (answer : Result Range Error) where
+  -- a test before the rest: a refusal, or what the rest comes to
+  or_rest : (C D Q G : Type 0) (e : Error) → (D → Q → IsRefused old answer new ⊎ G) → (C × ((answer ≡ Err e) × (new ≡ old))) ⊎ (D × Q) → IsRefused old answer new ⊎ G
+  or_rest C D Q G e f h = ⊎_elim (λ l. inl (e, l.1.0, l.1.1)) (λ r. f r.0 r.1) h
 
-place_outcome : (policy : AllocPolicy) (n a : ℕ) (old new : AddressState) (answer : Result Range Error) → ByPlace policy n a old (λ e. (answer ≡ Err e) × (new ≡ old)) (λ r. Takes old r answer new) → IsRefused old answer new ⊎ IsTaken n a policy old answer new
-unfolding ByPlace
-place_outcome policy n a old new answer h =
-    ⊎_elim
-    (λ l. inl (ResourceNotAvailable, l.1.0, l.1.1))
-    (λ r. or_rest _ _ _ (IsTaken n a policy old answer new) Overflow old new answer (λ d t. inr (r.0, r.1, d, t)) r.2)
-    h
+  place_outcome : (request : Request) → ByPlace request old (λ e. (answer ≡ Err e) × (new ≡ old)) (λ r. Takes old r answer new) → IsRefused old answer new ⊎ IsTaken request old answer new
+  unfolding ByPlace
+  place_outcome request h =
+      ⊎_elim
+      (λ l. inl (ResourceNotAvailable, l.1.0, l.1.1))
+      (λ r. or_rest _ _ _ (IsTaken request old answer new) Overflow (λ d t. inr (r.0, r.1, d, t)) r.2)
+      h
 
-pub settles_outcome : (policy : AllocPolicy) (n a : ℕ) (old new : AddressState) (answer : Result Range Error) → Settles old n a policy answer new → IsRefused old answer new ⊎ IsTaken n a policy old answer new
-unfolding Settles ByExactStart
-settles_outcome FirstMatch n a old new answer h = place_outcome FirstMatch n a old new answer h
-settles_outcome LastMatch n a old new answer h = place_outcome LastMatch n a old new answer h
-settles_outcome (ExactMatch t) n a old new answer h =
-    let G : Type 0 = IsTaken n a (ExactMatch t) old answer new in
-    or_rest _ _ _ G _ old new answer
-    (λ d. or_rest _ _ _ G _ old new answer
-    (λ d. or_rest _ _ _ G _ old new answer
-    (λ d. or_rest _ _ _ G _ old new answer
-    (λ d. or_rest _ _ _ G _ old new answer
-    (λ d. or_rest _ _ _ G _ old new answer
-    (λ d. place_outcome (ExactMatch t) n a old new answer)))))) h
+  start_outcome : (t n : ℕ) (P G : Type 0) → (P → IsRefused old answer new ⊎ G) → ByStart t n old (λ e. (answer ≡ Err e) × (new ≡ old)) P → IsRefused old answer new ⊎ G
+  unfolding ByStart
+  start_outcome t n P G rest h =
+      or_rest _ _ _ G _
+      (λ d. or_rest _ _ _ G _
+      (λ d. or_rest _ _ _ G _
+      (λ d. or_rest _ _ _ G _
+      (λ d. or_rest _ _ _ G _
+      (λ d. or_rest _ _ _ G _
+      (λ d. rest)))))) h
 
-pub allocates_outcome : (policy : AllocPolicy) (n a : ℕ) (old new : AddressState) (answer : Result Range Error) → Allocates old n a policy answer new → IsRefused old answer new ⊎ (IsRequest (record { size = n; align = a; policy = policy }) × IsTaken n a policy old answer new)
-unfolding Allocates ByConstraint
-allocates_outcome policy n a old new answer h =
-    let G : Type 0 = IsRequest (record { size = n; align = a; policy = policy }) × IsTaken n a policy old answer new in
-    or_rest _ _ _ G _ old new answer
-    (λ some. or_rest _ _ _ G _ old new answer
-    (λ aligned. or_rest _ _ _ G _ old new answer
-    (λ start q.
-    ⊎_elim
-    (λ l. inl l)
-    (λ t. inr (record { some = omega (arith, some); aligned = aligned; start = start }, t))
-    (settles_outcome policy n a old new answer q)))) h
+  outcome_by : (policy : AllocPolicy) (n a : ℕ) → Settles old (request_for n a policy) answer new → IsRefused old answer new ⊎ IsTaken (request_for n a policy) old answer new
+  unfolding Settles ByExactStart
+  outcome_by FirstMatch n a h = place_outcome (request_for n a FirstMatch) h
+  outcome_by LastMatch n a h = place_outcome (request_for n a LastMatch) h
+  outcome_by (ExactMatch t) n a h =
+      let request = request_for n a (ExactMatch t) in start_outcome t n _ (IsTaken request old answer new) (place_outcome request) h
+
+  pub settles_outcome : (request : Request) → Settles old request answer new → IsRefused old answer new ⊎ IsTaken request old answer new
+  settles_outcome request = outcome_by request.policy request.size request.align
+
+  pub allocates_outcome : (request : Request) → Allocates old request answer new → IsRefused old answer new ⊎ (IsRequest request × IsTaken request old answer new)
+  unfolding Allocates ByConstraint
+  allocates_outcome request h =
+      let G : Type 0 = IsRequest request × IsTaken request old answer new in
+      or_rest _ _ _ G _
+      (λ some. or_rest _ _ _ G _
+      (λ aligned. or_rest _ _ _ G _
+      (λ start q.
+      ⊎_elim
+      (λ l. inl l)
+      (λ t. inr (record { some = omega (arith, some); aligned = aligned; start = start }, t))
+      (settles_outcome request q)))) h

@@ -1,28 +1,32 @@
 -- What a request is refused for.
-use Rattle.std.proofs.Common.{◌≡◌, ℕ, ◌^◌, ◌<◌, true, false, refl, arith, inl, inr, Ok, Err}
+use Rattle.std.proofs.Common.{◌≡◌, ℕ, ◌^◌, ◌<◌, true, false, refl, sym, ap, arith, inl, inr, Ok, Err}
 use Rattle.std.specs.Int.{is_power_of_two}
-use Rattle.vm_allocator.specs.Request.{IsRequest, IsStartAligned, ByConstraint, MakesConstraint}
+use Rattle.vm_allocator.specs.Request.{Request, request_for, IsRequest, IsStartAligned, ByConstraint, MakesConstraint}
 use Rattle.vm_allocator.specs.declared.error.Error.TheVariants.{InvalidSize, InvalidAlignment, UnalignedAddress}
 use Rattle.vm_allocator.specs.declared.constraint.AllocPolicy.{AllocPolicy}
 use Rattle.vm_allocator.proofs.Power.{alignment_if_true, no_alignment_if_false}
 
-pub constrains_size : (n a : ℕ) (p : AllocPolicy) → n ≡ 0 → MakesConstraint n a p (Err (InvalidSize 0))
+pub constrains_size : (request : Request) → request.size ≡ 0 → MakesConstraint request (Err (InvalidSize 0))
 unfolding MakesConstraint ByConstraint
-constrains_size n a p e = inl (e, refl)
+constrains_size request e = inl (e, refl)
 
-pub constrains_alignment : (n a : ℕ) (p : AllocPolicy) → 0 < n → is_power_of_two a ≡ false → MakesConstraint n a p (Err InvalidAlignment)
+pub constrains_alignment : (request : Request) → 0 < request.size → is_power_of_two request.align ≡ false → MakesConstraint request (Err InvalidAlignment)
 unfolding MakesConstraint ByConstraint
-constrains_alignment n a p z e = inr (λ e. omega arith, inl (no_alignment_if_false a e, refl))
+constrains_alignment request z e = inr (λ e. omega arith, inl (no_alignment_if_false request.align e, refl))
 
-pub constrains_start : (n a : ℕ) (p : AllocPolicy) → 0 < n → a < 2 ^ 64 → is_power_of_two a ≡ true → ¬ IsStartAligned a p → MakesConstraint n a p (Err UnalignedAddress)
+pub constrains_start : (request : Request) → 0 < request.size → request.align < 2 ^ 64 → is_power_of_two request.align ≡ true → ¬ IsStartAligned request.align request.policy → MakesConstraint request (Err UnalignedAddress)
 unfolding MakesConstraint ByConstraint
-constrains_start n a p z l e u = inr (λ e. omega arith, inr (alignment_if_true a l e, inl (u, refl)))
+constrains_start request z l e u = inr (λ e. omega arith, inr (alignment_if_true request.align l e, inl (u, refl)))
 
-pub constrains_given : (n a : ℕ) (p : AllocPolicy) → 0 < n → a < 2 ^ 64 → is_power_of_two a ≡ true → IsStartAligned a p → MakesConstraint n a p (Ok (record { size = n; align = a; policy = p }))
+pub constrains_given : (request : Request) → 0 < request.size → request.align < 2 ^ 64 → is_power_of_two request.align ≡ true → IsStartAligned request.align request.policy → MakesConstraint request (Ok request)
 unfolding MakesConstraint ByConstraint
-constrains_given n a p z l e u = inr (λ e. omega arith, inr (alignment_if_true a l e, inr (u, refl)))
+constrains_given request z l e u = inr (λ e. omega arith, inr (alignment_if_true request.align l e, inr (u, refl)))
 
-pub makes_sense : (n a : ℕ) (p : AllocPolicy) → 0 < n → a < 2 ^ 64 → is_power_of_two a ≡ true → IsStartAligned a p → IsRequest (record { size = n; align = a; policy = p })
-makes_sense n a p z l e u = record { some = z; aligned = alignment_if_true a l e; start = u }
+pub makes_sense : (size align : ℕ) (policy : AllocPolicy) → 0 < size → align < 2 ^ 64 → is_power_of_two align ≡ true → IsStartAligned align policy → IsRequest (request_for size align policy)
+makes_sense size align policy z l e u = record { some = z; aligned = alignment_if_true align l e; start = u }
 
 pub ruleset constrains = (constrains_size, constrains_alignment, constrains_start, constrains_given, makes_sense)
+
+-- the request with the policy that is known
+pub with_policy : (request : Request) (policy : AllocPolicy) → request.policy ≡ policy → request_for request.size request.align policy ≡ request
+with_policy request policy e = ap (request_for request.size request.align) (sym e)

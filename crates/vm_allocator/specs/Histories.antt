@@ -3,18 +3,18 @@ use Rattle.std.specs.Prelude.{◌≡◌, ℕ, ◌%◌, ◌≤◌, List, [], ◌�
 use Rattle.std.specs.List.{Contains}
 use Rattle.vm_allocator.specs.Range.{Range, MAX, span}
 use Rattle.vm_allocator.specs.Address.{AddressState}
+use Rattle.vm_allocator.specs.Request.{Request}
 use Rattle.vm_allocator.specs.Answer.{Allocates, Frees, Makes}
 use Rattle.vm_allocator.specs.declared.error.Error.{Error}
-use Rattle.vm_allocator.specs.declared.constraint.AllocPolicy.{AllocPolicy}
 
--- a call with its answer: so many addresses asked for, at an alignment and by a policy, or a range given back
+-- a call with its answer: a request, or a range given back
 pub data Step : Type 0 where
-  Allocation : ℕ → ℕ → AllocPolicy → Result Range Error → Step
+  Allocation : Request → Result Range Error → Step
   Release : Range → Result (Unit {0}) Error → Step
 
 -- in the state old the call has its answer, and leaves new
 abbrev pub IsStep : AddressState → Step → AddressState → Type 0
-IsStep old (Allocation n a policy answer) new = Allocates old n a policy answer new
+IsStep old (Allocation request answer) new = Allocates old request answer new
 IsStep old (Release r answer) new = Frees old r answer new
 
 -- each step is on the state that the one before it left
@@ -33,12 +33,10 @@ pub record IsReached (steps : List Step) (state : AddressState) : Type 0 where
 
 -- some step gave the range, for as many addresses as it has, at a multiple of the alignment asked for
 pub record WasGiven (steps : List Step) (r : Range) : Type 0 where
-  pub size : ℕ
-  pub alignment : ℕ
-  pub policy : AllocPolicy
-  pub step : Contains steps (Allocation size alignment policy (Ok r))
-  pub aligned : r.start % alignment ≡ 0
-  pub long : r ≡ span r.start size
+  pub request : Request
+  pub step : Contains steps (Allocation request (Ok r))
+  pub aligned : r.start % request.align ≡ 0
+  pub long : r ≡ span r.start request.size
 
 -- the ranges given back in this order, each with success
 abbrev pub releases : List Range → List Step

@@ -4,6 +4,7 @@ use Rattle.vm_allocator.specs.Cases.{IfElse}
 use Rattle.vm_allocator.specs.Range.{Range, MAX, IsRange, span}
 use Rattle.vm_allocator.specs.Block.{Block}
 use Rattle.vm_allocator.specs.Address.{AddressState}
+use Rattle.vm_allocator.specs.Request.{Request}
 use Rattle.vm_allocator.specs.Answer.{Takes, Settles}
 use Rattle.vm_allocator.specs.Blocks.{blocks_state, IsTiling}
 use Rattle.vm_allocator.specs.BlockEdits.{free_block, parts, IsTakenFrom}
@@ -45,13 +46,13 @@ pub record IsChoice (bs : List Block) (choice : Choice) : Type 0 where
   pub below : choice.range.end < MAX
 
 -- whatever taking the range comes to is the answer to the request
-unfoldable pub IsSettledBy : AddressState → ℕ → ℕ → AllocPolicy → Range → Type 0
-IsSettledBy old n a policy r = (answer : Result Range Error) (new : AddressState) → Takes old r answer new → Settles old n a policy answer new
+unfoldable pub IsSettledBy : AddressState → Request → Range → Type 0
+IsSettledBy old request r = (answer : Result Range Error) (new : AddressState) → Takes old r answer new → Settles old request answer new
 
 -- a range to take, from a free block, or the refusal
-unfoldable pub Chooses : Shape → ℕ → ℕ → AllocPolicy → Result Choice Error → Type 0
-Chooses s n a policy (Ok choice) = IsChoice (blocks s) choice × IsSettledBy (tree_state s) n a policy choice.range
-Chooses s n a policy (Err e) = Settles (tree_state s) n a policy (Err e) (tree_state s)
+unfoldable pub Chooses : Shape → Request → Result Choice Error → Type 0
+Chooses s request (Ok choice) = IsChoice (blocks s) choice × IsSettledBy (tree_state s) request choice.range
+Chooses s request (Err e) = Settles (tree_state s) request (Err e) (tree_state s)
 
 -- the n addresses from s on as a range of the block, unless they end at MAX
 unfoldable pub EndsBelowMax : Range → ℕ → ℕ → Result Choice Error → Type 0

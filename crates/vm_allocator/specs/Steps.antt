@@ -3,7 +3,7 @@ use Rattle.std.specs.Prelude.{◌≡◌, ℕ, ◌+◌, ◌*◌, ◌^◌, ◌<◌
 use Rattle.vm_allocator.specs.Range.{Range}
 use Rattle.vm_allocator.specs.Address.{AddressState, LeavesClear}
 use Rattle.vm_allocator.specs.Blocks.{IsBlocksOf}
-use Rattle.vm_allocator.specs.Request.{MakesConstraint}
+use Rattle.vm_allocator.specs.Request.{Request, MakesConstraint}
 use Rattle.vm_allocator.specs.Shape.{Shape, blocks, height_of, node_count, IsBalanced}
 use Rattle.vm_allocator.specs.Fibonacci.{fibonacci}
 use Rattle.vm_allocator.specs.declared.error.Error.{Error}
@@ -34,15 +34,15 @@ most_entered (ExactMatch t) h k = most_on_ways h
 
 -- the nodes that a request entered in a tree of height h: a success enters one at least, and a split half the height, as
 -- each way from the root to an absent child is that long
-pub record IsSettlingCount (h : ℕ) (old : AddressState) (policy : AllocPolicy) (answer : Result Range Error) (count : ℕ) : Type 0 where
-  pub most : count ≤ most_entered policy h (length old.held)
+pub record IsSettlingCount (h : ℕ) (old : AddressState) (request : Request) (answer : Result Range Error) (count : ℕ) : Type 0 where
+  pub most : count ≤ most_entered request.policy h (length old.held)
   pub success : IsOk answer → 1 ≤ count
   pub split : IfOk answer (λ r. LeavesClear old r → h ≤ 2 * count)
 
 -- the same, also where the request makes no sense: then no node is entered
-pub record IsAllocationCount (h : ℕ) (old : AddressState) (n a : ℕ) (policy : AllocPolicy) (answer : Result Range Error) (count : ℕ) : Type 0 where
-  pub settling : IsSettlingCount h old policy answer count
-  pub senseless : (e : Error) → MakesConstraint n a policy (Err e) → count ≡ 0
+pub record IsAllocationCount (h : ℕ) (old : AddressState) (request : Request) (answer : Result Range Error) (count : ℕ) : Type 0 where
+  pub settling : IsSettlingCount h old request answer count
+  pub senseless : (e : Error) → MakesConstraint request (Err e) → count ≡ 0
 
 -- the nodes that giving a range back entered: whatever the answer, the root is one
 pub record IsReleaseCount (h count : ℕ) : Type 0 where

@@ -1,6 +1,7 @@
 ghost use Rattle.std.specs.Prelude.{ℕ, ◌≡◌, OnErr, IsOk};
 ghost use Rattle.std.specs.List.{Contains};
 ghost use Rattle.vm_allocator.specs.Address.{IsAddressState};
+ghost use Rattle.vm_allocator.specs.Request.{request_for};
 ghost use Rattle.vm_allocator.specs.Answer.{Allocates, FillsRun, Frees, Makes};
 ghost use Rattle.vm_allocator.specs.Allocator.{state_of, made_state};
 ghost use Rattle.vm_allocator.specs.Shape.{height_of};
@@ -74,11 +75,11 @@ impl AddressAllocator {
         alignment: u64,
         policy: AllocPolicy,
     ) -> Result<RangeInclusive>
-        ensures answer { Allocates (state_of self.old) size alignment policy result (state_of self.new) }
+        ensures answer { Allocates (state_of self.old) (request_for size alignment policy) result (state_of self.new) }
         ensures unchanged { OnErr result (self.new ≡ self.old) }
 
         // What fills its clear run needs no memory, and succeeds.
-        ensures filling { (s : ℕ) → FillsRun (state_of self.old) size alignment policy s → IsOk result }
+        ensures filling { (s : ℕ) → FillsRun (state_of self.old) (request_for size alignment policy) s → IsOk result }
 
         // The refusal for depth comes before want of memory.
         ensures depth { SplitsIfLow (height_of self.old.tree) (state_of self.old) result }
@@ -98,15 +99,17 @@ impl AddressAllocator {
         alignment: u64,
         policy: AllocPolicy,
     ) -> (Result<RangeInclusive>, u64)
-        ensures answer { Allocates (state_of self.old) size alignment policy result.0 (state_of self.new) }
+        ensures answer { Allocates (state_of self.old)
+            (request_for size alignment policy) result.0 (state_of self.new) }
         ensures unchanged { OnErr result.0 (self.new ≡ self.old) }
 
         // What fills its clear run needs no memory, and succeeds.
-        ensures filling { (s : ℕ) → FillsRun (state_of self.old) size alignment policy s → IsOk result.0 }
+        ensures filling { (s : ℕ) → FillsRun (state_of self.old) (request_for size alignment policy) s → IsOk result.0 }
 
         // The refusal for depth comes before want of memory.
         ensures depth { SplitsIfLow (height_of self.old.tree) (state_of self.old) result.0 }
-        ensures steps { IsAllocationCount (height_of self.old.tree) (state_of self.old) size alignment policy result.0 result.1 }
+        ensures steps { IsAllocationCount (height_of self.old.tree) (state_of self.old)
+            (request_for size alignment policy) result.0 result.1 }
     {
         match Constraint::new(size, alignment, policy) {
             Err(error) => (Err(error), 0),

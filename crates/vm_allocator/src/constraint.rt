@@ -1,5 +1,5 @@
 ghost use Rattle.std.specs.Prelude.{◌≡◌, ◌<◌, MatchBool};
-ghost use Rattle.vm_allocator.specs.Request.{MakesConstraint, IsStartAligned, IsRequest};
+ghost use Rattle.vm_allocator.specs.Request.{request_for, MakesConstraint, IsStartAligned, IsRequest};
 
 use crate::error::{Error, Result};
 use std::marker::Model;
@@ -59,7 +59,7 @@ impl Constraint {
     /// `ExactMatch` of a start that is no multiple of the alignment `UnalignedAddress`.
     #[tactic(auto, using(crate::proofs::Requests::constrains))]
     pub fn new(size: u64, align: u64, policy: AllocPolicy) -> Result<Self>
-        ensures { MakesConstraint size align policy result }
+        ensures { MakesConstraint (request_for size align policy) result }
     {
         if size == 0 {
             return Err(Error::InvalidSize(0));

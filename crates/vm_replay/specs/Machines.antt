@@ -4,6 +4,7 @@ use Rattle.std.specs.Coded.{Coded, code_by, coded×, coded_list, coded_option}
 use Rattle.vm_allocator.specs.Cases.{Unless}
 use Rattle.vm_allocator.specs.Range.{Range, range_code, IsRange}
 use Rattle.vm_allocator.specs.Address.{AddressState}
+use Rattle.vm_allocator.specs.Request.{request_for}
 use Rattle.vm_allocator.specs.Answer.{Allocates, Frees, Makes}
 use Rattle.vm_allocator.specs.Ids.{IdState, id_state_code, IsHeld, MakesIds, AllocatesId, FreesId}
 use Rattle.vm_allocator.specs.declared.constraint.AllocPolicy.{AllocPolicy}
@@ -62,7 +63,7 @@ OnIds old reply new call =
 unfoldable pub Places : Machine → ℕ → ℕ → AllocPolicy → Reply → Machine → Type 0
 Places old size alignment policy reply new =
     OnSpace old reply new (λ state later.
-    (answer : Result Range Error) × Allocates state size alignment policy answer later × (reply ≡ given_or_refused answer))
+    (answer : Result Range Error) × Allocates state (request_for size alignment policy) answer later × (reply ≡ given_or_refused answer))
 
 -- the release of what is to be a range
 unfoldable pub Releases : AddressState → ℕ → ℕ → Result (Unit {0}) Error → AddressState → Type 0

@@ -101,8 +101,9 @@ impl IntervalTree {
     /// The least place for a request.
     #[tactic(auto, using(crate::proofs::Choosing::first_choices))]
     fn choose_first(&self, constraint: Constraint, count: &mut u64) -> Result<Choice>
-        requires { count.old + node_count self.now ≤ MAX }
-        ensures answer { Chooses self.now constraint.size constraint.align FirstMatch result }
+        requires policy { constraint.policy ≡ FirstMatch }
+        requires count_fits { count.old + node_count self.now ≤ MAX }
+        ensures answer { Chooses self.now constraint result }
         ensures no_memory { IfErr result (λ error. error ≢ Error.OutOfMemory) }
         ensures entered { count.old + 1 ≤ count.new }
         ensures steps { count.new ≤ count.old + node_count self.now }
@@ -117,8 +118,9 @@ impl IntervalTree {
     /// The greatest place for a request.
     #[tactic(auto, using(crate::proofs::Choosing::last_choices))]
     fn choose_last(&self, constraint: Constraint, count: &mut u64) -> Result<Choice>
-        requires { count.old + node_count self.now ≤ MAX }
-        ensures answer { Chooses self.now constraint.size constraint.align LastMatch result }
+        requires policy { constraint.policy ≡ LastMatch }
+        requires count_fits { count.old + node_count self.now ≤ MAX }
+        ensures answer { Chooses self.now constraint result }
         ensures no_memory { IfErr result (λ error. error ≢ Error.OutOfMemory) }
         ensures entered { count.old + 1 ≤ count.new }
         ensures steps { count.new ≤ count.old + node_count self.now }
@@ -137,7 +139,7 @@ impl IntervalTree {
     fn choose_exact(&self, constraint: Constraint, start: u64, count: &mut u64) -> Result<Choice>
         requires policy { constraint.policy ≡ ExactMatch start }
         requires count_fits { count.old + height_of self.now ≤ MAX }
-        ensures answer { Chooses self.now constraint.size constraint.align (ExactMatch start) result }
+        ensures answer { Chooses self.now constraint result }
         ensures no_memory { IfErr result (λ error. error ≢ Error.OutOfMemory) }
         ensures entered { count.old ≤ count.new }
         ensures steps { count.new ≤ count.old + height_of self.now }
@@ -159,7 +161,7 @@ impl IntervalTree {
     /// The range to take for a request, and the free block that has it, or the refusal.
     fn choose(&self, constraint: Constraint, count: &mut u64) -> Result<Choice>
         requires { count.old + node_count self.now + height_of self.now ≤ MAX }
-        ensures answer { Chooses self.now constraint.size constraint.align constraint.policy result }
+        ensures answer { Chooses self.now constraint result }
         ensures no_memory { IfErr result (λ error. error ≢ Error.OutOfMemory) }
         ensures entered { count.old ≤ count.new }
         ensures steps { count.new ≤ count.old + most_searched constraint.policy self.now }
@@ -216,10 +218,10 @@ impl IntervalTree {
         alloc: Global,
         constraint: Constraint,
     ) -> (Result<RangeInclusive>, u64)
-        ensures answer { Settles (tree_state self.old) constraint.size constraint.align constraint.policy result.0 (tree_state self.new) }
+        ensures answer { Settles (tree_state self.old) constraint result.0 (tree_state self.new) }
         ensures unchanged { OnErr result.0 (self.new ≡ self.old) }
         ensures depth { SplitsIfLow (height_of self.old) (tree_state self.old) result.0 }
-        ensures steps { IsSettlingCount (height_of self.old) (tree_state self.old) constraint.policy result.0 result.1 }
+        ensures steps { IsSettlingCount (height_of self.old) (tree_state self.old) constraint result.0 result.1 }
     {
         let _ = self.height();
         let mut count = 0;
@@ -237,7 +239,7 @@ impl IntervalTree {
     /// range ends at `u64::MAX`; and where a part of its clear run is left, `Overflow` for a tree of
     /// height 48 or more, and `OutOfMemory`. A refusal changes nothing.
     pub fn allocate(&mut self, alloc: Global, constraint: Constraint) -> Result<RangeInclusive>
-        ensures answer { Settles (tree_state self.old) constraint.size constraint.align constraint.policy result (tree_state self.new) }
+        ensures answer { Settles (tree_state self.old) constraint result (tree_state self.new) }
         ensures unchanged { OnErr result (self.new ≡ self.old) }
         ensures depth { SplitsIfLow (height_of self.old) (tree_state self.old) result }
     {
