@@ -1,10 +1,15 @@
 -- How many nodes a split enters, case by case, at least and at most.
-use Rattle.std.proofs.Common.{◌≡◌, ◌≢◌, ℕ, ◌+◌, ◌-◌, ◌*◌, ◌≤◌, ◌⊎◌, true, false, cond, refl, arith, inl, inr}
+use Rattle.std.proofs.Common.{◌≡◌, ◌≢◌, ℕ, ◌+◌, ◌-◌, ◌*◌, ◌≤◌, ◌⊎◌, true, false, cond, refl, ap, arith, inl, inr}
 use Rattle.vm_allocator.specs.Range.{Range}
 use Rattle.vm_allocator.specs.RangeOrder.{Before, same_range, comes_first}
 use Rattle.vm_allocator.specs.Block.{Block}
 use Rattle.vm_allocator.specs.Shape.{Shape, Tip, Fork, height_of, IsBalanced}
-use Rattle.vm_allocator.specs.Ways.{way_down, way_to_link, way_here, way_to_carve}
+use Rattle.vm_allocator.specs.Ways.{way_down, way_to, way_to_link, way_here, way_to_carve, way_to_hold}
+use Rattle.vm_allocator.specs.BlockEdits.{LeavesPart}
+use Rattle.vm_allocator.specs.Carving.{IsRest}
+use Rattle.vm_allocator.specs.NodeFields.{side}
+use Rattle.vm_allocator.specs.declared.allocation_engine.node.carve.Rest.{Rest}
+use Rattle.vm_allocator.proofs.TreeCarve.{none_before, none_after}
 use Rattle.vm_allocator.proofs.Replacement.{same_range_before, same_range_self}
 use Rattle.vm_allocator.proofs.Ways.{before_first, after_first, either_at_most, way_down_at_most, twice}
 
@@ -60,3 +65,25 @@ half_of_carve k u v (Fork l b r) n t =
           | false ↦ omega (arith, half_of_carve k u v r n t.1, t.2.0, t.2.1)
         ]
     ]
+
+-- ---- a way to what is held
+whole : (k : Range) (s : Shape) → way_to_carve k Tip Tip s ≡ way_to k s
+unfolding way_to_carve way_to
+whole k Tip = refl
+whole k (Fork l b r) =
+    elim (same_range k b.key) as (λ v. cond v 0 (cond (comes_first k b.key) (way_to_carve k Tip Tip l) (way_to_carve k Tip Tip r)) + 1 ≡ cond v 0 (cond (comes_first k b.key) (way_to k l) (way_to k r)) + 1) [
+      | true ↦ refl
+      | false ↦ elim (comes_first k b.key) as (λ v. cond v (way_to_carve k Tip Tip l) (way_to_carve k Tip Tip r) + 1 ≡ cond v (way_to k l) (way_to k r) + 1) [
+          | true ↦ ap (λ (n : ℕ). n + 1) (whole k l)
+          | false ↦ ap (λ (n : ℕ). n + 1) (whole k r)
+        ]
+    ]
+
+-- the way to a range that fills its block is the way to that
+pub held_whole : (k r : Range) (s : Shape) → ¬ LeavesPart k r → way_to_hold k r s ≡ way_to k s
+held_whole k r s n = rw (← none_before k r n, ← none_after k r n) (whole k s)
+
+pub held_split : (k r : Range) (rest : Rest) (s : Shape) → IsRest k r rest → way_to_carve k (side rest.before) (side rest.after) s ≡ way_to_hold k r s
+held_split k r rest s i = rw (i.before, i.after) refl
+
+pub ruleset holdings = (held_whole, held_split)

@@ -16,7 +16,7 @@ use Rattle.vm_allocator.specs.declared.error.Error.TheVariants.{Overflow, Resour
 use Rattle.vm_allocator.specs.declared.constraint.AllocPolicy.{AllocPolicy}
 use Rattle.vm_allocator.specs.declared.constraint.AllocPolicy.TheVariants.{FirstMatch, LastMatch, ExactMatch}
 use Rattle.vm_allocator.specs.declared.allocation_engine.node.places.Place.{Place}
-use Rattle.vm_allocator.specs.declared.allocation_engine.interval_tree.Choice.{Choice}
+use Rattle.vm_allocator.specs.declared.allocation_engine.interval_tree.placing.Choice.{Choice}
 use Rattle.vm_allocator.proofs.Requests.{with_policy}
 use Rattle.vm_allocator.proofs.Places.{least_place, greatest_place, no_place}
 use Rattle.vm_allocator.proofs.Taking.{as_blocks}

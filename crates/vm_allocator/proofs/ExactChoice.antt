@@ -16,7 +16,7 @@ use Rattle.vm_allocator.specs.declared.allocation_engine.NodeState.{NodeState}
 use Rattle.vm_allocator.specs.declared.allocation_engine.NodeState.TheVariants.{Free, Allocated}
 use Rattle.vm_allocator.specs.declared.constraint.AllocPolicy.{AllocPolicy}
 use Rattle.vm_allocator.specs.declared.constraint.AllocPolicy.TheVariants.{ExactMatch}
-use Rattle.vm_allocator.specs.declared.allocation_engine.interval_tree.Choice.{Choice}
+use Rattle.vm_allocator.specs.declared.allocation_engine.interval_tree.placing.Choice.{Choice}
 use Rattle.vm_allocator.proofs.Unique.{same_range, same_block}
 use Rattle.vm_allocator.proofs.TreeEdits.{address_cut, address_missed}
 use Rattle.vm_allocator.proofs.Requests.{with_policy}

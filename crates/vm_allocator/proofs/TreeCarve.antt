@@ -1,5 +1,5 @@
 -- A range taken from within a free block of a tree.
-use Rattle.std.proofs.Common.{◌≡◌, ℕ, ◌+◌, ◌-◌, ◌<◌, ◌≤◌, suc, List, [], ◌∷◌, ◌++◌, length, refl, sym, ap, ◌∙◌, arith, inl, inr, ⊎_elim, subst, append_assoc, append-nil, Option, Some, None, Ok, Err, IsSome, ◌⊎◌}
+use Rattle.std.proofs.Common.{◌≡◌, ℕ, ◌+◌, ◌-◌, ◌<◌, ◌≤◌, suc, List, [], ◌∷◌, ◌++◌, length, refl, sym, ap, ◌∙◌, arith, inl, inr, ⊎_elim, subst, append_assoc, append-nil, cond, ltb, true, false, Option, Some, None, Ok, Err, IsSome, ◌⊎◌}
 use Rattle.std.proofs.lemmas.Bool.{cases_lt, le-ltb, lt-ltb}
 use Rattle.std.specs.Global.{Box}
 use Rattle.vm_allocator.specs.RangeOrder.{Before}
@@ -11,14 +11,17 @@ use Rattle.vm_allocator.specs.Address.{LeavesClear, holding}
 use Rattle.vm_allocator.specs.Answer.{FEWEST_TOO_DEEP, Takes}
 use Rattle.vm_allocator.specs.Blocks.{Tiles, TilesSpace, IsBlocksOf, held_of, blocks_state, AreBelowMax}
 use Rattle.vm_allocator.specs.BlockEdits.{free_block, before_part, after_part, parts, IsTakenFrom, LeavesPart}
-use Rattle.vm_allocator.specs.BlockList.{IsOrderedFrom, IsClearOf, insert_block, insert_all, AreClearOf, replace_block, find_key}
+use Rattle.vm_allocator.specs.BlockList.{IsOrderedFrom, IsClearOf, insert_block, insert_all, AreClearOf, replace_block, with_block, find_key}
 use Rattle.vm_allocator.specs.Shape.{Shape, Fork, blocks, height_of, node_count, single, root_block, IsTree, DifferByAtMost}
 use Rattle.vm_allocator.specs.SpaceTree.{space_of, tree_state, IsSpaceTree, IsChoice, Carves}
+use Rattle.vm_allocator.specs.Carving.{with_split, AreLeaves, CanCarve, IsRest}
+use Rattle.vm_allocator.specs.Ways.{leaf_of}
+use Rattle.vm_allocator.specs.declared.allocation_engine.node.carve.Rest.{Rest}
 use Rattle.vm_allocator.specs.Release.{held_block}
 use Rattle.vm_allocator.specs.Fibonacci.{fibonacci, fibonacci_pair}
 use Rattle.vm_allocator.specs.declared.error.Error.TheVariants.{Overflow, OutOfMemory}
 use Rattle.vm_allocator.specs.declared.allocation_engine.NodeState.TheVariants.{Allocated}
-use Rattle.vm_allocator.specs.declared.allocation_engine.interval_tree.Choice.{Choice}
+use Rattle.vm_allocator.specs.declared.allocation_engine.interval_tree.placing.Choice.{Choice}
 use Rattle.vm_allocator.proofs.Carve.{tiles_carved, blocks_carved}
 use Rattle.vm_allocator.proofs.Taking.{leaves_clear, as_blocks, below_with}
 use Rattle.vm_allocator.proofs.BlockOrder.{ordered_weaken, ordered_drop, ordered_front, ordered_back}
@@ -152,14 +155,34 @@ none_before k r n = rw (le-ltb k.start r.start (⊎_elim (λ (l : k.start < r.st
 pub none_after : (k r : Range) → ¬ LeavesPart k r → [] ≡ after_part k r
 none_after k r n = rw (le-ltb r.end k.end (⊎_elim (λ (l : r.end < k.end). absurd (n (inr l))) (λ (l : k.end ≤ r.end). l) (cases_lt r.end k.end))) refl
 
--- and there is a leaf for what is left beside one that does not
-pub some_leaf : (k r : Range) (before after : Option (Box InnerNode)) → LeavesPart k r → blocks (side before) ≡ before_part k r → blocks (side after) ≡ after_part k r → IsSome before ⊎ IsSome after
-some_leaf k r (Some b) after l p q = inl refl
-some_leaf k r None (Some a) l p q = inr refl
-some_leaf k r None None (inl l) p q = absurd (let e = lt-ltb k.start r.start l in let bad : [] ≡ free_block (record { start = k.start; end = r.start - 1 }) ∷ [] = rw e at p in cc)
-some_leaf k r None None (inr l) p q = absurd (let e = lt-ltb r.end k.end l in let bad : [] ≡ free_block (record { start = r.end + 1; end = k.end }) ∷ [] = rw e at q in cc)
+-- the leaf of what is left has just that
+leaf_blocks : (k r : Range) (rest : Rest) → IsRest k r rest → (blocks (side rest.before) ≡ before_part k r) × (blocks (side rest.after) ≡ after_part k r)
+leaf_blocks k r rest i = (
+  ap blocks i.before ∙ elim (ltb k.start r.start) as (λ v. blocks (leaf_of (cond v (free_block (record { start = k.start; end = r.start - 1 }) ∷ []) [])) ≡ cond v (free_block (record { start = k.start; end = r.start - 1 }) ∷ []) []) [ true ↦ refl | false ↦ refl ],
+  ap blocks i.after ∙ elim (ltb r.end k.end) as (λ v. blocks (leaf_of (cond v (free_block (record { start = r.end + 1; end = k.end }) ∷ []) [])) ≡ cond v (free_block (record { start = r.end + 1; end = k.end }) ∷ []) []) [ true ↦ refl | false ↦ refl ],
+)
 
-pub ruleset carves = (cut_of, known, parts_ordered, carved, none_before, none_after, some_leaf)
+pub can_carve : (bs : List Block) (k r : Range) (rest : Rest) → IsCut bs k r → IsRest k r rest → CanCarve bs k r rest
+can_carve bs k r rest c i =
+    let parts = leaf_blocks k r rest i in
+    record { known = known bs k r c; ordered = parts_ordered bs k r c (blocks (side rest.before)) (blocks (side rest.after)) parts.0 parts.1 }
+
+pub rest_leaves : (k r : Range) (rest : Rest) → IsRest k r rest → AreLeaves rest
+rest_leaves k r rest i = i.leaves
+
+pub rest_carved : (bs news : List Block) (k r : Range) (rest : Rest) → IsCut bs k r → IsRest k r rest → news ≡ with_split k r rest bs → Carves bs k r news
+rest_carved bs news k r rest c i e =
+    let parts = leaf_blocks k r rest i in
+    carved bs k r c (blocks (side rest.before)) (blocks (side rest.after)) news parts.0 parts.1 e
+
+-- a range that fills its block takes its place
+pub whole_ordered : (bs : List Block) (k r : Range) → IsCut bs k r → ¬ LeavesPart k r → IsOrderedFrom 0 (with_block k r Allocated bs)
+whole_ordered bs k r c n = parts_ordered bs k r c [] [] (none_before k r n) (none_after k r n)
+
+pub whole_carved : (bs news : List Block) (k r : Range) → IsCut bs k r → ¬ LeavesPart k r → news ≡ with_block k r Allocated bs → Carves bs k r news
+whole_carved bs news k r c n e = carved bs k r c [] [] news (none_before k r n) (none_after k r n) e
+
+pub ruleset carves = (cut_of, known, can_carve, rest_leaves, rest_carved, whole_ordered, whole_carved)
 
 -- the state after
 taken_blocks : (s n : Shape) (choice : Choice) → IsSpaceTree s → IsTakenFrom choice.key choice.range → Carves (blocks s) choice.key choice.range (blocks n) → IsBlocksOf (holding choice.range (tree_state s)) (blocks n)

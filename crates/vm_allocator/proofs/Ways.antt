@@ -1,11 +1,14 @@
 -- How many nodes the ways through a tree enter, case by case, and at most.
-use Rattle.std.proofs.Common.{◌≡◌, ◌≢◌, ℕ, ◌+◌, ◌-◌, ◌*◌, ◌≤◌, Bool, true, false, cond, refl, sym, ap, ◌∙◌, arith, ltb, inl, inr}
+use Rattle.std.proofs.Common.{◌≡◌, ◌≢◌, ℕ, ◌+◌, ◌-◌, ◌*◌, ◌<◌, ◌≤◌, Bool, true, false, cond, refl, sym, ap, ◌∙◌, arith, ltb, inl, inr}
 use Rattle.std.proofs.lemmas.Bool.{lt-ltb, le-ltb, eq-eqb, ne_eqb}
-use Rattle.vm_allocator.specs.Range.{Range}
+use Rattle.vm_allocator.specs.Range.{Range, MAX}
 use Rattle.vm_allocator.specs.RangeOrder.{Before, StartsBefore, StartsFrom, EndsBefore, Reaches, same_range, comes_first}
 use Rattle.vm_allocator.specs.Block.{Block}
 use Rattle.vm_allocator.specs.Shape.{Shape, Tip, Fork, height_of, IsBalanced, IsTree}
-use Rattle.vm_allocator.specs.Ways.{way_down, way_to, way_across, way_to_first, way_to_last, way_to_join, way_to_remove, way_beside, way_around}
+use Rattle.vm_allocator.specs.Ways.{way_down, way_to, way_across, way_to_first, way_to_last, way_to_join, way_to_remove, way_beside, way_around, way_of_first, way_of_last, way_of_search}
+use Rattle.vm_allocator.specs.Release.{at_address}
+use Rattle.vm_allocator.specs.Request.{Request}
+use Rattle.vm_allocator.specs.declared.constraint.AllocPolicy.TheVariants.{FirstMatch, LastMatch, ExactMatch}
 use Rattle.vm_allocator.specs.declared.allocation_engine.NodeState.{NodeState}
 use Rattle.vm_allocator.specs.declared.allocation_engine.NodeState.TheVariants.{Free, Allocated}
 use Rattle.vm_allocator.proofs.Replacement.{same_range_before, same_range_self}
@@ -153,6 +156,19 @@ around_right k l b r p = rw (same_range_before k b.key (inr p), after_first k b.
 
 pub ruleset ways_around = (around_tip, around_held, around_free, around_left, around_right)
 
+-- ---- the search by each policy
+pub search_first : (request : Request) (s : Shape) → request.policy ≡ FirstMatch → way_of_search request s ≡ way_of_first request.size request.align s
+search_first request s e = rw e refl
+
+pub search_last : (request : Request) (s : Shape) → request.policy ≡ LastMatch → way_of_search request s ≡ way_of_last request.size request.align s
+search_last request s e = rw e refl
+
+pub search_at_max : (request : Request) (t : ℕ) (s : Shape) → request.policy ≡ ExactMatch t → t ≡ MAX → way_of_search request s ≡ 0
+search_at_max request t s e m = rw (e, eq-eqb t MAX m) refl
+
+pub search_named : (request : Request) (t : ℕ) (k : Range) (s : Shape) → request.policy ≡ ExactMatch t → t < MAX → k ≡ at_address t → way_of_search request s ≡ way_across k s
+search_named request t k s e l a = rw (e, a, ne_eqb t MAX (λ p. omega arith)) refl
+
 -- ---- at most
 -- a test picks one of two, and both are at most a third
 pub either_at_most : (t : Bool) (x y most : ℕ) → x ≤ most → y ≤ most → cond t x y ≤ most
@@ -194,6 +210,8 @@ way_across_at_most k (Fork l b r) =
     let most = height_of (Fork l b r) - 1 in
     omega (arith, either_at_most (ltb k.end b.key.start) (way_across k l) _ most (omega (arith, way_across_at_most k l))
       (either_at_most (ltb b.key.end k.start) (way_across k r) 0 most (omega (arith, way_across_at_most k r)) (omega arith)))
+
+pub ruleset named_ways = (search_at_max, search_named, way_across_at_most)
 
 pub ruleset way_bounds = (way_down_at_most, height_at_most_twice, way_to_at_most, way_across_at_most)
 

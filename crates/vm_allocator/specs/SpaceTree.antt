@@ -15,7 +15,7 @@ use Rattle.vm_allocator.specs.declared.allocation_engine.NodeState.{NodeState}
 use Rattle.vm_allocator.specs.declared.allocation_engine.NodeState.TheVariants.{Free, Allocated}
 use Rattle.vm_allocator.specs.declared.constraint.AllocPolicy.{AllocPolicy}
 use Rattle.vm_allocator.specs.declared.constraint.AllocPolicy.TheVariants.{FirstMatch, LastMatch, ExactMatch}
-use Rattle.vm_allocator.specs.declared.allocation_engine.interval_tree.Choice.{Choice}
+use Rattle.vm_allocator.specs.declared.allocation_engine.interval_tree.placing.Choice.{Choice}
 
 -- where the last of the blocks ends
 abbrev pub last_end : ℕ → List Block → ℕ

@@ -1,10 +1,16 @@
 -- How many nodes are entered on the ways through a tree.
-use Rattle.std.specs.Prelude.{ℕ, ◌+◌, ◌-◌, ◌%◌, ◌&&◌, ◌||◌, if◌then◌else◌, nat_lt, nat_le, Bool}
+use Rattle.std.specs.Prelude.{ℕ, ◌+◌, ◌-◌, ◌%◌, ◌&&◌, ◌||◌, ◌==◌, if◌then◌else◌, nat_lt, nat_le, Bool, List, [], ◌∷◌, Option, Some, None, Result, Ok, Err}
 use Rattle.std.specs.List.{list_any}
-use Rattle.vm_allocator.specs.Range.{Range}
+use Rattle.vm_allocator.specs.Range.{Range, MAX}
 use Rattle.vm_allocator.specs.RangeOrder.{same_range, comes_first}
 use Rattle.vm_allocator.specs.Block.{Block, is_free}
-use Rattle.vm_allocator.specs.Shape.{Shape, Tip, Fork, blocks}
+use Rattle.vm_allocator.specs.BlockEdits.{before_part, after_part}
+use Rattle.vm_allocator.specs.Release.{at_address}
+use Rattle.vm_allocator.specs.Request.{Request}
+use Rattle.vm_allocator.specs.Shape.{Shape, Tip, Fork, blocks, single}
+use Rattle.vm_allocator.specs.declared.error.Error.{Error}
+use Rattle.vm_allocator.specs.declared.constraint.AllocPolicy.{AllocPolicy}
+use Rattle.vm_allocator.specs.declared.constraint.AllocPolicy.TheVariants.{FirstMatch, LastMatch, ExactMatch}
 use Rattle.vm_allocator.specs.declared.allocation_engine.NodeState.{NodeState}
 use Rattle.vm_allocator.specs.declared.allocation_engine.NodeState.TheVariants.{Free, Allocated}
 
@@ -47,6 +53,11 @@ way_to_remove k (Fork l b r) =
     (if same_range k b.key then way_to_join l r
     else if comes_first k b.key then way_to_remove k l
     else way_to_remove k r) + 1
+
+-- what removing the block of a key enters, if there is such a key
+abbrev pub way_if : Option Range → Shape → ℕ
+way_if None s = 0
+way_if (Some k) s = way_to_remove k s
 
 -- what looking for the blocks beside one enters, if that is held: the last before it and the first after it
 abbrev pub way_beside : NodeState → Shape → Shape → ℕ
@@ -99,3 +110,27 @@ unfoldable pub way_of_last : ℕ → ℕ → Shape → ℕ
 way_of_last n a Tip = 0
 way_of_last n a (Fork l b r) =
     way_of_last n a r + (if list_any (has_fit n a) (blocks r) || has_fit n a b then 0 else way_of_last n a l) + 1
+
+-- what the search by a policy enters: for a named start the way to the block that has it, if it is below MAX
+abbrev pub way_by : AllocPolicy → ℕ → ℕ → Shape → ℕ
+way_by FirstMatch n a s = way_of_first n a s
+way_by LastMatch n a s = way_of_last n a s
+way_by (ExactMatch t) n a s = if t == MAX then 0 else way_across (at_address t) s
+
+-- what the search for the place of a request enters
+abbrev pub way_of_search : Request → Shape → ℕ
+way_of_search request s = way_by request.policy request.size request.align s
+
+-- the first of some blocks as a leaf, if there is one
+abbrev pub leaf_of : List Block → Shape
+leaf_of [] = Tip
+leaf_of (b ∷ bs) = single b
+
+-- what holding a range of the free block of a key enters: the way to that, and on to where what is left of it hangs
+abbrev pub way_to_hold : Range → Range → Shape → ℕ
+way_to_hold key range s = way_to_carve key (leaf_of (before_part key range)) (leaf_of (after_part key range)) s
+
+-- the same where the range is held, and nothing where it is refused
+abbrev pub way_if_held : Range → Result Range Error → Shape → ℕ
+way_if_held key (Ok range) s = way_to_hold key range s
+way_if_held key (Err error) s = 0

@@ -5,7 +5,7 @@ ghost use Rattle.vm_allocator.specs.Request.{request_for};
 ghost use Rattle.vm_allocator.specs.Answer.{Allocates, FillsRun, Frees, Makes};
 ghost use Rattle.vm_allocator.specs.Allocator.{state_of, made_state};
 ghost use Rattle.vm_allocator.specs.Shape.{height_of};
-ghost use Rattle.vm_allocator.specs.Steps.{IsAllocationCount, IsReleaseCount, IsBalancedTreeOf, SplitsIfLow};
+ghost use Rattle.vm_allocator.specs.Steps.{EntersToAllocate, EntersToFree, IsAllocationCount, IsReleaseCount, IsBalancedTreeOf, SplitsIfLow};
 
 use crate::allocation_engine::IntervalTree;
 use crate::constraint::{AllocPolicy, Constraint};
@@ -108,6 +108,7 @@ impl AddressAllocator {
 
         // The refusal for depth comes before want of memory.
         ensures depth { SplitsIfLow (height_of self.old.tree) (state_of self.old) result.0 }
+        ensures count { EntersToAllocate self.old.tree (request_for size alignment policy) result.0 result.1 }
         ensures steps { IsAllocationCount (height_of self.old.tree) (state_of self.old)
             (request_for size alignment policy) result.0 result.1 }
     {
@@ -138,6 +139,7 @@ impl AddressAllocator {
 
         // Giving back needs no memory, and succeeds.
         ensures held { Contains (state_of self.old).held key.now → IsOk result.0 }
+        ensures count { EntersToFree self.old.tree key.now result.0 0 result.1 }
         ensures steps { IsReleaseCount (height_of self.old.tree) result.1 }
     {
         self.interval_tree.free_counted(key)

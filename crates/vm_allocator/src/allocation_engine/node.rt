@@ -13,7 +13,7 @@ mod link;
 pub(crate) mod neighbours;
 pub(crate) mod places;
 pub(crate) mod remove;
-mod rewrite;
+pub(crate) mod rewrite;
 mod search_tree;
 #[cfg(test)]
 mod tests;

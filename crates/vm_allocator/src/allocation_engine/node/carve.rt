@@ -2,7 +2,7 @@
 ghost use Rattle.std.specs.Prelude.{◌≡◌, ◌+◌, ◌*◌, ◌≤◌, IfSome, IsSome};
 ghost use Rattle.vm_allocator.specs.Range.{MAX};
 ghost use Rattle.vm_allocator.specs.BlockList.{insert_all, AreClearOf};
-ghost use Rattle.vm_allocator.specs.Carving.{carved, AreLeaves, CanCarve};
+ghost use Rattle.vm_allocator.specs.Carving.{with_split, AreLeaves, CanCarve};
 ghost use Rattle.vm_allocator.specs.Shape.{blocks, height_of, root_block, IsTree, IsLeaf, Grows};
 ghost use Rattle.vm_allocator.specs.Ways.{way_to_link, way_here, way_to_carve};
 ghost use Rattle.vm_allocator.specs.NodeFields.{side};
@@ -49,7 +49,7 @@ fn carve_here(at: &mut Child, range: RangeInclusive, rest: Rest, count: &mut u64
     requires carving { CanCarve (blocks (side at.old)) (root_block (side at.old)).key range rest }
     requires height { height_of (side at.old) ≤ 48 }
     requires count_fits { count.old + 2 * height_of (side at.old) ≤ MAX + 1 }
-    ensures blocks { blocks (side at.new) ≡ carved (root_block (side at.old)).key range rest (blocks (side at.old)) }
+    ensures blocks { blocks (side at.new) ≡ with_split (root_block (side at.old)).key range rest (blocks (side at.old)) }
     ensures grows { Grows (side at.old) (side at.new) result }
     ensures count { count.new ≡ count.old + way_here (side rest.before) (side rest.after) (side at.old) }
 {
@@ -83,7 +83,7 @@ pub(crate) fn carve_at(
     requires carving { CanCarve (blocks (side at.old)) key.now range rest }
     requires height { height_of (side at.old) ≤ 48 }
     requires count_fits { count.old + 2 * height_of (side at.old) ≤ MAX }
-    ensures blocks { blocks (side at.new) ≡ carved key.now range rest (blocks (side at.old)) }
+    ensures blocks { blocks (side at.new) ≡ with_split key.now range rest (blocks (side at.old)) }
     ensures grows { Grows (side at.old) (side at.new) result }
     ensures count { count.new ≡ count.old + way_to_carve key.now (side rest.before) (side rest.after) (side at.old) }
 {

@@ -1,7 +1,7 @@
 use Rattle.std.proofs.Common.{arith}
 use Rattle.vm_allocator.specs.Shape.{root_block}
 use Rattle.vm_allocator.proofs.ExactChoice.{outside, over}
-use Rattle.vm_allocator.proofs.allocation_engine.interval_tree.IntervalTree.choose_exact.Goals as goal
+use Rattle.vm_allocator.proofs.allocation_engine.interval_tree.IntervalTree.named_place.Goals as goal
 
 pub returns-in_default-clause-answer : goal.returns-in_default-clause-answer
 returns-in_default-clause-answer c =

@@ -1,7 +1,7 @@
 use Rattle.std.proofs.Common.{sym}
 use Rattle.vm_allocator.specs.NodeFields.{side}
 use Rattle.vm_allocator.proofs.Releasing.{slot_found, slot_given, space_given, frees_slot}
-use Rattle.vm_allocator.proofs.allocation_engine.interval_tree.IntervalTree.free_counted.Goals as goal
+use Rattle.vm_allocator.proofs.allocation_engine.interval_tree.IntervalTree.release.Goals as goal
 
 pub rejoin-requires-clause-around : goal.rejoin-requires-clause-around
 rejoin-requires-clause-around c =
