@@ -1,5 +1,5 @@
 -- A tree whose blocks are those of a space.
-use Rattle.std.specs.Prelude.{◌≡◌, ℕ, ◌+◌, ◌-◌, ◌<◌, ◌≤◌, ◌⊎◌, List, [], ◌∷◌, ◌++◌, Result, Ok, Err}
+use Rattle.std.specs.Prelude.{◌≡◌, ℕ, ◌+◌, ◌-◌, ◌<◌, ◌≤◌, ◌⊎◌, List, [], ◌∷◌, ◌++◌, Result, Ok, Err, MatchResult}
 use Rattle.vm_allocator.specs.Cases.{IfElse}
 use Rattle.vm_allocator.specs.Range.{Range, MAX, IsRange, span}
 use Rattle.vm_allocator.specs.Block.{Block}
@@ -8,9 +8,9 @@ use Rattle.vm_allocator.specs.Request.{Request}
 use Rattle.vm_allocator.specs.Answer.{Takes, Settles}
 use Rattle.vm_allocator.specs.Blocks.{blocks_state, IsTiling}
 use Rattle.vm_allocator.specs.BlockEdits.{free_block, parts, IsTakenFrom}
-use Rattle.vm_allocator.specs.Shape.{Shape, blocks, height_of, node_count}
+use Rattle.vm_allocator.specs.Shape.{Shape, MAX_HEIGHT, blocks, height_of, node_count}
 use Rattle.vm_allocator.specs.declared.error.Error.{Error}
-use Rattle.vm_allocator.specs.declared.error.Error.TheVariants.{Overflow, ResourceNotAvailable, InvalidStateTransition}
+use Rattle.vm_allocator.specs.declared.error.Error.TheVariants.{Overflow, ResourceNotAvailable, InvalidStateTransition, OutOfMemory}
 use Rattle.vm_allocator.specs.declared.allocation_engine.NodeState.{NodeState}
 use Rattle.vm_allocator.specs.declared.allocation_engine.NodeState.TheVariants.{Free, Allocated}
 use Rattle.vm_allocator.specs.declared.constraint.AllocPolicy.{AllocPolicy}
@@ -35,7 +35,12 @@ tree_state s = blocks_state (space_of (blocks s)) (blocks s)
 pub record IsSpaceTree (s : Shape) : Type 0 where
   pub tiling : IsTiling (space_of (blocks s)) (blocks s)
   pub space : IsRange (space_of (blocks s)).start (space_of (blocks s)).end
-  pub height : height_of s ≤ 49
+  pub height : height_of s ≤ MAX_HEIGHT
+
+-- the tree of a new space, with nothing held, or no memory for it
+abbrev pub MakesTree : Range → Result Shape Error → Type 0
+MakesTree space answer =
+    MatchResult answer (λ tree. tree_state tree ≡ record { space = space; held = [] }) (λ error. error ≡ OutOfMemory)
 
 -- a range below MAX within a free block
 pub record IsChoice (bs : List Block) (choice : Choice) : Type 0 where

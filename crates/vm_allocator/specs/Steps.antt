@@ -5,7 +5,7 @@ use Rattle.vm_allocator.specs.Block.{Block}
 use Rattle.vm_allocator.specs.Address.{AddressState, LeavesClear}
 use Rattle.vm_allocator.specs.Blocks.{IsBlocksOf}
 use Rattle.vm_allocator.specs.Request.{Request, IsRequest, MakesConstraint}
-use Rattle.vm_allocator.specs.Shape.{Shape, blocks, height_of, node_count, IsBalanced}
+use Rattle.vm_allocator.specs.Shape.{Shape, MAX_HEIGHT, blocks, height_of, node_count, IsBalanced}
 use Rattle.vm_allocator.specs.BlockEdits.{free_block, IsTakenFrom}
 use Rattle.vm_allocator.specs.Release.{neighbours, without_if}
 use Rattle.vm_allocator.specs.Ways.{way_of_search, way_to_hold, way_to, way_around, way_if}
@@ -25,7 +25,7 @@ pub record IsBalancedTreeOf (state : AddressState) (s : Shape) : Type 0 where
   pub most : node_count s < 2 ^ height_of s
   pub few : node_count s ≤ 2 * length state.held + 1
   pub low : fibonacci (height_of s + 2) ≤ 2 * length state.held + 2
-  pub height : height_of s ≤ 49
+  pub height : height_of s ≤ MAX_HEIGHT
 
 -- the most nodes that a way down and back up, with what is changed on it, may enter in a tree of height h
 abbrev pub most_on_ways : ℕ → ℕ

@@ -1,4 +1,5 @@
-ghost use Rattle.std.specs.Prelude.{◌≡◌, ◌<◌, MatchBool};
+ghost use Rattle.std.specs.Prelude.{◌≡◌, ◌<◌};
+ghost use Rattle.vm_allocator.specs.Cases.{Tells};
 ghost use Rattle.vm_allocator.specs.Request.{request_for, MakesConstraint, IsStartAligned, IsRequest};
 
 use crate::error::{Error, Result};
@@ -23,7 +24,7 @@ pub enum AllocPolicy {
 #[tactic(auto, unfolding(crate::specs::Request::IsStartAligned))]
 fn is_start_aligned(align: u64, policy: AllocPolicy) -> bool
     requires { 0 < align }
-    ensures { MatchBool result (IsStartAligned align policy) (¬ IsStartAligned align policy) }
+    ensures { Tells result (IsStartAligned align policy) }
 {
     match policy {
         AllocPolicy::ExactMatch(start) => start % align == 0,

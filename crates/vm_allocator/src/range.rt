@@ -1,9 +1,9 @@
-ghost use Rattle.std.specs.Prelude.{◌≡◌, ◌↔◌, IsTrue, MatchBool, Ok, Err};
+ghost use Rattle.std.specs.Prelude.{◌≡◌, ◌↔◌, IsTrue, MatchBool};
 ghost use Rattle.std.proofs.Common.{rules};
 ghost use Rattle.std.specs.Cmp.{partial_order_from_own_ties};
 ghost use Rattle.std.specs.Cmp.Rules.{comparing};
 ghost use Rattle.std.specs.Ordering.{as_partial_cmp, MatchOrdering};
-ghost use Rattle.vm_allocator.specs.Cases.{Unless};
+ghost use Rattle.vm_allocator.specs.Answer.{MakesRange};
 ghost use Rattle.vm_allocator.specs.Range.{IsRange, address_count, Overlaps, Covers, range_cmp};
 ghost use Rattle.vm_allocator.specs.RangeOrder.{Before, StartsBefore, StartsFrom, EndsBefore, Reaches, IsInOrder};
 
@@ -38,7 +38,7 @@ impl RangeInclusive {
     /// The range from `start` to `end`. `InvalidRange(start, end)` where the start is past the
     /// end, or where they are 0 and `u64::MAX`.
     pub fn new(start: u64, end: u64) -> Result<Self>
-        ensures { Unless (IsRange start end) (result ≡ Err (Error.InvalidRange start end)) (result ≡ Ok (record { start = start; end = end })) }
+        ensures { MakesRange start end result }
     {
         if start > end || (start == 0 && end == u64::MAX) {
             return Err(Error::InvalidRange(start, end));

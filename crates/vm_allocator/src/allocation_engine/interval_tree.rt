@@ -1,11 +1,11 @@
 //! The blocks of a space in a balanced tree: which place a request gets (`placing`), how the range
 //! there is held (`holding`), and how a held one is given back (`release`).
-ghost use Rattle.std.specs.Prelude.{◌≡◌, ◌+◌, ◌*◌, ◌≤◌, [], OnErr, MatchResult};
+ghost use Rattle.std.specs.Prelude.{◌≡◌, ◌+◌, ◌*◌, ◌≤◌, OnErr};
 ghost use Rattle.vm_allocator.specs.Range.{MAX};
 ghost use Rattle.vm_allocator.specs.Answer.{Settles, Frees};
 ghost use Rattle.vm_allocator.specs.Shape.{height_of, node_count, IsTree};
 ghost use Rattle.vm_allocator.specs.Steps.{Enters, EntersToFree, IsBalancedTreeOf, IsSettlingCount, IsReleaseCount, SplitsIfLow};
-ghost use Rattle.vm_allocator.specs.SpaceTree.{tree_state, IsSpaceTree};
+ghost use Rattle.vm_allocator.specs.SpaceTree.{tree_state, IsSpaceTree, MakesTree};
 
 use super::NodeState;
 use super::node::{Child, InnerNode};
@@ -48,7 +48,7 @@ impl IntervalTree {
     /// one node.
     #[tactic(auto, using(crate::proofs::SpaceTrees::making))]
     pub fn new(alloc: Global, key: RangeInclusive) -> Result<Self>
-        ensures { MatchResult result (λ tree. tree_state tree ≡ record { space = key; held = [] }) (λ error. error ≡ Error.OutOfMemory) }
+        ensures { MakesTree key result }
     {
         let _ = key.end();
         let Ok(node) = Box::new(alloc, InnerNode::new(key, NodeState::Free)) else {

@@ -1,9 +1,10 @@
 //! How a range is held: what fills its free block is marked in place, and what does not is split
 //! from it, with all memory asked for before the first change.
-ghost use Rattle.std.specs.Prelude.{◌≡◌, ◌+◌, ◌*◌, ◌<◌, ◌≤◌, Err, IfOk, IfErr, IfSome, OnErr, OnOk, MatchBool};
+ghost use Rattle.std.specs.Prelude.{◌≡◌, ◌+◌, ◌*◌, ◌<◌, ◌≤◌, Err, IfOk, IfErr, IfSome, OnErr, OnOk};
 ghost use Rattle.vm_allocator.specs.Range.{MAX};
 ghost use Rattle.vm_allocator.specs.Answer.{Takes};
 ghost use Rattle.vm_allocator.specs.BlockEdits.{free_block, IsTakenFrom, LeavesPart, before_part, after_part};
+ghost use Rattle.vm_allocator.specs.Cases.{Tells};
 ghost use Rattle.vm_allocator.specs.Carving.{IsRest};
 ghost use Rattle.vm_allocator.specs.Shape.{blocks, height_of, single, IsLeaf};
 ghost use Rattle.vm_allocator.specs.NodeFields.{side};
@@ -63,7 +64,7 @@ impl IntervalTree {
 
 /// Whether a part of the free block is left beside the range.
 fn leaves_part(choice: &Choice) -> bool
-    ensures { MatchBool result (LeavesPart choice.now.key choice.now.range) (¬ LeavesPart choice.now.key choice.now.range) }
+    ensures { Tells result (LeavesPart choice.now.key choice.now.range) }
 {
     choice.key.start() < choice.range.start() || choice.range.end() < choice.key.end()
 }

@@ -1,7 +1,7 @@
 //! Heights and rotations. Nothing here calls itself, and nothing takes memory.
 ghost use Rattle.std.specs.Prelude.{◌≡◌, ◌+◌, ◌<◌, ◌≤◌, ◌^◌, ◌++◌, ◌∷◌, max, None, IsSome, ◌↔◌, IsNone};
 ghost use Rattle.vm_allocator.specs.BlockList.{IsOrderedFrom};
-ghost use Rattle.vm_allocator.specs.Shape.{Fork, blocks, height_of, single, root_block, IsTree, DifferByAtMost, IsHeightAfterBalance, IsSameIfNot, IsLeaf};
+ghost use Rattle.vm_allocator.specs.Shape.{Fork, blocks, height_of, single, root_block, IsTree, DifferByAtMost, IsSameIfNot, IsLeaf, CanBalance, Balances};
 ghost use Rattle.vm_allocator.specs.NodeFields.{side};
 ghost use Rattle.vm_allocator.specs.Settling.{IsSettled};
 
@@ -169,12 +169,8 @@ pub(super) fn balance(
     right: Child,
 ) -> Box<InnerNode>
     requires leaf { IsLeaf middle.value }
-    requires ordered { IsOrderedFrom 0 (blocks (side left) ++ root_block middle.value ∷ blocks (side right)) }
-    requires near { DifferByAtMost 2 (height_of (side left)) (height_of (side right)) }
-    requires height_fits { max (height_of (side left)) (height_of (side right)) + 1 < 2 ^ 64 }
-    ensures tree { IsTree result.value }
-    ensures blocks { blocks result.value ≡ blocks (side left) ++ root_block middle.value ∷ blocks (side right) }
-    ensures height { IsHeightAfterBalance (height_of (side left)) (height_of (side right)) (height_of result.value) }
+    requires sides { CanBalance (side left) (root_block middle.value) (side right) }
+    ensures { Balances (side left) (root_block middle.value) (side right) result.value }
 {
     let left_height = height(&left);
     let right_height = height(&right);
@@ -198,13 +194,9 @@ pub(super) fn rebalance(
 )
     requires some { IsSome at.old }
     requires leaf { IsLeaf (side at.old) }
-    requires ordered { IsOrderedFrom 0 (blocks (side left) ++ root_block (side at.old) ∷ blocks (side right)) }
-    requires near { DifferByAtMost 2 (height_of (side left)) (height_of (side right)) }
-    requires height_fits { max (height_of (side left)) (height_of (side right)) + 1 < 2 ^ 64 }
+    requires sides { CanBalance (side left) (root_block (side at.old)) (side right) }
     ensures some { IsSome at.new }
-    ensures tree { IsTree (side at.new) }
-    ensures blocks { blocks (side at.new) ≡ blocks (side left) ++ root_block (side at.old) ∷ blocks (side right) }
-    ensures height { IsHeightAfterBalance (height_of (side left)) (height_of (side right)) (height_of (side at.new)) }
+    ensures balanced { Balances (side left) (root_block (side at.old)) (side right) (side at.new) }
 {
     let Some(middle) = at.take() else {
         unreachable!()

@@ -1,9 +1,9 @@
 //! A range taken from a free block, in one descent.
-ghost use Rattle.std.specs.Prelude.{◌≡◌, ◌+◌, ◌*◌, ◌≤◌, IfSome, IsSome};
+ghost use Rattle.std.specs.Prelude.{◌≡◌, ◌+◌, ◌*◌, ◌<◌, ◌≤◌, true, IfSome, IsSome};
 ghost use Rattle.vm_allocator.specs.Range.{MAX};
 ghost use Rattle.vm_allocator.specs.BlockList.{insert_all, AreClearOf};
 ghost use Rattle.vm_allocator.specs.Carving.{with_split, AreLeaves, CanCarve};
-ghost use Rattle.vm_allocator.specs.Shape.{blocks, height_of, root_block, IsTree, IsLeaf, Grows};
+ghost use Rattle.vm_allocator.specs.Shape.{MAX_HEIGHT, blocks, height_of, root_block, IsLeaf, Grows};
 ghost use Rattle.vm_allocator.specs.Ways.{way_to_link, way_here, way_to_carve};
 ghost use Rattle.vm_allocator.specs.NodeFields.{side};
 
@@ -26,12 +26,10 @@ pub(crate) struct Rest {
 fn link_if(child: &mut Child, leaf: Child, count: &mut u64)
     requires leaf { IfSome leaf (λ n. IsLeaf n.value) }
     requires clear { AreClearOf (blocks (side leaf)) (blocks (side child.old)) }
-    requires height { height_of (side child.old) ≤ 48 }
+    requires height { height_of (side child.old) < MAX_HEIGHT }
     requires count_fits { count.old + height_of (side child.old) ≤ MAX }
     ensures blocks { blocks (side child.new) ≡ insert_all (blocks (side leaf)) (blocks (side child.old)) }
-    ensures tree { IsTree (side child.new) }
-    ensures not_lower { height_of (side child.old) ≤ height_of (side child.new) }
-    ensures at_most_one_higher { height_of (side child.new) ≤ height_of (side child.old) + 1 }
+    ensures grows { Grows (side child.old) (side child.new) true }
     ensures count { count.new ≡ count.old + way_to_link (side leaf) (side child.old) }
 {
     let _ = height(child);
@@ -47,9 +45,10 @@ fn carve_here(at: &mut Child, range: RangeInclusive, rest: Rest, count: &mut u64
     requires some { IsSome at.old }
     requires leaves { AreLeaves rest }
     requires carving { CanCarve (blocks (side at.old)) (root_block (side at.old)).key range rest }
-    requires height { height_of (side at.old) ≤ 48 }
+    requires height { height_of (side at.old) < MAX_HEIGHT }
     requires count_fits { count.old + 2 * height_of (side at.old) ≤ MAX + 1 }
-    ensures blocks { blocks (side at.new) ≡ with_split (root_block (side at.old)).key range rest (blocks (side at.old)) }
+    ensures blocks { blocks (side at.new)
+        ≡ with_split (root_block (side at.old)).key range rest (blocks (side at.old)) }
     ensures grows { Grows (side at.old) (side at.new) result }
     ensures count { count.new ≡ count.old + way_here (side rest.before) (side rest.after) (side at.old) }
 {
@@ -81,7 +80,7 @@ pub(crate) fn carve_at(
 ) -> bool
     requires leaves { AreLeaves rest }
     requires carving { CanCarve (blocks (side at.old)) key.now range rest }
-    requires height { height_of (side at.old) ≤ 48 }
+    requires height { height_of (side at.old) < MAX_HEIGHT }
     requires count_fits { count.old + 2 * height_of (side at.old) ≤ MAX }
     ensures blocks { blocks (side at.new) ≡ with_split key.now range rest (blocks (side at.old)) }
     ensures grows { Grows (side at.old) (side at.new) result }

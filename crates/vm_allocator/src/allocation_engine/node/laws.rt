@@ -20,5 +20,6 @@ fn node_numbers()
 /// A range that is in order is clear of blocks in order exactly where it overlaps no key of theirs.
 #[tactic(auto, using(crate::proofs::Meetings::clearness))]
 fn clear_means_no_overlap()
-    ensures { (k : Range) (bs : List Block) → k.start ≤ k.end → IsOrderedFrom 0 bs → IsClearOf k bs ↔ All (λ b. ¬ Overlaps k b.key) bs }
+    ensures { (k : Range) (bs : List Block) → k.start ≤ k.end → IsOrderedFrom 0 bs →
+        IsClearOf k bs ↔ All (λ b. ¬ Overlaps k b.key) bs }
 {}

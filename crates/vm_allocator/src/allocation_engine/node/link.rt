@@ -1,8 +1,8 @@
 //! A leaf added to a tree.
-ghost use Rattle.std.specs.Prelude.{◌≡◌, ◌+◌, ◌≤◌, IsSome};
+ghost use Rattle.std.specs.Prelude.{◌≡◌, ◌+◌, ◌<◌, ◌≤◌, IsSome};
 ghost use Rattle.vm_allocator.specs.Range.{MAX};
 ghost use Rattle.vm_allocator.specs.BlockList.{IsClearOf, insert_block};
-ghost use Rattle.vm_allocator.specs.Shape.{blocks, height_of, root_block, IsLeaf, Grows};
+ghost use Rattle.vm_allocator.specs.Shape.{MAX_HEIGHT, blocks, height_of, root_block, IsLeaf, Grows};
 ghost use Rattle.vm_allocator.specs.Ways.{way_down};
 ghost use Rattle.vm_allocator.specs.NodeFields.{side};
 
@@ -14,7 +14,7 @@ use super::{Child, InnerNode};
 pub(super) fn link_at(at: &mut Child, leaf: Box<InnerNode>, count: &mut u64) -> bool
     requires leaf { IsLeaf leaf.value }
     requires clear { IsClearOf (root_block leaf.value).key (blocks (side at.old)) }
-    requires height { height_of (side at.old) ≤ 48 }
+    requires height { height_of (side at.old) < MAX_HEIGHT }
     requires count_fits { count.old + height_of (side at.old) ≤ MAX }
     ensures some { IsSome at.new }
     ensures blocks { blocks (side at.new) ≡ insert_block (root_block leaf.value) (blocks (side at.old)) }

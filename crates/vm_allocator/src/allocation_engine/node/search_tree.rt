@@ -1,10 +1,10 @@
 //! The other calls of a search tree: searching, inserting, deleting and marking by a key. The
 //! allocator makes none of them, and the tests that every search tree has to pass make them all.
-ghost use Rattle.std.specs.Prelude.{◌≡◌, ◌+◌, ◌*◌, ◌≤◌, [], ◌↔◌, None, true, IsNone, IfOk, IfErr, OnOk, OnErr};
+ghost use Rattle.std.specs.Prelude.{◌≡◌, ◌+◌, ◌*◌, ◌<◌, ◌≤◌, [], ◌↔◌, None, true, IsNone, IfOk, IfErr, OnOk, OnErr};
 ghost use Rattle.std.specs.Option.{option_map};
 ghost use Rattle.vm_allocator.specs.Range.{MAX};
 ghost use Rattle.vm_allocator.specs.BlockList.{IsClearOf, insert_block, replace_block, find_key};
-ghost use Rattle.vm_allocator.specs.Shape.{Shape, Tip, Fork, blocks, height_of, root_block, IsTree, IsLeaf, Grows, Shrinks, first_met};
+ghost use Rattle.vm_allocator.specs.Shape.{Shape, MAX_HEIGHT, Tip, Fork, blocks, height_of, root_block, IsTree, IsLeaf, Grows, Shrinks, first_met};
 ghost use Rattle.vm_allocator.specs.Ways.{way_down, way_to, way_across, way_to_remove};
 ghost use Rattle.vm_allocator.specs.NodeFields.{side};
 ghost use Rattle.vm_allocator.specs.NodeAnswer.{Inserts, TellsOverlap, RefusesKey, Marks};
@@ -28,7 +28,7 @@ impl InnerNode {
     ) -> Box<InnerNode>
         requires leaf { IsLeaf leaf.value }
         requires clear { IsClearOf (root_block leaf.value).key (blocks tree.value) }
-        requires height { height_of tree.value ≤ 48 }
+        requires height { height_of tree.value < MAX_HEIGHT }
         requires count_fits { count.old + height_of tree.value ≤ MAX }
         ensures blocks { blocks result.value ≡ insert_block (root_block leaf.value) (blocks tree.value) }
         ensures grows { Grows tree.value result.value true }
@@ -51,7 +51,7 @@ impl InnerNode {
         node_state: NodeState,
         count: &mut u64,
     ) -> std::result::Result<Box<InnerNode>, (Error, Box<InnerNode>)>
-        requires height { height_of tree.value ≤ 48 }
+        requires height { height_of tree.value < MAX_HEIGHT }
         requires count_fits { count.old + 2 * height_of tree.value ≤ MAX }
         ensures inserted { IfOk result (λ t. Inserts tree.value key node_state t.value) }
         ensures refused { IfErr result (λ r. RefusesKey key tree.value r.0) }
