@@ -1,6 +1,7 @@
 ghost use Rattle.std.specs.Prelude.{◌≡◌, IfOk};
 
 use super::*;
+use crate::constraint::AllocPolicy;
 use crate::allocation_engine::node::walks::{copy, node_count, same};
 use std::alloc::AllocError;
 
