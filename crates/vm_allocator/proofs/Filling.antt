@@ -1,11 +1,11 @@
--- What fills its run, and what is held, is never refused.
+-- What fills its gap, and what is held, is never refused.
 use Rattle.std.proofs.Common.{◌≡◌, ℕ, ◌+◌, ◌-◌, ◌<◌, ◌≤◌, arith, refl, inl, ⊎_elim, subst, Result, Err, IsOk}
 use Rattle.std.specs.List.{Contains}
 use Rattle.vm_allocator.specs.Cases.{IfElse, Unless}
 use Rattle.vm_allocator.specs.Range.{Range, MAX, IsIn, span}
 use Rattle.vm_allocator.specs.Address.{AddressState, AreClear, IsPlace}
 use Rattle.vm_allocator.specs.Request.{Request, request_for, IsRequest, ByConstraint, MakesConstraint}
-use Rattle.vm_allocator.specs.Answer.{IsChosen, ByStart, ByExactStart, ByPlace, Takes, Settles, Allocates, FillsRun, Frees}
+use Rattle.vm_allocator.specs.Answer.{IsChosen, ByStart, ByExactStart, ByPlace, Takes, Settles, Allocates, FillsGap, Frees}
 use Rattle.vm_allocator.specs.declared.error.Error.{Error}
 use Rattle.vm_allocator.specs.declared.error.Error.TheVariants.{Overflow}
 use Rattle.vm_allocator.specs.declared.constraint.AllocPolicy.{AllocPolicy}
@@ -20,6 +20,13 @@ otherwise c P Q n h = ⊎_elim (λ l. absurd (n l.0)) (λ r. r.1) h
 pub given : (c P Q : Type 0) → c → Unless c P Q → Q
 given c P Q y h = ⊎_elim (λ l. absurd (l.0 y)) (λ r. r.1) h
 
+-- the fault that a test tells, where its condition holds or does not
+pub faulty : {G : Type 0} (C P Q : Type 0) → C → (P → G) → IfElse C P Q → G
+faulty C P Q y f h = ⊎_elim (λ l. f l.1) (λ r. absurd (r.0 y)) h
+
+pub lacking : {G : Type 0} (C P Q : Type 0) → ¬ C → (P → G) → Unless C P Q → G
+lacking C P Q n f h = ⊎_elim (λ l. f l.1) (λ r. absurd (n r.0)) h
+
 exact_start : (n a s t : ℕ) (state : AddressState) → IsChosen (request_for n a (ExactMatch t)) state s → s ≡ t
 unfolding IsChosen
 exact_start n a s t state c = c.0
@@ -29,7 +36,7 @@ unfolding IsPlace
 place_clear n a t state p = p.1
 
 -- where the addresses from t on are clear, no range that begins there is held
-clear_not_held : (n t : ℕ) (state : AddressState) → 0 < n → AreClear n state t → ¬ Contains state.held (span t n)
+pub clear_not_held : (n t : ℕ) (state : AddressState) → 0 < n → AreClear n state t → ¬ Contains state.held (span t n)
 clear_not_held n t state z c h =
     none_holds state.held t (c t (omega arith) (omega arith)).1
     (held_address state.held (span t n) t (held_contains state.held (span t n) h) (omega arith, omega arith))
@@ -86,7 +93,7 @@ unfolding MakesConstraint ByConstraint
 no_constraint_fault request e h r =
     let bad = given _ _ _ r.start (given _ _ _ r.aligned (otherwise _ _ _ (λ k. let z = r.some in omega arith) h)) in cc
 
-pub allocates_filling : (old new : AddressState) (request : Request) (s : ℕ) (answer : Result Range Error) → Allocates old request answer new → FillsRun old request s → IsOk answer
+pub allocates_filling : (old new : AddressState) (request : Request) (s : ℕ) (answer : Result Range Error) → Allocates old request answer new → FillsGap old request s → IsOk answer
 unfolding Takes
 allocates_filling old new request s answer h f =
     let m : s + request.size - 1 < MAX = f.below in

@@ -36,6 +36,13 @@ one_held lo hi a (x ∷ xs) r q s h k i j =
     k)
     h
 
+-- so are two that have one start
+pub one_start : (lo hi : ℕ) (r q : Range) (hs : List Range) → AreSlots lo hs hi → IsHeld hs r → IsHeld hs q → r.start ≡ q.start → r ≡ q
+one_start lo hi r q hs s h k e =
+    let i = held_lies lo hi hs r s h in
+    let j = held_lies lo hi hs q s k in
+    one_held lo hi q.start hs r q s h k (omega arith, omega (arith, i.1)) (omega arith, j.1)
+
 -- ---- two lists of the same ranges
 -- two lists of each other's ranges begin alike
 same_first : (lo ly hi hy : ℕ) (x y : Range) (xs ys : List Range) → AreSlots lo (x ∷ xs) hi → AreSlots ly (y ∷ ys) hy → IsHeld (y ∷ ys) x → IsHeld (x ∷ xs) y → x ≡ y
@@ -119,6 +126,15 @@ held_with r q (x ∷ xs) h =
     k)
     (cases_lt r.start x.start)
 
+-- what was held is held with one more
+pub still_held_with : (r q : Range) (hs : List Range) → IsHeld hs q → IsHeld (with_range r hs) q
+still_held_with r q [] h = absurd h
+still_held_with r q (x ∷ xs) h =
+    ⊎_elim
+    (λ (d : r.start < x.start). let e = lt-ltb r.start x.start d in rw e (inr h))
+    (λ (d : x.start ≤ r.start). let e = le-ltb r.start x.start d in rw e (⊎_elim (λ (f : x ≡ q). inl f) (λ (f : IsHeld xs q). inr (still_held_with r q xs f)) h))
+    (cases_lt r.start x.start)
+
 -- and that one is held
 pub held_now : (r : Range) (hs : List Range) → IsHeld (with_range r hs) r
 held_now r [] = inl refl
@@ -198,8 +214,4 @@ still_held r q (x ∷ xs) h n =
 
 -- where the one that is given back is held
 pub others_held : (lo hi : ℕ) (r q : Range) (hs : List Range) → AreSlots lo hs hi → IsHeld hs r → IsHeld hs q → ¬ (r ≡ q) → IsHeld (without_range r hs) q
-others_held lo hi r q hs s h k n =
-    still_held r q hs k (λ (e : r.start ≡ q.start).
-    let i = held_lies lo hi hs r s h in
-    let j = held_lies lo hi hs q s k in
-    n (one_held lo hi q.start hs r q s h k (omega arith, omega (arith, i.1)) (omega arith, j.1)))
+others_held lo hi r q hs s h k n = still_held r q hs k (λ (e : r.start ≡ q.start). n (one_start lo hi r q hs s h k e))

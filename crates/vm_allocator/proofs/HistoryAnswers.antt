@@ -1,21 +1,20 @@
 -- What every call of an address allocator answers: the chosen place, or a refusal that changes nothing.
-use Rattle.std.proofs.Common.{◌≡◌, ℕ, ◌+◌, ◌-◌, ◌<◌, arith, sym, ap, ◌∙◌, inl, inr, ◌⊎◌, ⊎_elim, subst, Result, Ok, Err}
-use Rattle.std.specs.List.{Contains}
+use Rattle.std.proofs.Common.{◌≡◌, ℕ, ◌+◌, ◌-◌, ◌<◌, arith, sym, ap, ◌∙◌, ◌⊎◌, ⊎_elim, subst, Result, Ok, Err}
+use Rattle.std.proofs.lemmas.Bool.{cases_eq}
 use Rattle.vm_allocator.specs.Range.{Range, MAX, IsIn, span}
 use Rattle.vm_allocator.specs.Address.{AddressState, IsPlace, IsAddressState}
 use Rattle.vm_allocator.specs.Request.{Request, request_for, IsRequest, ByConstraint, MakesConstraint}
-use Rattle.vm_allocator.specs.Answer.{IsChosen, IsExit, ByStart, ByExactStart, ByPlace, Takes, Settles, Allocates, Frees}
-use Rattle.vm_allocator.specs.HistoryLaws.{FirstIsLeast, LastIsGreatest, ExactIsNamed, PlacesAnswer, RefusalsChangeNothing, IsAnswered}
+use Rattle.vm_allocator.specs.Answer.{IsChosen, ByStart, ByExactStart, ByPlace, Takes, Settles, Allocates, Frees}
+use Rattle.vm_allocator.specs.HistoryLaws.{FirstIsLeast, LastIsGreatest, ExactIsNamed, IsRefusedInOrder, IsAnswered, PlacesAnswer, RefusalsChangeNothing}
 use Rattle.vm_allocator.specs.declared.error.Error.{Error}
-use Rattle.vm_allocator.specs.declared.error.Error.TheVariants.{Overflow, ResourceNotAvailable, InvalidStateTransition}
-use Rattle.vm_allocator.specs.declared.allocation_engine.NodeState.TheVariants.{Allocated}
+use Rattle.vm_allocator.specs.declared.error.Error.TheVariants.{Overflow, ResourceNotAvailable}
 use Rattle.vm_allocator.specs.declared.constraint.AllocPolicy.{AllocPolicy}
 use Rattle.vm_allocator.specs.declared.constraint.AllocPolicy.TheVariants.{FirstMatch, LastMatch, ExactMatch}
 use Rattle.vm_allocator.proofs.CaseLemmas.{if_same, unless_same}
 use Rattle.vm_allocator.proofs.Words.{held_contains}
 use Rattle.vm_allocator.proofs.HeldSets.{held_lies}
 use Rattle.vm_allocator.proofs.Once.{chosen_place}
-use Rattle.vm_allocator.proofs.Filling.{otherwise, given, request_settles, allocates_chosen}
+use Rattle.vm_allocator.proofs.Filling.{otherwise, given, faulty, lacking, clear_not_held, request_settles, allocates_chosen}
 use Rattle.vm_allocator.proofs.Outcomes.{allocates_outcome}
 use Rattle.vm_allocator.proofs.Histories.{reached_state}
 
@@ -37,20 +36,17 @@ given_chosen request old new r h =
 
 pub first_is_least : FirstIsLeast
 unfolding IsChosen
-first_is_least steps old new size align r reached h = given_chosen (request_for size align FirstMatch) old new r h
+first_is_least old new size align r h = given_chosen (request_for size align FirstMatch) old.state new r h
 
 pub last_is_greatest : LastIsGreatest
 unfolding IsChosen
-last_is_greatest steps old new size align r reached h = given_chosen (request_for size align LastMatch) old new r h
-
-exact_given : (size align start : ℕ) (old new : AddressState) (r : Range) → Allocates old (request_for size align (ExactMatch start)) (Ok r) new → IsPlace size align old start × (r ≡ span start size)
-unfolding IsChosen
-exact_given size align start old new r h =
-    let g = given_chosen (request_for size align (ExactMatch start)) old new r h in
-    (subst (IsPlace size align old) g.0.0 g.0.1, g.1 ∙ ap (λ (s : ℕ). span s size) g.0.0)
+last_is_greatest old new size align r h = given_chosen (request_for size align LastMatch) old.state new r h
 
 pub exact_is_named : ExactIsNamed
-exact_is_named steps old new size align start r reached h = exact_given size align start old new r h
+unfolding IsChosen
+exact_is_named old new size align start r h =
+    let g = given_chosen (request_for size align (ExactMatch start)) old.state new r h in
+    (subst (IsPlace size align old.state) g.0.0 g.0.1, g.1 ∙ ap (λ (s : ℕ). span s size) g.0.0)
 
 -- ---- each request is answered by the places
 -- what makes no constraint is refused alike
@@ -67,15 +63,13 @@ senseless request old new answer e h m =
     same : (x : Error) → made ≡ Err x → (answer ≡ Err x) × (new ≡ old) → answer ≡ Err e
     same x m h = let s : x ≡ e = cc in h.0 ∙ ap (λ (v : Error). Err v) s
 
-chosen_given : (request : Request) (s : ℕ) (old new : AddressState) (answer : Result Range Error) → Allocates old request answer new → IsRequest request → IsChosen request old s → s + request.size - 1 < MAX → (answer ≡ Ok (span s request.size)) ⊎ IsExit old answer
-unfolding Takes
-chosen_given request s old new answer h r c l =
-    ⊎_elim (λ k. inl k.0) (λ k. inr k.2)
-    (otherwise _ _ _ (λ k. omega arith) (allocates_chosen request s old new answer r (omega arith) c h))
+-- the answer to a request that makes sense, with the state that it leaves
+module _ (request : Request) (old new : AddressState) (answer : Result Range Error) (sense : IsRequest request) (h : Allocates old request answer new) where
+  chosen_taken : (s : ℕ) → IsChosen request old s → s + request.size - 1 < MAX → Takes old (span s request.size) answer new
+  chosen_taken s c l = otherwise _ _ _ (λ k. omega arith) (allocates_chosen request s old new answer sense (omega arith) c h)
 
-chosen_at_max : (request : Request) (s : ℕ) (old new : AddressState) (answer : Result Range Error) → Allocates old request answer new → IsRequest request → IsChosen request old s → s + request.size - 1 ≡ MAX → answer ≡ Err Overflow
-chosen_at_max request s old new answer h r c e =
-    ⊎_elim (λ k. k.1.0) (λ k. absurd (k.0 e)) (allocates_chosen request s old new answer r (omega arith) c h)
+  chosen_at_max : (s : ℕ) → IsChosen request old s → s + request.size - 1 ≡ MAX → answer ≡ Err Overflow
+  chosen_at_max s c e = ⊎_elim (λ k. k.1.0) (λ k. absurd (k.0 e)) (allocates_chosen request s old new answer sense (omega arith) c h)
 
 none_by_place : (request : Request) (old new : AddressState) (answer : Result Range Error) → ((s : ℕ) → ¬ IsPlace request.size request.align old s) → ByPlace request old (λ e. (answer ≡ Err e) × (new ≡ old)) (λ r. Takes old r answer new) → answer ≡ Err ResourceNotAvailable
 unfolding ByPlace
@@ -87,31 +81,52 @@ none_settles FirstMatch n a old new answer p none h = none_by_place (request_for
 none_settles LastMatch n a old new answer p none h = none_by_place (request_for n a LastMatch) old new answer none h
 none_settles (ExactMatch t) n a old new answer p none h = ⊎_elim (λ e. absurd (cc e)) (λ e. absurd (cc e)) p
 
--- a named range that is held passes each test before that for held ones
-held_settles : (n a t : ℕ) (old new : AddressState) (answer : Result Range Error) → IsAddressState old → Contains old.held (span t n) → Settles old (request_for n a (ExactMatch t)) answer new → answer ≡ Err (InvalidStateTransition (span t n) Allocated)
-unfolding Settles ByExactStart ByStart
-held_settles n a t old new answer st c h =
-    let b = held_lies old.space.start old.space.end old.held (span t n) st.slots (held_contains old.held (span t n) c) in
-    let inside : IsIn old.space t = (b.0, omega (arith, b.1, b.2)) in
-    ⊎_elim (λ k. k.1.0) (λ k. absurd (k.0 c))
-    (otherwise _ _ _ (λ o. omega (arith, b.3))
-    (given _ _ _ inside
-    (otherwise _ _ _ (λ e. omega (arith, b.1, b.3)) h)))
+-- the faults of a request for the n addresses from t on, in order
+named_faults : (old new : AddressState) (answer : Result Range Error) (t n : ℕ) (Rest : Type 0) → IsAddressState old → 0 < n → ByStart t n old (λ e. (answer ≡ Err e) × (new ≡ old)) Rest → IsRefusedInOrder old t n answer
+unfolding ByStart
+named_faults old new answer t n Rest state some h =
+    record {
+      start_is_max = λ is. faulty _ _ _ is (λ p. p.0) h;
+      start_is_outside = λ below outside. lacking _ _ _ outside (λ p. p.0) (otherwise _ _ _ below h);
+      passes_max = λ below inside over. faulty _ _ _ over (λ p. p.0) (given _ _ _ inside (otherwise _ _ _ below h));
+      is_held = λ held.
+          let lies = held_lies old.space.start old.space.end old.held (span t n) state.slots (held_contains old.held (span t n) held) in
+          let inside : IsIn old.space t = (lies.0, omega (arith, lies.1, lies.2)) in
+          faulty _ _ _ held (λ p. p.0) (otherwise _ _ _ (λ over. omega (arith, lies.3)) (given _ _ _ inside (otherwise _ _ _ (λ is. omega (arith, lies.1, lies.3)) h)));
+      is_not_clear = λ below inside fits free unclear.
+          lacking _ _ _ unclear (λ p. p.0) (otherwise _ _ _ free (otherwise _ _ _ (λ over. omega arith) (given _ _ _ inside (otherwise _ _ _ below h))));
+      ends_at_max = λ clear ends.
+          let inside : IsIn old.space t = (clear t (omega arith) (omega arith)).0 in
+          ⊎_elim
+          (λ (is : t ≡ MAX). faulty _ _ _ is (λ p. p.0) h)
+          (λ (below : t ≡ MAX → ⊥).
+          faulty _ _ _ ends (λ p. p.0) (given _ _ _ clear (otherwise _ _ _ (clear_not_held n t old some clear) (otherwise _ _ _ (λ over. omega arith) (given _ _ _ inside (otherwise _ _ _ below h))))))
+          (cases_eq t MAX);
+    }
 
-answered_by : (policy : AllocPolicy) (n a : ℕ) (old new : AddressState) (answer : Result Range Error) → IsAddressState old → Allocates old (request_for n a policy) answer new → IsAnswered old (request_for n a policy) answer
-answered_by policy n a old new answer st h =
-    let request = request_for n a policy in
+named_settles : (policy : AllocPolicy) (n a t : ℕ) (old new : AddressState) (answer : Result Range Error) → IsAddressState old → 0 < n → policy ≡ ExactMatch t → Settles old (request_for n a policy) answer new → IsRefusedInOrder old t n answer
+unfolding Settles ByExactStart
+named_settles policy n a t old new answer state some p h =
+    let g : Settles old (request_for n a (ExactMatch t)) answer new = subst (λ (v : AllocPolicy). Settles old (request_for n a v) answer new) p h in
+    named_faults old new answer t n _ state some g
+
+answered : (request : Request) (old new : AddressState) (answer : Result Range Error) → IsAddressState old → Allocates old request answer new → IsAnswered old request answer new
+answered request old new answer state h =
     record {
       senseless = λ e m. senseless request old new answer e h m;
-      given = λ r s c l. chosen_given request s old new answer h r c l;
-      at_max = λ r s c e. chosen_at_max request s old new answer h r c e;
-      no_place = λ r p none. none_settles policy n a old new answer p none (request_settles request old new answer r h);
-      not_clear = λ t p none r e. none (exact_given n a t old new r (subst (λ (v : AllocPolicy). Allocates old (request_for n a v) (Ok r) new) p (subst (λ (v : Result Range Error). Allocates old request v new) e h))).0;
-      held = λ t r p c. held_settles n a t old new answer st c (subst (λ (v : AllocPolicy). Settles old (request_for n a v) answer new) p (request_settles request old new answer r h));
+      sensible = λ sense.
+          let settles = request_settles request old new answer sense h in
+          record {
+            taken = chosen_taken request old new answer sense h;
+            at_max = chosen_at_max request old new answer sense h;
+            no_place = λ p none. none_settles request.policy request.size request.align old new answer p none settles;
+            named = λ t p. named_settles request.policy request.size request.align t old new answer state sense.some p settles;
+          };
+      given = λ r e. given_chosen request old new r (subst (λ (v : Result Range Error). Allocates old request v new) e h);
     }
 
 pub places_answer : PlacesAnswer
-places_answer steps old new request answer reached h = answered_by request.policy request.size request.align old new answer (reached_state steps old reached) h
+places_answer old new request answer h = answered request old.state new answer (reached_state old) h
 
 -- ---- a refusal changes nothing
 takes_refused : (old new : AddressState) (r : Range) (e : Error) → Takes old r (Err e) new → new ≡ old
@@ -128,6 +143,6 @@ release_refused old new r e h = ⊎_elim (λ l. absurd (cc (l.1.0))) (λ k. k.1.
 
 pub refusals_change_nothing : RefusalsChangeNothing
 refusals_change_nothing = record {
-  allocation = λ steps old new request e reached h. allocation_refused request old new e h;
-  release = λ steps old new r e reached h. release_refused old new r e h;
+  allocation = λ old new request e h. allocation_refused request old.state new e h;
+  release = λ old new r e h. release_refused old.state new r e h;
 }

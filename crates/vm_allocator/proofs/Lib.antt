@@ -34,7 +34,12 @@ pub mod TreeCarve
 pub mod Releasing
 pub mod Freeing
 pub mod Making
+pub mod AddressAnswers
 pub mod Histories
+pub mod Releases
+pub mod Decisions
+pub mod EveryCall
+pub mod EveryIdCall
 pub mod IdHistories
 pub mod Neighbours
 pub mod HeldSets

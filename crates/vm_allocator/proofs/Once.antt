@@ -1,11 +1,11 @@
--- A call has one answer and one next state, want of memory and depth aside.
+-- A call has one answer and one next state, a split that is refused aside.
 use Rattle.std.proofs.Common.{◌≡◌, ℕ, ◌+◌, ◌-◌, sym, ◌∙◌, arith, inl, inr, ⊎_elim, subst, Result, Err}
 use Rattle.vm_allocator.specs.Cases.{IfElse, Unless}
 use Rattle.vm_allocator.specs.Range.{Range, MAX, span}
 use Rattle.vm_allocator.specs.Address.{AddressState, IsPlace, IsLeastPlace, IsGreatestPlace}
 use Rattle.vm_allocator.specs.Request.{Request, request_for, ByConstraint}
 use Rattle.vm_allocator.specs.Answer.{IsChosen, ByStart, ByExactStart, ByPlace, Takes, Settles, Allocates, Frees}
-use Rattle.vm_allocator.specs.Laws.{AgreeUnlessExit, AllocatesOnce, FreesOnce}
+use Rattle.vm_allocator.specs.Laws.{AgreeButForSplits, AllocatesOnce, FreesOnce}
 use Rattle.vm_allocator.specs.declared.error.Error.{Error}
 use Rattle.vm_allocator.specs.declared.error.Error.TheVariants.{Overflow, ResourceNotAvailable}
 use Rattle.vm_allocator.specs.declared.constraint.AllocPolicy.{AllocPolicy}
@@ -45,7 +45,7 @@ Refused old answer new e = (answer ≡ Err e) × (new ≡ old)
 -- two answers to one request, with the states that they leave
 module _ (old new later : AddressState) (answer other : Result Range Error) where
   abbrev Agree : Type 0
-  Agree = AgreeUnlessExit old answer new other later
+  Agree = AgreeButForSplits old answer new other later
 
   refused_once : (e : Error) → Refused old answer new e → Refused old other later e → Agree
   refused_once e p q = inl (p.0 ∙ sym q.0, p.1 ∙ sym q.1)
@@ -54,8 +54,12 @@ module _ (old new later : AddressState) (answer other : Result Range Error) wher
   unfolding Takes
   takes_once r p q =
       ⊎_elim
-      (λ a. ⊎_elim (λ b. inl (a.0 ∙ sym b.0, a.1 ∙ sym b.1)) (λ b. inr (inr b.2)) q)
-      (λ a. inr (inl a.2)) p
+      (λ a.
+      ⊎_elim
+      (λ b. inl (a.0 ∙ sym b.0, a.1 ∙ sym b.1))
+      (λ b. inr (record { range = r; split = b.0; first = p; second = q; refused = inr b.2 }))
+      q)
+      (λ a. inr (record { range = r; split = a.0; first = p; second = q; refused = inl a.2 })) p
 
   place_once : (request : Request) → ByPlace request old (Refused old answer new) (λ r. Takes old r answer new) → ByPlace request old (Refused old other later) (λ r. Takes old r other later) → Agree
   unfolding ByPlace

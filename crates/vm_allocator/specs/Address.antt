@@ -28,7 +28,7 @@ IsLeastPlace n a state s = IsPlace n a state s × ((t : ℕ) → IsPlace n a sta
 unfoldable pub IsGreatestPlace : ℕ → ℕ → AddressState → ℕ → Type 0
 IsGreatestPlace n a state s = IsPlace n a state s × ((t : ℕ) → IsPlace n a state t → t ≤ s)
 
--- a clear address stands right before or right after the range: holding the range splits its run
+-- a clear address stands right before or right after the range: holding the range splits its gap
 unfoldable pub LeavesClear : AddressState → Range → Type 0
 LeavesClear state r = (x : ℕ) × IsClear state x × ((x + 1 ≡ r.start) ⊎ (x ≡ r.end + 1))
 

@@ -44,16 +44,16 @@ ByPlace request state refused takes =
 abbrev pub FEWEST_TOO_DEEP : ℕ
 FEWEST_TOO_DEEP = 6_293_134_512
 
--- a split that is refused although there is a place: memory ran out, or so many ranges are held that a tree of them may
--- be too deep
-abbrev pub IsExit : AddressState → Result Range Error → Type 0
-IsExit old answer = (answer ≡ Err OutOfMemory) ⊎ ((FEWEST_TOO_DEEP ≤ length old.held) × (answer ≡ Err Overflow))
+-- a split is refused although there is a place: for memory, or, where so many ranges are held that a tree of them may be
+-- too deep, for depth
+abbrev pub IsSplitRefusal : AddressState → Result Range Error → Type 0
+IsSplitRefusal old answer = (answer ≡ Err OutOfMemory) ⊎ ((FEWEST_TOO_DEEP ≤ length old.held) × (answer ≡ Err Overflow))
 
--- the range is held from now on; only where holding it splits its run may it be refused, with nothing changed
+-- the range is held from now on; only where holding it splits its gap may it be refused, with nothing changed
 unfoldable pub Takes : AddressState → Range → Result Range Error → AddressState → Type 0
 Takes old r answer new =
     ((answer ≡ Ok r) × (new ≡ holding r old))
-    ⊎ (LeavesClear old r × (new ≡ old) × IsExit old answer)
+    ⊎ (LeavesClear old r × (new ≡ old) × IsSplitRefusal old answer)
 
 -- the answer to a request that makes sense
 unfoldable pub Settles : AddressState → Request → Result Range Error → AddressState → Type 0
@@ -67,7 +67,7 @@ Allocates old request answer new =
     ByConstraint request (λ e. (answer ≡ Err e) × (new ≡ old)) (Settles old request answer new)
 
 -- a request that makes sense and whose chosen place, s, ends below MAX and leaves nothing clear beside it
-pub record FillsRun (state : AddressState) (request : Request) (s : ℕ) : Type 0 where
+pub record FillsGap (state : AddressState) (request : Request) (s : ℕ) : Type 0 where
   pub sensible : IsRequest request
   pub chosen : IsChosen request state s
   pub below : s + request.size - 1 < MAX

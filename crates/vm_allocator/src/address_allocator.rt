@@ -2,7 +2,7 @@ ghost use Rattle.std.specs.Prelude.{ℕ, ◌≡◌, OnErr, IsOk};
 ghost use Rattle.std.specs.List.{Contains};
 ghost use Rattle.vm_allocator.specs.Address.{IsAddressState};
 ghost use Rattle.vm_allocator.specs.Request.{request_for};
-ghost use Rattle.vm_allocator.specs.Answer.{Allocates, FillsRun, Frees, Makes};
+ghost use Rattle.vm_allocator.specs.Answer.{Allocates, FillsGap, Frees, Makes};
 ghost use Rattle.vm_allocator.specs.Allocator.{state_of, made_state};
 ghost use Rattle.vm_allocator.specs.Shape.{height_of};
 ghost use Rattle.vm_allocator.specs.Steps.{EntersToAllocate, EntersToFree, IsAllocationCount, IsReleaseCount, IsBalancedTreeOf, SplitsIfLow};
@@ -79,7 +79,7 @@ impl AddressAllocator {
         ensures unchanged { OnErr result (self.new ≡ self.old) }
 
         // What fills its clear run needs no memory, and succeeds.
-        ensures filling { (s : ℕ) → FillsRun (state_of self.old) (request_for size alignment policy) s → IsOk result }
+        ensures filling { (s : ℕ) → FillsGap (state_of self.old) (request_for size alignment policy) s → IsOk result }
 
         // The refusal for depth comes before want of memory.
         ensures depth { SplitsIfLow (height_of self.old.tree) (state_of self.old) result }
@@ -104,7 +104,7 @@ impl AddressAllocator {
         ensures unchanged { OnErr result.0 (self.new ≡ self.old) }
 
         // What fills its clear run needs no memory, and succeeds.
-        ensures filling { (s : ℕ) → FillsRun (state_of self.old) (request_for size alignment policy) s → IsOk result.0 }
+        ensures filling { (s : ℕ) → FillsGap (state_of self.old) (request_for size alignment policy) s → IsOk result.0 }
 
         // The refusal for depth comes before want of memory.
         ensures depth { SplitsIfLow (height_of self.old.tree) (state_of self.old) result.0 }

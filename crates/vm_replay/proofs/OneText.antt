@@ -4,7 +4,7 @@ use Rattle.std.specs.Prelude.{IfSome, IsTrue, MatchOption}
 use Rattle.vm_allocator.specs.Range.{Range}
 use Rattle.vm_allocator.specs.Address.{AddressState}
 use Rattle.vm_allocator.specs.Request.{Request, request_for}
-use Rattle.vm_allocator.specs.Answer.{FEWEST_TOO_DEEP, IsExit, Allocates, Makes}
+use Rattle.vm_allocator.specs.Answer.{FEWEST_TOO_DEEP, IsSplitRefusal, Allocates, Makes}
 use Rattle.vm_allocator.specs.Ids.{IdState, IsHeld}
 use Rattle.vm_allocator.specs.declared.constraint.AllocPolicy.{AllocPolicy}
 use Rattle.vm_allocator.specs.declared.constraint.AllocPolicy.TheVariants.{FirstMatch, LastMatch, ExactMatch}
@@ -34,14 +34,14 @@ same_told : {A : Type 0} (tell : Result A Error → Reply) (x y : Reply) (answer
 same_told tell x y answer other p q e = p ∙ ap tell e ∙ sym q
 
 -- where few ranges are held, no request is refused for the depth of a tree
-no_exit : (old : AddressState) (answer : Result Range Error) → length old.held < FEWEST_TOO_DEEP → answer ≢ Err OutOfMemory → IsExit old answer → ⊥
+no_exit : (old : AddressState) (answer : Result Range Error) → length old.held < FEWEST_TOO_DEEP → answer ≢ Err OutOfMemory → IsSplitRefusal old answer → ⊥
 no_exit old answer few plain (inl e) = plain e
 no_exit old answer few plain (inr p) = omega (arith, few, p.0)
 
 -- so a request has one answer
 placed_once : (old m n : AddressState) (request : Request) (x y : Result Range Error) → length old.held < FEWEST_TOO_DEEP → x ≢ Err OutOfMemory → y ≢ Err OutOfMemory → Allocates old request x m → Allocates old request y n → (x ≡ y) × (m ≡ n)
 placed_once old m n request x y few p q a b =
-    ⊎_elim (λ same. same) (λ exits. absurd (⊎_elim (no_exit old x few p) (no_exit old y few q) exits)) (allocates_once old m n request x y a b)
+    ⊎_elim (λ same. same) (λ differ. absurd (⊎_elim (no_exit old x few p) (no_exit old y few q) differ.refused)) (allocates_once old m n request x y a b)
 
 released_once : (old m n : AddressState) (start end : ℕ) (x y : Result (Unit {0}) Error) → Releases old start end x m → Releases old start end y n → (x ≡ y) × (m ≡ n)
 unfolding Releases

@@ -1,7 +1,7 @@
-//! Laws of whole runs: every list of calls of an address allocator, from a new one on.
-ghost use Rattle.vm_allocator.specs.HistoryLaws.{FirstIsLeast, LastIsGreatest, ExactIsNamed, PlacesAnswer, RefusalsChangeNothing, SlotsAreGood, StateDecides, ReleaseUndoes, OrderOfReleasesIsFree};
+//! Laws of whole histories: every list of calls of an address allocator, from a new one on.
+ghost use Rattle.vm_allocator.specs.HistoryLaws.{FirstIsLeast, LastIsGreatest, ExactIsNamed, PlacesAnswer, RefusalsChangeNothing, SlotsAreGood, StateDecides, ReleaseUndoes, OrderOfReleasesIsFree, EveryCallIsAnswered, EveryListHasHistory};
 
-/// Along every run `FirstMatch` gives the least place, `LastMatch` the greatest and `ExactMatch` the
+/// In every history `FirstMatch` gives the least place, `LastMatch` the greatest and `ExactMatch` the
 /// named one.
 fn chosen_places_are_given()
     ensures first { FirstIsLeast }
@@ -32,4 +32,11 @@ fn state_decides()
 fn releases_leave_no_trace()
     ensures undone { ReleaseUndoes }
     ensures order { OrderOfReleasesIsFree }
+{}
+
+/// Every call has an answer in every state, and so every list of calls a history.
+#[tactic(auto, using(crate::proofs::EveryCall::answers))]
+fn every_call_is_answered()
+    ensures call { EveryCallIsAnswered }
+    ensures list { EveryListHasHistory }
 {}
