@@ -49,3 +49,4 @@ pub mod Counting
 pub mod Ways
 pub mod CarveWays
 pub mod SearchWays
+pub mod Callers
