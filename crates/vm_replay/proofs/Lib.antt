@@ -5,3 +5,8 @@ pub mod Parts
 pub mod Known
 pub mod Progress
 pub mod OneText
+pub mod Decisions
+pub mod SomeAnswer
+pub mod AddressCalls
+pub mod IdCalls
+pub mod SomeText

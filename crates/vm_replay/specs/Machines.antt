@@ -71,7 +71,9 @@ OnIds old reply new call =
 unfoldable pub Places : Machine → Request → Reply → Machine → Type 0
 Places old request reply new =
     OnSpace old reply new (λ state later.
-    (answer : Result Range Error) × Allocates state request.size request.align request.policy answer later × (reply ≡ given_or_refused answer))
+    (answer : Result Range Error)
+    × Allocates state request.size request.align request.policy answer later
+    × (reply ≡ given_or_refused answer))
 
 -- the release of what is to be a range
 unfoldable pub Releases : AddressState → ℕ → ℕ → Result (Unit {0}) Error → AddressState → Type 0
@@ -84,16 +86,24 @@ Releases old start end answer new =
 unfoldable pub Does : Machine → Option Command → Reply → Machine → Type 0
 Does old None reply new = (reply ≡ NotInLanguage) × (new ≡ old)
 Does old (Some (Space base size)) reply new =
-    (answer : Result AddressState Error) × Makes base size answer × (reply ≡ done_or_refused answer) × (new ≡ with_space old answer)
-Does old (Some (First size alignment)) reply new = Places old (record { size = size; align = alignment; policy = FirstMatch }) reply new
-Does old (Some (Last size alignment)) reply new = Places old (record { size = size; align = alignment; policy = LastMatch }) reply new
+    (answer : Result AddressState Error)
+    × Makes base size answer
+    × (reply ≡ done_or_refused answer)
+    × (new ≡ with_space old answer)
+Does old (Some (First size alignment)) reply new =
+    Places old (record { size = size; align = alignment; policy = FirstMatch }) reply new
+Does old (Some (Last size alignment)) reply new =
+    Places old (record { size = size; align = alignment; policy = LastMatch }) reply new
 Does old (Some (Exact size alignment start)) reply new =
     Places old (record { size = size; align = alignment; policy = ExactMatch start }) reply new
 Does old (Some (Free start end)) reply new =
     OnSpace old reply new (λ state later.
     (answer : Result (Unit {0}) Error) × Releases state start end answer later × (reply ≡ done_or_refused answer))
 Does old (Some (Ids range_base range_end)) reply new =
-    (answer : Result IdState Error) × MakesIds range_base range_end answer × (reply ≡ done_or_refused answer) × (new ≡ with_ids old answer)
+    (answer : Result IdState Error)
+    × MakesIds range_base range_end answer
+    × (reply ≡ done_or_refused answer)
+    × (new ≡ with_ids old answer)
 Does old (Some Id) reply new =
     OnIds old reply new (λ state later.
     (answer : Result ℕ Error) × AllocatesId state answer later × (reply ≡ id_or_refused answer))

@@ -10,7 +10,10 @@ use Rattle.vm_replay.specs.declared.reply.Reply.{Reply}
 abbrev pub AreAnswered : Machine → List (List ℕ) → List ℕ → Machine → Type 0
 AreAnswered old [] text new = (text ≡ []) × (new ≡ old)
 AreAnswered old (line ∷ lines) text new =
-    (reply : Reply) × (mid : Machine) × (rest : List ℕ) × Does old (command_of line) reply mid × AreAnswered mid lines rest new × (text ≡ text_of reply ++ newline ∷ rest)
+    (reply : Reply) × (mid : Machine) × (rest : List ℕ)
+    × Does old (command_of line) reply mid
+    × AreAnswered mid lines rest new
+    × (text ≡ text_of reply ++ newline ∷ rest)
 
 -- the lines may be answered by this text, from the start
 abbrev pub MayAnswer : List (List ℕ) → List ℕ → Type 0
@@ -30,4 +33,7 @@ AnswersInput left_old left_new written_old written_new =
 -- Of what was read, the lines that a newline ended are answered, and nothing else was written.
 abbrev pub AnswersEndedLines : Option (List ℕ) → Option (List ℕ) → Option (List ℕ) → Option (List ℕ) → Type 0
 AnswersEndedLines left_old left_new written_old written_new =
-    IfSome left_old (λ input. (front : List ℕ) × (rest : List ℕ) × (input ≡ front ++ rest) × (left_new ≡ Some rest) × GainsAnswers (ended_lines_of front) written_old written_new)
+    IfSome left_old (λ input. (front : List ℕ) × (rest : List ℕ)
+    × (input ≡ front ++ rest)
+    × (left_new ≡ Some rest)
+    × GainsAnswers (ended_lines_of front) written_old written_new)

@@ -40,7 +40,10 @@ has_begun (Some line) = nat_lt 0 (length line)
 -- the line ends, and is answered by this text
 abbrev pub Ends : Session → List ℕ → Session → Type 0
 Ends old text new =
-    (reply : Reply) × Does old.machine (asked_by old.line) reply new.machine × (new.line ≡ Some []) × (text ≡ text_of reply ++ newline ∷ [])
+    (reply : Reply)
+    × Does old.machine (asked_by old.line) reply new.machine
+    × (new.line ≡ Some [])
+    × (text ≡ text_of reply ++ newline ∷ [])
 
 -- the byte comes, and this text is written
 abbrev pub Feed : Session → ℕ → List ℕ → Session → Type 0
@@ -51,7 +54,10 @@ Feed old byte text new =
 abbrev pub Feeds : Session → List ℕ → List ℕ → Session → Type 0
 Feeds old [] text new = (text ≡ []) × (new ≡ old)
 Feeds old (byte ∷ bytes) text new =
-    (mid : Session) × (first : List ℕ) × (rest : List ℕ) × Feed old byte first mid × Feeds mid bytes rest new × (text ≡ first ++ rest)
+    (mid : Session) × (first : List ℕ) × (rest : List ℕ)
+    × Feed old byte first mid
+    × Feeds mid bytes rest new
+    × (text ≡ first ++ rest)
 
 -- the input ends, and this text is written
 abbrev pub Finishes : Session → List ℕ → Type 0

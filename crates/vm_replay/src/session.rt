@@ -27,7 +27,10 @@ impl Model for Session {
 
     ghost coded = { session_code };
 
-    ghost view = { λ a. record { machine = a.machine; line = if a.is_too_long then None else Some (take a.filled a.line) } };
+    ghost view = { λ a. record {
+      machine = a.machine;
+      line = if a.is_too_long then None else Some (take a.filled a.line);
+    } };
 
     ghost invariant = { λ a. (a.filled ≤ LONGEST_LINE) × (length a.line ≡ LONGEST_LINE) };
 }
