@@ -1,9 +1,9 @@
--- Lines have one text and leave one machine, want of memory and many held ranges aside.
+-- Lines have one text and leave one machine, where memory suffices and few ranges are held.
 use Rattle.std.proofs.Common.{◌≡◌, ◌≢◌, ℕ, ◌<◌, ◌↔◌, Bool, true, false, List, [], ◌∷◌, ◌++◌, length, refl, sym, ap, ◌∙◌, subst, arith, inl, inr, ⊎_elim, Option, Some, None, Result, Err}
 use Rattle.std.specs.Prelude.{IfSome, IsTrue, MatchOption}
 use Rattle.vm_allocator.specs.Range.{Range}
 use Rattle.vm_allocator.specs.Address.{AddressState}
-use Rattle.vm_allocator.specs.Request.{Request, request_for}
+use Rattle.vm_allocator.specs.Request.{Request}
 use Rattle.vm_allocator.specs.Answer.{FEWEST_TOO_DEEP, IsSplitRefusal, Allocates, Makes}
 use Rattle.vm_allocator.specs.Ids.{IdState, IsHeld}
 use Rattle.vm_allocator.specs.declared.constraint.AllocPolicy.{AllocPolicy}
@@ -17,7 +17,7 @@ use Rattle.vm_replay.specs.Commands.{command_of}
 use Rattle.vm_replay.specs.Lines.{newline}
 use Rattle.vm_replay.specs.Machines.{Machine, start, with_space, with_ids, OnSpace, OnIds, Places, Releases, Does}
 use Rattle.vm_replay.specs.Replies.{text_of, done_or_refused, given_or_refused, id_or_refused}
-use Rattle.vm_replay.specs.Laws.{HoldsFew, PlainRun, OneText}
+use Rattle.vm_replay.specs.Laws.{HoldsFew, AreAnsweredAmply, OneText}
 use Rattle.vm_replay.specs.declared.command.Command.{Command}
 use Rattle.vm_replay.specs.declared.command.Command.TheVariants.{Space, First, Last, Exact, Free, Ids, Id, Unid, Has}
 use Rattle.vm_replay.specs.declared.reply.Reply.{Reply}
@@ -25,7 +25,7 @@ use Rattle.vm_replay.specs.declared.reply.Reply.TheVariants.{Held, Refused, NoSp
 
 -- Answers.
 
--- an answer of want of memory is told
+-- an answer that memory ran out is told
 not_memory : {A : Type 0} (tell : Result A Error → Reply) (reply : Reply) (answer : Result A Error) → tell (Err OutOfMemory) ≡ Refused OutOfMemory → reply ≡ tell answer → reply ≢ Refused OutOfMemory → answer ≢ Err OutOfMemory
 not_memory tell reply answer told is plain e = plain (is ∙ ap tell e ∙ told)
 
@@ -63,7 +63,7 @@ told_once state id true false p q = absurd (cc (q.1 (p.0 refl)))
 told_once state id false true p q = absurd (cc (p.1 (q.0 refl)))
 told_once state id false false p q = refl
 
--- Lines.
+-- One line.
 
 -- one reply and one machine
 abbrev Agree : Reply → Machine → Reply → Machine → Type 0
@@ -87,11 +87,11 @@ unfolding OnIds
 on_ids_once old m n x y call other once a b =
     part_once old.ids (λ s. record old { ids = Some s }) old m n NoIds x y call other (λ state later after e p q. once state later after p q) a b
 
-places_once : (old m n : Machine) (size alignment : ℕ) (policy : AllocPolicy) (x y : Reply) → HoldsFew old → x ≢ Refused OutOfMemory → y ≢ Refused OutOfMemory → Places old size alignment policy x m → Places old size alignment policy y n → Agree x m y n
+places_once : (old m n : Machine) (request : Request) (x y : Reply) → HoldsFew old → x ≢ Refused OutOfMemory → y ≢ Refused OutOfMemory → Places old request x m → Places old request y n → Agree x m y n
 unfolding Places
-places_once old m n size alignment policy x y few p q a b =
+places_once old m n request x y few p q a b =
     on_space_once old m n x y _ _ few (λ state later after f u v.
-    let same = placed_once state later after (request_for size alignment policy) u.0 v.0 f (not_memory given_or_refused x u.0 refl u.2 p) (not_memory given_or_refused y v.0 refl v.2 q) u.1 v.1 in
+    let same = placed_once state later after request u.0 v.0 f (not_memory given_or_refused x u.0 refl u.2 p) (not_memory given_or_refused y v.0 refl v.2 q) u.1 v.1 in
     (same_told given_or_refused x y u.0 v.0 u.2 v.2 same.0, same.1)) a b
 
 -- a line has one reply and leaves one machine
@@ -101,9 +101,9 @@ does_once None old m n x y few p q a b = (a.0 ∙ sym b.0, a.1 ∙ sym b.1)
 does_once (Some (Space base size)) old m n x y few p q a b =
     let e = made_once base size a.0 b.0 (not_memory done_or_refused x a.0 refl a.2 p) (not_memory done_or_refused y b.0 refl b.2 q) a.1 b.1 in
     (same_told done_or_refused x y a.0 b.0 a.2 b.2 e, a.3 ∙ ap (with_space old) e ∙ sym b.3)
-does_once (Some (First size alignment)) old m n x y few p q a b = places_once old m n size alignment FirstMatch x y few p q a b
-does_once (Some (Last size alignment)) old m n x y few p q a b = places_once old m n size alignment LastMatch x y few p q a b
-does_once (Some (Exact size alignment start)) old m n x y few p q a b = places_once old m n size alignment (ExactMatch start) x y few p q a b
+does_once (Some (First size alignment)) old m n x y few p q a b = places_once old m n (record { size = size; align = alignment; policy = FirstMatch }) x y few p q a b
+does_once (Some (Last size alignment)) old m n x y few p q a b = places_once old m n (record { size = size; align = alignment; policy = LastMatch }) x y few p q a b
+does_once (Some (Exact size alignment start)) old m n x y few p q a b = places_once old m n (record { size = size; align = alignment; policy = ExactMatch start }) x y few p q a b
 does_once (Some (Free start end)) old m n x y few p q a b =
     on_space_once old m n x y _ _ few (λ state later after f u v.
     let same = released_once state later after start end u.0 v.0 u.1 v.1 in
@@ -123,17 +123,17 @@ does_once (Some (Has id)) old m n x y few p q a b =
     on_ids_once old m n x y _ _ (λ state later after u v.
     (u.2 ∙ ap Held (told_once state id u.0 v.0 u.1 v.1) ∙ sym v.2, u.3 ∙ sym v.3)) a b
 
--- Runs.
+-- Lines one after the other.
 
 -- from any machine such lines have one text, and leave one machine
-runs_once : (lines : List (List ℕ)) (old new end : Machine) (text other : List ℕ) → PlainRun old lines text new → PlainRun old lines other end → (text ≡ other) × (new ≡ end)
-runs_once [] old new end text other a b = (a.0 ∙ sym b.0, a.1 ∙ sym b.1)
-runs_once (line ∷ lines) old new end text other a b =
+answered_once : (lines : List (List ℕ)) (old new end : Machine) (text other : List ℕ) → AreAnsweredAmply old lines text new → AreAnsweredAmply old lines other end → (text ≡ other) × (new ≡ end)
+answered_once [] old new end text other a b = (a.0 ∙ sym b.0, a.1 ∙ sym b.1)
+answered_once (line ∷ lines) old new end text other a b =
     let same = does_once (command_of line) old a.1 b.1 a.0 b.0 a.5 a.4 b.4 a.3 b.3 in
-    let after = runs_once lines b.1 new end a.2 b.2 (subst (λ (m : Machine). PlainRun m lines a.2 new) same.1 a.6) b.6 in
+    let after = answered_once lines b.1 new end a.2 b.2 (subst (λ (m : Machine). AreAnsweredAmply m lines a.2 new) same.1 a.6) b.6 in
     let told : text_of a.0 ++ newline ∷ a.2 ≡ text_of b.0 ++ newline ∷ b.2 = cc in
     (a.7 ∙ told ∙ sym b.7, after.1)
 
 pub one_text : OneText
 unfolding OneText
-one_text lines text other new end a b = runs_once lines start new end text other a b
+one_text lines text other new end a b = answered_once lines start new end text other a b
