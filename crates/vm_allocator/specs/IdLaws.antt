@@ -1,6 +1,6 @@
 -- Laws of ids, which follow from the definitions alone.
 use Rattle.std.specs.Prelude.{◌≡◌, ◌≢◌, ℕ, ◌≤◌, ◌⊎◌, ◌↔◌, Result, Ok, Err}
-use Rattle.vm_allocator.specs.Ids.{MAX_ID, IdState, IsHandedOut, IsHeld, IsIdState, MakesIds, AllocatesId, PeeksId, FreesId}
+use Rattle.vm_allocator.specs.Ids.{MAX_ID, IdState, IsHandedOut, IsHeld, IsIdState, holding_id, MakesIds, AllocatesId, PeeksId, FreesId}
 use Rattle.vm_allocator.specs.declared.error.Error.{Error}
 use Rattle.vm_allocator.specs.declared.error.Error.TheVariants.{OutOfMemory}
 
@@ -13,9 +13,10 @@ abbrev pub AllocatingIsDetermined : Type 0
 AllocatingIsDetermined =
     (old new other : IdState) (r s : Result ℕ Error) → AllocatesId old r new → AllocatesId old s other → (r ≡ s) × (new ≡ other)
 
--- what is foretold is what a request gets
-abbrev pub PeekingForetells : Type 0
-PeekingForetells = (old new : IdState) (r s : Result ℕ Error) → PeeksId old r → AllocatesId old s new → r ≡ s
+-- what is foretold is what a request gets, and an id that is foretold is held from then on
+pub record PeekingForetells : Type 0 where
+  pub answer : (old new : IdState) (peeked answer : Result ℕ Error) → PeeksId old peeked → AllocatesId old answer new → peeked ≡ answer
+  pub held : (old new : IdState) (id : ℕ) (answer : Result ℕ Error) → PeeksId old (Ok id) → AllocatesId old answer new → (answer ≡ Ok id) × (new ≡ holding_id id old)
 
 -- where memory suffices, giving an id back twice from one state gets the same answer and leaves the same state
 abbrev pub FreeingIsDetermined : Type 0

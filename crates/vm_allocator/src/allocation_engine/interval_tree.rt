@@ -1,5 +1,6 @@
 ghost use Rattle.std.specs.Prelude.{◌≡◌, ◌≢◌, Err, ◌+◌, ◌*◌, ◌<◌, ◌≤◌, [], OnErr, IfOk, IfErr, IfSome, IsSome, MatchResult, MatchBool, OnOk, Some};
 ghost use Rattle.vm_allocator.specs.Range.{MAX, IsRange};
+ghost use Rattle.vm_allocator.specs.Address.{IsAddressState};
 ghost use Rattle.vm_allocator.specs.Answer.{Takes, Settles, Frees};
 ghost use Rattle.vm_allocator.specs.BlockEdits.{free_block, IsTakenFrom, HasRoom, LeavesPart, before_part, after_part};
 ghost use Rattle.vm_allocator.specs.Shape.{blocks, height_of, node_count, single, root_block, IsTree};
@@ -76,7 +77,8 @@ impl IntervalTree {
     /// one node.
     #[tactic(auto, using(crate::proofs::SpaceTrees::making))]
     pub fn new(alloc: Global, key: RangeInclusive) -> Result<Self>
-        ensures { MatchResult result (λ tree. tree_state tree ≡ record { space = key; held = [] }) (λ error. error ≡ Error.OutOfMemory) }
+        ensures answer { MatchResult result (λ tree. tree_state tree ≡ record { space = key; held = [] }) (λ error. error ≡ Error.OutOfMemory) }
+        ensures state { IfOk result (λ tree. IsAddressState (tree_state tree)) }
     {
         let _ = key.end();
         let Ok(node) = Box::new(alloc, InnerNode::new(key, NodeState::Free)) else {
@@ -237,12 +239,16 @@ impl IntervalTree {
     /// place `ResourceNotAvailable`, or for `ExactMatch` the first of its faults; `Overflow` where the
     /// range ends at `u64::MAX`; and where a part of its clear run is left, `Overflow` for a tree of
     /// height 48 or more, and `OutOfMemory`. A refusal changes nothing.
+    #[tactic(auto, using(crate::proofs::SpaceTrees::states))]
     pub fn allocate(&mut self, alloc: Global, constraint: Constraint) -> Result<RangeInclusive>
         ensures answer { Settles (tree_state self.old) constraint result (tree_state self.new) }
         ensures unchanged { OnErr result (self.new ≡ self.old) }
+        ensures state { IsAddressState (tree_state self.new) }
         ensures depth { SplitsIfLow (height_of self.old) (tree_state self.old) result }
     {
-        self.allocate_counted(alloc, constraint).0
+        let answer = self.allocate_counted(alloc, constraint).0;
+        let _ = self.height();
+        answer
     }
 
     /// `free`, and how many nodes it entered.
@@ -263,11 +269,15 @@ impl IntervalTree {
 
     /// Gives a held range back, and joins its addresses with the clear ones on both sides. Any other
     /// range is `ResourceNotAvailable`. It takes no memory, and a refusal changes nothing.
+    #[tactic(auto, using(crate::proofs::SpaceTrees::states))]
     pub fn free(&mut self, key: &RangeInclusive) -> Result<()>
         ensures answer { Frees (tree_state self.old) key.now result (tree_state self.new) }
         ensures unchanged { OnErr result (self.new ≡ self.old) }
+        ensures state { IsAddressState (tree_state self.new) }
     {
-        self.free_counted(key).0
+        let answer = self.free_counted(key).0;
+        let _ = self.height();
+        answer
     }
 }
 
