@@ -34,10 +34,24 @@ unfolding AllocatesId
 allocating_is_determined old new other r s a b =
     by_same_least old _ _ _ _ ((r ≡ s) × (new ≡ other)) a b (λ i x y. (x.0 ∙ sym y.0, x.1 ∙ sym y.1)) (λ e x y. (x.0 ∙ sym y.0, x.1 ∙ sym y.1))
 
-pub peeking_foretells : PeekingForetells
+peeked_is_given : (old new : IdState) (peeked answer : Result ℕ Error) → PeeksId old peeked → AllocatesId old answer new → peeked ≡ answer
 unfolding PeeksId AllocatesId
-peeking_foretells old new r s a b =
-    by_same_least old _ _ _ _ (r ≡ s) a b (λ i x y. x ∙ sym y.0) (λ e x y. x ∙ sym y.0)
+peeked_is_given old new peeked answer a b =
+    by_same_least old _ _ _ _ (peeked ≡ answer) a b (λ i x y. x ∙ sym y.0) (λ e x y. x ∙ sym y.0)
+
+given_id_is_held : (old new : IdState) (id : ℕ) → AllocatesId old (Ok id) new → new ≡ holding_id id old
+unfolding AllocatesId ByLeastNotHeld
+given_id_is_held old new id (inl a) = let same : a.0 ≡ id = cc (a.2.0) in a.2.1 ∙ ap (λ (i : ℕ). holding_id i old) same
+given_id_is_held old new id (inr (_, inl a)) = absurd (cc (a.1.0))
+given_id_is_held old new id (inr (_, inr a)) = absurd (cc (a.1.0))
+
+pub peeking_foretells : PeekingForetells
+peeking_foretells = record {
+  answer = peeked_is_given;
+  held = λ old new id answer a b.
+      let same = peeked_is_given old new (Ok id) answer a b in
+      (sym same, given_id_is_held old new id (subst (λ (v : Result ℕ Error). AllocatesId old v new) (sym same) b));
+}
 
 one_gives_back : (old : IdState) (id : ℕ) (r s : Result ℕ Error) (new other : IdState) → r ≢ Err OutOfMemory → s ≢ Err OutOfMemory → ((r ≡ Ok id) × (new ≡ releasing_id id old)) ⊎ ((r ≡ Err OutOfMemory) × (new ≡ old)) → ((s ≡ Ok id) × (other ≡ releasing_id id old)) ⊎ ((s ≡ Err OutOfMemory) × (other ≡ old)) → (r ≡ s) × (new ≡ other)
 one_gives_back old id r s new other m n (inl x) (inl y) = (x.0 ∙ sym y.0, x.1 ∙ sym y.1)

@@ -3,15 +3,17 @@ use Rattle.std.proofs.Common.{◌≡◌, ℕ, ◌+◌, ◌*◌, ◌≤◌, List,
 use Rattle.std.specs.Global.{Box}
 use Rattle.vm_allocator.specs.Range.{Range, MAX, IsRange}
 use Rattle.vm_allocator.specs.Block.{Block}
+use Rattle.vm_allocator.specs.Address.{IsAddressState}
 use Rattle.vm_allocator.specs.Blocks.{Tiles, TilesSpace, IsTiling}
 use Rattle.vm_allocator.specs.Shape.{Shape, Tip, blocks, height_of, node_count, single}
 use Rattle.vm_allocator.specs.NodeFields.{side}
 use Rattle.vm_allocator.specs.declared.allocation_engine.node.InnerNode.{InnerNode}
-use Rattle.vm_allocator.specs.SpaceTree.{last_end, space_of, IsSpaceTree}
+use Rattle.vm_allocator.specs.SpaceTree.{last_end, space_of, tree_state, IsSpaceTree}
 use Rattle.vm_allocator.specs.declared.allocation_engine.NodeState.{NodeState}
 use Rattle.vm_allocator.specs.declared.allocation_engine.NodeState.TheVariants.{Free}
 use Rattle.vm_allocator.proofs.Unique.{same_range}
 use Rattle.vm_allocator.proofs.FewestNodes.{most_nodes, power_grows}
+use Rattle.vm_allocator.proofs.Freeing.{is_state}
 
 -- blocks that follow one another end where the space ends
 last_tile : (p : NodeState) (lo hi : ℕ) (bs : List Block) → Tiles p (lo + 1) bs hi → last_end lo bs ≡ hi
@@ -38,7 +40,16 @@ pub tree_of_space : (k : Range) → IsRange k.start k.end → IsSpaceTree (singl
 unfolding TilesSpace
 tree_of_space k r = space_tree k (single (record { key = k; state = Free })) (record { tiles = (refl, r.0, tt, refl); below = tt }) r (omega arith)
 
-pub ruleset making = (tree_of_space)
+-- its state is one of an allocator
+pub state_of_tree : (s : Shape) → IsSpaceTree s → IsAddressState (tree_state s)
+state_of_tree s h = is_state (space_of (blocks s)) (blocks s) h.tiling h.space
+
+pub ruleset states = (state_of_tree)
+
+pub state_made : (s : Shape) (k : Range) → IsRange k.start k.end → tree_state s ≡ record { space = k; held = [] } → IsAddressState (tree_state s)
+state_made s k r e = subst IsAddressState (sym e) (record { space = r; slots = tt })
+
+pub ruleset making = (tree_of_space, state_made)
 
 pub no_empty_tree : IsSpaceTree Tip → ⊥
 unfolding TilesSpace

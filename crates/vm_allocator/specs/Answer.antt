@@ -17,8 +17,8 @@ IsChosen request state s =
     (IsGreatestPlace request.size request.align state s)
     (λ start. (s ≡ start) × IsPlace request.size request.align state s)
 
--- The faults of a request for n addresses from the start t on, by the first that applies: the start is MAX; it is outside
--- the space; the range passes MAX; the range is a held one; an address of it is not clear; it ends at MAX.
+-- The faults of a request for n addresses from the start t on, by the first that applies: the start is MAX; it is
+-- outside the space; the range passes MAX; the range is a held one; an address of it is not clear; it ends at MAX.
 unfoldable pub ByStart : ℕ → ℕ → AddressState → (Error → Type 0) → Type 0 → Type 0
 ByStart t n state refused otherwise =
     IfElse (t ≡ MAX) (refused Overflow) (
@@ -33,7 +33,8 @@ unfoldable pub ByExactStart : Request → AddressState → (Error → Type 0) �
 ByExactStart request state refused otherwise =
     ByPolicy request.policy otherwise otherwise (λ start. ByStart start request.size state refused otherwise)
 
--- where there is no place the request is refused, and else the range at the chosen place is taken, unless it ends at MAX
+-- where there is no place the request is refused, and else the range at the chosen place is taken, or refused if it
+-- ends at MAX
 unfoldable pub ByPlace : Request → AddressState → (Error → Type 0) → (Range → Type 0) → Type 0
 ByPlace request state refused takes =
     (((s : ℕ) → ¬ IsPlace request.size request.align state s) × refused ResourceNotAvailable)
@@ -44,10 +45,11 @@ ByPlace request state refused takes =
 abbrev pub FEWEST_TOO_DEEP : ℕ
 FEWEST_TOO_DEEP = 6_293_134_512
 
--- a split is refused although there is a place: for memory, or, where so many ranges are held that a tree of them may be
--- too deep, for depth
+-- a split is refused although there is a place: for memory, or, where so many ranges are held that a tree of them may
+-- be too deep, for depth
 abbrev pub IsSplitRefusal : AddressState → Result Range Error → Type 0
-IsSplitRefusal old answer = (answer ≡ Err OutOfMemory) ⊎ ((FEWEST_TOO_DEEP ≤ length old.held) × (answer ≡ Err Overflow))
+IsSplitRefusal old answer =
+    (answer ≡ Err OutOfMemory) ⊎ ((FEWEST_TOO_DEEP ≤ length old.held) × (answer ≡ Err Overflow))
 
 -- the range is held from now on; only where holding it splits its gap may it be refused, with nothing changed
 unfoldable pub Takes : AddressState → Range → Result Range Error → AddressState → Type 0

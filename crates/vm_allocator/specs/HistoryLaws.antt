@@ -34,26 +34,31 @@ ExactIsNamed =
     Allocates old.state (request_for size align (ExactMatch start)) (Ok r) new →
     IsPlace size align old.state start × (r ≡ span start size)
 
--- A request for the n addresses from the start t on is refused for each of these, in this order: the start is MAX; it is
--- outside the space; the range passes MAX; the range is a held one; an address of it is not clear; it ends at MAX.
+-- A request for the n addresses from the start t on is refused for the first of these: the start is MAX; it is outside
+-- the space; the range passes MAX; the range is a held one; an address of it is not clear; it ends at MAX.
 pub record IsRefusedInOrder (old : AddressState) (t n : ℕ) (answer : Result Range Error) : Type 0 where
   pub start_is_max : t ≡ MAX → answer ≡ Err Overflow
   pub start_is_outside : t ≢ MAX → ¬ IsIn old.space t → answer ≡ Err ResourceNotAvailable
   pub passes_max : t ≢ MAX → IsIn old.space t → MAX < t + n - 1 → answer ≡ Err Overflow
   pub is_held : Contains old.held (span t n) → answer ≡ Err (InvalidStateTransition (span t n) Allocated)
-  pub is_not_clear : t ≢ MAX → IsIn old.space t → t + n - 1 ≤ MAX → ¬ Contains old.held (span t n) → ¬ AreClear n old t → answer ≡ Err ResourceNotAvailable
+  pub is_not_clear : t ≢ MAX → IsIn old.space t → t + n - 1 ≤ MAX → ¬ Contains old.held (span t n) →
+      ¬ AreClear n old t → answer ≡ Err ResourceNotAvailable
   pub ends_at_max : AreClear n old t → t + n - 1 ≡ MAX → answer ≡ Err Overflow
 
--- A request that makes sense is answered by the places: the range at the chosen place is taken if it ends below MAX, and
--- refused if it ends there; where there is no place the request is refused, and a named start by the first of its faults.
-pub record IsAnsweredByPlaces (old : AddressState) (request : Request) (answer : Result Range Error) (new : AddressState) : Type 0 where
-  pub taken : (s : ℕ) → IsChosen request old s → s + request.size - 1 < MAX → Takes old (span s request.size) answer new
+-- A request that makes sense is answered by the places: the range at the chosen place is taken if it ends below MAX,
+-- and refused if it ends there; where there is no place the request is refused, and a named start for its first fault.
+pub record IsAnsweredByPlaces (old : AddressState) (request : Request)
+    (answer : Result Range Error) (new : AddressState) : Type 0 where
+  pub taken : (s : ℕ) → IsChosen request old s → s + request.size - 1 < MAX →
+      Takes old (span s request.size) answer new
   pub at_max : (s : ℕ) → IsChosen request old s → s + request.size - 1 ≡ MAX → answer ≡ Err Overflow
-  pub no_place : (request.policy ≡ FirstMatch) ⊎ (request.policy ≡ LastMatch) → ((s : ℕ) → ¬ IsPlace request.size request.align old s) → answer ≡ Err ResourceNotAvailable
+  pub no_place : (request.policy ≡ FirstMatch) ⊎ (request.policy ≡ LastMatch) →
+      ((s : ℕ) → ¬ IsPlace request.size request.align old s) → answer ≡ Err ResourceNotAvailable
   pub named : (t : ℕ) → request.policy ≡ ExactMatch t → IsRefusedInOrder old t request.size answer
 
 -- so is each request; one that makes no sense is refused as its constraint is, and what is given is the chosen place
-pub record IsAnswered (old : AddressState) (request : Request) (answer : Result Range Error) (new : AddressState) : Type 0 where
+pub record IsAnswered (old : AddressState) (request : Request)
+    (answer : Result Range Error) (new : AddressState) : Type 0 where
   pub senseless : (e : Error) → MakesConstraint request (Err e) → answer ≡ Err e
   pub sensible : IsRequest request → IsAnsweredByPlaces old request answer new
   pub given : (r : Range) → answer ≡ Ok r → IsChosen request old r.start × (r ≡ span r.start request.size)
@@ -66,8 +71,10 @@ PlacesAnswer =
 
 -- a refusal changes nothing
 pub record RefusalsChangeNothing : Type 0 where
-  pub allocation : (old : Reached) (new : AddressState) (request : Request) (e : Error) → Allocates old.state request (Err e) new → new ≡ old.state
-  pub release : (old : Reached) (new : AddressState) (r : Range) (e : Error) → Frees old.state r (Err e) new → new ≡ old.state
+  pub allocation : (old : Reached) (new : AddressState) (request : Request) (e : Error) →
+      Allocates old.state request (Err e) new → new ≡ old.state
+  pub release : (old : Reached) (new : AddressState) (r : Range) (e : Error) →
+      Frees old.state r (Err e) new → new ≡ old.state
 
 -- in each state the held ranges lie apart, and each was given as it was asked for
 pub record SlotsAreGood : Type 0 where
@@ -83,9 +90,12 @@ pub record AreAlike (first second : AddressState) : Type 0 where
 -- whatever led there, the space and the held ranges alone decide the answer to a call and the state after it, a split
 -- that is refused aside
 pub record StateDecides : Type 0 where
-  pub allocation : (first second : Reached) (new later : AddressState) (request : Request) (answer other : Result Range Error) → AreAlike first.state second.state →
-      Allocates first.state request answer new → Allocates second.state request other later → AgreeButForSplits first.state answer new other later
-  pub release : (first second : Reached) (new later : AddressState) (r : Range) (answer other : Result (Unit {0}) Error) → AreAlike first.state second.state →
+  pub allocation : (first second : Reached) (new later : AddressState) (request : Request)
+      (answer other : Result Range Error) → AreAlike first.state second.state →
+      Allocates first.state request answer new → Allocates second.state request other later →
+      AgreeButForSplits first.state answer new other later
+  pub release : (first second : Reached) (new later : AddressState) (r : Range)
+      (answer other : Result (Unit {0}) Error) → AreAlike first.state second.state →
       Frees first.state r answer new → Frees second.state r other later → (answer ≡ other) × (new ≡ later)
 
 -- giving back what was just given succeeds, and leaves the state from before
@@ -98,14 +108,19 @@ ReleaseUndoes =
 pub record OrderOfReleasesIsFree : Type 0 where
   pub succeeds : (old : Reached) (new : AddressState) (rs qs : List Range) → IsPermutation rs qs →
       IsHistoryFrom old.state (releases rs) new → IsHistoryFrom old.state (releases qs) new
-  pub same : (old : Reached) (first second : AddressState) (rs qs : List Range) → ((r : Range) → Contains rs r ↔ Contains qs r) →
+  pub same : (old : Reached) (first second : AddressState) (rs qs : List Range) →
+      ((r : Range) → Contains rs r ↔ Contains qs r) →
       IsHistoryFrom old.state (releases rs) first → IsHistoryFrom old.state (releases qs) second → first ≡ second
 
 -- in every state each call has an answer, and one other than out of memory
 pub record EveryCallIsAnswered : Type 0 where
-  pub made : (base size : ℕ) → (answer : Result AddressState Error) × Makes base size answer × (answer ≢ Err OutOfMemory)
-  pub allocated : (old : AddressState) (request : Request) → (answer : Result Range Error) × (new : AddressState) × Allocates old request answer new × (answer ≢ Err OutOfMemory)
-  pub freed : (old : AddressState) (r : Range) → (answer : Result (Unit {0}) Error) × (new : AddressState) × Frees old r answer new
+  pub made : (base size : ℕ) →
+      (answer : Result AddressState Error) × Makes base size answer × (answer ≢ Err OutOfMemory)
+  pub allocated : (old : AddressState) (request : Request) →
+      (answer : Result Range Error) × (new : AddressState) ×
+      Allocates old request answer new × (answer ≢ Err OutOfMemory)
+  pub freed : (old : AddressState) (r : Range) →
+      (answer : Result (Unit {0}) Error) × (new : AddressState) × Frees old r answer new
 
 -- so whatever is asked, one after the other, has a history, and one in which no request runs out of memory
 abbrev pub EveryListHasHistory : Type 0

@@ -16,7 +16,8 @@ EachIsLeastNotHeld =
 unfoldable pub NoIdIsHeldTwice : Type 0
 NoIdIsHeldTwice =
     (before between : List IdCall) (state : IdState) (id : ℕ) →
-    AreIdsReached (before ++ Allocation (Ok id) ∷ (between ++ Allocation (Ok id) ∷ [])) state → Contains between (Release id (Ok id))
+    AreIdsReached (before ++ Allocation (Ok id) ∷ (between ++ Allocation (Ok id) ∷ [])) state →
+    Contains between (Release id (Ok id))
 
 -- an id is held exactly if it was given out and not given back since
 abbrev pub HeldIsOut : Type 0
@@ -33,7 +34,8 @@ pub record EveryIdCallIsAnswered : Type 0 where
   pub made : (lo hi : ℕ) → (answer : Result IdState Error) × MakesIds lo hi answer
   pub allocated : (old : IdState) → (answer : Result ℕ Error) × (new : IdState) × AllocatesId old answer new
   pub peeked : (state : IdState) → (answer : Result ℕ Error) × PeeksId state answer
-  pub freed : (old : IdState) (id : ℕ) → (answer : Result ℕ Error) × (new : IdState) × FreesId old id answer new × (answer ≢ Err OutOfMemory)
+  pub freed : (old : IdState) (id : ℕ) →
+      (answer : Result ℕ Error) × (new : IdState) × FreesId old id answer new × (answer ≢ Err OutOfMemory)
 
 -- so whatever is asked, one after the other, has a history, and one in which no call runs out of memory
 abbrev pub EveryIdListHasHistory : Type 0

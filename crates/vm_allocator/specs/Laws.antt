@@ -9,7 +9,8 @@ use Rattle.vm_allocator.specs.declared.error.Error.{Error}
 
 -- two answers and the states that they leave come from one range, which leaves a clear address beside it: each is the
 -- range taken or a split refused, and one of them at least is refused
-pub record DifferBySplit (old : AddressState) (answer : Result Range Error) (new : AddressState) (other : Result Range Error) (later : AddressState) : Type 0 where
+pub record DifferBySplit (old : AddressState) (answer : Result Range Error) (new : AddressState)
+    (other : Result Range Error) (later : AddressState) : Type 0 where
   pub range : Range
   pub split : LeavesClear old range
   pub first : Takes old range answer new
@@ -17,7 +18,8 @@ pub record DifferBySplit (old : AddressState) (answer : Result Range Error) (new
   pub refused : IsSplitRefusal old answer ⊎ IsSplitRefusal old other
 
 -- two answers and the states that they leave are one, but where a split is refused
-abbrev pub AgreeButForSplits : AddressState → Result Range Error → AddressState → Result Range Error → AddressState → Type 0
+abbrev pub AgreeButForSplits : AddressState →
+    Result Range Error → AddressState → Result Range Error → AddressState → Type 0
 AgreeButForSplits old answer new other later =
     ((answer ≡ other) × (new ≡ later)) ⊎ DifferBySplit old answer new other later
 
@@ -25,7 +27,8 @@ AgreeButForSplits old answer new other later =
 abbrev pub AllocatesOnce : Type 0
 AllocatesOnce =
     (old new later : AddressState) (request : Request) (answer other : Result Range Error) →
-    Allocates old request answer new → Allocates old request other later → AgreeButForSplits old answer new other later
+    Allocates old request answer new → Allocates old request other later →
+    AgreeButForSplits old answer new other later
 
 -- giving a range back has one answer and one next state
 abbrev pub FreesOnce : Type 0
@@ -35,9 +38,12 @@ FreesOnce =
 
 -- a new allocator has the state of one, and each call keeps that
 pub record StateIsKept : Type 0 where
-  pub made : (base size : ℕ) (state : AddressState) → size ≤ MAX → Makes base size (Ok state) → IsAddressState state
-  pub allocated : (old new : AddressState) (request : Request) (answer : Result Range Error) → IsAddressState old → Allocates old request answer new → IsAddressState new
-  pub freed : (old new : AddressState) (r : Range) (answer : Result (Unit {0}) Error) → IsAddressState old → Frees old r answer new → IsAddressState new
+  pub made : (base size : ℕ) (state : AddressState) →
+      size ≤ MAX → Makes base size (Ok state) → IsAddressState state
+  pub allocated : (old new : AddressState) (request : Request) (answer : Result Range Error) →
+      IsAddressState old → Allocates old request answer new → IsAddressState new
+  pub freed : (old new : AddressState) (r : Range) (answer : Result (Unit {0}) Error) →
+      IsAddressState old → Frees old r answer new → IsAddressState new
 
 -- the held ranges have no address in common, lie in the space, and do not contain MAX
 pub record LieApart (state : AddressState) : Type 0 where
@@ -64,15 +70,17 @@ pub record TakesRange (old new : AddressState) (r : Range) : Type 0 where
 -- a request that gets a range adds it
 abbrev pub AllocatingAddsRange : Type 0
 AllocatingAddsRange =
-    (old new : AddressState) (request : Request) (r : Range) → IsAddressState old → Allocates old request (Ok r) new → AddsRange old new r
+    (old new : AddressState) (request : Request) (r : Range) →
+    IsAddressState old → Allocates old request (Ok r) new → AddsRange old new r
 
 -- a range given back is taken away
 abbrev pub FreeingTakesRange : Type 0
 FreeingTakesRange =
-    (old new : AddressState) (r : Range) → IsAddressState old → Frees old r (Ok tt) new → TakesRange old new r
+    (old new : AddressState) (r : Range) →
+    IsAddressState old → Frees old r (Ok tt) new → TakesRange old new r
 
 -- giving back what was just given succeeds, and leaves the state from before
 abbrev pub FreeingUndoes : Type 0
 FreeingUndoes =
-    (old mid new : AddressState) (request : Request) (r : Range) (answer : Result (Unit {0}) Error) → IsAddressState old →
-    Allocates old request (Ok r) mid → Frees mid r answer new → (answer ≡ Ok tt) × (new ≡ old)
+    (old mid new : AddressState) (request : Request) (r : Range) (answer : Result (Unit {0}) Error) →
+    IsAddressState old → Allocates old request (Ok r) mid → Frees mid r answer new → (answer ≡ Ok tt) × (new ≡ old)

@@ -52,7 +52,8 @@ pub record IsChoice (bs : List Block) (choice : Choice) : Type 0 where
 
 -- whatever taking the range comes to is the answer to the request
 unfoldable pub IsSettledBy : AddressState → Request → Range → Type 0
-IsSettledBy old request r = (answer : Result Range Error) (new : AddressState) → Takes old r answer new → Settles old request answer new
+IsSettledBy old request r =
+    (answer : Result Range Error) (new : AddressState) → Takes old r answer new → Settles old request answer new
 
 -- a range to take, from a free block, or the refusal
 unfoldable pub Chooses : Shape → Request → Result Choice Error → Type 0
@@ -76,10 +77,13 @@ pub record Carves (old : List Block) (key range : Range) (new : List Block) : Ty
 -- a free block that is too short, one in which the range ends at MAX, or one to take it from
 unfoldable pub ExactIn : Range → NodeState → ℕ → ℕ → Result Choice Error → Type 0
 ExactIn key Allocated t last answer =
-    IfElse ((key.start ≡ t) × (key.end ≡ last)) (answer ≡ Err (InvalidStateTransition key Allocated)) (answer ≡ Err ResourceNotAvailable)
+    IfElse ((key.start ≡ t) × (key.end ≡ last))
+    (answer ≡ Err (InvalidStateTransition key Allocated))
+    (answer ≡ Err ResourceNotAvailable)
 ExactIn key Free t last answer =
     IfElse (key.end < last) (answer ≡ Err ResourceNotAvailable) (
-    IfElse (last ≡ MAX) (answer ≡ Err Overflow) (answer ≡ Ok (record { key = key; range = record { start = t; end = last } })))
+    IfElse (last ≡ MAX) (answer ≡ Err Overflow)
+    (answer ≡ Ok (record { key = key; range = record { start = t; end = last } })))
 
 -- the most nodes that are entered to find what a policy chooses: all, or for a named start those of one way down
 abbrev pub most_searched : AllocPolicy → Shape → ℕ

@@ -66,7 +66,7 @@ impl AddressAllocator {
     /// `ResourceNotAvailable`, a range that passes `u64::MAX` is `Overflow`, and a range that is held
     /// as it is is `InvalidStateTransition`; no place at all is `ResourceNotAvailable`; a range that
     /// ends at `u64::MAX` is `Overflow`, also where there is another place. Only where the place
-    /// leaves a part of its clear run over come `Overflow` for a tree of height 48 or more, which
+    /// leaves a part of its gap over come `Overflow` for a tree of height 48 or more, which
     /// takes more than 6 * 10^9 held ranges, and `OutOfMemory`. A refusal changes nothing.
     pub fn allocate(
         &mut self,
@@ -78,10 +78,10 @@ impl AddressAllocator {
         ensures answer { Allocates (state_of self.old) (request_for size alignment policy) result (state_of self.new) }
         ensures unchanged { OnErr result (self.new ≡ self.old) }
 
-        // What fills its clear run needs no memory, and succeeds.
+        // What fills its gap needs no memory, and succeeds.
         ensures filling { (s : ℕ) → FillsGap (state_of self.old) (request_for size alignment policy) s → IsOk result }
 
-        // The refusal for depth comes before want of memory.
+        // The refusal for depth comes before out of memory.
         ensures depth { SplitsIfLow (height_of self.old.tree) (state_of self.old) result }
     {
         self.allocate_counted(alloc, size, alignment, policy).0
@@ -90,7 +90,7 @@ impl AddressAllocator {
     /// Does what `allocate` does, and answers besides how many nodes of the tree it entered. With the
     /// height h and k held ranges before, these are at most 8h + 8 for `ExactMatch` and at most
     /// 2k + 1 + 8h + 8 for the other policies, and none where the request makes no sense; a success
-    /// enters one at least, and one that leaves a part of its clear run over h / 2 at least.
+    /// enters one at least, and one that leaves a part of its gap over h / 2 at least.
     #[tactic(auto, using(crate::proofs::Answers::allocating, crate::proofs::Spaces::spaces, crate::proofs::Filling::succeeding, crate::proofs::Counting::allocations))]
     pub fn allocate_counted(
         &mut self,
@@ -103,10 +103,10 @@ impl AddressAllocator {
             (request_for size alignment policy) result.0 (state_of self.new) }
         ensures unchanged { OnErr result.0 (self.new ≡ self.old) }
 
-        // What fills its clear run needs no memory, and succeeds.
+        // What fills its gap needs no memory, and succeeds.
         ensures filling { (s : ℕ) → FillsGap (state_of self.old) (request_for size alignment policy) s → IsOk result.0 }
 
-        // The refusal for depth comes before want of memory.
+        // The refusal for depth comes before out of memory.
         ensures depth { SplitsIfLow (height_of self.old.tree) (state_of self.old) result.0 }
         ensures count { EntersToAllocate self.old.tree (request_for size alignment policy) result.0 result.1 }
         ensures steps { IsAllocationCount (height_of self.old.tree) (state_of self.old)

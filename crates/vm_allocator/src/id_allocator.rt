@@ -77,10 +77,11 @@ impl IdAllocator {
     }
 
     /// What `allocate_id` would answer, its refusals included; nothing is taken.
-    #[tactic(auto, using(crate::proofs::IdLemmas::peeks))]
+    #[tactic(auto, using(crate::proofs::IdLemmas::peeks, crate::proofs::IdLemmas::states))]
     pub fn peek_id(&self) -> Result<u32>
         ensures answer { PeeksId self.now result }
         ensures succeeds { (id : ℕ) → IsNotHeld self.now id → IsOk result }
+        ensures state { IsIdState self.now }
     {
         match self.freed_ids.first() {
             Some(id) => Ok(*id),
@@ -91,7 +92,8 @@ impl IdAllocator {
     /// Whether the id is held. No id outside the range is.
     #[tactic(auto, using(crate::proofs::IdLemmas::holdings))]
     pub fn is_allocated(&self, id: u32) -> bool
-        ensures { IsTrue result ↔ IsHeld self.now id }
+        ensures value { IsTrue result ↔ IsHeld self.now id }
+        ensures state { IsIdState self.now }
     {
         self.was_handed_out(id) && !self.freed_ids.contains(&id)
     }

@@ -1,7 +1,8 @@
 //! The blocks of a space in a balanced tree: which place a request gets (`placing`), how the range
 //! there is held (`holding`), and how a held one is given back (`release`).
-ghost use Rattle.std.specs.Prelude.{◌≡◌, ◌+◌, ◌*◌, ◌≤◌, OnErr};
+ghost use Rattle.std.specs.Prelude.{◌≡◌, ◌+◌, ◌*◌, ◌≤◌, OnErr, IfOk};
 ghost use Rattle.vm_allocator.specs.Range.{MAX};
+ghost use Rattle.vm_allocator.specs.Address.{IsAddressState};
 ghost use Rattle.vm_allocator.specs.Answer.{Settles, Frees};
 ghost use Rattle.vm_allocator.specs.Shape.{height_of, node_count, IsTree};
 ghost use Rattle.vm_allocator.specs.Steps.{Enters, EntersToFree, IsBalancedTreeOf, IsSettlingCount, IsReleaseCount, SplitsIfLow};
@@ -48,7 +49,8 @@ impl IntervalTree {
     /// one node.
     #[tactic(auto, using(crate::proofs::SpaceTrees::making))]
     pub fn new(alloc: Global, key: RangeInclusive) -> Result<Self>
-        ensures { MakesTree key result }
+        ensures answer { MakesTree key result }
+        ensures state { IfOk result (λ tree. IsAddressState (tree_state tree)) }
     {
         let _ = key.end();
         let Ok(node) = Box::new(alloc, InnerNode::new(key, NodeState::Free)) else {
@@ -121,12 +123,16 @@ impl IntervalTree {
     /// place `ResourceNotAvailable`, or for `ExactMatch` the first of its faults; `Overflow` where the
     /// range ends at `u64::MAX`; and where a part of its gap is left, `Overflow` for a tree of height
     /// 48 or more, and `OutOfMemory`. A refusal changes nothing.
+    #[tactic(auto, using(crate::proofs::SpaceTrees::states))]
     pub fn allocate(&mut self, alloc: Global, constraint: Constraint) -> Result<RangeInclusive>
         ensures answer { Settles (tree_state self.old) constraint result (tree_state self.new) }
         ensures unchanged { OnErr result (self.new ≡ self.old) }
+        ensures state { IsAddressState (tree_state self.new) }
         ensures depth { SplitsIfLow (height_of self.old) (tree_state self.old) result }
     {
-        self.allocate_counted(alloc, constraint).0
+        let answer = self.allocate_counted(alloc, constraint).0;
+        let _ = self.height();
+        answer
     }
 
     /// `free`, and how many nodes it entered.
@@ -145,10 +151,14 @@ impl IntervalTree {
 
     /// Gives a held range back, and joins its addresses with the clear ones on both sides. Any other
     /// range is `ResourceNotAvailable`. It takes no memory, and a refusal changes nothing.
+    #[tactic(auto, using(crate::proofs::SpaceTrees::states))]
     pub fn free(&mut self, key: &RangeInclusive) -> Result<()>
         ensures answer { Frees (tree_state self.old) key.now result (tree_state self.new) }
         ensures unchanged { OnErr result (self.new ≡ self.old) }
+        ensures state { IsAddressState (tree_state self.new) }
     {
-        self.free_counted(key).0
+        let answer = self.free_counted(key).0;
+        let _ = self.height();
+        answer
     }
 }

@@ -1,7 +1,7 @@
 //! Laws of ids.
 ghost use Rattle.vm_allocator.specs.IdLaws.{MakingIsDetermined, AllocatingIsDetermined, PeekingForetells, FreeingIsDetermined, FrontIsKept, AllocatingAdds, FreeingTakes};
 
-/// From one state a call has one answer and one next state, want of memory aside.
+/// From one state a call has one answer and one next state, out of memory aside.
 #[tactic(auto, using(crate::proofs::IdAnswers::determined))]
 fn calls_are_determined()
     ensures makes { MakingIsDetermined }
