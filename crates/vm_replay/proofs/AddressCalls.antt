@@ -85,7 +85,8 @@ PlaceGives policy n a old answer new =
     ByPlace policy n a old (λ e. (answer ≡ Err e) × (new ≡ old)) (λ r. Takes old r answer new)
 
 -- a range at the chosen place is taken, unless it ends at MAX
-at_chosen : (policy : AllocPolicy) (n a : ℕ) (old : AddressState) (s : ℕ) → IsChosen policy n a old s → IsAnswered (PlaceGives policy n a old)
+at_chosen : (policy : AllocPolicy) (n a : ℕ) (old : AddressState) (s : ℕ) → IsChosen policy n a old s
+    → IsAnswered (PlaceGives policy n a old)
 unfolding ByPlace Takes
 at_chosen policy n a old s chosen =
     let h = by_if (s + n - 1 ≡ MAX) (λ answer new. (answer ≡ Err Overflow) × (new ≡ old)) (λ answer new. Takes old (span s n) answer new) (decided_eq (s + n - 1) MAX)
@@ -117,7 +118,8 @@ last_answered n a old some =
     (λ none. at_none LastMatch n a old (no_place n a old some none))
     (greatest_below (IsPlace n a old) (decided_place n a old) (old.space.end + 1))
 
-settles_answered : (policy : AllocPolicy) (n a : ℕ) (old : AddressState) → 0 < n → IsStartAligned a policy → IsAnswered (λ answer new. Settles old n a policy answer new)
+settles_answered : (policy : AllocPolicy) (n a : ℕ) (old : AddressState) → 0 < n → IsStartAligned a policy
+    → IsAnswered (λ answer new. Settles old n a policy answer new)
 unfolding Settles ByExactStart IsStartAligned IsChosen IsPlace
 settles_answered FirstMatch n a old some aligned = first_answered n a old some
 settles_answered LastMatch n a old some aligned = last_answered n a old some
@@ -131,7 +133,8 @@ settles_answered (ExactMatch t) n a old some aligned =
     at_chosen (ExactMatch t) n a old t (refl, (aligned, clear))))))))
 
 -- each request has an answer
-pub allocates_answered : (old : AddressState) (request : Request) → IsAnswered (λ answer new. Allocates old request.size request.align request.policy answer new)
+pub allocates_answered : (old : AddressState) (request : Request)
+    → IsAnswered (λ answer new. Allocates old request.size request.align request.policy answer new)
 unfolding Allocates ByConstraint
 allocates_answered old request =
     by_if _ _ _ (decided_eq request.size 0) (λ _. refused old (InvalidSize 0) (λ e. cc)) (λ some.

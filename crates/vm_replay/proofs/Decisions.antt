@@ -38,7 +38,8 @@ decided_eq m n =
     ⊎_elim (λ l. inr (λ e. omega arith)) (λ l. ⊎_elim (λ k. inr (λ e. omega arith)) (λ k. inl (omega arith)) (cases_lt n m)) (cases_lt m n)
 
 -- the least number below a bound that has the fact, or none there has it
-pub least_below : (P : ℕ → Type 0) → ((k : ℕ) → IsDecided (P k)) → (bound : ℕ) → ((s : ℕ) × (s < bound) × P s × ((t : ℕ) → P t → s ≤ t)) ⊎ ((t : ℕ) → t < bound → ¬ P t)
+pub least_below : (P : ℕ → Type 0) → ((k : ℕ) → IsDecided (P k)) → (bound : ℕ)
+    → ((s : ℕ) × (s < bound) × P s × ((t : ℕ) → P t → s ≤ t)) ⊎ ((t : ℕ) → t < bound → ¬ P t)
 least_below P each zero = inr (λ t l. absurd (omega arith))
 least_below P each (suc bound) =
     ⊎_elim
@@ -50,7 +51,8 @@ least_below P each (suc bound) =
     (least_below P each bound)
 
 -- the greatest number below a bound that has the fact, or none there has it
-pub greatest_below : (P : ℕ → Type 0) → ((k : ℕ) → IsDecided (P k)) → (bound : ℕ) → ((s : ℕ) × (s < bound) × P s × ((t : ℕ) → t < bound → P t → t ≤ s)) ⊎ ((t : ℕ) → t < bound → ¬ P t)
+pub greatest_below : (P : ℕ → Type 0) → ((k : ℕ) → IsDecided (P k)) → (bound : ℕ)
+    → ((s : ℕ) × (s < bound) × P s × ((t : ℕ) → t < bound → P t → t ≤ s)) ⊎ ((t : ℕ) → t < bound → ¬ P t)
 greatest_below P each zero = inr (λ t l. absurd (omega arith))
 greatest_below P each (suc bound) =
     ⊎_elim
