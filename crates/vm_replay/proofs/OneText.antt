@@ -6,7 +6,6 @@ use Rattle.vm_allocator.specs.Address.{AddressState}
 use Rattle.vm_allocator.specs.Answer.{FEWEST_TOO_DEEP, IsExit, Allocates, Makes}
 use Rattle.vm_allocator.specs.Request.{Request}
 use Rattle.vm_allocator.specs.Ids.{IdState, IsHeld}
-use Rattle.vm_allocator.specs.declared.constraint.AllocPolicy.{AllocPolicy}
 use Rattle.vm_allocator.specs.declared.constraint.AllocPolicy.TheVariants.{FirstMatch, LastMatch, ExactMatch}
 use Rattle.vm_allocator.specs.declared.error.Error.{Error}
 use Rattle.vm_allocator.specs.declared.error.Error.TheVariants.{OutOfMemory}
@@ -43,11 +42,13 @@ no_exit old answer few plain (inl e) = plain e
 no_exit old answer few plain (inr p) = omega (arith, few, p.0)
 
 -- so a request has one answer
-placed_once : (old m n : AddressState) (size alignment : ℕ) (policy : AllocPolicy) (x y : Result Range Error)
+placed_once : (old m n : AddressState) (request : Request) (x y : Result Range Error)
     → length old.held < FEWEST_TOO_DEEP → x ≢ Err OutOfMemory → y ≢ Err OutOfMemory
-    → Allocates old size alignment policy x m → Allocates old size alignment policy y n → (x ≡ y) × (m ≡ n)
-placed_once old m n size alignment policy x y few p q a b =
-    ⊎_elim (λ same. same) (λ exits. absurd (⊎_elim (no_exit old x few p) (no_exit old y few q) exits)) (allocates_once old m n size alignment policy x y a b)
+    → Allocates old request.size request.align request.policy x m
+    → Allocates old request.size request.align request.policy y n → (x ≡ y) × (m ≡ n)
+placed_once old m n request x y few p q a b =
+    ⊎_elim (λ same. same) (λ exits. absurd (⊎_elim (no_exit old x few p) (no_exit old y few q) exits))
+    (allocates_once old m n request.size request.align request.policy x y a b)
 
 released_once : (old m n : AddressState) (start end : ℕ) (x y : Result (Unit {0}) Error) → Releases old start end x m
     → Releases old start end y n → (x ≡ y) × (m ≡ n)
@@ -108,7 +109,7 @@ places_once : (old m n : Machine) (request : Request) (x y : Reply) → HoldsFew
 unfolding Places
 places_once old m n request x y few p q a b =
     on_space_once old m n x y _ _ few (λ state later after f u v.
-    let same = placed_once state later after request.size request.align request.policy u.0 v.0 f (not_memory given_or_refused x u.0 refl u.2 p) (not_memory given_or_refused y v.0 refl v.2 q) u.1 v.1 in
+    let same = placed_once state later after request u.0 v.0 f (not_memory given_or_refused x u.0 refl u.2 p) (not_memory given_or_refused y v.0 refl v.2 q) u.1 v.1 in
     (same_told given_or_refused x y u.0 v.0 u.2 v.2 same.0, same.1)) a b
 
 -- a line has one reply and leaves one machine
