@@ -31,7 +31,8 @@ moves_end a b c q t u h k =
     subst (Appends a c) (sym (append_assoc h.0 q u) ∙ ap (λ x. x ++ u) h.2) (Appends-trans a b c h.0 (q ++ u) h.1 k)
 
 -- a read of nothing comes at the end
-pub read_end : (a b : Option (List ℕ)) (n : ℕ) (buf : List ℕ) → Consumes a b (take n buf) → (n ≡ 0 → 0 < length buf → IsAtEnd b) → n ≡ 0 → 0 < length buf → Consumes a b [] × IsAtEnd b
+pub read_end : (a b : Option (List ℕ)) (n : ℕ) (buf : List ℕ) → Consumes a b (take n buf)
+    → (n ≡ 0 → 0 < length buf → IsAtEnd b) → n ≡ 0 → 0 < length buf → Consumes a b [] × IsAtEnd b
 read_end a b n buf h k e l = (subst (λ m. Consumes a b (take m buf)) e h, k e l)
 
 -- what was written beside what was there before
@@ -41,7 +42,8 @@ gains (Some before) None lines text m h = absurd h
 gains (Some before) (Some after) lines text m h = (text, m, ap Some h)
 
 -- what was read up to the end is the input
-pub answers_input : (a b c d : Option (List ℕ)) (read text : List ℕ) → Consumes a b read → IsAtEnd b → MayAnswer (lines_of read) text → Appends c d text → AnswersInput a b c d
+pub answers_input : (a b c d : Option (List ℕ)) (read text : List ℕ) → Consumes a b read → IsAtEnd b
+    → MayAnswer (lines_of read) text → Appends c d text → AnswersInput a b c d
 answers_input None b c d read text h e m k = tt
 answers_input (Some input) None c d read text h e m k = absurd h
 answers_input (Some input) (Some rest) c d read text h e m k =
@@ -49,7 +51,8 @@ answers_input (Some input) (Some rest) c d read text h e m k =
     (ap Some e, subst (λ bytes. GainsAnswers (lines_of bytes) c d) (sym all) (gains c d (lines_of read) text m k))
 
 -- what was read up to a fault is the front of the input
-pub answers_ended : (a b c d : Option (List ℕ)) (read text : List ℕ) → Consumes a b read → MayAnswer (ended_lines_of read) text → Appends c d text → AnswersEndedLines a b c d
+pub answers_ended : (a b c d : Option (List ℕ)) (read text : List ℕ) → Consumes a b read
+    → MayAnswer (ended_lines_of read) text → Appends c d text → AnswersEndedLines a b c d
 answers_ended None b c d read text h m k = tt
 answers_ended (Some input) None c d read text h m k = absurd h
 answers_ended (Some input) (Some rest) c d read text h m k = (read, rest, h, refl, gains c d (ended_lines_of read) text m k)

@@ -24,7 +24,8 @@ pub too_large_next : (value i : ℕ) (word : List ℕ) → i < length word → 2
 too_large_next value i word l h = rw (drop_more word i 0 l) (let k = too_large (value * 10 + (get_or word i 0 - digit_zero)) (drop (i + 1) word) (omega arith) in grind (arith, nat_tests))
 
 -- a value that is too large with its next digit
-pub too_large_sum : (value i digit : ℕ) (word : List ℕ) → i < length word → digit ≡ get_or word i 0 - digit_zero → 2 ^ 64 ≤ value * 10 + digit → rest_of value (drop i word) ≡ None
+pub too_large_sum : (value i digit : ℕ) (word : List ℕ) → i < length word → digit ≡ get_or word i 0 - digit_zero
+    → 2 ^ 64 ≤ value * 10 + digit → rest_of value (drop i word) ≡ None
 too_large_sum value i digit word l e h = rw (drop_more word i 0 l) (let k = too_large (value * 10 + (get_or word i 0 - digit_zero)) (drop (i + 1) word) (omega arith) in grind (arith, nat_tests))
 
 -- all digits are read

@@ -28,7 +28,8 @@ abbrev IsReplied : {S : Type 0} → (Reply → S → Type 0) → Type 0
 IsReplied {S} allowed = (reply : Reply) × (new : S) × allowed reply new × (reply ≢ Refused OutOfMemory)
 
 -- a refusal is told with its error
-plain_refused : (e : Error) {A : Type 0} → (let answer : Result A Error = Err e in answer ≢ Err OutOfMemory) → Refused e ≢ Refused OutOfMemory
+plain_refused : (e : Error) {A : Type 0} → (let answer : Result A Error = Err e in answer ≢ Err OutOfMemory)
+    → Refused e ≢ Refused OutOfMemory
 plain_refused e {A} plain same = let told : e ≡ OutOfMemory = cc in plain (ap (λ (f : Error). let answer : Result A Error = Err f in answer) told)
 
 plain_done : {A : Type 0} (answer : Result A Error) → answer ≢ Err OutOfMemory → done_or_refused answer ≢ Refused OutOfMemory
@@ -44,19 +45,29 @@ plain_id (Ok id) plain = λ e. cc
 plain_id (Err e) plain = plain_refused e {A = ℕ} plain
 
 -- a call that is answered is replied to in the words for its answer
-replied : {A S : Type 0} (tell : Result A Error → Reply) → ((answer : Result A Error) → answer ≢ Err OutOfMemory → tell answer ≢ Refused OutOfMemory) → (call : Result A Error → S → Type 0) → IsAnswered call → IsReplied (λ reply new. (answer : Result A Error) × call answer new × (reply ≡ tell answer))
+replied : {A S : Type 0} (tell : Result A Error → Reply)
+    → ((answer : Result A Error) → answer ≢ Err OutOfMemory → tell answer ≢ Refused OutOfMemory)
+    → (call : Result A Error → S → Type 0) → IsAnswered call
+    → IsReplied (λ reply new. (answer : Result A Error) × call answer new × (reply ≡ tell answer))
 replied tell plain call h = (tell h.0, h.1, (h.0, h.2, refl), plain h.0 h.3)
 
 -- a line on a part that may be there
-on_part : {S : Type 0} (part : Option S) (put : S → Machine) (old : Machine) (absent : Reply) → absent ≢ Refused OutOfMemory → (call : Reply → S → S → Type 0) → ((state : S) → IsReplied (λ reply later. call reply state later)) → IsReplied (λ reply new. MatchOption part ((reply ≡ absent) × (new ≡ old)) (λ state. (later : S) × call reply state later × (new ≡ put later)))
+on_part : {S : Type 0} (part : Option S) (put : S → Machine) (old : Machine) (absent : Reply)
+    → absent ≢ Refused OutOfMemory → (call : Reply → S → S → Type 0)
+    → ((state : S) → IsReplied (λ reply later. call reply state later))
+    → IsReplied (λ reply new. MatchOption part ((reply ≡ absent) × (new ≡ old)) (λ state. (later : S) × call reply state later × (new ≡ put later)))
 on_part None put old absent plain call each = (absent, old, (refl, refl), plain)
 on_part (Some state) put old absent plain call each = let h = each state in (h.0, put h.1, (h.1, h.2, refl), h.3)
 
-on_space : (old : Machine) (call : Reply → AddressState → AddressState → Type 0) → ((state : AddressState) → IsReplied (λ reply later. call reply state later)) → IsReplied (λ reply new. OnSpace old reply new (call reply))
+on_space : (old : Machine) (call : Reply → AddressState → AddressState → Type 0)
+    → ((state : AddressState) → IsReplied (λ reply later. call reply state later))
+    → IsReplied (λ reply new. OnSpace old reply new (call reply))
 unfolding OnSpace
 on_space old call each = on_part old.space (λ s. record old { space = Some s }) old NoSpace (λ e. cc) call each
 
-on_ids : (old : Machine) (call : Reply → IdState → IdState → Type 0) → ((state : IdState) → IsReplied (λ reply later. call reply state later)) → IsReplied (λ reply new. OnIds old reply new (call reply))
+on_ids : (old : Machine) (call : Reply → IdState → IdState → Type 0)
+    → ((state : IdState) → IsReplied (λ reply later. call reply state later))
+    → IsReplied (λ reply new. OnIds old reply new (call reply))
 unfolding OnIds
 on_ids old call each = on_part old.ids (λ s. record old { ids = Some s }) old NoIds (λ e. cc) call each
 
