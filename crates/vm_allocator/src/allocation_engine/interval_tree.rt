@@ -6,7 +6,7 @@ ghost use Rattle.vm_allocator.specs.BlockEdits.{free_block, IsTakenFrom, HasRoom
 ghost use Rattle.vm_allocator.specs.Shape.{blocks, height_of, node_count, single, root_block, IsTree};
 ghost use Rattle.vm_allocator.specs.NodeFields.{side};
 ghost use Rattle.vm_allocator.specs.Steps.{IsBalancedTreeOf, IsSettlingCount, IsReleaseCount, SplitsIfLow};
-ghost use Rattle.vm_allocator.specs.SpaceTree.{tree_state, IsSpaceTree, Chooses, IsChoice, EndsBelowMax, ExactIn, Carves, most_searched};
+ghost use Rattle.vm_allocator.specs.SpaceTree.{tree_state, IsSpaceTree, Chooses, IsChoice, ChoosesBelowMax, ExactIn, Carves, most_searched};
 ghost use Rattle.vm_allocator.specs.Release.{IsAround, joined, rejoined, without_if, start_with, end_with};
 ghost use Rattle.vm_allocator.specs.declared.constraint.AllocPolicy.TheVariants.{FirstMatch, LastMatch, ExactMatch};
 
@@ -54,11 +54,11 @@ impl Model for IntervalTree {
 }
 
 /// The `size` addresses from the start of the place on. `Overflow` where they end at `u64::MAX`.
-#[tactic(auto, unfolding(crate::specs::SpaceTree::EndsBelowMax, crate::specs::BlockEdits::HasRoom))]
+#[tactic(auto, unfolding(crate::specs::SpaceTree::ChoosesBelowMax, crate::specs::BlockEdits::HasRoom))]
 fn range_at(place: Place, size: u64) -> Result<Choice>
     requires some { 0 < size }
     requires room { HasRoom place.start size (free_block place.key) }
-    ensures answer { EndsBelowMax place.key place.start size result }
+    ensures answer { ChoosesBelowMax place.key place.start size result }
     ensures no_memory { IfErr result (λ error. error ≢ Error.OutOfMemory) }
 {
     let _ = place.key.end();
