@@ -77,7 +77,9 @@ impl IntervalTree {
     /// one node.
     #[tactic(auto, using(crate::proofs::SpaceTrees::making))]
     pub fn new(alloc: Global, key: RangeInclusive) -> Result<Self>
-        ensures answer { MatchResult result (λ tree. tree_state tree ≡ record { space = key; held = [] }) (λ error. error ≡ Error.OutOfMemory) }
+        ensures answer { MatchResult result
+            (λ tree. tree_state tree ≡ record { space = key; held = [] })
+            (λ error. error ≡ Error.OutOfMemory) }
         ensures state { IfOk result (λ tree. IsAddressState (tree_state tree)) }
     {
         let _ = key.end();
