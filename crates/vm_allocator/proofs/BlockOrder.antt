@@ -2,7 +2,7 @@
 use Rattle.std.proofs.Common.{◌≡◌, ℕ, ◌+◌, ◌<◌, ◌≤◌, true, false, cond, ltb, List, [], ◌∷◌, ◌++◌, refl, ap, ◌∙◌, subst, sym, append_assoc, arith, inl, inr}
 use Rattle.std.proofs.lemmas.Bool.{lt-ltb, le-ltb, ltb-true, ltb-false}
 use Rattle.vm_allocator.specs.Range.{Range}
-use Rattle.vm_allocator.specs.RangeOrder.{StartsBefore, StartsFrom, IsInOrder, Apart}
+use Rattle.vm_allocator.specs.RangeOrder.{StartsBefore, StartsAtOrAfter, IsInOrder, Apart}
 use Rattle.vm_allocator.specs.Block.{Block}
 use Rattle.vm_allocator.specs.BlockList.{IsOrderedFrom, IsClearOf, insert_block}
 use Rattle.vm_allocator.specs.Shape.{Shape, Fork, blocks, IsTree}
@@ -105,8 +105,8 @@ pub link_in_left_blocks : (s l : Shape) (k : Block) (r : Shape) (x : Block) → 
 unfolding StartsBefore
 link_in_left_blocks s l k r x e p = ap (λ (v : Shape). insert_block x (blocks v)) e ∙ insert_block_left x k (blocks l) (blocks r) p
 
-pub link_in_right_blocks : (s l : Shape) (k : Block) (r : Shape) (x : Block) → s ≡ Fork l k r → StartsFrom x.key k.key → IsTree s → insert_block x (blocks s) ≡ blocks l ++ k ∷ insert_block x (blocks r)
-unfolding StartsFrom
+pub link_in_right_blocks : (s l : Shape) (k : Block) (r : Shape) (x : Block) → s ≡ Fork l k r → StartsAtOrAfter x.key k.key → IsTree s → insert_block x (blocks s) ≡ blocks l ++ k ∷ insert_block x (blocks r)
+unfolding StartsAtOrAfter
 link_in_right_blocks s l k r x e p t =
     let o : IsOrderedFrom 0 (blocks l ++ k ∷ blocks r) = rw e at t.ordered in
     ap (λ (v : Shape). insert_block x (blocks v)) e ∙ insert_block_right 0 x k (blocks l) (blocks r) p o
@@ -116,9 +116,9 @@ pub link_in_left : (s l : Shape) (k : Block) (r : Shape) (x : Block) → s ≡ F
 unfolding StartsBefore IsInOrder
 link_in_left s l k r x e p q c t = (link_left s l k r x e p q c t).1
 
-pub link_in_right : (s l : Shape) (k : Block) (r : Shape) (x : Block) → s ≡ Fork l k r → StartsFrom x.key k.key → IsInOrder x.key → IsClearOf x.key (blocks s) → IsTree s
+pub link_in_right : (s l : Shape) (k : Block) (r : Shape) (x : Block) → s ≡ Fork l k r → StartsAtOrAfter x.key k.key → IsInOrder x.key → IsClearOf x.key (blocks s) → IsTree s
     → IsOrderedFrom 0 (blocks l ++ k ∷ insert_block x (blocks r))
-unfolding StartsFrom IsInOrder
+unfolding StartsAtOrAfter IsInOrder
 link_in_right s l k r x e p q c t = (link_right s l k r x e p q c t).1
 
 pub clear_in_left : (s l : Shape) (k : Block) (r : Shape) (x : Range) → s ≡ Fork l k r → IsClearOf x (blocks s) → IsClearOf x (blocks l)

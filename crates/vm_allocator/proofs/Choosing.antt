@@ -10,7 +10,7 @@ use Rattle.vm_allocator.specs.Fit.{HasNoFit, IsLeastFit, IsGreatestFit}
 use Rattle.vm_allocator.specs.BlockEdits.{free_block, IsTakenFrom, HasRoom}
 use Rattle.vm_allocator.specs.Place.{IsFirstFit, IsLastFit}
 use Rattle.vm_allocator.specs.Shape.{Shape, blocks}
-use Rattle.vm_allocator.specs.SpaceTree.{space_of, tree_state, IsSpaceTree, IsChoice, IsSettledBy, Chooses, EndsBelowMax}
+use Rattle.vm_allocator.specs.SpaceTree.{space_of, tree_state, IsSpaceTree, IsChoice, TakingSettles, Chooses, ChoosesBelowMax}
 use Rattle.vm_allocator.specs.declared.error.Error.{Error}
 use Rattle.vm_allocator.specs.declared.error.Error.TheVariants.{Overflow, ResourceNotAvailable}
 use Rattle.vm_allocator.specs.declared.constraint.AllocPolicy.{AllocPolicy}
@@ -63,8 +63,8 @@ in_room : (s n : ℕ) (k : Range) → 0 < n → HasRoom s n (free_block k) → I
 unfolding HasRoom
 in_room s n k z r = record { from = r.0; some = omega arith; upto = omega (arith, r.1) }
 
-found_chooses : (request : Request) (s : Shape) (place : Place) (answer : Result Choice Error) → NamesNoStart request.policy → IsFound request s place → EndsBelowMax place.key place.start request.size answer → Chooses s request answer
-unfolding EndsBelowMax Chooses IsSettledBy
+found_chooses : (request : Request) (s : Shape) (place : Place) (answer : Result Choice Error) → NamesNoStart request.policy → IsFound request s place → ChoosesBelowMax place.key place.start request.size answer → Chooses s request answer
+unfolding ChoosesBelowMax Chooses TakingSettles
 found_chooses request s place answer p f h =
     ⊎_elim
     (λ o. subst (λ (v : Result Choice Error). Chooses s request v) (sym o.1) (over_settles request (tree_state s) p place.start f.chosen o.0))
@@ -104,7 +104,7 @@ first_found request s place p t r f = record {
 pub none_first : (request : Request) (s : Shape) → IsSpaceTree s → IsRequest request → request.policy ≡ FirstMatch → All (HasNoFit request.size request.align) (blocks s) → Chooses s request (Err ResourceNotAvailable)
 none_first request s t r p h = none_chooses request s (inl p) t r h
 
-pub chooses_first : (request : Request) (s : Shape) (place : Place) (answer : Result Choice Error) → IsSpaceTree s → IsRequest request → request.policy ≡ FirstMatch → IsFirstFit request.size request.align (blocks s) place → EndsBelowMax place.key place.start request.size answer → Chooses s request answer
+pub chooses_first : (request : Request) (s : Shape) (place : Place) (answer : Result Choice Error) → IsSpaceTree s → IsRequest request → request.policy ≡ FirstMatch → IsFirstFit request.size request.align (blocks s) place → ChoosesBelowMax place.key place.start request.size answer → Chooses s request answer
 chooses_first request s place answer t r p f h = found_chooses request s place answer (inl p) (first_found request s place p t r f) h
 
 pub ruleset first_choices = (none_first, first_has_room, chooses_first)
@@ -134,7 +134,7 @@ last_found request s place p t r f = record {
 pub none_last : (request : Request) (s : Shape) → IsSpaceTree s → IsRequest request → request.policy ≡ LastMatch → All (HasNoFit request.size request.align) (blocks s) → Chooses s request (Err ResourceNotAvailable)
 none_last request s t r p h = none_chooses request s (inr p) t r h
 
-pub chooses_last : (request : Request) (s : Shape) (place : Place) (answer : Result Choice Error) → IsSpaceTree s → IsRequest request → request.policy ≡ LastMatch → IsLastFit request.size request.align (blocks s) place → EndsBelowMax place.key place.start request.size answer → Chooses s request answer
+pub chooses_last : (request : Request) (s : Shape) (place : Place) (answer : Result Choice Error) → IsSpaceTree s → IsRequest request → request.policy ≡ LastMatch → IsLastFit request.size request.align (blocks s) place → ChoosesBelowMax place.key place.start request.size answer → Chooses s request answer
 chooses_last request s place answer t r p f h = found_chooses request s place answer (inr p) (last_found request s place p t r f) h
 
 pub ruleset last_choices = (none_last, last_has_room, chooses_last)
@@ -149,7 +149,7 @@ unfolding Chooses
 is_choice s request choice h = h.0
 
 pub settled : (s : Shape) (request : Request) (choice : Choice) (answer : Result Range Error) (new : AddressState) → Chooses s request (Ok choice) → Takes (tree_state s) choice.range answer new → Settles (tree_state s) request answer new
-unfolding Chooses IsSettledBy
+unfolding Chooses TakingSettles
 settled s request choice answer new h t = h.1 answer new t
 
 pub ruleset settling = (chooses_refused, settled)

@@ -9,7 +9,7 @@ use Rattle.vm_allocator.specs.BlockEdits.{free_block}
 use Rattle.vm_allocator.specs.BlockList.{find_superset}
 use Rattle.vm_allocator.specs.Shape.{Shape, blocks}
 use Rattle.vm_allocator.specs.Release.{at_address}
-use Rattle.vm_allocator.specs.SpaceTree.{space_of, tree_state, IsSpaceTree, IsSettledBy, Chooses, ExactIn}
+use Rattle.vm_allocator.specs.SpaceTree.{space_of, tree_state, IsSpaceTree, TakingSettles, Chooses, ExactIn}
 use Rattle.vm_allocator.specs.declared.error.Error.{Error}
 use Rattle.vm_allocator.specs.declared.error.Error.TheVariants.{Overflow, ResourceNotAvailable, InvalidStateTransition}
 use Rattle.vm_allocator.specs.declared.allocation_engine.NodeState.{NodeState}
@@ -93,7 +93,7 @@ free_is : (b : Block) → b.state ≡ Free → b ≡ free_block b.key
 free_is b e = same_block b (free_block b.key) refl e
 
 choice_in : (n a t last : ℕ) (s : Shape) (b : Block) (w : IsWithin (space_of (blocks s)) (blocks s) b n t) → b.state ≡ Free → t % a ≡ 0 → last ≡ t + (n - 1) → last ≤ b.key.end → last < MAX → Chooses s (named n a t) (Ok (record { key = b.key; range = record { start = t; end = last } }))
-unfolding Chooses IsSettledBy
+unfolding Chooses TakingSettles
 choice_in n a t last s b w f d e l m =
     let z = w.some in
     let span_is : record { start = t; end = last } ≡ span t n = same_range (record { start = t; end = last }) (span t n) refl (omega arith) in (

@@ -5,7 +5,7 @@ use Rattle.std.specs.Prelude.{◌↔◌}
 use Rattle.std.specs.List.{All}
 use Rattle.std.proofs.lemmas.List.Elements.{All-nil, All-cons, All-head, All-tail}
 use Rattle.vm_allocator.specs.Range.{Range, Overlaps}
-use Rattle.vm_allocator.specs.RangeOrder.{EndsBefore, Reaches, IsInOrder, Apart}
+use Rattle.vm_allocator.specs.RangeOrder.{EndsBefore, ReachesStartOf, IsInOrder, Apart}
 use Rattle.vm_allocator.specs.Block.{Block}
 use Rattle.vm_allocator.specs.BlockList.{IsOrderedFrom, IsClearOf}
 use Rattle.vm_allocator.specs.Shape.{Shape, Fork, blocks, IsTree, first_met}
@@ -17,16 +17,16 @@ pub met_in_left : (s l : Shape) (x : Block) (r : Shape) (k : Range) → s ≡ Fo
 unfolding EndsBefore
 met_in_left s l x r k e p = ap (first_met k) e ∙ rw (lt-ltb k.end x.key.start p)
 
-pub met_in_right : (s l : Shape) (x : Block) (r : Shape) (k : Range) → s ≡ Fork l x r → Reaches k x.key → EndsBefore x.key k → first_met k s ≡ first_met k r
-unfolding EndsBefore Reaches
+pub met_in_right : (s l : Shape) (x : Block) (r : Shape) (k : Range) → s ≡ Fork l x r → ReachesStartOf k x.key → EndsBefore x.key k → first_met k s ≡ first_met k r
+unfolding EndsBefore ReachesStartOf
 met_in_right s l x r k e p q = ap (first_met k) e ∙ rw (le-ltb k.end x.key.start p, lt-ltb x.key.end k.start q)
 
-pub met_here : (s l : Shape) (x : Block) (r : Shape) (k : Range) → s ≡ Fork l x r → Reaches k x.key → Reaches x.key k → first_met k s ≡ Some x.key
-unfolding Reaches
+pub met_here : (s l : Shape) (x : Block) (r : Shape) (k : Range) → s ≡ Fork l x r → ReachesStartOf k x.key → ReachesStartOf x.key k → first_met k s ≡ Some x.key
+unfolding ReachesStartOf
 met_here s l x r k e p q = ap (first_met k) e ∙ rw (le-ltb k.end x.key.start p, le-ltb x.key.end k.start q)
 
-pub overlaps_here : (k m : Range) (bs : List Block) → IsInOrder k → IsInOrder m → Reaches k m → Reaches m k → TellsOverlap k (Some m) bs
-unfolding IsInOrder Reaches TellsOverlap
+pub overlaps_here : (k m : Range) (bs : List Block) → IsInOrder k → IsInOrder m → ReachesStartOf k m → ReachesStartOf m k → TellsOverlap k (Some m) bs
+unfolding IsInOrder ReachesStartOf TellsOverlap
 overlaps_here k m bs p q a b = meet k m p q b a
 
 clear_above : (lo : ℕ) (k : Range) (bs : List Block) → k.end < lo → IsOrderedFrom lo bs → IsClearOf k bs

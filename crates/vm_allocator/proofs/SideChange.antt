@@ -1,7 +1,7 @@
 -- Facts on a node whose one side changed in place.
 use Rattle.std.proofs.Common.{◌≡◌, ◌++◌, ◌∷◌, [], refl}
 use Rattle.vm_allocator.specs.Range.{Range}
-use Rattle.vm_allocator.specs.RangeOrder.{Before, StartsBefore, StartsFrom, IsInOrder}
+use Rattle.vm_allocator.specs.RangeOrder.{Before, StartsBefore, StartsAtOrAfter, IsInOrder}
 use Rattle.vm_allocator.specs.Block.{Block}
 use Rattle.vm_allocator.specs.BlockList.{IsOrderedFrom, IsClearOf, insert_block, replace_block}
 use Rattle.vm_allocator.specs.Shape.{Shape, Fork, blocks, height_of, IsTree, DifferByAtMost}
@@ -14,7 +14,7 @@ pub tree_link_left : (l n : Shape) (k : Block) (r : Shape) (x : Block) → Start
 tree_link_left l n k r x p q c t e m d =
     record { ordered = rw e (link_in_left (Fork l k r) l k r x refl p q c t); balanced = (m.balanced, t.balanced.1, d) }
 
-pub tree_link_right : (l n : Shape) (k : Block) (r : Shape) (x : Block) → StartsFrom x.key k.key → IsInOrder x.key → IsClearOf x.key (blocks (Fork l k r)) → IsTree (Fork l k r)
+pub tree_link_right : (l n : Shape) (k : Block) (r : Shape) (x : Block) → StartsAtOrAfter x.key k.key → IsInOrder x.key → IsClearOf x.key (blocks (Fork l k r)) → IsTree (Fork l k r)
     → blocks n ≡ insert_block x (blocks r) → IsTree n → DifferByAtMost 1 (height_of l) (height_of n) → IsTree (Fork l k n)
 tree_link_right l n k r x p q c t e m d =
     record { ordered = rw e (link_in_right (Fork l k r) l k r x refl p q c t); balanced = (t.balanced.0, m.balanced, d) }

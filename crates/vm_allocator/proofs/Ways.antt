@@ -2,7 +2,7 @@
 use Rattle.std.proofs.Common.{◌≡◌, ◌≢◌, ℕ, ◌+◌, ◌-◌, ◌*◌, ◌<◌, ◌≤◌, Bool, true, false, cond, refl, sym, ap, ◌∙◌, arith, ltb, inl, inr}
 use Rattle.std.proofs.lemmas.Bool.{lt-ltb, le-ltb, eq-eqb, ne_eqb}
 use Rattle.vm_allocator.specs.Range.{Range, MAX}
-use Rattle.vm_allocator.specs.RangeOrder.{Before, StartsBefore, StartsFrom, EndsBefore, Reaches, same_range, comes_first}
+use Rattle.vm_allocator.specs.RangeOrder.{Before, StartsBefore, StartsAtOrAfter, EndsBefore, ReachesStartOf, same_range, comes_first}
 use Rattle.vm_allocator.specs.Block.{Block}
 use Rattle.vm_allocator.specs.Shape.{Shape, Tip, Fork, height_of, IsBalanced, IsTree}
 use Rattle.vm_allocator.specs.Ways.{way_down, way_to, way_across, way_to_first, way_to_last, way_to_join, way_to_remove, way_beside, way_around, way_of_first, way_of_last, way_of_search}
@@ -32,8 +32,8 @@ pub way_down_left : (k : Range) (l : Shape) (b : Block) (r : Shape) → StartsBe
 unfolding way_down StartsBefore
 way_down_left k l b r p = rw (lt-ltb k.start b.key.start p)
 
-pub way_down_right : (k : Range) (l : Shape) (b : Block) (r : Shape) → StartsFrom k b.key → way_down k (Fork l b r) ≡ way_down k r + 1
-unfolding way_down StartsFrom
+pub way_down_right : (k : Range) (l : Shape) (b : Block) (r : Shape) → StartsAtOrAfter k b.key → way_down k (Fork l b r) ≡ way_down k r + 1
+unfolding way_down StartsAtOrAfter
 way_down_right k l b r p = rw (le-ltb k.start b.key.start p)
 
 pub ruleset ways_down = (way_down_tip, way_down_left, way_down_right)
@@ -66,12 +66,12 @@ pub way_across_left : (k : Range) (l : Shape) (b : Block) (r : Shape) → EndsBe
 unfolding way_across EndsBefore
 way_across_left k l b r p = rw (lt-ltb k.end b.key.start p)
 
-pub way_across_right : (k : Range) (l : Shape) (b : Block) (r : Shape) → Reaches k b.key → EndsBefore b.key k → way_across k (Fork l b r) ≡ way_across k r + 1
-unfolding way_across EndsBefore Reaches
+pub way_across_right : (k : Range) (l : Shape) (b : Block) (r : Shape) → ReachesStartOf k b.key → EndsBefore b.key k → way_across k (Fork l b r) ≡ way_across k r + 1
+unfolding way_across EndsBefore ReachesStartOf
 way_across_right k l b r p q = rw (le-ltb k.end b.key.start p, lt-ltb b.key.end k.start q)
 
-pub way_across_here : (k : Range) (l : Shape) (b : Block) (r : Shape) → Reaches k b.key → Reaches b.key k → way_across k (Fork l b r) ≡ 1
-unfolding way_across Reaches
+pub way_across_here : (k : Range) (l : Shape) (b : Block) (r : Shape) → ReachesStartOf k b.key → ReachesStartOf b.key k → way_across k (Fork l b r) ≡ 1
+unfolding way_across ReachesStartOf
 way_across_here k l b r p q = rw (le-ltb k.end b.key.start p, le-ltb b.key.end k.start q)
 
 pub ruleset ways_across = (way_across_tip, way_across_left, way_across_right, way_across_here)

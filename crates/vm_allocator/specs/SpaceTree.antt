@@ -51,18 +51,18 @@ pub record IsChoice (bs : List Block) (choice : Choice) : Type 0 where
   pub below : choice.range.end < MAX
 
 -- whatever taking the range comes to is the answer to the request
-unfoldable pub IsSettledBy : AddressState → Request → Range → Type 0
-IsSettledBy old request r =
+unfoldable pub TakingSettles : AddressState → Request → Range → Type 0
+TakingSettles old request r =
     (answer : Result Range Error) (new : AddressState) → Takes old r answer new → Settles old request answer new
 
 -- a range to take, from a free block, or the refusal
 unfoldable pub Chooses : Shape → Request → Result Choice Error → Type 0
-Chooses s request (Ok choice) = IsChoice (blocks s) choice × IsSettledBy (tree_state s) request choice.range
+Chooses s request (Ok choice) = IsChoice (blocks s) choice × TakingSettles (tree_state s) request choice.range
 Chooses s request (Err e) = Settles (tree_state s) request (Err e) (tree_state s)
 
--- the n addresses from s on as a range of the block, unless they end at MAX
-unfoldable pub EndsBelowMax : Range → ℕ → ℕ → Result Choice Error → Type 0
-EndsBelowMax key s n answer =
+-- the n addresses from s on are chosen, in the block, unless they end at MAX
+unfoldable pub ChoosesBelowMax : Range → ℕ → ℕ → Result Choice Error → Type 0
+ChoosesBelowMax key s n answer =
     ((s + n - 1 ≡ MAX) × (answer ≡ Err Overflow))
     ⊎ ((s + n - 1 < MAX) × (answer ≡ Ok (record { key = key; range = span s n })))
 

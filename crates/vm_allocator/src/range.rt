@@ -5,7 +5,7 @@ ghost use Rattle.std.specs.Cmp.Rules.{comparing};
 ghost use Rattle.std.specs.Ordering.{as_partial_cmp, MatchOrdering};
 ghost use Rattle.vm_allocator.specs.Answer.{MakesRange};
 ghost use Rattle.vm_allocator.specs.Range.{IsRange, address_count, Overlaps, Covers, range_cmp};
-ghost use Rattle.vm_allocator.specs.RangeOrder.{Before, StartsBefore, StartsFrom, EndsBefore, Reaches, IsInOrder};
+ghost use Rattle.vm_allocator.specs.RangeOrder.{Before, StartsBefore, StartsAtOrAfter, EndsBefore, ReachesStartOf, IsInOrder};
 
 use crate::error::{Error, Result};
 use std::cmp::Ordering;
@@ -93,18 +93,18 @@ impl RangeInclusive {
     }
 
     /// Whether the range starts before another.
-    #[tactic(auto, unfolding(crate::specs::RangeOrder::StartsBefore, crate::specs::RangeOrder::StartsFrom, crate::specs::RangeOrder::IsInOrder))]
+    #[tactic(auto, unfolding(crate::specs::RangeOrder::StartsBefore, crate::specs::RangeOrder::StartsAtOrAfter, crate::specs::RangeOrder::IsInOrder))]
     pub(crate) fn starts_before(&self, other: &RangeInclusive) -> bool
-        ensures which { MatchBool result (StartsBefore self.now other.now) (StartsFrom self.now other.now) }
+        ensures which { MatchBool result (StartsBefore self.now other.now) (StartsAtOrAfter self.now other.now) }
         ensures in_order { IsInOrder self.now }
     {
         other.start > self.start
     }
 
     /// Whether the range ends before another starts.
-    #[tactic(auto, unfolding(crate::specs::RangeOrder::EndsBefore, crate::specs::RangeOrder::Reaches, crate::specs::RangeOrder::IsInOrder))]
+    #[tactic(auto, unfolding(crate::specs::RangeOrder::EndsBefore, crate::specs::RangeOrder::ReachesStartOf, crate::specs::RangeOrder::IsInOrder))]
     pub(crate) fn ends_before(&self, other: &RangeInclusive) -> bool
-        ensures which { MatchBool result (EndsBefore self.now other.now) (Reaches self.now other.now) }
+        ensures which { MatchBool result (EndsBefore self.now other.now) (ReachesStartOf self.now other.now) }
         ensures in_order { IsInOrder self.now }
         ensures other_in_order { IsInOrder other.now }
     {

@@ -4,7 +4,7 @@ ghost use Rattle.std.specs.Prelude.{◌≡◌, ◌≢◌, ◌+◌, ◌<◌, ◌�
 ghost use Rattle.vm_allocator.specs.Range.{MAX};
 ghost use Rattle.vm_allocator.specs.BlockEdits.{free_block, HasRoom};
 ghost use Rattle.vm_allocator.specs.Shape.{height_of, node_count};
-ghost use Rattle.vm_allocator.specs.SpaceTree.{Chooses, EndsBelowMax, ExactIn};
+ghost use Rattle.vm_allocator.specs.SpaceTree.{Chooses, ChoosesBelowMax, ExactIn};
 ghost use Rattle.vm_allocator.specs.Ways.{way_of_search};
 ghost use Rattle.vm_allocator.specs.declared.constraint.AllocPolicy.TheVariants.{FirstMatch, LastMatch, ExactMatch};
 
@@ -100,11 +100,11 @@ impl IntervalTree {
 }
 
 /// The `size` addresses from the start of the place on. `Overflow` where they end at `u64::MAX`.
-#[tactic(auto, unfolding(crate::specs::SpaceTree::EndsBelowMax, crate::specs::BlockEdits::HasRoom))]
+#[tactic(auto, unfolding(crate::specs::SpaceTree::ChoosesBelowMax, crate::specs::BlockEdits::HasRoom))]
 fn range_at(place: Place, size: u64) -> Result<Choice>
     requires some { 0 < size }
     requires room { HasRoom place.start size (free_block place.key) }
-    ensures answer { EndsBelowMax place.key place.start size result }
+    ensures answer { ChoosesBelowMax place.key place.start size result }
     ensures no_memory { IfErr result (λ error. error ≢ Error.OutOfMemory) }
 {
     let _ = place.key.end();
