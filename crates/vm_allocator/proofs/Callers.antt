@@ -1,7 +1,7 @@
--- What a caller learns from the answer to a call.
-use Rattle.std.proofs.Common.{◌≡◌, ℕ, ◌+◌, ◌-◌, ◌%◌, List, [], ◌∷◌, ◌<◌, ◌≤◌, ◌⊎◌, arith, refl, sym, ap, ◌∙◌, inl, inr, ⊎_elim, subst, Result, Ok, Err, IfOk, IfErr, IsTrue}
+-- What a caller wants to know of a range or an id that it was given.
+use Rattle.std.proofs.Common.{◌≡◌, ℕ, ◌+◌, ◌-◌, ◌%◌, List, [], ◌∷◌, ◌<◌, ◌≤◌, ◌⊎◌, arith, refl, sym, ap, ◌∙◌, inl, inr, ⊎_elim, subst, Result, Ok, Err, IfOk, IfErr}
 use Rattle.std.specs.List.{Contains}
-use Rattle.vm_allocator.specs.Range.{Range, MAX, IsRange, IsIn, Overlaps, address_count, span}
+use Rattle.vm_allocator.specs.Range.{Range, IsIn, Overlaps, address_count, span}
 use Rattle.vm_allocator.specs.Address.{AddressState, AreClear, IsPlace, IsAddressState, holding, releasing, without_range}
 use Rattle.vm_allocator.specs.Alignment.{IsAlignment}
 use Rattle.vm_allocator.specs.Request.{Request, request_for, IsRequest, IsStartAligned}
@@ -11,12 +11,13 @@ use Rattle.vm_allocator.specs.declared.error.Error.{Error}
 use Rattle.vm_allocator.specs.declared.error.Error.TheVariants.{Overflow, OutOfMemory}
 use Rattle.vm_allocator.specs.declared.constraint.AllocPolicy.{AllocPolicy}
 use Rattle.vm_allocator.specs.declared.constraint.AllocPolicy.TheVariants.{ExactMatch}
-use Rattle.vm_allocator.proofs.Words.{IsHeldAddress, IsHeld as IsHeldRange, contains_held, held_contains, all_miss, none_holds, held_address}
-use Rattle.vm_allocator.proofs.HeldSets.{held_lies, one_held, held_now, held_without, not_held_without}
-use Rattle.vm_allocator.proofs.Once.{chosen_place}
-use Rattle.vm_allocator.proofs.Filling.{allocates_chosen}
-use Rattle.vm_allocator.proofs.Outcomes.{allocates_outcome}
-use Rattle.vm_allocator.proofs.IdLemmas.{inserted_here}
+use Rattle.vm_allocator.proofs.blocks.Words.{IsHeldAddress, IsHeld as IsHeldRange, contains_held, held_contains, all_miss, none_holds, held_address}
+use Rattle.vm_allocator.proofs.blocks.HeldSets.{held_lies, one_held}
+use Rattle.vm_allocator.proofs.blocks.HeldChanges.{held_now, held_without, not_held_without}
+use Rattle.vm_allocator.proofs.answers.Once.{chosen_place}
+use Rattle.vm_allocator.proofs.answers.Filling.{allocates_chosen}
+use Rattle.vm_allocator.proofs.answers.Outcomes.{allocates_outcome}
+use Rattle.vm_allocator.proofs.ids.Sets.{inserted_here}
 
 -- a range that was given: as long as was asked, from a multiple of the alignment on, clear before and held after
 pub record IsGiven (old : AddressState) (request : Request) (r : Range) (new : AddressState) : Type 0 where

@@ -41,7 +41,7 @@ impl Model for AddressAllocator {
 impl AddressAllocator {
     /// The allocator of the `size` addresses from `base` on, with none held. In this order: a size
     /// of 0 is `Underflow`, an end past `u64::MAX` is `Overflow`, and `OutOfMemory` comes last.
-    #[tactic(auto, using(crate::proofs::Making::making, crate::proofs::Spaces::spaces))]
+    #[tactic(auto, using(crate::proofs::answers::Making::making, crate::proofs::nodes::Spaces::spaces))]
     pub fn new(alloc: Global, base: u64, size: u64) -> Result<Self>
         ensures { Makes base size (made_state result) }
     {
@@ -91,7 +91,7 @@ impl AddressAllocator {
     /// height h and k held ranges before, these are at most 8h + 8 for `ExactMatch` and at most
     /// 2k + 1 + 8h + 8 for the other policies, and none where the request makes no sense; a success
     /// enters one at least, and one that leaves a part of its gap over h / 2 at least.
-    #[tactic(auto, using(crate::proofs::Answers::allocating, crate::proofs::Spaces::spaces, crate::proofs::Filling::succeeding, crate::proofs::Counting::allocations))]
+    #[tactic(auto, using(crate::proofs::answers::Requests::allocating, crate::proofs::nodes::Spaces::spaces, crate::proofs::answers::Filling::succeeding, crate::proofs::counts::Allocating::allocations))]
     pub fn allocate_counted(
         &mut self,
         alloc: Global,
@@ -132,7 +132,7 @@ impl AddressAllocator {
 
     /// Does what `free` does, and answers besides how many nodes of the tree it entered: with the
     /// height h before at most 8h + 8, and always one at least.
-    #[tactic(auto, using(crate::proofs::Spaces::spaces, crate::proofs::Filling::succeeding))]
+    #[tactic(auto, using(crate::proofs::nodes::Spaces::spaces, crate::proofs::answers::Filling::succeeding))]
     pub fn free_counted(&mut self, key: &RangeInclusive) -> (Result<()>, u64)
         ensures answer { Frees (state_of self.old) key.now result.0 (state_of self.new) }
         ensures unchanged { OnErr result.0 (self.new ≡ self.old) }
@@ -156,7 +156,7 @@ impl AddressAllocator {
     }
 
     /// The first address of the space.
-    #[tactic(auto, using(crate::proofs::Freeing::is_state))]
+    #[tactic(auto, using(crate::proofs::blocks::States::is_state))]
     pub fn base(&self) -> u64
         ensures value { result ≡ (state_of self.now).space.start }
         ensures state { IsAddressState (state_of self.now) }

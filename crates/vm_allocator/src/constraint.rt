@@ -58,7 +58,7 @@ impl Constraint {
     /// The request for `size` addresses from a multiple of `align` on. In this order: size 0 is
     /// `InvalidSize(0)`, an alignment that is no power of two `InvalidAlignment`, and an
     /// `ExactMatch` of a start that is no multiple of the alignment `UnalignedAddress`.
-    #[tactic(auto, using(crate::proofs::Requests::constrains))]
+    #[tactic(auto, using(crate::proofs::answers::Requests::constrains))]
     pub fn new(size: u64, align: u64, policy: AllocPolicy) -> Result<Self>
         ensures { MakesConstraint (request_for size align policy) result }
     {

@@ -63,7 +63,7 @@ impl RangeInclusive {
     }
 
     /// Whether some address lies in both ranges.
-    #[tactic(auto, using(crate::proofs::Ranges::meetings))]
+    #[tactic(auto, using(crate::proofs::numbers::Ranges::meetings))]
     pub fn overlaps(&self, other: &RangeInclusive) -> bool
         ensures { IsTrue result ↔ Overlaps self.now other.now }
     {
@@ -71,7 +71,7 @@ impl RangeInclusive {
     }
 
     /// Whether every address of `other` lies in the range.
-    #[tactic(auto, using(crate::proofs::Ranges::coverings))]
+    #[tactic(auto, using(crate::proofs::numbers::Ranges::coverings))]
     pub fn contains(&self, other: &RangeInclusive) -> bool
         ensures { IsTrue result ↔ Covers self.now other.now }
     {

@@ -9,9 +9,9 @@ use Rattle.vm_allocator.specs.Ids.{IdState, IsHeld}
 use Rattle.vm_allocator.specs.declared.constraint.AllocPolicy.TheVariants.{FirstMatch, LastMatch, ExactMatch}
 use Rattle.vm_allocator.specs.declared.error.Error.{Error}
 use Rattle.vm_allocator.specs.declared.error.Error.TheVariants.{OutOfMemory}
-use Rattle.vm_allocator.proofs.CaseLemmas.{if_same, unless_same}
-use Rattle.vm_allocator.proofs.Once.{allocates_once, frees_once}
-use Rattle.vm_allocator.proofs.IdAnswers.{making_is_determined, allocating_is_determined, freeing_is_determined}
+use Rattle.vm_allocator.proofs.answers.Cases.{if_same, unless_same}
+use Rattle.vm_allocator.proofs.answers.Once.{allocates_once, frees_once}
+use Rattle.vm_allocator.proofs.ids.Answers.{making_is_determined, allocating_is_determined, freeing_is_determined}
 use Rattle.vm_replay.specs.Commands.{command_of}
 use Rattle.vm_replay.specs.Lines.{newline}
 use Rattle.vm_replay.specs.Machines.{Machine, start, with_space, with_ids, OnSpace, OnIds, Places, Releases, Does}

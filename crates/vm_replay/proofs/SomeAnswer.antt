@@ -8,9 +8,9 @@ use Rattle.vm_allocator.specs.Answer.{Allocates, Frees, Makes}
 use Rattle.vm_allocator.specs.Ids.{IdState, ByLeastNotHeld, AllocatesId, FreesId, MakesIds}
 use Rattle.vm_allocator.specs.declared.error.Error.{Error}
 use Rattle.vm_allocator.specs.declared.error.Error.TheVariants.{InvalidRange, OutOfMemory}
-use Rattle.vm_allocator.proofs.Decisions.{Decided, decided_both, decided_below, decided_up_to}
-use Rattle.vm_allocator.proofs.EveryCall.{every_call}
-use Rattle.vm_allocator.proofs.EveryIdCall.{every_call as every_id_call}
+use Rattle.vm_allocator.proofs.numbers.Decisions.{Decided, decided_both, decided_below, decided_up_to}
+use Rattle.vm_allocator.proofs.answers.EveryCall.{every_call}
+use Rattle.vm_allocator.proofs.ids.EveryCall.{every_call as every_id_call}
 use Rattle.vm_replay.specs.Machines.{Releases}
 
 -- some answer, not that memory ran out, and some next state are allowed

@@ -47,7 +47,7 @@ impl Model for IntervalTree {
 impl IntervalTree {
     /// The tree of the space `key`, with nothing held. `OutOfMemory` where there is no memory for its
     /// one node.
-    #[tactic(auto, using(crate::proofs::SpaceTrees::making))]
+    #[tactic(auto, using(crate::proofs::nodes::Spaces::making))]
     pub fn new(alloc: Global, key: RangeInclusive) -> Result<Self>
         ensures answer { MakesTree key result }
         ensures state { IfOk result (λ tree. IsAddressState (tree_state tree)) }
@@ -60,7 +60,7 @@ impl IntervalTree {
     }
 
     /// The root, which is always there.
-    #[tactic(auto, using(crate::proofs::SpaceTrees::rooted))]
+    #[tactic(auto, using(crate::proofs::nodes::Spaces::rooted))]
     fn root(&self) -> &InnerNode
         ensures value { result.now ≡ self.now }
         ensures space { IsSpaceTree self.now }
@@ -82,7 +82,7 @@ impl IntervalTree {
     }
 
     /// `allocate`, which adds the nodes that it enters to a count.
-    #[tactic(auto, using(crate::proofs::Choosing::settling, crate::proofs::Counting::settlings))]
+    #[tactic(auto, using(crate::proofs::choosing::Searched::settling, crate::proofs::counts::Granting::settlings))]
     fn grant(
         &mut self,
         alloc: Global,
@@ -101,7 +101,7 @@ impl IntervalTree {
     }
 
     /// `allocate`, and how many nodes it entered.
-    #[tactic(auto, using(crate::proofs::Counting::settlings))]
+    #[tactic(auto, using(crate::proofs::counts::Granting::settlings))]
     pub(crate) fn allocate_counted(
         &mut self,
         alloc: Global,
@@ -123,7 +123,7 @@ impl IntervalTree {
     /// place `ResourceNotAvailable`, or for `ExactMatch` the first of its faults; `Overflow` where the
     /// range ends at `u64::MAX`; and where a part of its gap is left, `Overflow` for a tree of height
     /// 48 or more, and `OutOfMemory`. A refusal changes nothing.
-    #[tactic(auto, using(crate::proofs::SpaceTrees::states))]
+    #[tactic(auto, using(crate::proofs::nodes::Spaces::states))]
     pub fn allocate(&mut self, alloc: Global, constraint: Constraint) -> Result<RangeInclusive>
         ensures answer { Settles (tree_state self.old) constraint result (tree_state self.new) }
         ensures unchanged { OnErr result (self.new ≡ self.old) }
@@ -136,7 +136,7 @@ impl IntervalTree {
     }
 
     /// `free`, and how many nodes it entered.
-    #[tactic(auto, using(crate::proofs::Counting::releasings))]
+    #[tactic(auto, using(crate::proofs::counts::Releasing::releasings))]
     pub(crate) fn free_counted(&mut self, key: &RangeInclusive) -> (Result<()>, u64)
         ensures answer { Frees (tree_state self.old) key.now result.0 (tree_state self.new) }
         ensures unchanged { OnErr result.0 (self.new ≡ self.old) }
@@ -151,7 +151,7 @@ impl IntervalTree {
 
     /// Gives a held range back, and joins its addresses with the clear ones on both sides. Any other
     /// range is `ResourceNotAvailable`. It takes no memory, and a refusal changes nothing.
-    #[tactic(auto, using(crate::proofs::SpaceTrees::states))]
+    #[tactic(auto, using(crate::proofs::nodes::Spaces::states))]
     pub fn free(&mut self, key: &RangeInclusive) -> Result<()>
         ensures answer { Frees (tree_state self.old) key.now result (tree_state self.new) }
         ensures unchanged { OnErr result (self.new ≡ self.old) }

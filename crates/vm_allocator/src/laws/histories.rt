@@ -17,13 +17,13 @@ fn places_answer()
 
 /// The held ranges have no address in common, lie in the space, do not contain `u64::MAX`, and are
 /// aligned and as long as was asked.
-#[tactic(auto, using(crate::proofs::Histories::slots_good))]
+#[tactic(auto, using(crate::proofs::histories::Histories::slots_good))]
 fn slots_are_good()
     ensures { SlotsAreGood }
 {}
 
 /// The space and the held ranges alone decide what a call answers.
-#[tactic(auto, using(crate::proofs::Histories::decided))]
+#[tactic(auto, using(crate::proofs::histories::Histories::decided))]
 fn state_decides()
     ensures { StateDecides }
 {}
@@ -35,7 +35,7 @@ fn releases_leave_no_trace()
 {}
 
 /// Every call has an answer in every state, and so every list of calls a history.
-#[tactic(auto, using(crate::proofs::EveryCall::answers))]
+#[tactic(auto, using(crate::proofs::answers::EveryCall::answers))]
 fn every_call_is_answered()
     ensures call { EveryCallIsAnswered }
     ensures list { EveryListHasHistory }

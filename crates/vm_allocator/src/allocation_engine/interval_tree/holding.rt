@@ -28,7 +28,7 @@ const TOO_HIGH: u64 = 48;
 impl IntervalTree {
     /// Holds a range within a free block. Where a part of the block is left, a tree that is too high
     /// is `Overflow`, and then comes `OutOfMemory`: all memory is asked for before the first change.
-    #[tactic(auto, using(crate::proofs::TreeCarve::takings, crate::proofs::TreeCarve::carves, crate::proofs::SpaceTrees::rooted, crate::proofs::CarveWays::holdings))]
+    #[tactic(auto, using(crate::proofs::splitting::Holding::takings, crate::proofs::splitting::Holding::carves, crate::proofs::nodes::Spaces::rooted, crate::proofs::counts::Carving::holdings))]
     pub(super) fn hold(
         &mut self,
         alloc: Global,

@@ -40,7 +40,7 @@ impl IntervalTree {
     }
 
     /// The least place for a request.
-    #[tactic(auto, using(crate::proofs::Choosing::first_choices))]
+    #[tactic(auto, using(crate::proofs::choosing::Searched::first_choices))]
     fn least_place(&self, constraint: Constraint, count: &mut u64) -> Result<Choice>
         requires policy { constraint.policy ≡ FirstMatch }
         requires count_fits { count.old + node_count self.now ≤ MAX }
@@ -57,7 +57,7 @@ impl IntervalTree {
     }
 
     /// The greatest place for a request.
-    #[tactic(auto, using(crate::proofs::Choosing::last_choices))]
+    #[tactic(auto, using(crate::proofs::choosing::Searched::last_choices))]
     fn greatest_place(&self, constraint: Constraint, count: &mut u64) -> Result<Choice>
         requires policy { constraint.policy ≡ LastMatch }
         requires count_fits { count.old + node_count self.now ≤ MAX }
@@ -76,7 +76,7 @@ impl IntervalTree {
     /// The named start, where it is a place. In this order: `Overflow` for `u64::MAX`,
     /// `ResourceNotAvailable` for a start outside the space, `Overflow` for a range that passes
     /// `u64::MAX`, and then what the block with the start says.
-    #[tactic(auto, using(crate::proofs::ExactChoice::exact_choices, crate::proofs::Ways::named_ways))]
+    #[tactic(auto, using(crate::proofs::choosing::Named::exact_choices, crate::proofs::counts::WayBounds::named_ways))]
     fn named_place(&self, constraint: Constraint, start: u64, count: &mut u64) -> Result<Choice>
         requires policy { constraint.policy ≡ ExactMatch start }
         requires count_fits { count.old + height_of self.now ≤ MAX }
@@ -121,7 +121,7 @@ fn range_at(place: Place, size: u64) -> Result<Choice>
 /// What the block with a start says to a request from there to `last`. A held block of exactly this
 /// range is `InvalidStateTransition`, any other and a free one that is too short
 /// `ResourceNotAvailable`, and a range that ends at `u64::MAX` is `Overflow`.
-#[tactic(auto, using(crate::proofs::ExactChoice::blocks_of_starts))]
+#[tactic(auto, using(crate::proofs::choosing::Named::blocks_of_starts))]
 fn exact_in(key: RangeInclusive, state: NodeState, start: u64, last: u64) -> Result<Choice>
     requires ordered { start ≤ last }
     requires below { start < MAX }

@@ -21,7 +21,7 @@ use crate::range::RangeInclusive;
 
 impl IntervalTree {
     /// `free`, which adds the nodes that it enters to a count.
-    #[tactic(auto, using(crate::proofs::Releasing::releases, crate::proofs::Counting::ways_back))]
+    #[tactic(auto, using(crate::proofs::releasing::Rejoining::releases, crate::proofs::counts::Releasing::ways_back))]
     pub(super) fn release(&mut self, key: &RangeInclusive, count: &mut u64) -> Result<()>
         requires { count.old + 5 * height_of self.old ≤ MAX }
         ensures answer { Frees (tree_state self.old) key.now result (tree_state self.new) }
@@ -37,7 +37,7 @@ impl IntervalTree {
 }
 
 /// Removes the free blocks beside a held one, and gives the held one all their addresses, free again.
-#[tactic(auto, using(crate::proofs::Releasing::rejoins, crate::proofs::Counting::removals))]
+#[tactic(auto, using(crate::proofs::releasing::Rejoining::rejoins, crate::proofs::counts::Releasing::removals))]
 fn rejoin(root: &mut Child, key: &RangeInclusive, beside: &Neighbours, count: &mut u64)
     requires around { IsAround (blocks (side root.old)) key.now beside.now }
     requires count_fits { count.old + 3 * height_of (side root.old) ≤ MAX }
@@ -68,7 +68,7 @@ fn joined(key: &RangeInclusive, beside: &Neighbours) -> RangeInclusive
 }
 
 /// Removes the node with a key, if there is such a key.
-#[tactic(auto, using(crate::proofs::Ways::removal_bounds))]
+#[tactic(auto, using(crate::proofs::counts::WayBounds::removal_bounds))]
 fn drop_if(root: &mut Child, key: &Option<RangeInclusive>, count: &mut u64)
     requires { count.old + height_of (side root.old) ≤ MAX }
     ensures blocks { blocks (side root.new) ≡ without_if key.now (blocks (side root.old)) }

@@ -111,7 +111,7 @@ fn fork(
 
 /// The rotations where the left side is two levels higher: a single one, or a double one where the
 /// inner grandchild is the higher.
-#[tactic(auto, using(crate::proofs::BlockOrder::rotations))]
+#[tactic(auto, using(crate::proofs::blocks::Order::rotations))]
 fn lean_left(
     left: Box<InnerNode>,
     middle: Box<InnerNode>,
@@ -137,7 +137,7 @@ fn lean_left(
 }
 
 /// The rotations where the right side is two levels higher, the mirror image.
-#[tactic(auto, using(crate::proofs::BlockOrder::rotations))]
+#[tactic(auto, using(crate::proofs::blocks::Order::rotations))]
 fn lean_right(
     left: Child,
     middle: Box<InnerNode>,

@@ -22,7 +22,7 @@ pub(crate) struct Rest {
 }
 
 /// Links a leaf, if there is one, below a side.
-#[tactic(auto, using(crate::proofs::TreeCarve::leaves))]
+#[tactic(auto, using(crate::proofs::splitting::Carving::leaves))]
 fn link_if(child: &mut Child, leaf: Child, count: &mut u64)
     requires leaf { IfSome leaf (λ n. IsLeaf n.value) }
     requires clear { AreClearOf (blocks (side leaf)) (blocks (side child.old)) }
@@ -40,7 +40,7 @@ fn link_if(child: &mut Child, leaf: Child, count: &mut u64)
 
 /// Gives the topmost node a range, which is held, and links what is left beside it; says whether
 /// the height there changed.
-#[tactic(auto, using(crate::proofs::TreeCarve::carvings, crate::proofs::CarveWays::ways_to_carve, crate::proofs::CarveWays::link_bounds))]
+#[tactic(auto, using(crate::proofs::splitting::Carving::carvings, crate::proofs::counts::Carving::ways_to_carve, crate::proofs::counts::Carving::link_bounds))]
 fn carve_here(at: &mut Child, range: RangeInclusive, rest: Rest, count: &mut u64) -> bool
     requires some { IsSome at.old }
     requires leaves { AreLeaves rest }
@@ -70,7 +70,7 @@ fn carve_here(at: &mut Child, range: RangeInclusive, rest: Rest, count: &mut u64
 
 /// Gives the node with a key below the node at a place a range, which is held, and links what is
 /// left beside it; says whether the height there changed.
-#[tactic(auto, using(crate::proofs::TreeCarve::carvings, crate::proofs::CarveWays::ways_to_carve))]
+#[tactic(auto, using(crate::proofs::splitting::Carving::carvings, crate::proofs::counts::Carving::ways_to_carve))]
 pub(crate) fn carve_at(
     at: &mut Child,
     key: &RangeInclusive,

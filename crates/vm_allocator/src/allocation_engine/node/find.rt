@@ -11,7 +11,7 @@ use crate::range::RangeInclusive;
 
 impl InnerNode {
     /// The node whose key contains this one.
-    #[tactic(auto, using(crate::proofs::Supersets::supersets, crate::proofs::Ways::ways_across))]
+    #[tactic(auto, using(crate::proofs::nodes::Supersets::supersets, crate::proofs::counts::Ways::ways_across))]
     pub(crate) fn search_superset(
         &self,
         key: &RangeInclusive,

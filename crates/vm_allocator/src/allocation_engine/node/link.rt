@@ -10,7 +10,7 @@ use super::balance::{Settled, rebalance, settle};
 use super::{Child, InnerNode};
 
 /// Adds a leaf at a place, below the node there if there is one; says whether the height changed.
-#[tactic(auto, using(crate::proofs::BlockOrder::links, crate::proofs::SideChange::places, crate::proofs::Ways::ways_down))]
+#[tactic(auto, using(crate::proofs::blocks::Order::links, crate::proofs::nodes::SideChange::places, crate::proofs::counts::Ways::ways_down))]
 pub(super) fn link_at(at: &mut Child, leaf: Box<InnerNode>, count: &mut u64) -> bool
     requires leaf { IsLeaf leaf.value }
     requires clear { IsClearOf (root_block leaf.value).key (blocks (side at.old)) }

@@ -21,7 +21,7 @@ pub(crate) struct Neighbours {
 }
 
 /// The key of the last block of a side where it is free, and `before` where the side is absent.
-#[tactic(auto, using(crate::proofs::Ways::ways_to_ends))]
+#[tactic(auto, using(crate::proofs::counts::Ways::ways_to_ends))]
 fn last_free(
     child: &Child,
     before: Option<RangeInclusive>,
@@ -38,7 +38,7 @@ fn last_free(
 }
 
 /// The key of the first block of a side where it is free, and `after` where the side is absent.
-#[tactic(auto, using(crate::proofs::Ways::ways_to_ends))]
+#[tactic(auto, using(crate::proofs::counts::Ways::ways_to_ends))]
 fn first_free(
     child: &Child,
     after: Option<RangeInclusive>,
@@ -67,7 +67,7 @@ impl InnerNode {
     }
 
     /// The key of the last block where it is free.
-    #[tactic(auto, using(crate::proofs::Neighbours::ends, crate::proofs::Ways::ways_to_ends))]
+    #[tactic(auto, using(crate::proofs::releasing::Neighbours::ends, crate::proofs::counts::Ways::ways_to_ends))]
     fn last_free(&self, count: &mut u64) -> Option<RangeInclusive>
         requires { count.old + height_of self.now ≤ MAX }
         ensures value { (d : Option Range) → result ≡ last_free d (blocks self.now) }
@@ -81,7 +81,7 @@ impl InnerNode {
     }
 
     /// The key of the first block where it is free.
-    #[tactic(auto, using(crate::proofs::Neighbours::ends, crate::proofs::Ways::ways_to_ends))]
+    #[tactic(auto, using(crate::proofs::releasing::Neighbours::ends, crate::proofs::counts::Ways::ways_to_ends))]
     fn first_free(&self, count: &mut u64) -> Option<RangeInclusive>
         requires { count.old + height_of self.now ≤ MAX }
         ensures value { (d : Option Range) → result ≡ first_free (blocks self.now) d }
@@ -96,7 +96,7 @@ impl InnerNode {
 
     /// The free blocks beside the held block with this key, if there is one. `before` and `after` are
     /// what is free right before and right after the whole tree.
-    #[tactic(auto, using(crate::proofs::Neighbours::searches, crate::proofs::Ways::ways_around, crate::proofs::Ways::bounds_around))]
+    #[tactic(auto, using(crate::proofs::releasing::Neighbours::searches, crate::proofs::counts::Ways::ways_around, crate::proofs::counts::WayBounds::bounds_around))]
     pub(crate) fn neighbours(
         &self,
         key: &RangeInclusive,

@@ -22,7 +22,7 @@ pub(crate) struct Place {
 }
 
 /// The least multiple of the alignment from which a block has room for `size` clear addresses.
-#[tactic(auto, using(crate::proofs::Fits::least_fits_by_key))]
+#[tactic(auto, using(crate::proofs::choosing::Fits::least_fits_by_key))]
 fn least_fit(key: &RangeInclusive, state: NodeState, size: u64, alignment: u64) -> Option<u64>
     requires some { 0 < size }
     requires aligned { IsAlignment alignment }
@@ -43,7 +43,7 @@ fn least_fit(key: &RangeInclusive, state: NodeState, size: u64, alignment: u64) 
 }
 
 /// The greatest multiple of the alignment from which a block has room for `size` clear addresses.
-#[tactic(auto, using(crate::proofs::Fits::greatest_fits))]
+#[tactic(auto, using(crate::proofs::choosing::Fits::greatest_fits))]
 fn greatest_fit(key: &RangeInclusive, state: NodeState, size: u64, alignment: u64) -> Option<u64>
     requires some { 0 < size }
     requires aligned { IsAlignment alignment }
@@ -60,7 +60,7 @@ fn greatest_fit(key: &RangeInclusive, state: NodeState, size: u64, alignment: u6
 }
 
 /// The least place below a node: the first block with a fit, and its least fit.
-#[tactic(auto, using(crate::proofs::PlaceSearch::firsts, crate::proofs::SearchWays::firsts))]
+#[tactic(auto, using(crate::proofs::choosing::PlaceSearch::firsts, crate::proofs::counts::Searching::firsts))]
 pub(crate) fn first_place(
     tree: &Child,
     size: u64,
@@ -89,7 +89,7 @@ pub(crate) fn first_place(
 }
 
 /// The greatest place below a node: the last block with a fit, and its greatest fit.
-#[tactic(auto, using(crate::proofs::PlaceSearch::lasts, crate::proofs::SearchWays::lasts))]
+#[tactic(auto, using(crate::proofs::choosing::PlaceSearch::lasts, crate::proofs::counts::Searching::lasts))]
 pub(crate) fn last_place(
     tree: &Child,
     size: u64,

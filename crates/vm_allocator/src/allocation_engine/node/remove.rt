@@ -13,7 +13,7 @@ use std::cmp::Ordering;
 
 /// Takes the node with the least key out from below the node at a place; says whether the height
 /// there changed.
-#[tactic(auto, using(crate::proofs::Replacement::leasts, crate::proofs::SideChange::takes, crate::proofs::Ways::ways_to_first))]
+#[tactic(auto, using(crate::proofs::blocks::Replacement::leasts, crate::proofs::nodes::SideChange::takes, crate::proofs::counts::Ways::ways_to_first))]
 fn take_least_at(at: &mut Child, count: &mut u64) -> (Box<InnerNode>, bool)
     requires some { IsSome at.old }
     requires count_fits { count.old + height_of (side at.old) ≤ MAX }
@@ -49,7 +49,7 @@ fn take_least_at(at: &mut Child, count: &mut u64) -> (Box<InnerNode>, bool)
 
 /// What is left of a tree without its root, from the root's children: the other child where one is
 /// absent, and else both below the least node of the right one.
-#[tactic(auto, using(crate::proofs::Replacement::leasts, crate::proofs::SideChange::takes, crate::proofs::Ways::ways_to_join))]
+#[tactic(auto, using(crate::proofs::blocks::Replacement::leasts, crate::proofs::nodes::SideChange::takes, crate::proofs::counts::Ways::ways_to_join))]
 pub(super) fn join(left: Child, mut right: Child, count: &mut u64) -> Child
     requires ordered { IsOrderedFrom 0 (blocks (side left) ++ blocks (side right)) }
     requires close { DifferByAtMost 1 (height_of (side left)) (height_of (side right)) }
@@ -71,7 +71,7 @@ pub(super) fn join(left: Child, mut right: Child, count: &mut u64) -> Child
 
 /// Removes the node with a key from below the node at a place, if there is one; says whether the
 /// height there changed.
-#[tactic(auto, using(crate::proofs::Replacement::removals, crate::proofs::Replacement::leavings, crate::proofs::SideChange::takes, crate::proofs::Ways::ways_to_remove))]
+#[tactic(auto, using(crate::proofs::blocks::Replacement::removals, crate::proofs::blocks::Replacement::leavings, crate::proofs::nodes::SideChange::takes, crate::proofs::counts::Ways::ways_to_remove))]
 pub(crate) fn delete_at(at: &mut Child, key: &RangeInclusive, count: &mut u64) -> bool
     requires { count.old + height_of (side at.old) ≤ MAX }
     ensures blocks { blocks (side at.new) ≡ replace_block key.now [] (blocks (side at.old)) }

@@ -14,7 +14,7 @@ use std::cmp::Ordering;
 impl InnerNode {
     /// Gives the node with key `at` another key, which keeps its place in the order, and another
     /// state. It takes no memory.
-    #[tactic(auto, using(crate::proofs::Rewriting::rewritings, crate::proofs::Ways::ways_to))]
+    #[tactic(auto, using(crate::proofs::nodes::Rewriting::rewritings, crate::proofs::counts::Ways::ways_to))]
     pub(crate) fn rewrite(
         &mut self,
         at: &RangeInclusive,

@@ -43,7 +43,7 @@ impl InnerNode {
     /// The tree with one more key. A key that overlaps is refused by `Overlap` of it with the first
     /// key met on the way down, and only then may memory run out, `OutOfMemory`. A refusal hands the
     /// same tree back.
-    #[tactic(auto, using(crate::proofs::Ways::way_bounds), unfolding(crate::specs::NodeAnswer::TellsOverlap, crate::specs::NodeAnswer::RefusesKey))]
+    #[tactic(auto, using(crate::proofs::counts::WayBounds::way_bounds), unfolding(crate::specs::NodeAnswer::TellsOverlap, crate::specs::NodeAnswer::RefusesKey))]
     pub(crate) fn insert(
         tree: Box<InnerNode>,
         alloc: Global,
@@ -91,7 +91,7 @@ impl InnerNode {
 
     /// The tree without its root's key: its child where it has one alone, none where it has none,
     /// and else both children below the least node of the right one. It takes no memory.
-    #[tactic(auto, using(crate::proofs::Ways::removal_bounds, crate::proofs::Ways::ways_to_remove))]
+    #[tactic(auto, using(crate::proofs::counts::WayBounds::removal_bounds, crate::proofs::counts::Ways::ways_to_remove))]
     pub(crate) fn delete_root(mut tree: Box<InnerNode>, count: &mut u64) -> Option<Box<InnerNode>>
         requires { count.old + height_of tree.value ≤ MAX }
         ensures blocks { blocks (side result) ≡ replace_block (root_block tree.value).key [] (blocks tree.value) }
@@ -109,7 +109,7 @@ impl InnerNode {
     }
 
     /// The node with exactly this key.
-    #[tactic(auto, using(crate::proofs::Replacement::findings, crate::proofs::Ways::ways_to))]
+    #[tactic(auto, using(crate::proofs::blocks::Replacement::findings, crate::proofs::counts::Ways::ways_to))]
     pub(crate) fn search(&self, key: &RangeInclusive, count: &mut u64) -> Option<&InnerNode>
         requires { count.old + height_of self.now ≤ MAX }
         ensures found { find_key key.now (blocks self.now) ≡ option_map (λ n. root_block n.now) result }
@@ -132,7 +132,7 @@ impl InnerNode {
     }
 
     /// The first key that a new one overlaps on the way down.
-    #[tactic(auto, using(crate::proofs::Meetings::first_meetings, crate::proofs::Ways::ways_across))]
+    #[tactic(auto, using(crate::proofs::nodes::Meetings::first_meetings, crate::proofs::counts::Ways::ways_across))]
     fn first_met(&self, new: &RangeInclusive, count: &mut u64) -> Option<RangeInclusive>
         requires { count.old + height_of self.now ≤ MAX }
         ensures met { result ≡ first_met new.now self.now }
@@ -155,7 +155,7 @@ impl InnerNode {
 
     /// Marks the free block with this key as held. A held one is `InvalidStateTransition` of the key
     /// and `Allocated`, an absent one `ResourceNotAvailable`; both change nothing.
-    #[tactic(auto, using(crate::proofs::Rewriting::markings, crate::proofs::Ways::ways_to))]
+    #[tactic(auto, using(crate::proofs::nodes::Rewriting::markings, crate::proofs::counts::Ways::ways_to))]
     pub(crate) fn mark_as_allocated(&mut self, key: &RangeInclusive, count: &mut u64) -> Result<()>
         requires { count.old + height_of self.old ≤ MAX }
         ensures marks { Marks (find_key key.now (blocks self.old)) key.now result self.old self.new }

@@ -1,6 +1,5 @@
 use Rattle.std.proofs.Common.{arith}
-use Rattle.vm_allocator.specs.Carving.{CanCarve}
-use Rattle.vm_allocator.proofs.TreeCarve.{cut_of, known, can_carve, whole_carved, rest_carved, space_taken}
+use Rattle.vm_allocator.proofs.splitting.Holding.{cut_of, known, can_carve, whole_carved, rest_carved, space_taken}
 use Rattle.vm_allocator.proofs.allocation_engine.interval_tree.IntervalTree.hold.Goals as goal
 
 pub rewrite_at-requires-clause-known : goal.rewrite_at-requires-clause-known

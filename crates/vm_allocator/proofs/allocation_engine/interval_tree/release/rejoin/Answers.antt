@@ -1,6 +1,6 @@
 use Rattle.std.proofs.Common.{◌∙◌, ap}
 use Rattle.vm_allocator.specs.Release.{without_if}
-use Rattle.vm_allocator.proofs.Releasing.{slot_known}
+use Rattle.vm_allocator.proofs.releasing.Rejoining.{slot_known}
 use Rattle.vm_allocator.proofs.allocation_engine.interval_tree.release.rejoin.Goals as goal
 
 pub rewrite_at-requires-clause-known : goal.rewrite_at-requires-clause-known

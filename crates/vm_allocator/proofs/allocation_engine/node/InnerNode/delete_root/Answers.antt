@@ -1,6 +1,6 @@
 use Rattle.std.proofs.Common.{refl, ◌≡◌}
 use Rattle.vm_allocator.specs.NodeFields.{side, shape_of}
-use Rattle.vm_allocator.proofs.Replacement.{ordered_without, remove_in_middle}
+use Rattle.vm_allocator.proofs.blocks.Replacement.{ordered_without, remove_in_middle}
 use Rattle.vm_allocator.proofs.allocation_engine.node.InnerNode.delete_root.Goals as goal
 
 pub join-joined-requires-clause-ordered : goal.join-joined-requires-clause-ordered

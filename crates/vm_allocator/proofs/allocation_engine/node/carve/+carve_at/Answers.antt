@@ -1,7 +1,7 @@
 use Rattle.std.proofs.Common.{◌≡◌, rules, arith}
 use Rattle.vm_allocator.specs.Shape.{IsTree}
 use Rattle.vm_allocator.specs.NodeFields.{side, shape_of}
-use Rattle.vm_allocator.proofs.Rewriting.{known_left, known_right, rewritten_left, rewritten_right}
+use Rattle.vm_allocator.proofs.nodes.Rewriting.{known_left, known_right, rewritten_left, rewritten_right}
 use Rattle.vm_allocator.proofs.allocation_engine.node.carve.+carve_at.Goals as goal
 
 pub carve_at-changed-requires : goal.carve_at-changed-requires

@@ -2,7 +2,7 @@ use Rattle.std.proofs.Common.{◌≡◌, refl}
 use Rattle.vm_allocator.specs.Shape.{blocks}
 use Rattle.vm_allocator.specs.Release.{held_block}
 use Rattle.vm_allocator.specs.NodeFields.{side, shape_of}
-use Rattle.vm_allocator.proofs.TreeCarve.{before_clear, after_clear}
+use Rattle.vm_allocator.proofs.splitting.Carving.{before_clear, after_clear}
 use Rattle.vm_allocator.proofs.allocation_engine.node.carve.carve_here.Goals as goal
 
 pub link_if-requires-clause-clear : goal.link_if-requires-clause-clear

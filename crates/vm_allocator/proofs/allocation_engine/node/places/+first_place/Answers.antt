@@ -1,6 +1,6 @@
 use Rattle.std.proofs.Common.{◌≡◌}
 use Rattle.vm_allocator.specs.NodeFields.{side, shape_of}
-use Rattle.vm_allocator.proofs.PlaceSearch.{first_here, first_through_right}
+use Rattle.vm_allocator.proofs.choosing.PlaceSearch.{first_here, first_through_right}
 use Rattle.vm_allocator.proofs.allocation_engine.node.places.+first_place.Goals as goal
 
 pub returns-in-Some-least_fit-clause-place : goal.returns-in-Some-least_fit-clause-place

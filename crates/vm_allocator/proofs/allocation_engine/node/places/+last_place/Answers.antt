@@ -1,6 +1,6 @@
 use Rattle.std.proofs.Common.{◌≡◌}
 use Rattle.vm_allocator.specs.NodeFields.{side, shape_of}
-use Rattle.vm_allocator.proofs.PlaceSearch.{last_here, last_through_left}
+use Rattle.vm_allocator.proofs.choosing.PlaceSearch.{last_here, last_through_left}
 use Rattle.vm_allocator.proofs.allocation_engine.node.places.+last_place.Goals as goal
 
 pub returns-in-Some-greatest_fit-clause-place : goal.returns-in-Some-greatest_fit-clause-place

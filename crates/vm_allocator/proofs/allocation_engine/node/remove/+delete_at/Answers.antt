@@ -1,7 +1,7 @@
 use Rattle.std.proofs.Common.{◌≡◌, true}
 use Rattle.vm_allocator.specs.NodeFields.{side, shape_of}
 use Rattle.vm_allocator.specs.Shape.{IsTree}
-use Rattle.vm_allocator.proofs.Replacement.{changes_in_left, changes_in_right}
+use Rattle.vm_allocator.proofs.blocks.Replacement.{changes_in_left, changes_in_right}
 use Rattle.vm_allocator.proofs.allocation_engine.node.remove.+delete_at.Goals as goal
 use Rattle.vm_allocator.proofs.allocation_engine.node.remove.+delete_at.Goals.{in-Greater, in-Less}
 
