@@ -115,7 +115,7 @@ released_clear old r i h x low high =
           (one_held lo hi x old.held r q.0 i.slots h (held_without r q.0 old.held q.1) inside q.2)),
     )
 
--- so nothing but want of memory or depth refuses it
+-- so nothing but memory or depth refuses it
 pub refused_again : (old mid new : AddressState) (r : Range) (freed : Result (Unit {0}) Error) (answer : Result Range Error) → IsAddressState old → Contains old.held r → Frees old r freed mid → Allocates mid (request_for (address_count r) 1 (ExactMatch r.start)) answer new → IfErr answer (λ e. (e ≡ OutOfMemory) ⊎ (e ≡ Overflow))
 unfolding Frees Takes IsPlace IsChosen IsStartAligned IsAlignment
 refused_again old mid new r freed (Ok again) i c f h = tt

@@ -20,7 +20,7 @@ unfoldable pub TellsOverlap : Range → Option Range → List Block → Type 0
 TellsOverlap k None bs = IsClearOf k bs
 TellsOverlap k (Some met) bs = Overlaps k met
 
--- a key that overlaps is refused for the first key that it meets on the way down, and any other for want of memory alone
+-- a key that overlaps is refused for the first key that it meets on the way down, and any other only where memory runs out
 unfoldable pub RefusesKey : Range → Shape → Error → Type 0
 RefusesKey k s e =
     ((met : Range) × (first_met k s ≡ Some met) × Overlaps k met × (e ≡ Overlap k met))

@@ -95,7 +95,7 @@ pub record IsReleaseCount (h count : ℕ) : Type 0 where
 abbrev pub TOO_HIGH : ℕ
 TOO_HIGH = 48
 
--- a split, and want of memory for one, are answered only where the tree is not too high
+-- a split, and out of memory for one, are answered only where the tree is not too high
 pub record SplitsIfLow (h : ℕ) (old : AddressState) (answer : Result Range Error) : Type 0 where
   pub split : IfOk answer (λ r. LeavesClear old r → h < TOO_HIGH)
   pub memory : answer ≡ Err OutOfMemory → h < TOO_HIGH

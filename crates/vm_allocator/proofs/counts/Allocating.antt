@@ -40,7 +40,7 @@ sensible_entered s request k answer c m n =
       sensible = λ r. subst (λ (v : Request). Enters s v answer 0 c) made.0 n;
     }
 
--- no constraint is refused for want of memory
+-- no constraint is refused because memory runs out
 pub senseless_low : (h : ℕ) (old : AddressState) (request : Request) (e : Error) → MakesConstraint request (Err e) → SplitsIfLow h old (Err e)
 unfolding MakesConstraint ByConstraint
 senseless_low h old request e (inl z) = record { split = tt; memory = λ m. absurd (cc (m, z.1)) }
