@@ -1,4 +1,5 @@
 use super::*;
+use crate::tests::end_of_memory;
 use Call::{Allocate, Free, Holds, Peek};
 use std::process::Abort;
 use std::test::Fail;
@@ -39,24 +40,23 @@ fn are_freed(ids: &IdAllocator, freed: &[u32]) -> bool {
 }
 
 /// A call, with the answer that it has to have.
-#[derive(Drop)]
+#[derive(Debug, Drop)]
 enum Call {
     Allocate(Result<u32>),
+    Peek(Result<u32>),
     Free(u32, Result<u32>),
     Holds(u32, bool),
-    Peek(Result<u32>),
 }
 
 /// Does the calls in turn.
 fn replay(rt: &impl Abort, ids: &mut IdAllocator, calls: &[Call]) {
     for (number, call) in calls.iter().enumerate() {
-        let is_right = match call {
-            Allocate(want) => ids.allocate_id() == *want,
-            Free(id, want) => give_back(rt, ids, *id) == *want,
-            Holds(id, want) => ids.is_allocated(*id) == *want,
-            Peek(want) => ids.peek_id() == *want,
-        };
-        assert!(rt; is_right, "call {number}");
+        match call {
+            Allocate(want) => assert_eq!(rt; ids.allocate_id(), *want, "{number}: {call:?}"),
+            Peek(want) => assert_eq!(rt; ids.peek_id(), *want, "{number}: {call:?}"),
+            Free(id, want) => assert_eq!(rt; give_back(rt, ids, *id), *want, "{number}: {call:?}"),
+            Holds(id, want) => assert_eq!(rt; ids.is_allocated(*id), *want, "{number}: {call:?}"),
+        }
     }
 }
 
@@ -101,9 +101,15 @@ fn test_slot_id_free(rt: HostRuntime) -> std::result::Result<(), Fail> {
     replay(&rt, &mut ids, &calls);
     assert!(rt; are_freed(&ids, &[9, 10]));
 
-    replay(&rt, &mut ids, &[Allocate(Ok(9))]);
+    replay(&rt, &mut ids, &[Peek(Ok(9)), Allocate(Ok(9))]);
     assert!(rt; are_freed(&ids, &[10]));
-    replay(&rt, &mut ids, &[Free(21, Err(Error::NeverAllocated(21)))]);
+    let calls = [
+        Free(21, Err(Error::NeverAllocated(21))),
+        Holds(10, false),
+        Holds(9, true),
+        Holds(14, false),
+    ];
+    replay(&rt, &mut ids, &calls);
     Ok(())
 }
 
@@ -187,29 +193,6 @@ fn test_id_sanity_checks(rt: HostRuntime) -> std::result::Result<(), Fail> {
 }
 
 #[test]
-fn ids_of_a_range(rt: HostRuntime) -> std::result::Result<(), Fail> {
-    let mut ids = IdAllocator::new(rt.alloc(), 5, 23)?;
-    replay(&rt, &mut ids, &[Free(3, Err(Error::OutOfRange(3)))]);
-    take_all(&rt, &mut ids, 5, 13);
-    let calls = [
-        Free(10, Ok(10)),
-        Free(10, Err(Error::AlreadyReleased(10))),
-        Free(9, Ok(9)),
-        Peek(Ok(9)),
-        Allocate(Ok(9)),
-        Free(21, Err(Error::NeverAllocated(21))),
-        Holds(10, false),
-        Holds(9, true),
-        Holds(14, false),
-    ];
-    replay(&rt, &mut ids, &calls);
-
-    let refused = IdAllocator::new(rt.alloc(), 23, 5);
-    assert_eq!(rt; refused.err(), Some(Error::InvalidRange(23, 5)));
-    Ok(())
-}
-
-#[test]
 fn greatest_id_alone(rt: HostRuntime) -> std::result::Result<(), Fail> {
     let id = 4294967295;
     let mut ids = IdAllocator::new(rt.alloc(), id, id)?;
@@ -225,5 +208,43 @@ fn greatest_id_alone(rt: HostRuntime) -> std::result::Result<(), Fail> {
         Allocate(Err(Error::Overflow)),
     ];
     replay(&rt, &mut ids, &calls);
+    Ok(())
+}
+
+#[test]
+fn without_memory(rt: HostRuntime) -> std::result::Result<(), Fail> {
+    let mut ids = IdAllocator::new(rt.alloc(), 5, 9)?;
+    take_all(&rt, &mut ids, 5, 8);
+    let given_back = [Free(6, Ok(6)), Free(7, Ok(7))];
+    replay(&rt, &mut ids, &given_back);
+    let calls = [
+        Free(4, Err(Error::OutOfRange(4))),
+        Free(9, Err(Error::NeverAllocated(9))),
+        Free(6, Err(Error::AlreadyReleased(6))),
+        Holds(5, true),
+        Holds(6, false),
+        Peek(Ok(6)),
+        Allocate(Ok(6)),
+        Free(7, Err(Error::AlreadyReleased(7))),
+        Allocate(Ok(7)),
+        Allocate(Ok(9)),
+        Peek(Err(Error::ResourceNotAvailable)),
+        Allocate(Err(Error::ResourceNotAvailable)),
+    ];
+    end_of_memory(rt.alloc());
+    replay(&rt, &mut ids, &calls);
+
+    let refused = IdAllocator::new(rt.alloc(), 23, 5);
+    assert_eq!(rt; refused.err(), Some(Error::InvalidRange(23, 5)));
+    let mut last = IdAllocator::new(rt.alloc(), u32::MAX, u32::MAX)?;
+    let calls = [
+        Allocate(Ok(u32::MAX)),
+        Peek(Err(Error::Overflow)),
+        Allocate(Err(Error::Overflow)),
+    ];
+    replay(&rt, &mut last, &calls);
+    // An id given back for the first time asks for memory: what a run without memory is known by.
+    let answer = last.free_id(u32::MAX);
+    assert!(rt; answer == Err(Error::OutOfMemory) || answer == Ok(u32::MAX));
     Ok(())
 }
