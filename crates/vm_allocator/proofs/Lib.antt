@@ -46,3 +46,4 @@ pub mod HeldSets
 pub mod Outcomes
 pub mod HistoryAnswers
 pub mod Counting
+pub mod Callers

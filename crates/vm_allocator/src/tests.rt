@@ -5,13 +5,25 @@ use std::cmp::Ordering;
 use std::process::Abort;
 use std::test::Fail;
 
+mod uses;
+mod windows;
+
 const MAX: u64 = u64::MAX;
 
-/// How many bytes `end_of_memory` asks for. Nothing else asks for as many, and tests/no_memory has
-/// the same number.
+/// How many bytes `end_of_memory` asks for. Nothing else asks for as many, and tests/refused_memory
+/// has the same number.
 const LAST_REQUEST: usize = 1_000_003;
 
-/// Asks for memory, whether it is there or not. tests/no_memory refuses every later request.
+/// The allocator of a space. A second try stands for a run in which one request for memory is
+/// refused, here and below.
+pub(crate) fn made(alloc: Global, base: u64, size: u64) -> Result<AddressAllocator> {
+    match AddressAllocator::new(alloc, base, size) {
+        Err(Error::OutOfMemory) => AddressAllocator::new(alloc, base, size),
+        answer => answer,
+    }
+}
+
+/// Asks for memory, whether it is there or not. tests/refused_memory refuses every later request.
 pub(crate) fn end_of_memory(alloc: Global) {
     let _ = Vec::<u8>::with_capacity(alloc, LAST_REQUEST);
 }

@@ -1,5 +1,6 @@
 use super::*;
 use crate::allocation_engine::NodeState::Allocated;
+use crate::tests::made;
 use AllocPolicy::{ExactMatch, FirstMatch, LastMatch};
 use Call::{Exact, First, Free, Last, Space};
 use Error::{
@@ -69,15 +70,6 @@ impl Call {
             Counted => space.allocate_counted(alloc, size, alignment, policy).0?,
         };
         Ok((range.start(), range.end()))
-    }
-}
-
-/// The allocator of a space. A second try stands for a run in which one request for memory is
-/// refused, here and below.
-fn made(alloc: Global, base: u64, size: u64) -> Result<AddressAllocator> {
-    match AddressAllocator::new(alloc, base, size) {
-        Err(Error::OutOfMemory) => AddressAllocator::new(alloc, base, size),
-        answer => answer,
     }
 }
 

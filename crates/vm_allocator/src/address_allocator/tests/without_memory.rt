@@ -1,4 +1,4 @@
-//! What asks for no memory. tests/no_memory refuses every request after `end_of_memory`.
+//! What asks for no memory. tests/refused_memory refuses every request after `end_of_memory`.
 use super::*;
 use crate::tests::end_of_memory;
 
