@@ -7,6 +7,7 @@ use std::alloc::Global;
 use vm_allocator::{AddressAllocator, AllocPolicy, RangeInclusive, Result};
 
 /// Two windows of a page each in the gap below 4 GiB.
+#[tactic(auto, using(crate::proofs::Callers::callers))]
 pub fn windows(alloc: Global) -> Result<(RangeInclusive, RangeInclusive)>
     ensures { IfOk result (λ both. ¬ Overlaps both.0 both.1) }
 {
