@@ -13,6 +13,9 @@ mod without_memory;
 
 const MAX: u64 = u64::MAX;
 
+/// The greatest address that can be held.
+const LAST: u64 = MAX - 1;
+
 /// Half of all addresses.
 const HALF: u64 = 1 << 63;
 
@@ -322,19 +325,19 @@ fn ends_of_all_addresses(rt: HostRuntime) -> std::result::Result<(), Fail> {
     let mut space = made(rt.alloc(), 1, MAX)?;
     let rows = [
         (Last(1, 1), Overflow),
-        (Last(1, 2), Range(MAX - 1, MAX - 1)),
-        (Free(MAX - 1, MAX - 1), Range(MAX - 1, MAX - 1)),
+        (Last(1, 2), Range(LAST, LAST)),
+        (Free(LAST, LAST), Range(LAST, LAST)),
         (First(MAX, 1), Overflow),
-        (First(MAX - 1, 1), Range(1, MAX - 1)),
+        (First(LAST, 1), Range(1, LAST)),
         (First(1, 1), Overflow),
-        (Free(1, MAX - 1), Range(1, MAX - 1)),
+        (Free(1, LAST), Range(1, LAST)),
         (First(1, HALF), Range(HALF, HALF)),
         (First(1, HALF), NotAvailable),
         (Free(HALF, HALF), Range(HALF, HALF)),
         (Exact(HALF, HALF, HALF), Overflow),
         (First(HALF, HALF), Overflow),
         (Space(1, MAX), Range(1, MAX)),
-        (Space(0, MAX), Range(0, MAX - 1)),
+        (Space(0, MAX), Range(0, LAST)),
         (Space(MAX, 1), Range(MAX, MAX)),
         (Space(MAX, 2), Overflow),
         (Space(1, 0), Underflow),

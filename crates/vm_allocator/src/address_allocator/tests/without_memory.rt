@@ -87,7 +87,7 @@ fn refused(rt: HostRuntime) -> std::result::Result<(), Fail> {
     let mut highest = made(rt.alloc(), MAX - 15, 16)?;
     let ending_at_max = [
         (Last(1, 1), Overflow),
-        (Exact(2, 1, MAX - 1), Overflow),
+        (Exact(2, 1, LAST), Overflow),
         (First(16, 1), Overflow),
     ];
     end_of_memory(rt.alloc());
