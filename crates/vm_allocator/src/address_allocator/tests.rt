@@ -3,11 +3,8 @@ use crate::allocation_engine::NodeState::Allocated;
 use crate::tests::made;
 use AllocPolicy::{ExactMatch, FirstMatch, LastMatch};
 use Call::{Exact, First, Free, Last, Space};
-use Error::{
-    InvalidAlignment, InvalidSize, InvalidStateTransition, Overflow, ResourceNotAvailable,
-    UnalignedAddress, Underflow,
-};
 use Form::{Counted, Plain};
+use Want::{Held, NoAlignment, NoSize, NotAvailable, Overflow, Range, Unaligned, Underflow};
 use std::alloc::AllocError;
 use std::process::Abort;
 use std::test::Fail;
@@ -15,6 +12,9 @@ use std::test::Fail;
 mod without_memory;
 
 const MAX: u64 = u64::MAX;
+
+/// The greatest address that can be held.
+const LAST: u64 = MAX - 1;
 
 /// Half of all addresses.
 const HALF: u64 = 1 << 63;
@@ -37,6 +37,39 @@ enum Call {
 /// The first and the last address of the space that is made, or of the range that is given out or
 /// given back.
 type Answer = Result<(u64, u64)>;
+
+/// The answer that a call has to have.
+#[derive(Clone, Copy, Debug)]
+enum Want {
+    /// The first and the last address of what is made, given out or given back.
+    Range(u64, u64),
+    /// A refusal, since exactly this range is held.
+    Held(u64, u64),
+    NotAvailable,
+    Overflow,
+    Underflow,
+    Unaligned,
+    NoAlignment,
+    NoSize,
+}
+
+impl Want {
+    fn answer(self) -> Answer {
+        match self {
+            Range(start, end) => Ok((start, end)),
+            Held(start, end) => {
+                let range = RangeInclusive::new(start, end)?;
+                Err(Error::InvalidStateTransition(range, Allocated))
+            }
+            NotAvailable => Err(Error::ResourceNotAvailable),
+            Overflow => Err(Error::Overflow),
+            Underflow => Err(Error::Underflow),
+            Unaligned => Err(Error::UnalignedAddress),
+            NoAlignment => Err(Error::InvalidAlignment),
+            NoSize => Err(Error::InvalidSize(0)),
+        }
+    }
+}
 
 /// Which of two calls that do the same.
 #[derive(Clone, Copy, Debug)]
@@ -105,34 +138,26 @@ fn ask(rt: &(impl Abort + AllocGlobal), space: &mut AddressAllocator, call: Call
 }
 
 /// Does the calls in turn, each with the answer that it has to have.
-fn replay(rt: &(impl Abort + AllocGlobal), space: &mut AddressAllocator, rows: &[(Call, Answer)]) {
+fn replay(rt: &(impl Abort + AllocGlobal), space: &mut AddressAllocator, rows: &[(Call, Want)]) {
     for (call, want) in rows {
-        assert_eq!(rt; ask(rt, space, *call), *want, "{call:?}");
-    }
-}
-
-/// The refusal of a start where exactly this range is held.
-fn is_held(start: u64, end: u64) -> Error {
-    match RangeInclusive::new(start, end) {
-        Ok(range) => InvalidStateTransition(range, Allocated),
-        Err(error) => error,
+        assert_eq!(rt; ask(rt, space, *call), want.answer(), "{call:?}");
     }
 }
 
 #[test]
 fn test_new_fails_overflow(rt: HostRuntime) {
-    assert_eq!(rt; made(rt.alloc(), MAX, 0x100).err(), Some(Overflow));
+    assert_eq!(rt; made(rt.alloc(), MAX, 0x100).err(), Some(Error::Overflow));
 }
 
 #[test]
 fn test_new_fails_size_zero(rt: HostRuntime) {
-    assert_eq!(rt; made(rt.alloc(), 0x1000, 0).err(), Some(Underflow));
+    assert_eq!(rt; made(rt.alloc(), 0x1000, 0).err(), Some(Error::Underflow));
 }
 
 #[test]
 fn test_allocate_fails_alignment_zero(rt: HostRuntime) -> std::result::Result<(), Fail> {
     let mut space = made(rt.alloc(), 0x1000, 0x10000)?;
-    let rows = [(First(0x100, 0), Err(InvalidAlignment))];
+    let rows = [(First(0x100, 0), NoAlignment)];
     replay(&rt, &mut space, &rows);
     Ok(())
 }
@@ -142,7 +167,7 @@ fn test_allocate_fails_alignment_non_power_of_two(
     rt: HostRuntime,
 ) -> std::result::Result<(), Fail> {
     let mut space = made(rt.alloc(), 0x1000, 0x10000)?;
-    let rows = [(First(0x100, 200), Err(InvalidAlignment))];
+    let rows = [(First(0x100, 200), NoAlignment)];
     replay(&rt, &mut space, &rows);
     Ok(())
 }
@@ -151,9 +176,9 @@ fn test_allocate_fails_alignment_non_power_of_two(
 fn test_allocate_with_alignment_first_ok(rt: HostRuntime) -> std::result::Result<(), Fail> {
     let mut space = made(rt.alloc(), 0x1000, 0x1000)?;
     let rows = [
-        (First(0x110, 0x100), Ok((0x1000, 0x110F))),
-        (First(0x100, 0x100), Ok((0x1200, 0x12FF))),
-        (First(0x10, 0x100), Ok((0x1300, 0x130F))),
+        (First(0x110, 0x100), Range(0x1000, 0x110F)),
+        (First(0x100, 0x100), Range(0x1200, 0x12FF)),
+        (First(0x10, 0x100), Range(0x1300, 0x130F)),
     ];
     replay(&rt, &mut space, &rows);
     Ok(())
@@ -163,9 +188,9 @@ fn test_allocate_with_alignment_first_ok(rt: HostRuntime) -> std::result::Result
 fn test_allocate_with_alignment_last_ok(rt: HostRuntime) -> std::result::Result<(), Fail> {
     let mut space = made(rt.alloc(), 0x1000, 0x10000)?;
     let rows = [
-        (Last(0x110, 0x100), Ok((0x10E00, 0x10F0F))),
-        (Last(0x100, 0x100), Ok((0x10D00, 0x10DFF))),
-        (Last(0x10, 0x100), Ok((0x10C00, 0x10C0F))),
+        (Last(0x110, 0x100), Range(0x10E00, 0x10F0F)),
+        (Last(0x100, 0x100), Range(0x10D00, 0x10DFF)),
+        (Last(0x10, 0x100), Range(0x10C00, 0x10C0F)),
     ];
     replay(&rt, &mut space, &rows);
     Ok(())
@@ -174,7 +199,7 @@ fn test_allocate_with_alignment_last_ok(rt: HostRuntime) -> std::result::Result<
 #[test]
 fn test_allow_range_size_one_left(rt: HostRuntime) -> std::result::Result<(), Fail> {
     let mut space = made(rt.alloc(), 1, 1000)?;
-    let rows = [(First(10, 2), Ok((2, 11))), (First(1, 1), Ok((1, 1)))];
+    let rows = [(First(10, 2), Range(2, 11)), (First(1, 1), Range(1, 1))];
     replay(&rt, &mut space, &rows);
     Ok(())
 }
@@ -183,9 +208,9 @@ fn test_allow_range_size_one_left(rt: HostRuntime) -> std::result::Result<(), Fa
 fn test_tree_allocate_address_free_and_realloc(rt: HostRuntime) -> std::result::Result<(), Fail> {
     let mut space = made(rt.alloc(), 0x1000, 0x1000)?;
     let rows = [
-        (First(0x800, 0x100), Ok((0x1000, 0x17FF))),
-        (Free(0x1000, 0x17FF), Ok((0x1000, 0x17FF))),
-        (First(0x800, 0x100), Ok((0x1000, 0x17FF))),
+        (First(0x800, 0x100), Range(0x1000, 0x17FF)),
+        (Free(0x1000, 0x17FF), Range(0x1000, 0x17FF)),
+        (First(0x800, 0x100), Range(0x1000, 0x17FF)),
     ];
     replay(&rt, &mut space, &rows);
     Ok(())
@@ -195,9 +220,9 @@ fn test_tree_allocate_address_free_and_realloc(rt: HostRuntime) -> std::result::
 fn test_allocate_fails_not_enough_space(rt: HostRuntime) -> std::result::Result<(), Fail> {
     let mut space = made(rt.alloc(), 0x1000, 0x1000)?;
     let rows = [
-        (Last(0x800, 0x100), Ok((0x1800, 0x1FFF))),
-        (First(0x900, 0x100), Err(ResourceNotAvailable)),
-        (First(0x400, 0x100), Ok((0x1000, 0x13FF))),
+        (Last(0x800, 0x100), Range(0x1800, 0x1FFF)),
+        (First(0x900, 0x100), NotAvailable),
+        (First(0x400, 0x100), Range(0x1000, 0x13FF)),
     ];
     replay(&rt, &mut space, &rows);
     Ok(())
@@ -207,10 +232,10 @@ fn test_allocate_fails_not_enough_space(rt: HostRuntime) -> std::result::Result<
 fn test_allocate_address_not_enough_space(rt: HostRuntime) -> std::result::Result<(), Fail> {
     let mut space = made(rt.alloc(), 0x1000, 0x1000)?;
     let rows = [
-        (First(0x800, 0x100), Ok((0x1000, 0x17FF))),
-        (Exact(0x200, 0x100, 0x1A00), Ok((0x1A00, 0x1BFF))),
-        (Exact(0x800, 0x100, 0x1800), Err(ResourceNotAvailable)),
-        (Exact(0x100, 0x100, 0x1800), Ok((0x1800, 0x18FF))),
+        (First(0x800, 0x100), Range(0x1000, 0x17FF)),
+        (Exact(0x200, 0x100, 0x1A00), Range(0x1A00, 0x1BFF)),
+        (Exact(0x800, 0x100, 0x1800), NotAvailable),
+        (Exact(0x100, 0x100, 0x1800), Range(0x1800, 0x18FF)),
     ];
     replay(&rt, &mut space, &rows);
     Ok(())
@@ -220,10 +245,10 @@ fn test_allocate_address_not_enough_space(rt: HostRuntime) -> std::result::Resul
 fn test_allocate_address_fail_free_and_realloc(rt: HostRuntime) -> std::result::Result<(), Fail> {
     let mut space = made(rt.alloc(), 0, 0x1000)?;
     let rows = [
-        (First(0x2000, 0x100), Err(ResourceNotAvailable)),
-        (Free(0x1200, 0x3200), Err(ResourceNotAvailable)),
-        (Exact(0x4FE, 0x100, 0x500), Ok((0x500, 0x9FD))),
-        (Free(0x500, 0x9FD), Ok((0x500, 0x9FD))),
+        (First(0x2000, 0x100), NotAvailable),
+        (Free(0x1200, 0x3200), NotAvailable),
+        (Exact(0x4FE, 0x100, 0x500), Range(0x500, 0x9FD)),
+        (Free(0x500, 0x9FD), Range(0x500, 0x9FD)),
     ];
     replay(&rt, &mut space, &rows);
     Ok(())
@@ -233,10 +258,10 @@ fn test_allocate_address_fail_free_and_realloc(rt: HostRuntime) -> std::result::
 fn test_regression_exact_match_length_check(rt: HostRuntime) -> std::result::Result<(), Fail> {
     let mut space = made(rt.alloc(), 0, 0x2000)?;
     let rows = [
-        (Exact(0x1000, 0x1000, 0x1000), Ok((0x1000, 0x1FFF))),
-        (First(0, 0x1000), Err(InvalidSize(0))),
-        (Exact(0x1000, 0x1000, 3), Err(UnalignedAddress)),
-        (Exact(0x1000, 0x1000, 0), Ok((0, 0xFFF))),
+        (Exact(0x1000, 0x1000, 0x1000), Range(0x1000, 0x1FFF)),
+        (First(0, 0x1000), NoSize),
+        (Exact(0x1000, 0x1000, 3), Unaligned),
+        (Exact(0x1000, 0x1000, 0), Range(0, 0xFFF)),
     ];
     replay(&rt, &mut space, &rows);
     Ok(())
@@ -247,28 +272,28 @@ fn answers_of_calls(rt: HostRuntime) -> std::result::Result<(), Fail> {
     let mut space = made(rt.alloc(), 0, 6)?;
     let rows = [
         // Each address on its own.
-        (Exact(1, 1, 3), Ok((3, 3))),
-        (Exact(1, 1, 0), Ok((0, 0))),
-        (Exact(1, 1, 5), Ok((5, 5))),
-        (Exact(1, 1, 1), Ok((1, 1))),
-        (Exact(1, 1, 4), Ok((4, 4))),
-        (Exact(1, 1, 2), Ok((2, 2))),
-        (First(1, 1), Err(ResourceNotAvailable)),
-        (Last(1, 1), Err(ResourceNotAvailable)),
+        (Exact(1, 1, 3), Range(3, 3)),
+        (Exact(1, 1, 0), Range(0, 0)),
+        (Exact(1, 1, 5), Range(5, 5)),
+        (Exact(1, 1, 1), Range(1, 1)),
+        (Exact(1, 1, 4), Range(4, 4)),
+        (Exact(1, 1, 2), Range(2, 2)),
+        (First(1, 1), NotAvailable),
+        (Last(1, 1), NotAvailable),
         // The whole space.
-        (Space(0, 0x1000), Ok((0, 0xFFF))),
-        (Last(0x1000, 1), Ok((0, 0xFFF))),
+        (Space(0, 0x1000), Range(0, 0xFFF)),
+        (Last(0x1000, 1), Range(0, 0xFFF)),
         // What is given back is clear again, and nothing else can be given back.
-        (Space(1, 0x10), Ok((1, 0x10))),
-        (First(4, 1), Ok((1, 4))),
-        (Free(1, 4), Ok((1, 4))),
-        (First(0x10, 1), Ok((1, 0x10))),
-        (Space(0x10, 4), Ok((0x10, 0x13))),
-        (Free(0x10, 0x13), Err(ResourceNotAvailable)),
-        (First(4, 1), Ok((0x10, 0x13))),
-        (Free(0x10, 0x11), Err(ResourceNotAvailable)),
-        (Free(0x10, 0x13), Ok((0x10, 0x13))),
-        (Free(0x10, 0x13), Err(ResourceNotAvailable)),
+        (Space(1, 0x10), Range(1, 0x10)),
+        (First(4, 1), Range(1, 4)),
+        (Free(1, 4), Range(1, 4)),
+        (First(0x10, 1), Range(1, 0x10)),
+        (Space(0x10, 4), Range(0x10, 0x13)),
+        (Free(0x10, 0x13), NotAvailable),
+        (First(4, 1), Range(0x10, 0x13)),
+        (Free(0x10, 0x11), NotAvailable),
+        (Free(0x10, 0x13), Range(0x10, 0x13)),
+        (Free(0x10, 0x13), NotAvailable),
     ];
     replay(&rt, &mut space, &rows);
     Ok(())
@@ -278,18 +303,18 @@ fn answers_of_calls(rt: HostRuntime) -> std::result::Result<(), Fail> {
 fn answers_for_one_start(rt: HostRuntime) -> std::result::Result<(), Fail> {
     let mut space = made(rt.alloc(), 0x1000, 0x1000)?;
     let rows = [
-        (Exact(0x100, 0x100, 0x1000), Ok((0x1000, 0x10FF))),
-        (Exact(0x100, 0x100, 0x1000), Err(is_held(0x1000, 0x10FF))),
-        (Exact(0x80, 0x80, 0x1080), Err(ResourceNotAvailable)),
-        (Exact(0x100, 1, 0x800), Err(ResourceNotAvailable)),
-        (Exact(0x900, 1, 0x1800), Err(ResourceNotAvailable)),
-        (Exact(MAX, 1, 0x1800), Err(Overflow)),
-        (Exact(1, 1, MAX), Err(Overflow)),
-        (Exact(1, 1, 0x1FFF), Ok((0x1FFF, 0x1FFF))),
-        (Exact(1, 1, 0x1FFF), Err(is_held(0x1FFF, 0x1FFF))),
-        (Space(0x1000, 0x1000), Ok((0x1000, 0x1FFF))),
-        (First(0x800, 0x100), Ok((0x1000, 0x17FF))),
-        (Exact(0x100, 0x100, 0x1000), Err(ResourceNotAvailable)),
+        (Exact(0x100, 0x100, 0x1000), Range(0x1000, 0x10FF)),
+        (Exact(0x100, 0x100, 0x1000), Held(0x1000, 0x10FF)),
+        (Exact(0x80, 0x80, 0x1080), NotAvailable),
+        (Exact(0x100, 1, 0x800), NotAvailable),
+        (Exact(0x900, 1, 0x1800), NotAvailable),
+        (Exact(MAX, 1, 0x1800), Overflow),
+        (Exact(1, 1, MAX), Overflow),
+        (Exact(1, 1, 0x1FFF), Range(0x1FFF, 0x1FFF)),
+        (Exact(1, 1, 0x1FFF), Held(0x1FFF, 0x1FFF)),
+        (Space(0x1000, 0x1000), Range(0x1000, 0x1FFF)),
+        (First(0x800, 0x100), Range(0x1000, 0x17FF)),
+        (Exact(0x100, 0x100, 0x1000), NotAvailable),
     ];
     replay(&rt, &mut space, &rows);
     Ok(())
@@ -299,24 +324,24 @@ fn answers_for_one_start(rt: HostRuntime) -> std::result::Result<(), Fail> {
 fn ends_of_all_addresses(rt: HostRuntime) -> std::result::Result<(), Fail> {
     let mut space = made(rt.alloc(), 1, MAX)?;
     let rows = [
-        (Last(1, 1), Err(Overflow)),
-        (Last(1, 2), Ok((MAX - 1, MAX - 1))),
-        (Free(MAX - 1, MAX - 1), Ok((MAX - 1, MAX - 1))),
-        (First(MAX, 1), Err(Overflow)),
-        (First(MAX - 1, 1), Ok((1, MAX - 1))),
-        (First(1, 1), Err(Overflow)),
-        (Free(1, MAX - 1), Ok((1, MAX - 1))),
-        (First(1, HALF), Ok((HALF, HALF))),
-        (First(1, HALF), Err(ResourceNotAvailable)),
-        (Free(HALF, HALF), Ok((HALF, HALF))),
-        (Exact(HALF, HALF, HALF), Err(Overflow)),
-        (First(HALF, HALF), Err(Overflow)),
-        (Space(1, MAX), Ok((1, MAX))),
-        (Space(0, MAX), Ok((0, MAX - 1))),
-        (Space(MAX, 1), Ok((MAX, MAX))),
-        (Space(MAX, 2), Err(Overflow)),
-        (Space(1, 0), Err(Underflow)),
-        (First(1, 1), Err(Overflow)),
+        (Last(1, 1), Overflow),
+        (Last(1, 2), Range(LAST, LAST)),
+        (Free(LAST, LAST), Range(LAST, LAST)),
+        (First(MAX, 1), Overflow),
+        (First(LAST, 1), Range(1, LAST)),
+        (First(1, 1), Overflow),
+        (Free(1, LAST), Range(1, LAST)),
+        (First(1, HALF), Range(HALF, HALF)),
+        (First(1, HALF), NotAvailable),
+        (Free(HALF, HALF), Range(HALF, HALF)),
+        (Exact(HALF, HALF, HALF), Overflow),
+        (First(HALF, HALF), Overflow),
+        (Space(1, MAX), Range(1, MAX)),
+        (Space(0, MAX), Range(0, LAST)),
+        (Space(MAX, 1), Range(MAX, MAX)),
+        (Space(MAX, 2), Overflow),
+        (Space(1, 0), Underflow),
+        (First(1, 1), Overflow),
     ];
     replay(&rt, &mut space, &rows);
     Ok(())
@@ -327,8 +352,8 @@ fn small_trees(rt: HostRuntime) -> std::result::Result<(), Fail> {
     let mut space = made(rt.alloc(), 0, 0x1000)?;
     assert_eq!(rt; space.height(), 1);
     let (answer, count) = space.allocate_counted(rt.alloc(), 0, 1, FirstMatch);
-    assert_eq!(rt; (answer, count), (Err(InvalidSize(0)), 0));
-    let rows = [(Exact(0x100, 0x100, 0x500), Ok((0x500, 0x5FF)))];
+    assert_eq!(rt; (answer, count), (Err(Error::InvalidSize(0)), 0));
+    let rows = [(Exact(0x100, 0x100, 0x500), Range(0x500, 0x5FF))];
     replay(&rt, &mut space, &rows);
     assert_eq!(rt; space.height(), 2);
     assert_eq!(rt; space.interval_tree.block_count(), 3);
@@ -340,11 +365,11 @@ fn joins_what_is_given_back(rt: HostRuntime) -> std::result::Result<(), Fail> {
     for order in [[0, 1, 2, 3, 4, 5], [5, 4, 3, 2, 1, 0], [1, 3, 5, 0, 2, 4]] {
         let mut space = made(rt.alloc(), 0, 6)?;
         for i in 0..6u64 {
-            replay(&rt, &mut space, &[(First(1, 1), Ok((i, i)))]);
+            replay(&rt, &mut space, &[(First(1, 1), Range(i, i))]);
         }
-        replay(&rt, &mut space, &[(First(1, 1), Err(ResourceNotAvailable))]);
+        replay(&rt, &mut space, &[(First(1, 1), NotAvailable)]);
         for i in order {
-            replay(&rt, &mut space, &[(Free(i, i), Ok((i, i)))]);
+            replay(&rt, &mut space, &[(Free(i, i), Range(i, i))]);
         }
         let fresh = made(rt.alloc(), 0, 6)?;
         assert!(rt;

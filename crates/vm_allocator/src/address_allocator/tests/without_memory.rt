@@ -7,11 +7,11 @@ fn replay(
     rt: &(impl Abort + AllocGlobal),
     space: &mut AddressAllocator,
     form: Form,
-    rows: &[(Call, Answer)],
+    rows: &[(Call, Want)],
 ) {
     for (call, want) in rows {
         let answer = call.ask(space, rt.alloc(), form);
-        assert_eq!(rt; answer, *want, "{form:?} {call:?}");
+        assert_eq!(rt; answer, want.answer(), "{form:?} {call:?}");
     }
 }
 
@@ -19,9 +19,9 @@ fn replay(
 fn three_held(rt: &(impl Abort + AllocGlobal)) -> Result<AddressAllocator> {
     let mut space = made(rt.alloc(), 0, 16)?;
     let rows = [
-        (Exact(2, 1, 2), Ok((2, 3))),
-        (Exact(2, 1, 6), Ok((6, 7))),
-        (Exact(2, 1, 10), Ok((10, 11))),
+        (Exact(2, 1, 2), Range(2, 3)),
+        (Exact(2, 1, 6), Range(6, 7)),
+        (Exact(2, 1, 10), Range(10, 11)),
     ];
     super::replay(rt, &mut space, &rows);
     Ok(space)
@@ -40,18 +40,18 @@ fn split(rt: &(impl Abort + AllocGlobal), space: &mut AddressAllocator) {
 fn filled_and_given_back(rt: HostRuntime) -> std::result::Result<(), Fail> {
     let mut spaces = [(three_held(&rt)?, Plain), (three_held(&rt)?, Counted)];
     let rows = [
-        (First(2, 1), Ok((0, 1))),
-        (Last(4, 1), Ok((12, 15))),
-        (Exact(2, 1, 8), Ok((8, 9))),
+        (First(2, 1), Range(0, 1)),
+        (Last(4, 1), Range(12, 15)),
+        (Exact(2, 1, 8), Range(8, 9)),
         // Beside clear addresses on no side, before, on both sides, and after.
-        (Free(0, 1), Ok((0, 1))),
-        (Free(6, 7), Ok((6, 7))),
-        (Free(2, 3), Ok((2, 3))),
-        (Free(12, 15), Ok((12, 15))),
-        (Free(10, 11), Ok((10, 11))),
-        (Free(8, 9), Ok((8, 9))),
-        (First(16, 1), Ok((0, 15))),
-        (Free(0, 15), Ok((0, 15))),
+        (Free(0, 1), Range(0, 1)),
+        (Free(6, 7), Range(6, 7)),
+        (Free(2, 3), Range(2, 3)),
+        (Free(12, 15), Range(12, 15)),
+        (Free(10, 11), Range(10, 11)),
+        (Free(8, 9), Range(8, 9)),
+        (First(16, 1), Range(0, 15)),
+        (Free(0, 15), Range(0, 15)),
     ];
     end_of_memory(rt.alloc());
     for (space, form) in &mut spaces {
@@ -67,28 +67,28 @@ fn filled_and_given_back(rt: HostRuntime) -> std::result::Result<(), Fail> {
 fn refused(rt: HostRuntime) -> std::result::Result<(), Fail> {
     let mut space = three_held(&rt)?;
     let rows = [
-        (Space(16, 0), Err(Underflow)),
-        (Space(MAX, 2), Err(Overflow)),
-        (First(0, 3), Err(InvalidSize(0))),
-        (Last(1, 3), Err(InvalidAlignment)),
-        (Exact(1, 4, 9), Err(UnalignedAddress)),
-        (Exact(1, 1, MAX), Err(Overflow)),
-        (Exact(1, 1, 16), Err(ResourceNotAvailable)),
-        (Exact(MAX, 1, 4), Err(Overflow)),
-        (Exact(2, 1, 6), Err(is_held(6, 7))),
-        (Exact(1, 1, 6), Err(ResourceNotAvailable)),
-        (Exact(2, 1, 5), Err(ResourceNotAvailable)),
-        (First(5, 1), Err(ResourceNotAvailable)),
-        (Last(5, 1), Err(ResourceNotAvailable)),
-        (Free(4, 5), Err(ResourceNotAvailable)),
-        (Free(6, 6), Err(ResourceNotAvailable)),
-        (Free(16, 17), Err(ResourceNotAvailable)),
+        (Space(16, 0), Underflow),
+        (Space(MAX, 2), Overflow),
+        (First(0, 3), NoSize),
+        (Last(1, 3), NoAlignment),
+        (Exact(1, 4, 9), Unaligned),
+        (Exact(1, 1, MAX), Overflow),
+        (Exact(1, 1, 16), NotAvailable),
+        (Exact(MAX, 1, 4), Overflow),
+        (Exact(2, 1, 6), Held(6, 7)),
+        (Exact(1, 1, 6), NotAvailable),
+        (Exact(2, 1, 5), NotAvailable),
+        (First(5, 1), NotAvailable),
+        (Last(5, 1), NotAvailable),
+        (Free(4, 5), NotAvailable),
+        (Free(6, 6), NotAvailable),
+        (Free(16, 17), NotAvailable),
     ];
     let mut highest = made(rt.alloc(), MAX - 15, 16)?;
     let ending_at_max = [
-        (Last(1, 1), Err(Overflow)),
-        (Exact(2, 1, MAX - 1), Err(Overflow)),
-        (First(16, 1), Err(Overflow)),
+        (Last(1, 1), Overflow),
+        (Exact(2, 1, LAST), Overflow),
+        (First(16, 1), Overflow),
     ];
     end_of_memory(rt.alloc());
     for form in [Plain, Counted] {
