@@ -4,7 +4,7 @@ use Rattle.vm_allocator.specs.Range.{Range, IsRange}
 use Rattle.vm_allocator.specs.Block.{Block}
 use Rattle.vm_allocator.specs.Address.{releasing}
 use Rattle.vm_allocator.specs.Blocks.{NotBothFree, Tiles, TilesSpace, IsBlocksOf}
-use Rattle.vm_allocator.specs.BlockEdits.{free_block, join_if, with_free, EndsHeld}
+use Rattle.vm_allocator.specs.BlockEdits.{free_block}
 use Rattle.vm_allocator.specs.Shape.{Shape, blocks}
 use Rattle.vm_allocator.specs.SpaceTree.{space_of, tree_state, IsSpaceTree}
 use Rattle.vm_allocator.specs.Release.{held_block, HasSlot, key_if_free, last_free, first_free, free_if, end_with, joined, IsAround}
@@ -13,7 +13,7 @@ use Rattle.vm_allocator.specs.declared.allocation_engine.NodeState.{NodeState}
 use Rattle.vm_allocator.specs.declared.allocation_engine.NodeState.TheVariants.{Free, Allocated}
 use Rattle.vm_allocator.proofs.blocks.Gaps.{tiles_end}
 use Rattle.vm_allocator.proofs.blocks.Unique.{same_block}
-use Rattle.vm_allocator.proofs.releasing.Joining.{blocks_freed, blocks_freed_before}
+use Rattle.vm_allocator.proofs.releasing.Joining.{with_free, join_if, EndsHeld, blocks_freed, blocks_freed_before}
 use Rattle.vm_allocator.proofs.splitting.Taking.{as_blocks}
 use Rattle.vm_allocator.proofs.nodes.TreeEdits.{tiles_ordered}
 use Rattle.vm_allocator.proofs.blocks.Order.{ordered_weaken}

@@ -5,13 +5,32 @@ use Rattle.vm_allocator.specs.Range.{Range}
 use Rattle.vm_allocator.specs.Block.{Block}
 use Rattle.vm_allocator.specs.Address.{AddressState, without_range, releasing}
 use Rattle.vm_allocator.specs.Blocks.{NotBothFree, Tiles, range_if_held, held_of, IsBlocksOf}
-use Rattle.vm_allocator.specs.BlockEdits.{join_if, with_free, EndsHeld, IsSlot}
+use Rattle.vm_allocator.specs.BlockEdits.{free_block}
 use Rattle.vm_allocator.proofs.blocks.Words.{IsHeld}
 use Rattle.vm_allocator.specs.declared.allocation_engine.NodeState.{NodeState}
 use Rattle.vm_allocator.specs.declared.allocation_engine.NodeState.TheVariants.{Free, Allocated}
 use Rattle.vm_allocator.proofs.blocks.Gaps.{state_cases}
 use Rattle.vm_allocator.proofs.blocks.Unique.{held_of-free, held_of-held}
 use Rattle.vm_allocator.proofs.splitting.Taking.{starts_after}
+
+-- the blocks with a free one before them, which takes in the first if that is free too
+abbrev pub join_if : NodeState → Range → Block → List Block → List Block
+join_if Free k b bs = free_block (record { start = k.start; end = b.key.end }) ∷ bs
+join_if Allocated k b bs = free_block k ∷ b ∷ bs
+
+-- the same, also where there is no first
+abbrev pub with_free : Range → List Block → List Block
+with_free k [] = free_block k ∷ []
+with_free k (b ∷ bs) = join_if b.state k b bs
+
+-- the last of the blocks, or else one before them, is not free
+abbrev pub EndsHeld : NodeState → List Block → Type 0
+EndsHeld before [] = NotBothFree before Free
+EndsHeld before (b ∷ bs) = EndsHeld b.state bs
+
+-- the block is held and has this range
+unfoldable pub IsSlot : Range → Block → Type 0
+IsSlot r b = (b.key ≡ r) × (b.state ≡ Allocated)
 
 tiles_join : (p st : NodeState) (lo hi : ℕ) (k : Range) (b : Block) (bs : List Block) → b.state ≡ st → NotBothFree p Free → k.start ≡ lo → lo ≤ k.end → b.key.start ≡ k.end + 1 → k.end + 1 ≤ b.key.end → Tiles b.state (b.key.end + 1) bs hi → Tiles p lo (join_if st k b bs) hi
 tiles_join p Free lo hi k b bs e q s l n m t = (s, omega arith, q, subst (λ (v : NodeState). Tiles v (b.key.end + 1) bs hi) e t)
