@@ -1,5 +1,5 @@
 -- A tree whose blocks are those of a space.
-use Rattle.std.specs.Prelude.{◌≡◌, ℕ, ◌+◌, ◌-◌, ◌<◌, ◌≤◌, ◌⊎◌, List, [], ◌∷◌, ◌++◌, Result, Ok, Err, MatchResult}
+use Rattle.std.specs.Prelude.{◌≡◌, ℕ, ◌+◌, ◌-◌, ◌<◌, ◌≤◌, ◌⊎◌, List, [], ◌∷◌, ◌++◌, Option, MatchOption, Result, Ok, Err, MatchResult}
 use Rattle.vm_allocator.specs.Cases.{IfElse}
 use Rattle.vm_allocator.specs.Range.{Range, MAX, IsRange, span}
 use Rattle.vm_allocator.specs.Block.{Block}
@@ -16,6 +16,7 @@ use Rattle.vm_allocator.specs.declared.allocation_engine.NodeState.TheVariants.{
 use Rattle.vm_allocator.specs.declared.constraint.AllocPolicy.{AllocPolicy}
 use Rattle.vm_allocator.specs.declared.constraint.AllocPolicy.TheVariants.{FirstMatch, LastMatch, ExactMatch}
 use Rattle.vm_allocator.specs.declared.allocation_engine.interval_tree.placing.Choice.{Choice}
+use Rattle.vm_allocator.specs.declared.allocation_engine.node.places.Place.{Place}
 
 -- where the last of the blocks ends
 abbrev pub last_end : ℕ → List Block → ℕ
@@ -65,6 +66,11 @@ unfoldable pub ChoosesBelowMax : Range → ℕ → ℕ → Result Choice Error �
 ChoosesBelowMax key s n answer =
     ((s + n - 1 ≡ MAX) × (answer ≡ Err Overflow))
     ⊎ ((s + n - 1 < MAX) × (answer ≡ Ok (record { key = key; range = span s n })))
+
+-- what a search has found: the range from there on, unless it ends at MAX, or the refusal where it found no place
+abbrev pub ChoosesAt : Option Place → ℕ → Result Choice Error → Type 0
+ChoosesAt found n answer =
+    MatchOption found (answer ≡ Err ResourceNotAvailable) (λ place. ChoosesBelowMax place.key place.start n answer)
 
 -- the range is held, and what is left of its free block stands beside it
 pub record Carves (old : List Block) (key range : Range) (new : List Block) : Type 0 where

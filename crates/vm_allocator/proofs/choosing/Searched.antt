@@ -1,5 +1,5 @@
 -- From the first or the last fit of a tree to the answer of a request.
-use Rattle.std.proofs.Common.{◌≡◌, ℕ, ◌+◌, ◌-◌, ◌<◌, List, ◌∷◌, ◌++◌, refl, sym, arith, inl, inr, ◌⊎◌, ⊎_elim, subst, Result, Ok, Err}
+use Rattle.std.proofs.Common.{Option, Some, None, IfSome, ◌≡◌, ℕ, ◌+◌, ◌-◌, ◌<◌, List, ◌∷◌, ◌++◌, refl, sym, arith, inl, inr, ◌⊎◌, ⊎_elim, subst, Result, Ok, Err}
 use Rattle.std.specs.List.{All}
 use Rattle.vm_allocator.specs.Range.{Range, MAX, span}
 use Rattle.vm_allocator.specs.Block.{Block}
@@ -8,9 +8,9 @@ use Rattle.vm_allocator.specs.Request.{Request, request_for, IsRequest}
 use Rattle.vm_allocator.specs.Answer.{IsChosen, ByExactStart, ByPlace, Takes, Settles}
 use Rattle.vm_allocator.specs.Fit.{HasNoFit, IsLeastFit, IsGreatestFit}
 use Rattle.vm_allocator.specs.BlockEdits.{free_block, IsTakenFrom, HasRoom}
-use Rattle.vm_allocator.specs.Place.{IsFirstFit, IsLastFit}
+use Rattle.vm_allocator.specs.Place.{IsFirstFit, IsLastFit, FindsFirst, FindsLast}
 use Rattle.vm_allocator.specs.Shape.{Shape, blocks}
-use Rattle.vm_allocator.specs.SpaceTree.{space_of, tree_state, IsSpaceTree, IsChoice, TakingSettles, Chooses, ChoosesBelowMax}
+use Rattle.vm_allocator.specs.SpaceTree.{ChoosesAt, space_of, tree_state, IsSpaceTree, IsChoice, TakingSettles, Chooses, ChoosesBelowMax}
 use Rattle.vm_allocator.specs.declared.error.Error.{Error}
 use Rattle.vm_allocator.specs.declared.error.Error.TheVariants.{Overflow, ResourceNotAvailable}
 use Rattle.vm_allocator.specs.declared.constraint.AllocPolicy.{AllocPolicy}
@@ -18,6 +18,7 @@ use Rattle.vm_allocator.specs.declared.constraint.AllocPolicy.TheVariants.{First
 use Rattle.vm_allocator.specs.declared.allocation_engine.node.places.Place.{Place}
 use Rattle.vm_allocator.specs.declared.allocation_engine.interval_tree.placing.Choice.{Choice}
 use Rattle.vm_allocator.proofs.answers.Requests.{with_policy}
+use Rattle.vm_allocator.proofs.counts.Ways.{search_first, search_last}
 use Rattle.vm_allocator.proofs.choosing.Places.{least_place, greatest_place, no_place}
 use Rattle.vm_allocator.proofs.splitting.Taking.{as_blocks}
 
@@ -88,7 +89,7 @@ least_room : (n a s : ℕ) (b : Block) → IsLeastFit n a b s → HasRoom s n b
 unfolding IsLeastFit HasRoom
 least_room n a s b f = (f.0.2, f.0.3)
 
-pub first_has_room : (n a : ℕ) (bs : List Block) (place : Place) → IsFirstFit n a bs place → HasRoom place.start n (free_block place.key)
+first_has_room : (n a : ℕ) (bs : List Block) (place : Place) → IsFirstFit n a bs place → HasRoom place.start n (free_block place.key)
 first_has_room n a bs place f = least_room n a place.start (free_block place.key) f.fit
 
 first_found : (request : Request) (s : Shape) (place : Place) → request.policy ≡ FirstMatch → IsSpaceTree s → IsRequest request → IsFirstFit request.size request.align (blocks s) place → IsFound request s place
@@ -101,13 +102,19 @@ first_found request s place p t r f = record {
   chosen = least_chosen request place.start (tree_state s) p (least_place (tree_state s) (blocks s) f.before f.after (free_block place.key) request.size request.align place.start (as_blocks (space_of (blocks s)) (blocks s) t.tiling.tiles) f.cut r.some f.none f.fit);
 }
 
-pub none_first : (request : Request) (s : Shape) → IsSpaceTree s → IsRequest request → request.policy ≡ FirstMatch → All (HasNoFit request.size request.align) (blocks s) → Chooses s request (Err ResourceNotAvailable)
+none_first : (request : Request) (s : Shape) → IsSpaceTree s → IsRequest request → request.policy ≡ FirstMatch → All (HasNoFit request.size request.align) (blocks s) → Chooses s request (Err ResourceNotAvailable)
 none_first request s t r p h = none_chooses request s (inl p) t r h
 
-pub chooses_first : (request : Request) (s : Shape) (place : Place) (answer : Result Choice Error) → IsSpaceTree s → IsRequest request → request.policy ≡ FirstMatch → IsFirstFit request.size request.align (blocks s) place → ChoosesBelowMax place.key place.start request.size answer → Chooses s request answer
+chooses_first : (request : Request) (s : Shape) (place : Place) (answer : Result Choice Error) → IsSpaceTree s → IsRequest request → request.policy ≡ FirstMatch → IsFirstFit request.size request.align (blocks s) place → ChoosesBelowMax place.key place.start request.size answer → Chooses s request answer
 chooses_first request s place answer t r p f h = found_chooses request s place answer (inl p) (first_found request s place p t r f) h
 
-pub ruleset first_choices = (none_first, first_has_room, chooses_first)
+pub first_room : (n a : ℕ) (bs : List Block) (found : Option Place) → FindsFirst n a bs found → IfSome found (λ place. HasRoom place.start n (free_block place.key))
+first_room n a bs None f = tt
+first_room n a bs (Some place) f = first_has_room n a bs place f
+
+pub first_chooses : (request : Request) (s : Shape) (found : Option Place) (answer : Result Choice Error) → IsSpaceTree s → IsRequest request → request.policy ≡ FirstMatch → FindsFirst request.size request.align (blocks s) found → ChoosesAt found request.size answer → Chooses s request answer
+first_chooses request s None answer t r p f h = subst (Chooses s request) (sym h) (none_first request s t r p f)
+first_chooses request s (Some place) answer t r p f h = chooses_first request s place answer t r p f h
 
 -- ---- the last fit
 greatest_chosen : (request : Request) (t : ℕ) (state : AddressState) → request.policy ≡ LastMatch → IsGreatestPlace request.size request.align state t → IsChosen request state t
@@ -118,7 +125,7 @@ greatest_room : (n a s : ℕ) (b : Block) → IsGreatestFit n a b s → HasRoom 
 unfolding IsGreatestFit HasRoom
 greatest_room n a s b f = (f.0.2, f.0.3)
 
-pub last_has_room : (n a : ℕ) (bs : List Block) (place : Place) → IsLastFit n a bs place → HasRoom place.start n (free_block place.key)
+last_has_room : (n a : ℕ) (bs : List Block) (place : Place) → IsLastFit n a bs place → HasRoom place.start n (free_block place.key)
 last_has_room n a bs place f = greatest_room n a place.start (free_block place.key) f.fit
 
 last_found : (request : Request) (s : Shape) (place : Place) → request.policy ≡ LastMatch → IsSpaceTree s → IsRequest request → IsLastFit request.size request.align (blocks s) place → IsFound request s place
@@ -131,13 +138,21 @@ last_found request s place p t r f = record {
   chosen = greatest_chosen request place.start (tree_state s) p (greatest_place (tree_state s) (blocks s) f.before f.after (free_block place.key) request.size request.align place.start (as_blocks (space_of (blocks s)) (blocks s) t.tiling.tiles) f.cut r.some f.none f.fit);
 }
 
-pub none_last : (request : Request) (s : Shape) → IsSpaceTree s → IsRequest request → request.policy ≡ LastMatch → All (HasNoFit request.size request.align) (blocks s) → Chooses s request (Err ResourceNotAvailable)
+none_last : (request : Request) (s : Shape) → IsSpaceTree s → IsRequest request → request.policy ≡ LastMatch → All (HasNoFit request.size request.align) (blocks s) → Chooses s request (Err ResourceNotAvailable)
 none_last request s t r p h = none_chooses request s (inr p) t r h
 
-pub chooses_last : (request : Request) (s : Shape) (place : Place) (answer : Result Choice Error) → IsSpaceTree s → IsRequest request → request.policy ≡ LastMatch → IsLastFit request.size request.align (blocks s) place → ChoosesBelowMax place.key place.start request.size answer → Chooses s request answer
+chooses_last : (request : Request) (s : Shape) (place : Place) (answer : Result Choice Error) → IsSpaceTree s → IsRequest request → request.policy ≡ LastMatch → IsLastFit request.size request.align (blocks s) place → ChoosesBelowMax place.key place.start request.size answer → Chooses s request answer
 chooses_last request s place answer t r p f h = found_chooses request s place answer (inr p) (last_found request s place p t r f) h
 
-pub ruleset last_choices = (none_last, last_has_room, chooses_last)
+pub last_room : (n a : ℕ) (bs : List Block) (found : Option Place) → FindsLast n a bs found → IfSome found (λ place. HasRoom place.start n (free_block place.key))
+last_room n a bs None f = tt
+last_room n a bs (Some place) f = last_has_room n a bs place f
+
+pub last_chooses : (request : Request) (s : Shape) (found : Option Place) (answer : Result Choice Error) → IsSpaceTree s → IsRequest request → request.policy ≡ LastMatch → FindsLast request.size request.align (blocks s) found → ChoosesAt found request.size answer → Chooses s request answer
+last_chooses request s None answer t r p f h = subst (Chooses s request) (sym h) (none_last request s t r p f)
+last_chooses request s (Some place) answer t r p f h = chooses_last request s place answer t r p f h
+
+pub ruleset choices = (first_room, first_chooses, last_room, last_chooses, search_first, search_last)
 
 -- ---- from what is chosen to the answer
 pub chooses_refused : (s : Shape) (request : Request) (e : Error) → Chooses s request (Err e) → Settles (tree_state s) request (Err e) (tree_state s)

@@ -43,8 +43,11 @@ unfolding way_to_carve
 way_to_carve_at_most k u v Tip = omega arith
 way_to_carve_at_most k u v (Fork l b r) =
     let most = 2 * height_of (Fork l b r) - 1 in
-    omega (arith, either_at_most (same_range k b.key) (way_to_link u l + way_to_link v r) _ most (omega (arith, way_to_link_at_most u l, way_to_link_at_most v r))
-      (either_at_most (comes_first k b.key) (way_to_carve k u v l) (way_to_carve k u v r) most (omega (arith, way_to_carve_at_most k u v l)) (omega (arith, way_to_carve_at_most k u v r))))
+    omega (
+      arith,
+      either_at_most (same_range k b.key) (way_to_link u l + way_to_link v r) _ most (omega (arith, way_to_link_at_most u l, way_to_link_at_most v r))
+          (either_at_most (comes_first k b.key) (way_to_carve k u v l) (way_to_carve k u v r) most (omega (arith, way_to_carve_at_most k u v l)) (omega (arith, way_to_carve_at_most k u v r))),
+    )
 
 half_of_link : (u s : Shape) → u ≢ Tip → IsBalanced s → height_of s ≤ 2 * way_to_link u s
 half_of_link Tip s n t = absurd (n refl)
@@ -62,9 +65,9 @@ half_of_carve k u v (Fork l b r) n t =
     elim (same_range k b.key) as (λ w. height_of (Fork l b r) ≤ 2 * (cond w (way_to_link u l + way_to_link v r) (cond (comes_first k b.key) (way_to_carve k u v l) (way_to_carve k u v r)) + 1)) [
       | true ↦ half_here u v l r b n t
       | false ↦ elim (comes_first k b.key) as (λ w. height_of (Fork l b r) ≤ 2 * (cond w (way_to_carve k u v l) (way_to_carve k u v r) + 1)) [
-          | true ↦ omega (arith, half_of_carve k u v l n t.0, t.2.0, t.2.1)
-          | false ↦ omega (arith, half_of_carve k u v r n t.1, t.2.0, t.2.1)
-        ]
+        | true ↦ omega (arith, half_of_carve k u v l n t.0, t.2.0, t.2.1)
+        | false ↦ omega (arith, half_of_carve k u v r n t.1, t.2.0, t.2.1)
+      ]
     ]
 
 -- ---- a way to what is held
@@ -75,9 +78,9 @@ whole k (Fork l b r) =
     elim (same_range k b.key) as (λ v. cond v 0 (cond (comes_first k b.key) (way_to_carve k Tip Tip l) (way_to_carve k Tip Tip r)) + 1 ≡ cond v 0 (cond (comes_first k b.key) (way_to k l) (way_to k r)) + 1) [
       | true ↦ refl
       | false ↦ elim (comes_first k b.key) as (λ v. cond v (way_to_carve k Tip Tip l) (way_to_carve k Tip Tip r) + 1 ≡ cond v (way_to k l) (way_to k r) + 1) [
-          | true ↦ ap (λ (n : ℕ). n + 1) (whole k l)
-          | false ↦ ap (λ (n : ℕ). n + 1) (whole k r)
-        ]
+        | true ↦ ap (λ (n : ℕ). n + 1) (whole k l)
+        | false ↦ ap (λ (n : ℕ). n + 1) (whole k r)
+      ]
     ]
 
 -- the way to a range that fills its block is the way to that

@@ -39,16 +39,22 @@ unfolding way_to
 way_to_at_most k Tip = omega arith
 way_to_at_most k (Fork l b r) =
     let most = height_of (Fork l b r) - 1 in
-    omega (arith, either_at_most (same_range k b.key) 0 _ most (omega arith)
-      (either_at_most (comes_first k b.key) (way_to k l) (way_to k r) most (omega (arith, way_to_at_most k l)) (omega (arith, way_to_at_most k r))))
+    omega (
+      arith,
+      either_at_most (same_range k b.key) 0 _ most (omega arith)
+          (either_at_most (comes_first k b.key) (way_to k l) (way_to k r) most (omega (arith, way_to_at_most k l)) (omega (arith, way_to_at_most k r))),
+    )
 
 pub way_across_at_most : (k : Range) (s : Shape) → way_across k s ≤ height_of s
 unfolding way_across
 way_across_at_most k Tip = omega arith
 way_across_at_most k (Fork l b r) =
     let most = height_of (Fork l b r) - 1 in
-    omega (arith, either_at_most (ltb k.end b.key.start) (way_across k l) _ most (omega (arith, way_across_at_most k l))
-      (either_at_most (ltb b.key.end k.start) (way_across k r) 0 most (omega (arith, way_across_at_most k r)) (omega arith)))
+    omega (
+      arith,
+      either_at_most (ltb k.end b.key.start) (way_across k l) _ most (omega (arith, way_across_at_most k l))
+          (either_at_most (ltb b.key.end k.start) (way_across k r) 0 most (omega (arith, way_across_at_most k r)) (omega arith)),
+    )
 
 pub ruleset named_ways = (search_at_max, search_named, way_across_at_most)
 
@@ -74,8 +80,11 @@ unfolding way_to_remove
 way_to_remove_at_most k Tip = omega arith
 way_to_remove_at_most k (Fork l b r) =
     let most = height_of (Fork l b r) - 1 in
-    omega (arith, either_at_most (same_range k b.key) (way_to_join l r) _ most (omega (arith, way_to_join_at_most l r))
-      (either_at_most (comes_first k b.key) (way_to_remove k l) (way_to_remove k r) most (omega (arith, way_to_remove_at_most k l)) (omega (arith, way_to_remove_at_most k r))))
+    omega (
+      arith,
+      either_at_most (same_range k b.key) (way_to_join l r) _ most (omega (arith, way_to_join_at_most l r))
+          (either_at_most (comes_first k b.key) (way_to_remove k l) (way_to_remove k r) most (omega (arith, way_to_remove_at_most k l)) (omega (arith, way_to_remove_at_most k r))),
+    )
 
 pub ruleset removal_bounds = (way_to_first_at_most, way_to_join_at_most, way_to_remove_at_most)
 
@@ -88,7 +97,10 @@ unfolding way_around
 way_around_at_most k Tip = omega arith
 way_around_at_most k (Fork l b r) =
     let most = 2 * height_of (Fork l b r) - 1 in
-    omega (arith, either_at_most (same_range k b.key) (way_beside b.state l r) _ most (omega (arith, beside_at_most b.state l r))
-      (either_at_most (comes_first k b.key) (way_around k l) (way_around k r) most (omega (arith, way_around_at_most k l)) (omega (arith, way_around_at_most k r))))
+    omega (
+      arith,
+      either_at_most (same_range k b.key) (way_beside b.state l r) _ most (omega (arith, beside_at_most b.state l r))
+          (either_at_most (comes_first k b.key) (way_around k l) (way_around k r) most (omega (arith, way_around_at_most k l)) (omega (arith, way_around_at_most k r))),
+    )
 
 pub ruleset bounds_around = (way_to_first_at_most, way_to_last_at_most, way_around_at_most)

@@ -1,12 +1,12 @@
 //! Where a request is placed: the least, the greatest or the named place, and the free block that
 //! has it.
-ghost use Rattle.std.specs.Prelude.{◌≡◌, ◌≢◌, ◌+◌, ◌<◌, ◌≤◌, IfErr};
+ghost use Rattle.std.specs.Prelude.{◌≡◌, ◌≢◌, ◌+◌, ◌<◌, ◌≤◌, IfErr, IfSome};
 ghost use Rattle.vm_allocator.specs.Range.{MAX};
 ghost use Rattle.vm_allocator.specs.BlockEdits.{free_block, HasRoom};
 ghost use Rattle.vm_allocator.specs.Shape.{height_of, node_count};
-ghost use Rattle.vm_allocator.specs.SpaceTree.{Chooses, ChoosesBelowMax, ExactIn};
+ghost use Rattle.vm_allocator.specs.SpaceTree.{Chooses, ChoosesAt, ExactIn};
 ghost use Rattle.vm_allocator.specs.Ways.{way_of_search};
-ghost use Rattle.vm_allocator.specs.declared.constraint.AllocPolicy.TheVariants.{FirstMatch, LastMatch, ExactMatch};
+ghost use Rattle.vm_allocator.specs.declared.constraint.AllocPolicy.TheVariants.{ExactMatch};
 
 use super::IntervalTree;
 use crate::allocation_engine::NodeState;
@@ -26,50 +26,25 @@ pub(crate) struct Choice {
 
 impl IntervalTree {
     /// The range to hold for a request, and the free block that has it, or the refusal.
+    #[tactic(auto, using(crate::proofs::choosing::Searched::choices))]
     pub(super) fn place_for(&self, constraint: Constraint, count: &mut u64) -> Result<Choice>
         requires { count.old + node_count self.now + height_of self.now ≤ MAX }
         ensures answer { Chooses self.now constraint result }
         ensures no_memory { IfErr result (λ error. error ≢ Error.OutOfMemory) }
         ensures count { count.new ≡ count.old + way_of_search constraint self.now }
     {
+        let _ = self.root();
+        let (size, align) = (constraint.size(), constraint.align());
         match constraint.policy() {
-            AllocPolicy::FirstMatch => self.least_place(constraint, count),
-            AllocPolicy::LastMatch => self.greatest_place(constraint, count),
+            AllocPolicy::FirstMatch => {
+                let found = first_place(&self.root, size, align, count);
+                choice_at(found, size)
+            }
+            AllocPolicy::LastMatch => {
+                let found = last_place(&self.root, size, align, count);
+                choice_at(found, size)
+            }
             AllocPolicy::ExactMatch(start) => self.named_place(constraint, start, count),
-        }
-    }
-
-    /// The least place for a request.
-    #[tactic(auto, using(crate::proofs::choosing::Searched::first_choices))]
-    fn least_place(&self, constraint: Constraint, count: &mut u64) -> Result<Choice>
-        requires policy { constraint.policy ≡ FirstMatch }
-        requires count_fits { count.old + node_count self.now ≤ MAX }
-        ensures answer { Chooses self.now constraint result }
-        ensures no_memory { IfErr result (λ error. error ≢ Error.OutOfMemory) }
-        ensures count { count.new ≡ count.old + way_of_search constraint self.now }
-    {
-        let _ = self.root();
-        let size = constraint.size();
-        match first_place(&self.root, size, constraint.align(), count) {
-            None => Err(Error::ResourceNotAvailable),
-            Some(place) => range_at(place, size),
-        }
-    }
-
-    /// The greatest place for a request.
-    #[tactic(auto, using(crate::proofs::choosing::Searched::last_choices))]
-    fn greatest_place(&self, constraint: Constraint, count: &mut u64) -> Result<Choice>
-        requires policy { constraint.policy ≡ LastMatch }
-        requires count_fits { count.old + node_count self.now ≤ MAX }
-        ensures answer { Chooses self.now constraint result }
-        ensures no_memory { IfErr result (λ error. error ≢ Error.OutOfMemory) }
-        ensures count { count.new ≡ count.old + way_of_search constraint self.now }
-    {
-        let _ = self.root();
-        let size = constraint.size();
-        match last_place(&self.root, size, constraint.align(), count) {
-            None => Err(Error::ResourceNotAvailable),
-            Some(place) => range_at(place, size),
         }
     }
 
@@ -99,14 +74,18 @@ impl IntervalTree {
     }
 }
 
-/// The `size` addresses from the start of the place on. `Overflow` where they end at `u64::MAX`.
+/// The `size` addresses from the place on that a search found. `ResourceNotAvailable` where it found
+/// none, and `Overflow` where they end at `u64::MAX`.
 #[tactic(auto, unfolding(crate::specs::SpaceTree::ChoosesBelowMax, crate::specs::BlockEdits::HasRoom))]
-fn range_at(place: Place, size: u64) -> Result<Choice>
+fn choice_at(found: Option<Place>, size: u64) -> Result<Choice>
     requires some { 0 < size }
-    requires room { HasRoom place.start size (free_block place.key) }
-    ensures answer { ChoosesBelowMax place.key place.start size result }
+    requires room { IfSome found (λ place. HasRoom place.start size (free_block place.key)) }
+    ensures answer { ChoosesAt found size result }
     ensures no_memory { IfErr result (λ error. error ≢ Error.OutOfMemory) }
 {
+    let Some(place) = found else {
+        return Err(Error::ResourceNotAvailable);
+    };
     let _ = place.key.end();
     let last = place.start + (size - 1);
     if last == u64::MAX {

@@ -1,5 +1,5 @@
 //! Heights and rotations. Nothing here calls itself, and nothing takes memory.
-ghost use Rattle.std.specs.Prelude.{◌≡◌, ◌+◌, ◌<◌, ◌≤◌, ◌^◌, ◌++◌, ◌∷◌, max, None, IsSome, ◌↔◌, IsNone};
+ghost use Rattle.std.specs.Prelude.{◌≡◌, ◌+◌, ◌<◌, ◌≤◌, ◌^◌, ◌++◌, ◌∷◌, max, true, None, IsSome, ◌↔◌, IsNone};
 ghost use Rattle.vm_allocator.specs.BlockList.{IsOrderedFrom};
 ghost use Rattle.vm_allocator.specs.Shape.{Fork, blocks, height_of, single, root_block, IsTree, DifferByAtMost, IsSameIfNot, IsLeaf, CanBalance, Balances};
 ghost use Rattle.vm_allocator.specs.NodeFields.{side};
@@ -36,11 +36,7 @@ pub(super) fn settle(left: &mut Child, right: &mut Child, kept: &mut u64) -> Set
 
 /// Brings the kept height of a node up to date; says whether it changed.
 #[inline(always)]
-pub(super) fn refresh(
-    left: &Child,
-    right: &Child,
-    kept: &mut u64,
-) -> bool
+pub(super) fn refresh(left: &Child, right: &Child, kept: &mut u64) -> bool
     requires { max (height_of (side left.now)) (height_of (side right.now)) + 1 < 2 ^ 64 }
     ensures height { kept.new ≡ max (height_of (side left.now)) (height_of (side right.now)) + 1 }
     ensures left { IsTree (side left.now) }
@@ -56,11 +52,7 @@ pub(super) fn refresh(
 }
 
 /// Takes the children out of a node, and leaves it without any.
-pub(super) fn strip(
-    left: &mut Child,
-    right: &mut Child,
-    kept: &mut u64,
-) -> (Child, Child)
+pub(super) fn strip(left: &mut Child, right: &mut Child, kept: &mut u64) -> (Child, Child)
     ensures sides { result ≡ (left.old, right.old) }
     ensures left { left.new ≡ None }
     ensures right { right.new ≡ None }
@@ -71,13 +63,7 @@ pub(super) fn strip(
 }
 
 /// A node's left side, the node without children, and its right side.
-fn part(
-    mut node: Box<InnerNode>,
-) -> (
-    Child,
-    Box<InnerNode>,
-    Child,
-)
+fn part(mut node: Box<InnerNode>) -> (Child, Box<InnerNode>, Child)
     ensures shape { node.value ≡ Fork (side result.0) (root_block node.value) (side result.2) }
     ensures middle { result.1.value ≡ single (root_block node.value) }
     ensures tree { IsTree node.value }
@@ -90,11 +76,7 @@ fn part(
 }
 
 /// A node with these sides, whose heights differ by at most one.
-fn fork(
-    left: Child,
-    mut middle: Box<InnerNode>,
-    right: Child,
-) -> Box<InnerNode>
+fn fork(left: Child, mut middle: Box<InnerNode>, right: Child) -> Box<InnerNode>
     requires leaf { IsLeaf middle.value }
     requires ordered { IsOrderedFrom 0 (blocks (side left) ++ root_block middle.value ∷ blocks (side right)) }
     requires close { DifferByAtMost 1 (height_of (side left)) (height_of (side right)) }
@@ -112,11 +94,7 @@ fn fork(
 /// The rotations where the left side is two levels higher: a single one, or a double one where the
 /// inner grandchild is the higher.
 #[tactic(auto, using(crate::proofs::blocks::Order::rotations))]
-fn lean_left(
-    left: Box<InnerNode>,
-    middle: Box<InnerNode>,
-    right: Child,
-) -> Box<InnerNode>
+fn lean_left(left: Box<InnerNode>, middle: Box<InnerNode>, right: Child) -> Box<InnerNode>
     requires leaf { IsLeaf middle.value }
     requires ordered { IsOrderedFrom 0 (blocks left.value ++ root_block middle.value ∷ blocks (side right)) }
     requires two_higher { height_of left.value ≡ height_of (side right) + 2 }
@@ -138,11 +116,7 @@ fn lean_left(
 
 /// The rotations where the right side is two levels higher, the mirror image.
 #[tactic(auto, using(crate::proofs::blocks::Order::rotations))]
-fn lean_right(
-    left: Child,
-    middle: Box<InnerNode>,
-    right: Box<InnerNode>,
-) -> Box<InnerNode>
+fn lean_right(left: Child, middle: Box<InnerNode>, right: Box<InnerNode>) -> Box<InnerNode>
     requires leaf { IsLeaf middle.value }
     requires ordered { IsOrderedFrom 0 (blocks (side left) ++ root_block middle.value ∷ blocks right.value) }
     requires two_higher { height_of right.value ≡ height_of (side left) + 2 }
@@ -163,11 +137,7 @@ fn lean_right(
 }
 
 /// A node with these sides, whose heights differ by at most two.
-pub(super) fn balance(
-    left: Child,
-    middle: Box<InnerNode>,
-    right: Child,
-) -> Box<InnerNode>
+pub(super) fn balance(left: Child, middle: Box<InnerNode>, right: Child) -> Box<InnerNode>
     requires leaf { IsLeaf middle.value }
     requires sides { CanBalance (side left) (root_block middle.value) (side right) }
     ensures { Balances (side left) (root_block middle.value) (side right) result.value }
@@ -186,20 +156,18 @@ pub(super) fn balance(
 }
 
 /// Puts a node with these sides, whose heights differ by at most two, in the place of one without
-/// children.
-pub(super) fn rebalance(
-    at: &mut Child,
-    left: Child,
-    right: Child,
-)
+/// children. The height there may be another one, so it returns true.
+pub(super) fn rebalance(at: &mut Child, left: Child, right: Child) -> bool
     requires some { IsSome at.old }
     requires leaf { IsLeaf (side at.old) }
     requires sides { CanBalance (side left) (root_block (side at.old)) (side right) }
     ensures some { IsSome at.new }
     ensures balanced { Balances (side left) (root_block (side at.old)) (side right) (side at.new) }
+    ensures told { result ≡ true }
 {
     let Some(middle) = at.take() else {
         unreachable!()
     };
     *at = Some(balance(left, middle, right));
+    true
 }

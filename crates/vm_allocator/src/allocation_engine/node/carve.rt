@@ -61,10 +61,7 @@ fn carve_here(at: &mut Child, range: RangeInclusive, rest: Rest, count: &mut u64
     link_if(&mut tree.right, rest.after, count);
     match settle(&mut tree.left, &mut tree.right, &mut tree.height) {
         Settled::Stands(changed) => changed,
-        Settled::Leans(left, right) => {
-            rebalance(at, left, right);
-            true
-        }
+        Settled::Leans(left, right) => rebalance(at, left, right),
     }
 }
 
@@ -99,9 +96,6 @@ pub(crate) fn carve_at(
     }
     match settle(&mut tree.left, &mut tree.right, &mut tree.height) {
         Settled::Stands(changed) => changed,
-        Settled::Leans(left, right) => {
-            rebalance(at, left, right);
-            true
-        }
+        Settled::Leans(left, right) => rebalance(at, left, right),
     }
 }

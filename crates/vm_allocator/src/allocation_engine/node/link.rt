@@ -38,9 +38,6 @@ pub(super) fn link_at(at: &mut Child, leaf: Box<InnerNode>, count: &mut u64) -> 
     }
     match settle(&mut tree.left, &mut tree.right, &mut tree.height) {
         Settled::Stands(changed) => changed,
-        Settled::Leans(left, right) => {
-            rebalance(at, left, right);
-            true
-        }
+        Settled::Leans(left, right) => rebalance(at, left, right),
     }
 }

@@ -61,12 +61,7 @@ fn greatest_fit(key: &RangeInclusive, state: NodeState, size: u64, alignment: u6
 
 /// The least place below a node: the first block with a fit, and its least fit.
 #[tactic(auto, using(crate::proofs::choosing::PlaceSearch::firsts, crate::proofs::counts::Searching::firsts))]
-pub(crate) fn first_place(
-    tree: &Child,
-    size: u64,
-    alignment: u64,
-    count: &mut u64,
-) -> Option<Place>
+pub(crate) fn first_place(tree: &Child, size: u64, alignment: u64, count: &mut u64) -> Option<Place>
     requires some { 0 < size }
     requires aligned { IsAlignment alignment }
     requires count_fits { count.old + node_count (side tree.now) ≤ MAX }
@@ -90,12 +85,7 @@ pub(crate) fn first_place(
 
 /// The greatest place below a node: the last block with a fit, and its greatest fit.
 #[tactic(auto, using(crate::proofs::choosing::PlaceSearch::lasts, crate::proofs::counts::Searching::lasts))]
-pub(crate) fn last_place(
-    tree: &Child,
-    size: u64,
-    alignment: u64,
-    count: &mut u64,
-) -> Option<Place>
+pub(crate) fn last_place(tree: &Child, size: u64, alignment: u64, count: &mut u64) -> Option<Place>
     requires some { 0 < size }
     requires aligned { IsAlignment alignment }
     requires count_fits { count.old + node_count (side tree.now) ≤ MAX }

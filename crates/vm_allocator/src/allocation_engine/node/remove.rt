@@ -40,10 +40,7 @@ fn take_least_at(at: &mut Child, count: &mut u64) -> (Box<InnerNode>, bool)
     }
     match settle(&mut tree.left, &mut tree.right, &mut tree.height) {
         Settled::Stands(changed) => (least, changed),
-        Settled::Leans(left, right) => {
-            rebalance(at, left, right);
-            (least, true)
-        }
+        Settled::Leans(left, right) => (least, rebalance(at, left, right)),
     }
 }
 
@@ -96,9 +93,6 @@ pub(crate) fn delete_at(at: &mut Child, key: &RangeInclusive, count: &mut u64) -
     }
     match settle(&mut tree.left, &mut tree.right, &mut tree.height) {
         Settled::Stands(changed) => changed,
-        Settled::Leans(left, right) => {
-            rebalance(at, left, right);
-            true
-        }
+        Settled::Leans(left, right) => rebalance(at, left, right),
     }
 }
