@@ -1,5 +1,7 @@
 -- The first and the last fit of a tree, from those of its sides.
-use Rattle.std.proofs.Common.{◌≡◌, ℕ, Option, Some, None, List, [], ◌∷◌, ◌++◌, refl, sym, ap, ◌∙◌, subst, append_assoc}
+use Rattle.std.specs.Option.{is_some}
+use Rattle.std.specs.Prelude.{MatchOption}
+use Rattle.std.proofs.Common.{false, ◌≡◌, ℕ, Option, Some, None, List, [], ◌∷◌, ◌++◌, refl, sym, ap, ◌∙◌, subst, append_assoc}
 use Rattle.std.specs.List.{All}
 use Rattle.std.proofs.lemmas.List.Elements.{All-head, All-tail, All-cons}
 use Rattle.vm_allocator.specs.Block.{Block}
@@ -88,6 +90,11 @@ last_in_left n a s l b r place e h k f = record {
   none = all_append n a f.after (b ∷ blocks r) f.none (All-cons (HasNoFit n a) b (blocks r) k h);
   fit = f.fit;
 }
+
+-- a search that found nothing knows that there is nothing
+pub nothing_found : (found : Option Place) (P : Type 0) (Q : Place → Type 0) → MatchOption found P Q → is_some found ≡ false → P
+nothing_found None P Q h e = h
+nothing_found (Some place) P Q h e = absurd (cc e)
 
 -- where the left side and the root have no fit, the search goes on in the right side
 pub first_through_right : (n a : ℕ) (s l : Shape) (b : Block) (r : Shape) (found : Option Place) → s ≡ Fork l b r → All (HasNoFit n a) (blocks l) → HasNoFit n a b → FindsFirst n a (blocks r) found → FindsFirst n a (blocks s) found

@@ -59,8 +59,8 @@ fn greatest_fit(key: &RangeInclusive, state: NodeState, size: u64, alignment: u6
     if start <= place { Some(place) } else { None }
 }
 
-/// The least place below a node: the first block with a fit, and its least fit.
-#[tactic(auto, using(crate::proofs::choosing::PlaceSearch::firsts, crate::proofs::counts::Searching::firsts))]
+/// The least place among the blocks of a tree: the first block with a fit, and its least fit.
+#[tactic(auto, using(crate::proofs::counts::Searching::firsts))]
 pub(crate) fn first_place(tree: &Child, size: u64, alignment: u64, count: &mut u64) -> Option<Place>
     requires some { 0 < size }
     requires aligned { IsAlignment alignment }
@@ -68,23 +68,14 @@ pub(crate) fn first_place(tree: &Child, size: u64, alignment: u64, count: &mut u
     ensures place { FindsFirst size alignment (blocks (side tree.now)) result }
     ensures count { count.new ≡ count.old + way_of_first size alignment (side tree.now) }
 {
-    let Some(node) = tree else { return None };
-    let node: &InnerNode = node;
-    node.enter(count);
-    if let Some(place) = first_place(&node.left, size, alignment, count) {
-        return Some(place);
+    match tree {
+        None => None,
+        Some(node) => node.first_place(size, alignment, count),
     }
-    if let Some(start) = least_fit(&node.key, node.node_state, size, alignment) {
-        return Some(Place {
-            key: node.key,
-            start,
-        });
-    }
-    first_place(&node.right, size, alignment, count)
 }
 
-/// The greatest place below a node: the last block with a fit, and its greatest fit.
-#[tactic(auto, using(crate::proofs::choosing::PlaceSearch::lasts, crate::proofs::counts::Searching::lasts))]
+/// The greatest place among the blocks of a tree: the last block with a fit, and its greatest fit.
+#[tactic(auto, using(crate::proofs::counts::Searching::lasts))]
 pub(crate) fn last_place(tree: &Child, size: u64, alignment: u64, count: &mut u64) -> Option<Place>
     requires some { 0 < size }
     requires aligned { IsAlignment alignment }
@@ -92,17 +83,66 @@ pub(crate) fn last_place(tree: &Child, size: u64, alignment: u64, count: &mut u6
     ensures place { FindsLast size alignment (blocks (side tree.now)) result }
     ensures count { count.new ≡ count.old + way_of_last size alignment (side tree.now) }
 {
-    let Some(node) = tree else { return None };
-    let node: &InnerNode = node;
-    node.enter(count);
-    if let Some(place) = last_place(&node.right, size, alignment, count) {
-        return Some(place);
+    match tree {
+        None => None,
+        Some(node) => node.last_place(size, alignment, count),
     }
-    if let Some(start) = greatest_fit(&node.key, node.node_state, size, alignment) {
-        return Some(Place {
-            key: node.key,
-            start,
-        });
+}
+
+impl InnerNode {
+    /// The least place from this node on.
+    #[tactic(auto, using(crate::proofs::choosing::PlaceSearch::firsts, crate::proofs::counts::Searching::firsts))]
+    fn first_place(&self, size: u64, alignment: u64, count: &mut u64) -> Option<Place>
+        requires some { 0 < size }
+        requires aligned { IsAlignment alignment }
+        requires count_fits { count.old + node_count self.now ≤ MAX }
+        ensures place { FindsFirst size alignment (blocks self.now) result }
+        ensures count { count.new ≡ count.old + way_of_first size alignment self.now }
+    {
+        self.enter(count);
+        let found = match &self.left {
+            None => None,
+            Some(left) => left.first_place(size, alignment, count),
+        };
+        if found.is_some() {
+            return found;
+        }
+        if let Some(start) = least_fit(&self.key, self.node_state, size, alignment) {
+            return Some(Place {
+                key: self.key,
+                start,
+            });
+        }
+        let Some(right) = &self.right else {
+            return None
+        };
+        right.first_place(size, alignment, count)
     }
-    last_place(&node.left, size, alignment, count)
+
+    /// The greatest place from this node on.
+    #[tactic(auto, using(crate::proofs::choosing::PlaceSearch::lasts, crate::proofs::counts::Searching::lasts))]
+    fn last_place(&self, size: u64, alignment: u64, count: &mut u64) -> Option<Place>
+        requires some { 0 < size }
+        requires aligned { IsAlignment alignment }
+        requires count_fits { count.old + node_count self.now ≤ MAX }
+        ensures place { FindsLast size alignment (blocks self.now) result }
+        ensures count { count.new ≡ count.old + way_of_last size alignment self.now }
+    {
+        self.enter(count);
+        let found = match &self.right {
+            None => None,
+            Some(right) => right.last_place(size, alignment, count),
+        };
+        if found.is_some() {
+            return found;
+        }
+        if let Some(start) = greatest_fit(&self.key, self.node_state, size, alignment) {
+            return Some(Place {
+                key: self.key,
+                start,
+            });
+        }
+        let Some(left) = &self.left else { return None };
+        left.last_place(size, alignment, count)
+    }
 }
