@@ -16,10 +16,13 @@ const LAST_REQUEST: usize = 1_000_003;
 
 /// The allocator of a space. A second try stands for a run in which one request for memory is
 /// refused, here and below.
-pub(crate) fn made(alloc: Global, base: u64, size: u64) -> Result<AddressAllocator> {
-    match AddressAllocator::new(alloc, base, size) {
-        Err(Error::OutOfMemory) => AddressAllocator::new(alloc, base, size),
-        answer => answer,
+pub(crate) fn made(rt: &(impl Abort + AllocGlobal), base: u64, size: u64) -> AddressAllocator {
+    match AddressAllocator::new(rt.alloc(), base, size) {
+        Ok(space) => space,
+        Err(_) => AddressAllocator::new(rt.alloc(), base, size).expect(
+            rt,
+            "memory is refused once",
+        ),
     }
 }
 

@@ -146,91 +146,88 @@ fn replay(rt: &(impl Abort + AllocGlobal), space: &mut AddressAllocator, rows: &
 
 #[test]
 fn test_new_fails_overflow(rt: HostRuntime) {
-    assert_eq!(rt; made(rt.alloc(), MAX, 0x100).err(), Some(Error::Overflow));
+    assert_eq!(rt;
+        AddressAllocator::new(rt.alloc(), MAX, 0x100).err(),
+        Some(Error::Overflow)
+    );
 }
 
 #[test]
 fn test_new_fails_size_zero(rt: HostRuntime) {
-    assert_eq!(rt; made(rt.alloc(), 0x1000, 0).err(), Some(Error::Underflow));
+    assert_eq!(rt;
+        AddressAllocator::new(rt.alloc(), 0x1000, 0).err(),
+        Some(Error::Underflow)
+    );
 }
 
 #[test]
-fn test_allocate_fails_alignment_zero(rt: HostRuntime) -> std::result::Result<(), Fail> {
-    let mut space = made(rt.alloc(), 0x1000, 0x10000)?;
+fn test_allocate_fails_alignment_zero(rt: HostRuntime) {
+    let mut space = made(&rt, 0x1000, 0x10000);
     let rows = [(First(0x100, 0), NoAlignment)];
     replay(&rt, &mut space, &rows);
-    Ok(())
 }
 
 #[test]
-fn test_allocate_fails_alignment_non_power_of_two(
-    rt: HostRuntime,
-) -> std::result::Result<(), Fail> {
-    let mut space = made(rt.alloc(), 0x1000, 0x10000)?;
+fn test_allocate_fails_alignment_non_power_of_two(rt: HostRuntime) {
+    let mut space = made(&rt, 0x1000, 0x10000);
     let rows = [(First(0x100, 200), NoAlignment)];
     replay(&rt, &mut space, &rows);
-    Ok(())
 }
 
 #[test]
-fn test_allocate_with_alignment_first_ok(rt: HostRuntime) -> std::result::Result<(), Fail> {
-    let mut space = made(rt.alloc(), 0x1000, 0x1000)?;
+fn test_allocate_with_alignment_first_ok(rt: HostRuntime) {
+    let mut space = made(&rt, 0x1000, 0x1000);
     let rows = [
         (First(0x110, 0x100), Range(0x1000, 0x110F)),
         (First(0x100, 0x100), Range(0x1200, 0x12FF)),
         (First(0x10, 0x100), Range(0x1300, 0x130F)),
     ];
     replay(&rt, &mut space, &rows);
-    Ok(())
 }
 
 #[test]
-fn test_allocate_with_alignment_last_ok(rt: HostRuntime) -> std::result::Result<(), Fail> {
-    let mut space = made(rt.alloc(), 0x1000, 0x10000)?;
+fn test_allocate_with_alignment_last_ok(rt: HostRuntime) {
+    let mut space = made(&rt, 0x1000, 0x10000);
     let rows = [
         (Last(0x110, 0x100), Range(0x10E00, 0x10F0F)),
         (Last(0x100, 0x100), Range(0x10D00, 0x10DFF)),
         (Last(0x10, 0x100), Range(0x10C00, 0x10C0F)),
     ];
     replay(&rt, &mut space, &rows);
-    Ok(())
 }
 
 #[test]
-fn test_allow_range_size_one_left(rt: HostRuntime) -> std::result::Result<(), Fail> {
-    let mut space = made(rt.alloc(), 1, 1000)?;
+fn test_allow_range_size_one_left(rt: HostRuntime) {
+    let mut space = made(&rt, 1, 1000);
     let rows = [(First(10, 2), Range(2, 11)), (First(1, 1), Range(1, 1))];
     replay(&rt, &mut space, &rows);
-    Ok(())
 }
 
 #[test]
-fn test_tree_allocate_address_free_and_realloc(rt: HostRuntime) -> std::result::Result<(), Fail> {
-    let mut space = made(rt.alloc(), 0x1000, 0x1000)?;
+fn test_tree_allocate_address_free_and_realloc(rt: HostRuntime) {
+    let mut space = made(&rt, 0x1000, 0x1000);
     let rows = [
         (First(0x800, 0x100), Range(0x1000, 0x17FF)),
         (Free(0x1000, 0x17FF), Range(0x1000, 0x17FF)),
         (First(0x800, 0x100), Range(0x1000, 0x17FF)),
     ];
     replay(&rt, &mut space, &rows);
-    Ok(())
 }
 
 #[test]
-fn test_allocate_fails_not_enough_space(rt: HostRuntime) -> std::result::Result<(), Fail> {
-    let mut space = made(rt.alloc(), 0x1000, 0x1000)?;
+fn test_allocate_fails_not_enough_space(rt: HostRuntime) {
+    let mut space = made(&rt, 0x1000, 0x1000);
     let rows = [
         (Last(0x800, 0x100), Range(0x1800, 0x1FFF)),
         (First(0x900, 0x100), NotAvailable),
         (First(0x400, 0x100), Range(0x1000, 0x13FF)),
     ];
     replay(&rt, &mut space, &rows);
-    Ok(())
 }
 
 #[test]
-fn test_allocate_address_not_enough_space(rt: HostRuntime) -> std::result::Result<(), Fail> {
-    let mut space = made(rt.alloc(), 0x1000, 0x1000)?;
+fn test_allocate_address_not_enough_space(rt: HostRuntime) {
+    let mut space = made(&rt, 0x1000, 0x1000);
     let rows = [
         (First(0x800, 0x100), Range(0x1000, 0x17FF)),
         (Exact(0x200, 0x100, 0x1A00), Range(0x1A00, 0x1BFF)),
@@ -238,12 +235,11 @@ fn test_allocate_address_not_enough_space(rt: HostRuntime) -> std::result::Resul
         (Exact(0x100, 0x100, 0x1800), Range(0x1800, 0x18FF)),
     ];
     replay(&rt, &mut space, &rows);
-    Ok(())
 }
 
 #[test]
-fn test_allocate_address_fail_free_and_realloc(rt: HostRuntime) -> std::result::Result<(), Fail> {
-    let mut space = made(rt.alloc(), 0, 0x1000)?;
+fn test_allocate_address_fail_free_and_realloc(rt: HostRuntime) {
+    let mut space = made(&rt, 0, 0x1000);
     let rows = [
         (First(0x2000, 0x100), NotAvailable),
         (Free(0x1200, 0x3200), NotAvailable),
@@ -251,12 +247,11 @@ fn test_allocate_address_fail_free_and_realloc(rt: HostRuntime) -> std::result::
         (Free(0x500, 0x9FD), Range(0x500, 0x9FD)),
     ];
     replay(&rt, &mut space, &rows);
-    Ok(())
 }
 
 #[test]
-fn test_regression_exact_match_length_check(rt: HostRuntime) -> std::result::Result<(), Fail> {
-    let mut space = made(rt.alloc(), 0, 0x2000)?;
+fn test_regression_exact_match_length_check(rt: HostRuntime) {
+    let mut space = made(&rt, 0, 0x2000);
     let rows = [
         (Exact(0x1000, 0x1000, 0x1000), Range(0x1000, 0x1FFF)),
         (First(0, 0x1000), NoSize),
@@ -264,12 +259,11 @@ fn test_regression_exact_match_length_check(rt: HostRuntime) -> std::result::Res
         (Exact(0x1000, 0x1000, 0), Range(0, 0xFFF)),
     ];
     replay(&rt, &mut space, &rows);
-    Ok(())
 }
 
 #[test]
-fn answers_of_calls(rt: HostRuntime) -> std::result::Result<(), Fail> {
-    let mut space = made(rt.alloc(), 0, 6)?;
+fn answers_of_calls(rt: HostRuntime) {
+    let mut space = made(&rt, 0, 6);
     let rows = [
         // Each address on its own.
         (Exact(1, 1, 3), Range(3, 3)),
@@ -296,12 +290,11 @@ fn answers_of_calls(rt: HostRuntime) -> std::result::Result<(), Fail> {
         (Free(0x10, 0x13), NotAvailable),
     ];
     replay(&rt, &mut space, &rows);
-    Ok(())
 }
 
 #[test]
-fn answers_for_one_start(rt: HostRuntime) -> std::result::Result<(), Fail> {
-    let mut space = made(rt.alloc(), 0x1000, 0x1000)?;
+fn answers_for_one_start(rt: HostRuntime) {
+    let mut space = made(&rt, 0x1000, 0x1000);
     let rows = [
         (Exact(0x100, 0x100, 0x1000), Range(0x1000, 0x10FF)),
         (Exact(0x100, 0x100, 0x1000), Held(0x1000, 0x10FF)),
@@ -317,12 +310,11 @@ fn answers_for_one_start(rt: HostRuntime) -> std::result::Result<(), Fail> {
         (Exact(0x100, 0x100, 0x1000), NotAvailable),
     ];
     replay(&rt, &mut space, &rows);
-    Ok(())
 }
 
 #[test]
-fn ends_of_all_addresses(rt: HostRuntime) -> std::result::Result<(), Fail> {
-    let mut space = made(rt.alloc(), 1, MAX)?;
+fn ends_of_all_addresses(rt: HostRuntime) {
+    let mut space = made(&rt, 1, MAX);
     let rows = [
         (Last(1, 1), Overflow),
         (Last(1, 2), Range(LAST, LAST)),
@@ -344,12 +336,11 @@ fn ends_of_all_addresses(rt: HostRuntime) -> std::result::Result<(), Fail> {
         (First(1, 1), Overflow),
     ];
     replay(&rt, &mut space, &rows);
-    Ok(())
 }
 
 #[test]
-fn small_trees(rt: HostRuntime) -> std::result::Result<(), Fail> {
-    let mut space = made(rt.alloc(), 0, 0x1000)?;
+fn small_trees(rt: HostRuntime) {
+    let mut space = made(&rt, 0, 0x1000);
     assert_eq!(rt; space.height(), 1);
     let (answer, count) = space.allocate_counted(rt.alloc(), 0, 1, FirstMatch);
     assert_eq!(rt; (answer, count), (Err(Error::InvalidSize(0)), 0));
@@ -357,13 +348,12 @@ fn small_trees(rt: HostRuntime) -> std::result::Result<(), Fail> {
     replay(&rt, &mut space, &rows);
     assert_eq!(rt; space.height(), 2);
     assert_eq!(rt; space.interval_tree.block_count(), 3);
-    Ok(())
 }
 
 #[test]
-fn joins_what_is_given_back(rt: HostRuntime) -> std::result::Result<(), Fail> {
+fn joins_what_is_given_back(rt: HostRuntime) {
     for order in [[0, 1, 2, 3, 4, 5], [5, 4, 3, 2, 1, 0], [1, 3, 5, 0, 2, 4]] {
-        let mut space = made(rt.alloc(), 0, 6)?;
+        let mut space = made(&rt, 0, 6);
         for i in 0..6u64 {
             replay(&rt, &mut space, &[(First(1, 1), Range(i, i))]);
         }
@@ -371,13 +361,12 @@ fn joins_what_is_given_back(rt: HostRuntime) -> std::result::Result<(), Fail> {
         for i in order {
             replay(&rt, &mut space, &[(Free(i, i), Range(i, i))]);
         }
-        let fresh = made(rt.alloc(), 0, 6)?;
+        let fresh = made(&rt, 0, 6);
         assert!(rt;
             space.interval_tree.is_same(&fresh.interval_tree),
             "{order:?}"
         );
     }
-    Ok(())
 }
 
 /// The number at `n` of the sequence 0, 1, 1, 2, 3, 5, .. of Fibonacci.
@@ -424,7 +413,7 @@ fn take_first_counted(
 
 #[test]
 fn balanced_and_counted(rt: HostRuntime) -> std::result::Result<(), Fail> {
-    let mut space = made(rt.alloc(), 0, 2047)?;
+    let mut space = made(&rt, 0, 2047);
     for i in 0..2047 {
         assert_eq!(rt; take_first_counted(&rt, &mut space, i), Ok(i));
         assert!(rt; is_low(&space, i + 1), "after {i} is taken");

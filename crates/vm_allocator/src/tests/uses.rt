@@ -55,14 +55,14 @@ fn uses(rt: HostRuntime) -> std::result::Result<(), Fail> {
     };
     assert_eq!(rt; (first.start(), second.start()), (0xD000_0000, 0xD000_1000));
 
-    let mut gap = made(rt.alloc(), 0xE000_1000, 0xFF_F000)?;
+    let mut gap = made(&rt, 0xE000_1000, 0xFF_F000);
     let bar = match place_bar(rt.alloc(), &mut gap, 0x10_0000) {
         Err(Error::OutOfMemory) => place_bar(rt.alloc(), &mut gap, 0x10_0000)?,
         answer => answer?,
     };
     assert_eq!(rt; (bar.start(), bar.end()), (0xE010_0000, 0xE01F_FFFF));
 
-    let mut memory = made(rt.alloc(), 0x1_0000_0000, 0x4000_0000)?;
+    let mut memory = made(&rt, 0x1_0000_0000, 0x4000_0000);
     let slot = memory.allocate(rt.alloc(), 0x4000_0000, 0x1000, AllocPolicy::LastMatch)?;
     assert_eq!(rt; replug(rt.alloc(), &mut memory, &slot), Ok(slot));
 

@@ -16,15 +16,15 @@ fn replay(
 }
 
 /// The allocator of [0, 15] in which [2, 3], [6, 7] and [10, 11] are held.
-fn three_held(rt: &(impl Abort + AllocGlobal)) -> Result<AddressAllocator> {
-    let mut space = made(rt.alloc(), 0, 16)?;
+fn three_held(rt: &(impl Abort + AllocGlobal)) -> AddressAllocator {
+    let mut space = made(rt, 0, 16);
     let rows = [
         (Exact(2, 1, 2), Range(2, 3)),
         (Exact(2, 1, 6), Range(6, 7)),
         (Exact(2, 1, 10), Range(10, 11)),
     ];
     super::replay(rt, &mut space, &rows);
-    Ok(space)
+    space
 }
 
 /// A split, which asks for memory once: what a run without memory is known by.
@@ -37,8 +37,8 @@ fn split(rt: &(impl Abort + AllocGlobal), space: &mut AddressAllocator) {
 }
 
 #[test]
-fn filled_and_given_back(rt: HostRuntime) -> std::result::Result<(), Fail> {
-    let mut spaces = [(three_held(&rt)?, Plain), (three_held(&rt)?, Counted)];
+fn filled_and_given_back(rt: HostRuntime) {
+    let mut spaces = [(three_held(&rt), Plain), (three_held(&rt), Counted)];
     let rows = [
         (First(2, 1), Range(0, 1)),
         (Last(4, 1), Range(12, 15)),
@@ -60,12 +60,11 @@ fn filled_and_given_back(rt: HostRuntime) -> std::result::Result<(), Fail> {
     }
     let [(space, _), _] = &mut spaces;
     split(&rt, space);
-    Ok(())
 }
 
 #[test]
-fn refused(rt: HostRuntime) -> std::result::Result<(), Fail> {
-    let mut space = three_held(&rt)?;
+fn refused(rt: HostRuntime) {
+    let mut space = three_held(&rt);
     let rows = [
         (Space(16, 0), Underflow),
         (Space(MAX, 2), Overflow),
@@ -84,7 +83,7 @@ fn refused(rt: HostRuntime) -> std::result::Result<(), Fail> {
         (Free(6, 6), NotAvailable),
         (Free(16, 17), NotAvailable),
     ];
-    let mut highest = made(rt.alloc(), MAX - 15, 16)?;
+    let mut highest = made(&rt, MAX - 15, 16);
     let ending_at_max = [
         (Last(1, 1), Overflow),
         (Exact(2, 1, LAST), Overflow),
@@ -96,5 +95,4 @@ fn refused(rt: HostRuntime) -> std::result::Result<(), Fail> {
         replay(&rt, &mut highest, form, &ending_at_max);
     }
     split(&rt, &mut space);
-    Ok(())
 }
