@@ -83,8 +83,11 @@ impl AddressAllocator {
 
         // The refusal for depth comes before out of memory.
         ensures depth { SplitsIfLow (height_of self.old.tree) (state_of self.old) result }
+        ensures state { IsAddressState (state_of self.new) }
     {
-        self.allocate_counted(alloc, size, alignment, policy).0
+        let answer = self.allocate_counted(alloc, size, alignment, policy).0;
+        let _ = self.base();
+        answer
     }
 
     /// Does what `allocate` does, and answers besides how many nodes of the tree it entered. With the
@@ -126,8 +129,11 @@ impl AddressAllocator {
 
         // Giving back needs no memory, and succeeds.
         ensures held { Contains (state_of self.old).held key.now → IsOk result }
+        ensures state { IsAddressState (state_of self.new) }
     {
-        self.free_counted(key).0
+        let answer = self.free_counted(key).0;
+        let _ = self.base();
+        answer
     }
 
     /// Does what `free` does, and answers besides how many nodes of the tree it entered: with the
