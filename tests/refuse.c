@@ -1,5 +1,6 @@
-/* Refuses one request for memory of the program that it is preloaded into: request number REFUSE,
- * counted from 1. A file named by REFUSED is written when that request was met. */
+/* Refuses requests for memory of the program that it is preloaded into: with REFUSE the request of
+ * that number, counted from 1, and with REFUSE_AFTER each one after the first request for that many
+ * bytes. For each refusal one byte is added to the file named by REFUSED. */
 #define _GNU_SOURCE
 #include <dlfcn.h>
 #include <fcntl.h>
@@ -8,14 +9,26 @@
 #include <unistd.h>
 
 static unsigned long requests;
+static int last_was_met;
 
-static int is_refused(void) {
+static int is_the_one(void) {
     const char *number = getenv("REFUSE");
+    return number && ++requests == strtoul(number, NULL, 10);
+}
+
+static int is_after_the_last(size_t size) {
+    const char *last = getenv("REFUSE_AFTER");
+    if (!last || last_was_met) return last_was_met;
+    last_was_met = size == strtoul(last, NULL, 10);
+    return 0;
+}
+
+static int is_refused(size_t size) {
+    if (!is_the_one() && !is_after_the_last(size)) return 0;
     const char *told = getenv("REFUSED");
-    if (!number || ++requests != strtoul(number, NULL, 10)) return 0;
     if (told) {
-        int file = open(told, O_WRONLY | O_CREAT | O_TRUNC, 0644);
-        if (file >= 0) close(file);
+        int file = open(told, O_WRONLY | O_CREAT | O_APPEND, 0644);
+        if (file < 0 || write(file, "r", 1) != 1 || close(file) != 0) abort();
     }
     return 1;
 }
@@ -23,11 +36,11 @@ static int is_refused(void) {
 void *malloc(size_t size) {
     static void *(*next)(size_t);
     if (!next) next = (void *(*)(size_t))dlsym(RTLD_NEXT, "malloc");
-    return is_refused() ? NULL : next(size);
+    return is_refused(size) ? NULL : next(size);
 }
 
 void *realloc(void *old, size_t size) {
     static void *(*next)(void *, size_t);
     if (!next) next = (void *(*)(void *, size_t))dlsym(RTLD_NEXT, "realloc");
-    return is_refused() ? NULL : next(old, size);
+    return is_refused(size) ? NULL : next(old, size);
 }

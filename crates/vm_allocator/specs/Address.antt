@@ -1,5 +1,5 @@
 -- A space of addresses, the ranges held in it, and the places that are left.
-use Rattle.std.specs.Prelude.{◌≡◌, ℕ, ◌+◌, ◌%◌, ◌<◌, ◌≤◌, ◌⊎◌, List, [], ◌∷◌, cond, nat_lt, nat_eq}
+use Rattle.std.specs.Prelude.{◌≡◌, ℕ, ◌+◌, ◌%◌, ◌<◌, ◌≤◌, ◌⊎◌, List, [], ◌∷◌, if◌then◌else◌, nat_lt, nat_eq}
 use Rattle.std.specs.List.{All}
 use Rattle.vm_allocator.specs.Range.{Range, MAX, IsRange, IsIn}
 
@@ -28,19 +28,19 @@ IsLeastPlace n a state s = IsPlace n a state s × ((t : ℕ) → IsPlace n a sta
 unfoldable pub IsGreatestPlace : ℕ → ℕ → AddressState → ℕ → Type 0
 IsGreatestPlace n a state s = IsPlace n a state s × ((t : ℕ) → IsPlace n a state t → t ≤ s)
 
--- a clear address stands right before or right after the range: holding the range splits its run
+-- a clear address stands right before or right after the range: holding the range splits its gap
 unfoldable pub LeavesClear : AddressState → Range → Type 0
 LeavesClear state r = (x : ℕ) × IsClear state x × ((x + 1 ≡ r.start) ⊎ (x ≡ r.end + 1))
 
 -- the ranges with one more, before the first that starts above it
 abbrev pub with_range : Range → List Range → List Range
 with_range r [] = r ∷ []
-with_range r (h ∷ hs) = cond (nat_lt r.start h.start) (r ∷ h ∷ hs) (h ∷ with_range r hs)
+with_range r (h ∷ hs) = if nat_lt r.start h.start then r ∷ h ∷ hs else h ∷ with_range r hs
 
 -- the ranges but for the one with this start
 abbrev pub without_range : Range → List Range → List Range
 without_range r [] = []
-without_range r (h ∷ hs) = cond (nat_eq r.start h.start) hs (h ∷ without_range r hs)
+without_range r (h ∷ hs) = if nat_eq r.start h.start then hs else h ∷ without_range r hs
 
 -- the state with one more range held
 abbrev pub holding : Range → AddressState → AddressState
@@ -53,7 +53,8 @@ releasing r state = record state { held = without_range r state.held }
 -- from lo to hi the ranges stand in order with no address in common, and none contains MAX
 abbrev pub AreSlots : ℕ → List Range → ℕ → Type 0
 AreSlots lo [] hi = Unit {0}
-AreSlots lo (r ∷ rs) hi = (lo ≤ r.start) × (r.start ≤ r.end) × (r.end ≤ hi) × (r.end < MAX) × AreSlots (r.end + 1) rs hi
+AreSlots lo (r ∷ rs) hi =
+    (lo ≤ r.start) × (r.start ≤ r.end) × (r.end ≤ hi) × (r.end < MAX) × AreSlots (r.end + 1) rs hi
 
 -- the space is a range, and the held ranges lie apart in it and do not contain MAX
 pub record IsAddressState (state : AddressState) : Type 0 where

@@ -14,7 +14,11 @@ pub record SpaceInTree : Type 0 where
 
 -- it is stored as the pair of the two
 abbrev pub space_code : Coded SpaceInTree
-space_code = code_by (Range × Shape) (coded× range_code shape_code) (λ s. (s.space, s.tree)) (λ p. record { space = p.0; tree = p.1 }) (λ _. refl)
+space_code =
+    code_by (Range × Shape) (coded× range_code shape_code)
+    (λ s. (s.space, s.tree))
+    (λ p. record { space = p.0; tree = p.1 })
+    (λ _. refl)
 
 -- the space and the held ranges
 abbrev pub state_of : SpaceInTree → AddressState

@@ -1,10 +1,8 @@
 -- What is done with the list of the blocks.
-use Rattle.std.specs.Prelude.{◌≡◌, ℕ, ◌+◌, ◌-◌, ◌<◌, ◌≤◌, List, [], ◌∷◌, ◌++◌, cond, nat_lt}
+use Rattle.std.specs.Prelude.{ℕ, ◌+◌, ◌-◌, ◌<◌, ◌≤◌, List, [], ◌∷◌, ◌++◌, if◌then◌else◌, nat_lt}
 use Rattle.std.specs.Prelude.{◌⊎◌}
 use Rattle.vm_allocator.specs.Range.{Range}
 use Rattle.vm_allocator.specs.Block.{Block}
-use Rattle.vm_allocator.specs.Blocks.{NotBothFree}
-use Rattle.vm_allocator.specs.declared.allocation_engine.NodeState.{NodeState}
 use Rattle.vm_allocator.specs.declared.allocation_engine.NodeState.TheVariants.{Free, Allocated}
 
 -- a free block of this range
@@ -13,34 +11,17 @@ free_block k = record { key = k; state = Free }
 
 -- the free block that is left before r where r is taken from within k
 abbrev pub before_part : Range → Range → List Block
-before_part k r = cond (nat_lt k.start r.start) (free_block (record { start = k.start; end = r.start - 1 }) ∷ []) []
+before_part k r =
+    if nat_lt k.start r.start then free_block (record { start = k.start; end = r.start - 1 }) ∷ [] else []
 
 -- the free block that is left after it
 abbrev pub after_part : Range → Range → List Block
-after_part k r = cond (nat_lt r.end k.end) (free_block (record { start = r.end + 1; end = k.end }) ∷ []) []
+after_part k r =
+    if nat_lt r.end k.end then free_block (record { start = r.end + 1; end = k.end }) ∷ [] else []
 
 -- the blocks that stand in the place of k once r is taken from it
 abbrev pub parts : Range → Range → List Block
 parts k r = before_part k r ++ record { key = r; state = Allocated } ∷ after_part k r
-
--- the blocks with a free one before them, which takes in the first if that is free too
-abbrev pub join_if : NodeState → Range → Block → List Block → List Block
-join_if Free k b bs = free_block (record { start = k.start; end = b.key.end }) ∷ bs
-join_if Allocated k b bs = free_block k ∷ b ∷ bs
-
--- the same, also where there is no first
-abbrev pub with_free : Range → List Block → List Block
-with_free k [] = free_block k ∷ []
-with_free k (b ∷ bs) = join_if b.state k b bs
-
--- the last of the blocks, or else one before them, is not free
-abbrev pub EndsHeld : NodeState → List Block → Type 0
-EndsHeld before [] = NotBothFree before Free
-EndsHeld before (b ∷ bs) = EndsHeld b.state bs
-
--- the block is held and has this range
-unfoldable pub IsSlot : Range → Block → Type 0
-IsSlot r b = (b.key ≡ r) × (b.state ≡ Allocated)
 
 -- r lies within k
 pub record IsTakenFrom (k r : Range) : Type 0 where

@@ -1,4 +1,4 @@
--- The blocks of a space: its clear runs and its held ranges, from the lowest to the highest.
+-- The blocks of a space: its gaps and its held ranges, from the lowest to the highest.
 use Rattle.std.specs.Prelude.{◌≡◌, ℕ, ◌+◌, ◌≤◌, ◌<◌, List, [], ◌∷◌, ◌++◌}
 use Rattle.vm_allocator.specs.Range.{Range, MAX}
 use Rattle.vm_allocator.specs.Block.{Block}

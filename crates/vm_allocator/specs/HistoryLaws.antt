@@ -1,91 +1,130 @@
--- What holds along every list of calls of an address allocator, from a new one on.
-use Rattle.std.specs.Prelude.{◌≡◌, ℕ, ◌+◌, ◌-◌, ◌<◌, ◌≤◌, ◌⊎◌, ◌↔◌, List, Result, Ok, Err}
+-- What holds along every history of an address allocator, from a new one on.
+use Rattle.std.specs.Prelude.{◌≡◌, ◌≢◌, ℕ, ◌+◌, ◌-◌, ◌<◌, ◌≤◌, ◌⊎◌, ◌↔◌, List, map, Result, Ok, Err}
 use Rattle.std.specs.List.{Contains}
-use Rattle.vm_allocator.specs.Range.{Range, MAX, Overlaps, Covers, span}
-use Rattle.vm_allocator.specs.Address.{AddressState, IsAddressState, IsPlace, IsLeastPlace, IsGreatestPlace}
-use Rattle.vm_allocator.specs.Request.{IsRequest, MakesConstraint}
-use Rattle.vm_allocator.specs.Answer.{IsChosen, IsExit, Allocates, Frees}
-use Rattle.vm_allocator.specs.Laws.{AgreeUnlessExit}
-use Rattle.vm_allocator.specs.Histories.{Step, IsReached, IsRun, WasGiven, releases}
+use Rattle.std.specs.List.Sorted.{IsPermutation}
+use Rattle.vm_allocator.specs.Range.{Range, MAX, IsIn, span}
+use Rattle.vm_allocator.specs.Address.{AddressState, AreClear, IsPlace, IsLeastPlace, IsGreatestPlace, IsAddressState}
+use Rattle.vm_allocator.specs.Request.{Request, request_for, IsRequest, MakesConstraint}
+use Rattle.vm_allocator.specs.Answer.{IsChosen, Takes, Allocates, Frees, Makes}
+use Rattle.vm_allocator.specs.Laws.{AgreeButForSplits, LieApart}
+use Rattle.vm_allocator.specs.Histories.{Call, Allocation, Asked, asked_by, IsHistoryFrom, Reached, WasGiven, releases}
 use Rattle.vm_allocator.specs.declared.error.Error.{Error}
-use Rattle.vm_allocator.specs.declared.error.Error.TheVariants.{Overflow, ResourceNotAvailable, InvalidStateTransition}
+use Rattle.vm_allocator.specs.declared.error.Error.TheVariants.{Overflow, ResourceNotAvailable, InvalidStateTransition, OutOfMemory}
 use Rattle.vm_allocator.specs.declared.allocation_engine.NodeState.TheVariants.{Allocated}
-use Rattle.vm_allocator.specs.declared.constraint.AllocPolicy.{AllocPolicy}
 use Rattle.vm_allocator.specs.declared.constraint.AllocPolicy.TheVariants.{FirstMatch, LastMatch, ExactMatch}
 
 -- a range that FirstMatch gave starts at the least place of the state before
 abbrev pub FirstIsLeast : Type 0
 FirstIsLeast =
-    (steps : List Step) (old new : AddressState) (n a : ℕ) (r : Range) → IsReached steps old →
-    Allocates old n a FirstMatch (Ok r) new → IsLeastPlace n a old r.start × (r ≡ span r.start n)
+    (old : Reached) (new : AddressState) (size align : ℕ) (r : Range) →
+    Allocates old.state (request_for size align FirstMatch) (Ok r) new →
+    IsLeastPlace size align old.state r.start × (r ≡ span r.start size)
 
 -- a range that LastMatch gave starts at the greatest place
 abbrev pub LastIsGreatest : Type 0
 LastIsGreatest =
-    (steps : List Step) (old new : AddressState) (n a : ℕ) (r : Range) → IsReached steps old →
-    Allocates old n a LastMatch (Ok r) new → IsGreatestPlace n a old r.start × (r ≡ span r.start n)
+    (old : Reached) (new : AddressState) (size align : ℕ) (r : Range) →
+    Allocates old.state (request_for size align LastMatch) (Ok r) new →
+    IsGreatestPlace size align old.state r.start × (r ≡ span r.start size)
 
 -- a range that ExactMatch gave starts at the named place
 abbrev pub ExactIsNamed : Type 0
 ExactIsNamed =
-    (steps : List Step) (old new : AddressState) (n a t : ℕ) (r : Range) → IsReached steps old →
-    Allocates old n a (ExactMatch t) (Ok r) new → IsPlace n a old t × (r ≡ span t n)
+    (old : Reached) (new : AddressState) (size align start : ℕ) (r : Range) →
+    Allocates old.state (request_for size align (ExactMatch start)) (Ok r) new →
+    IsPlace size align old.state start × (r ≡ span start size)
 
--- A request is answered by the places: one that makes no sense as its constraint is; the range at the chosen place is
--- given if it ends below MAX, but for the two exits of a split, and refused if it ends there; where there is no place
--- the request is refused, and a named range that is held is told.
-pub record IsAnswered (old : AddressState) (n a : ℕ) (policy : AllocPolicy) (answer : Result Range Error) : Type 0 where
-  pub senseless : (e : Error) → MakesConstraint n a policy (Err e) → answer ≡ Err e
-  pub given : IsRequest (record { size = n; align = a; policy = policy }) → (s : ℕ) → IsChosen policy n a old s → s + n - 1 < MAX → (answer ≡ Ok (span s n)) ⊎ IsExit old answer
-  pub at_max : IsRequest (record { size = n; align = a; policy = policy }) → (s : ℕ) → IsChosen policy n a old s → s + n - 1 ≡ MAX → answer ≡ Err Overflow
-  pub no_place : IsRequest (record { size = n; align = a; policy = policy }) → (policy ≡ FirstMatch) ⊎ (policy ≡ LastMatch) → ((s : ℕ) → ¬ IsPlace n a old s) → answer ≡ Err ResourceNotAvailable
-  pub not_clear : (t : ℕ) → policy ≡ ExactMatch t → ¬ IsPlace n a old t → (r : Range) → answer ≡ Ok r → ⊥
-  pub held : (t : ℕ) → IsRequest (record { size = n; align = a; policy = policy }) → policy ≡ ExactMatch t → Contains old.held (span t n) → answer ≡ Err (InvalidStateTransition (span t n) Allocated)
+-- A request for the n addresses from the start t on is refused for the first of these: the start is MAX; it is outside
+-- the space; the range passes MAX; the range is a held one; an address of it is not clear; it ends at MAX.
+pub record IsRefusedInOrder (old : AddressState) (t n : ℕ) (answer : Result Range Error) : Type 0 where
+  pub start_is_max : t ≡ MAX → answer ≡ Err Overflow
+  pub start_is_outside : t ≢ MAX → ¬ IsIn old.space t → answer ≡ Err ResourceNotAvailable
+  pub passes_max : t ≢ MAX → IsIn old.space t → MAX < t + n - 1 → answer ≡ Err Overflow
+  pub is_held : Contains old.held (span t n) → answer ≡ Err (InvalidStateTransition (span t n) Allocated)
+  pub is_not_clear : t ≢ MAX → IsIn old.space t → t + n - 1 ≤ MAX → ¬ Contains old.held (span t n) →
+      ¬ AreClear n old t → answer ≡ Err ResourceNotAvailable
+  pub ends_at_max : AreClear n old t → t + n - 1 ≡ MAX → answer ≡ Err Overflow
 
--- each request is answered by the places
+-- A request that makes sense is answered by the places: the range at the chosen place is taken if it ends below MAX,
+-- and refused if it ends there; where there is no place the request is refused, and a named start for its first fault.
+pub record IsAnsweredByPlaces (old : AddressState) (request : Request)
+    (answer : Result Range Error) (new : AddressState) : Type 0 where
+  pub taken : (s : ℕ) → IsChosen request old s → s + request.size - 1 < MAX →
+      Takes old (span s request.size) answer new
+  pub at_max : (s : ℕ) → IsChosen request old s → s + request.size - 1 ≡ MAX → answer ≡ Err Overflow
+  pub no_place : (request.policy ≡ FirstMatch) ⊎ (request.policy ≡ LastMatch) →
+      ((s : ℕ) → ¬ IsPlace request.size request.align old s) → answer ≡ Err ResourceNotAvailable
+  pub named : (t : ℕ) → request.policy ≡ ExactMatch t → IsRefusedInOrder old t request.size answer
+
+-- so is each request; one that makes no sense is refused as its constraint is, and what is given is the chosen place
+pub record IsAnswered (old : AddressState) (request : Request)
+    (answer : Result Range Error) (new : AddressState) : Type 0 where
+  pub senseless : (e : Error) → MakesConstraint request (Err e) → answer ≡ Err e
+  pub sensible : IsRequest request → IsAnsweredByPlaces old request answer new
+  pub given : (r : Range) → answer ≡ Ok r → IsChosen request old r.start × (r ≡ span r.start request.size)
+
+-- each request of a history is answered by the places
 abbrev pub PlacesAnswer : Type 0
 PlacesAnswer =
-    (steps : List Step) (old new : AddressState) (n a : ℕ) (policy : AllocPolicy) (answer : Result Range Error) → IsReached steps old →
-    Allocates old n a policy answer new → IsAnswered old n a policy answer
+    (old : Reached) (new : AddressState) (request : Request) (answer : Result Range Error) →
+    Allocates old.state request answer new → IsAnswered old.state request answer new
 
 -- a refusal changes nothing
 pub record RefusalsChangeNothing : Type 0 where
-  pub allocation : (steps : List Step) (old new : AddressState) (n a : ℕ) (policy : AllocPolicy) (e : Error) → IsReached steps old → Allocates old n a policy (Err e) new → new ≡ old
-  pub release : (steps : List Step) (old new : AddressState) (r : Range) (e : Error) → IsReached steps old → Frees old r (Err e) new → new ≡ old
+  pub allocation : (old : Reached) (new : AddressState) (request : Request) (e : Error) →
+      Allocates old.state request (Err e) new → new ≡ old.state
+  pub release : (old : Reached) (new : AddressState) (r : Range) (e : Error) →
+      Frees old.state r (Err e) new → new ≡ old.state
 
--- the held ranges have no address in common, lie in the space, and do not contain MAX
-pub record LieApart (state : AddressState) : Type 0 where
-  pub apart : (r s : Range) → Contains state.held r → Contains state.held s → Overlaps r s → r ≡ s
-  pub inside : (r : Range) → Contains state.held r → (r.start ≤ r.end) × Covers state.space r
-  pub below : (r : Range) → Contains state.held r → r.end < MAX
-
--- they do so in each state, and each was given as it was asked for
+-- in each state the held ranges lie apart, and each was given as it was asked for
 pub record SlotsAreGood : Type 0 where
-  pub state : (steps : List Step) (state : AddressState) → IsReached steps state → IsAddressState state
-  pub apart : (steps : List Step) (state : AddressState) → IsReached steps state → LieApart state
-  pub given : (steps : List Step) (state : AddressState) (r : Range) → IsReached steps state → Contains state.held r → WasGiven steps r
+  pub state : (old : Reached) → IsAddressState old.state
+  pub apart : (old : Reached) → LieApart old.state
+  pub given : (old : Reached) (r : Range) → Contains old.state.held r → WasGiven old.calls r
 
 -- one space, and the same held ranges
-pub record AreAlike (x y : AddressState) : Type 0 where
-  pub space : x.space ≡ y.space
-  pub held : (r : Range) → Contains x.held r ↔ Contains y.held r
+pub record AreAlike (first second : AddressState) : Type 0 where
+  pub space : first.space ≡ second.space
+  pub held : (r : Range) → Contains first.held r ↔ Contains second.held r
 
--- whatever led there, the space and the held ranges alone decide the answer to a call and the state after it, the two
--- exits of a split aside
+-- whatever led there, the space and the held ranges alone decide the answer to a call and the state after it, a split
+-- that is refused aside
 pub record StateDecides : Type 0 where
-  pub allocation : (steps others : List Step) (x y m k : AddressState) (n a : ℕ) (policy : AllocPolicy) (p q : Result Range Error) → IsReached steps x → IsReached others y → AreAlike x y →
-      Allocates x n a policy p m → Allocates y n a policy q k → AgreeUnlessExit x p m q k
-  pub release : (steps others : List Step) (x y m k : AddressState) (r : Range) (p q : Result (Unit {0}) Error) → IsReached steps x → IsReached others y → AreAlike x y →
-      Frees x r p m → Frees y r q k → (p ≡ q) × (m ≡ k)
+  pub allocation : (first second : Reached) (new later : AddressState) (request : Request)
+      (answer other : Result Range Error) → AreAlike first.state second.state →
+      Allocates first.state request answer new → Allocates second.state request other later →
+      AgreeButForSplits first.state answer new other later
+  pub release : (first second : Reached) (new later : AddressState) (r : Range)
+      (answer other : Result (Unit {0}) Error) → AreAlike first.state second.state →
+      Frees first.state r answer new → Frees second.state r other later → (answer ≡ other) × (new ≡ later)
 
 -- giving back what was just given succeeds, and leaves the state from before
 abbrev pub ReleaseUndoes : Type 0
 ReleaseUndoes =
-    (steps : List Step) (old mid new : AddressState) (n a : ℕ) (policy : AllocPolicy) (r : Range) (answer : Result (Unit {0}) Error) → IsReached steps old →
-    Allocates old n a policy (Ok r) mid → Frees mid r answer new → (answer ≡ Ok tt) × (new ≡ old)
+    (old : Reached) (mid new : AddressState) (request : Request) (r : Range) (answer : Result (Unit {0}) Error) →
+    Allocates old.state request (Ok r) mid → Frees mid r answer new → (answer ≡ Ok tt) × (new ≡ old.state)
 
--- the same ranges given back in another order leave the same state
-abbrev pub OrderOfReleasesIsFree : Type 0
-OrderOfReleasesIsFree =
-    (steps : List Step) (old x y : AddressState) (rs qs : List Range) → IsReached steps old →
-    IsRun old (releases rs) x → IsRun old (releases qs) y → ((r : Range) → Contains rs r ↔ Contains qs r) → x ≡ y
+-- ranges that can be given back can be so in every order, and the same ranges leave the same state
+pub record OrderOfReleasesIsFree : Type 0 where
+  pub succeeds : (old : Reached) (new : AddressState) (rs qs : List Range) → IsPermutation rs qs →
+      IsHistoryFrom old.state (releases rs) new → IsHistoryFrom old.state (releases qs) new
+  pub same : (old : Reached) (first second : AddressState) (rs qs : List Range) →
+      ((r : Range) → Contains rs r ↔ Contains qs r) →
+      IsHistoryFrom old.state (releases rs) first → IsHistoryFrom old.state (releases qs) second → first ≡ second
+
+-- in every state each call has an answer, and one other than out of memory
+pub record EveryCallIsAnswered : Type 0 where
+  pub made : (base size : ℕ) →
+      (answer : Result AddressState Error) × Makes base size answer × (answer ≢ Err OutOfMemory)
+  pub allocated : (old : AddressState) (request : Request) →
+      (answer : Result Range Error) × (new : AddressState) ×
+      Allocates old request answer new × (answer ≢ Err OutOfMemory)
+  pub freed : (old : AddressState) (r : Range) →
+      (answer : Result (Unit {0}) Error) × (new : AddressState) × Frees old r answer new
+
+-- so whatever is asked, one after the other, has a history, and one in which no request runs out of memory
+abbrev pub EveryListHasHistory : Type 0
+EveryListHasHistory =
+    (old : AddressState) (asked : List Asked) →
+    (calls : List Call) × (new : AddressState) × IsHistoryFrom old calls new × (map asked_by calls ≡ asked) ×
+    ((request : Request) → ¬ Contains calls (Allocation request (Err OutOfMemory)))

@@ -1,40 +1,50 @@
--- Calls of an id allocator, one after the other.
-use Rattle.std.specs.Prelude.{◌≡◌, ℕ, ◌≤◌, Bool, true, false, cond, nat_eq, List, [], ◌∷◌, Result, Ok, Err}
+-- Histories: calls of an id allocator, one after the other.
+use Rattle.std.specs.Prelude.{◌≡◌, ℕ, ◌≤◌, Bool, true, false, if◌then◌else◌, nat_eq, List, [], ◌∷◌, Result, Ok, Err}
 use Rattle.vm_allocator.specs.Ids.{MAX_ID, IdState, MakesIds, AllocatesId, FreesId}
 use Rattle.vm_allocator.specs.declared.error.Error.{Error}
 
 -- a call with its answer: an id asked for, or one given back
-pub data IdStep : Type 0 where
-  Allocation : Result ℕ Error → IdStep
-  Release : ℕ → Result ℕ Error → IdStep
+pub data IdCall : Type 0 where
+  Allocation : Result ℕ Error → IdCall
+  Release : ℕ → Result ℕ Error → IdCall
+
+-- what is asked by a call
+pub data IdAsked : Type 0 where
+  Allocate : IdAsked
+  Free : ℕ → IdAsked
+
+-- a call without its answer
+abbrev pub id_asked_by : IdCall → IdAsked
+id_asked_by (Allocation answer) = Allocate
+id_asked_by (Release id answer) = Free id
 
 -- in the state old the call has its answer, and leaves new
-abbrev pub IsIdStep : IdState → IdStep → IdState → Type 0
-IsIdStep old (Allocation answer) new = AllocatesId old answer new
-IsIdStep old (Release id answer) new = FreesId old id answer new
+abbrev pub IsIdCallFrom : IdState → IdCall → IdState → Type 0
+IsIdCallFrom old (Allocation answer) new = AllocatesId old answer new
+IsIdCallFrom old (Release id answer) new = FreesId old id answer new
 
--- each step is on the state that the one before it left
-abbrev pub IsIdRun : IdState → List IdStep → IdState → Type 0
-IsIdRun old [] new = new ≡ old
-IsIdRun old (step ∷ steps) new = (mid : IdState) × IsIdStep old step mid × IsIdRun mid steps new
+-- each call is on the state that the one before it left
+abbrev pub IsIdHistoryFrom : IdState → List IdCall → IdState → Type 0
+IsIdHistoryFrom old [] new = new ≡ old
+IsIdHistoryFrom old (call ∷ calls) new = (mid : IdState) × IsIdCallFrom old call mid × IsIdHistoryFrom mid calls new
 
--- the steps lead from a new allocator of ids to the state
-pub record AreIdsReached (steps : List IdStep) (state : IdState) : Type 0 where
+-- the calls lead from a new allocator of ids to the state
+pub record AreIdsReached (calls : List IdCall) (state : IdState) : Type 0 where
   pub lo : ℕ
   pub hi : ℕ
   pub word : hi ≤ MAX_ID
   pub first : IdState
   pub made : MakesIds lo hi (Ok first)
-  pub run : IsIdRun first steps state
+  pub history : IsIdHistoryFrom first calls state
 
--- whether an id is held after a step, from whether it was before
-abbrev pub is_held_after : ℕ → Bool → IdStep → Bool
-is_held_after id before (Allocation (Ok i)) = cond (nat_eq i id) true before
+-- whether an id is held after a call, from whether it was before
+abbrev pub is_held_after : ℕ → Bool → IdCall → Bool
+is_held_after id before (Allocation (Ok i)) = if nat_eq i id then true else before
 is_held_after id before (Allocation (Err e)) = before
-is_held_after id before (Release i (Ok back)) = cond (nat_eq i id) false before
+is_held_after id before (Release i (Ok back)) = if nat_eq i id then false else before
 is_held_after id before (Release i (Err e)) = before
 
--- whether it was given out by one of the steps and not given back since
-abbrev pub is_out_after : ℕ → Bool → List IdStep → Bool
+-- whether it was given out by one of the calls and not given back since
+abbrev pub is_out_after : ℕ → Bool → List IdCall → Bool
 is_out_after id before [] = before
-is_out_after id before (step ∷ steps) = is_out_after id (is_held_after id before step) steps
+is_out_after id before (call ∷ calls) = is_out_after id (is_held_after id before call) calls

@@ -1,27 +1,45 @@
--- What holds along every list of calls of an id allocator, from a new one on.
-use Rattle.std.specs.Prelude.{ℕ, ◌↔◌, List, [], ◌∷◌, ◌++◌, IsTrue, false, Ok}
+-- What holds along every history of an id allocator, from a new one on.
+use Rattle.std.specs.Prelude.{◌≡◌, ◌≢◌, ℕ, ◌↔◌, List, [], ◌∷◌, ◌++◌, map, IsTrue, false, Result, Ok, Err}
 use Rattle.std.specs.List.{Contains}
-use Rattle.vm_allocator.specs.Ids.{IdState, IsHeld, IsLeastNotHeld, IsIdState, AllocatesId}
-use Rattle.vm_allocator.specs.IdHistories.{IdStep, Allocation, Release, AreIdsReached, is_out_after}
+use Rattle.vm_allocator.specs.Ids.{IdState, IsHeld, IsLeastNotHeld, IsIdState, MakesIds, AllocatesId, PeeksId, FreesId}
+use Rattle.vm_allocator.specs.IdHistories.{IdCall, Allocation, Release, IdAsked, id_asked_by, IsIdHistoryFrom, AreIdsReached, is_out_after}
+use Rattle.vm_allocator.specs.declared.error.Error.{Error}
+use Rattle.vm_allocator.specs.declared.error.Error.TheVariants.{OutOfMemory}
 
 -- each id given is the least that is not held, and is held from then on
 unfoldable pub EachIsLeastNotHeld : Type 0
 EachIsLeastNotHeld =
-    (steps : List IdStep) (old new : IdState) (id : ℕ) → AreIdsReached steps old →
+    (calls : List IdCall) (old new : IdState) (id : ℕ) → AreIdsReached calls old →
     AllocatesId old (Ok id) new → IsLeastNotHeld old id × IsHeld new id
 
 -- an id that is given twice was given back between
 unfoldable pub NoIdIsHeldTwice : Type 0
 NoIdIsHeldTwice =
-    (before between : List IdStep) (state : IdState) (id : ℕ) →
-    AreIdsReached (before ++ Allocation (Ok id) ∷ (between ++ Allocation (Ok id) ∷ [])) state → Contains between (Release id (Ok id))
+    (before between : List IdCall) (state : IdState) (id : ℕ) →
+    AreIdsReached (before ++ Allocation (Ok id) ∷ (between ++ Allocation (Ok id) ∷ [])) state →
+    Contains between (Release id (Ok id))
 
 -- an id is held exactly if it was given out and not given back since
 abbrev pub HeldIsOut : Type 0
 HeldIsOut =
-    (steps : List IdStep) (state : IdState) (id : ℕ) → AreIdsReached steps state →
-    IsHeld state id ↔ IsTrue (is_out_after id false steps)
+    (calls : List IdCall) (state : IdState) (id : ℕ) → AreIdsReached calls state →
+    IsHeld state id ↔ IsTrue (is_out_after id false calls)
 
 -- the ids handed out are a front of the range in each state, and the held ones are among them
 unfoldable pub StatesAreOfIds : Type 0
-StatesAreOfIds = (steps : List IdStep) (state : IdState) → AreIdsReached steps state → IsIdState state
+StatesAreOfIds = (calls : List IdCall) (state : IdState) → AreIdsReached calls state → IsIdState state
+
+-- in every state each call has an answer, and one other than out of memory
+pub record EveryIdCallIsAnswered : Type 0 where
+  pub made : (lo hi : ℕ) → (answer : Result IdState Error) × MakesIds lo hi answer
+  pub allocated : (old : IdState) → (answer : Result ℕ Error) × (new : IdState) × AllocatesId old answer new
+  pub peeked : (state : IdState) → (answer : Result ℕ Error) × PeeksId state answer
+  pub freed : (old : IdState) (id : ℕ) →
+      (answer : Result ℕ Error) × (new : IdState) × FreesId old id answer new × (answer ≢ Err OutOfMemory)
+
+-- so whatever is asked, one after the other, has a history, and one in which no call runs out of memory
+abbrev pub EveryIdListHasHistory : Type 0
+EveryIdListHasHistory =
+    (old : IdState) (asked : List IdAsked) →
+    (calls : List IdCall) × (new : IdState) × IsIdHistoryFrom old calls new × (map id_asked_by calls ≡ asked) ×
+    ((id : ℕ) → ¬ Contains calls (Release id (Err OutOfMemory)))

@@ -1,32 +1,41 @@
 -- Laws of ids, which follow from the definitions alone.
 use Rattle.std.specs.Prelude.{◌≡◌, ◌≢◌, ℕ, ◌≤◌, ◌⊎◌, ◌↔◌, Result, Ok, Err}
-use Rattle.vm_allocator.specs.Ids.{MAX_ID, IdState, IsHandedOut, IsHeld, IsIdState, MakesIds, AllocatesId, PeeksId, FreesId}
+use Rattle.vm_allocator.specs.Ids.{MAX_ID, IdState, IsHandedOut, IsHeld, IsIdState, holding_id, MakesIds, AllocatesId, PeeksId, FreesId}
 use Rattle.vm_allocator.specs.declared.error.Error.{Error}
 use Rattle.vm_allocator.specs.declared.error.Error.TheVariants.{OutOfMemory}
 
 -- two ways to make an allocator of one range answer the same
 abbrev pub MakingIsDetermined : Type 0
-MakingIsDetermined = (lo hi : ℕ) (r s : Result IdState Error) → MakesIds lo hi r → MakesIds lo hi s → r ≡ s
+MakingIsDetermined =
+    (lo hi : ℕ) (answer other : Result IdState Error) → MakesIds lo hi answer → MakesIds lo hi other → answer ≡ other
 
 -- two requests in one state get the same answer and leave the same state
 abbrev pub AllocatingIsDetermined : Type 0
 AllocatingIsDetermined =
-    (old new other : IdState) (r s : Result ℕ Error) → AllocatesId old r new → AllocatesId old s other → (r ≡ s) × (new ≡ other)
+    (old new later : IdState) (answer other : Result ℕ Error) →
+    AllocatesId old answer new → AllocatesId old other later → (answer ≡ other) × (new ≡ later)
 
--- what is foretold is what a request gets
-abbrev pub PeekingForetells : Type 0
-PeekingForetells = (old new : IdState) (r s : Result ℕ Error) → PeeksId old r → AllocatesId old s new → r ≡ s
+-- what is foretold is what a request gets, and an id that is foretold is held from then on
+pub record PeekingForetells : Type 0 where
+  pub answer : (old new : IdState) (peeked answer : Result ℕ Error) →
+      PeeksId old peeked → AllocatesId old answer new → peeked ≡ answer
+  pub held : (old new : IdState) (id : ℕ) (answer : Result ℕ Error) →
+      PeeksId old (Ok id) → AllocatesId old answer new → (answer ≡ Ok id) × (new ≡ holding_id id old)
 
 -- where memory suffices, giving an id back twice from one state gets the same answer and leaves the same state
 abbrev pub FreeingIsDetermined : Type 0
 FreeingIsDetermined =
-    (old new other : IdState) (id : ℕ) (r s : Result ℕ Error) → r ≢ Err OutOfMemory → s ≢ Err OutOfMemory → FreesId old id r new → FreesId old id s other → (r ≡ s) × (new ≡ other)
+    (old new later : IdState) (id : ℕ) (answer other : Result ℕ Error) →
+    answer ≢ Err OutOfMemory → other ≢ Err OutOfMemory →
+    FreesId old id answer new → FreesId old id other later → (answer ≡ other) × (new ≡ later)
 
 -- a new allocator has a front and holds only ids of it, and each call keeps that
 pub record FrontIsKept : Type 0 where
   pub made : (lo hi : ℕ) (state : IdState) → hi ≤ MAX_ID → MakesIds lo hi (Ok state) → IsIdState state
-  pub allocated : (old new : IdState) (r : Result ℕ Error) → IsIdState old → AllocatesId old r new → IsIdState new
-  pub freed : (old new : IdState) (id : ℕ) (r : Result ℕ Error) → IsIdState old → FreesId old id r new → IsIdState new
+  pub allocated : (old new : IdState) (answer : Result ℕ Error) →
+      IsIdState old → AllocatesId old answer new → IsIdState new
+  pub freed : (old new : IdState) (id : ℕ) (answer : Result ℕ Error) →
+      IsIdState old → FreesId old id answer new → IsIdState new
 
 -- the id is handed out and held in the new state, and nothing else changes
 pub record AddsId (old new : IdState) (id : ℕ) : Type 0 where

@@ -23,7 +23,11 @@ pub record IdState : Type 0 where
 -- a state of ids is stored as the tuple of its fields
 abbrev pub id_state_code : Coded IdState
 id_state_code =
-    code_by (ℕ × (ℕ × (ℕ × set.FinSet nat_cmp))) (coded× coded_ℕ (coded× coded_ℕ (coded× coded_ℕ (set.code coded_ℕ)))) (λ s. (s.lo, (s.hi, (s.bound, s.held)))) (λ p. record { lo = p.0; hi = p.1.0; bound = p.1.1.0; held = p.1.1.1 }) (λ _. refl)
+    code_by (ℕ × (ℕ × (ℕ × set.FinSet nat_cmp)))
+    (coded× coded_ℕ (coded× coded_ℕ (coded× coded_ℕ (set.code coded_ℕ))))
+    (λ s. (s.lo, (s.hi, (s.bound, s.held))))
+    (λ p. record { lo = p.0; hi = p.1.0; bound = p.1.1.0; held = p.1.1.1 })
+    (λ _. refl)
 
 -- an id of the range
 abbrev pub IsOfRange : IdState → ℕ → Type 0
@@ -72,7 +76,8 @@ releasing_id i state = record state { held = set.remove state.held i }
 unfoldable pub MakesIds : ℕ → ℕ → Result IdState Error → Type 0
 MakesIds lo hi answer = IfElse (hi < lo) (answer ≡ Err (InvalidRange lo hi)) (answer ≡ Ok (fresh_ids lo hi))
 
--- the least id that is not held is taken; where all are held the request is refused, by Overflow in a range up to MAX_ID
+-- the least id that is not held is taken; where all are held the request is refused, by Overflow in a range up to
+-- MAX_ID
 unfoldable pub ByLeastNotHeld : IdState → (ℕ → Type 0) → (Error → Type 0) → Type 0
 ByLeastNotHeld state takes refused =
     ((i : ℕ) × IsLeastNotHeld state i × takes i)
@@ -87,8 +92,8 @@ AllocatesId old answer new =
 unfoldable pub PeeksId : IdState → Result ℕ Error → Type 0
 PeeksId state answer = ByLeastNotHeld state (λ i. answer ≡ Ok i) (λ e. answer ≡ Err e)
 
--- the answer to giving an id back: one that is held is held no more, unless memory runs out, and any other is refused by
--- the first that applies: it is outside the range, it was never handed out, it is not held
+-- the answer to giving an id back: one that is held is held no more, unless there is no memory for that, and any other
+-- is refused by the first that applies: it is outside the range, it was never handed out, it is not held
 unfoldable pub FreesId : IdState → ℕ → Result ℕ Error → IdState → Type 0
 FreesId old i answer new =
     let refused : Error → Type 0 = λ e. (answer ≡ Err e) × (new ≡ old) in

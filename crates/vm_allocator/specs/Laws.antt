@@ -1,23 +1,86 @@
--- What follows from the definitions alone.
-use Rattle.std.specs.Prelude.{◌≡◌, ℕ, ◌⊎◌, Result}
-use Rattle.vm_allocator.specs.Range.{Range}
-use Rattle.vm_allocator.specs.Address.{AddressState}
-use Rattle.vm_allocator.specs.Answer.{IsExit, Allocates, Frees}
+-- What follows from the definitions alone, for one call of an address allocator.
+use Rattle.std.specs.Prelude.{◌≡◌, ◌≢◌, ℕ, ◌<◌, ◌≤◌, ◌⊎◌, ◌↔◌, Result, Ok}
+use Rattle.std.specs.List.{Contains}
+use Rattle.vm_allocator.specs.Range.{Range, MAX, Overlaps, Covers}
+use Rattle.vm_allocator.specs.Address.{AddressState, IsClear, LeavesClear, IsAddressState}
+use Rattle.vm_allocator.specs.Request.{Request}
+use Rattle.vm_allocator.specs.Answer.{IsSplitRefusal, Takes, Allocates, Frees, Makes}
 use Rattle.vm_allocator.specs.declared.error.Error.{Error}
-use Rattle.vm_allocator.specs.declared.constraint.AllocPolicy.{AllocPolicy}
 
--- two answers and the states that they leave are one, or one of the splits was refused for want of memory or for depth
-abbrev pub AgreeUnlessExit : AddressState → Result Range Error → AddressState → Result Range Error → AddressState → Type 0
-AgreeUnlessExit old x m y n = ((x ≡ y) × (m ≡ n)) ⊎ (IsExit old x ⊎ IsExit old y)
+-- two answers and the states that they leave come from one range, which leaves a clear address beside it: each is the
+-- range taken or a split refused, and one of them at least is refused
+pub record DifferBySplit (old : AddressState) (answer : Result Range Error) (new : AddressState)
+    (other : Result Range Error) (later : AddressState) : Type 0 where
+  pub range : Range
+  pub split : LeavesClear old range
+  pub first : Takes old range answer new
+  pub second : Takes old range other later
+  pub refused : IsSplitRefusal old answer ⊎ IsSplitRefusal old other
 
--- a request has one answer and one next state, want of memory and the refusal for depth aside
+-- two answers and the states that they leave are one, but where a split is refused
+abbrev pub AgreeButForSplits : AddressState →
+    Result Range Error → AddressState → Result Range Error → AddressState → Type 0
+AgreeButForSplits old answer new other later =
+    ((answer ≡ other) × (new ≡ later)) ⊎ DifferBySplit old answer new other later
+
+-- a request has one answer and one next state, a split that is refused aside
 abbrev pub AllocatesOnce : Type 0
 AllocatesOnce =
-    (old m k : AddressState) (n a : ℕ) (policy : AllocPolicy) (x y : Result Range Error) →
-    Allocates old n a policy x m → Allocates old n a policy y k → AgreeUnlessExit old x m y k
+    (old new later : AddressState) (request : Request) (answer other : Result Range Error) →
+    Allocates old request answer new → Allocates old request other later →
+    AgreeButForSplits old answer new other later
 
 -- giving a range back has one answer and one next state
 abbrev pub FreesOnce : Type 0
 FreesOnce =
-    (old m k : AddressState) (r : Range) (x y : Result (Unit {0}) Error) →
-    Frees old r x m → Frees old r y k → (x ≡ y) × (m ≡ k)
+    (old new later : AddressState) (r : Range) (answer other : Result (Unit {0}) Error) →
+    Frees old r answer new → Frees old r other later → (answer ≡ other) × (new ≡ later)
+
+-- a new allocator has the state of one, and each call keeps that
+pub record StateIsKept : Type 0 where
+  pub made : (base size : ℕ) (state : AddressState) →
+      size ≤ MAX → Makes base size (Ok state) → IsAddressState state
+  pub allocated : (old new : AddressState) (request : Request) (answer : Result Range Error) →
+      IsAddressState old → Allocates old request answer new → IsAddressState new
+  pub freed : (old new : AddressState) (r : Range) (answer : Result (Unit {0}) Error) →
+      IsAddressState old → Frees old r answer new → IsAddressState new
+
+-- the held ranges have no address in common, lie in the space, and do not contain MAX
+pub record LieApart (state : AddressState) : Type 0 where
+  pub apart : (r s : Range) → Contains state.held r → Contains state.held s → Overlaps r s → r ≡ s
+  pub inside : (r : Range) → Contains state.held r → (r.start ≤ r.end) × Covers state.space r
+  pub below : (r : Range) → Contains state.held r → r.end < MAX
+
+-- so they do in each state of an allocator
+abbrev pub HeldLieApart : Type 0
+HeldLieApart = (state : AddressState) → IsAddressState state → LieApart state
+
+-- the range was clear, is held in the new state, and nothing else changes
+pub record AddsRange (old new : AddressState) (r : Range) : Type 0 where
+  pub clear : (x : ℕ) → r.start ≤ x → x ≤ r.end → IsClear old x
+  pub space : new.space ≡ old.space
+  pub held : (q : Range) → Contains new.held q ↔ (Contains old.held q ⊎ (q ≡ r))
+
+-- the range was held, is held no more in the new state, and nothing else changes
+pub record TakesRange (old new : AddressState) (r : Range) : Type 0 where
+  pub was : Contains old.held r
+  pub space : new.space ≡ old.space
+  pub held : (q : Range) → Contains new.held q ↔ (Contains old.held q × (q ≢ r))
+
+-- a request that gets a range adds it
+abbrev pub AllocatingAddsRange : Type 0
+AllocatingAddsRange =
+    (old new : AddressState) (request : Request) (r : Range) →
+    IsAddressState old → Allocates old request (Ok r) new → AddsRange old new r
+
+-- a range given back is taken away
+abbrev pub FreeingTakesRange : Type 0
+FreeingTakesRange =
+    (old new : AddressState) (r : Range) →
+    IsAddressState old → Frees old r (Ok tt) new → TakesRange old new r
+
+-- giving back what was just given succeeds, and leaves the state from before
+abbrev pub FreeingUndoes : Type 0
+FreeingUndoes =
+    (old mid new : AddressState) (request : Request) (r : Range) (answer : Result (Unit {0}) Error) →
+    IsAddressState old → Allocates old request (Ok r) mid → Frees mid r answer new → (answer ≡ Ok tt) × (new ≡ old)

@@ -17,6 +17,7 @@ pub mod RangeOrder
 pub mod BlockList
 pub mod Shape
 pub mod NodeFields
+pub mod Settling
 pub mod NodeAnswer
 pub mod Fibonacci
 pub mod Ids
@@ -26,3 +27,5 @@ pub mod HistoryLaws
 pub mod IdHistories
 pub mod IdHistoryLaws
 pub mod Steps
+pub mod Ways
+pub mod Carving

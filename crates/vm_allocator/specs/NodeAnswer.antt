@@ -1,20 +1,26 @@
 -- What a change of a tree answers where it may be refused.
-use Rattle.std.specs.Prelude.{◌≡◌, ◌⊎◌, Option, Some, None, List, Result, Ok, Err, [], ◌∷◌}
+use Rattle.std.specs.Prelude.{◌≡◌, ◌⊎◌, true, Option, Some, None, List, Result, Ok, Err, [], ◌∷◌}
 use Rattle.vm_allocator.specs.Range.{Range, Overlaps}
-use Rattle.vm_allocator.specs.BlockList.{IsClearOf, replace_block}
+use Rattle.vm_allocator.specs.BlockList.{IsClearOf, insert_block, replace_block}
 use Rattle.vm_allocator.specs.Block.{Block}
-use Rattle.vm_allocator.specs.Shape.{Shape, blocks, first_met}
+use Rattle.vm_allocator.specs.Shape.{Shape, blocks, Grows, first_met}
 use Rattle.vm_allocator.specs.declared.error.Error.{Error}
 use Rattle.vm_allocator.specs.declared.error.Error.TheVariants.{ResourceNotAvailable, InvalidStateTransition, Overlap, OutOfMemory}
 use Rattle.vm_allocator.specs.declared.allocation_engine.NodeState.{NodeState}
 use Rattle.vm_allocator.specs.declared.allocation_engine.NodeState.TheVariants.{Free, Allocated}
+
+-- a key that overlaps none is one more, and the tree at most one higher
+pub record Inserts (old : Shape) (key : Range) (state : NodeState) (new : Shape) : Type 0 where
+  pub clear : IsClearOf key (blocks old)
+  pub blocks : blocks new ≡ insert_block (record { key = key; state = state }) (blocks old)
+  pub grows : Grows old new true
 
 -- the range overlaps the key that it met, or none of the blocks' keys where it met none
 unfoldable pub TellsOverlap : Range → Option Range → List Block → Type 0
 TellsOverlap k None bs = IsClearOf k bs
 TellsOverlap k (Some met) bs = Overlaps k met
 
--- a key that overlaps is refused for the first key that it meets on the way down, and any other for want of memory alone
+-- a key that overlaps is refused for the first key that it meets on the way down, and any other only where memory runs out
 unfoldable pub RefusesKey : Range → Shape → Error → Type 0
 RefusesKey k s e =
     ((met : Range) × (first_met k s ≡ Some met) × Overlaps k met × (e ≡ Overlap k met))

@@ -1,5 +1,5 @@
 -- A place for a request, in the free block that has it.
-use Rattle.std.specs.Prelude.{◌≡◌, ℕ, List, ◌∷◌, ◌++◌}
+use Rattle.std.specs.Prelude.{◌≡◌, ℕ, List, ◌∷◌, ◌++◌, Option, MatchOption}
 use Rattle.std.specs.List.{All}
 use Rattle.vm_allocator.specs.Block.{Block}
 use Rattle.vm_allocator.specs.Fit.{HasNoFit, IsLeastFit, IsGreatestFit}
@@ -21,3 +21,11 @@ pub record IsLastFit (n a : ℕ) (bs : List Block) (place : Place) : Type 0 wher
   pub cut : bs ≡ before ++ free_block place.key ∷ after
   pub none : All (HasNoFit n a) after
   pub fit : IsGreatestFit n a (free_block place.key) place.start
+
+-- the first fit is found, or no block has one
+abbrev pub FindsFirst : ℕ → ℕ → List Block → Option Place → Type 0
+FindsFirst n a bs found = MatchOption found (All (HasNoFit n a) bs) (IsFirstFit n a bs)
+
+-- the last fit is found, or no block has one
+abbrev pub FindsLast : ℕ → ℕ → List Block → Option Place → Type 0
+FindsLast n a bs found = MatchOption found (All (HasNoFit n a) bs) (IsLastFit n a bs)

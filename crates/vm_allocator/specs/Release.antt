@@ -1,5 +1,5 @@
 -- A held block that is given back, between what stands before and after it.
-use Rattle.std.specs.Prelude.{◌≡◌, ℕ, cond, List, [], ◌∷◌, ◌++◌, Option, Some, None}
+use Rattle.std.specs.Prelude.{◌≡◌, ℕ, if◌then◌else◌, List, [], ◌∷◌, ◌++◌, Option, Some, None}
 use Rattle.vm_allocator.specs.Range.{Range, IsRange}
 use Rattle.vm_allocator.specs.Block.{Block}
 use Rattle.vm_allocator.specs.BlockEdits.{free_block}
@@ -18,25 +18,28 @@ abbrev pub key_if_free : NodeState → Range → Option Range
 key_if_free Free k = Some k
 key_if_free Allocated k = None
 
--- the range of the last of the blocks, if that is free; where there is no block, one that is given
+-- the range of the last of the blocks, if that is free; where there is no block, what stands before them all
 abbrev pub last_free : Option Range → List Block → Option Range
-last_free d [] = d
-last_free d (b ∷ bs) = last_free (key_if_free b.state b.key) bs
+last_free before [] = before
+last_free before (b ∷ bs) = last_free (key_if_free b.state b.key) bs
 
--- the range of the first of them, likewise
+-- the range of the first of them, if that is free; where there is no block, what stands after them all
 abbrev pub first_free : List Block → Option Range → Option Range
-first_free [] d = d
-first_free (b ∷ bs) d = key_if_free b.state b.key
+first_free [] after = after
+first_free (b ∷ bs) after = key_if_free b.state b.key
 
 -- what is beside a block, if that is held
 abbrev pub if_held : NodeState → Neighbours → Option Neighbours
 if_held Free n = None
 if_held Allocated n = Some n
 
--- the free ranges beside the held block of a range, if there is one; d and e are beside all of the blocks
+-- the free ranges beside the held block of a range, if there is one; what is free before and after all of the blocks is
+-- given
 abbrev pub neighbours : Range → Option Range → List Block → Option Range → Option Neighbours
-neighbours k d [] e = None
-neighbours k d (b ∷ bs) e = cond (same_range k b.key) (if_held b.state (record { before = d; after = first_free bs e })) (neighbours k (key_if_free b.state b.key) bs e)
+neighbours range before [] after = None
+neighbours range before (b ∷ bs) after =
+    if same_range range b.key then if_held b.state (record { before = before; after = first_free bs after })
+    else neighbours range (key_if_free b.state b.key) bs after
 
 -- one of the blocks is held and has this range, and these free ranges are beside it
 pub record HasSlot (bs : List Block) (k : Range) (n : Neighbours) : Type 0 where

@@ -13,11 +13,19 @@ pub record Request : Type 0 where
   pub align : ℕ
   pub policy : AllocPolicy
 
+-- the request for so many addresses, at a multiple of the alignment, where the policy says
+abbrev pub request_for : ℕ → ℕ → AllocPolicy → Request
+request_for size align policy = record { size = size; align = align; policy = policy }
+
+-- one fact for each policy: for the least place, for the greatest, and for the named start
+abbrev pub ByPolicy : AllocPolicy → Type 0 → Type 0 → (ℕ → Type 0) → Type 0
+ByPolicy FirstMatch least greatest named = least
+ByPolicy LastMatch least greatest named = greatest
+ByPolicy (ExactMatch start) least greatest named = named start
+
 -- the alignment divides the start, where one is named
 unfoldable pub IsStartAligned : ℕ → AllocPolicy → Type 0
-IsStartAligned a FirstMatch = Unit {0}
-IsStartAligned a LastMatch = Unit {0}
-IsStartAligned a (ExactMatch t) = t % a ≡ 0
+IsStartAligned align policy = ByPolicy policy (Unit {0}) (Unit {0}) (λ start. start % align ≡ 0)
 
 -- a request that makes sense
 pub record IsRequest (request : Request) : Type 0 where
@@ -26,13 +34,12 @@ pub record IsRequest (request : Request) : Type 0 where
   pub start : IsStartAligned request.align request.policy
 
 -- a request for no address, at no alignment or for an unaligned start is refused, in this order
-unfoldable pub ByConstraint : ℕ → ℕ → AllocPolicy → (Error → Type 0) → Type 0 → Type 0
-ByConstraint n a policy refused otherwise =
-    IfElse (n ≡ 0) (refused (InvalidSize 0)) (
-    Unless (IsAlignment a) (refused InvalidAlignment) (
-    Unless (IsStartAligned a policy) (refused UnalignedAddress) otherwise))
+unfoldable pub ByConstraint : Request → (Error → Type 0) → Type 0 → Type 0
+ByConstraint request refused otherwise =
+    IfElse (request.size ≡ 0) (refused (InvalidSize 0)) (
+    Unless (IsAlignment request.align) (refused InvalidAlignment) (
+    Unless (IsStartAligned request.align request.policy) (refused UnalignedAddress) otherwise))
 
--- what making a constraint answers
-unfoldable pub MakesConstraint : ℕ → ℕ → AllocPolicy → Result Request Error → Type 0
-MakesConstraint n a policy answer =
-    ByConstraint n a policy (λ e. answer ≡ Err e) (answer ≡ Ok (record { size = n; align = a; policy = policy }))
+-- what making the constraint of a request answers
+unfoldable pub MakesConstraint : Request → Result Request Error → Type 0
+MakesConstraint request answer = ByConstraint request (λ e. answer ≡ Err e) (answer ≡ Ok request)

@@ -1,10 +1,11 @@
 ghost use Rattle.std.specs.Prelude.{ℕ, ◌≡◌, OnErr, IsOk};
 ghost use Rattle.std.specs.List.{Contains};
 ghost use Rattle.vm_allocator.specs.Address.{IsAddressState};
-ghost use Rattle.vm_allocator.specs.Answer.{Allocates, FillsRun, Frees, Makes};
+ghost use Rattle.vm_allocator.specs.Request.{request_for};
+ghost use Rattle.vm_allocator.specs.Answer.{Allocates, FillsGap, Frees, Makes};
 ghost use Rattle.vm_allocator.specs.Allocator.{state_of, made_state};
 ghost use Rattle.vm_allocator.specs.Shape.{height_of};
-ghost use Rattle.vm_allocator.specs.Steps.{IsAllocationCount, IsReleaseCount, IsBalancedTreeOf, SplitsIfLow};
+ghost use Rattle.vm_allocator.specs.Steps.{EntersToAllocate, EntersToFree, IsAllocationCount, IsReleaseCount, IsBalancedTreeOf, SplitsIfLow};
 
 use crate::allocation_engine::IntervalTree;
 use crate::constraint::{AllocPolicy, Constraint};
@@ -40,7 +41,7 @@ impl Model for AddressAllocator {
 impl AddressAllocator {
     /// The allocator of the `size` addresses from `base` on, with none held. In this order: a size
     /// of 0 is `Underflow`, an end past `u64::MAX` is `Overflow`, and `OutOfMemory` comes last.
-    #[tactic(auto, using(crate::proofs::Making::making, crate::proofs::Spaces::spaces))]
+    #[tactic(auto, using(crate::proofs::answers::Making::making, crate::proofs::nodes::Spaces::spaces))]
     pub fn new(alloc: Global, base: u64, size: u64) -> Result<Self>
         ensures { Makes base size (made_state result) }
     {
@@ -65,7 +66,7 @@ impl AddressAllocator {
     /// `ResourceNotAvailable`, a range that passes `u64::MAX` is `Overflow`, and a range that is held
     /// as it is is `InvalidStateTransition`; no place at all is `ResourceNotAvailable`; a range that
     /// ends at `u64::MAX` is `Overflow`, also where there is another place. Only where the place
-    /// leaves a part of its clear run over come `Overflow` for a tree of height 48 or more, which
+    /// leaves a part of its gap over come `Overflow` for a tree of height 48 or more, which
     /// takes more than 6 * 10^9 held ranges, and `OutOfMemory`. A refusal changes nothing.
     pub fn allocate(
         &mut self,
@@ -74,23 +75,26 @@ impl AddressAllocator {
         alignment: u64,
         policy: AllocPolicy,
     ) -> Result<RangeInclusive>
-        ensures answer { Allocates (state_of self.old) size alignment policy result (state_of self.new) }
+        ensures answer { Allocates (state_of self.old) (request_for size alignment policy) result (state_of self.new) }
         ensures unchanged { OnErr result (self.new ≡ self.old) }
 
-        // What fills its clear run needs no memory, and succeeds.
-        ensures filling { (s : ℕ) → FillsRun (state_of self.old) size alignment policy s → IsOk result }
+        // What fills its gap needs no memory, and succeeds.
+        ensures filling { (s : ℕ) → FillsGap (state_of self.old) (request_for size alignment policy) s → IsOk result }
 
-        // The refusal for depth comes before want of memory.
+        // The refusal for depth comes before out of memory.
         ensures depth { SplitsIfLow (height_of self.old.tree) (state_of self.old) result }
+        ensures state { IsAddressState (state_of self.new) }
     {
-        self.allocate_counted(alloc, size, alignment, policy).0
+        let answer = self.allocate_counted(alloc, size, alignment, policy).0;
+        let _ = self.base();
+        answer
     }
 
     /// Does what `allocate` does, and answers besides how many nodes of the tree it entered. With the
     /// height h and k held ranges before, these are at most 8h + 8 for `ExactMatch` and at most
     /// 2k + 1 + 8h + 8 for the other policies, and none where the request makes no sense; a success
-    /// enters one at least, and one that leaves a part of its clear run over h / 2 at least.
-    #[tactic(auto, using(crate::proofs::Answers::allocating, crate::proofs::Spaces::spaces, crate::proofs::Filling::succeeding, crate::proofs::Counting::allocations))]
+    /// enters one at least, and one that leaves a part of its gap over h / 2 at least.
+    #[tactic(auto, using(crate::proofs::answers::Requests::allocating, crate::proofs::nodes::Spaces::spaces, crate::proofs::answers::Filling::succeeding, crate::proofs::counts::Allocating::allocations))]
     pub fn allocate_counted(
         &mut self,
         alloc: Global,
@@ -98,15 +102,18 @@ impl AddressAllocator {
         alignment: u64,
         policy: AllocPolicy,
     ) -> (Result<RangeInclusive>, u64)
-        ensures answer { Allocates (state_of self.old) size alignment policy result.0 (state_of self.new) }
+        ensures answer { Allocates (state_of self.old)
+            (request_for size alignment policy) result.0 (state_of self.new) }
         ensures unchanged { OnErr result.0 (self.new ≡ self.old) }
 
-        // What fills its clear run needs no memory, and succeeds.
-        ensures filling { (s : ℕ) → FillsRun (state_of self.old) size alignment policy s → IsOk result.0 }
+        // What fills its gap needs no memory, and succeeds.
+        ensures filling { (s : ℕ) → FillsGap (state_of self.old) (request_for size alignment policy) s → IsOk result.0 }
 
-        // The refusal for depth comes before want of memory.
+        // The refusal for depth comes before out of memory.
         ensures depth { SplitsIfLow (height_of self.old.tree) (state_of self.old) result.0 }
-        ensures steps { IsAllocationCount (height_of self.old.tree) (state_of self.old) size alignment policy result.0 result.1 }
+        ensures count { EntersToAllocate self.old.tree (request_for size alignment policy) result.0 result.1 }
+        ensures steps { IsAllocationCount (height_of self.old.tree) (state_of self.old)
+            (request_for size alignment policy) result.0 result.1 }
     {
         match Constraint::new(size, alignment, policy) {
             Err(error) => (Err(error), 0),
@@ -122,19 +129,23 @@ impl AddressAllocator {
 
         // Giving back needs no memory, and succeeds.
         ensures held { Contains (state_of self.old).held key.now → IsOk result }
+        ensures state { IsAddressState (state_of self.new) }
     {
-        self.free_counted(key).0
+        let answer = self.free_counted(key).0;
+        let _ = self.base();
+        answer
     }
 
     /// Does what `free` does, and answers besides how many nodes of the tree it entered: with the
     /// height h before at most 8h + 8, and always one at least.
-    #[tactic(auto, using(crate::proofs::Spaces::spaces, crate::proofs::Filling::succeeding))]
+    #[tactic(auto, using(crate::proofs::nodes::Spaces::spaces, crate::proofs::answers::Filling::succeeding))]
     pub fn free_counted(&mut self, key: &RangeInclusive) -> (Result<()>, u64)
         ensures answer { Frees (state_of self.old) key.now result.0 (state_of self.new) }
         ensures unchanged { OnErr result.0 (self.new ≡ self.old) }
 
         // Giving back needs no memory, and succeeds.
         ensures held { Contains (state_of self.old).held key.now → IsOk result.0 }
+        ensures count { EntersToFree self.old.tree key.now result.0 0 result.1 }
         ensures steps { IsReleaseCount (height_of self.old.tree) result.1 }
     {
         self.interval_tree.free_counted(key)
@@ -151,7 +162,7 @@ impl AddressAllocator {
     }
 
     /// The first address of the space.
-    #[tactic(auto, using(crate::proofs::Freeing::is_state))]
+    #[tactic(auto, using(crate::proofs::blocks::States::is_state))]
     pub fn base(&self) -> u64
         ensures value { result ≡ (state_of self.now).space.start }
         ensures state { IsAddressState (state_of self.now) }

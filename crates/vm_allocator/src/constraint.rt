@@ -1,5 +1,6 @@
-ghost use Rattle.std.specs.Prelude.{◌≡◌, ◌<◌, MatchBool};
-ghost use Rattle.vm_allocator.specs.Request.{MakesConstraint, IsStartAligned, IsRequest};
+ghost use Rattle.std.specs.Prelude.{◌≡◌, ◌<◌};
+ghost use Rattle.vm_allocator.specs.Cases.{Tells};
+ghost use Rattle.vm_allocator.specs.Request.{request_for, MakesConstraint, IsStartAligned, IsRequest};
 
 use crate::error::{Error, Result};
 use std::marker::Model;
@@ -23,7 +24,7 @@ pub enum AllocPolicy {
 #[tactic(auto, unfolding(crate::specs::Request::IsStartAligned))]
 fn is_start_aligned(align: u64, policy: AllocPolicy) -> bool
     requires { 0 < align }
-    ensures { MatchBool result (IsStartAligned align policy) (¬ IsStartAligned align policy) }
+    ensures { Tells result (IsStartAligned align policy) }
 {
     match policy {
         AllocPolicy::ExactMatch(start) => start % align == 0,
@@ -57,9 +58,9 @@ impl Constraint {
     /// The request for `size` addresses from a multiple of `align` on. In this order: size 0 is
     /// `InvalidSize(0)`, an alignment that is no power of two `InvalidAlignment`, and an
     /// `ExactMatch` of a start that is no multiple of the alignment `UnalignedAddress`.
-    #[tactic(auto, using(crate::proofs::Requests::constrains))]
+    #[tactic(auto, using(crate::proofs::answers::Requests::constrains))]
     pub fn new(size: u64, align: u64, policy: AllocPolicy) -> Result<Self>
-        ensures { MakesConstraint size align policy result }
+        ensures { MakesConstraint (request_for size align policy) result }
     {
         if size == 0 {
             return Err(Error::InvalidSize(0));

@@ -44,7 +44,7 @@ impl IdAllocator {
     /// An allocator of the ids from `range_base` to `range_end`, both included, none of them handed
     /// out yet. `InvalidRange(range_base, range_end)` where the end is below the base. It takes no
     /// memory.
-    #[tactic(auto, using(crate::proofs::IdLemmas::makes))]
+    #[tactic(auto, using(crate::proofs::ids::States::makes))]
     pub fn new(alloc: Global, range_base: u32, range_end: u32) -> Result<Self>
         ensures answer { MakesIds range_base range_end result }
         ensures succeeds { range_base ≤ range_end → IsOk result }
@@ -62,7 +62,7 @@ impl IdAllocator {
 
     /// Takes the least id of the range that is not held. Where all are held, `Overflow` in a range up
     /// to `u32::MAX`, and else `ResourceNotAvailable`. It takes no memory.
-    #[tactic(auto, using(crate::proofs::IdLemmas::allocates))]
+    #[tactic(auto, using(crate::proofs::ids::Taking::allocates))]
     pub fn allocate_id(&mut self) -> Result<u32>
         ensures answer { AllocatesId self.old result self.new }
         ensures succeeds { (id : ℕ) → IsNotHeld self.old id → IsOk result }
@@ -77,10 +77,11 @@ impl IdAllocator {
     }
 
     /// What `allocate_id` would answer, its refusals included; nothing is taken.
-    #[tactic(auto, using(crate::proofs::IdLemmas::peeks))]
+    #[tactic(auto, using(crate::proofs::ids::Taking::peeks, crate::proofs::ids::States::states))]
     pub fn peek_id(&self) -> Result<u32>
         ensures answer { PeeksId self.now result }
         ensures succeeds { (id : ℕ) → IsNotHeld self.now id → IsOk result }
+        ensures state { IsIdState self.now }
     {
         match self.freed_ids.first() {
             Some(id) => Ok(*id),
@@ -89,9 +90,10 @@ impl IdAllocator {
     }
 
     /// Whether the id is held. No id outside the range is.
-    #[tactic(auto, using(crate::proofs::IdLemmas::holdings))]
+    #[tactic(auto, using(crate::proofs::ids::States::holdings))]
     pub fn is_allocated(&self, id: u32) -> bool
-        ensures { IsTrue result ↔ IsHeld self.now id }
+        ensures value { IsTrue result ↔ IsHeld self.now id }
+        ensures state { IsIdState self.now }
     {
         self.was_handed_out(id) && !self.freed_ids.contains(&id)
     }
@@ -100,7 +102,7 @@ impl IdAllocator {
     /// outside the range, `NeverAllocated(id)` where it was never handed out, `AlreadyReleased(id)`
     /// where it is not held any more, and `OutOfMemory` where a request for memory was refused. A
     /// refusal changes nothing.
-    #[tactic(auto, using(crate::proofs::IdLemmas::frees))]
+    #[tactic(auto, using(crate::proofs::ids::GivingBack::frees))]
     pub fn free_id(&mut self, id: u32) -> Result<u32>
         ensures answer { FreesId self.old id result self.new }
         ensures held { IsHeld self.old id → (result ≡ Ok id) ⊎ (result ≡ Err Error.OutOfMemory) }
@@ -124,7 +126,7 @@ impl IdAllocator {
     }
 
     /// Whether the id is one of the range.
-    #[tactic(auto, using(crate::proofs::IdLemmas::states), unfolding(crate::specs::Ids::ids_of))]
+    #[tactic(auto, using(crate::proofs::ids::States::states), unfolding(crate::specs::Ids::ids_of))]
     fn id_in_range(&self, id: u32) -> bool
         ensures value { IsTrue result ↔ IsOfRange self.now id }
         ensures state { IsIdState self.now }
@@ -133,7 +135,7 @@ impl IdAllocator {
     }
 
     /// Whether the id was handed out at some time.
-    #[tactic(auto, using(crate::proofs::IdLemmas::states), unfolding(crate::specs::Ids::ids_of))]
+    #[tactic(auto, using(crate::proofs::ids::States::states), unfolding(crate::specs::Ids::ids_of))]
     fn was_handed_out(&self, id: u32) -> bool
         ensures value { IsTrue result ↔ IsHandedOut self.now id }
         ensures state { IsIdState self.now }

@@ -1,11 +1,11 @@
-ghost use Rattle.std.specs.Prelude.{◌≡◌, ◌↔◌, IsTrue, MatchBool, Ok, Err};
+ghost use Rattle.std.specs.Prelude.{◌≡◌, ◌↔◌, IsTrue, MatchBool};
 ghost use Rattle.std.proofs.Common.{rules};
 ghost use Rattle.std.specs.Cmp.{partial_order_from_own_ties};
 ghost use Rattle.std.specs.Cmp.Rules.{comparing};
 ghost use Rattle.std.specs.Ordering.{as_partial_cmp, MatchOrdering};
-ghost use Rattle.vm_allocator.specs.Cases.{Unless};
+ghost use Rattle.vm_allocator.specs.Answer.{MakesRange};
 ghost use Rattle.vm_allocator.specs.Range.{IsRange, address_count, Overlaps, Covers, range_cmp};
-ghost use Rattle.vm_allocator.specs.RangeOrder.{Before, StartsBefore, StartsFrom, EndsBefore, Reaches, IsInOrder};
+ghost use Rattle.vm_allocator.specs.RangeOrder.{Before, StartsBefore, StartsAtOrAfter, EndsBefore, ReachesStartOf, IsInOrder};
 
 use crate::error::{Error, Result};
 use std::cmp::Ordering;
@@ -38,7 +38,7 @@ impl RangeInclusive {
     /// The range from `start` to `end`. `InvalidRange(start, end)` where the start is past the
     /// end, or where they are 0 and `u64::MAX`.
     pub fn new(start: u64, end: u64) -> Result<Self>
-        ensures { Unless (IsRange start end) (result ≡ Err (Error.InvalidRange start end)) (result ≡ Ok (record { start = start; end = end })) }
+        ensures { MakesRange start end result }
     {
         if start > end || (start == 0 && end == u64::MAX) {
             return Err(Error::InvalidRange(start, end));
@@ -63,7 +63,7 @@ impl RangeInclusive {
     }
 
     /// Whether some address lies in both ranges.
-    #[tactic(auto, using(crate::proofs::Ranges::meetings))]
+    #[tactic(auto, using(crate::proofs::numbers::Ranges::meetings))]
     pub fn overlaps(&self, other: &RangeInclusive) -> bool
         ensures { IsTrue result ↔ Overlaps self.now other.now }
     {
@@ -71,7 +71,7 @@ impl RangeInclusive {
     }
 
     /// Whether every address of `other` lies in the range.
-    #[tactic(auto, using(crate::proofs::Ranges::coverings))]
+    #[tactic(auto, using(crate::proofs::numbers::Ranges::coverings))]
     pub fn contains(&self, other: &RangeInclusive) -> bool
         ensures { IsTrue result ↔ Covers self.now other.now }
     {
@@ -93,18 +93,18 @@ impl RangeInclusive {
     }
 
     /// Whether the range starts before another.
-    #[tactic(auto, unfolding(crate::specs::RangeOrder::StartsBefore, crate::specs::RangeOrder::StartsFrom, crate::specs::RangeOrder::IsInOrder))]
+    #[tactic(auto, unfolding(crate::specs::RangeOrder::StartsBefore, crate::specs::RangeOrder::StartsAtOrAfter, crate::specs::RangeOrder::IsInOrder))]
     pub(crate) fn starts_before(&self, other: &RangeInclusive) -> bool
-        ensures which { MatchBool result (StartsBefore self.now other.now) (StartsFrom self.now other.now) }
+        ensures which { MatchBool result (StartsBefore self.now other.now) (StartsAtOrAfter self.now other.now) }
         ensures in_order { IsInOrder self.now }
     {
         other.start > self.start
     }
 
     /// Whether the range ends before another starts.
-    #[tactic(auto, unfolding(crate::specs::RangeOrder::EndsBefore, crate::specs::RangeOrder::Reaches, crate::specs::RangeOrder::IsInOrder))]
+    #[tactic(auto, unfolding(crate::specs::RangeOrder::EndsBefore, crate::specs::RangeOrder::ReachesStartOf, crate::specs::RangeOrder::IsInOrder))]
     pub(crate) fn ends_before(&self, other: &RangeInclusive) -> bool
-        ensures which { MatchBool result (EndsBefore self.now other.now) (Reaches self.now other.now) }
+        ensures which { MatchBool result (EndsBefore self.now other.now) (ReachesStartOf self.now other.now) }
         ensures in_order { IsInOrder self.now }
         ensures other_in_order { IsInOrder other.now }
     {

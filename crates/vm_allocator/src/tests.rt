@@ -5,7 +5,31 @@ use std::cmp::Ordering;
 use std::process::Abort;
 use std::test::Fail;
 
+mod uses;
+mod windows;
+
 const MAX: u64 = u64::MAX;
+
+/// How many bytes `end_of_memory` asks for. Nothing else asks for as many, and tests/refused_memory
+/// has the same number.
+const LAST_REQUEST: usize = 1_000_003;
+
+/// The allocator of a space. A second try stands for a run in which one request for memory is
+/// refused, here and below.
+pub(crate) fn made(rt: &(impl Abort + AllocGlobal), base: u64, size: u64) -> AddressAllocator {
+    match AddressAllocator::new(rt.alloc(), base, size) {
+        Ok(space) => space,
+        Err(_) => AddressAllocator::new(rt.alloc(), base, size).expect(
+            rt,
+            "memory is refused once",
+        ),
+    }
+}
+
+/// Asks for memory, whether it is there or not. tests/refused_memory refuses every later request.
+pub(crate) fn end_of_memory(alloc: Global) {
+    let _ = Vec::<u8>::with_capacity(alloc, LAST_REQUEST);
+}
 
 #[test]
 fn test_new_range(rt: HostRuntime) -> std::result::Result<(), Fail> {
@@ -98,28 +122,80 @@ fn constraint_getter(rt: HostRuntime) -> std::result::Result<(), Fail> {
 fn constraints(rt: HostRuntime) -> std::result::Result<(), Fail> {
     for (size, align, policy, want) in [
         (4, 3, AllocPolicy::LastMatch, Error::InvalidAlignment),
-        (4, 0, AllocPolicy::FirstMatch, Error::InvalidAlignment),
         (4, 4, AllocPolicy::ExactMatch(3), Error::UnalignedAddress),
         (4, 3, AllocPolicy::ExactMatch(1), Error::InvalidAlignment),
         (0, 3, AllocPolicy::FirstMatch, Error::InvalidSize(0)),
         (0, 4, AllocPolicy::ExactMatch(3), Error::InvalidSize(0)),
     ] {
-        assert_eq!(rt;
-            Constraint::new(size, align, policy),
-            Err(want),
-            "{size} at {align}"
-        );
+        let answer = Constraint::new(size, align, policy);
+        assert_eq!(rt; answer, Err(want), "{size} at {align} by {policy:?}");
     }
     let constraint = Constraint::new(4, DEFAULT_CONSTRAINT_ALIGN, AllocPolicy::FirstMatch)?;
-    assert_eq!(rt; constraint.size(), 4);
-    assert_eq!(rt; constraint.align(), 4);
+    assert_eq!(rt; (constraint.size(), constraint.align()), (4, 4));
+    assert_eq!(rt; AllocPolicy::default(), AllocPolicy::FirstMatch);
+    Ok(())
+}
+
+/// The text of an error. A second try stands for a run in which one request for memory is refused.
+fn text_of(alloc: Global, error: &Error) -> std::result::Result<String, AllocError> {
+    match error.to_string(alloc) {
+        Ok(text) => Ok(text),
+        Err(_) => error.to_string(alloc),
+    }
+}
+
+#[test]
+fn texts_of_errors(rt: HostRuntime) -> std::result::Result<(), Fail> {
+    let rows = [
+        (
+            Error::Overflow,
+            "Management operations on desired resource resulted in overflow.",
+        ),
+        (Error::OutOfRange(7), "Specified id: 7 is not in the range."),
+        (
+            Error::AlreadyReleased(8),
+            "Specified id: 8 is already released.",
+        ),
+        (
+            Error::NeverAllocated(9),
+            "Specified id: 9 was never allocated, can't release it.",
+        ),
+        (
+            Error::ResourceNotAvailable,
+            "The requested resource is not available.",
+        ),
+        (
+            Error::InvalidRange(2, 1),
+            "The range specified: 2-1 is not valid.",
+        ),
+        (Error::InvalidAlignment, "Alignment value is invalid."),
+        (Error::UnalignedAddress, "The address is not aligned."),
+        (
+            Error::Underflow,
+            "Management operations on desired resource resulted in underflow.",
+        ),
+        (Error::InvalidSize(0), "The specified size: 0 is not valid."),
+        (Error::OutOfMemory, "There is not enough memory."),
+    ];
+    for (error, want) in &rows {
+        assert_eq!(rt; text_of(rt.alloc(), error)?.as_str(), *want);
+    }
     Ok(())
 }
 
 #[test]
-fn defaults(rt: HostRuntime) {
-    assert_eq!(rt; AllocPolicy::default(), AllocPolicy::FirstMatch);
-    assert_eq!(rt; DEFAULT_CONSTRAINT_ALIGN, 4);
+fn texts_of_errors_with_ranges(rt: HostRuntime) -> std::result::Result<(), Fail> {
+    let range = RangeInclusive::new(1, 2)?;
+    let text = text_of(rt.alloc(), &Error::Overlap(range, range))?;
+    assert!(rt; text.as_str().starts_with("Addresses are overlapping."));
+    assert!(rt; text.as_str().contains(" intersects with existing "));
+    let held = Error::InvalidStateTransition(range, NodeState::Allocated);
+    let text = text_of(rt.alloc(), &held)?;
+    let start = "Invalid state transition for node ";
+    assert!(rt; text.as_str().starts_with(start));
+    assert!(rt; text.as_str().contains(" from "));
+    assert!(rt; text.as_str().ends_with(" to NodeState::Free"));
+    Ok(())
 }
 
 #[test]
@@ -135,78 +211,4 @@ fn errors_rise(rt: HostRuntime) {
     for i in 1..6usize {
         assert!(rt; rising[i - 1] < rising[i], "at {i}");
     }
-}
-
-/// The text of an error. A second try stands for a run in which one request for memory is refused.
-fn text_of(alloc: Global, error: &Error) -> std::result::Result<String, AllocError> {
-    match error.to_string(alloc) {
-        Ok(text) => Ok(text),
-        Err(_) => error.to_string(alloc),
-    }
-}
-
-fn reads(
-    rt: &(impl Abort + AllocGlobal),
-    error: &Error,
-    want: &str,
-) -> std::result::Result<(), AllocError> {
-    assert_eq!(rt; text_of(rt.alloc(), error)?.as_str(), want);
-    Ok(())
-}
-
-#[test]
-fn texts_of_errors(rt: HostRuntime) -> std::result::Result<(), Fail> {
-    let overflow = "Management operations on desired resource resulted in overflow.";
-    let underflow = "Management operations on desired resource resulted in underflow.";
-    let never = "Specified id: 9 was never allocated, can't release it.";
-    reads(&rt, &Error::Overflow, overflow)?;
-    reads(
-        &rt,
-        &Error::OutOfRange(7),
-        "Specified id: 7 is not in the range.",
-    )?;
-    reads(
-        &rt,
-        &Error::AlreadyReleased(8),
-        "Specified id: 8 is already released.",
-    )?;
-    reads(&rt, &Error::NeverAllocated(9), never)?;
-    reads(
-        &rt,
-        &Error::ResourceNotAvailable,
-        "The requested resource is not available.",
-    )?;
-    reads(
-        &rt,
-        &Error::InvalidRange(2, 1),
-        "The range specified: 2-1 is not valid.",
-    )?;
-    reads(&rt, &Error::InvalidAlignment, "Alignment value is invalid.")?;
-    reads(&rt, &Error::UnalignedAddress, "The address is not aligned.")?;
-    reads(&rt, &Error::Underflow, underflow)?;
-    reads(
-        &rt,
-        &Error::InvalidSize(0),
-        "The specified size: 0 is not valid.",
-    )?;
-    reads(&rt, &Error::OutOfMemory, "There is not enough memory.")?;
-    Ok(())
-}
-
-#[test]
-fn texts_of_errors_with_ranges(rt: HostRuntime) -> std::result::Result<(), Fail> {
-    let range = RangeInclusive::new(1, 2)?;
-    let overlap = text_of(rt.alloc(), &Error::Overlap(range, range))?;
-    assert!(rt; overlap.as_str().starts_with("Addresses are overlapping."));
-    assert!(rt; overlap.as_str().contains(" intersects with existing "));
-    let held = Error::InvalidStateTransition(range, NodeState::Allocated);
-    let transition = text_of(rt.alloc(), &held)?;
-    assert!(rt;
-        transition
-            .as_str()
-            .starts_with("Invalid state transition for node ")
-    );
-    assert!(rt; transition.as_str().contains(" from "));
-    assert!(rt; transition.as_str().ends_with(" to NodeState::Free"));
-    Ok(())
 }

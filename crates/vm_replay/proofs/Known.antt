@@ -1,67 +1,58 @@
--- Known bytes, and text on its way through the buffer. Each fact also holds where no bytes are known.
+-- Text on its way through the buffer, and what was read and written as a whole. Each fact also holds where no bytes are
+-- known.
 use Rattle.std.proofs.Common.{◌≡◌, ℕ, List, [], ◌++◌, Option, Some, None, refl, sym, ap, ◌∙◌, subst, append-nil, append_assoc, take, length, ◌<◌}
 use Rattle.std.specs.Io.KnownBytes.{Appends, Consumes, IsAtEnd}
-use Rattle.std.specs.Io.KnownBytes.{Keeps}
+use Rattle.std.proofs.KnownBytes.{Appends-nil, Appends-trans}
+use Rattle.vm_replay.specs.Lines.{lines_of, ended_lines_of}
 use Rattle.vm_replay.specs.Moving.{Moves}
-
--- nothing is appended
-pub appends_none : (a : Option (List ℕ)) → Appends a a []
-appends_none None = tt
-appends_none (Some xs) = sym (append-nil xs)
-
--- one text is appended after another
-pub appends_both : (a b c : Option (List ℕ)) (xs ys : List ℕ) → Appends a b xs → Appends b c ys → Appends a c (xs ++ ys)
-appends_both None b c xs ys h k = tt
-appends_both (Some x) None c xs ys h k = absurd h
-appends_both (Some x) (Some y) None xs ys h k = absurd k
-appends_both (Some x) (Some y) (Some z) xs ys h k = rw (k, h) (append_assoc x xs ys)
-
--- nothing is consumed
-pub consumes_none : (a : Option (List ℕ)) → Consumes a a []
-consumes_none None = tt
-consumes_none (Some xs) = refl
-
--- one text is consumed after another
-pub consumes_both : (a b c : Option (List ℕ)) (xs ys : List ℕ) → Consumes a b xs → Consumes b c ys → Consumes a c (xs ++ ys)
-consumes_both None b c xs ys h k = tt
-consumes_both (Some x) None c xs ys h k = absurd h
-consumes_both (Some x) (Some y) None xs ys h k = absurd k
-consumes_both (Some x) (Some y) (Some z) xs ys h k = rw (h, k) (sym (append_assoc xs ys z))
+use Rattle.vm_replay.specs.Runs.{MayAnswer, GainsAnswers, AnswersInput, AnswersEndedLines}
 
 -- nothing moves
 pub moves_none : (a : Option (List ℕ)) (p : List ℕ) → Moves a p [] a p
-moves_none a p = ([], appends_none a, sym (append-nil p))
+moves_none a p = ([], Appends-nil a, sym (append-nil p))
 
 -- one text moves after another
 pub moves_both : (a b c : Option (List ℕ)) (p q r t u : List ℕ) → Moves a p t b q → Moves b q u c r → Moves a p (t ++ u) c r
-moves_both a b c p q r t u h k = (h.0 ++ k.0, appends_both a b c h.0 k.0 h.1 k.1, append_assoc h.0 k.0 r ∙ ap (λ x. h.0 ++ x) k.2 ∙ sym (append_assoc h.0 q u) ∙ ap (λ x. x ++ u) h.2 ∙ append_assoc p t u)
+moves_both a b c p q r t u h k =
+    let all = append_assoc h.0 k.0 r ∙ ap (λ x. h.0 ++ x) k.2 ∙ sym (append_assoc h.0 q u) ∙ ap (λ x. x ++ u) h.2 ∙ append_assoc p t u in
+    (h.0 ++ k.0, Appends-trans a b c h.0 k.0 h.1 k.1, all)
 
 -- text goes into the buffer
 pub moves_text : (a b : Option (List ℕ)) (p q r t u : List ℕ) → Moves a p t b q → r ≡ q ++ u → Moves a p (t ++ u) b r
-moves_text a b p q r t u h e = moves_both a b b p q r t u h ([], appends_none b, e)
+moves_text a b p q r t u h e = moves_both a b b p q r t u h ([], Appends-nil b, e)
 
 -- the buffer goes to the writer
 pub moves_drain : (a b c : Option (List ℕ)) (p q t : List ℕ) → Moves a p t b q → Appends b c q → Appends a c (p ++ t)
-moves_drain a b c p q t h k = subst (Appends a c) h.2 (appends_both a b c h.0 q h.1 k)
-
--- what a writer had stays
-pub appends_kept : (a b c : Option (List ℕ)) (t : List ℕ) → Appends a b t → Keeps b c → Appends a c t
-appends_kept None b c t h k = tt
-appends_kept (Some x) None c t h k = absurd h
-appends_kept (Some x) (Some y) None t h k = absurd k
-appends_kept (Some x) (Some y) (Some z) t h k = k ∙ h
-
--- what a reader has left stays
-pub consumes_kept : (a b c : Option (List ℕ)) (t : List ℕ) → Consumes a b t → Keeps b c → Consumes a c t
-consumes_kept None b c t h k = tt
-consumes_kept (Some x) None c t h k = absurd h
-consumes_kept (Some x) (Some y) None t h k = absurd k
-consumes_kept (Some x) (Some y) (Some z) t h k = h ∙ ap (λ s. t ++ s) (sym k)
-
--- a read of nothing comes at the end
-pub read_end : (a b : Option (List ℕ)) (n : ℕ) (buf : List ℕ) → Consumes a b (take n buf) → (n ≡ 0 → 0 < length buf → IsAtEnd b) → n ≡ 0 → 0 < length buf → Consumes a b [] × IsAtEnd b
-read_end a b n buf h k e l = (subst (λ m. Consumes a b (take m buf)) e h, k e l)
+moves_drain a b c p q t h k = subst (Appends a c) h.2 (Appends-trans a b c h.0 q h.1 k)
 
 -- the last text goes to the writer with what waits
 pub moves_end : (a b c : Option (List ℕ)) (q t u : List ℕ) → Moves a [] t b q → Appends b c (q ++ u) → Appends a c (t ++ u)
-moves_end a b c q t u h k = subst (Appends a c) (sym (append_assoc h.0 q u) ∙ ap (λ x. x ++ u) h.2) (appends_both a b c h.0 (q ++ u) h.1 k)
+moves_end a b c q t u h k =
+    subst (Appends a c) (sym (append_assoc h.0 q u) ∙ ap (λ x. x ++ u) h.2) (Appends-trans a b c h.0 (q ++ u) h.1 k)
+
+-- a read of nothing comes at the end
+pub read_end : (a b : Option (List ℕ)) (n : ℕ) (buf : List ℕ) → Consumes a b (take n buf)
+    → (n ≡ 0 → 0 < length buf → IsAtEnd b) → n ≡ 0 → 0 < length buf → Consumes a b [] × IsAtEnd b
+read_end a b n buf h k e l = (subst (λ m. Consumes a b (take m buf)) e h, k e l)
+
+-- what was written beside what was there before
+gains : (c d : Option (List ℕ)) (lines : List (List ℕ)) (text : List ℕ) → MayAnswer lines text → Appends c d text → GainsAnswers lines c d
+gains None d lines text m h = tt
+gains (Some before) None lines text m h = absurd h
+gains (Some before) (Some after) lines text m h = (text, m, ap Some h)
+
+-- what was read up to the end is the input
+pub answers_input : (a b c d : Option (List ℕ)) (read text : List ℕ) → Consumes a b read → IsAtEnd b
+    → MayAnswer (lines_of read) text → Appends c d text → AnswersInput a b c d
+answers_input None b c d read text h e m k = tt
+answers_input (Some input) None c d read text h e m k = absurd h
+answers_input (Some input) (Some rest) c d read text h e m k =
+    let all : input ≡ read = h ∙ ap (λ l. read ++ l) e ∙ append-nil read in
+    (ap Some e, subst (λ bytes. GainsAnswers (lines_of bytes) c d) (sym all) (gains c d (lines_of read) text m k))
+
+-- what was read up to a fault is the front of the input
+pub answers_ended : (a b c d : Option (List ℕ)) (read text : List ℕ) → Consumes a b read
+    → MayAnswer (ended_lines_of read) text → Appends c d text → AnswersEndedLines a b c d
+answers_ended None b c d read text h m k = tt
+answers_ended (Some input) None c d read text h m k = absurd h
+answers_ended (Some input) (Some rest) c d read text h m k = (read, rest, h, refl, gains c d (ended_lines_of read) text m k)

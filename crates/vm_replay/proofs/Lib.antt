@@ -5,3 +5,5 @@ pub mod Parts
 pub mod Known
 pub mod Progress
 pub mod OneText
+pub mod SomeAnswer
+pub mod SomeText

@@ -15,7 +15,8 @@ pub some_below : (line : List ℕ) (i : ℕ) → position is_blank line ≡ Some
 some_below line i e = search (rules, common_steps)
 
 -- the first word of a text with a blank, and the words behind it
-pub words_some : (line : List ℕ) (i : ℕ) → position is_blank line ≡ Some i → words_of line ≡ take i line ∷ words_of (take (length line - (i + 1)) (drop (i + 1) line))
+pub words_some : (line : List ℕ) (i : ℕ) → position is_blank line ≡ Some i
+    → words_of line ≡ take i line ∷ words_of (take (length line - (i + 1)) (drop (i + 1) line))
 words_some line i e = let h = some_below line i e in search (rules, common_steps, slice_split_first is_blank line 0 (omega arith))
 
 -- a text with no blank is one word
@@ -23,7 +24,9 @@ none_step : (xs : List ℕ) → length xs ≤ position_or_len is_blank xs → wo
 none_step [] h = refl
 none_step (x ∷ xs) h = none_cons x xs (x == blank) refl (none_step xs) h
   where
-    none_cons : (x : ℕ) (xs : List ℕ) (b : Bool) → (x == blank) ≡ b → (length xs ≤ position_or_len is_blank xs → words_of xs ≡ xs ∷ []) → length (x ∷ xs) ≤ position_or_len is_blank (x ∷ xs) → words_of (x ∷ xs) ≡ (x ∷ xs) ∷ []
+    none_cons : (x : ℕ) (xs : List ℕ) (b : Bool) → (x == blank) ≡ b
+        → (length xs ≤ position_or_len is_blank xs → words_of xs ≡ xs ∷ [])
+        → length (x ∷ xs) ≤ position_or_len is_blank (x ∷ xs) → words_of (x ∷ xs) ≡ (x ∷ xs) ∷ []
     none_cons x xs true e ih h = absurd (omega (arith, rw e at h))
     none_cons x xs false e ih h = let k : length xs ≤ position_or_len is_blank xs = omega (arith, rw e at h) in rw (e, ih k)
 

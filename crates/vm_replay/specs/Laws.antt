@@ -6,6 +6,7 @@ use Rattle.vm_replay.specs.Commands.{command_of}
 use Rattle.vm_replay.specs.Lines.{newline}
 use Rattle.vm_replay.specs.Machines.{Machine, start, Does}
 use Rattle.vm_replay.specs.Replies.{text_of}
+use Rattle.vm_replay.specs.Runs.{MayAnswer}
 use Rattle.vm_replay.specs.declared.reply.Reply.{Reply}
 use Rattle.vm_replay.specs.declared.reply.Reply.TheVariants.{Refused}
 
@@ -13,15 +14,29 @@ use Rattle.vm_replay.specs.declared.reply.Reply.TheVariants.{Refused}
 abbrev pub HoldsFew : Machine → Type 0
 HoldsFew machine = IfSome machine.space (λ state. length state.held < FEWEST_TOO_DEEP)
 
--- From old, these lines may be answered by this text, and new is what they leave; no line is answered by want of memory,
--- and few ranges are held before each.
-abbrev pub PlainRun : Machine → List (List ℕ) → List ℕ → Machine → Type 0
-PlainRun old [] text new = (text ≡ []) × (new ≡ old)
-PlainRun old (line ∷ lines) text new =
-    (reply : Reply) × (mid : Machine) × (rest : List ℕ) × Does old (command_of line) reply mid × (reply ≢ Refused OutOfMemory) × HoldsFew old × PlainRun mid lines rest new × (text ≡ text_of reply ++ newline ∷ rest)
+-- As `AreAnswered`, where no line is refused because memory ran out, and few ranges are held before each.
+abbrev pub AreAnsweredAmply : Machine → List (List ℕ) → List ℕ → Machine → Type 0
+AreAnsweredAmply old [] text new = (text ≡ []) × (new ≡ old)
+AreAnsweredAmply old (line ∷ lines) text new =
+    (reply : Reply) × (mid : Machine) × (rest : List ℕ)
+    × Does old (command_of line) reply mid
+    × (reply ≢ Refused OutOfMemory)
+    × HoldsFew old
+    × AreAnsweredAmply mid lines rest new
+    × (text ≡ text_of reply ++ newline ∷ rest)
 
 -- such lines have one text, and leave one state
 unfoldable pub OneText : Type 0
 OneText =
     (lines : List (List ℕ)) (text other : List ℕ) (new end : Machine) →
-    PlainRun start lines text new → PlainRun start lines other end → (text ≡ other) × (new ≡ end)
+    AreAnsweredAmply start lines text new → AreAnsweredAmply start lines other end → (text ≡ other) × (new ≡ end)
+
+-- whatever the lines so far have made, each line has a reply, other than that memory ran out
+unfoldable pub HasReply : Type 0
+HasReply =
+    (old : Machine) (line : List ℕ) →
+    (reply : Reply) × (new : Machine) × Does old (command_of line) reply new × (reply ≢ Refused OutOfMemory)
+
+-- and so the lines of each input have a text
+unfoldable pub HasText : Type 0
+HasText = (lines : List (List ℕ)) → (text : List ℕ) × MayAnswer lines text

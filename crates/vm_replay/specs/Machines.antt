@@ -5,8 +5,8 @@ use Rattle.vm_allocator.specs.Cases.{Unless}
 use Rattle.vm_allocator.specs.Range.{Range, range_code, IsRange}
 use Rattle.vm_allocator.specs.Address.{AddressState}
 use Rattle.vm_allocator.specs.Answer.{Allocates, Frees, Makes}
+use Rattle.vm_allocator.specs.Request.{Request}
 use Rattle.vm_allocator.specs.Ids.{IdState, id_state_code, IsHeld, MakesIds, AllocatesId, FreesId}
-use Rattle.vm_allocator.specs.declared.constraint.AllocPolicy.{AllocPolicy}
 use Rattle.vm_allocator.specs.declared.constraint.AllocPolicy.TheVariants.{FirstMatch, LastMatch, ExactMatch}
 use Rattle.vm_allocator.specs.declared.error.Error.{Error}
 use Rattle.vm_allocator.specs.declared.error.Error.TheVariants.{InvalidRange}
@@ -23,12 +23,21 @@ pub record Machine : Type 0 where
 
 -- an address state is stored as the pair of its fields
 abbrev pub address_state_code : Coded AddressState
-address_state_code = code_by (Range × List Range) (coded× range_code (coded_list range_code)) (λ s. (s.space, s.held)) (λ p. record { space = p.0; held = p.1 }) (λ _. refl)
+address_state_code =
+    code_by (Range × List Range)
+    (coded× range_code (coded_list range_code))
+    (λ s. (s.space, s.held))
+    (λ p. record { space = p.0; held = p.1 })
+    (λ _. refl)
 
 -- a machine is stored as the pair of its fields
 abbrev pub machine_code : Coded Machine
 machine_code =
-    code_by (Option AddressState × Option IdState) (coded× (coded_option address_state_code) (coded_option id_state_code)) (λ m. (m.space, m.ids)) (λ p. record { space = p.0; ids = p.1 }) (λ _. refl)
+    code_by (Option AddressState × Option IdState)
+    (coded× (coded_option address_state_code) (coded_option id_state_code))
+    (λ m. (m.space, m.ids))
+    (λ p. record { space = p.0; ids = p.1 })
+    (λ _. refl)
 
 -- before the first line
 abbrev pub start : Machine
@@ -58,11 +67,11 @@ OnIds old reply new call =
     ((reply ≡ NoIds) × (new ≡ old))
     (λ state. (later : IdState) × call state later × (new ≡ record old { ids = Some later }))
 
--- an allocation with this policy
-unfoldable pub Places : Machine → ℕ → ℕ → AllocPolicy → Reply → Machine → Type 0
-Places old size alignment policy reply new =
+-- an allocation
+unfoldable pub Places : Machine → Request → Reply → Machine → Type 0
+Places old request reply new =
     OnSpace old reply new (λ state later.
-    (answer : Result Range Error) × Allocates state size alignment policy answer later × (reply ≡ given_or_refused answer))
+    (answer : Result Range Error) × Allocates state request answer later × (reply ≡ given_or_refused answer))
 
 -- the release of what is to be a range
 unfoldable pub Releases : AddressState → ℕ → ℕ → Result (Unit {0}) Error → AddressState → Type 0
@@ -75,15 +84,24 @@ Releases old start end answer new =
 unfoldable pub Does : Machine → Option Command → Reply → Machine → Type 0
 Does old None reply new = (reply ≡ NotInLanguage) × (new ≡ old)
 Does old (Some (Space base size)) reply new =
-    (answer : Result AddressState Error) × Makes base size answer × (reply ≡ done_or_refused answer) × (new ≡ with_space old answer)
-Does old (Some (First size alignment)) reply new = Places old size alignment FirstMatch reply new
-Does old (Some (Last size alignment)) reply new = Places old size alignment LastMatch reply new
-Does old (Some (Exact size alignment start)) reply new = Places old size alignment (ExactMatch start) reply new
+    (answer : Result AddressState Error)
+    × Makes base size answer
+    × (reply ≡ done_or_refused answer)
+    × (new ≡ with_space old answer)
+Does old (Some (First size alignment)) reply new =
+    Places old (record { size = size; align = alignment; policy = FirstMatch }) reply new
+Does old (Some (Last size alignment)) reply new =
+    Places old (record { size = size; align = alignment; policy = LastMatch }) reply new
+Does old (Some (Exact size alignment start)) reply new =
+    Places old (record { size = size; align = alignment; policy = ExactMatch start }) reply new
 Does old (Some (Free start end)) reply new =
     OnSpace old reply new (λ state later.
     (answer : Result (Unit {0}) Error) × Releases state start end answer later × (reply ≡ done_or_refused answer))
 Does old (Some (Ids range_base range_end)) reply new =
-    (answer : Result IdState Error) × MakesIds range_base range_end answer × (reply ≡ done_or_refused answer) × (new ≡ with_ids old answer)
+    (answer : Result IdState Error)
+    × MakesIds range_base range_end answer
+    × (reply ≡ done_or_refused answer)
+    × (new ≡ with_ids old answer)
 Does old (Some Id) reply new =
     OnIds old reply new (λ state later.
     (answer : Result ℕ Error) × AllocatesId state answer later × (reply ≡ id_or_refused answer))

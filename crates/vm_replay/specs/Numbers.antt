@@ -2,18 +2,30 @@
 use Rattle.std.specs.Prelude.{ℕ, ◌+◌, ◌-◌, ◌*◌, ◌^◌, Bool, ◌&&◌, if◌then◌else◌, nat_lt, nat_le, List, [], ◌∷◌, length, Option, Some, None}
 use Rattle.std.specs.List.{list_all}
 
+-- the byte of the digit 0
+abbrev pub digit_zero : ℕ
+digit_zero = 48
+
+-- the byte of the digit 9
+abbrev pub digit_nine : ℕ
+digit_nine = 57
+
+-- no number has more digits
+abbrev pub most_digits : ℕ
+most_digits = 20
+
 -- one of the ASCII digits
 abbrev pub is_digit : ℕ → Bool
-is_digit byte = nat_le 48 byte && nat_le byte 57
+is_digit byte = nat_le digit_zero byte && nat_le byte digit_nine
 
 -- the value of the digits, after digits of the value before
 abbrev pub value_from : ℕ → List ℕ → ℕ
 value_from before [] = before
-value_from before (digit ∷ digits) = value_from (before * 10 + (digit - 48)) digits
+value_from before (digit ∷ digits) = value_from (before * 10 + (digit - digit_zero)) digits
 
--- one to twenty digits
+-- one digit or more, and not too many
 abbrev pub is_numeral : List ℕ → Bool
-is_numeral word = nat_le 1 (length word) && nat_le (length word) 20 && list_all is_digit word
+is_numeral word = nat_le 1 (length word) && nat_le (length word) most_digits && list_all is_digit word
 
 -- the value of a numeral, where it is below the bound
 abbrev pub number_below : ℕ → List ℕ → Option ℕ

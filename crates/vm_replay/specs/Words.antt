@@ -1,6 +1,7 @@
 -- The words of a line, and the numbers that they say.
 use Rattle.std.specs.Prelude.{ℕ, ◌==◌, List, [], ◌∷◌, Option, Some, None}
 use Rattle.std.specs.List.{slice_split}
+use Rattle.std.specs.Option.{option_map, option_zip}
 
 -- the byte that separates words
 abbrev pub blank : ℕ
@@ -10,17 +11,10 @@ blank = 32
 abbrev pub words_of : List ℕ → List (List ℕ)
 words_of text = slice_split (λ byte. byte == blank) text
 
--- two numbers, where both are there
-abbrev pub both : Option ℕ → Option ℕ → Option (ℕ × ℕ)
-both None second = None
-both (Some first) None = None
-both (Some first) (Some second) = Some (first, second)
-
--- three numbers, where all are there
-abbrev pub all_three : Option ℕ → Option (ℕ × ℕ) → Option (ℕ × ℕ × ℕ)
-all_three None rest = None
-all_three (Some first) None = None
-all_three (Some first) (Some rest) = Some (first, rest.0, rest.1)
+-- the words of what stands behind a word and its blank, if a blank stands there
+abbrev pub words_behind : Option (List ℕ) → List (List ℕ)
+words_behind None = []
+words_behind (Some rest) = words_of rest
 
 -- what is asked, where no word stands behind it
 abbrev pub alone : {A : Type 0} → A → List (List ℕ) → Option A
@@ -37,10 +31,10 @@ one_in read (word ∷ second ∷ more) = None
 abbrev pub two_in : (List ℕ → Option ℕ) → List (List ℕ) → Option (ℕ × ℕ)
 two_in read [] = None
 two_in read (first ∷ []) = None
-two_in read (first ∷ second ∷ []) = both (read first) (read second)
+two_in read (first ∷ second ∷ []) = option_zip (read first) (read second)
 two_in read (first ∷ second ∷ third ∷ more) = None
 
 -- the numbers that the words say by this reading, where they are three
 abbrev pub three_in : (List ℕ → Option ℕ) → List (List ℕ) → Option (ℕ × ℕ × ℕ)
 three_in read [] = None
-three_in read (first ∷ words) = all_three (read first) (two_in read words)
+three_in read (first ∷ words) = option_map (λ p. (p.0, p.1.0, p.1.1)) (option_zip (read first) (two_in read words))

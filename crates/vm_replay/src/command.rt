@@ -1,8 +1,12 @@
-ghost use Rattle.std.specs.Prelude.{◌≡◌, ◌≤◌, [], length, MatchOption};
+ghost use Rattle.std.specs.Prelude.{◌≡◌, ◌≤◌, length};
 ghost use Rattle.vm_replay.specs.Commands.{command_of, asked_of_ids};
-ghost use Rattle.vm_replay.specs.Words.{words_of};
+ghost use Rattle.std.specs.Option.{option_copied};
+ghost use Rattle.vm_replay.specs.Words.{words_behind};
 
 use crate::words::{first_word, one_id, three_numbers, two_ids, two_numbers};
+
+/// A longer line is not in the language.
+pub const LONGEST_LINE: usize = 120;
 
 /// What a line asks for.
 #[derive(Clone, Copy, Debug, PartialEq, Eq)]
@@ -50,9 +54,9 @@ pub enum Command {
     },
 }
 
-/// What a line of at most 120 bytes asks for. `None` where it is not in the language.
+/// What a line of at most `LONGEST_LINE` bytes asks for. `None` where it is not in the language.
 pub fn parse(line: &[u8]) -> Option<Command>
-    requires { length line.now ≤ 120 }
+    requires { length line.now ≤ LONGEST_LINE }
     ensures { result ≡ command_of line.now }
 {
     let (name, rest) = first_word(line);
@@ -84,7 +88,7 @@ pub fn parse(line: &[u8]) -> Option<Command>
 /// space does.
 #[tactic(auto, using(crate::proofs::Splitting::not_alone))]
 fn parse_on_ids(name: &[u8], rest: Option<&[u8]>) -> Option<Command>
-    ensures { MatchOption rest.entry (result ≡ asked_of_ids name.now []) (λ words. result ≡ asked_of_ids name.now (words_of words.now)) }
+    ensures { result ≡ asked_of_ids name.now (words_behind (option_copied rest.entry)) }
 {
     if name == b"ids".as_slice() {
         let (range_base, range_end) = two_ids(rest?)?;

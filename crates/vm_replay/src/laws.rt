@@ -1,10 +1,18 @@
 //! Laws: theorems about the definitions that the contract of `run` cites, each the contract of a
 //! function that does nothing.
-ghost use Rattle.vm_replay.specs.Laws.{OneText};
+ghost use Rattle.vm_replay.specs.Laws.{OneText, HasReply, HasText};
 
 /// Where memory suffices and fewer ranges are held than a refusal for depth takes, an input has one
 /// text.
 #[tactic(auto, using(crate::proofs::OneText::one_text))]
 fn text_is_determined()
     ensures { OneText }
+{}
+
+/// From each state each line has a reply that does not need memory to run out, so each input has a
+/// text.
+#[tactic(auto, using(crate::proofs::SomeText::has_reply, crate::proofs::SomeText::has_text))]
+fn each_input_has_a_text()
+    ensures reply { HasReply }
+    ensures text { HasText }
 {}

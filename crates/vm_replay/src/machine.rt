@@ -89,7 +89,7 @@ impl Machine {
     /// Holds the `size` addresses at the place that the policy chooses.
     #[tactic(auto, unfolding(crate::specs::Machines::Places, crate::specs::Machines::OnSpace))]
     fn place(&mut self, alloc: Global, size: u64, alignment: u64, policy: AllocPolicy) -> Reply
-        ensures { Places self.old size alignment policy result self.new }
+        ensures { Places self.old (record { size = size; align = alignment; policy = policy }) result self.new }
     {
         let Some(space) = &mut self.space else {
             return Reply::NoSpace;

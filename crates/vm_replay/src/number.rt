@@ -1,9 +1,10 @@
 ghost use Rattle.std.specs.Prelude.{◌≡◌};
 ghost use Rattle.vm_replay.specs.Numbers.{number_of, id_of};
 
-const BASE: u64 = 10;
+/// No number of the language has more digits, and none of 64 bits needs more.
+pub const MOST_DIGITS: usize = 20;
 
-const MOST_DIGITS: usize = 20;
+const BASE: u64 = 10;
 
 /// The number that a word says.
 #[tactic(auto, using(crate::proofs::Numerals::too_large_next, crate::proofs::Numerals::too_large_sum, crate::proofs::Numerals::all_read))]

@@ -2,6 +2,7 @@ ghost use Rattle.std.specs.Prelude.{◌≡◌, ◌++◌, ◌+◌, ◌≤◌, len
 ghost use Rattle.vm_replay.specs.Replies.{text_of, refusal_text, pair_text};
 
 use crate::buffer::{Buffer, CAPACITY};
+use crate::number::MOST_DIGITS;
 use vm_allocator::{Error, RangeInclusive};
 
 /// The most bytes that a reply takes, the newline behind it aside: those of an invalid range.
@@ -77,7 +78,7 @@ fn write_refusal(output: &mut Buffer, error: Error)
 
 /// Writes a text and a number behind it.
 fn write_number(output: &mut Buffer, text: &[u8], number: u64)
-    requires short { length text.now ≤ 41 }
+    requires short { length text.now + MOST_DIGITS ≤ LONGEST_REPLY }
     requires room { length output.old + LONGEST_REPLY ≤ CAPACITY }
     ensures text { output.new ≡ output.old ++ (text.now ++ decimal number) }
     ensures room { length output.new ≤ length output.old + LONGEST_REPLY }
@@ -88,7 +89,7 @@ fn write_number(output: &mut Buffer, text: &[u8], number: u64)
 
 /// Writes a text and two numbers behind it.
 fn write_pair(output: &mut Buffer, text: &[u8], first: u64, second: u64)
-    requires short { length text.now ≤ 20 }
+    requires short { length text.now + MOST_DIGITS + 1 + MOST_DIGITS ≤ LONGEST_REPLY }
     requires room { length output.old + LONGEST_REPLY ≤ CAPACITY }
     ensures text { output.new ≡ output.old ++ (text.now ++ pair_text first second) }
     ensures room { length output.new ≤ length output.old + LONGEST_REPLY }

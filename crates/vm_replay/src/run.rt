@@ -1,9 +1,8 @@
-ghost use Rattle.std.specs.Prelude.{◌≡◌, ◌++◌, [], ◌+◌, ◌<◌, ℕ, List, length, OnOk, IfErr, IsErrOf, IfSome, Some};
-ghost use Rattle.std.specs.Io.KnownBytes.{Consumes, Appends, IsAtEnd};
+ghost use Rattle.std.specs.Prelude.{◌≡◌, ◌++◌, [], ◌+◌, ◌<◌, ℕ, List, length, OnOk, IfErr, IsErrOf};
+ghost use Rattle.std.specs.Io.KnownBytes.{Appends};
 ghost use Rattle.vm_replay.specs.Sessions.{Feeds, Finishes};
 ghost use Rattle.vm_replay.specs.Moving.{Moves};
-ghost use Rattle.vm_replay.specs.Lines.{lines_of, ended_lines_of};
-ghost use Rattle.vm_replay.specs.Runs.{MayAnswer};
+ghost use Rattle.vm_replay.specs.Runs.{AnswersInput, AnswersEndedLines};
 
 use crate::buffer::{Buffer, CAPACITY};
 use crate::reply::LONGEST_REPLY;
@@ -28,34 +27,10 @@ pub enum RunError {
 /// the lines that a newline ended are answered, and nothing was flushed. `Write` where a write or
 /// the last flush failed: then nothing is said of what was written.
 pub fn run<R: Read, W: Write>(alloc: Global, reader: &mut R, writer: &mut W) -> Result<(), RunError>
-    // All of the input was read, and its lines are answered.
-    ensures ok { OnOk result (IfSome (R.remaining reader.old) (λ input.
-        (R.remaining reader.new ≡ Some [])
-        × IfSome (W.contents writer.old) (λ before. (output : List ℕ) × MayAnswer (lines_of input) output
-        × (W.contents writer.new ≡ Some (before ++ output))))) }
-    // Of what was read before the fault, the lines that a newline ended are answered, and nothing else was written.
-    ensures read { IsErrOf result RunError.Read → IfSome (R.remaining reader.old) (λ input.
-        (front : List ℕ) × (rest : List ℕ) × (input ≡ front ++ rest) × (R.remaining reader.new ≡ Some rest)
-        × IfSome (W.contents writer.old) (λ before. (output : List ℕ) × MayAnswer (ended_lines_of front) output
-        × (W.contents writer.new ≡ Some (before ++ output)))) }
-{
-    replay(alloc, reader, writer)
-}
-
-/// Answers each line of the input. The clauses are those of `run`, in words that also hold of a
-/// reader or writer that does not tell its bytes.
-fn replay<R: Read, W: Write>(alloc: Global, reader: &mut R, writer: &mut W) -> Result<(), RunError>
-    // All of the input was read, and the writer has gained a text that may answer its lines.
-    ensures ok { OnOk result ((input : List ℕ) × (output : List ℕ)
-        × Consumes (R.remaining reader.old) (R.remaining reader.new) input
-        × IsAtEnd (R.remaining reader.new)
-        × MayAnswer (lines_of input) output
-        × Appends (W.contents writer.old) (W.contents writer.new) output) }
-    // The lines that were ended before the fault are answered, and nothing else.
-    ensures read { IsErrOf result RunError.Read → (front : List ℕ) × (output : List ℕ)
-        × Consumes (R.remaining reader.old) (R.remaining reader.new) front
-        × MayAnswer (ended_lines_of front) output
-        × Appends (W.contents writer.old) (W.contents writer.new) output }
+    ensures ok { OnOk result (AnswersInput
+        (R.remaining reader.old) (R.remaining reader.new) (W.contents writer.old) (W.contents writer.new)) }
+    ensures read { IsErrOf result RunError.Read → AnswersEndedLines
+        (R.remaining reader.old) (R.remaining reader.new) (W.contents writer.old) (W.contents writer.new) }
 {
     let mut session = Session::new();
     let mut output = Buffer::new();

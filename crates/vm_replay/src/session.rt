@@ -1,49 +1,49 @@
 ghost use Rattle.std.specs.Prelude.{◌≡◌, ◌++◌, ◌∷◌, [], ◌+◌, ◌<◌, ℕ, List, length, Some};
 ghost use Rattle.vm_replay.specs.Machines.{start};
-ghost use Rattle.vm_replay.specs.Sessions.{Feed, Ends, asked_by, held_after, has_begun};
+ghost use Rattle.vm_replay.specs.Sessions.{Feed, Ends, asked_by, line_after, has_begun};
 
 use crate::buffer::{Buffer, CAPACITY};
-use crate::command::{Command, parse};
+use crate::command::{Command, LONGEST_LINE, parse};
 use crate::machine::Machine;
 use crate::reply::{LONGEST_REPLY, write_reply};
 use std::alloc::Global;
 use std::marker::Model;
-
-/// A longer line is not in the language.
-const LONGEST_LINE: usize = 120;
 
 /// What the lines so far have made, and the line that has begun.
 #[derive(Drop)]
 pub struct Session {
     machine: Machine,
     line: [u8; LONGEST_LINE],
-    length: usize,
+    filled: usize,
     is_too_long: bool,
 }
 
 impl Model for Session {
-    ghost use Rattle.std.specs.Prelude.{◌≤◌, Some, None, if◌then◌else◌, take};
+    ghost use Rattle.std.specs.Prelude.{◌≡◌, ◌≤◌, Some, None, if◌then◌else◌, length, take};
     ghost use Rattle.vm_replay.specs.Sessions.{Session, session_code};
-    ghost use Rattle.vm_replay.specs.declared.session.TheConstants.{LONGEST_LINE};
+    ghost use Rattle.vm_replay.specs.declared.command.TheConstants.{LONGEST_LINE};
 
     ghost Value = { Session };
 
     ghost coded = { session_code };
 
-    ghost view = { λ a. record { machine = a.machine; held = if a.is_too_long then None else Some (take a.length a.line) } };
+    ghost view = { λ a. record {
+      machine = a.machine;
+      line = if a.is_too_long then None else Some (take a.filled a.line);
+    } };
 
-    ghost invariant = { λ a. a.length ≤ LONGEST_LINE };
+    ghost invariant = { λ a. (a.filled ≤ LONGEST_LINE) × (length a.line ≡ LONGEST_LINE) };
 }
 
 impl Session {
     /// Before the first byte of the input.
     pub fn new() -> Session
-        ensures { result ≡ record { machine = start; held = Some [] } }
+        ensures { result ≡ record { machine = start; line = Some [] } }
     {
         Session {
             machine: Machine::new(),
             line: [0; LONGEST_LINE],
-            length: 0,
+            filled: 0,
             is_too_long: false,
         }
     }
@@ -56,7 +56,7 @@ impl Session {
         if byte == b'\n' {
             self.end_line(alloc, output);
         } else {
-            self.hold(byte);
+            self.push(byte);
         }
     }
 
@@ -69,29 +69,29 @@ impl Session {
         let reply = self.machine.answer(alloc, asked);
         write_reply(output, reply);
         output.push(b'\n');
-        self.length = 0;
+        self.filled = 0;
         self.is_too_long = false;
     }
 
     /// What the line that has begun asks.
     fn asked(&self) -> Option<Command>
-        ensures { result ≡ asked_by self.now.held }
+        ensures { result ≡ asked_by self.now.line }
     {
         if self.is_too_long {
             None
         } else {
-            parse(&self.line[..self.length])
+            parse(&self.line[..self.filled])
         }
     }
 
-    /// Holds one more byte of the line that has begun.
-    fn hold(&mut self, byte: u8)
+    /// Takes one more byte of the line that has begun.
+    fn push(&mut self, byte: u8)
         ensures machine { self.new.machine ≡ self.old.machine }
-        ensures held { self.new.held ≡ held_after self.old.held byte }
+        ensures line { self.new.line ≡ line_after self.old.line byte }
     {
-        if self.length < LONGEST_LINE {
-            self.line[self.length] = byte;
-            self.length += 1;
+        if self.filled < LONGEST_LINE {
+            self.line[self.filled] = byte;
+            self.filled += 1;
         } else {
             self.is_too_long = true;
         }
@@ -99,8 +99,8 @@ impl Session {
 
     /// Whether some of a line has come.
     pub fn has_begun(&self) -> bool
-        ensures { result ≡ has_begun self.now.held }
+        ensures { result ≡ has_begun self.now.line }
     {
-        self.is_too_long || !self.line[..self.length].is_empty()
+        self.is_too_long || self.filled > 0
     }
 }

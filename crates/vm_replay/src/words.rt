@@ -1,6 +1,7 @@
 ghost use Rattle.std.specs.Prelude.{◌≡◌, ◌≢◌, ◌==◌, ◌∷◌, [], MatchOption, length, position};
+ghost use Rattle.std.specs.Option.{option_copied};
 ghost use Rattle.vm_replay.specs.Numbers.{number_of, id_of};
-ghost use Rattle.vm_replay.specs.Words.{blank, words_of, one_in, two_in, three_in};
+ghost use Rattle.vm_replay.specs.Words.{blank, words_of, words_behind, one_in, two_in, three_in};
 
 use crate::number::{parse_id, parse_number};
 
@@ -14,7 +15,7 @@ fn space_at(text: &[u8]) -> Option<usize>
 /// The first word of a text, and what stands after the space behind it.
 #[tactic(auto, using(crate::proofs::Splitting::words_some, crate::proofs::Splitting::words_none))]
 pub fn first_word(text: &[u8]) -> (&[u8], Option<&[u8]>)
-    ensures { MatchOption result.1 (words_of text.now ≡ result.0.now ∷ []) (λ rest. words_of text.now ≡ result.0.now ∷ words_of rest.now) }
+    ensures { words_of text.now ≡ result.0.now ∷ words_behind (option_copied result.1) }
 {
     match space_at(text) {
         Some(end) => (&text[..end], Some(&text[end + 1..])),
@@ -36,7 +37,9 @@ fn one_word(text: &[u8]) -> Option<&[u8]>
 
 /// The words of a text, where they are two.
 fn two_words(text: &[u8]) -> Option<(&[u8], &[u8])>
-    ensures { MatchOption result (length (words_of text.now) ≢ 2) (λ words. words_of text.now ≡ words.0.now ∷ words.1.now ∷ []) }
+    ensures { MatchOption result
+        (length (words_of text.now) ≢ 2)
+        (λ words. words_of text.now ≡ words.0.now ∷ words.1.now ∷ []) }
 {
     let (first, rest) = first_word(text);
     Some((first, one_word(rest?)?))

@@ -1,22 +1,108 @@
 use super::*;
 use crate::allocation_engine::NodeState::Allocated;
+use crate::tests::made;
 use AllocPolicy::{ExactMatch, FirstMatch, LastMatch};
-use Call::{Allocate, Free};
+use Call::{Exact, First, Free, Last, Space};
+use Form::{Counted, Plain};
+use Want::{Held, NoAlignment, NoSize, NotAvailable, Overflow, Range, Unaligned, Underflow};
 use std::alloc::AllocError;
 use std::process::Abort;
 use std::test::Fail;
 
+mod without_memory;
+
 const MAX: u64 = u64::MAX;
+
+/// The greatest address that can be held.
+const LAST: u64 = MAX - 1;
 
 /// Half of all addresses.
 const HALF: u64 = 1 << 63;
 
-/// The allocator of a space. A second try stands for a run in which one request for memory is
-/// refused, here and below.
-fn made(alloc: Global, base: u64, size: u64) -> Result<AddressAllocator> {
-    match AddressAllocator::new(alloc, base, size) {
-        Err(Error::OutOfMemory) => AddressAllocator::new(alloc, base, size),
-        answer => answer,
+/// What is asked of an allocator.
+#[derive(Clone, Copy, Debug)]
+enum Call {
+    /// Another allocator in the place of this one: its base and its size.
+    Space(u64, u64),
+    /// A size and an alignment, for the least place.
+    First(u64, u64),
+    /// A size and an alignment, for the greatest place.
+    Last(u64, u64),
+    /// A size, an alignment and a start.
+    Exact(u64, u64, u64),
+    /// The first and the last address of what is given back.
+    Free(u64, u64),
+}
+
+/// The first and the last address of the space that is made, or of the range that is given out or
+/// given back.
+type Answer = Result<(u64, u64)>;
+
+/// The answer that a call has to have.
+#[derive(Clone, Copy, Debug)]
+enum Want {
+    /// The first and the last address of what is made, given out or given back.
+    Range(u64, u64),
+    /// A refusal, since exactly this range is held.
+    Held(u64, u64),
+    NotAvailable,
+    Overflow,
+    Underflow,
+    Unaligned,
+    NoAlignment,
+    NoSize,
+}
+
+impl Want {
+    fn answer(self) -> Answer {
+        match self {
+            Range(start, end) => Ok((start, end)),
+            Held(start, end) => {
+                let range = RangeInclusive::new(start, end)?;
+                Err(Error::InvalidStateTransition(range, Allocated))
+            }
+            NotAvailable => Err(Error::ResourceNotAvailable),
+            Overflow => Err(Error::Overflow),
+            Underflow => Err(Error::Underflow),
+            Unaligned => Err(Error::UnalignedAddress),
+            NoAlignment => Err(Error::InvalidAlignment),
+            NoSize => Err(Error::InvalidSize(0)),
+        }
+    }
+}
+
+/// Which of two calls that do the same.
+#[derive(Clone, Copy, Debug)]
+enum Form {
+    Plain,
+    Counted,
+}
+
+impl Call {
+    /// Does the call.
+    fn ask(self, space: &mut AddressAllocator, alloc: Global, form: Form) -> Answer {
+        let (size, alignment, policy) = match self {
+            Space(base, size) => {
+                *space = AddressAllocator::new(alloc, base, size)?;
+                return Ok((space.base(), space.end()));
+            }
+            Free(start, end) => {
+                let range = RangeInclusive::new(start, end)?;
+                match form {
+                    Plain => space.free(&range)?,
+                    Counted => space.free_counted(&range).0?,
+                }
+                return Ok((start, end));
+            }
+            First(size, alignment) => (size, alignment, FirstMatch),
+            Last(size, alignment) => (size, alignment, LastMatch),
+            Exact(size, alignment, start) => (size, alignment, ExactMatch(start)),
+        };
+        let range = match form {
+            Plain => space.allocate(alloc, size, alignment, policy)?,
+            Counted => space.allocate_counted(alloc, size, alignment, policy).0?,
+        };
+        Ok((range.start(), range.end()))
     }
 }
 
@@ -39,400 +125,248 @@ fn copied(rt: &impl Abort, space: &AddressAllocator, alloc: Global) -> AddressAl
     }
 }
 
-/// The answer to a request. Where memory ran out nothing has changed.
-fn ask(
-    rt: &(impl Abort + AllocGlobal),
-    space: &mut AddressAllocator,
-    size: u64,
-    alignment: u64,
-    policy: AllocPolicy,
-) -> Result<(u64, u64)> {
+/// The answer to a call. Where memory ran out nothing has changed.
+fn ask(rt: &(impl Abort + AllocGlobal), space: &mut AddressAllocator, call: Call) -> Answer {
     let before = copied(rt, space, rt.alloc());
-    let mut answer = space.allocate(rt.alloc(), size, alignment, policy);
-    if answer == Err(Error::OutOfMemory) {
-        assert_eq!(rt; space.address_space, before.address_space);
-        assert!(rt; space.interval_tree.is_same(&before.interval_tree));
-        answer = space.allocate(rt.alloc(), size, alignment, policy);
+    let answer = call.ask(space, rt.alloc(), Plain);
+    if answer != Err(Error::OutOfMemory) {
+        return answer;
     }
-    let range = answer?;
-    Ok((range.start(), range.end()))
+    assert_eq!(rt; space.address_space, before.address_space);
+    assert!(rt; space.interval_tree.is_same(&before.interval_tree));
+    call.ask(space, rt.alloc(), Plain)
 }
 
-fn first(
-    rt: &(impl Abort + AllocGlobal),
-    space: &mut AddressAllocator,
-    size: u64,
-    alignment: u64,
-) -> Result<(u64, u64)> {
-    ask(rt, space, size, alignment, FirstMatch)
-}
-
-fn free(space: &mut AddressAllocator, start: u64, end: u64) -> Result<()> {
-    space.free(&RangeInclusive::new(start, end)?)
-}
-
-/// A call, with the answer that it has to have.
-#[derive(Drop)]
-enum Call {
-    Allocate(u64, u64, AllocPolicy, Result<(u64, u64)>),
-    Free(u64, u64, Result<()>),
-}
-
-/// Does the calls in turn.
-fn replay(rt: &(impl Abort + AllocGlobal), space: &mut AddressAllocator, calls: &[Call]) {
-    for (number, call) in calls.iter().enumerate() {
-        let is_right = match call {
-            Allocate(size, alignment, policy, want) => {
-                ask(rt, space, *size, *alignment, *policy) == *want
-            }
-            Free(start, end, want) => free(space, *start, *end) == *want,
-        };
-        assert!(rt; is_right, "call {number}");
+/// Does the calls in turn, each with the answer that it has to have.
+fn replay(rt: &(impl Abort + AllocGlobal), space: &mut AddressAllocator, rows: &[(Call, Want)]) {
+    for (call, want) in rows {
+        assert_eq!(rt; ask(rt, space, *call), want.answer(), "{call:?}");
     }
 }
 
 #[test]
 fn test_new_fails_overflow(rt: HostRuntime) {
-    assert_eq!(rt; made(rt.alloc(), MAX, 0x100).err(), Some(Error::Overflow));
+    assert_eq!(rt;
+        AddressAllocator::new(rt.alloc(), MAX, 0x100).err(),
+        Some(Error::Overflow)
+    );
 }
 
 #[test]
 fn test_new_fails_size_zero(rt: HostRuntime) {
-    assert_eq!(rt; made(rt.alloc(), 0x1000, 0).err(), Some(Error::Underflow));
-}
-
-#[test]
-fn making_spaces(rt: HostRuntime) -> std::result::Result<(), Fail> {
-    for (base, size, end) in [
-        (1, MAX, MAX),
-        (0, MAX, MAX - 1),
-        (MAX, 1, MAX),
-        (0x10, 4, 0x13),
-    ] {
-        let space = made(rt.alloc(), base, size)?;
-        assert_eq!(rt; space.base(), base);
-        assert_eq!(rt; space.end(), end, "from {base}");
-    }
-    Ok(())
-}
-
-#[test]
-fn test_allocate_fails_alignment_zero(rt: HostRuntime) -> std::result::Result<(), Fail> {
-    let mut space = made(rt.alloc(), 0x1000, 0x10000)?;
-    let calls = [Allocate(0x100, 0, FirstMatch, Err(Error::InvalidAlignment))];
-    replay(&rt, &mut space, &calls);
-    Ok(())
-}
-
-#[test]
-fn test_allocate_fails_alignment_non_power_of_two(
-    rt: HostRuntime,
-) -> std::result::Result<(), Fail> {
-    let mut space = made(rt.alloc(), 0x1000, 0x10000)?;
-    let calls = [
-        Allocate(0x100, 200, FirstMatch, Err(Error::InvalidAlignment)),
-        Allocate(0, 200, FirstMatch, Err(Error::InvalidSize(0))),
-    ];
-    replay(&rt, &mut space, &calls);
-    Ok(())
-}
-
-#[test]
-fn test_allocate_with_alignment_first_ok(rt: HostRuntime) -> std::result::Result<(), Fail> {
-    let mut space = made(rt.alloc(), 0x1000, 0x1000)?;
-    let calls = [
-        Allocate(0x110, 0x100, FirstMatch, Ok((0x1000, 0x110F))),
-        Allocate(0x100, 0x100, FirstMatch, Ok((0x1200, 0x12FF))),
-        Allocate(0x10, 0x100, FirstMatch, Ok((0x1300, 0x130F))),
-    ];
-    replay(&rt, &mut space, &calls);
-    Ok(())
-}
-
-#[test]
-fn test_allow_range_size_one_left(rt: HostRuntime) -> std::result::Result<(), Fail> {
-    let mut space = made(rt.alloc(), 1, 1000)?;
-    let calls = [
-        Allocate(10, 2, FirstMatch, Ok((2, 11))),
-        Allocate(1, 1, FirstMatch, Ok((1, 1))),
-    ];
-    replay(&rt, &mut space, &calls);
-    Ok(())
-}
-
-#[test]
-fn test_tree_allocate_address_free_and_realloc(rt: HostRuntime) -> std::result::Result<(), Fail> {
-    let mut space = made(rt.alloc(), 0x1000, 0x1000)?;
-    let calls = [
-        Allocate(0x800, 0x100, FirstMatch, Ok((0x1000, 0x17FF))),
-        Free(0x1000, 0x17FF, Ok(())),
-        Allocate(0x800, 0x100, FirstMatch, Ok((0x1000, 0x17FF))),
-    ];
-    replay(&rt, &mut space, &calls);
-    Ok(())
-}
-
-#[test]
-fn slot_starting_at_one(rt: HostRuntime) -> std::result::Result<(), Fail> {
-    let mut space = made(rt.alloc(), 1, 0x10)?;
-    let calls = [
-        Allocate(4, 1, FirstMatch, Ok((1, 4))),
-        Free(1, 4, Ok(())),
-        Allocate(0x10, 1, FirstMatch, Ok((1, 0x10))),
-    ];
-    replay(&rt, &mut space, &calls);
-    Ok(())
-}
-
-#[test]
-fn freeing_parts(rt: HostRuntime) -> std::result::Result<(), Fail> {
-    let mut space = made(rt.alloc(), 0x10, 4)?;
-    let calls = [
-        Free(0x10, 0x13, Err(Error::ResourceNotAvailable)),
-        Allocate(4, 1, FirstMatch, Ok((0x10, 0x13))),
-        Free(0x10, 0x11, Err(Error::ResourceNotAvailable)),
-        Free(0x10, 0x13, Ok(())),
-        Free(0x10, 0x13, Err(Error::ResourceNotAvailable)),
-    ];
-    replay(&rt, &mut space, &calls);
-    Ok(())
-}
-
-#[test]
-fn ends_of_all_addresses(rt: HostRuntime) -> std::result::Result<(), Fail> {
-    let mut space = made(rt.alloc(), 1, MAX)?;
-    let calls = [
-        Allocate(MAX, 1, FirstMatch, Err(Error::Overflow)),
-        Allocate(MAX - 1, 1, FirstMatch, Ok((1, MAX - 1))),
-        Allocate(1, 1, FirstMatch, Err(Error::Overflow)),
-        Free(1, MAX - 1, Ok(())),
-        Allocate(1, HALF, FirstMatch, Ok((HALF, HALF))),
-        Allocate(1, HALF, FirstMatch, Err(Error::ResourceNotAvailable)),
-    ];
-    replay(&rt, &mut space, &calls);
-    Ok(())
-}
-
-#[test]
-fn joins_what_is_given_back(rt: HostRuntime) -> std::result::Result<(), Fail> {
-    for order in [[0, 1, 2, 3, 4, 5], [5, 4, 3, 2, 1, 0], [1, 3, 5, 0, 2, 4]] {
-        let mut space = made(rt.alloc(), 0, 6)?;
-        for i in 0..6u64 {
-            assert_eq!(rt; first(&rt, &mut space, 1, 1), Ok((i, i)));
-        }
-        assert_eq!(rt;
-            first(&rt, &mut space, 1, 1),
-            Err(Error::ResourceNotAvailable)
-        );
-        for i in order {
-            assert_eq!(rt; free(&mut space, i, i), Ok(()));
-        }
-        let fresh = made(rt.alloc(), 0, 6)?;
-        assert!(rt; space.interval_tree.is_same(&fresh.interval_tree));
-        assert_eq!(rt; first(&rt, &mut space, 6, 1), Ok((0, 5)));
-    }
-    Ok(())
-}
-
-#[test]
-fn test_allocate_with_alignment_last_ok(rt: HostRuntime) -> std::result::Result<(), Fail> {
-    let mut space = made(rt.alloc(), 0x1000, 0x10000)?;
-    let calls = [
-        Allocate(0x110, 0x100, LastMatch, Ok((0x10E00, 0x10F0F))),
-        Allocate(0x100, 0x100, LastMatch, Ok((0x10D00, 0x10DFF))),
-        Allocate(0x10, 0x100, LastMatch, Ok((0x10C00, 0x10C0F))),
-    ];
-    replay(&rt, &mut space, &calls);
-    Ok(())
-}
-
-#[test]
-fn test_allocate_fails_not_enough_space(rt: HostRuntime) -> std::result::Result<(), Fail> {
-    let mut space = made(rt.alloc(), 0x1000, 0x1000)?;
-    let calls = [
-        Allocate(0x800, 0x100, LastMatch, Ok((0x1800, 0x1FFF))),
-        Allocate(0x900, 0x100, FirstMatch, Err(Error::ResourceNotAvailable)),
-        Allocate(0x400, 0x100, FirstMatch, Ok((0x1000, 0x13FF))),
-    ];
-    replay(&rt, &mut space, &calls);
-    Ok(())
-}
-
-#[test]
-fn test_allocate_address_not_enough_space(rt: HostRuntime) -> std::result::Result<(), Fail> {
-    let mut space = made(rt.alloc(), 0x1000, 0x1000)?;
-    let calls = [
-        Allocate(0x800, 0x100, FirstMatch, Ok((0x1000, 0x17FF))),
-        Allocate(0x200, 0x100, ExactMatch(0x1A00), Ok((0x1A00, 0x1BFF))),
-        Allocate(
-            0x800,
-            0x100,
-            ExactMatch(0x1800),
-            Err(Error::ResourceNotAvailable),
-        ),
-        Allocate(0x100, 0x100, ExactMatch(0x1800), Ok((0x1800, 0x18FF))),
-    ];
-    replay(&rt, &mut space, &calls);
-    Ok(())
-}
-
-#[test]
-fn test_allocate_address_fail_free_and_realloc(rt: HostRuntime) -> std::result::Result<(), Fail> {
-    let mut space = made(rt.alloc(), 0, 0x1000)?;
-    let calls = [
-        Allocate(0x2000, 0x100, FirstMatch, Err(Error::ResourceNotAvailable)),
-        Free(0x1200, 0x3200, Err(Error::ResourceNotAvailable)),
-        Allocate(0x4FE, 0x100, ExactMatch(0x500), Ok((0x500, 0x9FD))),
-        Free(0x500, 0x9FD, Ok(())),
-    ];
-    replay(&rt, &mut space, &calls);
-    Ok(())
-}
-
-#[test]
-fn test_regression_exact_match_length_check(rt: HostRuntime) -> std::result::Result<(), Fail> {
-    let mut space = made(rt.alloc(), 0, 0x2000)?;
-    let calls = [
-        Allocate(0x1000, 0x1000, ExactMatch(0x1000), Ok((0x1000, 0x1FFF))),
-        Allocate(0, 0x1000, FirstMatch, Err(Error::InvalidSize(0))),
-        Allocate(0x1000, 0x1000, ExactMatch(3), Err(Error::UnalignedAddress)),
-        Allocate(0x1000, 0x1000, ExactMatch(0), Ok((0, 0xFFF))),
-    ];
-    replay(&rt, &mut space, &calls);
-    Ok(())
-}
-
-#[test]
-fn last_fills_space(rt: HostRuntime) -> std::result::Result<(), Fail> {
-    let mut space = made(rt.alloc(), 0, 0x1000)?;
-    let calls = [Allocate(0x1000, 1, LastMatch, Ok((0, 0xFFF)))];
-    replay(&rt, &mut space, &calls);
-    Ok(())
-}
-
-#[test]
-fn exact_inside_held(rt: HostRuntime) -> std::result::Result<(), Fail> {
-    let mut space = made(rt.alloc(), 0x1000, 0x1000)?;
-    let calls = [
-        Allocate(0x800, 0x100, FirstMatch, Ok((0x1000, 0x17FF))),
-        Allocate(
-            0x100,
-            0x100,
-            ExactMatch(0x1000),
-            Err(Error::ResourceNotAvailable),
-        ),
-    ];
-    replay(&rt, &mut space, &calls);
-    Ok(())
-}
-
-fn is_held(start: u64, end: u64) -> Error {
-    match RangeInclusive::new(start, end) {
-        Ok(range) => Error::InvalidStateTransition(range, Allocated),
-        Err(error) => error,
-    }
-}
-
-#[test]
-fn exact_match(rt: HostRuntime) -> std::result::Result<(), Fail> {
-    let mut space = made(rt.alloc(), 0x1000, 0x1000)?;
-    let calls = [
-        Allocate(0x100, 0x100, ExactMatch(0x1000), Ok((0x1000, 0x10FF))),
-        Allocate(
-            0x100,
-            0x100,
-            ExactMatch(0x1000),
-            Err(is_held(0x1000, 0x10FF)),
-        ),
-        Allocate(
-            0x80,
-            0x80,
-            ExactMatch(0x1080),
-            Err(Error::ResourceNotAvailable),
-        ),
-        Allocate(
-            0x100,
-            1,
-            ExactMatch(0x800),
-            Err(Error::ResourceNotAvailable),
-        ),
-        Allocate(
-            0x900,
-            1,
-            ExactMatch(0x1800),
-            Err(Error::ResourceNotAvailable),
-        ),
-        Allocate(MAX, 1, ExactMatch(0x1800), Err(Error::Overflow)),
-        Allocate(1, 1, ExactMatch(MAX), Err(Error::Overflow)),
-        Allocate(1, 1, ExactMatch(0x1FFF), Ok((0x1FFF, 0x1FFF))),
-        Allocate(1, 1, ExactMatch(0x1FFF), Err(is_held(0x1FFF, 0x1FFF))),
-    ];
-    replay(&rt, &mut space, &calls);
-    Ok(())
-}
-
-#[test]
-fn space_ending_at_max(rt: HostRuntime) -> std::result::Result<(), Fail> {
-    let mut space = made(rt.alloc(), 1, MAX)?;
-    let calls = [
-        Allocate(1, 1, LastMatch, Err(Error::Overflow)),
-        Allocate(1, 2, LastMatch, Ok((MAX - 1, MAX - 1))),
-        Free(MAX - 1, MAX - 1, Ok(())),
-        Allocate(MAX, 1, FirstMatch, Err(Error::Overflow)),
-        Allocate(MAX - 1, 1, FirstMatch, Ok((1, MAX - 1))),
-    ];
-    replay(&rt, &mut space, &calls);
-    Ok(())
-}
-
-#[test]
-fn half_space_alignment(rt: HostRuntime) -> std::result::Result<(), Fail> {
-    let mut space = made(rt.alloc(), 1, MAX)?;
-    let calls = [
-        Allocate(1, HALF, FirstMatch, Ok((HALF, HALF))),
-        Allocate(1, HALF, FirstMatch, Err(Error::ResourceNotAvailable)),
-        Free(HALF, HALF, Ok(())),
-        Allocate(HALF, HALF, ExactMatch(HALF), Err(Error::Overflow)),
-        Allocate(HALF, HALF, FirstMatch, Err(Error::Overflow)),
-    ];
-    replay(&rt, &mut space, &calls);
-    Ok(())
-}
-
-#[test]
-fn two_boxes_for_a_split(rt: HostRuntime) -> std::result::Result<(), Fail> {
-    let mut space = made(rt.alloc(), 0, 0x1000)?;
     assert_eq!(rt;
-        ask(&rt, &mut space, 0x100, 0x100, ExactMatch(0x500)),
-        Ok((0x500, 0x5FF))
+        AddressAllocator::new(rt.alloc(), 0x1000, 0).err(),
+        Some(Error::Underflow)
     );
-    assert_eq!(rt; space.interval_tree.height(), 2);
-    Ok(())
 }
 
 #[test]
-fn six_single_addresses(rt: HostRuntime) -> std::result::Result<(), Fail> {
-    let mut space = made(rt.alloc(), 0, 6)?;
-    for i in [3, 0, 5, 1, 4, 2] {
-        assert_eq!(rt; ask(&rt, &mut space, 1, 1, ExactMatch(i)), Ok((i, i)));
-    }
-    for policy in [FirstMatch, LastMatch, ExactMatch(6)] {
-        assert_eq!(rt;
-            ask(&rt, &mut space, 1, 1, policy),
-            Err(Error::ResourceNotAvailable)
-        );
-    }
-    Ok(())
+fn test_allocate_fails_alignment_zero(rt: HostRuntime) {
+    let mut space = made(&rt, 0x1000, 0x10000);
+    let rows = [(First(0x100, 0), NoAlignment)];
+    replay(&rt, &mut space, &rows);
 }
 
 #[test]
-fn height_of_one_block(rt: HostRuntime) -> std::result::Result<(), Fail> {
-    let mut space = made(rt.alloc(), 0, 0x1000)?;
+fn test_allocate_fails_alignment_non_power_of_two(rt: HostRuntime) {
+    let mut space = made(&rt, 0x1000, 0x10000);
+    let rows = [(First(0x100, 200), NoAlignment)];
+    replay(&rt, &mut space, &rows);
+}
+
+#[test]
+fn test_allocate_with_alignment_first_ok(rt: HostRuntime) {
+    let mut space = made(&rt, 0x1000, 0x1000);
+    let rows = [
+        (First(0x110, 0x100), Range(0x1000, 0x110F)),
+        (First(0x100, 0x100), Range(0x1200, 0x12FF)),
+        (First(0x10, 0x100), Range(0x1300, 0x130F)),
+    ];
+    replay(&rt, &mut space, &rows);
+}
+
+#[test]
+fn test_allocate_with_alignment_last_ok(rt: HostRuntime) {
+    let mut space = made(&rt, 0x1000, 0x10000);
+    let rows = [
+        (Last(0x110, 0x100), Range(0x10E00, 0x10F0F)),
+        (Last(0x100, 0x100), Range(0x10D00, 0x10DFF)),
+        (Last(0x10, 0x100), Range(0x10C00, 0x10C0F)),
+    ];
+    replay(&rt, &mut space, &rows);
+}
+
+#[test]
+fn test_allow_range_size_one_left(rt: HostRuntime) {
+    let mut space = made(&rt, 1, 1000);
+    let rows = [(First(10, 2), Range(2, 11)), (First(1, 1), Range(1, 1))];
+    replay(&rt, &mut space, &rows);
+}
+
+#[test]
+fn test_tree_allocate_address_free_and_realloc(rt: HostRuntime) {
+    let mut space = made(&rt, 0x1000, 0x1000);
+    let rows = [
+        (First(0x800, 0x100), Range(0x1000, 0x17FF)),
+        (Free(0x1000, 0x17FF), Range(0x1000, 0x17FF)),
+        (First(0x800, 0x100), Range(0x1000, 0x17FF)),
+    ];
+    replay(&rt, &mut space, &rows);
+}
+
+#[test]
+fn test_allocate_fails_not_enough_space(rt: HostRuntime) {
+    let mut space = made(&rt, 0x1000, 0x1000);
+    let rows = [
+        (Last(0x800, 0x100), Range(0x1800, 0x1FFF)),
+        (First(0x900, 0x100), NotAvailable),
+        (First(0x400, 0x100), Range(0x1000, 0x13FF)),
+    ];
+    replay(&rt, &mut space, &rows);
+}
+
+#[test]
+fn test_allocate_address_not_enough_space(rt: HostRuntime) {
+    let mut space = made(&rt, 0x1000, 0x1000);
+    let rows = [
+        (First(0x800, 0x100), Range(0x1000, 0x17FF)),
+        (Exact(0x200, 0x100, 0x1A00), Range(0x1A00, 0x1BFF)),
+        (Exact(0x800, 0x100, 0x1800), NotAvailable),
+        (Exact(0x100, 0x100, 0x1800), Range(0x1800, 0x18FF)),
+    ];
+    replay(&rt, &mut space, &rows);
+}
+
+#[test]
+fn test_allocate_address_fail_free_and_realloc(rt: HostRuntime) {
+    let mut space = made(&rt, 0, 0x1000);
+    let rows = [
+        (First(0x2000, 0x100), NotAvailable),
+        (Free(0x1200, 0x3200), NotAvailable),
+        (Exact(0x4FE, 0x100, 0x500), Range(0x500, 0x9FD)),
+        (Free(0x500, 0x9FD), Range(0x500, 0x9FD)),
+    ];
+    replay(&rt, &mut space, &rows);
+}
+
+#[test]
+fn test_regression_exact_match_length_check(rt: HostRuntime) {
+    let mut space = made(&rt, 0, 0x2000);
+    let rows = [
+        (Exact(0x1000, 0x1000, 0x1000), Range(0x1000, 0x1FFF)),
+        (First(0, 0x1000), NoSize),
+        (Exact(0x1000, 0x1000, 3), Unaligned),
+        (Exact(0x1000, 0x1000, 0), Range(0, 0xFFF)),
+    ];
+    replay(&rt, &mut space, &rows);
+}
+
+#[test]
+fn answers_of_calls(rt: HostRuntime) {
+    let mut space = made(&rt, 0, 6);
+    let rows = [
+        // Each address on its own.
+        (Exact(1, 1, 3), Range(3, 3)),
+        (Exact(1, 1, 0), Range(0, 0)),
+        (Exact(1, 1, 5), Range(5, 5)),
+        (Exact(1, 1, 1), Range(1, 1)),
+        (Exact(1, 1, 4), Range(4, 4)),
+        (Exact(1, 1, 2), Range(2, 2)),
+        (First(1, 1), NotAvailable),
+        (Last(1, 1), NotAvailable),
+        // The whole space.
+        (Space(0, 0x1000), Range(0, 0xFFF)),
+        (Last(0x1000, 1), Range(0, 0xFFF)),
+        // What is given back is clear again, and nothing else can be given back.
+        (Space(1, 0x10), Range(1, 0x10)),
+        (First(4, 1), Range(1, 4)),
+        (Free(1, 4), Range(1, 4)),
+        (First(0x10, 1), Range(1, 0x10)),
+        (Space(0x10, 4), Range(0x10, 0x13)),
+        (Free(0x10, 0x13), NotAvailable),
+        (First(4, 1), Range(0x10, 0x13)),
+        (Free(0x10, 0x11), NotAvailable),
+        (Free(0x10, 0x13), Range(0x10, 0x13)),
+        (Free(0x10, 0x13), NotAvailable),
+    ];
+    replay(&rt, &mut space, &rows);
+}
+
+#[test]
+fn answers_for_one_start(rt: HostRuntime) {
+    let mut space = made(&rt, 0x1000, 0x1000);
+    let rows = [
+        (Exact(0x100, 0x100, 0x1000), Range(0x1000, 0x10FF)),
+        (Exact(0x100, 0x100, 0x1000), Held(0x1000, 0x10FF)),
+        (Exact(0x80, 0x80, 0x1080), NotAvailable),
+        (Exact(0x100, 1, 0x800), NotAvailable),
+        (Exact(0x900, 1, 0x1800), NotAvailable),
+        (Exact(MAX, 1, 0x1800), Overflow),
+        (Exact(1, 1, MAX), Overflow),
+        (Exact(1, 1, 0x1FFF), Range(0x1FFF, 0x1FFF)),
+        (Exact(1, 1, 0x1FFF), Held(0x1FFF, 0x1FFF)),
+        (Space(0x1000, 0x1000), Range(0x1000, 0x1FFF)),
+        (First(0x800, 0x100), Range(0x1000, 0x17FF)),
+        (Exact(0x100, 0x100, 0x1000), NotAvailable),
+    ];
+    replay(&rt, &mut space, &rows);
+}
+
+#[test]
+fn ends_of_all_addresses(rt: HostRuntime) {
+    let mut space = made(&rt, 1, MAX);
+    let rows = [
+        (Last(1, 1), Overflow),
+        (Last(1, 2), Range(LAST, LAST)),
+        (Free(LAST, LAST), Range(LAST, LAST)),
+        (First(MAX, 1), Overflow),
+        (First(LAST, 1), Range(1, LAST)),
+        (First(1, 1), Overflow),
+        (Free(1, LAST), Range(1, LAST)),
+        (First(1, HALF), Range(HALF, HALF)),
+        (First(1, HALF), NotAvailable),
+        (Free(HALF, HALF), Range(HALF, HALF)),
+        (Exact(HALF, HALF, HALF), Overflow),
+        (First(HALF, HALF), Overflow),
+        (Space(1, MAX), Range(1, MAX)),
+        (Space(0, MAX), Range(0, LAST)),
+        (Space(MAX, 1), Range(MAX, MAX)),
+        (Space(MAX, 2), Overflow),
+        (Space(1, 0), Underflow),
+        (First(1, 1), Overflow),
+    ];
+    replay(&rt, &mut space, &rows);
+}
+
+#[test]
+fn small_trees(rt: HostRuntime) {
+    let mut space = made(&rt, 0, 0x1000);
     assert_eq!(rt; space.height(), 1);
     let (answer, count) = space.allocate_counted(rt.alloc(), 0, 1, FirstMatch);
-    assert_eq!(rt; answer, Err(Error::InvalidSize(0)));
-    assert_eq!(rt; count, 0);
-    Ok(())
+    assert_eq!(rt; (answer, count), (Err(Error::InvalidSize(0)), 0));
+    let rows = [(Exact(0x100, 0x100, 0x500), Range(0x500, 0x5FF))];
+    replay(&rt, &mut space, &rows);
+    assert_eq!(rt; space.height(), 2);
+    assert_eq!(rt; space.interval_tree.block_count(), 3);
+}
+
+#[test]
+fn joins_what_is_given_back(rt: HostRuntime) {
+    for order in [[0, 1, 2, 3, 4, 5], [5, 4, 3, 2, 1, 0], [1, 3, 5, 0, 2, 4]] {
+        let mut space = made(&rt, 0, 6);
+        for i in 0..6u64 {
+            replay(&rt, &mut space, &[(First(1, 1), Range(i, i))]);
+        }
+        replay(&rt, &mut space, &[(First(1, 1), NotAvailable)]);
+        for i in order {
+            replay(&rt, &mut space, &[(Free(i, i), Range(i, i))]);
+        }
+        let fresh = made(&rt, 0, 6);
+        assert!(rt;
+            space.interval_tree.is_same(&fresh.interval_tree),
+            "{order:?}"
+        );
+    }
 }
 
 /// The number at `n` of the sequence 0, 1, 1, 2, 3, 5, .. of Fibonacci.
@@ -479,7 +413,7 @@ fn take_first_counted(
 
 #[test]
 fn balanced_and_counted(rt: HostRuntime) -> std::result::Result<(), Fail> {
-    let mut space = made(rt.alloc(), 0, 2047)?;
+    let mut space = made(&rt, 0, 2047);
     for i in 0..2047 {
         assert_eq!(rt; take_first_counted(&rt, &mut space, i), Ok(i));
         assert!(rt; is_low(&space, i + 1), "after {i} is taken");

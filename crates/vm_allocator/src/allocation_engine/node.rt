@@ -1,27 +1,26 @@
-//! A balanced search tree of blocks. Each function here that calls itself counts the nodes that it
-//! enters: `count` rises by one for each.
-ghost use Rattle.std.specs.Prelude.{◌≡◌, ◌+◌, ◌*◌, ◌<◌, ◌≤◌, ◌^◌, ◌++◌, [], ◌∷◌, ◌↔◌, max, Some, None, MatchOption, IsSome, IsNone, IfOk, IfErr, OnOk};
+//! A balanced search tree of blocks. Each function in here that calls itself counts the nodes that
+//! it enters: `count` rises by one for each, in `enter` alone.
+ghost use Rattle.std.specs.Prelude.{◌≡◌, ◌+◌, ◌<◌, ◌≤◌, ◌↔◌, IsNone};
 ghost use Rattle.vm_allocator.specs.Range.{MAX};
-ghost use Rattle.vm_allocator.specs.BlockList.{IsOrderedFrom, IsClearOf, insert_block, replace_block, find_key, find_superset};
-ghost use Rattle.vm_allocator.specs.Shape.{Shape, Tip, Fork, blocks, height_of, single, root_block, IsTree, DifferByAtMost, IsSameIfNot, LeavesIfAbsent, first_met};
+ghost use Rattle.vm_allocator.specs.Shape.{Tip, height_of, single, root_block, IsTree};
 ghost use Rattle.vm_allocator.specs.NodeFields.{side};
-ghost use Rattle.vm_allocator.specs.NodeAnswer.{TellsOverlap, RefusesKey, Marks};
 
 mod balance;
 pub(crate) mod carve;
+mod find;
 mod laws;
+mod link;
 pub(crate) mod neighbours;
 pub(crate) mod places;
+pub(crate) mod remove;
+pub(crate) mod rewrite;
+mod search_tree;
 #[cfg(test)]
 mod tests;
 pub(crate) mod walks;
 
 use crate::allocation_engine::NodeState;
-use crate::error::{Error, Result};
 use crate::range::RangeInclusive;
-use balance::{balance, rebalance, refresh, strip};
-use std::alloc::Global;
-use std::cmp::Ordering;
 use std::marker::Model;
 
 /// A node of the tree, with the tree below it: keys in order without an address in common, the
@@ -34,6 +33,9 @@ pub(crate) struct InnerNode {
     right: Option<Box<InnerNode>>,
     height: u64,
 }
+
+/// A place for a child.
+pub(crate) type Child = Option<Box<InnerNode>>;
 
 impl Model for InnerNode {
     ghost use Rattle.vm_allocator.specs.Shape.{Shape, shape_code, node_count};
@@ -86,6 +88,18 @@ impl InnerNode {
         self.node_state
     }
 
+    /// Counts this node as entered.
+    #[inline(always)]
+    fn enter(&self, count: &mut u64)
+        requires { count.old + height_of self.now ≤ MAX }
+        ensures count { count.new ≡ count.old + 1 }
+        ensures some { 0 < height_of self.now }
+        ensures tree { IsTree self.now }
+    {
+        let _ = &self.height;
+        *count += 1;
+    }
+
     /// How many nodes the longest way down from here has.
     pub(crate) fn height(&self) -> u64
         ensures value { result ≡ height_of self.now }
@@ -98,7 +112,7 @@ impl InnerNode {
 
 /// The height of a child, 0 where it is absent.
 #[inline(always)]
-pub(crate) fn height(child: &Option<Box<InnerNode>>) -> u64
+pub(crate) fn height(child: &Child) -> u64
     ensures value { result ≡ height_of (side child.now) }
     ensures tree { IsTree (side child.now) }
     ensures absent { IsNone child.now ↔ (side child.now ≡ Tip) }
@@ -106,450 +120,5 @@ pub(crate) fn height(child: &Option<Box<InnerNode>>) -> u64
     match child {
         None => 0,
         Some(node) => node.height,
-    }
-}
-
-/// Adds a leaf below the node at a place; says whether the height there changed.
-#[tactic(auto, using(crate::proofs::BlockOrder::links, crate::proofs::SideChange::places))]
-pub(crate) fn link_at(
-    at: &mut Option<Box<InnerNode>>,
-    leaf: Box<InnerNode>,
-    count: &mut u64,
-) -> bool
-    requires some { IsSome at.old }
-    requires leaf { leaf.value ≡ single (root_block leaf.value) }
-    requires clear { IsClearOf (root_block leaf.value).key (blocks (side at.old)) }
-    requires height { height_of (side at.old) ≤ 48 }
-    requires count_fits { count.old + height_of (side at.old) ≤ MAX }
-    ensures some { IsSome at.new }
-    ensures blocks { blocks (side at.new) ≡ insert_block (root_block leaf.value) (blocks (side at.old)) }
-    ensures tree { IsTree (side at.new) }
-    ensures not_lower { height_of (side at.old) ≤ height_of (side at.new) }
-    ensures at_most_one_higher { height_of (side at.new) ≤ height_of (side at.old) + 1 }
-    ensures same { IsSameIfNot result (height_of (side at.old)) (height_of (side at.new)) }
-    ensures entered { count.old + 1 ≤ count.new }
-    ensures steps { count.new ≤ count.old + height_of (side at.old) }
-    ensures half { 2 * count.old + height_of (side at.old) ≤ 2 * count.new }
-{
-    let Some(tree) = at else { unreachable!() };
-    let tree: &mut InnerNode = tree;
-    let _ = &tree.height;
-    *count += 1;
-    if leaf.key().starts_before(&tree.key) {
-        if tree.left.is_none() {
-            tree.left = Some(leaf);
-            return refresh(&tree.left, &tree.right, &mut tree.height);
-        }
-        if !link_at(&mut tree.left, leaf, count) {
-            return false;
-        }
-        if height(&tree.left) <= height(&tree.right) + 1 {
-            return refresh(&tree.left, &tree.right, &mut tree.height);
-        }
-        let (left, right) = strip(&mut tree.left, &mut tree.right, &mut tree.height);
-        rebalance(at, left, right);
-        return true;
-    }
-    if tree.right.is_none() {
-        tree.right = Some(leaf);
-        return refresh(&tree.left, &tree.right, &mut tree.height);
-    }
-    if !link_at(&mut tree.right, leaf, count) {
-        return false;
-    }
-    if height(&tree.right) <= height(&tree.left) + 1 {
-        return refresh(&tree.left, &tree.right, &mut tree.height);
-    }
-    let (left, right) = strip(&mut tree.left, &mut tree.right, &mut tree.height);
-    rebalance(at, left, right);
-    true
-}
-
-/// Takes the node with the least key out from below the node at a place; says whether the height
-/// there changed.
-#[tactic(auto, using(crate::proofs::Replacement::leasts, crate::proofs::SideChange::takes))]
-fn take_least_at(at: &mut Option<Box<InnerNode>>, count: &mut u64) -> (Box<InnerNode>, bool)
-    requires some { IsSome at.old }
-    requires count_fits { count.old + height_of (side at.old) ≤ MAX }
-    ensures blocks { blocks (side at.old) ≡ root_block result.0.value ∷ blocks (side at.new) }
-    ensures leaf { result.0.value ≡ single (root_block result.0.value) }
-    ensures tree { IsTree (side at.new) }
-    ensures not_higher { height_of (side at.new) ≤ height_of (side at.old) }
-    ensures at_most_one_lower { height_of (side at.old) ≤ height_of (side at.new) + 1 }
-    ensures same { IsSameIfNot result.1 (height_of (side at.old)) (height_of (side at.new)) }
-    ensures entered { count.old + 1 ≤ count.new }
-    ensures steps { count.new ≤ count.old + height_of (side at.old) }
-{
-    let Some(tree) = at else { unreachable!() };
-    let tree: &mut InnerNode = tree;
-    let _ = &tree.height;
-    *count += 1;
-    if tree.left.is_none() {
-        let (_, right) = strip(&mut tree.left, &mut tree.right, &mut tree.height);
-        let _ = height(&right);
-        let Some(least) = at.take() else {
-            unreachable!()
-        };
-        *at = right;
-        return (least, true);
-    }
-    let (least, changed) = take_least_at(&mut tree.left, count);
-    if !changed {
-        return (least, false);
-    }
-    if height(&tree.right) <= height(&tree.left) + 1 {
-        let changed = refresh(&tree.left, &tree.right, &mut tree.height);
-        return (least, changed);
-    }
-    let (left, right) = strip(&mut tree.left, &mut tree.right, &mut tree.height);
-    rebalance(at, left, right);
-    (least, true)
-}
-
-/// What is left of a tree without its root, from the root's children: the other child where one is
-/// absent, and else both below the least node of the right one.
-#[tactic(auto, using(crate::proofs::Replacement::leasts, crate::proofs::SideChange::takes))]
-fn join(
-    left: Option<Box<InnerNode>>,
-    mut right: Option<Box<InnerNode>>,
-    count: &mut u64,
-) -> Option<Box<InnerNode>>
-    requires ordered { IsOrderedFrom 0 (blocks (side left) ++ blocks (side right)) }
-    requires close { DifferByAtMost 1 (height_of (side left)) (height_of (side right)) }
-    requires height_fits { max (height_of (side left)) (height_of (side right)) + 1 < 2 ^ 64 }
-    requires count_fits { count.old + height_of (side right) ≤ MAX }
-    ensures tree { IsTree (side result) }
-    ensures blocks { blocks (side result) ≡ blocks (side left) ++ blocks (side right) }
-    ensures only_left { side right ≡ Tip → side result ≡ side left }
-    ensures only_right { side left ≡ Tip → side result ≡ side right }
-    ensures not_lower { max (height_of (side left)) (height_of (side right)) ≤ height_of (side result) }
-    ensures at_most_one_higher { height_of (side result) ≤ max (height_of (side left)) (height_of (side right)) + 1 }
-    ensures entered { count.old ≤ count.new }
-    ensures steps { count.new ≤ count.old + height_of (side right) }
-{
-    let _ = (height(&left), height(&right));
-    if right.is_none() {
-        return left;
-    }
-    if left.is_none() {
-        return right;
-    }
-    let (least, _) = take_least_at(&mut right, count);
-    Some(balance(left, least, right))
-}
-
-/// Removes the node with a key from below the node at a place, if there is one; says whether the
-/// height there changed.
-#[tactic(auto, using(crate::proofs::Replacement::removals, crate::proofs::Replacement::leavings, crate::proofs::SideChange::takes))]
-pub(crate) fn delete_at(
-    at: &mut Option<Box<InnerNode>>,
-    key: &RangeInclusive,
-    count: &mut u64,
-) -> bool
-    requires some { IsSome at.old }
-    requires count_fits { count.old + height_of (side at.old) ≤ MAX }
-    ensures blocks { blocks (side at.new) ≡ replace_block key.now [] (blocks (side at.old)) }
-    ensures absent { LeavesIfAbsent key.now result (side at.old) (side at.new) }
-    ensures tree { IsTree (side at.new) }
-    ensures not_higher { height_of (side at.new) ≤ height_of (side at.old) }
-    ensures at_most_one_lower { height_of (side at.old) ≤ height_of (side at.new) + 1 }
-    ensures same { IsSameIfNot result (height_of (side at.old)) (height_of (side at.new)) }
-    ensures entered { count.old + 1 ≤ count.new }
-    ensures steps { count.new ≤ count.old + height_of (side at.old) }
-{
-    let Some(tree) = at else { unreachable!() };
-    let tree: &mut InnerNode = tree;
-    let _ = &tree.height;
-    *count += 1;
-    match tree.key.order(key) {
-        Ordering::Equal => {
-            let (left, right) = strip(&mut tree.left, &mut tree.right, &mut tree.height);
-            *at = join(left, right, count);
-            true
-        }
-        Ordering::Greater => {
-            if tree.left.is_none() || !delete_at(&mut tree.left, key, count) {
-                return false;
-            }
-            if height(&tree.right) <= height(&tree.left) + 1 {
-                return refresh(&tree.left, &tree.right, &mut tree.height);
-            }
-            let (left, right) = strip(&mut tree.left, &mut tree.right, &mut tree.height);
-            rebalance(at, left, right);
-            true
-        }
-        Ordering::Less => {
-            if tree.right.is_none() || !delete_at(&mut tree.right, key, count) {
-                return false;
-            }
-            if height(&tree.left) <= height(&tree.right) + 1 {
-                return refresh(&tree.left, &tree.right, &mut tree.height);
-            }
-            let (left, right) = strip(&mut tree.left, &mut tree.right, &mut tree.height);
-            rebalance(at, left, right);
-            true
-        }
-    }
-}
-
-impl InnerNode {
-    /// The tree with one more leaf, whose key overlaps none of the tree's. It takes no memory.
-    pub(crate) fn link(
-        tree: Box<InnerNode>,
-        leaf: Box<InnerNode>,
-        count: &mut u64,
-    ) -> Box<InnerNode>
-        requires leaf { leaf.value ≡ single (root_block leaf.value) }
-        requires clear { IsClearOf (root_block leaf.value).key (blocks tree.value) }
-        requires height { height_of tree.value ≤ 48 }
-        requires count_fits { count.old + height_of tree.value ≤ MAX }
-        ensures blocks { blocks result.value ≡ insert_block (root_block leaf.value) (blocks tree.value) }
-        ensures tree { IsTree result.value }
-        ensures not_lower { height_of tree.value ≤ height_of result.value }
-        ensures at_most_one_higher { height_of result.value ≤ height_of tree.value + 1 }
-        ensures entered { count.old + 1 ≤ count.new }
-        ensures steps { count.new ≤ count.old + height_of tree.value }
-        ensures half { 2 * count.old + height_of tree.value ≤ 2 * count.new }
-    {
-        let mut at = Some(tree);
-        let _ = link_at(&mut at, leaf, count);
-        let Some(tree) = at else { unreachable!() };
-        tree
-    }
-
-    /// The tree with one more key. A key that overlaps is refused by `Overlap` of it with the first
-    /// key met on the way down, and only then may memory run out, `OutOfMemory`. A refusal hands the
-    /// same tree back.
-    #[tactic(auto, unfolding(crate::specs::NodeAnswer::TellsOverlap, crate::specs::NodeAnswer::RefusesKey))]
-    pub(crate) fn insert(
-        tree: Box<InnerNode>,
-        alloc: Global,
-        key: RangeInclusive,
-        node_state: NodeState,
-        count: &mut u64,
-    ) -> std::result::Result<Box<InnerNode>, (Error, Box<InnerNode>)>
-        requires height { height_of tree.value ≤ 48 }
-        requires count_fits { count.old + 2 * height_of tree.value ≤ MAX }
-        ensures clear { OnOk result (IsClearOf key (blocks tree.value)) }
-        ensures inserted { IfOk result (λ t. blocks t.value ≡ insert_block (record { key = key; state = node_state }) (blocks tree.value)) }
-        ensures tree { IfOk result (λ t. IsTree t.value) }
-        ensures not_lower { IfOk result (λ t. height_of tree.value ≤ height_of t.value) }
-        ensures at_most_one_higher { IfOk result (λ t. height_of t.value ≤ height_of tree.value + 1) }
-        ensures refused { IfErr result (λ r. RefusesKey key tree.value r.0) }
-        ensures unchanged { IfErr result (λ r. r.1.value ≡ tree.value) }
-        ensures entered { count.old + 1 ≤ count.new }
-        ensures steps { count.new ≤ count.old + 2 * height_of tree.value }
-    {
-        if let Some(met) = tree.first_met(&key, count) {
-            return Err((Error::Overlap(key, met), tree));
-        }
-        let Ok(leaf) = Box::new(alloc, InnerNode::new(key, node_state)) else {
-            return Err((Error::OutOfMemory, tree));
-        };
-        Ok(InnerNode::link(tree, leaf, count))
-    }
-
-    /// The tree without this key, and the same tree where it has none. None where the key was the
-    /// only one. It takes no memory.
-    #[tactic(auto, unfolding(crate::specs::Shape::LeavesIfAbsent))]
-    pub(crate) fn delete(
-        tree: Box<InnerNode>,
-        key: &RangeInclusive,
-        count: &mut u64,
-    ) -> Option<Box<InnerNode>>
-        requires { count.old + height_of tree.value ≤ MAX }
-        ensures blocks { blocks (side result) ≡ replace_block key.now [] (blocks tree.value) }
-        ensures tree { IsTree (side result) }
-        ensures unchanged { find_key key.now (blocks tree.value) ≡ None → side result ≡ tree.value }
-        ensures none { IsNone result ↔ (side result ≡ Tip) }
-        ensures not_higher { height_of (side result) ≤ height_of tree.value }
-        ensures at_most_one_lower { height_of tree.value ≤ height_of (side result) + 1 }
-        ensures entered { count.old + 1 ≤ count.new }
-        ensures steps { count.new ≤ count.old + height_of tree.value }
-    {
-        let mut at = Some(tree);
-        let _ = delete_at(&mut at, key, count);
-        let _ = height(&at);
-        at
-    }
-
-    /// The tree without its root's key: its child where it has one alone, none where it has none,
-    /// and else both children below the least node of the right one. It takes no memory.
-    pub(crate) fn delete_root(mut tree: Box<InnerNode>, count: &mut u64) -> Option<Box<InnerNode>>
-        requires { count.old + height_of tree.value ≤ MAX }
-        ensures blocks { blocks (side result) ≡ replace_block (root_block tree.value).key [] (blocks tree.value) }
-        ensures tree { IsTree (side result) }
-        ensures none { IsNone result ↔ (side result ≡ Tip) }
-        ensures no_right { (left : Shape) → tree.value ≡ Fork left (root_block tree.value) Tip → side result ≡ left }
-        ensures no_left { (right : Shape) → tree.value ≡ Fork Tip (root_block tree.value) right → side result ≡ right }
-        ensures not_higher { height_of (side result) ≤ height_of tree.value }
-        ensures at_most_one_lower { height_of tree.value ≤ height_of (side result) + 1 }
-        ensures entered { count.old ≤ count.new }
-        ensures steps { count.new + 1 ≤ count.old + height_of tree.value }
-    {
-        let open: &mut InnerNode = &mut tree;
-        let (left, right) = strip(&mut open.left, &mut open.right, &mut open.height);
-        let joined = join(left, right, count);
-        let _ = height(&joined);
-        joined
-    }
-
-    /// The node with exactly this key.
-    #[tactic(auto, using(crate::proofs::Replacement::findings))]
-    pub(crate) fn search(&self, key: &RangeInclusive, count: &mut u64) -> Option<&InnerNode>
-        requires { count.old + height_of self.now ≤ MAX }
-        ensures found { MatchOption result (find_key key.now (blocks self.now) ≡ None) (λ n. find_key key.now (blocks self.now) ≡ Some (root_block n.now)) }
-        ensures entered { count.old + 1 ≤ count.new }
-        ensures steps { count.new ≤ count.old + height_of self.now }
-    {
-        let _ = &self.height;
-        *count += 1;
-        match key.order(&self.key) {
-            Ordering::Equal => Some(self),
-            Ordering::Less => {
-                let Some(left) = &self.left else { return None };
-                left.search(key, count)
-            }
-            Ordering::Greater => {
-                let Some(right) = &self.right else {
-                    return None
-                };
-                right.search(key, count)
-            }
-        }
-    }
-
-    /// The node whose key contains this one.
-    #[tactic(auto, using(crate::proofs::Supersets::supersets))]
-    pub(crate) fn search_superset(
-        &self,
-        key: &RangeInclusive,
-        count: &mut u64,
-    ) -> Option<&InnerNode>
-        requires { count.old + height_of self.now ≤ MAX }
-        ensures found { MatchOption result (find_superset key.now (blocks self.now) ≡ None) (λ n. find_superset key.now (blocks self.now) ≡ Some (root_block n.now)) }
-        ensures entered { count.old + 1 ≤ count.new }
-        ensures steps { count.new ≤ count.old + height_of self.now }
-    {
-        let _ = &self.height;
-        *count += 1;
-        if key.ends_before(&self.key) {
-            let Some(left) = &self.left else { return None };
-            return left.search_superset(key, count);
-        }
-        if self.key.ends_before(key) {
-            let Some(right) = &self.right else {
-                return None
-            };
-            return right.search_superset(key, count);
-        }
-        if self.key.contains(key) {
-            Some(self)
-        } else {
-            None
-        }
-    }
-
-    /// The first key that a new one overlaps on the way down.
-    #[tactic(auto, using(crate::proofs::Meetings::first_meetings))]
-    fn first_met(&self, new: &RangeInclusive, count: &mut u64) -> Option<RangeInclusive>
-        requires { count.old + height_of self.now ≤ MAX }
-        ensures met { result ≡ first_met new.now self.now }
-        ensures overlaps { TellsOverlap new.now result (blocks self.now) }
-        ensures entered { count.old + 1 ≤ count.new }
-        ensures steps { count.new ≤ count.old + height_of self.now }
-    {
-        let _ = &self.height;
-        *count += 1;
-        if new.ends_before(&self.key) {
-            let Some(left) = &self.left else { return None };
-            return left.first_met(new, count);
-        }
-        if self.key.ends_before(new) {
-            let Some(right) = &self.right else {
-                return None
-            };
-            return right.first_met(new, count);
-        }
-        Some(self.key)
-    }
-
-    /// Marks the free block with this key as held. A held one is `InvalidStateTransition` of the key
-    /// and `Allocated`, an absent one `ResourceNotAvailable`; both change nothing.
-    #[tactic(auto, using(crate::proofs::Rewriting::markings))]
-    pub(crate) fn mark_as_allocated(&mut self, key: &RangeInclusive, count: &mut u64) -> Result<()>
-        requires { count.old + height_of self.old ≤ MAX }
-        ensures marks { Marks (find_key key.now (blocks self.old)) key.now result self.old self.new }
-        ensures height { height_of self.new ≡ height_of self.old }
-        ensures tree { IsTree self.new }
-        ensures entered { count.old + 1 ≤ count.new }
-        ensures steps { count.new ≤ count.old + height_of self.old }
-    {
-        let _ = &self.height;
-        *count += 1;
-        match self.key.order(key) {
-            Ordering::Equal => match self.node_state {
-                NodeState::Free => {
-                    self.node_state = NodeState::Allocated;
-                    Ok(())
-                }
-                NodeState::Allocated => {
-                    Err(Error::InvalidStateTransition(*key, NodeState::Allocated))
-                }
-            },
-            Ordering::Greater => {
-                let Some(left) = &mut self.left else {
-                    return Err(Error::ResourceNotAvailable);
-                };
-                left.mark_as_allocated(key, count)
-            }
-            Ordering::Less => {
-                let Some(right) = &mut self.right else {
-                    return Err(Error::ResourceNotAvailable);
-                };
-                right.mark_as_allocated(key, count)
-            }
-        }
-    }
-
-    /// Gives the node with key `at` another key, which keeps its place in the order, and another
-    /// state. It takes no memory.
-    #[tactic(auto, using(crate::proofs::Rewriting::rewritings))]
-    pub(crate) fn rewrite(
-        &mut self,
-        at: &RangeInclusive,
-        key: RangeInclusive,
-        node_state: NodeState,
-        count: &mut u64,
-    )
-        requires known { IsSome (find_key at.now (blocks self.old)) }
-        requires ordered { IsOrderedFrom 0 (replace_block at.now (record { key = key; state = node_state } ∷ []) (blocks self.old)) }
-        requires count_fits { count.old + height_of self.old ≤ MAX }
-        ensures blocks { blocks self.new ≡ replace_block at.now (record { key = key; state = node_state } ∷ []) (blocks self.old) }
-        ensures height { height_of self.new ≡ height_of self.old }
-        ensures tree { IsTree self.new }
-        ensures entered { count.old + 1 ≤ count.new }
-        ensures steps { count.new ≤ count.old + height_of self.old }
-    {
-        let _ = &self.height;
-        *count += 1;
-        match self.key.order(at) {
-            Ordering::Equal => {
-                self.key = key;
-                self.node_state = node_state;
-            }
-            Ordering::Greater => {
-                let Some(left) = &mut self.left else {
-                    unreachable!()
-                };
-                left.rewrite(at, key, node_state, count);
-            }
-            Ordering::Less => {
-                let Some(right) = &mut self.right else {
-                    unreachable!()
-                };
-                right.rewrite(at, key, node_state, count);
-            }
-        }
     }
 }

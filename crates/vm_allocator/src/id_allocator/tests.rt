@@ -1,5 +1,7 @@
 use super::*;
+use crate::tests::end_of_memory;
 use Call::{Allocate, Free, Holds, Peek};
+use Want::{AlreadyReleased, Id, NeverAllocated, NotAvailable, OutOfRange, Overflow};
 use std::process::Abort;
 use std::test::Fail;
 
@@ -39,24 +41,47 @@ fn are_freed(ids: &IdAllocator, freed: &[u32]) -> bool {
 }
 
 /// A call, with the answer that it has to have.
-#[derive(Drop)]
+#[derive(Clone, Copy, Debug)]
 enum Call {
-    Allocate(Result<u32>),
-    Free(u32, Result<u32>),
+    Allocate(Want),
+    Peek(Want),
+    Free(u32, Want),
     Holds(u32, bool),
-    Peek(Result<u32>),
+}
+
+/// An id, or why there is none.
+#[derive(Clone, Copy, Debug)]
+enum Want {
+    Id(u32),
+    Overflow,
+    NotAvailable,
+    OutOfRange(u32),
+    NeverAllocated(u32),
+    AlreadyReleased(u32),
+}
+
+impl Want {
+    fn answer(self) -> Result<u32> {
+        match self {
+            Id(id) => Ok(id),
+            Overflow => Err(Error::Overflow),
+            NotAvailable => Err(Error::ResourceNotAvailable),
+            OutOfRange(id) => Err(Error::OutOfRange(id)),
+            NeverAllocated(id) => Err(Error::NeverAllocated(id)),
+            AlreadyReleased(id) => Err(Error::AlreadyReleased(id)),
+        }
+    }
 }
 
 /// Does the calls in turn.
 fn replay(rt: &impl Abort, ids: &mut IdAllocator, calls: &[Call]) {
-    for (number, call) in calls.iter().enumerate() {
-        let is_right = match call {
-            Allocate(want) => ids.allocate_id() == *want,
-            Free(id, want) => give_back(rt, ids, *id) == *want,
-            Holds(id, want) => ids.is_allocated(*id) == *want,
-            Peek(want) => ids.peek_id() == *want,
-        };
-        assert!(rt; is_right, "call {number}");
+    for call in calls {
+        match call {
+            Allocate(want) => assert_eq!(rt; ids.allocate_id(), want.answer(), "{call:?}"),
+            Peek(want) => assert_eq!(rt; ids.peek_id(), want.answer(), "{call:?}"),
+            Free(id, want) => assert_eq!(rt; give_back(rt, ids, *id), want.answer(), "{call:?}"),
+            Holds(id, want) => assert_eq!(rt; ids.is_allocated(*id), *want, "{call:?}"),
+        }
     }
 }
 
@@ -78,9 +103,9 @@ fn test_slot_id_allocation(rt: HostRuntime) -> std::result::Result<(), Fail> {
 fn test_u32_overflow(rt: HostRuntime) -> std::result::Result<(), Fail> {
     let mut ids = IdAllocator::new(rt.alloc(), 4294967294, 4294967295)?;
     let calls = [
-        Allocate(Ok(4294967294)),
-        Allocate(Ok(4294967295)),
-        Allocate(Err(Error::Overflow)),
+        Allocate(Id(4294967294)),
+        Allocate(Id(4294967295)),
+        Allocate(Overflow),
     ];
     replay(&rt, &mut ids, &calls);
     Ok(())
@@ -89,21 +114,27 @@ fn test_u32_overflow(rt: HostRuntime) -> std::result::Result<(), Fail> {
 #[test]
 fn test_slot_id_free(rt: HostRuntime) -> std::result::Result<(), Fail> {
     let mut ids = IdAllocator::new(rt.alloc(), 5, 23)?;
-    replay(&rt, &mut ids, &[Free(3, Err(Error::OutOfRange(3)))]);
+    replay(&rt, &mut ids, &[Free(3, OutOfRange(3))]);
     assert!(rt; are_freed(&ids, &[]));
 
     take_all(&rt, &mut ids, 5, 13);
     let calls = [
-        Free(10, Ok(10)),
-        Free(10, Err(Error::AlreadyReleased(10))),
-        Free(9, Ok(9)),
+        Free(10, Id(10)),
+        Free(10, AlreadyReleased(10)),
+        Free(9, Id(9)),
     ];
     replay(&rt, &mut ids, &calls);
     assert!(rt; are_freed(&ids, &[9, 10]));
 
-    replay(&rt, &mut ids, &[Allocate(Ok(9))]);
+    replay(&rt, &mut ids, &[Peek(Id(9)), Allocate(Id(9))]);
     assert!(rt; are_freed(&ids, &[10]));
-    replay(&rt, &mut ids, &[Free(21, Err(Error::NeverAllocated(21)))]);
+    let calls = [
+        Free(21, NeverAllocated(21)),
+        Holds(10, false),
+        Holds(9, true),
+        Holds(14, false),
+    ];
+    replay(&rt, &mut ids, &calls);
     Ok(())
 }
 
@@ -111,7 +142,7 @@ fn test_slot_id_free(rt: HostRuntime) -> std::result::Result<(), Fail> {
 fn test_free_id_never_allocated_boundary(rt: HostRuntime) -> std::result::Result<(), Fail> {
     let mut ids = IdAllocator::new(rt.alloc(), 5, 23)?;
     for (id, taken) in [(5, 7), (8, 8)] {
-        replay(&rt, &mut ids, &[Free(id, Err(Error::NeverAllocated(id)))]);
+        replay(&rt, &mut ids, &[Free(id, NeverAllocated(id))]);
         assert_eq!(rt; ids.next_id, Some(id));
         assert!(rt; are_freed(&ids, &[]), "at {id}");
         take_all(&rt, &mut ids, id, taken);
@@ -126,12 +157,12 @@ fn test_is_allocated(rt: HostRuntime) -> std::result::Result<(), Fail> {
         Holds(4, false),
         Holds(24, false),
         Holds(10, false),
-        Allocate(Ok(5)),
+        Allocate(Id(5)),
         Holds(5, true),
         Holds(6, false),
-        Free(5, Ok(5)),
+        Free(5, Id(5)),
         Holds(5, false),
-        Allocate(Ok(5)),
+        Allocate(Id(5)),
         Holds(5, true),
     ];
     replay(&rt, &mut ids, &calls);
@@ -145,17 +176,17 @@ fn test_is_allocated_full_range(rt: HostRuntime) -> std::result::Result<(), Fail
     let calls = [
         Holds(low, false),
         Holds(high, false),
-        Allocate(Ok(low)),
+        Allocate(Id(low)),
         Holds(low, true),
         Holds(high, false),
-        Allocate(Ok(high)),
+        Allocate(Id(high)),
         Holds(low, true),
         Holds(high, true),
     ];
     replay(&rt, &mut ids, &calls);
     assert_eq!(rt; ids.next_id, None);
 
-    let calls = [Free(high, Ok(high)), Holds(high, false), Holds(low, true)];
+    let calls = [Free(high, Id(high)), Holds(high, false), Holds(low, true)];
     replay(&rt, &mut ids, &calls);
     Ok(())
 }
@@ -168,7 +199,7 @@ fn test_is_allocated_with_freed(rt: HostRuntime) -> std::result::Result<(), Fail
     let calls = [
         Holds(6, true),
         Holds(7, false),
-        Free(5, Ok(5)),
+        Free(5, Id(5)),
         Holds(5, false),
         Holds(6, true),
         Holds(7, false),
@@ -187,43 +218,54 @@ fn test_id_sanity_checks(rt: HostRuntime) -> std::result::Result<(), Fail> {
 }
 
 #[test]
-fn ids_of_a_range(rt: HostRuntime) -> std::result::Result<(), Fail> {
-    let mut ids = IdAllocator::new(rt.alloc(), 5, 23)?;
-    replay(&rt, &mut ids, &[Free(3, Err(Error::OutOfRange(3)))]);
-    take_all(&rt, &mut ids, 5, 13);
-    let calls = [
-        Free(10, Ok(10)),
-        Free(10, Err(Error::AlreadyReleased(10))),
-        Free(9, Ok(9)),
-        Peek(Ok(9)),
-        Allocate(Ok(9)),
-        Free(21, Err(Error::NeverAllocated(21))),
-        Holds(10, false),
-        Holds(9, true),
-        Holds(14, false),
-    ];
-    replay(&rt, &mut ids, &calls);
-
-    let refused = IdAllocator::new(rt.alloc(), 23, 5);
-    assert_eq!(rt; refused.err(), Some(Error::InvalidRange(23, 5)));
-    Ok(())
-}
-
-#[test]
 fn greatest_id_alone(rt: HostRuntime) -> std::result::Result<(), Fail> {
     let id = 4294967295;
     let mut ids = IdAllocator::new(rt.alloc(), id, id)?;
     let calls = [
-        Free(id, Err(Error::NeverAllocated(id))),
-        Allocate(Ok(id)),
-        Allocate(Err(Error::Overflow)),
-        Peek(Err(Error::Overflow)),
-        Free(id, Ok(id)),
+        Free(id, NeverAllocated(id)),
+        Allocate(Id(id)),
+        Allocate(Overflow),
+        Peek(Overflow),
+        Free(id, Id(id)),
         Holds(id, false),
-        Peek(Ok(id)),
-        Allocate(Ok(id)),
-        Allocate(Err(Error::Overflow)),
+        Peek(Id(id)),
+        Allocate(Id(id)),
+        Allocate(Overflow),
     ];
     replay(&rt, &mut ids, &calls);
+    Ok(())
+}
+
+#[test]
+fn without_memory(rt: HostRuntime) -> std::result::Result<(), Fail> {
+    let mut ids = IdAllocator::new(rt.alloc(), 5, 9)?;
+    take_all(&rt, &mut ids, 5, 8);
+    let given_back = [Free(6, Id(6)), Free(7, Id(7))];
+    replay(&rt, &mut ids, &given_back);
+    let calls = [
+        Free(4, OutOfRange(4)),
+        Free(9, NeverAllocated(9)),
+        Free(6, AlreadyReleased(6)),
+        Holds(5, true),
+        Holds(6, false),
+        Peek(Id(6)),
+        Allocate(Id(6)),
+        Free(7, AlreadyReleased(7)),
+        Allocate(Id(7)),
+        Allocate(Id(9)),
+        Peek(NotAvailable),
+        Allocate(NotAvailable),
+    ];
+    end_of_memory(rt.alloc());
+    replay(&rt, &mut ids, &calls);
+
+    let refused = IdAllocator::new(rt.alloc(), 23, 5);
+    assert_eq!(rt; refused.err(), Some(Error::InvalidRange(23, 5)));
+    let mut last = IdAllocator::new(rt.alloc(), u32::MAX, u32::MAX)?;
+    let calls = [Allocate(Id(u32::MAX)), Peek(Overflow), Allocate(Overflow)];
+    replay(&rt, &mut last, &calls);
+    // An id given back for the first time asks for memory: what a run without memory is known by.
+    let answer = last.free_id(u32::MAX);
+    assert!(rt; answer == Err(Error::OutOfMemory) || answer == Ok(u32::MAX));
     Ok(())
 }

@@ -1,14 +1,30 @@
-ghost use Rattle.vm_allocator.specs.Laws.{AllocatesOnce, FreesOnce};
+ghost use Rattle.vm_allocator.specs.Laws.{AllocatesOnce, FreesOnce, StateIsKept, HeldLieApart, AllocatingAddsRange, FreeingTakesRange, FreeingUndoes};
 
-/// The state of an allocator decides its answer to a request and the state after it, want of memory
-/// and the refusal of a split for depth aside.
-#[tactic(auto, using(crate::proofs::Once::allocates_once))]
+/// The state of an allocator decides its answer to a request and the state after it, the refusal of
+/// a split for memory or for depth aside.
+#[tactic(auto, using(crate::proofs::answers::Once::allocates_once))]
 fn allocates_once()
     ensures { AllocatesOnce }
 {}
 
 /// The state of an allocator decides its answer to a range given back and the state after it.
-#[tactic(auto, using(crate::proofs::Once::frees_once))]
+#[tactic(auto, using(crate::proofs::answers::Once::frees_once))]
 fn frees_once()
     ensures { FreesOnce }
+{}
+
+/// Each call leaves the state of an allocator, and in such a state the held ranges have no address in
+/// common, lie in the space and do not contain `u64::MAX`.
+#[tactic(auto, using(crate::proofs::answers::AddressAnswers::kept))]
+fn states_are_kept()
+    ensures kept { StateIsKept }
+    ensures apart { HeldLieApart }
+{}
+
+/// What a range that is taken or given back changes.
+#[tactic(auto, using(crate::proofs::answers::AddressAnswers::changes))]
+fn one_range_changes()
+    ensures takes { AllocatingAddsRange }
+    ensures gives_back { FreeingTakesRange }
+    ensures undone { FreeingUndoes }
 {}

@@ -1,7 +1,7 @@
-//! Laws of whole runs: every list of calls of an address allocator, from a new one on.
-ghost use Rattle.vm_allocator.specs.HistoryLaws.{FirstIsLeast, LastIsGreatest, ExactIsNamed, PlacesAnswer, RefusalsChangeNothing, SlotsAreGood, StateDecides, ReleaseUndoes, OrderOfReleasesIsFree};
+//! Laws of whole histories: every list of calls of an address allocator, from a new one on.
+ghost use Rattle.vm_allocator.specs.HistoryLaws.{FirstIsLeast, LastIsGreatest, ExactIsNamed, PlacesAnswer, RefusalsChangeNothing, SlotsAreGood, StateDecides, ReleaseUndoes, OrderOfReleasesIsFree, EveryCallIsAnswered, EveryListHasHistory};
 
-/// Along every run `FirstMatch` gives the least place, `LastMatch` the greatest and `ExactMatch` the
+/// In every history `FirstMatch` gives the least place, `LastMatch` the greatest and `ExactMatch` the
 /// named one.
 fn chosen_places_are_given()
     ensures first { FirstIsLeast }
@@ -17,13 +17,13 @@ fn places_answer()
 
 /// The held ranges have no address in common, lie in the space, do not contain `u64::MAX`, and are
 /// aligned and as long as was asked.
-#[tactic(auto, using(crate::proofs::Histories::slots_good))]
+#[tactic(auto, using(crate::proofs::histories::Histories::slots_good))]
 fn slots_are_good()
     ensures { SlotsAreGood }
 {}
 
 /// The space and the held ranges alone decide what a call answers.
-#[tactic(auto, using(crate::proofs::Histories::decided))]
+#[tactic(auto, using(crate::proofs::histories::Histories::decided))]
 fn state_decides()
     ensures { StateDecides }
 {}
@@ -32,4 +32,11 @@ fn state_decides()
 fn releases_leave_no_trace()
     ensures undone { ReleaseUndoes }
     ensures order { OrderOfReleasesIsFree }
+{}
+
+/// Every call has an answer in every state, and so every list of calls a history.
+#[tactic(auto, using(crate::proofs::answers::EveryCall::answers))]
+fn every_call_is_answered()
+    ensures call { EveryCallIsAnswered }
+    ensures list { EveryListHasHistory }
 {}

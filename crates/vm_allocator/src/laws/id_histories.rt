@@ -1,16 +1,23 @@
-//! Laws of whole runs: every list of calls of an id allocator, from a new one on.
-ghost use Rattle.vm_allocator.specs.IdHistoryLaws.{EachIsLeastNotHeld, NoIdIsHeldTwice, HeldIsOut, StatesAreOfIds};
+//! Laws of whole histories: every list of calls of an id allocator, from a new one on.
+ghost use Rattle.vm_allocator.specs.IdHistoryLaws.{EachIsLeastNotHeld, NoIdIsHeldTwice, HeldIsOut, StatesAreOfIds, EveryIdCallIsAnswered, EveryIdListHasHistory};
 
-/// Along every run each id given is the least that is not held, and none is held twice.
-#[tactic(auto, using(crate::proofs::IdHistories::least_ids))]
+/// In every history each id given is the least that is not held, and none is held twice.
+#[tactic(auto, using(crate::proofs::ids::Histories::least_ids))]
 fn least_ids_are_given()
     ensures least { EachIsLeastNotHeld }
     ensures twice { NoIdIsHeldTwice }
 {}
 
 /// An id is held exactly if it was given out and not given back since.
-#[tactic(auto, using(crate::proofs::IdHistories::held_ids))]
+#[tactic(auto, using(crate::proofs::ids::Histories::held_ids))]
 fn held_ids_are_out()
     ensures held { HeldIsOut }
     ensures states { StatesAreOfIds }
+{}
+
+/// Every call has an answer in every state, and so every list of calls a history.
+#[tactic(auto, using(crate::proofs::ids::EveryCall::answers))]
+fn every_id_call_is_answered()
+    ensures call { EveryIdCallIsAnswered }
+    ensures list { EveryIdListHasHistory }
 {}

@@ -1,8 +1,8 @@
 //! Laws of ids.
 ghost use Rattle.vm_allocator.specs.IdLaws.{MakingIsDetermined, AllocatingIsDetermined, PeekingForetells, FreeingIsDetermined, FrontIsKept, AllocatingAdds, FreeingTakes};
 
-/// From one state a call has one answer and one next state, want of memory aside.
-#[tactic(auto, using(crate::proofs::IdAnswers::determined))]
+/// From one state a call has one answer and one next state, out of memory aside.
+#[tactic(auto, using(crate::proofs::ids::Answers::determined))]
 fn calls_are_determined()
     ensures makes { MakingIsDetermined }
     ensures allocates { AllocatingIsDetermined }
@@ -11,13 +11,13 @@ fn calls_are_determined()
 {}
 
 /// The ids handed out are a front of the range, and the held ones are among them.
-#[tactic(auto, using(crate::proofs::IdAnswers::front))]
+#[tactic(auto, using(crate::proofs::ids::Answers::front))]
 fn front_is_kept()
     ensures { FrontIsKept }
 {}
 
 /// What an id that is taken or given back changes.
-#[tactic(auto, using(crate::proofs::IdAnswers::changes))]
+#[tactic(auto, using(crate::proofs::ids::Answers::changes))]
 fn one_id_changes()
     ensures takes { AllocatingAdds }
     ensures gives_back { FreeingTakes }

@@ -2,6 +2,7 @@ ghost use Rattle.std.specs.Prelude.{◌≡◌, IfOk};
 
 use super::*;
 use crate::allocation_engine::node::walks::{copy, node_count, same};
+use crate::constraint::AllocPolicy;
 use std::alloc::AllocError;
 
 impl IntervalTree {

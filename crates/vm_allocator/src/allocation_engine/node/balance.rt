@@ -1,18 +1,42 @@
 //! Heights and rotations. Nothing here calls itself, and nothing takes memory.
-ghost use Rattle.std.specs.Prelude.{◌≡◌, ◌+◌, ◌<◌, ◌≤◌, ◌^◌, ◌++◌, ◌∷◌, max, None, IsSome, ◌↔◌, IsNone};
+ghost use Rattle.std.specs.Prelude.{◌≡◌, ◌+◌, ◌<◌, ◌≤◌, ◌^◌, ◌++◌, ◌∷◌, max, true, None, IsSome, ◌↔◌, IsNone};
 ghost use Rattle.vm_allocator.specs.BlockList.{IsOrderedFrom};
-ghost use Rattle.vm_allocator.specs.Shape.{Fork, blocks, height_of, single, root_block, IsTree, DifferByAtMost, IsHeightAfterBalance, IsSameIfNot};
+ghost use Rattle.vm_allocator.specs.Shape.{Fork, blocks, height_of, single, root_block, IsTree, DifferByAtMost, IsSameIfNot, IsLeaf, CanBalance, Balances};
 ghost use Rattle.vm_allocator.specs.NodeFields.{side};
+ghost use Rattle.vm_allocator.specs.Settling.{IsSettled};
 
-use super::{InnerNode, height};
+use super::{Child, InnerNode, height};
+
+/// What becomes of a node once one of its children has changed.
+#[derive(Drop)]
+pub(super) enum Settled {
+    /// Its children are close in height; its own height changed, or it did not.
+    Stands(bool),
+    /// Its children differ by two, and are taken out of it: the left one and the right one.
+    Leans(Child, Child),
+}
+
+/// Brings the kept height of a node up to date, or takes its children out where they are to be
+/// balanced.
+#[inline(always)]
+pub(super) fn settle(left: &mut Child, right: &mut Child, kept: &mut u64) -> Settled
+    requires { max (height_of (side left.old)) (height_of (side right.old)) + 1 < 2 ^ 64 }
+    ensures settled { IsSettled left.old right.old kept.old result left.new right.new kept.new }
+    ensures left { IsTree (side left.old) }
+    ensures right { IsTree (side right.old) }
+{
+    let left_height = height(left);
+    let right_height = height(right);
+    if left_height > right_height + 1 || right_height > left_height + 1 {
+        let (left, right) = strip(left, right, kept);
+        return Settled::Leans(left, right);
+    }
+    Settled::Stands(refresh(left, right, kept))
+}
 
 /// Brings the kept height of a node up to date; says whether it changed.
 #[inline(always)]
-pub(super) fn refresh(
-    left: &Option<Box<InnerNode>>,
-    right: &Option<Box<InnerNode>>,
-    kept: &mut u64,
-) -> bool
+pub(super) fn refresh(left: &Child, right: &Child, kept: &mut u64) -> bool
     requires { max (height_of (side left.now)) (height_of (side right.now)) + 1 < 2 ^ 64 }
     ensures height { kept.new ≡ max (height_of (side left.now)) (height_of (side right.now)) + 1 }
     ensures left { IsTree (side left.now) }
@@ -28,11 +52,7 @@ pub(super) fn refresh(
 }
 
 /// Takes the children out of a node, and leaves it without any.
-pub(super) fn strip(
-    left: &mut Option<Box<InnerNode>>,
-    right: &mut Option<Box<InnerNode>>,
-    kept: &mut u64,
-) -> (Option<Box<InnerNode>>, Option<Box<InnerNode>>)
+pub(super) fn strip(left: &mut Child, right: &mut Child, kept: &mut u64) -> (Child, Child)
     ensures sides { result ≡ (left.old, right.old) }
     ensures left { left.new ≡ None }
     ensures right { right.new ≡ None }
@@ -43,13 +63,7 @@ pub(super) fn strip(
 }
 
 /// A node's left side, the node without children, and its right side.
-fn part(
-    mut node: Box<InnerNode>,
-) -> (
-    Option<Box<InnerNode>>,
-    Box<InnerNode>,
-    Option<Box<InnerNode>>,
-)
+fn part(mut node: Box<InnerNode>) -> (Child, Box<InnerNode>, Child)
     ensures shape { node.value ≡ Fork (side result.0) (root_block node.value) (side result.2) }
     ensures middle { result.1.value ≡ single (root_block node.value) }
     ensures tree { IsTree node.value }
@@ -62,12 +76,8 @@ fn part(
 }
 
 /// A node with these sides, whose heights differ by at most one.
-fn fork(
-    left: Option<Box<InnerNode>>,
-    mut middle: Box<InnerNode>,
-    right: Option<Box<InnerNode>>,
-) -> Box<InnerNode>
-    requires leaf { middle.value ≡ single (root_block middle.value) }
+fn fork(left: Child, mut middle: Box<InnerNode>, right: Child) -> Box<InnerNode>
+    requires leaf { IsLeaf middle.value }
     requires ordered { IsOrderedFrom 0 (blocks (side left) ++ root_block middle.value ∷ blocks (side right)) }
     requires close { DifferByAtMost 1 (height_of (side left)) (height_of (side right)) }
     requires height_fits { max (height_of (side left)) (height_of (side right)) + 1 < 2 ^ 64 }
@@ -83,13 +93,9 @@ fn fork(
 
 /// The rotations where the left side is two levels higher: a single one, or a double one where the
 /// inner grandchild is the higher.
-#[tactic(auto, using(crate::proofs::BlockOrder::rotations))]
-fn lean_left(
-    left: Box<InnerNode>,
-    middle: Box<InnerNode>,
-    right: Option<Box<InnerNode>>,
-) -> Box<InnerNode>
-    requires leaf { middle.value ≡ single (root_block middle.value) }
+#[tactic(auto, using(crate::proofs::blocks::Order::rotations))]
+fn lean_left(left: Box<InnerNode>, middle: Box<InnerNode>, right: Child) -> Box<InnerNode>
+    requires leaf { IsLeaf middle.value }
     requires ordered { IsOrderedFrom 0 (blocks left.value ++ root_block middle.value ∷ blocks (side right)) }
     requires two_higher { height_of left.value ≡ height_of (side right) + 2 }
     requires height_fits { height_of left.value + 1 < 2 ^ 64 }
@@ -109,13 +115,9 @@ fn lean_left(
 }
 
 /// The rotations where the right side is two levels higher, the mirror image.
-#[tactic(auto, using(crate::proofs::BlockOrder::rotations))]
-fn lean_right(
-    left: Option<Box<InnerNode>>,
-    middle: Box<InnerNode>,
-    right: Box<InnerNode>,
-) -> Box<InnerNode>
-    requires leaf { middle.value ≡ single (root_block middle.value) }
+#[tactic(auto, using(crate::proofs::blocks::Order::rotations))]
+fn lean_right(left: Child, middle: Box<InnerNode>, right: Box<InnerNode>) -> Box<InnerNode>
+    requires leaf { IsLeaf middle.value }
     requires ordered { IsOrderedFrom 0 (blocks (side left) ++ root_block middle.value ∷ blocks right.value) }
     requires two_higher { height_of right.value ≡ height_of (side left) + 2 }
     requires height_fits { height_of right.value + 1 < 2 ^ 64 }
@@ -135,18 +137,10 @@ fn lean_right(
 }
 
 /// A node with these sides, whose heights differ by at most two.
-pub(super) fn balance(
-    left: Option<Box<InnerNode>>,
-    middle: Box<InnerNode>,
-    right: Option<Box<InnerNode>>,
-) -> Box<InnerNode>
-    requires leaf { middle.value ≡ single (root_block middle.value) }
-    requires ordered { IsOrderedFrom 0 (blocks (side left) ++ root_block middle.value ∷ blocks (side right)) }
-    requires near { DifferByAtMost 2 (height_of (side left)) (height_of (side right)) }
-    requires height_fits { max (height_of (side left)) (height_of (side right)) + 1 < 2 ^ 64 }
-    ensures tree { IsTree result.value }
-    ensures blocks { blocks result.value ≡ blocks (side left) ++ root_block middle.value ∷ blocks (side right) }
-    ensures height { IsHeightAfterBalance (height_of (side left)) (height_of (side right)) (height_of result.value) }
+pub(super) fn balance(left: Child, middle: Box<InnerNode>, right: Child) -> Box<InnerNode>
+    requires leaf { IsLeaf middle.value }
+    requires sides { CanBalance (side left) (root_block middle.value) (side right) }
+    ensures { Balances (side left) (root_block middle.value) (side right) result.value }
 {
     let left_height = height(&left);
     let right_height = height(&right);
@@ -162,24 +156,18 @@ pub(super) fn balance(
 }
 
 /// Puts a node with these sides, whose heights differ by at most two, in the place of one without
-/// children.
-pub(super) fn rebalance(
-    at: &mut Option<Box<InnerNode>>,
-    left: Option<Box<InnerNode>>,
-    right: Option<Box<InnerNode>>,
-)
+/// children. The height there may be another one, so it returns true.
+pub(super) fn rebalance(at: &mut Child, left: Child, right: Child) -> bool
     requires some { IsSome at.old }
-    requires leaf { side at.old ≡ single (root_block (side at.old)) }
-    requires ordered { IsOrderedFrom 0 (blocks (side left) ++ root_block (side at.old) ∷ blocks (side right)) }
-    requires near { DifferByAtMost 2 (height_of (side left)) (height_of (side right)) }
-    requires height_fits { max (height_of (side left)) (height_of (side right)) + 1 < 2 ^ 64 }
+    requires leaf { IsLeaf (side at.old) }
+    requires sides { CanBalance (side left) (root_block (side at.old)) (side right) }
     ensures some { IsSome at.new }
-    ensures tree { IsTree (side at.new) }
-    ensures blocks { blocks (side at.new) ≡ blocks (side left) ++ root_block (side at.old) ∷ blocks (side right) }
-    ensures height { IsHeightAfterBalance (height_of (side left)) (height_of (side right)) (height_of (side at.new)) }
+    ensures balanced { Balances (side left) (root_block (side at.old)) (side right) (side at.new) }
+    ensures told { result ≡ true }
 {
     let Some(middle) = at.take() else {
         unreachable!()
     };
     *at = Some(balance(left, middle, right));
+    true
 }

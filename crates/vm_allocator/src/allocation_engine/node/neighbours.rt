@@ -2,31 +2,34 @@
 ghost use Rattle.std.specs.Prelude.{◌≡◌, ◌+◌, ◌*◌, ◌≤◌, Option};
 ghost use Rattle.vm_allocator.specs.Range.{MAX, Range};
 ghost use Rattle.vm_allocator.specs.Shape.{blocks, height_of, root_block, IsTree};
+ghost use Rattle.vm_allocator.specs.Ways.{way_to_first, way_to_last, way_around};
 ghost use Rattle.vm_allocator.specs.NodeFields.{side};
 ghost use Rattle.vm_allocator.specs.Release.{key_if_free, last_free, first_free, neighbours};
 
-use super::InnerNode;
+use super::{Child, InnerNode};
 use crate::allocation_engine::NodeState;
 use crate::range::RangeInclusive;
 use std::cmp::Ordering;
 
-/// The free blocks right before and right after a held one.
+/// The free blocks right beside a held one.
 #[derive(Clone, Copy)]
 pub(crate) struct Neighbours {
+    /// The one that ends right before it.
     pub(crate) before: Option<RangeInclusive>,
+    /// The one that starts right after it.
     pub(crate) after: Option<RangeInclusive>,
 }
 
 /// The key of the last block of a side where it is free, and `before` where the side is absent.
+#[tactic(auto, using(crate::proofs::counts::Ways::ways_to_ends))]
 fn last_free(
-    child: &Option<Box<InnerNode>>,
+    child: &Child,
     before: Option<RangeInclusive>,
     count: &mut u64,
 ) -> Option<RangeInclusive>
     requires { count.old + height_of (side child.now) ≤ MAX }
     ensures value { result ≡ last_free before (blocks (side child.now)) }
-    ensures entered { count.old ≤ count.new }
-    ensures steps { count.new ≤ count.old + height_of (side child.now) }
+    ensures count { count.new ≡ count.old + way_to_last (side child.now) }
 {
     match child {
         None => before,
@@ -35,15 +38,15 @@ fn last_free(
 }
 
 /// The key of the first block of a side where it is free, and `after` where the side is absent.
+#[tactic(auto, using(crate::proofs::counts::Ways::ways_to_ends))]
 fn first_free(
-    child: &Option<Box<InnerNode>>,
+    child: &Child,
     after: Option<RangeInclusive>,
     count: &mut u64,
 ) -> Option<RangeInclusive>
     requires { count.old + height_of (side child.now) ≤ MAX }
     ensures value { result ≡ first_free (blocks (side child.now)) after }
-    ensures entered { count.old ≤ count.new }
-    ensures steps { count.new ≤ count.old + height_of (side child.now) }
+    ensures count { count.new ≡ count.old + way_to_first (side child.now) }
 {
     match child {
         None => after,
@@ -64,15 +67,13 @@ impl InnerNode {
     }
 
     /// The key of the last block where it is free.
-    #[tactic(auto, using(crate::proofs::Neighbours::ends))]
+    #[tactic(auto, using(crate::proofs::releasing::Neighbours::ends, crate::proofs::counts::Ways::ways_to_ends))]
     fn last_free(&self, count: &mut u64) -> Option<RangeInclusive>
         requires { count.old + height_of self.now ≤ MAX }
         ensures value { (d : Option Range) → result ≡ last_free d (blocks self.now) }
-        ensures entered { count.old + 1 ≤ count.new }
-        ensures steps { count.new ≤ count.old + height_of self.now }
+        ensures count { count.new ≡ count.old + way_to_last self.now }
     {
-        let _ = &self.height;
-        *count += 1;
+        self.enter(count);
         match &self.right {
             None => self.free_key(),
             Some(right) => right.last_free(count),
@@ -80,15 +81,13 @@ impl InnerNode {
     }
 
     /// The key of the first block where it is free.
-    #[tactic(auto, using(crate::proofs::Neighbours::ends))]
+    #[tactic(auto, using(crate::proofs::releasing::Neighbours::ends, crate::proofs::counts::Ways::ways_to_ends))]
     fn first_free(&self, count: &mut u64) -> Option<RangeInclusive>
         requires { count.old + height_of self.now ≤ MAX }
         ensures value { (d : Option Range) → result ≡ first_free (blocks self.now) d }
-        ensures entered { count.old + 1 ≤ count.new }
-        ensures steps { count.new ≤ count.old + height_of self.now }
+        ensures count { count.new ≡ count.old + way_to_first self.now }
     {
-        let _ = &self.height;
-        *count += 1;
+        self.enter(count);
         match &self.left {
             None => self.free_key(),
             Some(left) => left.first_free(count),
@@ -97,7 +96,7 @@ impl InnerNode {
 
     /// The free blocks beside the held block with this key, if there is one. `before` and `after` are
     /// what is free right before and right after the whole tree.
-    #[tactic(auto, using(crate::proofs::Neighbours::searches))]
+    #[tactic(auto, using(crate::proofs::releasing::Neighbours::searches, crate::proofs::counts::Ways::ways_around, crate::proofs::counts::WayBounds::bounds_around))]
     pub(crate) fn neighbours(
         &self,
         key: &RangeInclusive,
@@ -107,11 +106,9 @@ impl InnerNode {
     ) -> Option<Neighbours>
         requires { count.old + 2 * height_of self.now ≤ MAX }
         ensures value { result ≡ neighbours key.now before (blocks self.now) after }
-        ensures entered { count.old + 1 ≤ count.new }
-        ensures steps { count.new ≤ count.old + 2 * height_of self.now }
+        ensures count { count.new ≡ count.old + way_around key.now self.now }
     {
-        let _ = &self.height;
-        *count += 1;
+        self.enter(count);
         match key.order(&self.key) {
             Ordering::Less => {
                 let Some(left) = &self.left else { return None };

@@ -1,89 +1,111 @@
 //! The searches for the place of a request.
-ghost use Rattle.std.specs.Prelude.{◌≡◌, ◌+◌, ◌<◌, ◌≤◌, MatchOption, All};
+ghost use Rattle.std.specs.Prelude.{◌≡◌, ◌+◌, ◌<◌, ◌≤◌};
 ghost use Rattle.vm_allocator.specs.Range.{MAX};
 ghost use Rattle.vm_allocator.specs.Alignment.{IsAlignment};
-ghost use Rattle.vm_allocator.specs.Fit.{HasNoFit, IsLeastFit, IsGreatestFit};
-ghost use Rattle.vm_allocator.specs.Place.{IsFirstFit, IsLastFit};
+ghost use Rattle.vm_allocator.specs.Fit.{FindsLeastFit, FindsGreatestFit};
+ghost use Rattle.vm_allocator.specs.Place.{FindsFirst, FindsLast};
 ghost use Rattle.vm_allocator.specs.Shape.{blocks, node_count};
+ghost use Rattle.vm_allocator.specs.Ways.{way_of_first, way_of_last};
+ghost use Rattle.vm_allocator.specs.NodeFields.{side};
 
-use super::InnerNode;
+use super::{Child, InnerNode};
 use crate::allocation_engine::{NodeState, align_down, align_up};
 use crate::range::RangeInclusive;
 
 /// A start in a free block.
 #[derive(Clone, Copy, Debug)]
 pub(crate) struct Place {
+    /// The free block.
     pub(crate) key: RangeInclusive,
+    /// An address of it.
     pub(crate) start: u64,
 }
 
 /// The least multiple of the alignment from which a block has room for `size` clear addresses.
-#[tactic(auto, using(crate::proofs::Fits::least_fits_by_key))]
+#[tactic(auto, using(crate::proofs::choosing::Fits::least_fits_by_key))]
 fn least_fit(key: &RangeInclusive, state: NodeState, size: u64, alignment: u64) -> Option<u64>
     requires some { 0 < size }
     requires aligned { IsAlignment alignment }
-    ensures { MatchOption result (HasNoFit size alignment (record { key = key.now; state = state })) (IsLeastFit size alignment (record { key = key.now; state = state })) }
+    ensures { FindsLeastFit size alignment (record { key = key.now; state = state }) result }
 {
-    match state {
-        NodeState::Allocated => None,
-        NodeState::Free => {
-            let end = key.end();
-            match align_up(key.start(), alignment) {
-                Err(_) => None,
-                Ok(start) => {
-                    if start <= end && size - 1 <= end - start {
-                        Some(start)
-                    } else {
-                        None
-                    }
-                }
-            }
-        }
+    if state == NodeState::Allocated {
+        return None;
+    }
+    let Ok(start) = align_up(key.start(), alignment) else {
+        return None;
+    };
+    let end = key.end();
+    if start <= end && size - 1 <= end - start {
+        Some(start)
+    } else {
+        None
     }
 }
 
 /// The greatest multiple of the alignment from which a block has room for `size` clear addresses.
-#[tactic(auto, using(crate::proofs::Fits::greatest_fits))]
+#[tactic(auto, using(crate::proofs::choosing::Fits::greatest_fits))]
 fn greatest_fit(key: &RangeInclusive, state: NodeState, size: u64, alignment: u64) -> Option<u64>
     requires some { 0 < size }
     requires aligned { IsAlignment alignment }
-    ensures { MatchOption result (HasNoFit size alignment (record { key = key.now; state = state })) (IsGreatestFit size alignment (record { key = key.now; state = state })) }
+    ensures { FindsGreatestFit size alignment (record { key = key.now; state = state }) result }
 {
-    match state {
-        NodeState::Allocated => None,
-        NodeState::Free => {
-            let end = key.end();
-            let start = key.start();
-            if end - start < size - 1 {
-                return None;
-            }
-            match align_down(end - (size - 1), alignment) {
-                Err(_) => None,
-                Ok(place) => { if start <= place { Some(place) } else { None } }
-            }
-        }
+    let (start, end) = (key.start(), key.end());
+    if state == NodeState::Allocated || end - start < size - 1 {
+        return None;
+    }
+    let Ok(place) = align_down(end - (size - 1), alignment) else {
+        return None;
+    };
+    if start <= place { Some(place) } else { None }
+}
+
+/// The least place among the blocks of a tree: the first block with a fit, and its least fit.
+#[tactic(auto, using(crate::proofs::counts::Searching::firsts))]
+pub(crate) fn first_place(tree: &Child, size: u64, alignment: u64, count: &mut u64) -> Option<Place>
+    requires some { 0 < size }
+    requires aligned { IsAlignment alignment }
+    requires count_fits { count.old + node_count (side tree.now) ≤ MAX }
+    ensures place { FindsFirst size alignment (blocks (side tree.now)) result }
+    ensures count { count.new ≡ count.old + way_of_first size alignment (side tree.now) }
+{
+    match tree {
+        None => None,
+        Some(node) => node.first_place(size, alignment, count),
+    }
+}
+
+/// The greatest place among the blocks of a tree: the last block with a fit, and its greatest fit.
+#[tactic(auto, using(crate::proofs::counts::Searching::lasts))]
+pub(crate) fn last_place(tree: &Child, size: u64, alignment: u64, count: &mut u64) -> Option<Place>
+    requires some { 0 < size }
+    requires aligned { IsAlignment alignment }
+    requires count_fits { count.old + node_count (side tree.now) ≤ MAX }
+    ensures place { FindsLast size alignment (blocks (side tree.now)) result }
+    ensures count { count.new ≡ count.old + way_of_last size alignment (side tree.now) }
+{
+    match tree {
+        None => None,
+        Some(node) => node.last_place(size, alignment, count),
     }
 }
 
 impl InnerNode {
-    /// The least place: the first block with a fit, and its least fit.
-    #[tactic(auto, using(crate::proofs::PlaceSearch::firsts))]
-    pub(crate) fn first_place(&self, size: u64, alignment: u64, count: &mut u64) -> Option<Place>
+    /// The least place from this node on.
+    #[tactic(auto, using(crate::proofs::choosing::PlaceSearch::firsts, crate::proofs::counts::Searching::firsts))]
+    fn first_place(&self, size: u64, alignment: u64, count: &mut u64) -> Option<Place>
         requires some { 0 < size }
         requires aligned { IsAlignment alignment }
         requires count_fits { count.old + node_count self.now ≤ MAX }
-        ensures place { MatchOption result (All (HasNoFit size alignment) (blocks self.now)) (IsFirstFit size alignment (blocks self.now)) }
-        ensures entered { count.old + 1 ≤ count.new }
-        ensures steps { count.new ≤ count.old + node_count self.now }
+        ensures place { FindsFirst size alignment (blocks self.now) result }
+        ensures count { count.new ≡ count.old + way_of_first size alignment self.now }
     {
-        let _ = &self.height;
-        *count += 1;
-        let below = match &self.left {
+        self.enter(count);
+        let found = match &self.left {
             None => None,
             Some(left) => left.first_place(size, alignment, count),
         };
-        if below.is_some() {
-            return below;
+        if found.is_some() {
+            return found;
         }
         if let Some(start) = least_fit(&self.key, self.node_state, size, alignment) {
             return Some(Place {
@@ -97,24 +119,22 @@ impl InnerNode {
         right.first_place(size, alignment, count)
     }
 
-    /// The greatest place: the last block with a fit, and its greatest fit.
-    #[tactic(auto, using(crate::proofs::PlaceSearch::lasts))]
-    pub(crate) fn last_place(&self, size: u64, alignment: u64, count: &mut u64) -> Option<Place>
+    /// The greatest place from this node on.
+    #[tactic(auto, using(crate::proofs::choosing::PlaceSearch::lasts, crate::proofs::counts::Searching::lasts))]
+    fn last_place(&self, size: u64, alignment: u64, count: &mut u64) -> Option<Place>
         requires some { 0 < size }
         requires aligned { IsAlignment alignment }
         requires count_fits { count.old + node_count self.now ≤ MAX }
-        ensures place { MatchOption result (All (HasNoFit size alignment) (blocks self.now)) (IsLastFit size alignment (blocks self.now)) }
-        ensures entered { count.old + 1 ≤ count.new }
-        ensures steps { count.new ≤ count.old + node_count self.now }
+        ensures place { FindsLast size alignment (blocks self.now) result }
+        ensures count { count.new ≡ count.old + way_of_last size alignment self.now }
     {
-        let _ = &self.height;
-        *count += 1;
-        let below = match &self.right {
+        self.enter(count);
+        let found = match &self.right {
             None => None,
             Some(right) => right.last_place(size, alignment, count),
         };
-        if below.is_some() {
-            return below;
+        if found.is_some() {
+            return found;
         }
         if let Some(start) = greatest_fit(&self.key, self.node_state, size, alignment) {
             return Some(Place {

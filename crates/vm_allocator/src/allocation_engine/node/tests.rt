@@ -1,6 +1,8 @@
 //! Trees made by hand, in the orders of insertion that lean each way.
 use super::walks::{copy, same};
 use super::*;
+use crate::error::Error;
+use std::alloc::Global;
 use std::process::Abort;
 
 type Inserted = std::result::Result<Box<InnerNode>, (Error, Box<InnerNode>)>;

@@ -1,5 +1,6 @@
 use Rattle.std.proofs.Common.{◌++◌}
-use Rattle.vm_replay.proofs.Known.{moves_drain, appends_kept}
+use Rattle.std.proofs.KnownBytes.{Appends-kept}
+use Rattle.vm_replay.proofs.Known.{moves_drain}
 use Rattle.vm_replay.proofs.run.finish.Goals as goal
 
 pub returns-in-Ok-clause-ok : goal.returns-in-Ok-clause-ok
@@ -8,7 +9,7 @@ returns-in-Ok-clause-ok g c =
     let h = c.in_ok-answer_rest.ensures.ok in (
       h.0,
       h.1,
-      appends_kept (contents c.args.writer.now) (contents c.drain.new.writer) (contents c.flush.new.self) (c.args.output.now ++ h.0)
+      Appends-kept (contents c.args.writer.now) (contents c.drain.new.writer) (contents c.flush.new.self) (c.args.output.now ++ h.0)
           (moves_drain (contents c.args.writer.now) (contents c.answer_rest.new.writer) (contents c.drain.new.writer) c.args.output.now c.answer_rest.new.output h.0 h.2 c.in_ok-drain.ensures.sent)
           c.in-Ok.ensures.bytes,
     )

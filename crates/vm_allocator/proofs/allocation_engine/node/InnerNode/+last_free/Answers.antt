@@ -1,6 +1,6 @@
 use Rattle.std.proofs.Common.{refl}
 use Rattle.vm_allocator.specs.NodeFields.{side, shape_of}
-use Rattle.vm_allocator.proofs.Neighbours.{last_in_right}
+use Rattle.vm_allocator.proofs.releasing.Neighbours.{last_in_right}
 use Rattle.vm_allocator.proofs.allocation_engine.node.InnerNode.+last_free.Goals as goal
 
 pub returns-in-None-clause-value : goal.returns-in-None-clause-value

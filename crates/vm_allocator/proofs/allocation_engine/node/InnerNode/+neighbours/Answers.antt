@@ -1,6 +1,6 @@
 use Rattle.std.proofs.Common.{refl}
 use Rattle.vm_allocator.specs.NodeFields.{side, shape_of}
-use Rattle.vm_allocator.proofs.Neighbours.{neighbours_in_left, neighbours_in_right, neighbours_in_middle}
+use Rattle.vm_allocator.proofs.releasing.Neighbours.{neighbours_in_left, neighbours_in_right, neighbours_in_middle}
 use Rattle.vm_allocator.proofs.allocation_engine.node.InnerNode.+neighbours.Goals as goal
 
 pub returns-in_default-clause-value : goal.returns-in_default-clause-value

@@ -3,8 +3,8 @@ use Rattle.vm_allocator.specs.Block.{Block}
 use Rattle.vm_allocator.specs.BlockList.{IsOrderedFrom, find_key, replace_block}
 use Rattle.vm_allocator.specs.Shape.{blocks, IsTree}
 use Rattle.vm_allocator.specs.NodeFields.{side, shape_of}
-use Rattle.vm_allocator.proofs.Replacement.{find_in_left, find_in_right}
-use Rattle.vm_allocator.proofs.Rewriting.{known_left, known_right, rewritten_left, rewritten_right, rewrite_here}
+use Rattle.vm_allocator.proofs.blocks.Replacement.{find_in_left, find_in_right}
+use Rattle.vm_allocator.proofs.nodes.Rewriting.{known_left, known_right, rewritten_left, rewritten_right, rewrite_here}
 use Rattle.vm_allocator.proofs.allocation_engine.node.InnerNode.+rewrite.Goals as goal
 
 pub unreachable-requires : goal.unreachable-requires

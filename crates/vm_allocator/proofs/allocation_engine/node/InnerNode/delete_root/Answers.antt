@@ -1,6 +1,6 @@
 use Rattle.std.proofs.Common.{refl, ◌≡◌}
 use Rattle.vm_allocator.specs.NodeFields.{side, shape_of}
-use Rattle.vm_allocator.proofs.Replacement.{ordered_without, remove_in_middle}
+use Rattle.vm_allocator.proofs.blocks.Replacement.{ordered_without, remove_in_middle}
 use Rattle.vm_allocator.proofs.allocation_engine.node.InnerNode.delete_root.Goals as goal
 
 pub join-joined-requires-clause-ordered : goal.join-joined-requires-clause-ordered
@@ -13,4 +13,4 @@ returns-clause-blocks c =
     let i = c.open.inside in
     let d = remove_in_middle (shape_of i) (side i.left) _ (side i.right) i.key refl refl c.open.invariant.tree in
     let e : c.args.tree.value ≡ shape_of i = cc in
-    rw (e, d, c.join-joined.ensures.blocks, c.strip-left.ensures.sides)
+    rw (e, d, c.join-joined.ensures.joins.blocks, c.strip-left.ensures.sides)

@@ -1,4 +1,4 @@
-use Rattle.vm_allocator.proofs.BlockOrder.{ordered_right_sides}
+use Rattle.vm_allocator.proofs.blocks.Order.{ordered_right_sides}
 use Rattle.vm_allocator.proofs.allocation_engine.node.balance.lean_right.Goals as goal
 
 pub fork-low-requires-clause-ordered : goal.fork-low-requires-clause-ordered

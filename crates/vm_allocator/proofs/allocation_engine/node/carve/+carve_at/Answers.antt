@@ -1,23 +1,23 @@
 use Rattle.std.proofs.Common.{◌≡◌, rules, arith}
 use Rattle.vm_allocator.specs.Shape.{IsTree}
 use Rattle.vm_allocator.specs.NodeFields.{side, shape_of}
-use Rattle.vm_allocator.proofs.Rewriting.{known_left, known_right, known_some, rewritten_left, rewritten_right}
+use Rattle.vm_allocator.proofs.nodes.Rewriting.{known_left, known_right, rewritten_left, rewritten_right}
 use Rattle.vm_allocator.proofs.allocation_engine.node.carve.+carve_at.Goals as goal
 
-pub carve_at-requires : goal.carve_at-requires
-carve_at-requires t c =
+pub carve_at-changed-requires : goal.carve_at-changed-requires
+carve_at-changed-requires t c =
     let i = c.tree.inside in
     let e : side c.args.at.now ≡ shape_of i = cc in
     let tree : IsTree (side c.args.at.now) = rw e c.tree.invariant.tree in
-    let known = known_left (side c.args.at.now) (side i.left) _ (side i.right) c.args.key.now e c.in-Greater.ensures tree c.requires.known in
-    let ordered = rewritten_left (side c.args.at.now) (side i.left) _ (side i.right) c.args.key.now _ e c.in-Greater.ensures tree c.requires.ordered in
-    (search rules, (known_some c.args.key.now i.left known, (known, (c.requires.before_leaf, (c.requires.after_leaf, (ordered, (grind arith, grind arith)))))))
+    let known = known_left (side c.args.at.now) (side i.left) _ (side i.right) c.args.key.now e c.in-Greater.ensures tree c.requires.carving.known in
+    let ordered = rewritten_left (side c.args.at.now) (side i.left) _ (side i.right) c.args.key.now _ e c.in-Greater.ensures tree c.requires.carving.ordered in
+    (search rules, (c.requires.leaves, (record { known = known; ordered = ordered }, (grind arith, grind arith))))
 
-pub carve_at-requires-in-Less : goal.carve_at-requires-in-Less
-carve_at-requires-in-Less t c =
+pub carve_at-changed-requires-in-Less : goal.carve_at-changed-requires-in-Less
+carve_at-changed-requires-in-Less t c =
     let i = c.tree.inside in
     let e : side c.args.at.now ≡ shape_of i = cc in
     let tree : IsTree (side c.args.at.now) = rw e c.tree.invariant.tree in
-    let known = known_right (side c.args.at.now) (side i.left) _ (side i.right) c.args.key.now e c.in-Less.ensures tree c.requires.known in
-    let ordered = rewritten_right (side c.args.at.now) (side i.left) _ (side i.right) c.args.key.now _ e c.in-Less.ensures tree c.requires.ordered in
-    (search rules, (known_some c.args.key.now i.right known, (known, (c.requires.before_leaf, (c.requires.after_leaf, (ordered, (grind arith, grind arith)))))))
+    let known = known_right (side c.args.at.now) (side i.left) _ (side i.right) c.args.key.now e c.in-Less.ensures tree c.requires.carving.known in
+    let ordered = rewritten_right (side c.args.at.now) (side i.left) _ (side i.right) c.args.key.now _ e c.in-Less.ensures tree c.requires.carving.ordered in
+    (search rules, (c.requires.leaves, (record { known = known; ordered = ordered }, (grind arith, grind arith))))

@@ -1,0 +1,159 @@
+-- What a caller wants to know of a range or an id that it was given.
+use Rattle.std.proofs.Common.{◌≡◌, ℕ, ◌+◌, ◌-◌, ◌%◌, List, [], ◌∷◌, ◌<◌, ◌≤◌, ◌⊎◌, arith, refl, sym, ap, ◌∙◌, inl, inr, ⊎_elim, subst, Result, Ok, Err, IfOk, IfErr}
+use Rattle.std.specs.List.{Contains}
+use Rattle.vm_allocator.specs.Range.{Range, IsIn, Overlaps, address_count, span}
+use Rattle.vm_allocator.specs.Address.{AddressState, AreClear, IsPlace, IsAddressState, holding, releasing, without_range}
+use Rattle.vm_allocator.specs.Alignment.{IsAlignment}
+use Rattle.vm_allocator.specs.Request.{Request, request_for, IsRequest, IsStartAligned}
+use Rattle.vm_allocator.specs.Answer.{IsChosen, Takes, Allocates, Frees}
+use Rattle.vm_allocator.specs.Ids.{IdState, IsHeld, IsLeastNotHeld, holding_id, ByLeastNotHeld, AllocatesId}
+use Rattle.vm_allocator.specs.declared.error.Error.{Error}
+use Rattle.vm_allocator.specs.declared.error.Error.TheVariants.{Overflow, OutOfMemory}
+use Rattle.vm_allocator.specs.declared.constraint.AllocPolicy.{AllocPolicy}
+use Rattle.vm_allocator.specs.declared.constraint.AllocPolicy.TheVariants.{ExactMatch}
+use Rattle.vm_allocator.proofs.blocks.Words.{IsHeldAddress, IsHeld as IsHeldRange, contains_held, held_contains, all_miss, none_holds, held_address}
+use Rattle.vm_allocator.proofs.blocks.HeldSets.{held_lies, one_held}
+use Rattle.vm_allocator.proofs.blocks.HeldChanges.{held_now, held_without, not_held_without}
+use Rattle.vm_allocator.proofs.answers.Once.{chosen_place}
+use Rattle.vm_allocator.proofs.answers.Filling.{allocates_chosen}
+use Rattle.vm_allocator.proofs.answers.Outcomes.{allocates_outcome}
+use Rattle.vm_allocator.proofs.ids.Sets.{inserted_here}
+
+-- a range that was given: as long as was asked, from a multiple of the alignment on, clear before and held after
+pub record IsGiven (old : AddressState) (request : Request) (r : Range) (new : AddressState) : Type 0 where
+  pub some : 0 < request.size
+  pub long : r ≡ span r.start request.size
+  pub chosen : IsChosen request old r.start
+  pub place : IsPlace request.size request.align old r.start
+  pub left : new ≡ holding r old
+
+pub given : (old new : AddressState) (request : Request) (r : Range) → Allocates old request (Ok r) new → IsGiven old request r new
+unfolding Takes
+given old new request r h =
+    ⊎_elim
+    (λ l. absurd (cc (l.1)))
+    (λ k.
+    let s = k.1.0 in
+    ⊎_elim
+    (λ t.
+    let e : span s request.size ≡ r = cc (t.0) in
+    let start : s ≡ r.start = ap (λ (v : Range). v.start) e in
+    record {
+      some = k.0.some;
+      long = sym e ∙ ap (λ (v : ℕ). span v request.size) start;
+      chosen = subst (IsChosen request old) start k.1.1;
+      place = subst (IsPlace request.size request.align old) start (chosen_place request s old k.1.1);
+      left = t.1 ∙ ap (λ (v : Range). holding v old) e;
+    })
+    (λ x. ⊎_elim (λ o. absurd (cc o)) (λ o. absurd (cc (o.1))) x.2)
+    k.1.3)
+    (allocates_outcome old new (Ok r) request h)
+
+-- a range that was given starts at a multiple of the alignment
+pub given_aligned : (old new : AddressState) (size align : ℕ) (policy : AllocPolicy) (answer : Result Range Error) → Allocates old (request_for size align policy) answer new → IfOk answer (λ r. r.start % align ≡ 0)
+unfolding IsPlace
+given_aligned old new size align policy (Ok r) h = (given old new (request_for size align policy) r h).place.0
+given_aligned old new size align policy (Err e) h = tt
+
+-- and has as many addresses as were asked for
+pub given_long : (old new : AddressState) (size align : ℕ) (policy : AllocPolicy) (answer : Result Range Error) → Allocates old (request_for size align policy) answer new → IfOk answer (λ r. address_count r ≡ size)
+given_long old new size align policy (Ok r) h =
+    let g = given old new (request_for size align policy) r h in
+    let some : 0 < size = g.some in
+    let end : r.end ≡ r.start + size - 1 = ap (λ (v : Range). v.end) g.long in
+    omega arith
+given_long old new size align policy (Err e) h = tt
+
+-- and is held from then on
+pub given_held : (old new : AddressState) (request : Request) (r : Range) → Allocates old request (Ok r) new → Contains new.held r
+given_held old new request r h =
+    let g = given old new request r h in contains_held new.held r (subst (λ (v : AddressState). IsHeldRange v.held r) (sym g.left) (held_now r old.held))
+
+-- two that were given one after the other have no address in common
+pub given_apart : (old mid new : AddressState) (first second : Request) (r s : Range) → Allocates old first (Ok r) mid → Allocates mid second (Ok s) new → ¬ Overlaps r s
+unfolding IsPlace Overlaps
+given_apart old mid new first second r s h k o =
+    let f = given mid new second s k in
+    let some = f.some in
+    let end : s.end ≡ s.start + second.size - 1 = ap (λ (v : Range). v.end) f.long in
+    let held = held_contains mid.held r (given_held old mid first r h) in
+    none_holds mid.held o.0 (f.place.1 o.0 o.2.0 (omega (arith, o.2.1))).1 (held_address mid.held r o.0 held o.1)
+
+-- ---- a range that is given back and asked for again by its start
+-- a range that was asked for by its start starts there
+given_at : (old new : AddressState) (size align start : ℕ) (r : Range) → Allocates old (request_for size align (ExactMatch start)) (Ok r) new → r ≡ span start size
+unfolding IsChosen
+given_at old new size align start r h =
+    let g = given old new (request_for size align (ExactMatch start)) r h in
+    g.long ∙ ap (λ (v : ℕ). span v size) g.chosen.0
+
+-- a range that has as many addresses as another, from its start on, is that one
+same_range : (r : Range) → r.start ≤ r.end → span r.start (address_count r) ≡ r
+same_range r l = let e : r.start + address_count r - 1 ≡ r.end = omega arith in ap (λ (v : ℕ). record { start = r.start; end = v }) e
+
+pub taken_again : (mid new : AddressState) (r : Range) (answer : Result Range Error) → r.start ≤ r.end → Allocates mid (request_for (address_count r) 1 (ExactMatch r.start)) answer new → IfOk answer (λ again. again ≡ r)
+taken_again mid new r (Ok again) l h = given_at mid new (address_count r) 1 r.start again h ∙ same_range r l
+taken_again mid new r (Err e) l h = tt
+
+-- a held address is one of a held range
+range_of : (hs : List Range) (x : ℕ) → IsHeldAddress hs x → (q : Range) × IsHeldRange hs q × IsIn q x
+range_of [] x h = absurd h
+range_of (y ∷ ys) x h =
+    ⊎_elim (λ (i : IsIn y x). (y, inl refl, i)) (λ (k : IsHeldAddress ys x). let q = range_of ys x k in (q.0, inr q.1, q.2)) h
+
+-- the addresses of a range that is given back are clear
+released_clear : (old : AddressState) (r : Range) → IsAddressState old → IsHeldRange old.held r → AreClear (address_count r) (releasing r old) r.start
+released_clear old r i h x low high =
+    let lo = old.space.start in
+    let hi = old.space.end in
+    let l = held_lies lo hi old.held r i.slots h in
+    let inside : IsIn r x = (low, omega (arith, l.1, high)) in (
+      (omega (arith, l.0, low), omega (arith, l.2, inside.1)),
+      all_miss (without_range r old.held) x (λ k.
+          let q = range_of (without_range r old.held) x k in
+          not_held_without lo hi r q.0 old.held i.slots q.1
+          (one_held lo hi x old.held r q.0 i.slots h (held_without r q.0 old.held q.1) inside q.2)),
+    )
+
+-- so nothing but memory or depth refuses it
+pub refused_again : (old mid new : AddressState) (r : Range) (freed : Result (Unit {0}) Error) (answer : Result Range Error) → IsAddressState old → Contains old.held r → Frees old r freed mid → Allocates mid (request_for (address_count r) 1 (ExactMatch r.start)) answer new → IfErr answer (λ e. (e ≡ OutOfMemory) ⊎ (e ≡ Overflow))
+unfolding Frees Takes IsPlace IsChosen IsStartAligned IsAlignment
+refused_again old mid new r freed (Ok again) i c f h = tt
+refused_again old mid new r freed (Err e) i c f h =
+    let held = held_contains old.held r c in
+    let l = held_lies old.space.start old.space.end old.held r i.slots held in
+    let left : mid ≡ releasing r old = ⊎_elim (λ k. k.1.1) (λ k. absurd (k.0 c)) f in
+    let request = request_for (address_count r) 1 (ExactMatch r.start) in
+    let one : r.start % 1 ≡ 0 = grind arith in
+    let sensible : IsRequest request = record { some = omega arith; aligned = (0, omega arith, refl); start = one } in
+    let clear : AreClear (address_count r) mid r.start = subst (λ (v : AddressState). AreClear (address_count r) v r.start) (sym left) (released_clear old r i held) in
+    let chosen : IsChosen request mid r.start = (refl, (one, clear)) in
+    ⊎_elim
+    (λ k. absurd (omega (arith, l.1, l.3, k.0)))
+    (λ k. ⊎_elim (λ t. absurd (cc (t.0))) (λ t. ⊎_elim (λ o. inl (cc o)) (λ o. inr (cc (o.1))) t.2) k.1)
+    (allocates_chosen request r.start mid new (Err e) sensible (omega (arith, l.1, l.3)) chosen h)
+
+-- ---- ids
+-- an id that was given was held by no one, and is held now
+pub id_was_free : (old new : IdState) (answer : Result ℕ Error) → AllocatesId old answer new → IfOk answer (λ id. ¬ IsHeld old id)
+unfolding AllocatesId ByLeastNotHeld IsLeastNotHeld
+id_was_free old new (Ok id) h =
+    ⊎_elim
+    (λ l. let e : l.0 ≡ id = cc (l.2.0) in subst (λ (v : ℕ). ¬ IsHeld old v) e l.1.0.1)
+    (λ r. absurd (⊎_elim (λ f. cc (f.1.0)) (λ f. cc (f.1.0)) r.1))
+    h
+id_was_free old new (Err e) h = tt
+
+pub id_is_held : (old new : IdState) (answer : Result ℕ Error) → AllocatesId old answer new → IfOk answer (λ id. IsHeld new id)
+unfolding AllocatesId ByLeastNotHeld
+id_is_held old new (Ok id) h =
+    ⊎_elim
+    (λ l.
+    let e : l.0 ≡ id = cc (l.2.0) in
+    let here : IsHeld (holding_id l.0 old) l.0 = inserted_here old.held l.0 in
+    subst (λ (v : IdState). IsHeld v id) (sym l.2.1) (subst (λ (v : ℕ). IsHeld (holding_id l.0 old) v) e here))
+    (λ r. absurd (⊎_elim (λ f. cc (f.1.0)) (λ f. cc (f.1.0)) r.1))
+    h
+id_is_held old new (Err e) h = tt
+
+pub ruleset callers = (given_aligned, given_long, given_held, given_apart, taken_again, refused_again, id_was_free, id_is_held)

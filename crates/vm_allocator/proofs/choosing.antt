@@ -1,0 +1,6 @@
+pub mod Fits
+pub mod Places
+pub mod PlaceSearch
+pub mod Searched
+pub mod NamedStart
+pub mod Named

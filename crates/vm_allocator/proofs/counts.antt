@@ -1,0 +1,9 @@
+pub mod Ways
+pub mod WayBounds
+pub mod Carving
+pub mod Searching
+pub mod LeftClear
+pub mod Granting
+pub mod Releasing
+pub mod Balanced
+pub mod Allocating

@@ -1,0 +1,7 @@
+pub mod Sets
+pub mod States
+pub mod Taking
+pub mod GivingBack
+pub mod Answers
+pub mod EveryCall
+pub mod Histories

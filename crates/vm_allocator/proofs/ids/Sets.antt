@@ -1,0 +1,109 @@
+-- The ids that an allocator's fields hold, as a set.
+use Rattle.std.proofs.Common.{◌≡◌, ℕ, zero, suc, ◌+◌, ◌-◌, ◌<◌, ◌≤◌, ◌⊎◌, Bool, true, false, cond, not, refl, sym, ap, ◌∙◌, arith, inl, inr, ⊎_elim, Option, Some, None, IsTrue}
+use Rattle.std.proofs.lemmas.Bool.{cases_eq, both_ways, and_parts, or_cases, and_from, or_left, or_right, not-true, eq-eqb, eqb-true, ne_eqb}
+use Rattle.std.specs.List.{range_with_len, list_any}
+use Rattle.std.specs.Ordering.{nat_cmp, eq_by_cmp}
+use Rattle.std.specs.Cmp.{nat_cmp_total, unsigned_tied}
+use Rattle.std.specs.BTreeSet.{BTreeSet, contains, Updates}
+use Rattle.std.specs.FinSet as set
+use Rattle.vm_allocator.specs.Ids.{IsHandedOut, IsHeld, bound_of, held_of, ids_of, IsNext}
+
+-- Members of sets of numbers.
+
+tied_here : (i : ℕ) → eq_by_cmp nat_cmp i i ≡ true
+tied_here i = unsigned_tied i i ∙ eq-eqb i i refl
+
+tied_is : (i j : ℕ) → eq_by_cmp nat_cmp i j ≡ true → i ≡ j
+tied_is i j e = eqb-true i j (sym (unsigned_tied i j) ∙ e)
+
+apart_not_tied : (i j : ℕ) → (i ≡ j → ⊥) → eq_by_cmp nat_cmp i j ≡ false
+apart_not_tied i j ne = unsigned_tied i j ∙ ne_eqb i j ne
+
+pub same_test : (a b : Bool) → (a ≡ true → b ≡ true) → (b ≡ true → a ≡ true) → a ≡ b
+same_test true b f g = sym (f refl)
+same_test false true f g = g refl
+same_test false false f g = refl
+
+pub same_members : (s t : set.FinSet nat_cmp) → ((q : ℕ) → IsTrue (set.contains s q) → IsTrue (set.contains t q)) → ((q : ℕ) → IsTrue (set.contains t q) → IsTrue (set.contains s q)) → s ≡ t
+same_members s t there back =
+    set.same_set nat_cmp_total set.nat_cmp-IsAntisymmetric s t (λ q. same_test (set.contains s q) (set.contains t q) (there q) (back q))
+
+pub inserted_here : (s : set.FinSet nat_cmp) (k : ℕ) → IsTrue (set.contains (set.insert s k) k)
+inserted_here s k = set.contains-insert nat_cmp_total s k k ∙ or_left _ _ (tied_here k)
+
+pub inserted_other : (s : set.FinSet nat_cmp) (k q : ℕ) → IsTrue (set.contains s q) → IsTrue (set.contains (set.insert s k) q)
+inserted_other s k q h = set.contains-insert nat_cmp_total s k q ∙ or_right _ _ h
+
+pub from_inserted : (s : set.FinSet nat_cmp) (k q : ℕ) → IsTrue (set.contains (set.insert s k) q) → (q ≡ k) ⊎ IsTrue (set.contains s q)
+from_inserted s k q h =
+    ⊎_elim (λ e. inl (tied_is q k e)) (λ m. inr m) (or_cases _ _ (sym (set.contains-insert nat_cmp_total s k q) ∙ h))
+
+pub removed_other : (s : set.FinSet nat_cmp) (k q : ℕ) → (q ≡ k → ⊥) → IsTrue (set.contains s q) → IsTrue (set.contains (set.remove s k) q)
+removed_other s k q ne h =
+    set.contains-remove nat_cmp_total s k q ∙ and_from _ _ (ap not (apart_not_tied q k ne)) h
+
+pub from_removed : (s : set.FinSet nat_cmp) (k q : ℕ) → IsTrue (set.contains (set.remove s k) q) → (q ≡ k → ⊥) × IsTrue (set.contains s q)
+from_removed s k q h =
+    let parts = and_parts _ _ (sym (set.contains-remove nat_cmp_total s k q) ∙ h) in (
+      λ e. both_ways (eq_by_cmp nat_cmp q k) (not-true _ parts.0) (ap (λ (x : ℕ). eq_by_cmp nat_cmp q x) (sym e) ∙ tied_here q),
+      parts.1,
+    )
+
+-- The numbers of a row.
+
+in_row : (a n i : ℕ) → a ≤ i → i < a + n → list_any (eq_by_cmp nat_cmp i) (range_with_len a n) ≡ true
+in_row a zero i l h = absurd (omega arith)
+in_row a (suc n) i l h =
+    ⊎_elim (λ (e : i ≡ a). or_left _ _ (ap (λ (x : ℕ). eq_by_cmp nat_cmp i x) (sym e) ∙ tied_here i)) (λ (ne : i ≡ a → ⊥). or_right _ _ (in_row (a + 1) n i (omega arith) (omega arith))) (cases_eq i a)
+
+from_row : (a n i : ℕ) → list_any (eq_by_cmp nat_cmp i) (range_with_len a n) ≡ true → (a ≤ i) × (i < a + n)
+from_row a zero i h = absurd (both_ways false refl h)
+from_row a (suc n) i h =
+    ⊎_elim (λ (t : eq_by_cmp nat_cmp i a ≡ true). let e = tied_is i a t in (omega (arith, e), omega (arith, e))) (λ (m : list_any (eq_by_cmp nat_cmp i) (range_with_len (a + 1) n) ≡ true). let r = from_row (a + 1) n i m in (omega (arith, r.0), omega (arith, r.1))) (or_cases _ _ h)
+
+-- The ids held.
+
+pub held_from : (lo bound i : ℕ) (freed : BTreeSet ℕ) → lo ≤ i → i < bound → contains nat_cmp freed i ≡ false → IsTrue (set.contains (held_of lo bound freed) i)
+unfolding held_of
+held_from lo bound i freed l h f =
+    set.contains-difference nat_cmp_total _ _ i
+    ∙ and_from _ _ (set.contains-from_list nat_cmp_total _ i ∙ in_row lo (bound - lo) i l (omega arith)) (ap not (set.contains-from_list nat_cmp_total freed.keys i ∙ f))
+
+pub from_held : (lo bound i : ℕ) (freed : BTreeSet ℕ) → IsTrue (set.contains (held_of lo bound freed) i) → (lo ≤ i) × (i < bound) × (contains nat_cmp freed i ≡ false)
+unfolding held_of
+from_held lo bound i freed h =
+    let parts = and_parts _ _ (sym (set.contains-difference nat_cmp_total _ _ i) ∙ h) in
+    let row = from_row lo (bound - lo) i (sym (set.contains-from_list nat_cmp_total _ i) ∙ parts.0) in (
+      row.0,
+      omega (arith, row.0, row.1),
+      sym (set.contains-from_list nat_cmp_total freed.keys i) ∙ not-true _ parts.1,
+    )
+
+pub holds_from : (lo hi i : ℕ) (next : Option ℕ) (freed : BTreeSet ℕ) → lo ≤ i → i < bound_of next hi → contains nat_cmp freed i ≡ false → IsHeld (ids_of lo hi next freed) i
+unfolding ids_of
+holds_from lo hi i next freed = held_from lo (bound_of next hi) i freed
+
+pub from_holds : (lo hi i : ℕ) (next : Option ℕ) (freed : BTreeSet ℕ) → IsHeld (ids_of lo hi next freed) i → (lo ≤ i) × (i < bound_of next hi) × (contains nat_cmp freed i ≡ false)
+unfolding ids_of
+from_holds lo hi i next freed = from_held lo (bound_of next hi) i freed
+
+pub holds_of : (lo hi i : ℕ) (next : Option ℕ) (freed : BTreeSet ℕ) → IsHandedOut (ids_of lo hi next freed) i → contains nat_cmp freed i ≡ false → IsHeld (ids_of lo hi next freed) i
+unfolding ids_of
+holds_of lo hi i next freed h = held_from lo (bound_of next hi) i freed h.0 h.1
+
+-- the bound is at most one past the range
+pub bound_fits : (lo hi : ℕ) (next : Option ℕ) → IsNext lo hi next → (bound_of next hi ≤ hi + 1)
+bound_fits lo hi None h = omega arith
+bound_fits lo hi (Some n) h = h.1
+
+pub bound_above : (lo hi : ℕ) (next : Option ℕ) → lo ≤ hi → IsNext lo hi next → lo ≤ bound_of next hi
+bound_above lo hi None l h = omega arith
+bound_above lo hi (Some n) l h = h.0
+
+-- Sets after a change.
+
+pub changed_here : (old new : BTreeSet ℕ) (k : ℕ) (b : Bool) → Updates nat_cmp old new k b → contains nat_cmp new k ≡ b
+changed_here old new k b u = u.0 k ∙ ap (λ (t : Bool). cond t b (contains nat_cmp old k)) (tied_here k)
+
+pub changed_other : (old new : BTreeSet ℕ) (k q : ℕ) (b : Bool) → Updates nat_cmp old new k b → (k ≡ q → ⊥) → contains nat_cmp new q ≡ contains nat_cmp old q
+changed_other old new k q b u ne = u.0 q ∙ ap (λ (t : Bool). cond t b (contains nat_cmp old q)) (apart_not_tied k q ne)

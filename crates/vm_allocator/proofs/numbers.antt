@@ -1,0 +1,4 @@
+pub mod Power
+pub mod Alignments
+pub mod Decisions
+pub mod Ranges

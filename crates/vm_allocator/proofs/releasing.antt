@@ -1,0 +1,5 @@
+pub mod Joining
+pub mod Neighbours
+pub mod Finding
+pub mod Apart
+pub mod Rejoining

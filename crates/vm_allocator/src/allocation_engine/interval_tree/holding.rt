@@ -1,0 +1,124 @@
+//! How a range is held: what fills its free block is marked in place, and what does not is split
+//! from it, with all memory asked for before the first change.
+ghost use Rattle.std.specs.Prelude.{◌≡◌, ◌+◌, ◌*◌, ◌<◌, ◌≤◌, Err, IfOk, IfErr, IfSome, OnErr, OnOk};
+ghost use Rattle.vm_allocator.specs.Range.{MAX};
+ghost use Rattle.vm_allocator.specs.Answer.{Takes};
+ghost use Rattle.vm_allocator.specs.BlockEdits.{free_block, IsTakenFrom, LeavesPart, before_part, after_part};
+ghost use Rattle.vm_allocator.specs.Cases.{Tells};
+ghost use Rattle.vm_allocator.specs.Carving.{IsRest};
+ghost use Rattle.vm_allocator.specs.Shape.{blocks, height_of, single, IsLeaf};
+ghost use Rattle.vm_allocator.specs.NodeFields.{side};
+ghost use Rattle.vm_allocator.specs.SpaceTree.{tree_state, IsChoice};
+ghost use Rattle.vm_allocator.specs.Steps.{TOO_HIGH};
+ghost use Rattle.vm_allocator.specs.Ways.{leaf_of, way_if_held};
+
+use super::IntervalTree;
+use super::placing::Choice;
+use crate::allocation_engine::NodeState;
+use crate::allocation_engine::node::carve::{Rest, carve_at};
+use crate::allocation_engine::node::rewrite::rewrite_at;
+use crate::allocation_engine::node::{Child, InnerNode};
+use crate::error::{Error, Result};
+use crate::range::RangeInclusive;
+use std::alloc::Global;
+
+/// The height from which on no split is made, so that two more nodes never make a tree too high.
+const TOO_HIGH: u64 = 48;
+
+impl IntervalTree {
+    /// Holds a range within a free block. Where a part of the block is left, a tree that is too high
+    /// is `Overflow`, and then comes `OutOfMemory`: all memory is asked for before the first change.
+    #[tactic(auto, using(crate::proofs::splitting::Holding::takings, crate::proofs::splitting::Holding::carves, crate::proofs::nodes::Spaces::rooted, crate::proofs::counts::Carving::holdings))]
+    pub(super) fn hold(
+        &mut self,
+        alloc: Global,
+        choice: Choice,
+        count: &mut u64,
+    ) -> Result<RangeInclusive>
+        requires choice { IsChoice (blocks self.old) choice }
+        requires count_fits { count.old + 2 * height_of self.old ≤ MAX }
+        ensures answer { Takes (tree_state self.old) choice.range result (tree_state self.new) }
+        ensures unchanged { OnErr result (self.new ≡ self.old) }
+        ensures low { LeavesPart choice.key choice.range → OnOk result (height_of self.old < TOO_HIGH) }
+        ensures memory { result ≡ Err Error.OutOfMemory → height_of self.old < TOO_HIGH }
+        ensures count { count.new ≡ count.old + way_if_held choice.key result self.old }
+    {
+        if !leaves_part(&choice) {
+            rewrite_at(
+                &mut self.root,
+                &choice.key,
+                choice.range,
+                NodeState::Allocated,
+                count,
+            );
+            return Ok(choice.range);
+        }
+        if self.height() >= TOO_HIGH {
+            return Err(Error::Overflow);
+        }
+        let rest = rest_of(alloc, &choice)?;
+        carve_at(&mut self.root, &choice.key, choice.range, rest, count);
+        Ok(choice.range)
+    }
+}
+
+/// Whether a part of the free block is left beside the range.
+fn leaves_part(choice: &Choice) -> bool
+    ensures { Tells result (LeavesPart choice.now.key choice.now.range) }
+{
+    choice.key.start() < choice.range.start() || choice.range.end() < choice.key.end()
+}
+
+/// What is left of the free block on both sides of the range. `OutOfMemory` where there is no memory
+/// for a leaf.
+fn rest_of(alloc: Global, choice: &Choice) -> Result<Rest>
+    requires { IsTakenFrom choice.now.key choice.now.range }
+    ensures rest { IfOk result (λ rest. IsRest choice.now.key choice.now.range rest) }
+    ensures error { IfErr result (λ error. error ≡ Error.OutOfMemory) }
+{
+    let before = leaf_before(alloc, choice)?;
+    let after = leaf_after(alloc, choice)?;
+    Ok(Rest { before, after })
+}
+
+/// A leaf for what is left of the free block before the range.
+fn leaf_before(alloc: Global, choice: &Choice) -> Result<Child>
+    requires { IsTakenFrom choice.now.key choice.now.range }
+    ensures part { IfOk result (λ leaf. side leaf ≡ leaf_of (before_part choice.now.key choice.now.range)) }
+    ensures leaf { IfOk result (λ leaf. IfSome leaf (λ n. IsLeaf n.value)) }
+    ensures error { IfErr result (λ error. error ≡ Error.OutOfMemory) }
+{
+    let _ = choice.key.end();
+    if choice.key.start() >= choice.range.start() {
+        return Ok(None);
+    }
+    let key = RangeInclusive::between(choice.key.start(), choice.range.start() - 1);
+    free_leaf(alloc, key)
+}
+
+/// A leaf for what is left of the free block after the range.
+fn leaf_after(alloc: Global, choice: &Choice) -> Result<Child>
+    requires { IsTakenFrom choice.now.key choice.now.range }
+    ensures part { IfOk result (λ leaf. side leaf ≡ leaf_of (after_part choice.now.key choice.now.range)) }
+    ensures leaf { IfOk result (λ leaf. IfSome leaf (λ n. IsLeaf n.value)) }
+    ensures error { IfErr result (λ error. error ≡ Error.OutOfMemory) }
+{
+    let _ = choice.key.end();
+    if choice.range.end() >= choice.key.end() {
+        return Ok(None);
+    }
+    let key = RangeInclusive::between(choice.range.end() + 1, choice.key.end());
+    free_leaf(alloc, key)
+}
+
+/// A leaf with a free block.
+fn free_leaf(alloc: Global, key: RangeInclusive) -> Result<Child>
+    ensures leaf { IfOk result (λ leaf. IfSome leaf (λ n. n.value ≡ single (free_block key))) }
+    ensures some { IfOk result (λ leaf. side leaf ≡ single (free_block key)) }
+    ensures error { IfErr result (λ error. error ≡ Error.OutOfMemory) }
+{
+    match Box::new(alloc, InnerNode::new(key, NodeState::Free)) {
+        Ok(leaf) => Ok(Some(leaf)),
+        Err(_) => Err(Error::OutOfMemory),
+    }
+}

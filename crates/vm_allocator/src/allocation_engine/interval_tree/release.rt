@@ -1,0 +1,81 @@
+//! How a held range is given back: the free blocks beside it are removed, and its block takes their
+//! addresses, free again.
+ghost use Rattle.std.specs.Prelude.{◌≡◌, ◌+◌, ◌*◌, ◌≤◌, OnErr, IsSome};
+ghost use Rattle.vm_allocator.specs.Range.{MAX, IsRange};
+ghost use Rattle.vm_allocator.specs.Answer.{Frees};
+ghost use Rattle.vm_allocator.specs.Release.{IsAround, joined, rejoined, without_if, start_with, end_with};
+ghost use Rattle.vm_allocator.specs.Shape.{blocks, height_of};
+ghost use Rattle.vm_allocator.specs.NodeFields.{side};
+ghost use Rattle.vm_allocator.specs.SpaceTree.{tree_state};
+ghost use Rattle.vm_allocator.specs.Steps.{EntersToFree, IsWayBack};
+ghost use Rattle.vm_allocator.specs.Ways.{way_if};
+
+use super::IntervalTree;
+use crate::allocation_engine::NodeState;
+use crate::allocation_engine::node::Child;
+use crate::allocation_engine::node::neighbours::Neighbours;
+use crate::allocation_engine::node::remove::delete_at;
+use crate::allocation_engine::node::rewrite::rewrite_at;
+use crate::error::{Error, Result};
+use crate::range::RangeInclusive;
+
+impl IntervalTree {
+    /// `free`, which adds the nodes that it enters to a count.
+    #[tactic(auto, using(crate::proofs::releasing::Rejoining::releases, crate::proofs::counts::Releasing::ways_back))]
+    pub(super) fn release(&mut self, key: &RangeInclusive, count: &mut u64) -> Result<()>
+        requires { count.old + 5 * height_of self.old ≤ MAX }
+        ensures answer { Frees (tree_state self.old) key.now result (tree_state self.new) }
+        ensures unchanged { OnErr result (self.new ≡ self.old) }
+        ensures count { EntersToFree self.old key.now result count.old count.new }
+    {
+        let Some(beside) = self.root().neighbours(key, None, None, count) else {
+            return Err(Error::ResourceNotAvailable);
+        };
+        rejoin(&mut self.root, key, &beside, count);
+        Ok(())
+    }
+}
+
+/// Removes the free blocks beside a held one, and gives the held one all their addresses, free again.
+#[tactic(auto, using(crate::proofs::releasing::Rejoining::rejoins, crate::proofs::counts::Releasing::removals))]
+fn rejoin(root: &mut Child, key: &RangeInclusive, beside: &Neighbours, count: &mut u64)
+    requires around { IsAround (blocks (side root.old)) key.now beside.now }
+    requires count_fits { count.old + 3 * height_of (side root.old) ≤ MAX }
+    ensures blocks { blocks (side root.new) ≡ rejoined key.now beside.now (blocks (side root.old)) }
+    ensures height { height_of (side root.new) ≤ height_of (side root.old) }
+    ensures count { IsWayBack (side root.old) key.now beside.now count.old count.new }
+{
+    let range = joined(key, beside);
+    drop_if(root, &beside.before, count);
+    drop_if(root, &beside.after, count);
+    rewrite_at(root, key, range, NodeState::Free, count);
+}
+
+/// A range with the free ones beside it.
+fn joined(key: &RangeInclusive, beside: &Neighbours) -> RangeInclusive
+    requires { IsRange (start_with beside.now.before key.now) (end_with key.now beside.now.after) }
+    ensures { result ≡ joined key.now beside.now }
+{
+    let start = match &beside.before {
+        None => key.start(),
+        Some(before) => before.start(),
+    };
+    let end = match &beside.after {
+        None => key.end(),
+        Some(after) => after.end(),
+    };
+    RangeInclusive::between(start, end)
+}
+
+/// Removes the node with a key, if there is such a key.
+#[tactic(auto, using(crate::proofs::counts::WayBounds::removal_bounds))]
+fn drop_if(root: &mut Child, key: &Option<RangeInclusive>, count: &mut u64)
+    requires { count.old + height_of (side root.old) ≤ MAX }
+    ensures blocks { blocks (side root.new) ≡ without_if key.now (blocks (side root.old)) }
+    ensures height { height_of (side root.new) ≤ height_of (side root.old) }
+    ensures count { count.new ≡ count.old + way_if key.now (side root.old) }
+{
+    if let Some(key) = key {
+        delete_at(root, key, count);
+    }
+}

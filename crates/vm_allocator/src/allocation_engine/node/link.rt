@@ -1,0 +1,43 @@
+//! A leaf added to a tree.
+ghost use Rattle.std.specs.Prelude.{◌≡◌, ◌+◌, ◌<◌, ◌≤◌, IsSome};
+ghost use Rattle.vm_allocator.specs.Range.{MAX};
+ghost use Rattle.vm_allocator.specs.BlockList.{IsClearOf, insert_block};
+ghost use Rattle.vm_allocator.specs.Shape.{MAX_HEIGHT, blocks, height_of, root_block, IsLeaf, Grows};
+ghost use Rattle.vm_allocator.specs.Ways.{way_down};
+ghost use Rattle.vm_allocator.specs.NodeFields.{side};
+
+use super::balance::{Settled, rebalance, settle};
+use super::{Child, InnerNode};
+
+/// Adds a leaf at a place, below the node there if there is one; says whether the height changed.
+#[tactic(auto, using(crate::proofs::blocks::Order::links, crate::proofs::nodes::SideChange::places, crate::proofs::counts::Ways::ways_down))]
+pub(super) fn link_at(at: &mut Child, leaf: Box<InnerNode>, count: &mut u64) -> bool
+    requires leaf { IsLeaf leaf.value }
+    requires clear { IsClearOf (root_block leaf.value).key (blocks (side at.old)) }
+    requires height { height_of (side at.old) < MAX_HEIGHT }
+    requires count_fits { count.old + height_of (side at.old) ≤ MAX }
+    ensures some { IsSome at.new }
+    ensures blocks { blocks (side at.new) ≡ insert_block (root_block leaf.value) (blocks (side at.old)) }
+    ensures grows { Grows (side at.old) (side at.new) result }
+    ensures count { count.new ≡ count.old + way_down (root_block leaf.value).key (side at.old) }
+{
+    let key = leaf.key();
+    let Some(tree) = at else {
+        *at = Some(leaf);
+        return true;
+    };
+    let tree: &mut InnerNode = tree;
+    tree.enter(count);
+    let changed = if key.starts_before(&tree.key) {
+        link_at(&mut tree.left, leaf, count)
+    } else {
+        link_at(&mut tree.right, leaf, count)
+    };
+    if !changed {
+        return false;
+    }
+    match settle(&mut tree.left, &mut tree.right, &mut tree.height) {
+        Settled::Stands(changed) => changed,
+        Settled::Leans(left, right) => rebalance(at, left, right),
+    }
+}

@@ -1,0 +1,98 @@
+//! A block removed from a tree.
+ghost use Rattle.std.specs.Prelude.{◌≡◌, ◌+◌, ◌<◌, ◌≤◌, ◌^◌, ◌++◌, [], ◌∷◌, max, IsSome};
+ghost use Rattle.vm_allocator.specs.Range.{MAX};
+ghost use Rattle.vm_allocator.specs.BlockList.{IsOrderedFrom, replace_block};
+ghost use Rattle.vm_allocator.specs.Shape.{blocks, height_of, root_block, IsLeaf, Joins, Shrinks, DifferByAtMost, LeavesIfAbsent};
+ghost use Rattle.vm_allocator.specs.Ways.{way_to_first, way_to_join, way_to_remove};
+ghost use Rattle.vm_allocator.specs.NodeFields.{side};
+
+use super::balance::{Settled, balance, rebalance, settle, strip};
+use super::{Child, InnerNode, height};
+use crate::range::RangeInclusive;
+use std::cmp::Ordering;
+
+/// Takes the node with the least key out from below the node at a place; says whether the height
+/// there changed.
+#[tactic(auto, using(crate::proofs::blocks::Replacement::leasts, crate::proofs::nodes::SideChange::takes, crate::proofs::counts::Ways::ways_to_first))]
+fn take_least_at(at: &mut Child, count: &mut u64) -> (Box<InnerNode>, bool)
+    requires some { IsSome at.old }
+    requires count_fits { count.old + height_of (side at.old) ≤ MAX }
+    ensures blocks { blocks (side at.old) ≡ root_block result.0.value ∷ blocks (side at.new) }
+    ensures leaf { IsLeaf result.0.value }
+    ensures shrinks { Shrinks (side at.old) (side at.new) result.1 }
+    ensures count { count.new ≡ count.old + way_to_first (side at.old) }
+{
+    let Some(tree) = at else { unreachable!() };
+    let tree: &mut InnerNode = tree;
+    tree.enter(count);
+    if tree.left.is_none() {
+        let (_, right) = strip(&mut tree.left, &mut tree.right, &mut tree.height);
+        let _ = height(&right);
+        let Some(least) = at.take() else {
+            unreachable!()
+        };
+        *at = right;
+        return (least, true);
+    }
+    let (least, changed) = take_least_at(&mut tree.left, count);
+    if !changed {
+        return (least, false);
+    }
+    match settle(&mut tree.left, &mut tree.right, &mut tree.height) {
+        Settled::Stands(changed) => (least, changed),
+        Settled::Leans(left, right) => (least, rebalance(at, left, right)),
+    }
+}
+
+/// What is left of a tree without its root, from the root's children: the other child where one is
+/// absent, and else both below the least node of the right one.
+#[tactic(auto, using(crate::proofs::blocks::Replacement::leasts, crate::proofs::nodes::SideChange::takes, crate::proofs::counts::Ways::ways_to_join))]
+pub(super) fn join(left: Child, mut right: Child, count: &mut u64) -> Child
+    requires ordered { IsOrderedFrom 0 (blocks (side left) ++ blocks (side right)) }
+    requires close { DifferByAtMost 1 (height_of (side left)) (height_of (side right)) }
+    requires height_fits { max (height_of (side left)) (height_of (side right)) + 1 < 2 ^ 64 }
+    requires count_fits { count.old + height_of (side right) ≤ MAX }
+    ensures joins { Joins (side left) (side right) (side result) }
+    ensures count { count.new ≡ count.old + way_to_join (side left) (side right) }
+{
+    let _ = (height(&left), height(&right));
+    if right.is_none() {
+        return left;
+    }
+    if left.is_none() {
+        return right;
+    }
+    let (least, _) = take_least_at(&mut right, count);
+    Some(balance(left, least, right))
+}
+
+/// Removes the node with a key from below the node at a place, if there is one; says whether the
+/// height there changed.
+#[tactic(auto, using(crate::proofs::blocks::Replacement::removals, crate::proofs::blocks::Replacement::leavings, crate::proofs::nodes::SideChange::takes, crate::proofs::counts::Ways::ways_to_remove))]
+pub(crate) fn delete_at(at: &mut Child, key: &RangeInclusive, count: &mut u64) -> bool
+    requires { count.old + height_of (side at.old) ≤ MAX }
+    ensures blocks { blocks (side at.new) ≡ replace_block key.now [] (blocks (side at.old)) }
+    ensures absent { LeavesIfAbsent key.now result (side at.old) (side at.new) }
+    ensures shrinks { Shrinks (side at.old) (side at.new) result }
+    ensures count { count.new ≡ count.old + way_to_remove key.now (side at.old) }
+{
+    let Some(tree) = at else { return false };
+    let tree: &mut InnerNode = tree;
+    tree.enter(count);
+    let changed = match tree.key.order(key) {
+        Ordering::Equal => {
+            let (left, right) = strip(&mut tree.left, &mut tree.right, &mut tree.height);
+            *at = join(left, right, count);
+            return true;
+        }
+        Ordering::Greater => delete_at(&mut tree.left, key, count),
+        Ordering::Less => delete_at(&mut tree.right, key, count),
+    };
+    if !changed {
+        return false;
+    }
+    match settle(&mut tree.left, &mut tree.right, &mut tree.height) {
+        Settled::Stands(changed) => changed,
+        Settled::Leans(left, right) => rebalance(at, left, right),
+    }
+}

@@ -1,0 +1,72 @@
+//! A block changed in place.
+ghost use Rattle.std.specs.Prelude.{◌≡◌, ◌+◌, ◌≤◌, IsSome};
+ghost use Rattle.vm_allocator.specs.Range.{MAX};
+ghost use Rattle.vm_allocator.specs.BlockList.{IsOrderedFrom, with_block, find_key};
+ghost use Rattle.vm_allocator.specs.Shape.{blocks, height_of, IsTree};
+ghost use Rattle.vm_allocator.specs.Ways.{way_to};
+ghost use Rattle.vm_allocator.specs.NodeFields.{side};
+
+use super::{Child, InnerNode};
+use crate::allocation_engine::NodeState;
+use crate::range::RangeInclusive;
+use std::cmp::Ordering;
+
+impl InnerNode {
+    /// Gives the node with key `at` another key, which keeps its place in the order, and another
+    /// state. It takes no memory.
+    #[tactic(auto, using(crate::proofs::nodes::Rewriting::rewritings, crate::proofs::counts::Ways::ways_to))]
+    pub(crate) fn rewrite(
+        &mut self,
+        at: &RangeInclusive,
+        key: RangeInclusive,
+        node_state: NodeState,
+        count: &mut u64,
+    )
+        requires known { IsSome (find_key at.now (blocks self.old)) }
+        requires ordered { IsOrderedFrom 0 (with_block at.now key node_state (blocks self.old)) }
+        requires count_fits { count.old + height_of self.old ≤ MAX }
+        ensures blocks { blocks self.new ≡ with_block at.now key node_state (blocks self.old) }
+        ensures height { height_of self.new ≡ height_of self.old }
+        ensures tree { IsTree self.new }
+        ensures count { count.new ≡ count.old + way_to at.now self.old }
+    {
+        self.enter(count);
+        match self.key.order(at) {
+            Ordering::Equal => {
+                self.key = key;
+                self.node_state = node_state;
+            }
+            Ordering::Greater => {
+                let Some(left) = &mut self.left else {
+                    unreachable!()
+                };
+                left.rewrite(at, key, node_state, count);
+            }
+            Ordering::Less => {
+                let Some(right) = &mut self.right else {
+                    unreachable!()
+                };
+                right.rewrite(at, key, node_state, count);
+            }
+        }
+    }
+}
+
+/// Rewrites the node with key `old` below the node at a place.
+pub(crate) fn rewrite_at(
+    at: &mut Child,
+    old: &RangeInclusive,
+    key: RangeInclusive,
+    node_state: NodeState,
+    count: &mut u64,
+)
+    requires known { IsSome (find_key old.now (blocks (side at.old))) }
+    requires ordered { IsOrderedFrom 0 (with_block old.now key node_state (blocks (side at.old))) }
+    requires count_fits { count.old + height_of (side at.old) ≤ MAX }
+    ensures blocks { blocks (side at.new) ≡ with_block old.now key node_state (blocks (side at.old)) }
+    ensures height { height_of (side at.new) ≡ height_of (side at.old) }
+    ensures count { count.new ≡ count.old + way_to old.now (side at.old) }
+{
+    let Some(tree) = at else { unreachable!() };
+    tree.rewrite(old, key, node_state, count);
+}

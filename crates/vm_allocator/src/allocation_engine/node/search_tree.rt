@@ -1,0 +1,191 @@
+//! The other calls of a search tree: searching, inserting, deleting and marking by a key. The
+//! allocator makes none of them, and the tests that every search tree has to pass make them all.
+ghost use Rattle.std.specs.Prelude.{◌≡◌, ◌+◌, ◌*◌, ◌<◌, ◌≤◌, [], ◌↔◌, None, true, IsNone, IfOk, IfErr, OnOk, OnErr};
+ghost use Rattle.std.specs.Option.{option_map};
+ghost use Rattle.vm_allocator.specs.Range.{MAX};
+ghost use Rattle.vm_allocator.specs.BlockList.{IsClearOf, insert_block, replace_block, find_key};
+ghost use Rattle.vm_allocator.specs.Shape.{Shape, MAX_HEIGHT, Tip, Fork, blocks, height_of, root_block, IsTree, IsLeaf, Grows, Shrinks, first_met};
+ghost use Rattle.vm_allocator.specs.Ways.{way_down, way_to, way_across, way_to_remove};
+ghost use Rattle.vm_allocator.specs.NodeFields.{side};
+ghost use Rattle.vm_allocator.specs.NodeAnswer.{Inserts, TellsOverlap, RefusesKey, Marks};
+
+use super::balance::strip;
+use super::link::link_at;
+use super::remove::{delete_at, join};
+use super::{InnerNode, height};
+use crate::allocation_engine::NodeState;
+use crate::error::{Error, Result};
+use crate::range::RangeInclusive;
+use std::alloc::Global;
+use std::cmp::Ordering;
+
+impl InnerNode {
+    /// The tree with one more leaf, whose key overlaps none of the tree's. It takes no memory.
+    pub(crate) fn link(
+        tree: Box<InnerNode>,
+        leaf: Box<InnerNode>,
+        count: &mut u64,
+    ) -> Box<InnerNode>
+        requires leaf { IsLeaf leaf.value }
+        requires clear { IsClearOf (root_block leaf.value).key (blocks tree.value) }
+        requires height { height_of tree.value < MAX_HEIGHT }
+        requires count_fits { count.old + height_of tree.value ≤ MAX }
+        ensures blocks { blocks result.value ≡ insert_block (root_block leaf.value) (blocks tree.value) }
+        ensures grows { Grows tree.value result.value true }
+        ensures count { count.new ≡ count.old + way_down (root_block leaf.value).key tree.value }
+    {
+        let mut at = Some(tree);
+        let _ = link_at(&mut at, leaf, count);
+        let Some(tree) = at else { unreachable!() };
+        tree
+    }
+
+    /// The tree with one more key. A key that overlaps is refused by `Overlap` of it with the first
+    /// key met on the way down, and only then may memory run out, `OutOfMemory`. A refusal hands the
+    /// same tree back.
+    #[tactic(auto, using(crate::proofs::counts::WayBounds::way_bounds), unfolding(crate::specs::NodeAnswer::TellsOverlap, crate::specs::NodeAnswer::RefusesKey))]
+    pub(crate) fn insert(
+        tree: Box<InnerNode>,
+        alloc: Global,
+        key: RangeInclusive,
+        node_state: NodeState,
+        count: &mut u64,
+    ) -> std::result::Result<Box<InnerNode>, (Error, Box<InnerNode>)>
+        requires height { height_of tree.value < MAX_HEIGHT }
+        requires count_fits { count.old + 2 * height_of tree.value ≤ MAX }
+        ensures inserted { IfOk result (λ t. Inserts tree.value key node_state t.value) }
+        ensures refused { IfErr result (λ r. RefusesKey key tree.value r.0) }
+        ensures unchanged { IfErr result (λ r. r.1.value ≡ tree.value) }
+        ensures count { OnOk result (count.new ≡ count.old + way_across key tree.value + way_down key tree.value) }
+        ensures refused_count { OnErr result (count.new ≡ count.old + way_across key tree.value) }
+    {
+        if let Some(met) = tree.first_met(&key, count) {
+            return Err((Error::Overlap(key, met), tree));
+        }
+        let Ok(leaf) = Box::new(alloc, InnerNode::new(key, node_state)) else {
+            return Err((Error::OutOfMemory, tree));
+        };
+        Ok(InnerNode::link(tree, leaf, count))
+    }
+
+    /// The tree without this key, and the same tree where it has none. None where the key was the
+    /// only one. It takes no memory.
+    #[tactic(auto, unfolding(crate::specs::Shape::LeavesIfAbsent))]
+    pub(crate) fn delete(
+        tree: Box<InnerNode>,
+        key: &RangeInclusive,
+        count: &mut u64,
+    ) -> Option<Box<InnerNode>>
+        requires { count.old + height_of tree.value ≤ MAX }
+        ensures blocks { blocks (side result) ≡ replace_block key.now [] (blocks tree.value) }
+        ensures unchanged { find_key key.now (blocks tree.value) ≡ None → side result ≡ tree.value }
+        ensures none { IsNone result ↔ (side result ≡ Tip) }
+        ensures shrinks { Shrinks tree.value (side result) true }
+        ensures count { count.new ≡ count.old + way_to_remove key.now tree.value }
+    {
+        let mut at = Some(tree);
+        let _ = delete_at(&mut at, key, count);
+        let _ = height(&at);
+        at
+    }
+
+    /// The tree without its root's key: its child where it has one alone, none where it has none,
+    /// and else both children below the least node of the right one. It takes no memory.
+    #[tactic(auto, using(crate::proofs::counts::WayBounds::removal_bounds, crate::proofs::counts::Ways::ways_to_remove))]
+    pub(crate) fn delete_root(mut tree: Box<InnerNode>, count: &mut u64) -> Option<Box<InnerNode>>
+        requires { count.old + height_of tree.value ≤ MAX }
+        ensures blocks { blocks (side result) ≡ replace_block (root_block tree.value).key [] (blocks tree.value) }
+        ensures none { IsNone result ↔ (side result ≡ Tip) }
+        ensures no_right { (left : Shape) → tree.value ≡ Fork left (root_block tree.value) Tip → side result ≡ left }
+        ensures no_left { (right : Shape) → tree.value ≡ Fork Tip (root_block tree.value) right → side result ≡ right }
+        ensures shrinks { Shrinks tree.value (side result) true }
+        ensures count { count.new + 1 ≡ count.old + way_to_remove (root_block tree.value).key tree.value }
+    {
+        let open: &mut InnerNode = &mut tree;
+        let (left, right) = strip(&mut open.left, &mut open.right, &mut open.height);
+        let joined = join(left, right, count);
+        let _ = height(&joined);
+        joined
+    }
+
+    /// The node with exactly this key.
+    #[tactic(auto, using(crate::proofs::blocks::Replacement::findings, crate::proofs::counts::Ways::ways_to))]
+    pub(crate) fn search(&self, key: &RangeInclusive, count: &mut u64) -> Option<&InnerNode>
+        requires { count.old + height_of self.now ≤ MAX }
+        ensures found { find_key key.now (blocks self.now) ≡ option_map (λ n. root_block n.now) result }
+        ensures count { count.new ≡ count.old + way_to key.now self.now }
+    {
+        self.enter(count);
+        match key.order(&self.key) {
+            Ordering::Equal => Some(self),
+            Ordering::Less => {
+                let Some(left) = &self.left else { return None };
+                left.search(key, count)
+            }
+            Ordering::Greater => {
+                let Some(right) = &self.right else {
+                    return None
+                };
+                right.search(key, count)
+            }
+        }
+    }
+
+    /// The first key that a new one overlaps on the way down.
+    #[tactic(auto, using(crate::proofs::nodes::Meetings::first_meetings, crate::proofs::counts::Ways::ways_across))]
+    fn first_met(&self, new: &RangeInclusive, count: &mut u64) -> Option<RangeInclusive>
+        requires { count.old + height_of self.now ≤ MAX }
+        ensures met { result ≡ first_met new.now self.now }
+        ensures overlaps { TellsOverlap new.now result (blocks self.now) }
+        ensures count { count.new ≡ count.old + way_across new.now self.now }
+    {
+        self.enter(count);
+        if new.ends_before(&self.key) {
+            let Some(left) = &self.left else { return None };
+            return left.first_met(new, count);
+        }
+        if self.key.ends_before(new) {
+            let Some(right) = &self.right else {
+                return None
+            };
+            return right.first_met(new, count);
+        }
+        Some(self.key)
+    }
+
+    /// Marks the free block with this key as held. A held one is `InvalidStateTransition` of the key
+    /// and `Allocated`, an absent one `ResourceNotAvailable`; both change nothing.
+    #[tactic(auto, using(crate::proofs::nodes::Rewriting::markings, crate::proofs::counts::Ways::ways_to))]
+    pub(crate) fn mark_as_allocated(&mut self, key: &RangeInclusive, count: &mut u64) -> Result<()>
+        requires { count.old + height_of self.old ≤ MAX }
+        ensures marks { Marks (find_key key.now (blocks self.old)) key.now result self.old self.new }
+        ensures height { height_of self.new ≡ height_of self.old }
+        ensures tree { IsTree self.new }
+        ensures count { count.new ≡ count.old + way_to key.now self.old }
+    {
+        self.enter(count);
+        match self.key.order(key) {
+            Ordering::Equal => match self.node_state {
+                NodeState::Free => {
+                    self.node_state = NodeState::Allocated;
+                    Ok(())
+                }
+                NodeState::Allocated => {
+                    Err(Error::InvalidStateTransition(*key, NodeState::Allocated))
+                }
+            },
+            Ordering::Greater => {
+                let Some(left) = &mut self.left else {
+                    return Err(Error::ResourceNotAvailable);
+                };
+                left.mark_as_allocated(key, count)
+            }
+            Ordering::Less => {
+                let Some(right) = &mut self.right else {
+                    return Err(Error::ResourceNotAvailable);
+                };
+                right.mark_as_allocated(key, count)
+            }
+        }
+    }
+}

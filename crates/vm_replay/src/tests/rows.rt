@@ -1,0 +1,244 @@
+//! Lines of inputs, each with its answer.
+
+/// Lines, each with its answer.
+pub type Rows = &'static [(&'static str, &'static str)];
+
+/// Two ranges are held and given back, and leave one gap.
+pub const FIRST_PROGRAM: Rows = &[
+    ("space 16 4", "done"),
+    ("first 1 1", "range 16 16"),
+    ("first 1 1", "range 17 17"),
+    ("free 16 16", "done"),
+    ("free 17 17", "done"),
+    ("first 4 1", "range 16 19"),
+];
+
+/// What is no line of the language, and a line before any space.
+pub const LINE_GRAMMAR: Rows = &[
+    ("first 1 1", "error no-space"),
+    ("", "error line"),
+    ("first 01x 1", "error line"),
+    ("space 18446744073709551616 1", "error line"),
+    ("first  1 1", "error line"),
+    (
+        "xxxxxxxxxxxxxxxxxxxxxxxxxxxxxxxxxxxxxxxxxxxxxxxxxxxxxxxxxxxxxxxxxxxxxxxxxxxxxxxxxxxxxxxxxxxxxxxxxxxxxxxxxxxxxxxxxxxxxxxxx",
+        "error line",
+    ),
+    ("space 0 016", "done"),
+];
+
+/// A request for more than is left, and the release of a range that no call gave.
+pub const FULL_SPACE: Rows = &[
+    ("space 16 4", "done"),
+    ("first 1 1", "range 16 16"),
+    ("first 4 1", "error not-available"),
+    ("first 3 1", "range 17 19"),
+    ("first 1 1", "error not-available"),
+    ("free 16 17", "error not-available"),
+    ("free 16 16", "done"),
+    ("first 1 1", "range 16 16"),
+];
+
+/// Words apart by one space, and numbers of one to twenty digits.
+pub const WORDS_AND_NUMBERS: Rows = &[
+    ("space 00000000000000000016 4", "done"),
+    ("first 000000000000000000001 1", "error line"),
+    (" first 1 1", "error line"),
+    ("first 1 1 ", "error line"),
+    ("first\t1 1", "error line"),
+    ("first 1 1\r", "error line"),
+    ("first 1", "error line"),
+    ("first 1 1 1", "error line"),
+    ("first 1 -1", "error line"),
+    ("First 1 1", "error line"),
+    ("first 1 1", "range 16 16"),
+];
+
+/// Lines that the language does not have yet.
+pub const LINES_NOT_THERE_YET: Rows = &[
+    ("space 16 4", "done"),
+    ("manager 0 1 4096 4096", "error line"),
+    ("device 1 1", "error line"),
+    ("undevice 0", "error line"),
+];
+
+/// Which refusal comes first; a refused space keeps the old one.
+pub const REFUSALS_IN_ORDER: Rows = &[
+    ("free 2 1", "error no-space"),
+    ("first 0 3", "error no-space"),
+    ("free 2 1 0", "error line"),
+    ("space 0 0", "error underflow"),
+    ("space 18446744073709551615 2", "error overflow"),
+    ("free 16 16", "error no-space"),
+    ("space 16 4", "done"),
+    ("first 0 3", "error invalid-size 0"),
+    ("first 1 3", "error invalid-alignment"),
+    ("first 1 1", "range 16 16"),
+    ("free 2 1", "error invalid-range 2 1"),
+    (
+        "free 18446744073709551615 18446744073709551614",
+        "error invalid-range 18446744073709551615 18446744073709551614",
+    ),
+    (
+        "free 0 18446744073709551615",
+        "error invalid-range 0 18446744073709551615",
+    ),
+    ("space 0 0", "error underflow"),
+    ("free 16 16", "done"),
+    ("space 18446744073709551615 1", "done"),
+    ("first 1 1", "error overflow"),
+    ("free 16 16", "error not-available"),
+];
+
+/// Each refusal of a line on a space.
+pub const PROGRAM_REFUSALS: Rows = &[
+    ("space 0 0", "error underflow"),
+    ("space 18446744073709551615 2", "error overflow"),
+    ("space 4096 4096", "done"),
+    ("first 0 4", "error invalid-size 0"),
+    ("first 4 3", "error invalid-alignment"),
+    ("exact 4 4 4099", "error unaligned"),
+    ("exact 256 256 4096", "range 4096 4351"),
+    ("exact 256 256 4096", "error state 4096 4351"),
+    ("free 4351 4096", "error invalid-range 4351 4096"),
+    ("free 4096 4350", "error not-available"),
+    ("last 4096 1", "error not-available"),
+    ("last 16 16", "range 8176 8191"),
+    ("free 4096 4351", "done"),
+    ("space 0 0", "error underflow"),
+    ("first 3840 1", "range 4096 7935"),
+];
+
+/// Places by their starts, and gaps that are joined again.
+pub const PLACES_OF_A_START: Rows = &[
+    ("space 0 10", "done"),
+    ("exact 1 1 3", "range 3 3"),
+    ("exact 1 1 5", "range 5 5"),
+    ("exact 1 1 4", "range 4 4"),
+    ("free 3 3", "done"),
+    ("free 5 5", "done"),
+    ("exact 2 1 3", "error not-available"),
+    ("exact 2 1 2", "range 2 3"),
+    ("free 2 3", "done"),
+    ("free 4 4", "done"),
+    ("last 10 1", "range 0 9"),
+];
+
+/// The refusals of the three policies.
+pub const ALL_POLICIES: Rows = &[
+    ("last 1 1", "error no-space"),
+    ("exact 1 1 16", "error no-space"),
+    ("last 1", "error line"),
+    ("last 1 1 1", "error line"),
+    ("exact 1 1", "error line"),
+    ("exact 1 1 1 1", "error line"),
+    ("exact", "error line"),
+    ("exact 1 1 18446744073709551616", "error line"),
+    ("space 16 4", "done"),
+    ("last 0 3", "error invalid-size 0"),
+    ("exact 0 3 17", "error invalid-size 0"),
+    ("exact 1 3 17", "error invalid-alignment"),
+    ("exact 2 2 17", "error unaligned"),
+    ("exact 1 1 15", "error not-available"),
+    ("exact 1 1 18446744073709551615", "error overflow"),
+    ("last 2 2", "range 18 19"),
+    ("exact 1 1 18", "error not-available"),
+    ("exact 2 2 18", "error state 18 19"),
+    ("exact 1 1 17", "range 17 17"),
+    ("last 1 1", "range 16 16"),
+];
+
+/// Each refusal of a line on ids.
+pub const PROGRAM_IDS: Rows = &[
+    ("id", "error no-ids"),
+    ("ids 5 5", "done"),
+    ("id", "id 5"),
+    ("id", "error not-available"),
+    ("has 5", "yes"),
+    ("unid 5", "id 5"),
+    ("unid 5", "error already-released 5"),
+    ("unid 6", "error out-of-range 6"),
+    ("ids 4294967294 4294967295", "done"),
+    ("id", "id 4294967294"),
+    ("id", "id 4294967295"),
+    ("id", "error overflow"),
+    ("unid 4294967296", "error line"),
+];
+
+/// Which refusal comes first; refused ids keep the old ones.
+pub const REFUSALS_OF_IDS: Rows = &[
+    ("id 1", "error line"),
+    ("unid", "error line"),
+    ("has", "error line"),
+    ("ids 1", "error line"),
+    ("ids 1 2 3", "error line"),
+    ("id", "error no-ids"),
+    ("unid 7", "error no-ids"),
+    ("has 7", "error no-ids"),
+    ("ids 2 1", "error invalid-range 2 1"),
+    ("id", "error no-ids"),
+    ("ids 0 1", "done"),
+    ("unid 2", "error out-of-range 2"),
+    ("unid 0", "error never-allocated 0"),
+    ("id", "id 0"),
+    ("id 0", "error line"),
+    ("ids 3 2", "error invalid-range 3 2"),
+    ("unid 1", "error never-allocated 1"),
+    ("unid 0", "id 0"),
+    ("unid 0", "error already-released 0"),
+];
+
+/// Ids are held from when they are given until they are given back.
+pub const HELD_IDS: Rows = &[
+    ("ids 7 9", "done"),
+    ("has 6", "no"),
+    ("has 7", "no"),
+    ("id", "id 7"),
+    ("id", "id 8"),
+    ("has 7", "yes"),
+    ("has 8", "yes"),
+    ("has 9", "no"),
+    ("unid 7", "id 7"),
+    ("has 7", "no"),
+    ("has 8", "yes"),
+    ("ids 9 7", "error invalid-range 9 7"),
+    ("has 8", "yes"),
+    ("id", "id 7"),
+    ("has 7", "yes"),
+    ("ids 7 9", "done"),
+    ("has 7", "no"),
+    ("has 8", "no"),
+];
+
+/// The numbers of lines on ids have 32 bits.
+pub const NUMBERS_OF_32_BITS: Rows = &[
+    ("ids 0 4294967296", "error line"),
+    ("ids 4294967296 4294967297", "error line"),
+    ("ids 00000000000000000000 00000000004294967295", "done"),
+    ("has 4294967295", "no"),
+    ("has 4294967296", "error line"),
+    ("unid 4294967295", "error never-allocated 4294967295"),
+    ("unid 18446744073709551615", "error line"),
+    ("has 18446744073709551616", "error line"),
+    ("has 000000000000000000000", "error line"),
+    ("has 1x", "error line"),
+    ("id ", "error line"),
+    ("has  0", "error line"),
+    ("Id", "error line"),
+    ("id", "id 0"),
+];
+
+/// A space and ids share nothing.
+pub const SPACE_BESIDE_IDS: Rows = &[
+    ("ids 5 6", "done"),
+    ("id", "id 5"),
+    ("first 1 1", "error no-space"),
+    ("space 5 2", "done"),
+    ("has 5", "yes"),
+    ("first 1 1", "range 5 5"),
+    ("id", "id 6"),
+    ("ids 5 6", "done"),
+    ("first 1 1", "range 6 6"),
+    ("space 0 0", "error underflow"),
+    ("id", "id 5"),
+];
