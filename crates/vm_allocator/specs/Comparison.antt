@@ -1,7 +1,8 @@
 -- How blocks, lists of them and the states that they stand for compare.
-use Rattle.std.specs.Prelude.{◌≡◌, ℕ, List}
+use Rattle.std.specs.Prelude.{◌≡◌, ◌↔◌, ℕ, List}
 use Rattle.std.specs.declared.cmp.Ordering.{Ordering}
-use Rattle.std.specs.Ordering.{nat_cmp, on, then_cmp}
+use Rattle.std.specs.declared.cmp.Ordering.TheVariants.{Equal}
+use Rattle.std.specs.Ordering.{nat_cmp, on, then_cmp, ordering_reverse}
 use Rattle.std.specs.Cmp.{IsTotalOrder}
 use Rattle.std.specs.Cmp.Lexicographic.{slice_cmp}
 use Rattle.std.proofs.lemmas.Cmp.{lists_total, then_total, on_total, nat_cmp_total}
@@ -37,6 +38,17 @@ state_cmp = then_cmp (on (λ s. s.space) range_cmp) layout_cmp
 pub record AreEqual (a b : AddressState) : Type 0 where
   pub space : a.space ≡ b.space
   pub held : a.held ≡ b.held
+
+-- an order of states is total and transitive: turned around, it answers the other way round; and what it answers of
+-- a and b and of b and c it answers of a and c
+pub record IsOrder (compare : AddressState → AddressState → Ordering) : Type 0 where
+  pub total : (a b : AddressState) → compare b a ≡ ordering_reverse (compare a b)
+  pub transitive : (a b c : AddressState) (answer : Ordering) →
+      compare a b ≡ answer → compare b c ≡ answer → compare a c ≡ answer
+
+-- the order finds two states equal just where they are
+abbrev pub OrderAgreesWithEquality : Type 0
+OrderAgreesWithEquality = (a b : AddressState) → (state_cmp a b ≡ Equal) ↔ AreEqual a b
 
 -- these orders are total, as they are made of total ones
 range_cmp-total : IsTotalOrder range_cmp

@@ -1,14 +1,27 @@
--- The order of lists of blocks finds only equal lists equal.
-use Rattle.std.proofs.Common.{◌≡◌, [], ◌∷◌, refl, arith}
+-- What the orders of blocks and of lists of them say.
+use Rattle.std.proofs.Common.{◌≡◌, [], ◌∷◌, refl, ap, ◌∙◌, arith}
 use Rattle.std.specs.declared.cmp.Ordering.{Ordering}
 use Rattle.std.specs.declared.cmp.Ordering.TheVariants.{Less, Equal, Greater}
-use Rattle.std.specs.Ordering.{nat_cmp, ordering_then}
+use Rattle.std.specs.Ordering.{nat_cmp, ordering_then, ordering_reverse}
+use Rattle.std.specs.Cmp.{IsTotalOrder}
 use Rattle.std.proofs.lemmas.Map.Lookups.{CmpEqualImpliesEq, exact_unsigned}
 use Rattle.vm_allocator.specs.Range.{range_cmp}
-use Rattle.vm_allocator.specs.Comparison.{rank, block_cmp, blocks_cmp}
+use Rattle.vm_allocator.specs.Address.{AddressState}
+use Rattle.vm_allocator.specs.Comparison.{rank, block_cmp, blocks_cmp, IsOrder}
 use Rattle.vm_allocator.specs.declared.allocation_engine.NodeState.{NodeState}
 use Rattle.vm_allocator.specs.declared.allocation_engine.NodeState.TheVariants.{Free, Allocated}
 use Rattle.vm_allocator.proofs.blocks.Unique.{same_range, same_block}
+
+-- a total order by the standard library's word is one
+pub order_of_total : (R : AddressState → AddressState → Ordering) → IsTotalOrder R → IsOrder R
+order_of_total R o = record { total = λ a b. o.antisymm b a; transitive = transitive }
+  where
+    transitive : (a b c : AddressState) (answer : Ordering) → R a b ≡ answer → R b c ≡ answer → R a c ≡ answer
+    transitive a b c Less p q = o.trans a b c p q
+    transitive a b c Equal p q = o.congr a b c p ∙ q
+    transitive a b c Greater p q =
+        let back : R c a ≡ Less = o.trans c b a (o.antisymm c b ∙ ap ordering_reverse q) (o.antisymm b a ∙ ap ordering_reverse p) in
+        o.antisymm a c ∙ ap ordering_reverse back
 
 -- two answers in a row are Equal only where both are
 pub both_equal : (o p : Ordering) → ordering_then o p ≡ Equal → (o ≡ Equal) × (p ≡ Equal)

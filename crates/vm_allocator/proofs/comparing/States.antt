@@ -13,8 +13,8 @@ use Rattle.vm_allocator.specs.Blocks.{held_of, blocks_state, blocks_of}
 use Rattle.vm_allocator.specs.Address.{AddressState}
 use Rattle.vm_allocator.specs.Shape.{Shape, blocks}
 use Rattle.vm_allocator.specs.SpaceTree.{space_of, tree_state, IsSpaceTree}
-use Rattle.vm_allocator.specs.Comparison.{blocks_cmp, layout_cmp, layout_cmp-total, state_cmp, state_cmp-total, AreEqual}
-use Rattle.vm_allocator.proofs.comparing.Orders.{both_equal, range_cmp-exact, blocks_cmp-exact}
+use Rattle.vm_allocator.specs.Comparison.{blocks_cmp, layout_cmp, layout_cmp-total, state_cmp, state_cmp-total, AreEqual, IsOrder}
+use Rattle.vm_allocator.proofs.comparing.Orders.{order_of_total, both_equal, range_cmp-exact, blocks_cmp-exact}
 use Rattle.vm_allocator.proofs.comparing.Tilings.{tree_blocks, held_of-blocks_of}
 
 -- equal states are one
@@ -36,6 +36,13 @@ state_cmp-Equal a b = (
       record { space = range_cmp-exact a.space b.space both.0; held = same_held a b (blocks_cmp-exact (blocks_of a) (blocks_of b) both.1) },
   λ e. ap (state_cmp a) (sym (one_state a b e)) ∙ tied_itself state_cmp-total a,
 )
+
+-- both orders are orders
+pub state_order : IsOrder state_cmp
+state_order = order_of_total state_cmp state_cmp-total
+
+pub layout_order : IsOrder layout_cmp
+layout_order = order_of_total layout_cmp layout_cmp-total
 
 -- ---- trees
 -- two trees of one state have the same blocks
