@@ -1,6 +1,8 @@
 /* Refuses requests for memory of the program that it is preloaded into: with REFUSE the request of
  * that number, counted from 1, and with REFUSE_AFTER each one after the first request for that many
- * bytes. For each refusal one byte is added to the file named by REFUSED. */
+ * bytes. For each refusal one byte is added to the file named by REFUSED. Ends the program where, from
+ * one request for as many bytes as BALANCE says to the next, more blocks or fewer were given back than
+ * were given. */
 #define _GNU_SOURCE
 #include <dlfcn.h>
 #include <fcntl.h>
@@ -10,6 +12,8 @@
 
 static unsigned long requests;
 static int last_was_met;
+static long given, balanced;
+static int is_balancing;
 
 static int is_the_one(void) {
     const char *number = getenv("REFUSE");
@@ -23,7 +27,16 @@ static int is_after_the_last(size_t size) {
     return 0;
 }
 
+static void balance(size_t size) {
+    const char *request = getenv("BALANCE");
+    if (!request || size != strtoul(request, NULL, 10)) return;
+    if (is_balancing && given != balanced) abort();
+    balanced = given;
+    is_balancing = !is_balancing;
+}
+
 static int is_refused(size_t size) {
+    balance(size);
     if (!is_the_one() && !is_after_the_last(size)) return 0;
     const char *told = getenv("REFUSED");
     if (told) {
@@ -36,11 +49,22 @@ static int is_refused(size_t size) {
 void *malloc(size_t size) {
     static void *(*next)(size_t);
     if (!next) next = (void *(*)(size_t))dlsym(RTLD_NEXT, "malloc");
-    return is_refused(size) ? NULL : next(size);
+    void *new = is_refused(size) ? NULL : next(size);
+    given += new != NULL;
+    return new;
 }
 
 void *realloc(void *old, size_t size) {
     static void *(*next)(void *, size_t);
     if (!next) next = (void *(*)(void *, size_t))dlsym(RTLD_NEXT, "realloc");
-    return is_refused(size) ? NULL : next(old, size);
+    void *new = is_refused(size) ? NULL : next(old, size);
+    given += !old && new;
+    return new;
+}
+
+void free(void *old) {
+    static void (*next)(void *);
+    if (!next) next = (void (*)(void *))dlsym(RTLD_NEXT, "free");
+    given -= old != NULL;
+    next(old);
 }

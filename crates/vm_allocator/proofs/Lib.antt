@@ -8,4 +8,6 @@ pub mod counts
 pub mod answers
 pub mod histories
 pub mod ids
+pub mod walks
+pub mod comparing
 pub mod Callers

@@ -6,3 +6,4 @@ pub mod Outcomes
 pub mod Filling
 pub mod AddressAnswers
 pub mod EveryCall
+pub mod Cloning

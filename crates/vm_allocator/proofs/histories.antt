@@ -1,3 +1,4 @@
 pub mod Histories
 pub mod Answers
 pub mod Releases
+pub mod Ends

@@ -1,5 +1,5 @@
 -- The blocks of a space: its gaps and its held ranges, from the lowest to the highest.
-use Rattle.std.specs.Prelude.{◌≡◌, ℕ, ◌+◌, ◌≤◌, ◌<◌, List, [], ◌∷◌, ◌++◌}
+use Rattle.std.specs.Prelude.{◌≡◌, ℕ, ◌+◌, ◌-◌, ◌≤◌, ◌<◌, List, [], ◌∷◌, ◌++◌, if◌then◌else◌, nat_lt}
 use Rattle.vm_allocator.specs.Range.{Range, MAX}
 use Rattle.vm_allocator.specs.Block.{Block}
 use Rattle.vm_allocator.specs.Address.{AddressState}
@@ -32,6 +32,21 @@ held_of (b ∷ bs) = range_if_held b.state b.key ++ held_of bs
 pub record IsBlocksOf (state : AddressState) (bs : List Block) : Type 0 where
   pub tiles : Tiles Allocated state.space.start bs state.space.end
   pub held : held_of bs ≡ state.held
+
+-- the gap from lo to right before next, as a block, where there is one
+abbrev pub gap_before : ℕ → ℕ → List Block
+gap_before lo next =
+    if nat_lt lo next then record { key = record { start = lo; end = next - 1 }; state = Free } ∷ [] else []
+
+-- the blocks from lo to hi where these ranges are held: the gaps and the ranges, in order
+abbrev pub blocks_between : ℕ → List Range → ℕ → List Block
+blocks_between lo [] hi = gap_before lo (hi + 1)
+blocks_between lo (r ∷ rs) hi =
+    gap_before lo r.start ++ record { key = r; state = Allocated } ∷ blocks_between (r.end + 1) rs hi
+
+-- the blocks of a state
+unfoldable pub blocks_of : AddressState → List Block
+blocks_of state = blocks_between state.space.start state.held state.space.end
 
 -- the state that the blocks of a space stand for
 abbrev pub blocks_state : Range → List Block → AddressState

@@ -1,38 +1,51 @@
 -- Histories: calls of an address allocator, one after the other.
-use Rattle.std.specs.Prelude.{◌≡◌, ℕ, ◌%◌, ◌≤◌, List, [], ◌∷◌, Result, Ok}
+use Rattle.std.specs.Prelude.{◌≡◌, ℕ, ◌%◌, ◌≤◌, List, [], ◌∷◌, Result, Ok, Err}
 use Rattle.std.specs.List.{Contains}
+use Rattle.std.specs.Result.{result_unwrap_or}
 use Rattle.vm_allocator.specs.Range.{Range, MAX, span}
 use Rattle.vm_allocator.specs.Address.{AddressState}
 use Rattle.vm_allocator.specs.Request.{Request}
 use Rattle.vm_allocator.specs.Answer.{Allocates, Frees, Makes}
+use Rattle.vm_allocator.specs.Cloning.{Clones}
 use Rattle.vm_allocator.specs.declared.error.Error.{Error}
+use Rattle.vm_allocator.specs.declared.error.Error.TheVariants.{OutOfMemory}
 
--- a call with its answer: a request, or a range given back
+-- a call with its answer: a request, a range given back, or the making of a clone
 pub data Call : Type 0 where
   Allocation : Request → Result Range Error → Call
   Release : Range → Result (Unit {0}) Error → Call
+  Cloning : Result AddressState Error → Call
 
 -- what is asked by a call
 pub data Asked : Type 0 where
   Allocate : Request → Asked
   Free : Range → Asked
+  Clone : Asked
 
 -- a call without its answer
 abbrev pub asked_by : Call → Asked
 asked_by (Allocation request answer) = Allocate request
 asked_by (Release r answer) = Free r
+asked_by (Cloning answer) = Clone
 
--- in the state old the call has its answer, and leaves new
+-- the call was refused for memory
+abbrev pub RunsOutOfMemory : Call → Type 0
+RunsOutOfMemory (Allocation request answer) = answer ≡ Err OutOfMemory
+RunsOutOfMemory (Release r answer) = ⊥
+RunsOutOfMemory (Cloning answer) = answer ≡ Err OutOfMemory
+
+-- in the state old the call has its answer, and leaves new; where a clone is made, new is the state of the clone
 abbrev pub IsCallFrom : AddressState → Call → AddressState → Type 0
 IsCallFrom old (Allocation request answer) new = Allocates old request answer new
 IsCallFrom old (Release r answer) new = Frees old r answer new
+IsCallFrom old (Cloning answer) new = Clones old answer × (new ≡ result_unwrap_or answer old)
 
 -- each call is on the state that the one before it left
 abbrev pub IsHistoryFrom : AddressState → List Call → AddressState → Type 0
 IsHistoryFrom old [] new = new ≡ old
 IsHistoryFrom old (call ∷ calls) new = (mid : AddressState) × IsCallFrom old call mid × IsHistoryFrom mid calls new
 
--- the calls lead from a new allocator to the state
+-- the calls lead from a new allocator to the state, of it or of a clone that one of them made
 pub record IsReached (calls : List Call) (state : AddressState) : Type 0 where
   pub base : ℕ
   pub size : ℕ

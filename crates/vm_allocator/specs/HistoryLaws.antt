@@ -1,13 +1,15 @@
 -- What holds along every history of an address allocator, from a new one on.
-use Rattle.std.specs.Prelude.{◌≡◌, ◌≢◌, ℕ, ◌+◌, ◌-◌, ◌<◌, ◌≤◌, ◌⊎◌, ◌↔◌, List, map, Result, Ok, Err}
-use Rattle.std.specs.List.{Contains}
+use Rattle.std.specs.Prelude.{◌≡◌, ◌≢◌, ℕ, ◌+◌, ◌-◌, ◌<◌, ◌≤◌, ◌⊎◌, ◌↔◌, List, [], ◌∷◌, ◌++◌, map, Result, Ok, Err}
+use Rattle.std.specs.List.{All, Contains}
 use Rattle.std.specs.List.Sorted.{IsPermutation}
 use Rattle.vm_allocator.specs.Range.{Range, MAX, IsIn, span}
 use Rattle.vm_allocator.specs.Address.{AddressState, AreClear, IsPlace, IsLeastPlace, IsGreatestPlace, IsAddressState}
 use Rattle.vm_allocator.specs.Request.{Request, request_for, IsRequest, MakesConstraint}
 use Rattle.vm_allocator.specs.Answer.{IsChosen, Takes, Allocates, Frees, Makes}
 use Rattle.vm_allocator.specs.Laws.{AgreeButForSplits, LieApart}
-use Rattle.vm_allocator.specs.Histories.{Call, Allocation, Asked, asked_by, IsHistoryFrom, Reached, WasGiven, releases}
+use Rattle.vm_allocator.specs.Cloning.{Clones}
+use Rattle.vm_allocator.specs.Comparison.{AreEqual}
+use Rattle.vm_allocator.specs.Histories.{Call, Cloning, Asked, asked_by, RunsOutOfMemory, IsHistoryFrom, IsReached, Reached, WasGiven, releases}
 use Rattle.vm_allocator.specs.declared.error.Error.{Error}
 use Rattle.vm_allocator.specs.declared.error.Error.TheVariants.{Overflow, ResourceNotAvailable, InvalidStateTransition, OutOfMemory}
 use Rattle.vm_allocator.specs.declared.allocation_engine.NodeState.TheVariants.{Allocated}
@@ -121,10 +123,35 @@ pub record EveryCallIsAnswered : Type 0 where
       Allocates old request answer new × (answer ≢ Err OutOfMemory)
   pub freed : (old : AddressState) (r : Range) →
       (answer : Result (Unit {0}) Error) × (new : AddressState) × Frees old r answer new
+  pub cloned : (old : AddressState) →
+      (answer : Result AddressState Error) × Clones old answer × (answer ≢ Err OutOfMemory)
 
 -- so whatever is asked, one after the other, has a history, and one in which no request runs out of memory
 abbrev pub EveryListHasHistory : Type 0
 EveryListHasHistory =
     (old : AddressState) (asked : List Asked) →
     (calls : List Call) × (new : AddressState) × IsHistoryFrom old calls new × (map asked_by calls ≡ asked) ×
-    ((request : Request) → ¬ Contains calls (Allocation request (Err OutOfMemory)))
+    All (λ call. ¬ RunsOutOfMemory call) calls
+
+-- a clone of what is reached is reached, and has the state of the original
+abbrev pub CloneIsReached : Type 0
+CloneIsReached =
+    (old : Reached) (clone : AddressState) → Clones old.state (Ok clone) →
+    (clone ≡ old.state) × IsReached (old.calls ++ Cloning (Ok clone) ∷ []) clone
+
+-- allocators with one space and the same held ranges are equal, whatever the calls that led there
+abbrev pub OneEndIsEqual : Type 0
+OneEndIsEqual = (first second : Reached) → AreAlike first.state second.state → AreEqual first.state second.state
+
+-- giving back what was just given makes an allocator equal to the one from before
+abbrev pub ReleaseMakesEqual : Type 0
+ReleaseMakesEqual =
+    (old : Reached) (mid new : AddressState) (request : Request) (r : Range) (answer : Result (Unit {0}) Error) →
+    Allocates old.state request (Ok r) mid → Frees mid r answer new → AreEqual new old.state
+
+-- giving back the same ranges makes equal allocators, whatever the order
+abbrev pub OrderOfReleasesMakesEqual : Type 0
+OrderOfReleasesMakesEqual =
+    (old : Reached) (first second : AddressState) (rs qs : List Range) →
+    ((r : Range) → Contains rs r ↔ Contains qs r) →
+    IsHistoryFrom old.state (releases rs) first → IsHistoryFrom old.state (releases qs) second → AreEqual first second

@@ -1,8 +1,9 @@
 -- What holds along every history of an id allocator, from a new one on.
 use Rattle.std.specs.Prelude.{◌≡◌, ◌≢◌, ℕ, ◌↔◌, List, [], ◌∷◌, ◌++◌, map, IsTrue, false, Result, Ok, Err}
-use Rattle.std.specs.List.{Contains}
+use Rattle.std.specs.List.{All, Contains}
 use Rattle.vm_allocator.specs.Ids.{IdState, IsHeld, IsLeastNotHeld, IsIdState, MakesIds, AllocatesId, PeeksId, FreesId}
-use Rattle.vm_allocator.specs.IdHistories.{IdCall, Allocation, Release, IdAsked, id_asked_by, IsIdHistoryFrom, AreIdsReached, is_out_after}
+use Rattle.vm_allocator.specs.Cloning.{Clones}
+use Rattle.vm_allocator.specs.IdHistories.{IdCall, Allocation, Release, Cloning, IdAsked, id_asked_by, RunsOutOfMemory, IsIdHistoryFrom, AreIdsReached, is_out_after}
 use Rattle.vm_allocator.specs.declared.error.Error.{Error}
 use Rattle.vm_allocator.specs.declared.error.Error.TheVariants.{OutOfMemory}
 
@@ -36,10 +37,17 @@ pub record EveryIdCallIsAnswered : Type 0 where
   pub peeked : (state : IdState) → (answer : Result ℕ Error) × PeeksId state answer
   pub freed : (old : IdState) (id : ℕ) →
       (answer : Result ℕ Error) × (new : IdState) × FreesId old id answer new × (answer ≢ Err OutOfMemory)
+  pub cloned : (old : IdState) → (answer : Result IdState Error) × Clones old answer × (answer ≢ Err OutOfMemory)
 
 -- so whatever is asked, one after the other, has a history, and one in which no call runs out of memory
 abbrev pub EveryIdListHasHistory : Type 0
 EveryIdListHasHistory =
     (old : IdState) (asked : List IdAsked) →
     (calls : List IdCall) × (new : IdState) × IsIdHistoryFrom old calls new × (map id_asked_by calls ≡ asked) ×
-    ((id : ℕ) → ¬ Contains calls (Release id (Err OutOfMemory)))
+    All (λ call. ¬ RunsOutOfMemory call) calls
+
+-- a clone of what is reached is reached, and has the state of the original
+abbrev pub IdCloneIsReached : Type 0
+IdCloneIsReached =
+    (calls : List IdCall) (old clone : IdState) → AreIdsReached calls old → Clones old (Ok clone) →
+    (clone ≡ old) × AreIdsReached (calls ++ Cloning (Ok clone) ∷ []) clone

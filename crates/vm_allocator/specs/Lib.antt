@@ -29,3 +29,6 @@ pub mod IdHistoryLaws
 pub mod Steps
 pub mod Ways
 pub mod Carving
+pub mod Walks
+pub mod Comparison
+pub mod Cloning

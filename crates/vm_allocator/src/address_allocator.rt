@@ -4,6 +4,7 @@ ghost use Rattle.vm_allocator.specs.Address.{IsAddressState};
 ghost use Rattle.vm_allocator.specs.Request.{request_for};
 ghost use Rattle.vm_allocator.specs.Answer.{Allocates, FillsGap, Frees, Makes};
 ghost use Rattle.vm_allocator.specs.Allocator.{state_of, made_state};
+ghost use Rattle.vm_allocator.specs.Cloning.{Clones};
 ghost use Rattle.vm_allocator.specs.Shape.{height_of};
 ghost use Rattle.vm_allocator.specs.Steps.{EntersToAllocate, EntersToFree, IsAllocationCount, IsReleaseCount, IsBalancedTreeOf, SplitsIfLow};
 
@@ -13,6 +14,11 @@ use crate::error::{Error, Result};
 use crate::range::RangeInclusive;
 use std::alloc::Global;
 use std::marker::Model;
+
+mod comparing;
+pub(crate) mod held_ranges;
+#[cfg(test)]
+mod tests;
 
 /// Gives out the ranges of one space of addresses. Two ranges held at one time share no address,
 /// each lies in the space, and none contains `u64::MAX`.
@@ -56,6 +62,18 @@ impl AddressAllocator {
         Ok(AddressAllocator {
             address_space,
             interval_tree,
+        })
+    }
+
+    /// A copy, whose tree has the same nodes. `OutOfMemory` where there is no memory for one of them;
+    /// the others are given back then.
+    pub fn try_clone(&self, alloc: Global) -> Result<Self>
+        ensures answer { Clones (state_of self.now) (made_state result) }
+        ensures same { Clones self.now result }
+    {
+        Ok(AddressAllocator {
+            address_space: self.address_space,
+            interval_tree: self.interval_tree.try_clone(alloc)?,
         })
     }
 
@@ -178,6 +196,3 @@ impl AddressAllocator {
         self.address_space.end()
     }
 }
-
-#[cfg(test)]
-mod tests;

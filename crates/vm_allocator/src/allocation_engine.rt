@@ -2,8 +2,9 @@
 ghost use Rattle.std.specs.Prelude.{◌≡◌, ◌↔◌, IsTrue};
 ghost use Rattle.vm_allocator.specs.Alignment.{AlignsDown, AlignsUp};
 
+mod block;
 pub(crate) mod interval_tree;
-mod node;
+pub(crate) mod node;
 
 use crate::error::{Error, Result};
 pub use interval_tree::IntervalTree;

@@ -1,4 +1,5 @@
 ghost use Rattle.std.specs.Prelude.{◌≡◌, ℕ, ◌≤◌, ◌⊎◌, ◌↔◌, IsTrue, IsOk, OnErr, Ok, Err};
+ghost use Rattle.vm_allocator.specs.Cloning.{Clones};
 ghost use Rattle.vm_allocator.specs.Ids.{MakesIds, AllocatesId, PeeksId, FreesId, NextId, IsOfRange, IsHandedOut, IsHeld, IsNotHeld, IsIdState};
 
 use crate::error::{Error, Result};
@@ -57,6 +58,23 @@ impl IdAllocator {
             next_id: Some(range_base),
             range_end,
             freed_ids: BTreeSet::new(alloc),
+        })
+    }
+
+    /// A copy: the same range, held ids and ids ever handed out. `OutOfMemory` where there is no memory
+    /// for it. The ids given back ask the allocator that they came with.
+    #[tactic(auto, using(crate::proofs::ids::States::clones))]
+    pub fn try_clone(&self, _alloc: Global) -> Result<Self>
+        ensures { Clones self.now result }
+    {
+        let Ok(freed_ids) = self.freed_ids.clone() else {
+            return Err(Error::OutOfMemory);
+        };
+        Ok(IdAllocator {
+            range_base: self.range_base,
+            next_id: self.next_id,
+            range_end: self.range_end,
+            freed_ids,
         })
     }
 

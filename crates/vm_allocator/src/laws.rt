@@ -4,3 +4,4 @@ mod addresses;
 mod histories;
 mod id_histories;
 mod ids;
+mod orders;

@@ -10,6 +10,7 @@ mod laws;
 mod range;
 
 pub use address_allocator::AddressAllocator;
+pub use address_allocator::held_ranges::HeldRanges;
 pub use constraint::{AllocPolicy, Constraint, DEFAULT_CONSTRAINT_ALIGN};
 pub use error::{Error, Result};
 pub use id_allocator::IdAllocator;

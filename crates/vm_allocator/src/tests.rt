@@ -14,6 +14,9 @@ const MAX: u64 = u64::MAX;
 /// has the same number.
 const LAST_REQUEST: usize = 1_000_003;
 
+/// How many bytes `balance` asks for; tests/refused_memory has the same number.
+const BALANCE_REQUEST: usize = 1_000_005;
+
 /// The allocator of a space. A second try stands for a run in which one request for memory is
 /// refused, here and below.
 pub(crate) fn made(rt: &(impl Abort + AllocGlobal), base: u64, size: u64) -> AddressAllocator {
@@ -29,6 +32,12 @@ pub(crate) fn made(rt: &(impl Abort + AllocGlobal), base: u64, size: u64) -> Add
 /// Asks for memory, whether it is there or not. tests/refused_memory refuses every later request.
 pub(crate) fn end_of_memory(alloc: Global) {
     let _ = Vec::<u8>::with_capacity(alloc, LAST_REQUEST);
+}
+
+/// Asks for memory, whether it is there or not. From one call of this to the next as much has to be
+/// given back as was given: tests/refused_memory counts.
+pub(crate) fn balance(alloc: Global) {
+    let _ = Vec::<u8>::with_capacity(alloc, BALANCE_REQUEST);
 }
 
 #[test]

@@ -1,5 +1,5 @@
 -- Each call that a line may make has an answer, other than that memory ran out: from the library's laws.
-use Rattle.std.proofs.Common.{◌≡◌, ◌≢◌, ℕ, ◌<◌, ◌≤◌, ◌⊎◌, refl, inl, inr, ⊎_elim, Result, Ok, Err}
+use Rattle.std.proofs.Common.{◌≡◌, ◌≢◌, ℕ, ◌<◌, ◌≤◌, refl, inl, inr, ⊎_elim, Result, Err}
 use Rattle.std.proofs.lemmas.Bool.{cases_eq}
 use Rattle.vm_allocator.specs.Range.{Range, MAX, IsRange}
 use Rattle.vm_allocator.specs.Address.{AddressState}

@@ -7,14 +7,15 @@ use Rattle.vm_allocator.specs.Range.{Range, MAX, span}
 use Rattle.vm_allocator.specs.Address.{AddressState, AreClear, IsPlace, IsLeastPlace, IsGreatestPlace, holding, releasing}
 use Rattle.vm_allocator.specs.Request.{Request, request_for, IsStartAligned, ByConstraint}
 use Rattle.vm_allocator.specs.Answer.{IsChosen, ByStart, ByExactStart, ByPlace, Takes, Settles, Allocates, Frees, Makes}
-use Rattle.vm_allocator.specs.Histories.{Call, Allocation, Release, Asked, Allocate, Free}
+use Rattle.vm_allocator.specs.Cloning.{Clones}
+use Rattle.vm_allocator.specs.Histories.{Allocation, Release, Cloning, Asked, Allocate, Free, Clone, RunsOutOfMemory}
 use Rattle.vm_allocator.specs.HistoryLaws.{EveryCallIsAnswered, EveryListHasHistory}
 use Rattle.vm_allocator.specs.declared.error.Error.{Error}
 use Rattle.vm_allocator.specs.declared.error.Error.TheVariants.{OutOfMemory, Overflow, ResourceNotAvailable, Underflow, InvalidStateTransition, InvalidSize, InvalidAlignment, UnalignedAddress}
 use Rattle.vm_allocator.specs.declared.allocation_engine.NodeState.TheVariants.{Allocated}
 use Rattle.vm_allocator.specs.declared.constraint.AllocPolicy.{AllocPolicy}
 use Rattle.vm_allocator.specs.declared.constraint.AllocPolicy.TheVariants.{FirstMatch, LastMatch, ExactMatch}
-use Rattle.vm_allocator.proofs.blocks.Words.{contains_cons}
+use Rattle.std.proofs.lemmas.List.Elements.{All-nil, All-cons}
 use Rattle.vm_allocator.proofs.numbers.Decisions.{Decided, decided_below, decided_all_clear, decided_place, decided_inside, decided_held, decided_alignment, decided_start, least_or_none, greatest_or_none}
 
 -- ---- an answer by the tests of a relation
@@ -125,18 +126,16 @@ total_makes base size =
     (decided_below MAX (base + size - 1)))
     (cases_eq size 0)
 
+total_clones : (old : AddressState) → (answer : Result AddressState Error) × Clones old answer × (answer ≢ Err OutOfMemory)
+total_clones old = (Ok old, inl refl, λ h. absurd (cc h))
+
 pub every_call : EveryCallIsAnswered
-every_call = record { made = total_makes; allocated = total_allocates; freed = total_frees }
+every_call = record { made = total_makes; allocated = total_allocates; freed = total_frees; cloned = total_clones }
 
 -- ---- and so is each list of what is asked
-abbrev HasMemory : List Call → Type 0
-HasMemory calls = (request : Request) → ¬ Contains calls (Allocation request (Err OutOfMemory))
-
-with_call : (call : Call) (calls : List Call) → ((request : Request) → call ≢ Allocation request (Err OutOfMemory)) → HasMemory calls → HasMemory (call ∷ calls)
-with_call call calls here later request c = ⊎_elim (here request) (later request) (contains_cons (Allocation request (Err OutOfMemory)) call calls c)
-
 pub every_list : EveryListHasHistory
-every_list old [] = ([], old, refl, refl, λ request c. omega (arith, c.1))
+unfolding total_clones
+every_list old [] = ([], old, refl, refl, All-nil _)
 every_list old (Allocate request ∷ asked) =
     let a = total_allocates old request in
     let rest = every_list a.1 asked in (
@@ -144,7 +143,7 @@ every_list old (Allocate request ∷ asked) =
       rest.1,
       (a.1, a.2, rest.2),
       ap (λ (v : List Asked). Allocate request ∷ v) rest.3,
-      with_call (Allocation request a.0) rest.0 (λ q e. a.3 (cc e)) rest.4,
+      All-cons (λ call. ¬ RunsOutOfMemory call) (Allocation request a.0) rest.0 a.3 rest.4,
     )
 every_list old (Free r ∷ asked) =
     let f = total_frees old r in
@@ -153,7 +152,16 @@ every_list old (Free r ∷ asked) =
       rest.1,
       (f.1, f.2, rest.2),
       ap (λ (v : List Asked). Free r ∷ v) rest.3,
-      with_call (Release r f.0) rest.0 (λ q e. cc e) rest.4,
+      All-cons (λ call. ¬ RunsOutOfMemory call) (Release r f.0) rest.0 (λ h. h) rest.4,
+    )
+every_list old (Clone ∷ asked) =
+    let c = total_clones old in
+    let rest = every_list old asked in (
+      Cloning c.0 ∷ rest.0,
+      rest.1,
+      (old, (c.1, refl), rest.2),
+      ap (λ (v : List Asked). Clone ∷ v) rest.3,
+      All-cons (λ call. ¬ RunsOutOfMemory call) (Cloning c.0) rest.0 c.2 rest.4,
     )
 
 pub ruleset answers = (every_call, every_list)

@@ -41,11 +41,3 @@ pub held_address : (hs : List Range) (r : Range) (x : ℕ) → IsHeld hs r → I
 held_address [] r x h i = h
 held_address (y ∷ ys) r x h i =
     ⊎_elim (λ (e : y ≡ r). inl (subst (λ (v : Range). IsIn v x) (sym e) i)) (λ (e : IsHeld ys r). inr (held_address ys r x e i)) h
-
--- what a list contains is its first or is contained in the rest
-pub contains_cons : {X : Type 0} (x first : X) (rest : List X) → Contains (first ∷ rest) x → (first ≡ x) ⊎ Contains rest x
-contains_cons {X} x first rest c = at c.0 c.1 c.2
-  where
-    at : (k : ℕ) → k < length (first ∷ rest) → slice_index_or (first ∷ rest) k x ≡ x → (first ≡ x) ⊎ Contains rest x
-    at zero l e = inl e
-    at (suc k) l e = inr (k, omega arith, e)

@@ -5,11 +5,12 @@ use Rattle.vm_allocator.specs.Range.{Range, span}
 use Rattle.vm_allocator.specs.Address.{AddressState, IsPlace, IsAddressState}
 use Rattle.vm_allocator.specs.Request.{Request}
 use Rattle.vm_allocator.specs.Answer.{Allocates, Frees}
-use Rattle.vm_allocator.specs.Histories.{Call, Allocation, Release, IsCallFrom, IsHistoryFrom, Reached, WasGiven}
+use Rattle.vm_allocator.specs.Histories.{Call, Allocation, Release, Cloning, IsCallFrom, IsHistoryFrom, Reached, WasGiven}
 use Rattle.vm_allocator.specs.HistoryLaws.{SlotsAreGood, AreAlike, StateDecides, ReleaseUndoes}
 use Rattle.vm_allocator.specs.declared.error.Error.{Error}
 use Rattle.vm_allocator.proofs.blocks.Words.{IsHeld, contains_held, held_contains}
 use Rattle.vm_allocator.proofs.answers.Outcomes.{IsRefused}
+use Rattle.vm_allocator.proofs.answers.Cloning.{cloning_keeps}
 use Rattle.vm_allocator.proofs.answers.Once.{allocates_once, frees_once}
 use Rattle.vm_allocator.proofs.blocks.HeldSets.{same_slots}
 use Rattle.vm_allocator.proofs.blocks.HeldChanges.{held_with, held_without}
@@ -19,6 +20,7 @@ use Rattle.vm_allocator.proofs.answers.AddressAnswers.{IsGiven, outcome, allocat
 call_state : (old new : AddressState) (call : Call) → IsCallFrom old call new → IsAddressState old → IsAddressState new
 call_state old new (Allocation request answer) h i = allocated_state old new request answer i h
 call_state old new (Release r answer) h i = freed_state old new r answer i h
+call_state old new (Cloning answer) h i = subst IsAddressState (sym (cloning_keeps old new answer h.0 h.1)) i
 
 pub history_state : (calls : List Call) (first last : AddressState) → IsHistoryFrom first calls last → IsAddressState first → IsAddressState last
 history_state [] first last h i = subst IsAddressState (sym h) i
@@ -57,6 +59,9 @@ call_gives old new (Allocation request answer) calls r s h =
 call_gives old new (Release q answer) calls r s h =
     let P : AddressState → Type 0 = λ v. IsHeld v.held r in
     ⊎_elim (λ l. inl (held_without q r old.held (subst P l.1.1 h))) (λ l. inl (subst P l.1.1 h)) s
+call_gives old new (Cloning answer) calls r s h =
+    let P : AddressState → Type 0 = λ v. IsHeld v.held r in
+    inl (subst P (cloning_keeps old new answer s.0 s.1) h)
 
 history_gives : (calls : List Call) (first last : AddressState) (r : Range) → IsHistoryFrom first calls last → IsHeld last.held r → IsHeld first.held r ⊎ WasGiven calls r
 history_gives [] first last r s h = inl (subst (λ (v : AddressState). IsHeld v.held r) s h)
@@ -90,7 +95,7 @@ same_state x y i j e h =
     let g : f x.space x.held ≡ f y.space x.held = ap (λ s. f s x.held) e in
     g ∙ ap (λ hs. f y.space hs) same
 
-alike_state : (first second : Reached) → AreAlike first.state second.state → first.state ≡ second.state
+pub alike_state : (first second : Reached) → AreAlike first.state second.state → first.state ≡ second.state
 alike_state first second h = same_state first.state second.state (reached_state first) (reached_state second) h.space (same_members first.state.held second.state.held h.held)
 
 pub decided : StateDecides

@@ -1,14 +1,14 @@
 -- Every call of an id allocator has an answer, and so every list of calls a history.
 use Rattle.std.proofs.Common.{◌≡◌, ◌≢◌, ℕ, ◌+◌, ◌<◌, ◌⊎◌, List, [], ◌∷◌, true, false, refl, ap, arith, inl, inr, ⊎_elim, Result, Ok, Err}
 use Rattle.std.proofs.lemmas.Bool.{cases_eq, cases_Bool, both_ways}
-use Rattle.std.specs.List.{Contains}
+use Rattle.std.proofs.lemmas.List.Elements.{All-nil, All-cons}
 use Rattle.std.specs.FinSet as set
 use Rattle.vm_allocator.specs.Ids.{MAX_ID, IdState, IsOfRange, IsHandedOut, IsHeld, IsNotHeld, IsLeastNotHeld, AreAllHeld, fresh_ids, holding_id, releasing_id, MakesIds, ByLeastNotHeld, AllocatesId, PeeksId, FreesId}
-use Rattle.vm_allocator.specs.IdHistories.{IdCall, Allocation, Release, IdAsked, Allocate, Free}
+use Rattle.vm_allocator.specs.Cloning.{Clones}
+use Rattle.vm_allocator.specs.IdHistories.{Allocation, Release, Cloning, IdAsked, Allocate, Free, Clone, RunsOutOfMemory}
 use Rattle.vm_allocator.specs.IdHistoryLaws.{EveryIdCallIsAnswered, EveryIdListHasHistory}
 use Rattle.vm_allocator.specs.declared.error.Error.{Error}
 use Rattle.vm_allocator.specs.declared.error.Error.TheVariants.{OutOfMemory, Overflow, ResourceNotAvailable, InvalidRange, OutOfRange, NeverAllocated, AlreadyReleased}
-use Rattle.vm_allocator.proofs.blocks.Words.{contains_cons}
 use Rattle.vm_allocator.proofs.numbers.Decisions.{Decided, decided_both, decided_below, decided_up_to, least_or_none}
 
 -- ---- what is decided of an id
@@ -88,18 +88,22 @@ total_makes lo hi =
     (λ (range : hi < lo → ⊥). (Ok (fresh_ids lo hi), inr (range, refl)))
     (decided_below hi lo)
 
+total_clones : (old : IdState) → (answer : Result IdState Error) × Clones old answer × (answer ≢ Err OutOfMemory)
+total_clones old = (Ok old, inl refl, λ h. absurd (cc h))
+
 pub every_call : EveryIdCallIsAnswered
-every_call = record { made = total_makes; allocated = total_allocates; peeked = total_peeks; freed = total_frees }
+every_call = record {
+  made = total_makes;
+  allocated = total_allocates;
+  peeked = total_peeks;
+  freed = total_frees;
+  cloned = total_clones;
+}
 
 -- ---- and so is each list of what is asked
-abbrev HasMemory : List IdCall → Type 0
-HasMemory calls = (id : ℕ) → ¬ Contains calls (Release id (Err OutOfMemory))
-
-with_call : (call : IdCall) (calls : List IdCall) → ((id : ℕ) → call ≢ Release id (Err OutOfMemory)) → HasMemory calls → HasMemory (call ∷ calls)
-with_call call calls here later id c = ⊎_elim (here id) (later id) (contains_cons (Release id (Err OutOfMemory)) call calls c)
-
 pub every_list : EveryIdListHasHistory
-every_list old [] = ([], old, refl, refl, λ id c. omega (arith, c.1))
+unfolding total_clones
+every_list old [] = ([], old, refl, refl, All-nil _)
 every_list old (Allocate ∷ asked) =
     let a = total_allocates old in
     let rest = every_list a.1 asked in (
@@ -107,7 +111,7 @@ every_list old (Allocate ∷ asked) =
       rest.1,
       (a.1, a.2, rest.2),
       ap (λ (v : List IdAsked). Allocate ∷ v) rest.3,
-      with_call (Allocation a.0) rest.0 (λ id e. cc e) rest.4,
+      All-cons (λ call. ¬ RunsOutOfMemory call) (Allocation a.0) rest.0 (λ h. h) rest.4,
     )
 every_list old (Free i ∷ asked) =
     let f = total_frees old i in
@@ -116,7 +120,16 @@ every_list old (Free i ∷ asked) =
       rest.1,
       (f.1, f.2, rest.2),
       ap (λ (v : List IdAsked). Free i ∷ v) rest.3,
-      with_call (Release i f.0) rest.0 (λ id e. f.3 (cc e)) rest.4,
+      All-cons (λ call. ¬ RunsOutOfMemory call) (Release i f.0) rest.0 f.3 rest.4,
+    )
+every_list old (Clone ∷ asked) =
+    let c = total_clones old in
+    let rest = every_list old asked in (
+      Cloning c.0 ∷ rest.0,
+      rest.1,
+      (old, (c.1, refl), rest.2),
+      ap (λ (v : List IdAsked). Clone ∷ v) rest.3,
+      All-cons (λ call. ¬ RunsOutOfMemory call) (Cloning c.0) rest.0 c.2 rest.4,
     )
 
 pub ruleset answers = (every_call, every_list)

@@ -6,9 +6,10 @@ use Rattle.std.specs.List.{Contains}
 use Rattle.std.specs.Ordering.{nat_cmp}
 use Rattle.std.specs.FinSet as set
 use Rattle.vm_allocator.specs.Ids.{IdState, IsHeld, IsLeastNotHeld, IsIdState, fresh_ids, MakesIds, ByLeastNotHeld, AllocatesId, FreesId}
-use Rattle.vm_allocator.specs.IdHistories.{IdCall, Allocation, Release, IsIdCallFrom, IsIdHistoryFrom, AreIdsReached, is_held_after, is_out_after}
-use Rattle.vm_allocator.specs.IdHistoryLaws.{EachIsLeastNotHeld, NoIdIsHeldTwice, HeldIsOut, StatesAreOfIds}
+use Rattle.vm_allocator.specs.IdHistories.{IdCall, Allocation, Release, Cloning, IsIdCallFrom, IsIdHistoryFrom, AreIdsReached, is_held_after, is_out_after}
+use Rattle.vm_allocator.specs.IdHistoryLaws.{IdCloneIsReached, EachIsLeastNotHeld, NoIdIsHeldTwice, HeldIsOut, StatesAreOfIds}
 use Rattle.vm_allocator.specs.declared.error.Error.{Error}
+use Rattle.vm_allocator.proofs.answers.Cloning.{clone_is, cloning_keeps}
 use Rattle.vm_allocator.proofs.ids.Sets.{same_test}
 use Rattle.vm_allocator.proofs.ids.Answers.{front_is_kept, allocating_adds, freeing_takes}
 
@@ -55,6 +56,7 @@ same_held old new id e = ap (λ (s : IdState). set.contains s.held id) e
 call_state : (call : IdCall) (old new : IdState) → IsIdState old → IsIdCallFrom old call new → IsIdState new
 call_state (Allocation answer) old new s h = front_is_kept.allocated old new answer s h
 call_state (Release id answer) old new s h = front_is_kept.freed old new id answer s h
+call_state (Cloning answer) old new s h = subst IsIdState (sym (cloning_keeps old new answer h.0 h.1)) s
 
 history_state : (calls : List IdCall) (first last : IdState) → IsIdState first → IsIdHistoryFrom first calls last → IsIdState last
 history_state [] first last s e = subst IsIdState (sym e) s
@@ -95,6 +97,7 @@ held_after_call (Allocation (Ok i)) old new id s h = held_after_taking old new i
 held_after_call (Allocation (Err e)) old new id s h = same_held old new id (refused_request_keeps old new e h)
 held_after_call (Release i (Ok back)) old new id s h = held_after_return old new i back id h
 held_after_call (Release i (Err e)) old new id s h = same_held old new id (refused_return_keeps old new i e h)
+held_after_call (Cloning answer) old new id s h = same_held old new id (cloning_keeps old new answer h.0 h.1)
 
 held_after_history : (calls : List IdCall) (first last : IdState) (id : ℕ) → IsIdState first → IsIdHistoryFrom first calls last → set.contains last.held id ≡ is_out_after id (set.contains first.held id) calls
 held_after_history [] first last id s e = same_held first last id e
@@ -119,6 +122,25 @@ held_is_out calls state id r = let e = held_from_first calls state id r in (λ h
 
 pub ruleset held_ids = (held_is_out, states_are_of_ids)
 
+-- A clone of what is reached is reached.
+
+history_append : (xs ys : List IdCall) (first mid last : IdState) → IsIdHistoryFrom first xs mid → IsIdHistoryFrom mid ys last → IsIdHistoryFrom first (xs ++ ys) last
+history_append [] ys first mid last h k = subst (λ (v : IdState). IsIdHistoryFrom v ys last) h k
+history_append (x ∷ xs) ys first mid last h k = (h.0, h.1, history_append xs ys h.0 mid last h.2 k)
+
+pub clone_is_reached : IdCloneIsReached
+clone_is_reached calls old clone r c = (
+  clone_is old clone c,
+  record {
+    lo = r.lo;
+    hi = r.hi;
+    word = r.word;
+    first = r.first;
+    made = r.made;
+    history = history_append calls (Cloning (Ok clone) ∷ []) r.first old clone r.history (clone, (c, refl), refl);
+  },
+)
+
 -- The ids that are given.
 
 given_is_held : (old new : IdState) (id : ℕ) → IsIdState old → AllocatesId old (Ok id) new → IsHeld new id
@@ -142,6 +164,8 @@ call_gives_back (Release i (Ok back)) old new id s h held gone =
     (cases_eq id i)
 call_gives_back (Release i (Err e)) old new id s h held gone =
     absurd (gone (same_held old new id (refused_return_keeps old new i e h) ∙ held))
+call_gives_back (Cloning answer) old new id s h held gone =
+    absurd (gone (same_held old new id (cloning_keeps old new answer h.0 h.1) ∙ held))
 
 -- an id that is held at first and not at last was given back on the way
 history_gives_back : (calls : List IdCall) (first last : IdState) (id : ℕ) → IsIdState first → IsIdHistoryFrom first calls last → IsHeld first id → ¬ IsHeld last id → Contains calls (Release id (Ok id))

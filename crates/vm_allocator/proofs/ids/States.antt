@@ -1,9 +1,11 @@
 -- What the fields of an id allocator say of its state.
-use Rattle.std.proofs.Common.{◌≡◌, ℕ, ◌<◌, ◌≤◌, false, refl, sym, ap, arith, inl, inr, Option, Some, Ok, Err, IsTrue, subst}
+use Rattle.std.proofs.Common.{◌≡◌, ℕ, ◌<◌, ◌≤◌, List, false, refl, sym, ap, arith, inl, inr, Option, Some, Ok, Err, IsTrue, subst}
 use Rattle.std.proofs.lemmas.Bool.{both_ways}
 use Rattle.std.specs.Ordering.{nat_cmp}
 use Rattle.std.specs.BTreeSet.{BTreeSet, contains, IsEmpty}
 use Rattle.std.specs.FinSet as set
+use Rattle.std.specs.List.{AllZip}
+use Rattle.std.proofs.lemmas.List.Elements.{same_from_all_zip}
 use Rattle.vm_allocator.specs.Ids.{IdState, IsHandedOut, IsHeld, fresh_ids, MakesIds, bound_of, held_of, ids_of, AreIds, IsIdState}
 use Rattle.vm_allocator.specs.declared.error.Error.TheVariants.{InvalidRange}
 use Rattle.vm_allocator.proofs.ids.Sets.{same_members, from_held, from_holds, holds_of, bound_fits, bound_above}
@@ -51,3 +53,12 @@ holds_not state lo hi i next freed e t h =
     both_ways _ (from_holds lo hi i next freed (subst (λ (s : IdState). IsHeld s i) (sym e) h)).2 t
 
 pub ruleset holdings = (holds, holds_not)
+
+-- Cloning.
+
+-- ids given back that are copied one by one are the same
+pub copied_ids : (freed copy : BTreeSet ℕ) → AllZip (λ x y. y ≡ x) freed.keys copy.keys → copy ≡ freed
+copied_ids freed copy h =
+    ap (λ (ks : List ℕ). record { keys = ks }) (same_from_all_zip (λ x y. y ≡ x) freed.keys copy.keys h (λ x y e. e))
+
+pub ruleset clones = (copied_ids)

@@ -5,10 +5,10 @@ use AllocPolicy::{ExactMatch, FirstMatch, LastMatch};
 use Call::{Exact, First, Free, Last, Space};
 use Form::{Counted, Plain};
 use Want::{Held, NoAlignment, NoSize, NotAvailable, Overflow, Range, Unaligned, Underflow};
-use std::alloc::AllocError;
 use std::process::Abort;
 use std::test::Fail;
 
+mod comparing;
 mod without_memory;
 
 const MAX: u64 = u64::MAX;
@@ -106,34 +106,24 @@ impl Call {
     }
 }
 
-/// A copy of an allocator, of the same shape.
-fn copy(
-    space: &AddressAllocator,
-    alloc: Global,
-) -> std::result::Result<AddressAllocator, AllocError> {
-    Ok(AddressAllocator {
-        address_space: space.address_space,
-        interval_tree: space.interval_tree.copy(alloc)?,
-    })
-}
-
-/// A copy, made again where memory is refused once.
-fn copied(rt: &impl Abort, space: &AddressAllocator, alloc: Global) -> AddressAllocator {
-    match copy(space, alloc) {
-        Ok(same) => same,
-        Err(_) => copy(space, alloc).expect(rt, "memory is refused once"),
+/// A clone, made again where memory is refused once.
+fn cloned(rt: &(impl Abort + AllocGlobal), space: &AddressAllocator) -> AddressAllocator {
+    match space.try_clone(rt.alloc()) {
+        Ok(clone) => clone,
+        Err(_) => space
+            .try_clone(rt.alloc())
+            .expect(rt, "memory is refused once"),
     }
 }
 
 /// The answer to a call. Where memory ran out nothing has changed.
 fn ask(rt: &(impl Abort + AllocGlobal), space: &mut AddressAllocator, call: Call) -> Answer {
-    let before = copied(rt, space, rt.alloc());
+    let before = cloned(rt, space);
     let answer = call.ask(space, rt.alloc(), Plain);
     if answer != Err(Error::OutOfMemory) {
         return answer;
     }
-    assert_eq!(rt; space.address_space, before.address_space);
-    assert!(rt; space.interval_tree.is_same(&before.interval_tree));
+    assert!(rt; *space == before, "{call:?}");
     call.ask(space, rt.alloc(), Plain)
 }
 
@@ -361,11 +351,7 @@ fn joins_what_is_given_back(rt: HostRuntime) {
         for i in order {
             replay(&rt, &mut space, &[(Free(i, i), Range(i, i))]);
         }
-        let fresh = made(&rt, 0, 6);
-        assert!(rt;
-            space.interval_tree.is_same(&fresh.interval_tree),
-            "{order:?}"
-        );
+        assert!(rt; space == made(&rt, 0, 6), "{order:?}");
     }
 }
 

@@ -1,14 +1,17 @@
 //! The blocks of a space in a balanced tree: which place a request gets (`placing`), how the range
-//! there is held (`holding`), and how a held one is given back (`release`).
+//! there is held (`holding`), how a held one is given back (`release`), and how two compare (`comparing`).
 ghost use Rattle.std.specs.Prelude.{◌≡◌, ◌+◌, ◌*◌, ◌≤◌, OnErr, IfOk};
 ghost use Rattle.vm_allocator.specs.Range.{MAX};
 ghost use Rattle.vm_allocator.specs.Address.{IsAddressState};
 ghost use Rattle.vm_allocator.specs.Answer.{Settles, Frees};
-ghost use Rattle.vm_allocator.specs.Shape.{height_of, node_count, IsTree};
+ghost use Rattle.vm_allocator.specs.Cloning.{Clones};
+ghost use Rattle.vm_allocator.specs.Shape.{blocks, height_of, node_count, IsTree};
 ghost use Rattle.vm_allocator.specs.Steps.{Enters, EntersToFree, IsBalancedTreeOf, IsSettlingCount, IsReleaseCount, SplitsIfLow};
 ghost use Rattle.vm_allocator.specs.SpaceTree.{tree_state, IsSpaceTree, MakesTree};
 
 use super::NodeState;
+use super::node::walks::Walk;
+use super::node::walks::copying::copy;
 use super::node::{Child, InnerNode};
 use crate::constraint::Constraint;
 use crate::error::{Error, Result};
@@ -16,6 +19,7 @@ use crate::range::RangeInclusive;
 use std::alloc::Global;
 use std::marker::Model;
 
+mod comparing;
 mod holding;
 pub(crate) mod placing;
 mod release;
@@ -57,6 +61,22 @@ impl IntervalTree {
             return Err(Error::OutOfMemory);
         };
         Ok(IntervalTree { root: Some(node) })
+    }
+
+    /// A copy, node for node.
+    pub(crate) fn try_clone(&self, alloc: Global) -> Result<Self>
+        ensures { Clones self.now result }
+    {
+        Ok(IntervalTree {
+            root: Some(copy(self.root(), alloc)?),
+        })
+    }
+
+    /// The walk over the blocks.
+    pub(crate) fn walk(&self) -> Walk<'_>
+        ensures { result ≡ blocks self.now }
+    {
+        Walk::over(&self.root)
     }
 
     /// The root, which is always there.

@@ -93,7 +93,7 @@ impl InnerNode {
     fn enter(&self, count: &mut u64)
         requires { count.old + height_of self.now ≤ MAX }
         ensures count { count.new ≡ count.old + 1 }
-        ensures some { 0 < height_of self.now }
+        ensures high { 0 < height_of self.now }
         ensures tree { IsTree self.now }
     {
         let _ = &self.height;
@@ -103,7 +103,7 @@ impl InnerNode {
     /// How many nodes the longest way down from here has.
     pub(crate) fn height(&self) -> u64
         ensures value { result ≡ height_of self.now }
-        ensures some { 0 < height_of self.now }
+        ensures high { 0 < height_of self.now }
         ensures tree { IsTree self.now }
     {
         self.height

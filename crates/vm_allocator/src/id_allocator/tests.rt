@@ -1,5 +1,5 @@
 use super::*;
-use crate::tests::end_of_memory;
+use crate::tests::{balance, end_of_memory};
 use Call::{Allocate, Free, Holds, Peek};
 use Want::{AlreadyReleased, Id, NeverAllocated, NotAvailable, OutOfRange, Overflow};
 use std::process::Abort;
@@ -267,5 +267,26 @@ fn without_memory(rt: HostRuntime) -> std::result::Result<(), Fail> {
     // An id given back for the first time asks for memory: what a run without memory is known by.
     let answer = last.free_id(u32::MAX);
     assert!(rt; answer == Err(Error::OutOfMemory) || answer == Ok(u32::MAX));
+    Ok(())
+}
+
+#[test]
+fn cloned_whole_or_not_at_all(rt: HostRuntime) -> std::result::Result<(), Fail> {
+    let mut ids = IdAllocator::new(rt.alloc(), 5, 23)?;
+    take_all(&rt, &mut ids, 5, 7);
+    assert_eq!(rt; give_back(&rt, &mut ids, 6), Ok(6));
+    balance(rt.alloc());
+    match ids.try_clone(rt.alloc()) {
+        Ok(clone) => assert!(rt; answers(&clone) == answers(&ids)),
+        Err(error) => assert_eq!(rt; error, Error::OutOfMemory),
+    }
+    balance(rt.alloc());
+    let mut clone = match ids.try_clone(rt.alloc()) {
+        Err(Error::OutOfMemory) => ids.try_clone(rt.alloc())?,
+        answer => answer?,
+    };
+    take_all(&rt, &mut clone, 6, 6);
+    take_all(&rt, &mut clone, 8, 8);
+    assert_eq!(rt; ids.allocate_id(), Ok(6));
     Ok(())
 }

@@ -1,5 +1,6 @@
-//! Laws of whole histories: every list of calls of an address allocator, from a new one on.
-ghost use Rattle.vm_allocator.specs.HistoryLaws.{FirstIsLeast, LastIsGreatest, ExactIsNamed, PlacesAnswer, RefusalsChangeNothing, SlotsAreGood, StateDecides, ReleaseUndoes, OrderOfReleasesIsFree, EveryCallIsAnswered, EveryListHasHistory};
+//! Laws of whole histories: every list of calls of an address allocator, from a new one on, clones
+//! made on the way among them.
+ghost use Rattle.vm_allocator.specs.HistoryLaws.{FirstIsLeast, LastIsGreatest, ExactIsNamed, PlacesAnswer, RefusalsChangeNothing, SlotsAreGood, StateDecides, ReleaseUndoes, OrderOfReleasesIsFree, EveryCallIsAnswered, EveryListHasHistory, CloneIsReached, OneEndIsEqual, ReleaseMakesEqual, OrderOfReleasesMakesEqual};
 
 /// In every history `FirstMatch` gives the least place, `LastMatch` the greatest and `ExactMatch` the
 /// named one.
@@ -39,4 +40,16 @@ fn releases_leave_no_trace()
 fn every_call_is_answered()
     ensures call { EveryCallIsAnswered }
     ensures list { EveryListHasHistory }
+{}
+
+/// A clone is reached as its original is, so all that holds of every history holds of clones.
+fn clones_are_reached()
+    ensures { CloneIsReached }
+{}
+
+/// Allocators that hold the same are equal, whatever the order and the kind of the calls before.
+fn equal_ends()
+    ensures any { OneEndIsEqual }
+    ensures undone { ReleaseMakesEqual }
+    ensures order { OrderOfReleasesMakesEqual }
 {}

@@ -1,5 +1,6 @@
-//! Laws of whole histories: every list of calls of an id allocator, from a new one on.
-ghost use Rattle.vm_allocator.specs.IdHistoryLaws.{EachIsLeastNotHeld, NoIdIsHeldTwice, HeldIsOut, StatesAreOfIds, EveryIdCallIsAnswered, EveryIdListHasHistory};
+//! Laws of whole histories: every list of calls of an id allocator, from a new one on, clones made on
+//! the way among them.
+ghost use Rattle.vm_allocator.specs.IdHistoryLaws.{EachIsLeastNotHeld, NoIdIsHeldTwice, HeldIsOut, StatesAreOfIds, EveryIdCallIsAnswered, EveryIdListHasHistory, IdCloneIsReached};
 
 /// In every history each id given is the least that is not held, and none is held twice.
 #[tactic(auto, using(crate::proofs::ids::Histories::least_ids))]
@@ -20,4 +21,9 @@ fn held_ids_are_out()
 fn every_id_call_is_answered()
     ensures call { EveryIdCallIsAnswered }
     ensures list { EveryIdListHasHistory }
+{}
+
+/// A clone is reached as its original is, so all that holds of every history holds of clones.
+fn id_clones_are_reached()
+    ensures { IdCloneIsReached }
 {}

@@ -1,6 +1,8 @@
 //! What asks for no memory. tests/refused_memory refuses every request after `end_of_memory`.
+use super::comparing::holds_just;
 use super::*;
 use crate::tests::end_of_memory;
+use std::cmp::Ordering;
 
 /// Does the calls in turn, each with the answer that it has to have, memory or not.
 fn replay(
@@ -54,6 +56,9 @@ fn filled_and_given_back(rt: HostRuntime) {
         (Free(0, 15), Range(0, 15)),
     ];
     end_of_memory(rt.alloc());
+    let [(plain, _), (counted, _)] = &spaces;
+    assert!(rt; plain == counted && plain.cmp(counted) == Ordering::Equal);
+    assert!(rt; holds_just(plain, &[(2, 3), (6, 7), (10, 11)]));
     for (space, form) in &mut spaces {
         replay(&rt, space, *form, &rows);
         assert_eq!(rt; (space.base(), space.end(), space.height()), (0, 15, 1));

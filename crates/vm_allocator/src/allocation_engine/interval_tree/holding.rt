@@ -114,7 +114,7 @@ fn leaf_after(alloc: Global, choice: &Choice) -> Result<Child>
 /// A leaf with a free block.
 fn free_leaf(alloc: Global, key: RangeInclusive) -> Result<Child>
     ensures leaf { IfOk result (λ leaf. IfSome leaf (λ n. n.value ≡ single (free_block key))) }
-    ensures some { IfOk result (λ leaf. side leaf ≡ single (free_block key)) }
+    ensures shape { IfOk result (λ leaf. side leaf ≡ single (free_block key)) }
     ensures error { IfErr result (λ error. error ≡ Error.OutOfMemory) }
 {
     match Box::new(alloc, InnerNode::new(key, NodeState::Free)) {

@@ -78,7 +78,7 @@ impl IntervalTree {
 /// none, and `Overflow` where they end at `u64::MAX`.
 #[tactic(auto, unfolding(crate::specs::SpaceTree::ChoosesBelowMax, crate::specs::BlockEdits::HasRoom))]
 fn choice_at(found: Option<Place>, size: u64) -> Result<Choice>
-    requires some { 0 < size }
+    requires sized { 0 < size }
     requires room { IfSome found (λ place. HasRoom place.start size (free_block place.key)) }
     ensures answer { ChoosesAt found size result }
     ensures no_memory { IfErr result (λ error. error ≢ Error.OutOfMemory) }

@@ -1,20 +1,8 @@
-ghost use Rattle.std.specs.Prelude.{◌≡◌, IfOk};
-
 use super::*;
-use crate::allocation_engine::node::walks::{copy, node_count, same};
+use crate::allocation_engine::node::walks::shapes::{node_count, same};
 use crate::constraint::AllocPolicy;
-use std::alloc::AllocError;
 
 impl IntervalTree {
-    /// A copy, of the same shape.
-    pub(crate) fn copy(&self, alloc: Global) -> std::result::Result<IntervalTree, AllocError>
-        ensures { IfOk result (λ tree. tree ≡ self.now) }
-    {
-        Ok(IntervalTree {
-            root: Some(copy(self.root(), alloc)?),
-        })
-    }
-
     /// How many blocks there are.
     pub(crate) fn block_count(&self) -> u64 {
         node_count(&self.root)

@@ -17,7 +17,9 @@ use std::cmp::Ordering;
 /// What is left of a free block before and after a range, a leaf each.
 #[derive(Drop)]
 pub(crate) struct Rest {
+    /// What ends right before the range.
     pub(crate) before: Child,
+    /// What starts right after it.
     pub(crate) after: Child,
 }
 

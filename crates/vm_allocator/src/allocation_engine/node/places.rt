@@ -24,7 +24,7 @@ pub(crate) struct Place {
 /// The least multiple of the alignment from which a block has room for `size` clear addresses.
 #[tactic(auto, using(crate::proofs::choosing::Fits::least_fits_by_key))]
 fn least_fit(key: &RangeInclusive, state: NodeState, size: u64, alignment: u64) -> Option<u64>
-    requires some { 0 < size }
+    requires sized { 0 < size }
     requires aligned { IsAlignment alignment }
     ensures { FindsLeastFit size alignment (record { key = key.now; state = state }) result }
 {
@@ -45,7 +45,7 @@ fn least_fit(key: &RangeInclusive, state: NodeState, size: u64, alignment: u64) 
 /// The greatest multiple of the alignment from which a block has room for `size` clear addresses.
 #[tactic(auto, using(crate::proofs::choosing::Fits::greatest_fits))]
 fn greatest_fit(key: &RangeInclusive, state: NodeState, size: u64, alignment: u64) -> Option<u64>
-    requires some { 0 < size }
+    requires sized { 0 < size }
     requires aligned { IsAlignment alignment }
     ensures { FindsGreatestFit size alignment (record { key = key.now; state = state }) result }
 {
@@ -62,7 +62,7 @@ fn greatest_fit(key: &RangeInclusive, state: NodeState, size: u64, alignment: u6
 /// The least place among the blocks of a tree: the first block with a fit, and its least fit.
 #[tactic(auto, using(crate::proofs::counts::Searching::firsts))]
 pub(crate) fn first_place(tree: &Child, size: u64, alignment: u64, count: &mut u64) -> Option<Place>
-    requires some { 0 < size }
+    requires sized { 0 < size }
     requires aligned { IsAlignment alignment }
     requires count_fits { count.old + node_count (side tree.now) ≤ MAX }
     ensures place { FindsFirst size alignment (blocks (side tree.now)) result }
@@ -77,7 +77,7 @@ pub(crate) fn first_place(tree: &Child, size: u64, alignment: u64, count: &mut u
 /// The greatest place among the blocks of a tree: the last block with a fit, and its greatest fit.
 #[tactic(auto, using(crate::proofs::counts::Searching::lasts))]
 pub(crate) fn last_place(tree: &Child, size: u64, alignment: u64, count: &mut u64) -> Option<Place>
-    requires some { 0 < size }
+    requires sized { 0 < size }
     requires aligned { IsAlignment alignment }
     requires count_fits { count.old + node_count (side tree.now) ≤ MAX }
     ensures place { FindsLast size alignment (blocks (side tree.now)) result }
@@ -93,7 +93,7 @@ impl InnerNode {
     /// The least place from this node on.
     #[tactic(auto, using(crate::proofs::choosing::PlaceSearch::firsts, crate::proofs::counts::Searching::firsts))]
     fn first_place(&self, size: u64, alignment: u64, count: &mut u64) -> Option<Place>
-        requires some { 0 < size }
+        requires sized { 0 < size }
         requires aligned { IsAlignment alignment }
         requires count_fits { count.old + node_count self.now ≤ MAX }
         ensures place { FindsFirst size alignment (blocks self.now) result }
@@ -122,7 +122,7 @@ impl InnerNode {
     /// The greatest place from this node on.
     #[tactic(auto, using(crate::proofs::choosing::PlaceSearch::lasts, crate::proofs::counts::Searching::lasts))]
     fn last_place(&self, size: u64, alignment: u64, count: &mut u64) -> Option<Place>
-        requires some { 0 < size }
+        requires sized { 0 < size }
         requires aligned { IsAlignment alignment }
         requires count_fits { count.old + node_count self.now ≤ MAX }
         ensures place { FindsLast size alignment (blocks self.now) result }

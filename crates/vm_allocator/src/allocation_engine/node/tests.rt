@@ -1,5 +1,6 @@
 //! Trees made by hand, in the orders of insertion that lean each way.
-use super::walks::{copy, same};
+use super::walks::copying::copy;
+use super::walks::shapes::same;
 use super::*;
 use crate::error::Error;
 use std::alloc::Global;

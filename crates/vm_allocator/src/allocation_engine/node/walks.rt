@@ -1,66 +1,96 @@
-//! Recursions over nodes that no counted function calls.
-ghost use Rattle.std.specs.Prelude.{◌≡◌, ◌↔◌, IsTrue, IfOk};
+//! Walks over the blocks of a tree, and recursions over nodes, that no counted function calls.
+ghost use Rattle.std.specs.Prelude.{◌≡◌, ◌≤◌, ◌++◌, drop};
+ghost use Rattle.std.specs.Iterator.{YieldsFirst, item_count};
+ghost use Rattle.vm_allocator.specs.Shape.{MAX_HEIGHT, blocks, height_of};
 ghost use Rattle.vm_allocator.specs.NodeFields.{side};
+ghost use Rattle.vm_allocator.specs.Walks.{blocks_ahead, Fits};
 
-use super::InnerNode;
+pub(crate) mod comparing;
+pub(crate) mod copying;
 #[cfg(test)]
-use std::alloc::{AllocError, Global};
+pub(crate) mod shapes;
 
-/// Whether two trees are equal node for node.
-pub(crate) fn same(a: &Option<Box<InnerNode>>, b: &Option<Box<InnerNode>>) -> bool
-    ensures { IsTrue result ↔ (side a.now ≡ side b.now) }
+use super::{Child, InnerNode};
+use crate::allocation_engine::block::Block;
+use std::marker::Model;
+
+/// As many nodes as stand on the longest way down a tree.
+const MOST: usize = 49;
+
+/// Puts the nodes on the way from the root of a tree to its least block before those from `at` on;
+/// says where the last of them lies.
+#[tactic(auto, using(crate::proofs::walks::Ways::entering))]
+fn descend<'a>(way: &mut [&'a Child; MOST], mut at: usize, mut tree: &'a Child) -> usize
+    requires within { at ≤ MAX_HEIGHT }
+    requires height { height_of (side tree.now) ≤ at }
+    requires fits { Fits (drop at way.old) }
+    ensures within { result ≤ MAX_HEIGHT }
+    ensures ahead { blocks_ahead (drop result way.new) ≡ blocks (side tree.now) ++ blocks_ahead (drop at way.old) }
+    ensures fits { Fits (drop result way.new) }
 {
-    match (a, b) {
-        (None, None) => true,
-        (Some(a), Some(b)) => {
-            a.key == b.key
-                && a.node_state == b.node_state
-                && same(&a.left, &b.left)
-                && same(&a.right, &b.right)
-        }
-        (None, Some(node)) => {
-            let node: &InnerNode = node;
-            let _ = &node.height;
-            false
-        }
-        (Some(node), None) => {
-            let node: &InnerNode = node;
-            let _ = &node.height;
-            false
-        }
+    while let Some(node) = tree {
+        let node: &InnerNode = node;
+        let left = &node.left;
+        at -= 1;
+        way[at] = tree;
+        tree = left;
+    }
+    at
+}
+
+/// A walk over the blocks of a tree, in order: it is seen as the blocks that are left. `way` has
+/// from `from` on the nodes that are left on the way down to the next one, the next one first.
+#[derive(Drop)]
+pub(crate) struct Walk<'a> {
+    way: [&'a Child; MOST],
+    from: usize,
+}
+
+impl<'a> Model for Walk<'a> {
+    ghost use Rattle.std.specs.Prelude.{List, drop};
+    ghost use Rattle.vm_allocator.specs.Block.{Block};
+    ghost use Rattle.vm_allocator.specs.Walks.{blocks_ahead, IsWay};
+
+    ghost Value = { List Block };
+
+    ghost view = { λ w. blocks_ahead (drop w.from w.way) };
+
+    ghost invariant = { λ w. IsWay w.way w.from };
+}
+
+impl<'a> Walk<'a> {
+    /// The walk over all blocks of a tree.
+    pub(crate) fn over(tree: &'a Child) -> Walk<'a>
+        requires { height_of (side tree.now) ≤ MAX_HEIGHT }
+        ensures { result ≡ blocks (side tree.now) }
+    {
+        let mut way = [tree; MOST];
+        let from = descend(&mut way, MOST, tree);
+        Walk { way, from }
     }
 }
 
-/// A copy of a tree, of the same shape.
-#[cfg(test)]
-pub(crate) fn copy(tree: &InnerNode, alloc: Global) -> Result<Box<InnerNode>, AllocError>
-    ensures { IfOk result (λ t. t.value ≡ tree.now) }
-{
-    let left = match &tree.left {
-        None => None,
-        Some(left) => Some(copy(left, alloc)?),
-    };
-    let right = match &tree.right {
-        None => None,
-        Some(right) => Some(copy(right, alloc)?),
-    };
-    let node = InnerNode {
-        key: tree.key,
-        node_state: tree.node_state,
-        left,
-        right,
-        height: tree.height,
-    };
-    Ok(Box::new(alloc, node)?)
-}
+impl<'a> Iterator for Walk<'a> {
+    type Item = Block;
 
-/// How many nodes there are, or `u64::MAX` where there are more.
-#[cfg(test)]
-pub(crate) fn node_count(tree: &Option<Box<InnerNode>>) -> u64 {
-    match tree {
-        None => 0,
-        Some(node) => node_count(&node.left)
-            .saturating_add(node_count(&node.right))
-            .saturating_add(1),
+    ghost next_gives = { YieldsFirst (λ w. w) };
+
+    ghost remaining = { item_count (λ w. w) };
+
+    /// The next block.
+    fn next(&mut self) -> Option<Block> {
+        let from = self.from;
+        let way = &self.way[..];
+        if from == way.len() {
+            return None;
+        }
+        let side = way[from];
+        let Some(node) = side else { return None };
+        let node: &InnerNode = node;
+        self.from = descend(&mut self.way, from + 1, &node.right);
+        Some(Block {
+            key: node.key,
+            state: node.node_state,
+        })
     }
 }

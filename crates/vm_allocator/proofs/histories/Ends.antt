@@ -1,0 +1,36 @@
+-- Where a history ends: in a clone, or in a state that others end in.
+use Rattle.std.proofs.Common.{List, [], ◌∷◌, ◌++◌, refl, subst, Ok}
+use Rattle.vm_allocator.specs.Address.{AddressState}
+use Rattle.vm_allocator.specs.Histories.{Call, Cloning, IsHistoryFrom}
+use Rattle.vm_allocator.specs.HistoryLaws.{CloneIsReached, OneEndIsEqual, ReleaseMakesEqual, OrderOfReleasesMakesEqual}
+use Rattle.vm_allocator.proofs.answers.Cloning.{clone_is}
+use Rattle.vm_allocator.proofs.comparing.States.{equal_states}
+use Rattle.vm_allocator.proofs.histories.Histories.{alike_state, release_undoes}
+use Rattle.vm_allocator.proofs.histories.Releases.{order_is_free}
+
+history_append : (xs ys : List Call) (first mid last : AddressState) → IsHistoryFrom first xs mid → IsHistoryFrom mid ys last → IsHistoryFrom first (xs ++ ys) last
+history_append [] ys first mid last h k = subst (λ (v : AddressState). IsHistoryFrom v ys last) h k
+history_append (x ∷ xs) ys first mid last h k = (h.0, h.1, history_append xs ys h.0 mid last h.2 k)
+
+pub clone_is_reached : CloneIsReached
+clone_is_reached old clone c =
+    let r = old.reached in (
+      clone_is old.state clone c,
+      record {
+        base = r.base;
+        size = r.size;
+        word = r.word;
+        first = r.first;
+        made = r.made;
+        history = history_append old.calls (Cloning (Ok clone) ∷ []) r.first old.state clone r.history (clone, (c, refl), refl);
+      },
+    )
+
+pub one_end_is_equal : OneEndIsEqual
+one_end_is_equal first second h = equal_states first.state second.state (alike_state first second h)
+
+pub release_makes_equal : ReleaseMakesEqual
+release_makes_equal old mid new request r answer s f = equal_states new old.state (release_undoes old mid new request r answer s f).1
+
+pub order_makes_equal : OrderOfReleasesMakesEqual
+order_makes_equal old first second rs qs e s t = equal_states first second (order_is_free.same old first second rs qs e s t)

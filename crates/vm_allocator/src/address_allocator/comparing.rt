@@ -1,0 +1,69 @@
+//! Equality and order of allocators: by their states, whatever the shapes of their trees.
+ghost use Rattle.std.specs.Prelude.{◌≡◌, ◌↔◌, IsTrue, Some};
+ghost use Rattle.std.proofs.Common.{rules};
+ghost use Rattle.std.specs.Cmp.Rules.{comparing};
+ghost use Rattle.std.specs.Ordering.{on, eq_by_cmp, as_partial_cmp};
+ghost use Rattle.std.specs.declared.cmp.Ordering.TheVariants.{Equal};
+ghost use Rattle.std.proofs.lemmas.Cmp.{on_total};
+ghost use Rattle.vm_allocator.specs.Allocator.{state_of};
+ghost use Rattle.vm_allocator.specs.Comparison.{state_cmp, state_cmp-total, AreEqual};
+
+use super::AddressAllocator;
+use std::cmp::Ordering;
+
+impl PartialEq for AddressAllocator {
+    ghost eq = { eq_by_cmp (on state_of state_cmp) };
+
+    ghost laws = { Prim.search (comparing, state_cmp-total, rules) };
+
+    /// Whether the spaces and the held ranges are the same. It takes no memory and stops at the first
+    /// difference.
+    #[tactic(auto, using(crate::proofs::comparing::States::allocators_compared))]
+    fn eq(&self, other: &AddressAllocator) -> bool
+        ensures state { IsTrue result ↔ AreEqual (state_of self.now) (state_of other.now) }
+        ensures order { result ≡ eq_by_cmp state_cmp (state_of self.now) (state_of other.now) }
+    {
+        self.address_space == other.address_space && self.interval_tree == other.interval_tree
+    }
+}
+
+impl Eq for AddressAllocator {
+    ghost laws = { Prim.search (comparing, state_cmp-total, rules) };
+}
+
+impl PartialOrd for AddressAllocator {
+    ghost partial_cmp = { as_partial_cmp (on state_of state_cmp) };
+
+    ghost laws = { Prim.search (comparing, state_cmp-total, rules) };
+
+    /// As `cmp` compares.
+    fn partial_cmp(&self, other: &AddressAllocator) -> Option<Ordering>
+        ensures { result ≡ Some (state_cmp (state_of self.now) (state_of other.now)) }
+    {
+        Some(self.cmp(other))
+    }
+}
+
+impl Ord for AddressAllocator {
+    ghost cmp = { on state_of state_cmp };
+
+    ghost total = { on_total state_of state_cmp-total };
+
+    ghost matches_partial_cmp = { Prim.search (comparing, rules) };
+
+    ghost matches_eq = { Prim.search (comparing, rules) };
+
+    /// By the space, then by the first blocks that differ: by start, then by end, then by state, where
+    /// clear is less. An allocator whose blocks are a beginning of the other's is less. It takes no
+    /// memory and stops at the first difference.
+    #[tactic(auto, using(crate::proofs::comparing::States::allocators_compared))]
+    fn cmp(&self, other: &AddressAllocator) -> Ordering
+        ensures order { result ≡ state_cmp (state_of self.now) (state_of other.now) }
+        ensures equal { (result ≡ Equal) ↔ AreEqual (state_of self.now) (state_of other.now) }
+    {
+        match self.address_space.cmp(&other.address_space) {
+            Ordering::Equal => self.interval_tree.cmp(&other.interval_tree),
+            unequal => unequal,
+        }
+    }
+}

@@ -1,0 +1,40 @@
+//! What tests ask of the shape of a tree.
+ghost use Rattle.std.specs.Prelude.{◌≡◌, ◌↔◌, IsTrue};
+ghost use Rattle.vm_allocator.specs.NodeFields.{side};
+
+use crate::allocation_engine::node::{Child, InnerNode};
+
+/// Whether two trees are equal node for node.
+pub(crate) fn same(a: &Child, b: &Child) -> bool
+    ensures { IsTrue result ↔ (side a.now ≡ side b.now) }
+{
+    match (a, b) {
+        (None, None) => true,
+        (Some(a), Some(b)) => {
+            a.key == b.key
+                && a.node_state == b.node_state
+                && same(&a.left, &b.left)
+                && same(&a.right, &b.right)
+        }
+        (None, Some(node)) => {
+            let node: &InnerNode = node;
+            let _ = &node.height;
+            false
+        }
+        (Some(node), None) => {
+            let node: &InnerNode = node;
+            let _ = &node.height;
+            false
+        }
+    }
+}
+
+/// How many nodes there are, or `u64::MAX` where there are more.
+pub(crate) fn node_count(tree: &Child) -> u64 {
+    match tree {
+        None => 0,
+        Some(node) => node_count(&node.left)
+            .saturating_add(node_count(&node.right))
+            .saturating_add(1),
+    }
+}
