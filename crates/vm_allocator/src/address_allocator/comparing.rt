@@ -20,7 +20,7 @@ impl PartialEq for AddressAllocator {
     /// difference.
     #[tactic(auto, using(crate::proofs::comparing::States::allocators_compared))]
     fn eq(&self, other: &AddressAllocator) -> bool
-        ensures state { IsTrue result ↔ AreEqual (state_of self.now) (state_of other.now) }
+        ensures equal { IsTrue result ↔ AreEqual (state_of self.now) (state_of other.now) }
         ensures order { result ≡ eq_by_cmp state_cmp (state_of self.now) (state_of other.now) }
     {
         self.address_space == other.address_space && self.interval_tree == other.interval_tree

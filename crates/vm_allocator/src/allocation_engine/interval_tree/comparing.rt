@@ -22,7 +22,7 @@ impl PartialEq for IntervalTree {
     #[tactic(auto, using(crate::proofs::comparing::States::trees_compared))]
     fn eq(&self, other: &IntervalTree) -> bool
         ensures blocks { IsTrue result ↔ (blocks self.now ≡ blocks other.now) }
-        ensures state { IsTrue result ↔ AreEqual (tree_state self.now) (tree_state other.now) }
+        ensures equal { IsTrue result ↔ AreEqual (tree_state self.now) (tree_state other.now) }
         ensures order { result ≡ eq_by_cmp layout_cmp (tree_state self.now) (tree_state other.now) }
     {
         same_blocks(&self.root, &other.root)

@@ -1,8 +1,8 @@
 use Rattle.vm_allocator.proofs.comparing.States.{tested_state, tested_by_layout}
 use Rattle.vm_allocator.proofs.allocation_engine.interval_tree.comparing.IntervalTreePartialEq.eq.Goals as goal
 
-pub returns-clause-state : goal.returns-clause-state
-returns-clause-state c =
+pub returns-clause-equal : goal.returns-clause-equal
+returns-clause-equal c =
     rw (← c.self.view_is, ← c.other.view_is) (tested_state _ _ _ c.self.invariant c.other.invariant c.same_blocks.ensures)
 
 pub returns-clause-order : goal.returns-clause-order
