@@ -10,7 +10,7 @@ use Rattle.vm_allocator.specs.Shape.{Shape, Tip, Fork, blocks, height_of, node_c
 use Rattle.vm_allocator.specs.Release.{at_address}
 use Rattle.vm_allocator.specs.Ways.{way_across, way_by, way_of_search, way_to_carve, leaf_of, way_to_hold, way_if_held}
 use Rattle.vm_allocator.specs.SpaceTree.{space_of, tree_state, most_searched, IsSpaceTree, IsChoice}
-use Rattle.vm_allocator.specs.Steps.{most_entered, IsSettlingCount, IsHeldIn, Enters, SplitsIfLow}
+use Rattle.vm_allocator.specs.Steps.{most_entered, IsSettlingCount, IsHeldIn, Enters, SplitsIfLow, TOO_HIGH}
 use Rattle.vm_allocator.specs.declared.error.Error.{Error}
 use Rattle.vm_allocator.specs.declared.error.Error.TheVariants.{OutOfMemory}
 use Rattle.vm_allocator.specs.declared.constraint.AllocPolicy.{AllocPolicy}
@@ -34,27 +34,24 @@ searched FirstMatch s m h l = omega (arith, few_in s h)
 searched LastMatch s m h l = omega (arith, few_in s h)
 searched (ExactMatch t) s m h l = omega arith
 
+-- the range that is given is the one that was taken
+given_range : (old new : AddressState) (r p : Range) → Takes old r (Ok p) new → p ≡ r
+unfolding Takes
+given_range old new r p h = ⊎_elim (λ l. cc (l.0)) (λ k. ⊎_elim (λ o. absurd (cc o)) (λ o. absurd (cc (o.1))) k.2) h
+
 -- a range that leaves a clear address beside it leaves a part of its block
 given_part : (s : Shape) (choice : Choice) (r : Range) (new : AddressState) → IsSpaceTree s → IsChoice (blocks s) choice → Takes (tree_state s) choice.range (Ok r) new → LeavesClear (tree_state s) r → LeavesPart choice.key choice.range
-unfolding Takes
 given_part s choice r new h i t left =
-    ⊎_elim
-    (λ k.
-    let same : r ≡ choice.range = cc (k.0) in
-    leaves_part (space_of (blocks s)) (blocks s) i.before i.after (free_block choice.key) choice.range h.tiling.tiles i.cut refl i.within (subst (LeavesClear (tree_state s)) same left))
-    (λ k. ⊎_elim (λ o. absurd (cc o)) (λ o. absurd (cc (o.1))) k.2)
-    t
+    leaves_part (space_of (blocks s)) (blocks s) i.before i.after (free_block choice.key) choice.range h.tiling.tiles i.cut refl i.within
+    (subst (LeavesClear (tree_state s)) (given_range (tree_state s) new choice.range r t) left)
 
 -- what holds of a success where a part is left holds of a split
 of_splits : (P : Type 0) (s : Shape) (choice : Choice) (answer : Result Range Error) (new : AddressState) → IsSpaceTree s → IsChoice (blocks s) choice → Takes (tree_state s) choice.range answer new → (LeavesPart choice.key choice.range → OnOk answer P) → IfOk answer (λ r. LeavesClear (tree_state s) r → P)
 of_splits P s choice (Err e) new h i t f = tt
 of_splits P s choice (Ok r) new h i t f = λ left. f (given_part s choice r new h i t left)
 
-pub split_low : (s : Shape) (choice : Choice) (answer : Result Range Error) (new : AddressState) → IsSpaceTree s → IsChoice (blocks s) choice → Takes (tree_state s) choice.range answer new → (LeavesPart choice.key choice.range → OnOk answer (height_of s < 48)) → (answer ≡ Err OutOfMemory → height_of s < 48) → SplitsIfLow (height_of s) (tree_state s) answer
-split_low s choice answer new h i t low memory = record { split = of_splits (height_of s < 48) s choice answer new h i t low; memory = memory }
-
-pub refused_low : (h : ℕ) (old : AddressState) (e : Error) → e ≢ OutOfMemory → SplitsIfLow h old (Err e)
-refused_low h old e n = record { split = tt; memory = λ m. absurd (n (cc m)) }
+pub split_low : (s : Shape) (choice : Choice) (answer : Result Range Error) (new : AddressState) → IsSpaceTree s → IsChoice (blocks s) choice → Takes (tree_state s) choice.range answer new → (LeavesPart choice.key choice.range → OnOk answer (height_of s < TOO_HIGH)) → (answer ≡ Err OutOfMemory → height_of s < TOO_HIGH) → SplitsIfLow (height_of s) (tree_state s) answer
+split_low s choice answer new h i t low memory = record { split = of_splits (height_of s < TOO_HIGH) s choice answer new h i t low; memory = memory }
 
 -- ---- exactly the nodes that a request enters
 pub search_at_most : (request : Request) (s : Shape) → way_of_search request s ≤ most_searched request.policy s
@@ -79,10 +76,6 @@ search_fits request s = omega (arith, search_at_most request s, most_at_most req
 
 pub enters_refused : (s : Shape) (request : Request) (e : Error) (before after : ℕ) → after ≡ before + way_of_search request s → Enters s request (Err e) before after
 enters_refused s request e before after p = record { refused = p; given = tt }
-
-given_range : (old new : AddressState) (r p : Range) → Takes old r (Ok p) new → p ≡ r
-unfolding Takes
-given_range old new r p h = ⊎_elim (λ l. cc (l.0)) (λ k. ⊎_elim (λ o. absurd (cc o)) (λ o. absurd (cc (o.1))) k.2) h
 
 pub enters_held : (s : Shape) (request : Request) (choice : Choice) (answer : Result Range Error) (new : AddressState) (before mid after : ℕ) → IsChoice (blocks s) choice → Takes (tree_state s) choice.range answer new
     → mid ≡ before + way_of_search request s → after ≡ mid + way_if_held choice.key answer s → Enters s request answer before after

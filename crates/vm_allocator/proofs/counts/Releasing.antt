@@ -2,8 +2,8 @@
 use Rattle.std.proofs.Common.{◌≡◌, ℕ, ◌+◌, ◌≤◌, Option, Some, None, subst, arith, Result, Ok, Err}
 use Rattle.vm_allocator.specs.Range.{Range}
 use Rattle.vm_allocator.specs.Shape.{Shape, Tip, Fork, blocks, height_of}
-use Rattle.vm_allocator.specs.Release.{neighbours, without_if}
-use Rattle.vm_allocator.specs.Ways.{way_to, way_around, way_if}
+use Rattle.vm_allocator.specs.Release.{neighbours}
+use Rattle.vm_allocator.specs.Ways.{way_around, way_if}
 use Rattle.vm_allocator.specs.SpaceTree.{IsSpaceTree}
 use Rattle.vm_allocator.specs.Steps.{IsReleaseCount, IsWayBack, EntersToFree}
 use Rattle.vm_allocator.specs.declared.error.Error.{Error}
@@ -38,12 +38,6 @@ enters_to_none s k e before after p = record { refused = p; given = tt }
 
 pub enters_to_free : (s : Shape) (k : Range) (beside : Neighbours) (before mid after : ℕ) → neighbours k None (blocks s) None ≡ Some beside → mid ≡ before + way_around k s → IsWayBack s k beside mid after → EntersToFree s k (Ok tt) before after
 enters_to_free s k beside before mid after f p w = record { refused = tt; given = (beside, f, subst (λ (v : ℕ). IsWayBack s k beside v after) p w) }
-
-pub way_back : (s mid last : Shape) (k : Range) (beside : Neighbours) (before second third after : ℕ) → blocks mid ≡ without_if beside.before (blocks s) → blocks last ≡ without_if beside.after (blocks mid)
-    → height_of mid ≤ height_of s → height_of last ≤ height_of mid
-    → second ≡ before + way_if beside.before s → third ≡ second + way_if beside.after mid → after ≡ third + way_to k last → IsWayBack s k beside before after
-way_back s mid last k beside before second third after p q h l c d e =
-    record { mid = mid; last = last; without_first = p; without_both = q; no_higher = (h, l); count = omega arith }
 
 pub ruleset removals = (way_if_at_most)
 

@@ -1,7 +1,6 @@
 -- What giving a range back makes of a tree's blocks.
 use Rattle.std.proofs.Common.{◌≡◌, ◌≤◌, List, [], ◌∷◌, ◌++◌, Option, Some, None, IsSome, refl, sym, ap, ◌∙◌, arith, inl, inr, ⊎_elim, subst, append_assoc, Ok, Err}
 use Rattle.std.specs.List.{Contains}
-use Rattle.std.specs.Global.{Box}
 use Rattle.vm_allocator.specs.Range.{Range}
 use Rattle.vm_allocator.specs.Block.{Block}
 use Rattle.vm_allocator.specs.Address.{releasing}
@@ -10,8 +9,6 @@ use Rattle.vm_allocator.specs.Blocks.{TilesSpace, IsBlocksOf, held_of, blocks_st
 use Rattle.vm_allocator.specs.BlockEdits.{free_block}
 use Rattle.vm_allocator.specs.BlockList.{IsOrderedFrom, replace_block, find_key}
 use Rattle.vm_allocator.specs.Shape.{Shape, blocks, height_of}
-use Rattle.vm_allocator.specs.NodeFields.{side}
-use Rattle.vm_allocator.specs.declared.allocation_engine.node.InnerNode.{InnerNode}
 use Rattle.vm_allocator.specs.SpaceTree.{space_of, tree_state, IsSpaceTree}
 use Rattle.vm_allocator.specs.Release.{held_block, HasSlot, neighbours, free_if, joined, IsAround, without_if, rejoined}
 use Rattle.vm_allocator.specs.declared.allocation_engine.node.neighbours.Neighbours.{Neighbours}
@@ -71,14 +68,6 @@ module _ (bs : List Block) (k : Range) (n : Neighbours) (a : IsAround bs k n) wh
 
   pub not_empty_mid : (news : List Block) → news ≡ without_if n.before bs → news ≡ [] → ⊥
   not_empty_mid news e z = no_middle a.front (held_block k) (free_if n.after ++ a.back) (sym (append_assoc a.front (held_block k ∷ []) (free_if n.after ++ a.back)) ∙ sym mid_is ∙ sym e ∙ z)
-
-pub not_empty_last : (bs : List Block) (k : Range) (n : Neighbours) (a : IsAround bs k n) (news : List Block) → news ≡ without_if n.after (without_if n.before bs) → news ≡ [] → ⊥
-not_empty_last bs k n a news e z = no_middle a.front (held_block k) a.back (sym (last_is bs k n a) ∙ sym e ∙ z)
-
--- a tree with blocks has a node
-pub some_node : (root : Option (Box InnerNode)) → (blocks (side root) ≡ [] → ⊥) → IsSome root
-some_node None h = absurd (h refl)
-some_node (Some n) h = refl
 
 pub space_given : (s m : Shape) (k : Range) (n : Neighbours) → IsSpaceTree s → Given s k n → blocks m ≡ rejoined k n (blocks s) → height_of m ≤ height_of s → IsSpaceTree m
 unfolding TilesSpace
