@@ -2,6 +2,7 @@ pub mod Ways
 pub mod WayBounds
 pub mod Carving
 pub mod Searching
+pub mod GapSearch
 pub mod LeftClear
 pub mod Granting
 pub mod Releasing

@@ -27,6 +27,7 @@ pub mod HistoryLaws
 pub mod IdHistories
 pub mod IdHistoryLaws
 pub mod Steps
+pub mod GapSearch
 pub mod Ways
 pub mod Carving
 pub mod Walks

@@ -7,7 +7,7 @@ use Rattle.vm_allocator.specs.Block.{Block, is_free}
 use Rattle.vm_allocator.specs.BlockEdits.{before_part, after_part}
 use Rattle.vm_allocator.specs.Release.{at_address}
 use Rattle.vm_allocator.specs.Request.{Request}
-use Rattle.vm_allocator.specs.Shape.{Shape, Tip, Fork, blocks, single}
+use Rattle.vm_allocator.specs.Shape.{Shape, Tip, Fork, blocks, max_free_of, single}
 use Rattle.vm_allocator.specs.declared.error.Error.{Error}
 use Rattle.vm_allocator.specs.declared.constraint.AllocPolicy.{AllocPolicy}
 use Rattle.vm_allocator.specs.declared.constraint.AllocPolicy.TheVariants.{FirstMatch, LastMatch, ExactMatch}
@@ -98,18 +98,20 @@ multiple_from a x = x + (a - 1) - (x + (a - 1)) % a
 unfoldable pub has_fit : ℕ → ℕ → Block → Bool
 has_fit n a b = is_free b.state && nat_le (multiple_from a b.key.start + n) (b.key.end + 1)
 
--- what the search for the least place enters: this node, what the search of the left side enters, and where no place is
--- found on the left or here what that of the right side enters
+-- what the search for the least place enters: none of a tree in which no free block is long enough, and else this node,
+-- what the search of the left side enters, and where no place is found on the left or here what that of the right enters
 unfoldable pub way_of_first : ℕ → ℕ → Shape → ℕ
 way_of_first n a Tip = 0
 way_of_first n a (Fork l b r) =
-    way_of_first n a l + (if list_any (has_fit n a) (blocks l) || has_fit n a b then 0 else way_of_first n a r) + 1
+    if nat_lt (max_free_of (Fork l b r)) n then 0
+    else way_of_first n a l + (if list_any (has_fit n a) (blocks l) || has_fit n a b then 0 else way_of_first n a r) + 1
 
 -- the same for the greatest place, from the right
 unfoldable pub way_of_last : ℕ → ℕ → Shape → ℕ
 way_of_last n a Tip = 0
 way_of_last n a (Fork l b r) =
-    way_of_last n a r + (if list_any (has_fit n a) (blocks r) || has_fit n a b then 0 else way_of_last n a l) + 1
+    if nat_lt (max_free_of (Fork l b r)) n then 0
+    else way_of_last n a r + (if list_any (has_fit n a) (blocks r) || has_fit n a b then 0 else way_of_last n a l) + 1
 
 -- what the search by a policy enters: for a named start the way to the block that has it, if it is below MAX
 abbrev pub way_by : AllocPolicy → ℕ → ℕ → Shape → ℕ

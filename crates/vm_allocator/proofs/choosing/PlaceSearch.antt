@@ -91,10 +91,10 @@ last_in_left n a s l b r place e h k f = record {
   fit = f.fit;
 }
 
--- a search that found nothing knows that there is nothing
-pub nothing_found : (found : Option Place) (P : Type 0) (Q : Place → Type 0) → MatchOption found P Q → is_some found ≡ false → P
+-- what is not there is told of by the first of two facts
+pub nothing_found : {X : Type 0} (found : Option X) (P : Type 0) (Q : X → Type 0) → MatchOption found P Q → is_some found ≡ false → P
 nothing_found None P Q h e = h
-nothing_found (Some place) P Q h e = absurd (cc e)
+nothing_found (Some x) P Q h e = absurd (cc e)
 
 -- where the left side and the root have no fit, the search goes on in the right side
 pub first_through_right : (n a : ℕ) (s l : Shape) (b : Block) (r : Shape) (found : Option Place) → s ≡ Fork l b r → All (HasNoFit n a) (blocks l) → HasNoFit n a b → FindsFirst n a (blocks r) found → FindsFirst n a (blocks s) found

@@ -5,7 +5,7 @@ use Rattle.vm_allocator.specs.Range.{Range}
 use Rattle.vm_allocator.specs.RangeOrder.{Before, same_range}
 use Rattle.vm_allocator.specs.Block.{Block}
 use Rattle.vm_allocator.specs.BlockList.{IsOrderedFrom, replace_block, find_key}
-use Rattle.vm_allocator.specs.Shape.{Shape, Tip, Fork, blocks, height_of, IsTree}
+use Rattle.vm_allocator.specs.Shape.{Shape, Tip, Fork, blocks, height_of, root_block, IsTree}
 use Rattle.vm_allocator.specs.NodeAnswer.{Marks, MarksBlock}
 use Rattle.vm_allocator.specs.NodeFields.{side}
 use Rattle.vm_allocator.specs.declared.allocation_engine.node.InnerNode.{InnerNode}
@@ -60,25 +60,15 @@ tree_rewritten_here l x r k y p t o = record {
 
 pub ruleset rewritings = (replace_in_left, replace_in_right, rewrite_here, known_left, known_right, rewritten_left, rewritten_right, tree_rewritten_left, tree_rewritten_right, tree_rewritten_here)
 
--- a block with another state
-state_in_order : (lo : ℕ) (l : List Block) (x y : Block) (r : List Block) → y.key ≡ x.key → IsOrderedFrom lo (l ++ x ∷ r) → IsOrderedFrom lo (l ++ y ∷ r)
-state_in_order lo [] x y r p o = rw p o
-state_in_order lo (b ∷ l) x y r p o = (o.0, o.1, state_in_order (b.key.end + 1) l x y r p o.2)
-
-pub tree_marked_here : (l : Shape) (x y : Block) (r : Shape) → y.key ≡ x.key → IsTree (Fork l x r) → IsTree (Fork l y r)
-tree_marked_here l x y r p t = record { ordered = state_in_order 0 (blocks l) x y (blocks r) p t.ordered; balanced = t.balanced }
-
-pub marks_here : (s l : Shape) (x : Block) (r : Shape) (k : Range) → s ≡ Fork l x r → k ≡ x.key → x.state ≡ Free → IsTree s → Marks (find_key k (blocks s)) k (Ok tt) s (Fork l (record { key = x.key; state = Allocated }) r)
-unfolding Marks MarksBlock
-marks_here s l x r k e p q t =
-    let y : Block = record { key = k; state = Allocated } in
-    let b : blocks l ++ record { key = x.key; state = Allocated } ∷ blocks r ≡ replace_block k (y ∷ []) (blocks s) =
-    rw (← p) (sym (replace_in_middle s l x r k (y ∷ []) e p t)) in
-    rw (find_in_middle s l x r k e p t, q) (refl, b)
-
-pub marks_held : (s l : Shape) (x : Block) (r : Shape) (k : Range) → s ≡ Fork l x r → k ≡ x.key → x.state ≡ Allocated → IsTree s → Marks (find_key k (blocks s)) k (Err (InvalidStateTransition k Allocated)) s s
-unfolding Marks MarksBlock
-marks_held s l x r k e p q t = rw (find_in_middle s l x r k e p t, q) (refl, refl)
+-- what marks the topmost block marks the tree
+pub marks_here : (s l : Shape) (x : Block) (r : Shape) (k : Range) (answer : Result (Unit {0}) Error) (n : Shape) → s ≡ Fork l x r → k ≡ x.key → IsTree s
+    → MarksBlock (root_block s).state (root_block s).key answer s n → Marks (find_key k (blocks s)) k answer s n
+unfolding Marks
+marks_here s l x r k answer n e p t h =
+    let top : root_block s ≡ x = ap root_block e in
+    rw (find_in_middle s l x r k e p t) (
+    subst (λ (v : Block). MarksBlock v.state k answer s n) top (
+    subst (λ (v : Range). MarksBlock (root_block s).state v answer s n) (ap (λ (v : Block). v.key) top ∙ sym p) h))
 
 pub marks_none_left : (s l : Shape) (x : Block) (r : Shape) (k : Range) → s ≡ Fork l x r → l ≡ Tip → Before k x.key → IsTree s → Marks (find_key k (blocks s)) k (Err ResourceNotAvailable) s s
 unfolding Marks
@@ -116,7 +106,7 @@ marks_in_right s l m x r k answer e p t h =
     h)
 
 -- marking keeps the order
-ordered_marked : (lo : ℕ) (k : Range) (bs : List Block) → IsOrderedFrom lo bs → IsOrderedFrom lo (replace_block k (record { key = k; state = Allocated } ∷ []) bs)
+pub ordered_marked : (lo : ℕ) (k : Range) (bs : List Block) → IsOrderedFrom lo bs → IsOrderedFrom lo (replace_block k (record { key = k; state = Allocated } ∷ []) bs)
 ordered_marked lo k [] o = tt
 ordered_marked lo k (b ∷ bs) o =
     elim (same_range k b.key) as (λ v. same_range k b.key ≡ v → IsOrderedFrom lo (cond v (record { key = k; state = Allocated } ∷ bs) (b ∷ replace_block k (record { key = k; state = Allocated } ∷ []) bs))) [
@@ -146,4 +136,4 @@ tree_marked_right l m x r k answer p t h e d = record {
   balanced = (t.balanced.0, d.balanced, rw e t.balanced.2);
 }
 
-pub ruleset markings = (tree_marked_here, marks_here, marks_held, marks_none_left, marks_none_right, marks_in_left, marks_in_right, tree_marked_left, tree_marked_right)
+pub ruleset markings = (marks_here, marks_none_left, marks_none_right, marks_in_left, marks_in_right, tree_marked_left, tree_marked_right)

@@ -2,7 +2,8 @@
 //! it enters: `count` rises by one for each, in `enter` alone.
 ghost use Rattle.std.specs.Prelude.{◌≡◌, ◌+◌, ◌<◌, ◌≤◌, ◌↔◌, IsNone};
 ghost use Rattle.vm_allocator.specs.Range.{MAX};
-ghost use Rattle.vm_allocator.specs.Shape.{Tip, height_of, single, root_block, IsTree};
+ghost use Rattle.vm_allocator.specs.Block.{free_length};
+ghost use Rattle.vm_allocator.specs.Shape.{Tip, height_of, max_free_of, single, root_block, IsTree};
 ghost use Rattle.vm_allocator.specs.NodeFields.{side};
 
 mod balance;
@@ -24,7 +25,8 @@ use crate::range::RangeInclusive;
 use std::marker::Model;
 
 /// A node of the tree, with the tree below it: keys in order without an address in common, the
-/// heights of its children at most one apart, and its own height kept.
+/// heights of its children at most one apart, its own height kept, and the length of the longest free
+/// block of its tree, 0 where it has none.
 #[derive(Debug, Drop)]
 pub(crate) struct InnerNode {
     key: RangeInclusive,
@@ -32,6 +34,7 @@ pub(crate) struct InnerNode {
     left: Option<Box<InnerNode>>,
     right: Option<Box<InnerNode>>,
     height: u64,
+    max_free: u64,
 }
 
 /// A place for a child.
@@ -62,13 +65,13 @@ impl InnerNode {
     pub(crate) fn new(key: RangeInclusive, node_state: NodeState) -> InnerNode
         ensures { result ≡ single (record { key = key; state = node_state }) }
     {
-        let _ = key.end();
         InnerNode {
             key,
             node_state,
             left: None,
             right: None,
             height: 1,
+            max_free: free_length(&key, node_state),
         }
     }
 
@@ -110,6 +113,17 @@ impl InnerNode {
     }
 }
 
+/// How many clear addresses a block has: all of a free one, none of a held one.
+#[inline(always)]
+pub(crate) fn free_length(key: &RangeInclusive, node_state: NodeState) -> u64
+    ensures { result ≡ free_length (record { key = key.now; state = node_state }) }
+{
+    match node_state {
+        NodeState::Free => key.len(),
+        NodeState::Allocated => 0,
+    }
+}
+
 /// The height of a child, 0 where it is absent.
 #[inline(always)]
 pub(crate) fn height(child: &Child) -> u64
@@ -120,5 +134,16 @@ pub(crate) fn height(child: &Child) -> u64
     match child {
         None => 0,
         Some(node) => node.height,
+    }
+}
+
+/// The length of the longest free block below a child, 0 where there is none.
+#[inline(always)]
+pub(crate) fn max_free(child: &Child) -> u64
+    ensures value { result ≡ max_free_of (side child.now) }
+{
+    match child {
+        None => 0,
+        Some(node) => node.max_free,
     }
 }

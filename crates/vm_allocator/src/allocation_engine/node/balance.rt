@@ -1,65 +1,101 @@
 //! Heights and rotations. Nothing here calls itself, and nothing takes memory.
 ghost use Rattle.std.specs.Prelude.{◌≡◌, ◌+◌, ◌<◌, ◌≤◌, ◌^◌, ◌++◌, ◌∷◌, max, true, None, IsSome, ◌↔◌, IsNone};
 ghost use Rattle.vm_allocator.specs.BlockList.{IsOrderedFrom};
-ghost use Rattle.vm_allocator.specs.Shape.{Fork, blocks, height_of, single, root_block, IsTree, DifferByAtMost, IsSameIfNot, IsLeaf, CanBalance, Balances};
+ghost use Rattle.vm_allocator.specs.Shape.{Fork, blocks, height_of, max_free_of, single, root_block, IsTree, DifferByAtMost, IsSameIfNot, IsLeaf, CanBalance, Balances};
 ghost use Rattle.vm_allocator.specs.NodeFields.{side};
 ghost use Rattle.vm_allocator.specs.Settling.{IsSettled};
 
-use super::{Child, InnerNode, height};
+use super::{Child, InnerNode, free_length, height, max_free};
 
 /// What becomes of a node once one of its children has changed.
 #[derive(Drop)]
 pub(super) enum Settled {
-    /// Its children are close in height; its own height changed, or it did not.
+    /// Its children are close in height; what it keeps changed, or it did not.
     Stands(bool),
     /// Its children differ by two, and are taken out of it: the left one and the right one.
     Leans(Child, Child),
 }
 
-/// Brings the kept height of a node up to date, or takes its children out where they are to be
-/// balanced.
+/// Brings what a node keeps up to date, or takes its children out where they are to be balanced.
+/// `own` is the free length of the node's own block.
 #[inline(always)]
-pub(super) fn settle(left: &mut Child, right: &mut Child, kept: &mut u64) -> Settled
+pub(super) fn settle(
+    left: &mut Child,
+    right: &mut Child,
+    own: u64,
+    kept_height: &mut u64,
+    max_free: &mut u64,
+) -> Settled
     requires { max (height_of (side left.old)) (height_of (side right.old)) + 1 < 2 ^ 64 }
-    ensures settled { IsSettled left.old right.old kept.old result left.new right.new kept.new }
+    ensures settled { IsSettled left.old right.old own kept_height.old max_free.old
+        result left.new right.new kept_height.new max_free.new }
     ensures left { IsTree (side left.old) }
     ensures right { IsTree (side right.old) }
 {
     let left_height = height(left);
     let right_height = height(right);
     if left_height > right_height + 1 || right_height > left_height + 1 {
-        let (left, right) = strip(left, right, kept);
-        return Settled::Leans(left, right);
+        *kept_height = 1;
+        *max_free = own;
+        return Settled::Leans(left.take(), right.take());
     }
-    Settled::Stands(refresh(left, right, kept))
+    Settled::Stands(refresh(left, right, own, kept_height, max_free))
 }
 
-/// Brings the kept height of a node up to date; says whether it changed.
+/// Brings the kept height and the kept length of a node up to date; says whether one of them changed.
 #[inline(always)]
-pub(super) fn refresh(left: &Child, right: &Child, kept: &mut u64) -> bool
+pub(super) fn refresh(
+    left: &Child,
+    right: &Child,
+    own: u64,
+    kept_height: &mut u64,
+    max_free: &mut u64,
+) -> bool
     requires { max (height_of (side left.now)) (height_of (side right.now)) + 1 < 2 ^ 64 }
-    ensures height { kept.new ≡ max (height_of (side left.now)) (height_of (side right.now)) + 1 }
+    ensures height { kept_height.new ≡ max (height_of (side left.now)) (height_of (side right.now)) + 1 }
+    ensures longest { max_free.new ≡ max (max (max_free_of (side left.now)) (max_free_of (side right.now))) own }
     ensures left { IsTree (side left.now) }
     ensures right { IsTree (side right.now) }
-    ensures same { IsSameIfNot result kept.old kept.new }
+    ensures same { IsSameIfNot result kept_height.old kept_height.new }
+    ensures same_longest { IsSameIfNot result max_free.old max_free.new }
 {
     let height = height(left).max(height(right)) + 1;
-    if height == *kept {
-        return false;
+    let changed = refresh_longest(left, right, own, max_free);
+    if height == *kept_height {
+        return changed;
     }
-    *kept = height;
+    *kept_height = height;
     true
 }
 
-/// Takes the children out of a node, and leaves it without any.
-pub(super) fn strip(left: &mut Child, right: &mut Child, kept: &mut u64) -> (Child, Child)
-    ensures sides { result ≡ (left.old, right.old) }
-    ensures left { left.new ≡ None }
-    ensures right { right.new ≡ None }
-    ensures height { kept.new ≡ 1 }
+/// Brings the kept length of a node up to date; says whether it changed.
+#[inline(always)]
+pub(super) fn refresh_longest(left: &Child, right: &Child, own: u64, kept: &mut u64) -> bool
+    ensures longest { kept.new ≡ max (max (max_free_of (side left.now)) (max_free_of (side right.now))) own }
+    ensures same { IsSameIfNot result kept.old kept.new }
 {
-    *kept = 1;
-    (left.take(), right.take())
+    let longest = max_free(left).max(max_free(right)).max(own);
+    if longest == *kept {
+        return false;
+    }
+    *kept = longest;
+    true
+}
+
+impl InnerNode {
+    /// Takes the children out of the node, the left one and the right one.
+    #[inline(always)]
+    pub(super) fn strip(&mut self) -> (Child, Child)
+        ensures shape { self.old ≡ Fork (side result.0) (root_block self.old) (side result.1) }
+        ensures middle { self.new ≡ single (root_block self.old) }
+        ensures tree { IsTree self.old }
+        ensures height_fits { height_of self.old < 2 ^ 64 }
+    {
+        let sides = (self.left.take(), self.right.take());
+        self.height = 1;
+        self.max_free = free_length(&self.key, self.node_state);
+        sides
+    }
 }
 
 /// A node's left side, the node without children, and its right side.
@@ -69,9 +105,7 @@ fn part(mut node: Box<InnerNode>) -> (Child, Box<InnerNode>, Child)
     ensures tree { IsTree node.value }
     ensures height_fits { height_of node.value < 2 ^ 64 }
 {
-    let open = &mut *node;
-    let _ = open.height;
-    let (left, right) = strip(&mut open.left, &mut open.right, &mut open.height);
+    let (left, right) = node.strip();
     (left, node, right)
 }
 
@@ -87,7 +121,14 @@ fn fork(left: Child, mut middle: Box<InnerNode>, right: Child) -> Box<InnerNode>
     let open = &mut *middle;
     open.left = left;
     open.right = right;
-    let _ = refresh(&open.left, &open.right, &mut open.height);
+    let own = free_length(&open.key, open.node_state);
+    let _ = refresh(
+        &open.left,
+        &open.right,
+        own,
+        &mut open.height,
+        &mut open.max_free,
+    );
     middle
 }
 

@@ -9,7 +9,7 @@ ghost use Rattle.vm_allocator.specs.NodeFields.{side};
 
 use super::balance::{Settled, rebalance, settle};
 use super::link::link_at;
-use super::{Child, InnerNode, height};
+use super::{Child, InnerNode, free_length, height};
 use crate::allocation_engine::NodeState;
 use crate::range::RangeInclusive;
 use std::cmp::Ordering;
@@ -61,7 +61,14 @@ fn carve_here(at: &mut Child, range: RangeInclusive, rest: Rest, count: &mut u64
     tree.node_state = NodeState::Allocated;
     link_if(&mut tree.left, rest.before, count);
     link_if(&mut tree.right, rest.after, count);
-    match settle(&mut tree.left, &mut tree.right, &mut tree.height) {
+    let own = free_length(&tree.key, tree.node_state);
+    match settle(
+        &mut tree.left,
+        &mut tree.right,
+        own,
+        &mut tree.height,
+        &mut tree.max_free,
+    ) {
         Settled::Stands(changed) => changed,
         Settled::Leans(left, right) => rebalance(at, left, right),
     }
@@ -96,7 +103,14 @@ pub(crate) fn carve_at(
     if !changed {
         return false;
     }
-    match settle(&mut tree.left, &mut tree.right, &mut tree.height) {
+    let own = free_length(&tree.key, tree.node_state);
+    match settle(
+        &mut tree.left,
+        &mut tree.right,
+        own,
+        &mut tree.height,
+        &mut tree.max_free,
+    ) {
         Settled::Stands(changed) => changed,
         Settled::Leans(left, right) => rebalance(at, left, right),
     }

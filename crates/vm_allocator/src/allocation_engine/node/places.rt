@@ -1,10 +1,10 @@
 //! The searches for the place of a request.
-ghost use Rattle.std.specs.Prelude.{◌≡◌, ◌+◌, ◌<◌, ◌≤◌};
+ghost use Rattle.std.specs.Prelude.{◌≡◌, ◌+◌, ◌<◌, ◌≤◌, MatchOption};
 ghost use Rattle.vm_allocator.specs.Range.{MAX};
 ghost use Rattle.vm_allocator.specs.Alignment.{IsAlignment};
 ghost use Rattle.vm_allocator.specs.Fit.{FindsLeastFit, FindsGreatestFit};
 ghost use Rattle.vm_allocator.specs.Place.{FindsFirst, FindsLast};
-ghost use Rattle.vm_allocator.specs.Shape.{blocks, node_count};
+ghost use Rattle.vm_allocator.specs.Shape.{blocks, max_free_of, node_count};
 ghost use Rattle.vm_allocator.specs.Ways.{way_of_first, way_of_last};
 ghost use Rattle.vm_allocator.specs.NodeFields.{side};
 
@@ -59,6 +59,23 @@ fn greatest_fit(key: &RangeInclusive, state: NodeState, size: u64, alignment: u6
     if start <= place { Some(place) } else { None }
 }
 
+/// The tree, if one of its free blocks is long enough for `size` addresses.
+#[inline(always)]
+fn roomy(tree: &Child, size: u64) -> Option<&InnerNode>
+    requires { 0 < size }
+    ensures { MatchOption result
+        (max_free_of (side tree.now) < size)
+        (λ node. (side tree.now ≡ node.now) × (size ≤ max_free_of node.now)) }
+{
+    let Some(node) = tree else { return None };
+    let node: &InnerNode = node;
+    if node.max_free < size {
+        None
+    } else {
+        Some(node)
+    }
+}
+
 /// The least place among the blocks of a tree: the first block with a fit, and its least fit.
 #[tactic(auto, using(crate::proofs::counts::Searching::firsts))]
 pub(crate) fn first_place(tree: &Child, size: u64, alignment: u64, count: &mut u64) -> Option<Place>
@@ -68,7 +85,7 @@ pub(crate) fn first_place(tree: &Child, size: u64, alignment: u64, count: &mut u
     ensures place { FindsFirst size alignment (blocks (side tree.now)) result }
     ensures count { count.new ≡ count.old + way_of_first size alignment (side tree.now) }
 {
-    match tree {
+    match roomy(tree, size) {
         None => None,
         Some(node) => node.first_place(size, alignment, count),
     }
@@ -83,7 +100,7 @@ pub(crate) fn last_place(tree: &Child, size: u64, alignment: u64, count: &mut u6
     ensures place { FindsLast size alignment (blocks (side tree.now)) result }
     ensures count { count.new ≡ count.old + way_of_last size alignment (side tree.now) }
 {
-    match tree {
+    match roomy(tree, size) {
         None => None,
         Some(node) => node.last_place(size, alignment, count),
     }
@@ -95,12 +112,13 @@ impl InnerNode {
     fn first_place(&self, size: u64, alignment: u64, count: &mut u64) -> Option<Place>
         requires sized { 0 < size }
         requires aligned { IsAlignment alignment }
+        requires roomy { size ≤ max_free_of self.now }
         requires count_fits { count.old + node_count self.now ≤ MAX }
         ensures place { FindsFirst size alignment (blocks self.now) result }
         ensures count { count.new ≡ count.old + way_of_first size alignment self.now }
     {
         self.enter(count);
-        let found = match &self.left {
+        let found = match roomy(&self.left, size) {
             None => None,
             Some(left) => left.first_place(size, alignment, count),
         };
@@ -113,7 +131,7 @@ impl InnerNode {
                 start,
             });
         }
-        let Some(right) = &self.right else {
+        let Some(right) = roomy(&self.right, size) else {
             return None
         };
         right.first_place(size, alignment, count)
@@ -124,12 +142,13 @@ impl InnerNode {
     fn last_place(&self, size: u64, alignment: u64, count: &mut u64) -> Option<Place>
         requires sized { 0 < size }
         requires aligned { IsAlignment alignment }
+        requires roomy { size ≤ max_free_of self.now }
         requires count_fits { count.old + node_count self.now ≤ MAX }
         ensures place { FindsLast size alignment (blocks self.now) result }
         ensures count { count.new ≡ count.old + way_of_last size alignment self.now }
     {
         self.enter(count);
-        let found = match &self.right {
+        let found = match roomy(&self.right, size) {
             None => None,
             Some(right) => right.last_place(size, alignment, count),
         };
@@ -142,7 +161,9 @@ impl InnerNode {
                 start,
             });
         }
-        let Some(left) = &self.left else { return None };
+        let Some(left) = roomy(&self.left, size) else {
+            return None
+        };
         left.last_place(size, alignment, count)
     }
 }

@@ -6,8 +6,8 @@ ghost use Rattle.vm_allocator.specs.Shape.{blocks, height_of, root_block, IsLeaf
 ghost use Rattle.vm_allocator.specs.Ways.{way_to_first, way_to_join, way_to_remove};
 ghost use Rattle.vm_allocator.specs.NodeFields.{side};
 
-use super::balance::{Settled, balance, rebalance, settle, strip};
-use super::{Child, InnerNode, height};
+use super::balance::{Settled, balance, rebalance, settle};
+use super::{Child, InnerNode, free_length, height};
 use crate::range::RangeInclusive;
 use std::cmp::Ordering;
 
@@ -26,7 +26,7 @@ fn take_least_at(at: &mut Child, count: &mut u64) -> (Box<InnerNode>, bool)
     let tree: &mut InnerNode = tree;
     tree.enter(count);
     if tree.left.is_none() {
-        let (_, right) = strip(&mut tree.left, &mut tree.right, &mut tree.height);
+        let (_, right) = tree.strip();
         let _ = height(&right);
         let Some(least) = at.take() else {
             unreachable!()
@@ -38,7 +38,14 @@ fn take_least_at(at: &mut Child, count: &mut u64) -> (Box<InnerNode>, bool)
     if !changed {
         return (least, false);
     }
-    match settle(&mut tree.left, &mut tree.right, &mut tree.height) {
+    let own = free_length(&tree.key, tree.node_state);
+    match settle(
+        &mut tree.left,
+        &mut tree.right,
+        own,
+        &mut tree.height,
+        &mut tree.max_free,
+    ) {
         Settled::Stands(changed) => (least, changed),
         Settled::Leans(left, right) => (least, rebalance(at, left, right)),
     }
@@ -81,7 +88,7 @@ pub(crate) fn delete_at(at: &mut Child, key: &RangeInclusive, count: &mut u64) -
     tree.enter(count);
     let changed = match tree.key.order(key) {
         Ordering::Equal => {
-            let (left, right) = strip(&mut tree.left, &mut tree.right, &mut tree.height);
+            let (left, right) = tree.strip();
             *at = join(left, right, count);
             return true;
         }
@@ -91,7 +98,14 @@ pub(crate) fn delete_at(at: &mut Child, key: &RangeInclusive, count: &mut u64) -
     if !changed {
         return false;
     }
-    match settle(&mut tree.left, &mut tree.right, &mut tree.height) {
+    let own = free_length(&tree.key, tree.node_state);
+    match settle(
+        &mut tree.left,
+        &mut tree.right,
+        own,
+        &mut tree.height,
+        &mut tree.max_free,
+    ) {
         Settled::Stands(changed) => changed,
         Settled::Leans(left, right) => rebalance(at, left, right),
     }

@@ -2,53 +2,71 @@
 ghost use Rattle.std.specs.Prelude.{◌≡◌, ◌+◌, ◌≤◌, IsSome};
 ghost use Rattle.vm_allocator.specs.Range.{MAX};
 ghost use Rattle.vm_allocator.specs.BlockList.{IsOrderedFrom, with_block, find_key};
-ghost use Rattle.vm_allocator.specs.Shape.{blocks, height_of, IsTree};
+ghost use Rattle.vm_allocator.specs.Shape.{blocks, height_of, root_block, KeepsShape};
 ghost use Rattle.vm_allocator.specs.Ways.{way_to};
 ghost use Rattle.vm_allocator.specs.NodeFields.{side};
 
-use super::{Child, InnerNode};
+use super::balance::refresh_longest;
+use super::{Child, InnerNode, free_length};
 use crate::allocation_engine::NodeState;
 use crate::range::RangeInclusive;
 use std::cmp::Ordering;
 
 impl InnerNode {
+    /// Gives this node another key, which keeps its place in the order, and another state; says
+    /// whether the longest free block from here on has another length.
+    #[tactic(auto, using(crate::proofs::nodes::Rewriting::rewritings))]
+    pub(super) fn rewrite_here(&mut self, key: RangeInclusive, node_state: NodeState) -> bool
+        requires { IsOrderedFrom 0 (with_block (root_block self.old).key key node_state (blocks self.old)) }
+        ensures blocks { blocks self.new ≡ with_block (root_block self.old).key key node_state (blocks self.old) }
+        ensures keeps { KeepsShape self.old self.new result }
+    {
+        let _ = &self.height;
+        self.key = key;
+        self.node_state = node_state;
+        let own = free_length(&key, node_state);
+        refresh_longest(&self.left, &self.right, own, &mut self.max_free)
+    }
+
     /// Gives the node with key `at` another key, which keeps its place in the order, and another
-    /// state. It takes no memory.
+    /// state; says whether the longest free block from here on has another length. It takes no
+    /// memory.
     #[tactic(auto, using(crate::proofs::nodes::Rewriting::rewritings, crate::proofs::counts::Ways::ways_to))]
-    pub(crate) fn rewrite(
+    fn rewrite(
         &mut self,
         at: &RangeInclusive,
         key: RangeInclusive,
         node_state: NodeState,
         count: &mut u64,
-    )
+    ) -> bool
         requires known { IsSome (find_key at.now (blocks self.old)) }
         requires ordered { IsOrderedFrom 0 (with_block at.now key node_state (blocks self.old)) }
         requires count_fits { count.old + height_of self.old ≤ MAX }
         ensures blocks { blocks self.new ≡ with_block at.now key node_state (blocks self.old) }
-        ensures height { height_of self.new ≡ height_of self.old }
-        ensures tree { IsTree self.new }
+        ensures keeps { KeepsShape self.old self.new result }
         ensures count { count.new ≡ count.old + way_to at.now self.old }
     {
         self.enter(count);
-        match self.key.order(at) {
-            Ordering::Equal => {
-                self.key = key;
-                self.node_state = node_state;
-            }
+        let changed = match self.key.order(at) {
+            Ordering::Equal => return self.rewrite_here(key, node_state),
             Ordering::Greater => {
                 let Some(left) = &mut self.left else {
                     unreachable!()
                 };
-                left.rewrite(at, key, node_state, count);
+                left.rewrite(at, key, node_state, count)
             }
             Ordering::Less => {
                 let Some(right) = &mut self.right else {
                     unreachable!()
                 };
-                right.rewrite(at, key, node_state, count);
+                right.rewrite(at, key, node_state, count)
             }
+        };
+        if !changed {
+            return false;
         }
+        let own = free_length(&self.key, self.node_state);
+        refresh_longest(&self.left, &self.right, own, &mut self.max_free)
     }
 }
 

@@ -7,12 +7,12 @@ ghost use Rattle.vm_allocator.specs.BlockList.{IsClearOf, insert_block, replace_
 ghost use Rattle.vm_allocator.specs.Shape.{Shape, MAX_HEIGHT, Tip, Fork, blocks, height_of, root_block, IsTree, IsLeaf, Grows, Shrinks, first_met};
 ghost use Rattle.vm_allocator.specs.Ways.{way_down, way_to, way_across, way_to_remove};
 ghost use Rattle.vm_allocator.specs.NodeFields.{side};
-ghost use Rattle.vm_allocator.specs.NodeAnswer.{Inserts, TellsOverlap, RefusesKey, Marks};
+ghost use Rattle.vm_allocator.specs.NodeAnswer.{Inserts, TellsOverlap, RefusesKey, Marks, MarksBlock};
 
-use super::balance::strip;
+use super::balance::refresh_longest;
 use super::link::link_at;
 use super::remove::{delete_at, join};
-use super::{InnerNode, height};
+use super::{InnerNode, free_length, height};
 use crate::allocation_engine::NodeState;
 use crate::error::{Error, Result};
 use crate::range::RangeInclusive;
@@ -101,8 +101,7 @@ impl InnerNode {
         ensures shrinks { Shrinks tree.value (side result) true }
         ensures count { count.new + 1 ≡ count.old + way_to_remove (root_block tree.value).key tree.value }
     {
-        let open: &mut InnerNode = &mut tree;
-        let (left, right) = strip(&mut open.left, &mut open.right, &mut open.height);
+        let (left, right) = tree.strip();
         let joined = join(left, right, count);
         let _ = height(&joined);
         joined
@@ -164,16 +163,8 @@ impl InnerNode {
         ensures count { count.new ≡ count.old + way_to key.now self.old }
     {
         self.enter(count);
-        match self.key.order(key) {
-            Ordering::Equal => match self.node_state {
-                NodeState::Free => {
-                    self.node_state = NodeState::Allocated;
-                    Ok(())
-                }
-                NodeState::Allocated => {
-                    Err(Error::InvalidStateTransition(*key, NodeState::Allocated))
-                }
-            },
+        let answer = match self.key.order(key) {
+            Ordering::Equal => return self.mark_here(),
             Ordering::Greater => {
                 let Some(left) = &mut self.left else {
                     return Err(Error::ResourceNotAvailable);
@@ -185,6 +176,28 @@ impl InnerNode {
                     return Err(Error::ResourceNotAvailable);
                 };
                 right.mark_as_allocated(key, count)
+            }
+        };
+        let own = free_length(&self.key, self.node_state);
+        refresh_longest(&self.left, &self.right, own, &mut self.max_free);
+        answer
+    }
+
+    /// Marks this node's block as held, unless it is.
+    #[tactic(auto, using(crate::proofs::nodes::Rewriting::ordered_marked), unfolding(crate::specs::NodeAnswer::MarksBlock))]
+    fn mark_here(&mut self) -> Result<()>
+        ensures marks { MarksBlock (root_block self.old).state (root_block self.old).key result self.old self.new }
+        ensures height { height_of self.new ≡ height_of self.old }
+        ensures tree { IsTree self.new }
+    {
+        let key = self.key;
+        match self.node_state {
+            NodeState::Free => {
+                self.rewrite_here(key, NodeState::Allocated);
+                Ok(())
+            }
+            NodeState::Allocated => {
+                Err(Error::InvalidStateTransition(key, NodeState::Allocated))
             }
         }
     }

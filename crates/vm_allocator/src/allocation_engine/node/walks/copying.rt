@@ -24,6 +24,7 @@ pub(crate) fn copy(tree: &InnerNode, alloc: Global) -> Result<Box<InnerNode>>
         left,
         right,
         height: tree.height,
+        max_free: tree.max_free,
     };
     match Box::new(alloc, node) {
         Ok(node) => Ok(node),

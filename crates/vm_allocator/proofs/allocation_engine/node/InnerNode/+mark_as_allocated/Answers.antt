@@ -1,6 +1,6 @@
-use Rattle.std.proofs.Common.{refl, sym, ap}
+use Rattle.std.proofs.Common.{refl, ap}
 use Rattle.vm_allocator.specs.NodeFields.{side, shape_of}
-use Rattle.vm_allocator.proofs.nodes.Rewriting.{marks_none_left, marks_none_right, marks_here}
+use Rattle.vm_allocator.proofs.nodes.Rewriting.{marks_none_left, marks_none_right}
 use Rattle.vm_allocator.proofs.allocation_engine.node.InnerNode.+mark_as_allocated.Goals as goal
 
 pub returns-in_default-clause-marks : goal.returns-in_default-clause-marks
@@ -12,8 +12,3 @@ pub returns-in_default-right-clause-marks : goal.returns-in_default-right-clause
 returns-in_default-right-clause-marks t c =
     let i = c.self.inside in
     rw (← c.self.view_is) (marks_none_right (shape_of i) (side i.left) _ (side i.right) c.args.key.now refl (ap side c.in_default-right.is) c.in-Less.ensures c.self.invariant.tree)
-
-pub returns-in-Free-clause-marks : goal.returns-in-Free-clause-marks
-returns-in-Free-clause-marks t c =
-    let i = c.self.inside in
-    rw (← c.self.view_is) (marks_here (shape_of i) (side i.left) _ (side i.right) c.args.key.now refl (sym c.in-Equal.ensures) c.in-Free.is c.self.invariant.tree)

@@ -4,7 +4,7 @@ use Rattle.vm_allocator.specs.BlockList.{IsOrderedFrom, find_key, replace_block}
 use Rattle.vm_allocator.specs.Shape.{blocks, IsTree}
 use Rattle.vm_allocator.specs.NodeFields.{side, shape_of}
 use Rattle.vm_allocator.proofs.blocks.Replacement.{find_in_left, find_in_right}
-use Rattle.vm_allocator.proofs.nodes.Rewriting.{known_left, known_right, rewritten_left, rewritten_right, rewrite_here}
+use Rattle.vm_allocator.proofs.nodes.Rewriting.{known_left, known_right, rewritten_left, rewritten_right}
 use Rattle.vm_allocator.proofs.allocation_engine.node.InnerNode.+rewrite.Goals as goal
 
 pub unreachable-requires : goal.unreachable-requires
@@ -21,8 +21,8 @@ unreachable-requires-in_default-right t c =
     let e : find_key c.args.at.now (blocks c.args.self.now) ≡ None = rw (← c.self.view_is, d, c.in_default-right.is) in
     let h = rw e at c.requires.known in cc
 
-pub rewrite-requires : goal.rewrite-requires
-rewrite-requires t c =
+pub rewrite-changed-requires : goal.rewrite-changed-requires
+rewrite-changed-requires t c =
     let i = c.self.inside in
     let y : Block = record { key = c.args.key; state = c.args.node_state } in
     let e : c.args.self.now ≡ shape_of i = sym c.self.view_is in
@@ -33,8 +33,8 @@ rewrite-requires t c =
     rw u (rewritten_left _ _ _ _ _ (y ∷ []) e c.in-Greater.ensures tree c.requires.ordered) in
     (search rules, (known, (ordered, grind arith)))
 
-pub rewrite-requires-in-Less : goal.rewrite-requires-in-Less
-rewrite-requires-in-Less t c =
+pub rewrite-changed-requires-in-Less : goal.rewrite-changed-requires-in-Less
+rewrite-changed-requires-in-Less t c =
     let i = c.self.inside in
     let y : Block = record { key = c.args.key; state = c.args.node_state } in
     let e : c.args.self.now ≡ shape_of i = sym c.self.view_is in
@@ -44,9 +44,3 @@ rewrite-requires-in-Less t c =
     let ordered : IsOrderedFrom 0 (replace_block c.args.at.now (y ∷ []) (blocks c.deref_mut-in-Less.result.now)) =
     rw u (rewritten_right _ _ _ _ _ (y ∷ []) e c.in-Less.ensures tree c.requires.ordered) in
     (search rules, (known, (ordered, grind arith)))
-
-pub returns-in-Equal-clause-blocks : goal.returns-in-Equal-clause-blocks
-returns-in-Equal-clause-blocks t c =
-    let i = c.self.inside in
-    let y : Block = record { key = c.args.key; state = c.args.node_state } in
-    rw (← c.self.view_is) (sym (rewrite_here (shape_of i) (side i.left) _ (side i.right) c.args.at.now y refl (sym c.in-Equal.ensures) c.self.invariant.tree))

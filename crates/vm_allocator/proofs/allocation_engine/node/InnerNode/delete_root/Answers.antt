@@ -1,16 +1,12 @@
-use Rattle.std.proofs.Common.{refl, ◌≡◌}
-use Rattle.vm_allocator.specs.NodeFields.{side, shape_of}
+use Rattle.std.proofs.Common.{◌≡◌, refl, sym, ◌∙◌}
 use Rattle.vm_allocator.proofs.blocks.Replacement.{ordered_without, remove_in_middle}
 use Rattle.vm_allocator.proofs.allocation_engine.node.InnerNode.delete_root.Goals as goal
 
 pub join-joined-requires-clause-ordered : goal.join-joined-requires-clause-ordered
 join-joined-requires-clause-ordered c =
-    let i = c.open.inside in
-    rw c.strip-left.ensures.sides (ordered_without (shape_of i) (side i.left) _ (side i.right) refl c.open.invariant.tree)
+    ordered_without _ _ _ _ c.strip-left.ensures.shape c.strip-left.ensures.tree
 
 pub returns-clause-blocks : goal.returns-clause-blocks
 returns-clause-blocks c =
-    let i = c.open.inside in
-    let d = remove_in_middle (shape_of i) (side i.left) _ (side i.right) i.key refl refl c.open.invariant.tree in
-    let e : c.args.tree.value ≡ shape_of i = cc in
-    rw (e, d, c.join-joined.ensures.joins.blocks, c.strip-left.ensures.sides)
+    let is : c.deref_mut.result.now ≡ c.args.tree.value = cc in
+    rw (← is) (c.join-joined.ensures.joins.blocks ∙ sym (remove_in_middle _ _ _ _ _ c.strip-left.ensures.shape refl c.strip-left.ensures.tree))

@@ -1,0 +1,36 @@
+-- How many gaps are searched in vain for a place, and how many nodes that enters.
+use Rattle.std.specs.Prelude.{◌≡◌, ℕ, ◌+◌, ◌*◌, ◌≤◌, ◌&&◌, not, nat_le, Bool, List, length, Result, Err}
+use Rattle.std.specs.List.{filter}
+use Rattle.vm_allocator.specs.Range.{Range}
+use Rattle.vm_allocator.specs.Block.{Block, free_length}
+use Rattle.vm_allocator.specs.Address.{AddressState}
+use Rattle.vm_allocator.specs.Blocks.{blocks_of}
+use Rattle.vm_allocator.specs.Request.{Request, ByPolicy}
+use Rattle.vm_allocator.specs.Ways.{has_fit}
+use Rattle.vm_allocator.specs.Steps.{most_on_ways}
+use Rattle.vm_allocator.specs.declared.error.Error.{Error}
+use Rattle.vm_allocator.specs.declared.error.Error.TheVariants.{ResourceNotAvailable}
+
+-- whether a block is a gap that is long enough for n addresses, and has no place for them at a multiple of a
+unfoldable pub is_futile : ℕ → ℕ → Block → Bool
+is_futile n a b = nat_le n (free_length b) && not (has_fit n a b)
+
+-- how many of some blocks are so
+abbrev pub futile_among : ℕ → ℕ → List Block → ℕ
+futile_among n a bs = length (filter (is_futile n a) bs)
+
+-- how many gaps of a state are long enough for a request, and have no place for it
+unfoldable pub futile_gaps : AddressState → Request → ℕ
+futile_gaps state request = futile_among request.size request.align (blocks_of state)
+
+-- the nodes that a search among all gaps, and holding what it finds, enter in a tree of height h where v gaps are
+-- futile: a search that finds nothing enters h for each of these
+pub record IsGapSearchCount (h v : ℕ) (answer : Result Range Error) (count : ℕ) : Type 0 where
+  pub most : count ≤ h * (v + 1) + most_on_ways h
+  pub none : answer ≡ Err ResourceNotAvailable → count ≤ h * v
+
+-- the nodes that a request enters, if it names no start
+unfoldable pub SearchesGaps : ℕ → AddressState → Request → Result Range Error → ℕ → Type 0
+SearchesGaps h old request answer count =
+    let by_gaps : Type 0 = IsGapSearchCount h (futile_gaps old request) answer count in
+    ByPolicy request.policy by_gaps by_gaps (λ start. Unit {0})
