@@ -3,6 +3,7 @@ pub mod WayBounds
 pub mod Carving
 pub mod Searching
 pub mod GapSearch
+pub mod GapBounds
 pub mod LeftClear
 pub mod Granting
 pub mod Releasing

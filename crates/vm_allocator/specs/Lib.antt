@@ -11,6 +11,7 @@ pub mod BlockEdits
 pub mod Place
 pub mod SpaceTree
 pub mod Release
+pub mod Beside
 pub mod Allocator
 pub mod Laws
 pub mod RangeOrder

@@ -6,6 +6,7 @@ ghost use Rattle.vm_allocator.specs.Answer.{Allocates, FillsGap, Frees, Makes};
 ghost use Rattle.vm_allocator.specs.Allocator.{state_of, made_state};
 ghost use Rattle.vm_allocator.specs.Cloning.{Clones};
 ghost use Rattle.vm_allocator.specs.Shape.{height_of};
+ghost use Rattle.vm_allocator.specs.GapSearch.{SearchesGaps};
 ghost use Rattle.vm_allocator.specs.Steps.{EntersToAllocate, EntersToFree, IsAllocationCount, IsReleaseCount, IsBalancedTreeOf, SplitsIfLow};
 
 use crate::allocation_engine::IntervalTree;
@@ -111,8 +112,11 @@ impl AddressAllocator {
     /// Does what `allocate` does, and answers besides how many nodes of the tree it entered. With the
     /// height h and k held ranges before, these are at most 8h + 8 for `ExactMatch` and at most
     /// 2k + 1 + 8h + 8 for the other policies, and none where the request makes no sense; a success
-    /// enters one at least, and one that leaves a part of its gap over h / 2 at least.
-    #[tactic(auto, using(crate::proofs::answers::Requests::allocating, crate::proofs::nodes::Spaces::spaces, crate::proofs::answers::Filling::succeeding, crate::proofs::counts::Allocating::allocations))]
+    /// enters one at least, and one that leaves a part of its gap over h / 2 at least. Where v gaps
+    /// are long enough and have no place all the same, the other policies enter at most
+    /// h(v + 1) + 8h + 8, and at most hv where they answer `ResourceNotAvailable`; at alignment 1 no
+    /// gap is such.
+    #[tactic(auto, using(crate::proofs::answers::Requests::allocating, crate::proofs::nodes::Spaces::spaces, crate::proofs::answers::Filling::succeeding, crate::proofs::counts::Allocating::allocations, crate::proofs::counts::GapBounds::searches))]
     pub fn allocate_counted(
         &mut self,
         alloc: Global,
@@ -131,6 +135,8 @@ impl AddressAllocator {
         ensures depth { SplitsIfLow (height_of self.old.tree) (state_of self.old) result.0 }
         ensures count { EntersToAllocate self.old.tree (request_for size alignment policy) result.0 result.1 }
         ensures steps { IsAllocationCount (height_of self.old.tree) (state_of self.old)
+            (request_for size alignment policy) result.0 result.1 }
+        ensures search { SearchesGaps (height_of self.old.tree) (state_of self.old)
             (request_for size alignment policy) result.0 result.1 }
     {
         match Constraint::new(size, alignment, policy) {

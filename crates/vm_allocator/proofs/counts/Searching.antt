@@ -19,10 +19,10 @@ use Rattle.vm_allocator.proofs.choosing.PlaceSearch.{none_of}
 use Rattle.vm_allocator.proofs.numbers.Power.{alignment_pos, greatest_multiple, least_multiple}
 
 -- ---- the test tells whether a block has a fit
-least_from : (a x : ℕ) → 0 < a → IsLeastMultiple a x (multiple_from a x)
+pub least_from : (a x : ℕ) → 0 < a → IsLeastMultiple a x (multiple_from a x)
 least_from a x p = least_multiple a x (multiple_from a x) p (greatest_multiple a (x + (a - 1)) p)
 
-free_if_true : (s : NodeState) → is_free s ≡ true → s ≡ Free
+pub free_if_true : (s : NodeState) → is_free s ≡ true → s ≡ Free
 free_if_true Free e = refl
 free_if_true Allocated e = absurd (cc)
 

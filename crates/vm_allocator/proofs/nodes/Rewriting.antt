@@ -1,5 +1,5 @@
 -- A block of a tree that gets another key or state.
-use Rattle.std.proofs.Common.{◌≡◌, ℕ, ◌+◌, true, false, cond, List, [], ◌∷◌, ◌++◌, refl, ap, ◌∙◌, subst, sym, arith, Some, None, Option, IsSome, Result, Ok, Err}
+use Rattle.std.proofs.Common.{◌≡◌, ℕ, ◌+◌, true, false, cond, List, [], ◌∷◌, ◌++◌, refl, ap, ◌∙◌, subst, sym, arith, Some, None, Option, IsSome, Result, Err}
 use Rattle.std.specs.Global.{Box}
 use Rattle.vm_allocator.specs.Range.{Range}
 use Rattle.vm_allocator.specs.RangeOrder.{Before, same_range}
@@ -10,7 +10,7 @@ use Rattle.vm_allocator.specs.NodeAnswer.{Marks, MarksBlock}
 use Rattle.vm_allocator.specs.NodeFields.{side}
 use Rattle.vm_allocator.specs.declared.allocation_engine.node.InnerNode.{InnerNode}
 use Rattle.vm_allocator.specs.declared.error.Error.{Error}
-use Rattle.vm_allocator.specs.declared.error.Error.TheVariants.{ResourceNotAvailable, InvalidStateTransition}
+use Rattle.vm_allocator.specs.declared.error.Error.TheVariants.{ResourceNotAvailable}
 use Rattle.vm_allocator.specs.declared.allocation_engine.NodeState.{NodeState}
 use Rattle.vm_allocator.specs.declared.allocation_engine.NodeState.TheVariants.{Free, Allocated}
 use Rattle.vm_allocator.proofs.blocks.Order.{ordered_front, ordered_back}

@@ -28,7 +28,7 @@ impl IntervalTree {
         ensures unchanged { OnErr result (self.new ≡ self.old) }
         ensures count { EntersToFree self.old key.now result count.old count.new }
     {
-        let Some(beside) = self.root().neighbours(key, None, None, count) else {
+        let Some(beside) = self.root().neighbours(key, count) else {
             return Err(Error::ResourceNotAvailable);
         };
         rejoin(&mut self.root, key, &beside, count);

@@ -1,0 +1,109 @@
+-- From the exact count of a request to its bound by the futile gaps of the state.
+use Rattle.std.proofs.Common.{◌≡◌, ℕ, ◌+◌, ◌-◌, ◌*◌, ◌%◌, ◌<◌, ◌≤◌, true, false, leb, List, [], ◌∷◌, refl, ap, subst, arith, inl, inr, ⊎_elim, Result, Ok, Err}
+use Rattle.std.specs.List.{list_any}
+use Rattle.std.proofs.lemmas.Bool.{and_parts, leb-true, false_from_ne_true}
+use Rattle.vm_allocator.specs.Range.{Range}
+use Rattle.vm_allocator.specs.Block.{Block, is_free}
+use Rattle.vm_allocator.specs.Address.{AddressState, IsPlace}
+use Rattle.vm_allocator.specs.Alignment.{IsLeastMultiple}
+use Rattle.vm_allocator.specs.Answer.{ByExactStart, ByPlace, Takes, Settles}
+use Rattle.vm_allocator.specs.GapSearch.{futile_among, futile_gaps, IsGapSearchCount, SearchesGaps}
+use Rattle.vm_allocator.specs.Request.{Request, request_for, IsRequest, ByPolicy, MakesConstraint}
+use Rattle.vm_allocator.specs.Shape.{Shape, blocks, height_of}
+use Rattle.vm_allocator.specs.SpaceTree.{space_of, tree_state, IsSpaceTree}
+use Rattle.vm_allocator.specs.Steps.{Enters, IsHeldIn}
+use Rattle.vm_allocator.specs.Ways.{multiple_from, has_fit, way_of_search, leaf_of}
+use Rattle.vm_allocator.specs.BlockEdits.{before_part, after_part}
+use Rattle.vm_allocator.specs.declared.error.Error.{Error}
+use Rattle.vm_allocator.specs.declared.error.Error.TheVariants.{ResourceNotAvailable}
+use Rattle.vm_allocator.specs.declared.constraint.AllocPolicy.{AllocPolicy}
+use Rattle.vm_allocator.specs.declared.constraint.AllocPolicy.TheVariants.{FirstMatch, LastMatch, ExactMatch}
+use Rattle.vm_allocator.proofs.blocks.Gaps.{InFreeBlock}
+use Rattle.vm_allocator.proofs.choosing.Places.{block_place}
+use Rattle.vm_allocator.proofs.comparing.Tilings.{tree_blocks}
+use Rattle.vm_allocator.proofs.counts.Allocating.{constraint_made}
+use Rattle.vm_allocator.proofs.counts.Carving.{way_to_carve_at_most}
+use Rattle.vm_allocator.proofs.counts.GapSearch.{first_in_vain, first_among, last_in_vain, last_among}
+use Rattle.vm_allocator.proofs.counts.Searching.{least_from, free_if_true}
+use Rattle.vm_allocator.proofs.numbers.Power.{alignment_pos}
+use Rattle.vm_allocator.proofs.splitting.Taking.{as_blocks}
+
+-- ---- where there is no place no block has a fit
+-- a block that has one has room from some multiple on
+fit_room : (n a : ℕ) (bs : List Block) → 0 < n → 0 < a → list_any (has_fit n a) bs ≡ true → (t : ℕ) × (t % a ≡ 0) × InFreeBlock bs t (t + n - 1)
+unfolding has_fit IsLeastMultiple
+fit_room n a [] z p e = absurd (cc (e))
+fit_room n a (b ∷ bs) z p e =
+    elim (has_fit n a b) as (λ v. has_fit n a b ≡ v → (t : ℕ) × (t % a ≡ 0) × InFreeBlock (b ∷ bs) t (t + n - 1)) [
+      | true ↦ λ f.
+          let parts = and_parts (is_free b.state) (leb (multiple_from a b.key.start + n) (b.key.end + 1)) f in
+          let least = least_from a b.key.start p in
+          (multiple_from a b.key.start, least.0, inl (free_if_true b.state parts.0, least.1, omega (arith, leb-true _ _ parts.1)))
+      | false ↦ λ f. let i = fit_room n a bs z p (rw f at e) in (i.0, i.1, inr i.2)
+    ] refl
+
+none_fits : (n a : ℕ) (s : Shape) → 0 < n → 0 < a → IsSpaceTree s → ((t : ℕ) → ¬ IsPlace n a (tree_state s) t) → list_any (has_fit n a) (blocks s) ≡ false
+none_fits n a s z p h none = false_from_ne_true (list_any (has_fit n a) (blocks s)) (λ e.
+    let f = fit_room n a (blocks s) z p e in
+    none f.0 (block_place (tree_state s) (blocks s) n a f.0 (as_blocks (space_of (blocks s)) (blocks s) h.tiling.tiles) z f.1 f.2))
+
+-- ---- a request that names no start is refused for a place only where there is none
+no_place_by : (request : Request) (old new : AddressState) (answer : Result Range Error) → answer ≡ Err ResourceNotAvailable → ByPlace request old (λ e. (answer ≡ Err e) × (new ≡ old)) (λ r. Takes old r answer new) → (t : ℕ) → ¬ IsPlace request.size request.align old t
+unfolding ByPlace Takes
+no_place_by request old new answer e h =
+    ⊎_elim (λ l. l.0)
+    (λ r. absurd (⊎_elim (λ o. cc (e, o.1.0)) (λ o. ⊎_elim (λ k. cc (e, k.0)) (λ k. ⊎_elim (λ m. cc (e, m)) (λ m. cc (e, m.1)) k.2) o.1) r.2))
+    h
+
+-- ---- the bound
+-- what is entered for each futile gap, and for one more
+abbrev IsWithin : ℕ → ℕ → ℕ → Result Range Error → Type 0
+IsWithin way h v answer = (way ≤ h * (v + 1)) × (answer ≡ Err ResourceNotAvailable → way ≤ h * v)
+
+module _ (request : Request) (s : Shape) (h : IsSpaceTree s) (r : IsRequest request) where
+  abbrev futile : ℕ
+  futile = futile_among request.size request.align (blocks s)
+
+  same_futile : futile_gaps (tree_state s) request ≡ futile
+  unfolding futile_gaps
+  same_futile = ap (futile_among request.size request.align) (tree_blocks s h)
+
+  by_gaps : (answer : Result Range Error) (c : ℕ) → IsWithin (way_of_search request s) (height_of s) futile answer → Enters s request answer 0 c → IsGapSearchCount (height_of s) (futile_gaps (tree_state s) request) answer c
+  by_gaps (Err e) c w n = rw same_futile (record { most = omega (arith, n.refused, w.0); none = λ k. omega (arith, n.refused, w.1 k) })
+  by_gaps (Ok p) c w n =
+      let held : IsHeldIn s p n.given.0 = n.given.1 in
+      let bound : n.given.0 ≤ 2 * height_of s = rw held.way (way_to_carve_at_most held.key (leaf_of (before_part held.key p)) (leaf_of (after_part held.key p)) s) in
+      rw same_futile (record { most = omega (arith, n.given.2, w.0); none = λ k. absurd (cc (k)) })
+
+  no_fit_among : (new : AddressState) (answer : Result Range Error) → ByPlace request (tree_state s) (λ e. (answer ≡ Err e) × (new ≡ tree_state s)) (λ p. Takes (tree_state s) p answer new) → answer ≡ Err ResourceNotAvailable → list_any (has_fit request.size request.align) (blocks s) ≡ false
+  no_fit_among new answer k e = none_fits request.size request.align s r.some (alignment_pos request.align r.aligned) h (no_place_by request (tree_state s) new answer e k)
+
+searched_by : (policy : AllocPolicy) (n a : ℕ) (s : Shape) (answer : Result Range Error) (new : AddressState) (c : ℕ) → IsSpaceTree s → IsRequest (request_for n a policy)
+    → Settles (tree_state s) (request_for n a policy) answer new → Enters s (request_for n a policy) answer 0 c → SearchesGaps (height_of s) (tree_state s) (request_for n a policy) answer c
+unfolding Settles ByExactStart SearchesGaps
+searched_by FirstMatch n a s answer new c h r k e =
+    by_gaps (request_for n a FirstMatch) s h r answer c (first_among n a s r.some, λ q. first_in_vain n a s r.some (no_fit_among (request_for n a FirstMatch) s h r new answer k q)) e
+searched_by LastMatch n a s answer new c h r k e =
+    by_gaps (request_for n a LastMatch) s h r answer c (last_among n a s r.some, λ q. last_in_vain n a s r.some (no_fit_among (request_for n a LastMatch) s h r new answer k q)) e
+searched_by (ExactMatch t) n a s answer new c h r k e = tt
+
+pub searches_gaps : (s : Shape) (request : Request) (answer : Result Range Error) (new : AddressState) (c : ℕ) → IsSpaceTree s → IsRequest request → Settles (tree_state s) request answer new → Enters s request answer 0 c → SearchesGaps (height_of s) (tree_state s) request answer c
+searches_gaps s request = searched_by request.policy request.size request.align s
+
+-- ---- requests that may make no sense
+pub senseless_search : (h : ℕ) (old : AddressState) (request : Request) (e : Error) → SearchesGaps h old request (Err e) 0
+unfolding SearchesGaps
+senseless_search h old request e = by_policy request.policy
+  where
+    none : IsGapSearchCount h (futile_gaps old request) (Err e) 0
+    none = record { most = omega arith; none = λ k. omega arith }
+
+    by_policy : (policy : AllocPolicy) → ByPolicy policy (IsGapSearchCount h (futile_gaps old request) (Err e) 0) (IsGapSearchCount h (futile_gaps old request) (Err e) 0) (λ start. Unit {0})
+    by_policy FirstMatch = none
+    by_policy LastMatch = none
+    by_policy (ExactMatch t) = tt
+
+pub sensible_search : (h : ℕ) (old : AddressState) (request k : Request) (answer : Result Range Error) (c : ℕ) → MakesConstraint request (Ok k) → SearchesGaps h old k answer c → SearchesGaps h old request answer c
+sensible_search h old request k answer c m g = subst (λ (v : Request). SearchesGaps h old v answer c) (constraint_made request k m).0 g
+
+pub ruleset searches = (senseless_search, sensible_search)
