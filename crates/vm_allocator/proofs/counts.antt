@@ -4,6 +4,7 @@ pub mod Carving
 pub mod Searching
 pub mod GapSearch
 pub mod GapBounds
+pub mod Futile
 pub mod LeftClear
 pub mod Granting
 pub mod Releasing

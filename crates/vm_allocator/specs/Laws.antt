@@ -1,8 +1,11 @@
 -- What follows from the definitions alone, for one call of an address allocator.
-use Rattle.std.specs.Prelude.{◌≡◌, ◌≢◌, ℕ, ◌<◌, ◌≤◌, ◌⊎◌, ◌↔◌, Result, Ok}
+use Rattle.std.specs.Prelude.{◌≡◌, ◌≢◌, ℕ, ◌<◌, ◌≤◌, ◌⊎◌, ◌↔◌, true, Result, Ok}
 use Rattle.std.specs.List.{Contains}
 use Rattle.vm_allocator.specs.Range.{Range, MAX, Overlaps, Covers}
 use Rattle.vm_allocator.specs.Address.{AddressState, IsClear, LeavesClear, IsAddressState}
+use Rattle.vm_allocator.specs.Block.{Block, free_length}
+use Rattle.vm_allocator.specs.Fit.{HasNoFit}
+use Rattle.vm_allocator.specs.GapSearch.{is_futile, futile_gaps}
 use Rattle.vm_allocator.specs.Request.{Request}
 use Rattle.vm_allocator.specs.Answer.{IsSplitRefusal, Takes, Allocates, Frees, Makes}
 use Rattle.vm_allocator.specs.declared.error.Error.{Error}
@@ -84,3 +87,11 @@ abbrev pub FreeingUndoes : Type 0
 FreeingUndoes =
     (old mid new : AddressState) (request : Request) (r : Range) (answer : Result (Unit {0}) Error) →
     IsAddressState old → Allocates old request (Ok r) mid → Frees mid r answer new → (answer ≡ Ok tt) × (new ≡ old)
+
+-- a gap is counted as futile exactly where it is long enough, and no place for the addresses lies in it
+abbrev pub FutileIsTold : Type 0
+FutileIsTold = (n a : ℕ) (b : Block) → 0 < a → (is_futile n a b ≡ true) ↔ ((n ≤ free_length b) × HasNoFit n a b)
+
+-- each gap that is long enough has a place at alignment 1
+abbrev pub NoneIsFutileAtOne : Type 0
+NoneIsFutileAtOne = (state : AddressState) (request : Request) → 0 < request.size → request.align ≡ 1 → futile_gaps state request ≡ 0

@@ -1,6 +1,6 @@
 -- A search for a place enters few nodes: those of the trees that have a gap which is long enough.
 use Rattle.std.specs.Prelude.{◌||◌}
-use Rattle.std.proofs.Common.{◌≡◌, ℕ, ◌+◌, ◌*◌, ◌<◌, ◌≤◌, max, Bool, true, false, cond, [], ◌∷◌, length, refl, sym, ap, ◌∙◌, arith, ⊎_elim}
+use Rattle.std.proofs.Common.{◌≡◌, List, ◌++◌, ℕ, ◌+◌, ◌*◌, ◌<◌, ◌≤◌, max, Bool, true, false, cond, [], ◌∷◌, length, refl, sym, ap, ◌∙◌, arith, ⊎_elim}
 use Rattle.std.specs.List.{list_any, filter}
 use Rattle.std.proofs.Math.Nat.{mul-le-mul}
 use Rattle.std.proofs.lemmas.List.{length-append}
@@ -22,11 +22,11 @@ one_more m f hx fx wx hy fy wy p q u v s o =
     omega arith
 
 -- ---- the futile gaps of a tree
+pub futile_append : (n a : ℕ) (xs ys : List Block) → futile_among n a (xs ++ ys) ≡ futile_among n a xs + futile_among n a ys
+futile_append n a xs ys = ap length (filter-append (is_futile n a) xs ys) ∙ length-append (filter (is_futile n a) xs) (filter (is_futile n a) ys)
+
 futile_split : (n a : ℕ) (l : Shape) (b : Block) (r : Shape) → futile_among n a (blocks (Fork l b r)) ≡ futile_among n a (blocks l) + (futile_among n a (b ∷ []) + futile_among n a (blocks r))
-futile_split n a l b r =
-    ap length (filter-append (is_futile n a) (blocks l) (b ∷ blocks r))
-    ∙ length-append (filter (is_futile n a) (blocks l)) (filter (is_futile n a) (b ∷ blocks r))
-    ∙ ap (λ (v : ℕ). futile_among n a (blocks l) + v) (ap length (filter-append (is_futile n a) (b ∷ []) (blocks r)) ∙ length-append (filter (is_futile n a) (b ∷ [])) (filter (is_futile n a) (blocks r)))
+futile_split n a l b r = futile_append n a (blocks l) (b ∷ blocks r) ∙ ap (λ (v : ℕ). futile_among n a (blocks l) + v) (futile_append n a (b ∷ []) (blocks r))
 
 -- whether some block has a fit, for a tree
 fit_split : (n a : ℕ) (l : Shape) (b : Block) (r : Shape) → list_any (has_fit n a) (blocks (Fork l b r)) ≡ false

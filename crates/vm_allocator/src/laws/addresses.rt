@@ -1,4 +1,4 @@
-ghost use Rattle.vm_allocator.specs.Laws.{AllocatesOnce, FreesOnce, StateIsKept, HeldLieApart, AllocatingAddsRange, FreeingTakesRange, FreeingUndoes};
+ghost use Rattle.vm_allocator.specs.Laws.{AllocatesOnce, FreesOnce, StateIsKept, HeldLieApart, AllocatingAddsRange, FreeingTakesRange, FreeingUndoes, FutileIsTold, NoneIsFutileAtOne};
 
 /// The state of an allocator decides its answer to a request and the state after it, the refusal of
 /// a split for memory or for depth aside.
@@ -27,4 +27,11 @@ fn one_range_changes()
     ensures takes { AllocatingAddsRange }
     ensures gives_back { FreeingTakesRange }
     ensures undone { FreeingUndoes }
+{}
+
+/// The test by which futile gaps are counted tells the truth, and at alignment 1 there are none.
+#[tactic(auto, using(crate::proofs::counts::Futile::futile))]
+fn futile_gaps_are_told()
+    ensures told { FutileIsTold }
+    ensures none { NoneIsFutileAtOne }
 {}
