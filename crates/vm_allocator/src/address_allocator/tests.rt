@@ -421,5 +421,28 @@ fn balanced_and_counted(rt: HostRuntime) -> std::result::Result<(), Fail> {
     assert_eq!(rt; held, 1024);
     assert!(rt; space.height() <= 15);
     assert_eq!(rt; space.interval_tree.block_count(), 2047);
+    every_second_is_clear(&rt, &mut space);
     Ok(())
+}
+
+/// In the space from 0 to 2046 the odd addresses are clear: two in a row are not looked for anywhere,
+/// and one is found without a look at the blocks before it.
+fn every_second_is_clear(rt: &(impl Abort + AllocGlobal), space: &mut AddressAllocator) {
+    let most = 9u64.saturating_mul(space.height()).saturating_add(8);
+    for (alignment, policy) in [(1, FirstMatch), (1, LastMatch), (2, FirstMatch)] {
+        let (answer, count) = space.allocate_counted(rt.alloc(), 2, alignment, policy);
+        assert_eq!(rt; answer, Err(Error::ResourceNotAvailable), "{policy:?}");
+        assert_eq!(rt; count, 0, "{policy:?}");
+    }
+    for (policy, address) in [(FirstMatch, 1), (LastMatch, 2045)] {
+        let (answer, count) = space.allocate_counted(rt.alloc(), 1, 1, policy);
+        assert_eq!(rt; answer, RangeInclusive::new(address, address), "{policy:?}");
+        assert!(rt; count <= most, "{count} entered by {policy:?}");
+    }
+    let rows = [
+        (Free(1, 1), Range(1, 1)),
+        (Free(2, 2), Range(2, 2)),
+        (First(3, 1), Range(1, 3)),
+    ];
+    replay(rt, space, &rows);
 }
