@@ -1,4 +1,4 @@
-ghost use Rattle.std.specs.Prelude.{◌≡◌, ◌≤◌, length};
+ghost use Rattle.std.specs.Prelude.{◌≡◌};
 ghost use Rattle.vm_replay.specs.Commands.{command_of, asked_of_ids};
 ghost use Rattle.std.specs.Option.{option_copied};
 ghost use Rattle.vm_replay.specs.Words.{words_behind};
@@ -54,11 +54,13 @@ pub enum Command {
     },
 }
 
-/// What a line of at most `LONGEST_LINE` bytes asks for. `None` where it is not in the language.
+/// What a line asks for. `None` where it is not in the language.
 pub fn parse(line: &[u8]) -> Option<Command>
-    requires { length line.now ≤ LONGEST_LINE }
     ensures { result ≡ command_of line.now }
 {
+    if line.len() > LONGEST_LINE {
+        return None;
+    }
     let (name, rest) = first_word(line);
     if name == b"space".as_slice() {
         let (base, size) = two_numbers(rest?)?;
