@@ -1,6 +1,7 @@
 pub mod Splitting
 pub mod Lanes
 pub mod Numerals
+pub mod FirstNumber
 pub mod Decimals
 pub mod Parts
 pub mod Known
