@@ -1,12 +1,12 @@
 -- Numbers, digit by digit.
-use Rattle.std.proofs.Common.{◌≡◌, ℕ, ◌+◌, ◌-◌, ◌*◌, ◌^◌, ◌<◌, ◌≤◌, ◌&&◌, Bool, true, false, List, [], ◌∷◌, ◌++◌, length, take, drop, get_or, Option, Some, None, nat_lt, nat_le, if◌then◌else◌, zero, suc, min, refl, sym, ◌∙◌, arith, length-take, length-drop}
-use Rattle.std.specs.List.{list_all, prefix_len}
+use Rattle.std.proofs.Common.{◌≡◌, ℕ, ◌+◌, ◌-◌, ◌*◌, ◌^◌, ◌<◌, ◌≤◌, Bool, true, false, List, [], ◌∷◌, ◌++◌, length, take, drop, get_or, Some, None, zero, suc, min, refl, sym, arith, length-take, length-drop}
+use Rattle.std.specs.List.{list_all}
 use Rattle.std.proofs.lemmas.Bool.Decides.{nat_tests}
 use Rattle.std.proofs.lemmas.Grind.{pow_more}
 use Rattle.std.proofs.lemmas.List.{take_more, take_all, get_or-drop}
 use Rattle.std.proofs.lemmas.List.Sums.{prefix_len-le-length}
 use Rattle.std.proofs.Math.Nat.{pow-le-pow_right}
-use Rattle.vm_replay.specs.Numbers.{value_from, is_digit, digit_zero, is_numeral, most_digits, number_of, digits_ahead}
+use Rattle.vm_replay.specs.Numbers.{value_from, is_digit, digit_zero, number_of, digits_ahead}
 
 -- Values.
 

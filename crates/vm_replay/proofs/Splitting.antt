@@ -1,9 +1,13 @@
 -- The words of a line and the parts of a piece, by where the first byte between them stands.
-use Rattle.std.proofs.Common.{◌≡◌, ◌≢◌, ℕ, ◌+◌, ◌-◌, ◌<◌, ◌≤◌, Bool, true, false, List, [], ◌∷◌, length, take, drop, Option, Some, None, ◌==◌, refl, arith, rules}
+use Rattle.std.proofs.Common.{◌≡◌, ◌≢◌, ℕ, ◌+◌, ◌-◌, ◌<◌, ◌≤◌, Bool, true, false, List, [], ◌∷◌, length, take, drop, Option, Some, None, ◌==◌, refl, arith, rules, ◌++◌, get_or, length-drop, sym, ⊎_elim, ap, ◌∙◌}
 use Rattle.std.specs.Prelude.{position}
-use Rattle.std.specs.List.{position_or_len, slice_split}
+use Rattle.std.specs.List.{position_or_len, slice_split, after_first}
 use Rattle.std.proofs.lemmas.List.Splits.{slice_split_first, length-slice_split}
+use Rattle.std.proofs.lemmas.Bool.{cases_lt}
 use Rattle.std.proofs.lemmas.Bool.Decides.{nat_tests}
+use Rattle.std.proofs.lemmas.List.{take_all}
+use Rattle.std.proofs.lemmas.List.Prefix.{front_fits, front_reads, front_from_reads}
+use Rattle.std.proofs.lemmas.List.Sums.{split_at_first, passes_at_first}
 use Rattle.std.proofs.lemmas.Grind.{common_steps}
 use Rattle.vm_replay.specs.Lines.{newline, parts_of}
 use Rattle.vm_replay.specs.Words.{blank, words_of, alone, one_in, two_in}
@@ -44,6 +48,33 @@ words_some line i e = cut_some blank line i e
 -- the words of a text with no blank
 pub words_none : (line : List ℕ) → position (λ byte. byte == blank) line ≡ None → words_of line ≡ line ∷ []
 words_none line e = cut_none blank line e
+
+-- a text of some words begins with the first and a blank
+pub begins_with : (text word next : List ℕ) (more : List (List ℕ)) → words_of text ≡ word ∷ next ∷ more
+    → (rest : List ℕ) × (text ≡ word ++ blank ∷ rest)
+begins_with text word next more e =
+    let m = position_or_len (λ byte. byte == blank) text in
+    ⊎_elim (λ within.
+    let first = slice_split_first (λ byte. byte == blank) text 0 within in
+    let is : word ≡ take m text = cc in
+    let ends : get_or text m 0 ≡ blank = let there = passes_at_first (λ byte. byte == blank) text 0 within in grind (arith, nat_tests) in
+    let rest = after_first (λ byte. byte == blank) text in
+    (rest, split_at_first (λ byte. byte == blank) text 0 within ∙ ap (λ byte. take m text ++ byte ∷ rest) ends ∙ ap (λ w. w ++ blank ∷ rest) (sym is)))
+    (λ all. absurd (let alone = words_none text (grind (arith, nat_tests)) in cc))
+    (cases_lt m (length text))
+
+-- whether a text begins so
+pub too_short : (text front rest : List ℕ) → length text < length front → text ≢ front ++ rest
+too_short text front rest h e = omega (arith, front_fits text front rest e)
+
+pub begins_else : (text front rest : List ℕ) (i : ℕ) → i < length front → get_or text i 0 ≢ get_or front i 0 → text ≢ front ++ rest
+begins_else text front rest i within differs e = differs (front_reads 0 text front rest e i within)
+
+pub begins_so : (text front : List ℕ) → length front ≤ length text
+    → ((i : ℕ) → i < length front → get_or text i 0 ≡ get_or front i 0)
+    → text ≡ front ++ take (length text - length front) (drop (length front) text)
+begins_so text front fits same =
+    rw (take_all (length text - length front) (drop (length front) text) (omega (arith, length-drop (length front) text))) (front_from_reads 0 text front fits same)
 
 -- the first part of a piece with a newline, and the parts behind it
 pub parts_some : (piece : List ℕ) (i : ℕ) → position (λ byte. byte == newline) piece ≡ Some i

@@ -1,26 +1,27 @@
-ghost use Rattle.std.specs.Prelude.{◌≡◌, ◌==◌, ◌∷◌, None, Some, MatchOption, position};
+ghost use Rattle.std.specs.Prelude.{◌≡◌, ◌≢◌, ◌++◌, ℕ, List, None, Some, MatchOption};
 ghost use Rattle.std.specs.Option.{option_copied};
 ghost use Rattle.vm_replay.specs.Numbers.{number_of, id_of};
-ghost use Rattle.vm_replay.specs.Words.{blank, words_of, words_behind, number_first, one_in, two_in, three_in};
+ghost use Rattle.vm_replay.specs.Words.{words_of, words_behind, number_first, one_in, two_in, three_in};
 
 use crate::number::number_ahead;
 
-/// Where the first space stands.
-fn space_at(text: &[u8]) -> Option<usize>
-    ensures { result ≡ position (λ byte. byte == blank) text.now }
+/// What stands behind the front of a text, where the text begins with it.
+#[inline(always)]
+#[tactic(auto, using(crate::proofs::Splitting::too_short, crate::proofs::Splitting::begins_else, crate::proofs::Splitting::begins_so))]
+pub fn behind<'a, const N: usize>(front: &[u8; N], text: &'a [u8]) -> Option<&'a [u8]>
+    ensures { MatchOption result
+        ((rest : List ℕ) → text.now ≢ front.now ++ rest)
+        (λ rest. text.now ≡ front.now ++ rest.now) }
 {
-    text.iter().position(|byte| *byte == b' ')
-}
-
-/// The first word of a text, and what stands after the space behind it.
-#[tactic(auto, using(crate::proofs::Splitting::words_some, crate::proofs::Splitting::words_none))]
-pub fn first_word(text: &[u8]) -> (&[u8], Option<&[u8]>)
-    ensures { words_of text.now ≡ result.0.now ∷ words_behind (option_copied result.1) }
-{
-    match space_at(text) {
-        Some(end) => (&text[..end], Some(&text[end + 1..])),
-        None => (text, None),
+    if text.len() < N {
+        return None;
     }
+    for i in 0..N {
+        if text[i] != front[i] {
+            return None;
+        }
+    }
+    Some(&text[N..])
 }
 
 /// The number that the first word of a text says, and what stands after the space behind it.

@@ -1,5 +1,4 @@
 use Rattle.std.proofs.Common.{◌<◌, length, arith}
-use Rattle.std.proofs.lemmas.Bool.Decides.{nat_tests}
 use Rattle.vm_replay.proofs.Numerals.{ahead_within}
 use Rattle.vm_replay.proofs.FirstNumber.{then_blank, then_other}
 use Rattle.vm_replay.proofs.words.first_number.Goals as goal
