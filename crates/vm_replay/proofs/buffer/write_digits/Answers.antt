@@ -1,25 +1,35 @@
-use Rattle.std.proofs.Common.{arith, rules, append-nil, ◌-◌, ◌+◌, ◌%◌}
-use Rattle.std.proofs.lemmas.List.{drop_all, length-set}
-use Rattle.vm_replay.proofs.Decimals.{long, put_next, length_step}
+use Rattle.std.proofs.Common.{◌≡◌, ◌-◌, arith, append-nil}
+use Rattle.vm_replay.proofs.Decimals.{long, length_step, put_pair, put_first, put_two}
 use Rattle.vm_replay.proofs.buffer.write_digits.Goals as goal
 
 pub loop-rest-init : goal.loop-rest-init
 loop-rest-init c = record {
-  text = rw (drop_all 20 c.args.digits.now (omega arith), append-nil);
+  text = append-nil _;
   room = long c.args.number c.ranges.number.fits;
   within = omega arith;
-  len = search rules;
   fits = c.ranges.number.fits;
 }
 
 pub loop-rest-preserved : goal.loop-rest-preserved
 loop-rest-preserved c =
-    let i = c.loop-rest.invariant in
     let l = c.loop-rest in
+    let i = l.invariant in
+    let two : l.start - 1 - 1 ≡ l.start - 2 = omega arith in
+    let step = length_step l.rest c.loop-rest-test.true i.fits in
     record {
-      text = put_next l.rest l.start l.digits _ c.loop-rest-test.true i.fits (omega (arith, length_step l.rest c.loop-rest-test.true i.fits)) (omega arith) i.text;
-      room = omega (arith, length_step l.rest c.loop-rest-test.true i.fits);
-      within = omega arith;
-      len = omega (arith, length-set l.digits (l.start - 1) (48 + l.rest % 10));
-      fits = omega arith;
+      text = put_pair l.rest _ _ _ _ c.loop-rest-test.true i.fits c.put_digit.ensures (rw two at c.put_digit-in-loop-rest.ensures) i.text;
+      room = omega (arith, i.room, step);
+      within = omega (arith, i.within);
+      fits = omega (arith, i.fits);
     }
+
+pub returns-then-pair-lt10-clause-text : goal.returns-then-pair-lt10-clause-text
+returns-then-pair-lt10-clause-text c =
+    let l = c.loop-rest in
+    put_first l.rest _ _ _ c.if-pair-lt10.true c.put_digit-2.ensures l.invariant.text
+
+pub returns-clause-text : goal.returns-clause-text
+returns-clause-text c =
+    let l = c.loop-rest in
+    let two : l.start - 1 - 1 ≡ l.start - 2 = omega arith in
+    put_two l.rest _ _ _ _ c.if-pair-lt10.false (omega arith) c.put_digit-2.ensures (rw two at c.put_digit-3.ensures) l.invariant.text
