@@ -45,7 +45,7 @@ fn safe_value(text: &[u8]) -> (u64, usize)
 }
 
 /// The number of a text whose first `SAFE_DIGITS` digits have this value, if it has one more or none.
-#[cold]
+#[inline(always)]
 fn with_last_digit(value: u64, text: &[u8]) -> Option<(u64, usize)>
     requires digits { SAFE_DIGITS ≤ digits_ahead text.now }
     requires value { value ≡ value_from 0 (take SAFE_DIGITS text.now) }

@@ -1,5 +1,5 @@
-use Rattle.std.proofs.Common.{◌≡◌, ◌-◌, arith, append-nil}
-use Rattle.vm_replay.proofs.Decimals.{long, length_step, put_pair, put_first, put_two}
+use Rattle.std.proofs.Common.{arith, rules, append-nil}
+use Rattle.vm_replay.proofs.Decimals.{long, length_step, some_long, put_more, put_two, put_one}
 use Rattle.vm_replay.proofs.buffer.write_digits.Goals as goal
 
 pub loop-rest-init : goal.loop-rest-init
@@ -7,6 +7,7 @@ loop-rest-init c = record {
   text = append-nil _;
   room = long c.args.number c.ranges.number.fits;
   within = omega arith;
+  len = search rules;
   fits = c.ranges.number.fits;
 }
 
@@ -14,22 +15,23 @@ pub loop-rest-preserved : goal.loop-rest-preserved
 loop-rest-preserved c =
     let l = c.loop-rest in
     let i = l.invariant in
-    let two : l.start - 1 - 1 ≡ l.start - 2 = omega arith in
     let step = length_step l.rest c.loop-rest-test.true i.fits in
     record {
-      text = put_pair l.rest _ _ _ _ c.loop-rest-test.true i.fits c.put_digit.ensures (rw two at c.put_digit-in-loop-rest.ensures) i.text;
+      text = put_more l.rest _ _ _ c.loop-rest-test.true i.fits c.put_pair.ensures i.text;
       room = omega (arith, i.room, step);
       within = omega (arith, i.within);
+      len = c.put_pair.array_long;
       fits = omega (arith, i.fits);
     }
 
-pub returns-then-pair-lt10-clause-text : goal.returns-then-pair-lt10-clause-text
-returns-then-pair-lt10-clause-text c =
+pub returns-then-rest-ge10-clause-text : goal.returns-then-rest-ge10-clause-text
+returns-then-rest-ge10-clause-text c =
     let l = c.loop-rest in
-    put_first l.rest _ _ _ c.if-pair-lt10.true c.put_digit-2.ensures l.invariant.text
+    put_two l.rest _ _ _ c.if-rest-ge10.true (omega arith) c.put_pair-then-rest-ge10.ensures l.invariant.text
 
 pub returns-clause-text : goal.returns-clause-text
 returns-clause-text c =
     let l = c.loop-rest in
-    let two : l.start - 1 - 1 ≡ l.start - 2 = omega arith in
-    put_two l.rest _ _ _ _ c.if-pair-lt10.false (omega arith) c.put_digit-2.ensures (rw two at c.put_digit-3.ensures) l.invariant.text
+    let i = l.invariant in
+    let some = some_long l.rest i.fits in
+    put_one l.rest l.start l.digits _ c.if-rest-ge10.false (omega (arith, some, i.room)) i.within (omega (arith, i.within, i.len)) i.text

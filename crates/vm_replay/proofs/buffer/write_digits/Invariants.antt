@@ -9,6 +9,7 @@ invariant-loop-rest l = record {
   text : decimal l.rest ++ written l.start l.digits ≡ decimal l.number;
   room : length (decimal l.rest) ≤ l.start;
   within : l.start ≤ 20;
+  len : length l.digits ≡ 40;
   fits : l.rest < 2 ^ 64;
 }
 
