@@ -1,5 +1,8 @@
 pub mod Splitting
+pub mod Names
+pub mod Lanes
 pub mod Numerals
+pub mod FirstNumber
 pub mod Decimals
 pub mod Parts
 pub mod Known

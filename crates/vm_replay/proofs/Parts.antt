@@ -1,57 +1,55 @@
--- The parts of a text, as it grows by a byte.
+-- The parts of a text, as it grows by a piece.
 use Rattle.std.proofs.Common.{◌≡◌, ℕ, ◌<◌, Bool, true, false, List, [], ◌∷◌, ◌++◌, length, ◌==◌, refl, sym, ap, arith}
 use Rattle.std.specs.Prelude.{if◌then◌else◌}
 use Rattle.std.specs.List.{onto_first}
 use Rattle.std.proofs.lemmas.List.Splits.{length-slice_split}
 use Rattle.vm_replay.specs.Lines.{newline, parts_of, lines_among, ended_among}
 
--- the parts after one more byte
-abbrev pub grown : List (List ℕ) → ℕ → List (List ℕ)
-grown [] byte = []
-grown (last ∷ []) byte = if byte == newline then last ∷ [] ∷ [] else (last ++ byte ∷ []) ∷ []
-grown (part ∷ next ∷ parts) byte = part ∷ grown (next ∷ parts) byte
+-- the parts of two texts one behind the other: the last of the one and the first of the other are one
+abbrev pub glued : List (List ℕ) → List (List ℕ) → List (List ℕ)
+glued [] others = others
+glued (last ∷ []) [] = last ∷ []
+glued (last ∷ []) (other ∷ others) = (last ++ other) ∷ others
+glued (part ∷ next ∷ parts) others = part ∷ glued (next ∷ parts) others
 
 -- the first of several parts stays
-grown_cons : (part : List ℕ) (parts : List (List ℕ)) (byte : ℕ) → 0 < length parts → grown (part ∷ parts) byte ≡ part ∷ grown parts byte
-grown_cons part [] byte h = absurd (omega arith)
-grown_cons part (next ∷ parts) byte h = refl
+glued_cons : (part : List ℕ) (parts others : List (List ℕ)) → 0 < length parts → glued (part ∷ parts) others ≡ part ∷ glued parts others
+glued_cons part [] others h = absurd (omega arith)
+glued_cons part (next ∷ parts) others h = refl
 
--- a byte before the first part and one behind the last do not meet
-grown_onto : (x : ℕ) (parts : List (List ℕ)) (byte : ℕ) (b : Bool) → (byte == newline) ≡ b → 0 < length parts
-    → onto_first x (grown parts byte) ≡ grown (onto_first x parts) byte
-grown_onto x [] byte b e h = absurd (omega arith)
-grown_onto x (last ∷ []) byte true e h = rw e
-grown_onto x (last ∷ []) byte false e h = rw e
-grown_onto x (part ∷ next ∷ parts) byte b e h = refl
+-- nothing before the first part
+glued_nothing : (others : List (List ℕ)) → 0 < length others → glued ([] ∷ []) others ≡ others
+glued_nothing [] h = absurd (omega arith)
+glued_nothing (other ∷ others) h = refl
+
+-- a byte before the first part does not meet what is behind the last
+glued_onto : (x : ℕ) (parts others : List (List ℕ)) → 0 < length parts → onto_first x (glued parts others) ≡ glued (onto_first x parts) others
+glued_onto x [] others h = absurd (omega arith)
+glued_onto x (last ∷ []) [] h = refl
+glued_onto x (last ∷ []) (other ∷ others) h = refl
+glued_onto x (part ∷ next ∷ parts) others h = refl
 
 -- a text has a part
-some_parts : (xs : List ℕ) → 0 < length (parts_of xs)
+pub some_parts : (xs : List ℕ) → 0 < length (parts_of xs)
 some_parts xs = omega (arith, length-slice_split (λ x. x == newline) xs)
 
--- one more byte of a text grows its parts
-pub parts_grow : (xs : List ℕ) (byte : ℕ) → parts_of (xs ++ byte ∷ []) ≡ grown (parts_of xs) byte
-parts_grow [] byte = refl
-parts_grow (x ∷ xs) byte = step x xs byte (x == newline) refl (parts_grow xs byte)
+-- the parts of two texts
+pub parts_glued : (xs ys : List ℕ) → parts_of (xs ++ ys) ≡ glued (parts_of xs) (parts_of ys)
+parts_glued [] ys = sym (glued_nothing (parts_of ys) (some_parts ys))
+parts_glued (x ∷ xs) ys = step x xs ys (x == newline) refl (parts_glued xs ys)
   where
-    step : (x : ℕ) (xs : List ℕ) (byte : ℕ) (b : Bool) → (x == newline) ≡ b
-        → parts_of (xs ++ byte ∷ []) ≡ grown (parts_of xs) byte
-        → parts_of (x ∷ (xs ++ byte ∷ [])) ≡ grown (parts_of (x ∷ xs)) byte
-    step x xs byte true e ih = rw (e, ih) (sym (grown_cons [] (parts_of xs) byte (some_parts xs)))
-    step x xs byte false e ih = rw (e, ih) (grown_onto x (parts_of xs) byte (byte == newline) refl (some_parts xs))
+    step : (x : ℕ) (xs ys : List ℕ) (b : Bool) → (x == newline) ≡ b
+        → parts_of (xs ++ ys) ≡ glued (parts_of xs) (parts_of ys)
+        → parts_of (x ∷ (xs ++ ys)) ≡ glued (parts_of (x ∷ xs)) (parts_of ys)
+    step x xs ys true e ih = rw (e, ih) (sym (glued_cons [] (parts_of xs) (parts_of ys) (some_parts xs)))
+    step x xs ys false e ih = rw (e, ih) (glued_onto x (parts_of xs) (parts_of ys) (some_parts xs))
 
--- a newline ends the last part
-pub grown_end : (ended : List (List ℕ)) (begun : List ℕ) (byte : ℕ) → (byte == newline) ≡ true
-    → grown (ended ++ begun ∷ []) byte ≡ (ended ++ begun ∷ []) ++ [] ∷ []
-grown_end [] begun byte e = rw e
-grown_end (x ∷ []) begun byte e = rw e
-grown_end (x ∷ y ∷ ended) begun byte e = ap (λ ps. x ∷ ps) (grown_end (y ∷ ended) begun byte e)
-
--- any other byte goes to the last part
-pub grown_more : (ended : List (List ℕ)) (begun : List ℕ) (byte : ℕ) → (byte == newline) ≡ false
-    → grown (ended ++ begun ∷ []) byte ≡ ended ++ (begun ++ byte ∷ []) ∷ []
-grown_more [] begun byte e = rw e
-grown_more (x ∷ []) begun byte e = rw e
-grown_more (x ∷ y ∷ ended) begun byte e = ap (λ ps. x ∷ ps) (grown_more (y ∷ ended) begun byte e)
+-- the last part goes on with the first of the others
+pub glued_is : (ended : List (List ℕ)) (begun other : List ℕ) (others : List (List ℕ))
+    → glued (ended ++ begun ∷ []) (other ∷ others) ≡ ended ++ (begun ++ other) ∷ others
+glued_is [] begun other others = refl
+glued_is (x ∷ []) begun other others = refl
+glued_is (x ∷ y ∷ ended) begun other others = ap (λ ps. x ∷ ps) (glued_is (y ∷ ended) begun other others)
 
 -- the parts before the last are ended
 pub ended_is : (ended : List (List ℕ)) (begun : List ℕ) → ended_among (ended ++ begun ∷ []) ≡ ended

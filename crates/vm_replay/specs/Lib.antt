@@ -2,6 +2,7 @@ pub mod Numbers
 pub mod Words
 pub mod Commands
 pub mod Lines
+pub mod Digits
 pub mod Replies
 pub mod Machines
 pub mod Runs

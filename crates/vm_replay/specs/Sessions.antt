@@ -1,8 +1,8 @@
--- A session between two bytes of its input.
-use Rattle.std.specs.Prelude.{◌≡◌, ℕ, ◌==◌, if◌then◌else◌, nat_lt, List, [], ◌∷◌, ◌++◌, length, Option, Some, None, Bool, true, MatchBool, refl}
+-- A session between two pieces of its input.
+use Rattle.std.specs.Prelude.{◌≡◌, ℕ, if◌then◌else◌, nat_le, nat_lt, List, [], ◌∷◌, ◌++◌, length, Option, Some, None, Bool, true, MatchBool, refl}
 use Rattle.std.specs.Coded.{Coded, code_by, coded×, coded_ℕ, coded_list, coded_option}
 use Rattle.vm_replay.specs.Commands.{command_of, longest_line}
-use Rattle.vm_replay.specs.Lines.{newline}
+use Rattle.vm_replay.specs.Lines.{newline, parts_of}
 use Rattle.vm_replay.specs.Machines.{Machine, machine_code, Does}
 use Rattle.vm_replay.specs.Replies.{text_of}
 use Rattle.vm_replay.specs.declared.command.Command.{Command}
@@ -22,10 +22,18 @@ session_code =
     (λ p. record { machine = p.0; line = p.1 })
     (λ _. refl)
 
--- the line that has begun, after one more byte
-abbrev pub line_after : Option (List ℕ) → ℕ → Option (List ℕ)
-line_after None byte = None
-line_after (Some line) byte = if nat_lt (length line) longest_line then Some (line ++ byte ∷ []) else None
+-- a line that has begun is kept unless it is too long
+abbrev pub kept_of : List ℕ → Option (List ℕ)
+kept_of line = if nat_le (length line) longest_line then Some line else None
+
+-- the line that has begun, after more bytes
+abbrev pub line_after : Option (List ℕ) → List ℕ → Option (List ℕ)
+line_after None bytes = None
+line_after (Some line) bytes = kept_of (line ++ bytes)
+
+-- the session, after more bytes of the line that has begun
+abbrev pub with_more : Session → List ℕ → Session
+with_more old bytes = record old { line = line_after old.line bytes }
 
 -- what the line that has begun asks
 abbrev pub asked_by : Option (List ℕ) → Option Command
@@ -45,20 +53,20 @@ Ends old text new =
     × (new.line ≡ Some [])
     × (text ≡ text_of reply ++ newline ∷ [])
 
--- the byte comes, and this text is written
-abbrev pub Feed : Session → ℕ → List ℕ → Session → Type 0
-Feed old byte text new =
-    MatchBool (byte == newline) (Ends old text new) ((text ≡ []) × (new ≡ record old { line = line_after old.line byte }))
-
--- bytes come one after another
-abbrev pub Feeds : Session → List ℕ → List ℕ → Session → Type 0
-Feeds old [] text new = (text ≡ []) × (new ≡ old)
-Feeds old (byte ∷ bytes) text new =
+-- the parts of a piece come, each of them but the last the end of a line, and this text is written
+abbrev pub FeedsParts : Session → List (List ℕ) → List ℕ → Session → Type 0
+FeedsParts old [] text new = (text ≡ []) × (new ≡ old)
+FeedsParts old (last ∷ []) text new = (text ≡ []) × (new ≡ with_more old last)
+FeedsParts old (part ∷ next ∷ parts) text new =
     (mid : Session) × (first : List ℕ) × (rest : List ℕ)
-    × Feed old byte first mid
-    × Feeds mid bytes rest new
+    × Ends (with_more old part) first mid
+    × FeedsParts mid (next ∷ parts) rest new
     × (text ≡ first ++ rest)
+
+-- a piece comes, and this text is written
+abbrev pub Feeds : Session → List ℕ → List ℕ → Session → Type 0
+Feeds old piece text new = FeedsParts old (parts_of piece) text new
 
 -- the input ends, and this text is written
 abbrev pub Finishes : Session → List ℕ → Type 0
-Finishes old text = MatchBool (has_begun old.line) ((new : Session) × Ends old text new) (text ≡ [])
+Finishes old text = MatchBool (has_begun old.line) ((new : Session) × Ends (with_more old []) text new) (text ≡ [])

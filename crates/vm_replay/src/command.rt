@@ -1,9 +1,8 @@
-ghost use Rattle.std.specs.Prelude.{◌≡◌, ◌≤◌, length};
-ghost use Rattle.vm_replay.specs.Commands.{command_of, asked_of_ids};
-ghost use Rattle.std.specs.Option.{option_copied};
-ghost use Rattle.vm_replay.specs.Words.{words_behind};
+ghost use Rattle.std.specs.Prelude.{◌≡◌};
+ghost use Rattle.vm_replay.specs.Commands.{command_of, asked_on_ids};
+ghost use Rattle.vm_replay.specs.Words.{words_of};
 
-use crate::words::{first_word, one_id, three_numbers, two_ids, two_numbers};
+use crate::words::{behind, one_id, three_numbers, two_ids, two_numbers};
 
 /// A longer line is not in the language.
 pub const LONGEST_LINE: usize = 120;
@@ -54,60 +53,64 @@ pub enum Command {
     },
 }
 
-/// What a line of at most `LONGEST_LINE` bytes asks for. `None` where it is not in the language.
+/// What a line asks for. `None` where it is not in the language.
+#[inline(always)]
+#[tactic(auto, using(crate::proofs::Names::on_ids))]
 pub fn parse(line: &[u8]) -> Option<Command>
-    requires { length line.now ≤ LONGEST_LINE }
     ensures { result ≡ command_of line.now }
 {
-    let (name, rest) = first_word(line);
-    if name == b"space".as_slice() {
-        let (base, size) = two_numbers(rest?)?;
-        Some(Command::Space { base, size })
-    } else if name == b"first".as_slice() {
-        let (size, alignment) = two_numbers(rest?)?;
-        Some(Command::First { size, alignment })
-    } else if name == b"last".as_slice() {
-        let (size, alignment) = two_numbers(rest?)?;
-        Some(Command::Last { size, alignment })
-    } else if name == b"exact".as_slice() {
-        let (size, alignment, start) = three_numbers(rest?)?;
-        Some(Command::Exact {
+    if line.len() > LONGEST_LINE {
+        return None;
+    }
+    if let Some(rest) = behind(b"space ", line) {
+        let (base, size) = two_numbers(rest)?;
+        return Some(Command::Space { base, size });
+    }
+    if let Some(rest) = behind(b"first ", line) {
+        let (size, alignment) = two_numbers(rest)?;
+        return Some(Command::First { size, alignment });
+    }
+    if let Some(rest) = behind(b"last ", line) {
+        let (size, alignment) = two_numbers(rest)?;
+        return Some(Command::Last { size, alignment });
+    }
+    if let Some(rest) = behind(b"exact ", line) {
+        let (size, alignment, start) = three_numbers(rest)?;
+        return Some(Command::Exact {
             size,
             alignment,
             start,
-        })
-    } else if name == b"free".as_slice() {
-        let (start, end) = two_numbers(rest?)?;
-        Some(Command::Free { start, end })
-    } else {
-        parse_on_ids(name, rest)
+        });
     }
+    if let Some(rest) = behind(b"free ", line) {
+        let (start, end) = two_numbers(rest)?;
+        return Some(Command::Free { start, end });
+    }
+    parse_on_ids(line)
 }
 
-/// What a line with this first word asks of the ids. `rest` is what stands behind the word, if a
-/// space does.
-#[tactic(auto, using(crate::proofs::Splitting::not_alone))]
-fn parse_on_ids(name: &[u8], rest: Option<&[u8]>) -> Option<Command>
-    ensures { result ≡ asked_of_ids name.now (words_behind (option_copied rest.entry)) }
+/// What a line asks of the ids.
+#[tactic(auto, using(crate::proofs::Names::on_nothing))]
+fn parse_on_ids(line: &[u8]) -> Option<Command>
+    ensures { result ≡ asked_on_ids (words_of line.now) }
 {
-    if name == b"ids".as_slice() {
-        let (range_base, range_end) = two_ids(rest?)?;
-        Some(Command::Ids {
+    if let Some(rest) = behind(b"ids ", line) {
+        let (range_base, range_end) = two_ids(rest)?;
+        return Some(Command::Ids {
             range_base,
             range_end,
-        })
-    } else if name == b"id".as_slice() {
-        match rest {
-            None => Some(Command::Id),
-            Some(_) => None,
-        }
-    } else if name == b"unid".as_slice() {
-        let id = one_id(rest?)?;
-        Some(Command::Unid { id })
-    } else if name == b"has".as_slice() {
-        let id = one_id(rest?)?;
-        Some(Command::Has { id })
-    } else {
-        None
+        });
     }
+    if let Some(rest) = behind(b"unid ", line) {
+        let id = one_id(rest)?;
+        return Some(Command::Unid { id });
+    }
+    if let Some(rest) = behind(b"has ", line) {
+        let id = one_id(rest)?;
+        return Some(Command::Has { id });
+    }
+    if line == b"id".as_slice() {
+        return Some(Command::Id);
+    }
+    None
 }

@@ -9,6 +9,7 @@ mod buffer;
 mod command;
 mod laws;
 mod machine;
+mod newline;
 mod number;
 mod reply;
 mod run;

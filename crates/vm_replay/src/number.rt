@@ -1,33 +1,62 @@
-ghost use Rattle.std.specs.Prelude.{◌≡◌};
-ghost use Rattle.vm_replay.specs.Numbers.{number_of, id_of};
+ghost use Rattle.std.specs.Prelude.{◌≡◌, ◌≤◌, None, Some, MatchOption, length, take, min};
+ghost use Rattle.vm_replay.specs.Numbers.{value_from, number_of, digits_ahead};
 
 /// No number of the language has more digits, and none of 64 bits needs more.
 pub const MOST_DIGITS: usize = 20;
 
+/// So many digits say a number of 64 bits, whichever they are.
+const SAFE_DIGITS: usize = 19;
+
 const BASE: u64 = 10;
 
-/// The number that a word says.
-#[tactic(auto, using(crate::proofs::Numerals::too_large_next, crate::proofs::Numerals::too_large_sum, crate::proofs::Numerals::all_read))]
-pub fn parse_number(word: &[u8]) -> Option<u64>
-    ensures { result ≡ number_of word.now }
+/// The number that the digits at the front of a text say, and how many digits they are.
+#[inline(always)]
+#[tactic(auto, using(crate::proofs::Numerals::number_is, crate::proofs::Numerals::number_none))]
+pub fn number_ahead(text: &[u8]) -> Option<(u64, usize)>
+    ensures { MatchOption result
+        (number_of (take (digits_ahead text.now) text.now) ≡ None)
+        (λ found. (number_of (take (digits_ahead text.now) text.now) ≡ Some found.0) × (found.1 ≡ digits_ahead text.now)) }
 {
-    if word.is_empty() || word.len() > MOST_DIGITS {
+    let (value, count) = safe_value(text);
+    if count == 0 {
         return None;
     }
-    let mut value = 0u64;
-    for byte in word {
-        if !byte.is_ascii_digit() {
-            return None;
-        }
-        let digit = u64::from(*byte - b'0');
-        value = value.checked_mul(BASE)?.checked_add(digit)?;
+    if count == SAFE_DIGITS {
+        return with_last_digit(value, text);
     }
-    Some(value)
+    Some((value, count))
 }
 
-/// The number of 32 bits that a word says.
-pub fn parse_id(word: &[u8]) -> Option<u32>
-    ensures { result ≡ id_of word.now }
+/// The value of the digits at the front of a text, of the first `SAFE_DIGITS` if they are more, and
+/// how many digits that are.
+#[inline(always)]
+fn safe_value(text: &[u8]) -> (u64, usize)
+    ensures count { result.1 ≡ min (digits_ahead text.now) SAFE_DIGITS }
+    ensures value { result.0 ≡ value_from 0 (take result.1 text.now) }
 {
-    u32::try_from(parse_number(word)?).ok()
+    let most = text.len().min(SAFE_DIGITS);
+    let mut value = 0u64;
+    let mut count = 0;
+    while count < most && text[count].is_ascii_digit() {
+        value = value * BASE + u64::from(text[count] - b'0');
+        count += 1;
+    }
+    (value, count)
+}
+
+/// The number of a text whose first `SAFE_DIGITS` digits have this value, if it has one more or none.
+#[inline(always)]
+fn with_last_digit(value: u64, text: &[u8]) -> Option<(u64, usize)>
+    requires digits { SAFE_DIGITS ≤ digits_ahead text.now }
+    requires value { value ≡ value_from 0 (take SAFE_DIGITS text.now) }
+    ensures { MatchOption result
+        (number_of (take (digits_ahead text.now) text.now) ≡ None)
+        (λ found. (number_of (take (digits_ahead text.now) text.now) ≡ Some found.0) × (found.1 ≡ digits_ahead text.now)) }
+{
+    let (last, more) = safe_value(&text[SAFE_DIGITS..]);
+    match more {
+        0 => Some((value, SAFE_DIGITS)),
+        1 => Some((value.checked_mul(BASE)?.checked_add(last)?, MOST_DIGITS)),
+        _ => None,
+    }
 }

@@ -77,6 +77,7 @@ fn write_refusal(output: &mut Buffer, error: Error)
 }
 
 /// Writes a text and a number behind it.
+#[inline(always)]
 fn write_number(output: &mut Buffer, text: &[u8], number: u64)
     requires short { length text.now + MOST_DIGITS ≤ LONGEST_REPLY }
     requires room { length output.old + LONGEST_REPLY ≤ CAPACITY }
@@ -88,6 +89,7 @@ fn write_number(output: &mut Buffer, text: &[u8], number: u64)
 }
 
 /// Writes a text and two numbers behind it.
+#[inline(always)]
 fn write_pair(output: &mut Buffer, text: &[u8], first: u64, second: u64)
     requires short { length text.now + MOST_DIGITS + 1 + MOST_DIGITS ≤ LONGEST_REPLY }
     requires room { length output.old + LONGEST_REPLY ≤ CAPACITY }

@@ -5,6 +5,7 @@ ghost use Rattle.vm_replay.specs.Moving.{Moves};
 ghost use Rattle.vm_replay.specs.Runs.{AnswersInput, AnswersEndedLines};
 
 use crate::buffer::{Buffer, CAPACITY};
+use crate::newline::newline_at;
 use crate::reply::LONGEST_REPLY;
 use crate::session::Session;
 use std::alloc::Global;
@@ -63,10 +64,13 @@ fn feed_all<W: Write>(
         × Moves (W.contents writer.old) output.old text (W.contents writer.new) output.new) }
     ensures err { IfErr result (λ error. error ≡ RunError.Write) }
 {
-    for byte in piece {
+    let mut rest = piece;
+    while let Some(end) = newline_at(rest) {
         make_room(output, writer)?;
-        session.feed(alloc, *byte, output);
+        session.end_line(alloc, &rest[..end], output);
+        rest = &rest[end + 1..];
     }
+    session.keep(rest);
     Ok(())
 }
 
@@ -105,7 +109,7 @@ fn answer_rest<W: Write>(
         return Ok(());
     }
     make_room(output, writer)?;
-    session.end_line(alloc, output);
+    session.end_line(alloc, b"", output);
     Ok(())
 }
 

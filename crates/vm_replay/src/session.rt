@@ -1,6 +1,6 @@
 ghost use Rattle.std.specs.Prelude.{◌≡◌, ◌++◌, ◌∷◌, [], ◌+◌, ◌<◌, ℕ, List, length, Some};
 ghost use Rattle.vm_replay.specs.Machines.{start};
-ghost use Rattle.vm_replay.specs.Sessions.{Feed, Ends, asked_by, line_after, has_begun};
+ghost use Rattle.vm_replay.specs.Sessions.{Ends, asked_by, line_after, with_more, has_begun};
 
 use crate::buffer::{Buffer, CAPACITY};
 use crate::command::{Command, LONGEST_LINE, parse};
@@ -48,53 +48,60 @@ impl Session {
         }
     }
 
-    /// Takes one byte of the input, and writes the answer to the line that it ends, if it ends one.
-    pub fn feed(&mut self, alloc: Global, byte: u8, output: &mut Buffer)
+    /// Ends the line that has begun, of which these are the last bytes, and writes the answer to it.
+    pub fn end_line(&mut self, alloc: Global, last: &[u8], output: &mut Buffer)
         requires { length output.old + LONGEST_REPLY < CAPACITY }
-        ensures { (text : List ℕ) × Feed self.old byte text self.new × (output.new ≡ output.old ++ text) }
+        ensures { (text : List ℕ)
+            × Ends (with_more self.old last.now) text self.new
+            × (output.new ≡ output.old ++ text) }
     {
-        if byte == b'\n' {
-            self.end_line(alloc, output);
-        } else {
-            self.push(byte);
-        }
-    }
-
-    /// Writes the answer to the line that has begun.
-    pub fn end_line(&mut self, alloc: Global, output: &mut Buffer)
-        requires { length output.old + LONGEST_REPLY < CAPACITY }
-        ensures { (text : List ℕ) × Ends self.old text self.new × (output.new ≡ output.old ++ text) }
-    {
-        let asked = self.asked();
+        let asked = self.take_line(last);
         let reply = self.machine.answer(alloc, asked);
         write_reply(output, reply);
         output.push(b'\n');
-        self.filled = 0;
-        self.is_too_long = false;
     }
 
-    /// What the line that has begun asks.
-    fn asked(&self) -> Option<Command>
-        ensures { result ≡ asked_by self.now.line }
+    /// Tells what the line asks of which these are the last bytes. After that no line has begun.
+    fn take_line(&mut self, last: &[u8]) -> Option<Command>
+        ensures asked { result ≡ asked_by (line_after self.old.line last.now) }
+        ensures machine { self.new.machine ≡ self.old.machine }
+        ensures line { self.new.line ≡ Some [] }
     {
-        if self.is_too_long {
+        if !self.has_begun() {
+            return parse(last);
+        }
+        self.keep(last);
+        self.take_kept()
+    }
+
+    /// Tells what the line asks of which all bytes are kept. After that no line has begun.
+    fn take_kept(&mut self) -> Option<Command>
+        ensures asked { result ≡ asked_by self.old.line }
+        ensures machine { self.new.machine ≡ self.old.machine }
+        ensures line { self.new.line ≡ Some [] }
+    {
+        let asked = if self.is_too_long {
             None
         } else {
             parse(&self.line[..self.filled])
-        }
+        };
+        self.filled = 0;
+        self.is_too_long = false;
+        asked
     }
 
-    /// Takes one more byte of the line that has begun.
-    fn push(&mut self, byte: u8)
+    /// Takes more bytes of the line that has begun.
+    pub fn keep(&mut self, bytes: &[u8])
         ensures machine { self.new.machine ≡ self.old.machine }
-        ensures line { self.new.line ≡ line_after self.old.line byte }
+        ensures line { self.new.line ≡ line_after self.old.line bytes.now }
     {
-        if self.filled < LONGEST_LINE {
-            self.line[self.filled] = byte;
-            self.filled += 1;
-        } else {
+        if self.is_too_long || bytes.len() > LONGEST_LINE - self.filled {
             self.is_too_long = true;
+            return;
         }
+        let end = self.filled + bytes.len();
+        self.line[self.filled..end].copy_from_slice(bytes);
+        self.filled = end;
     }
 
     /// Whether some of a line has come.

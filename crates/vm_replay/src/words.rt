@@ -1,81 +1,92 @@
-ghost use Rattle.std.specs.Prelude.{◌≡◌, ◌≢◌, ◌==◌, ◌∷◌, [], MatchOption, length, position};
+ghost use Rattle.std.specs.Prelude.{◌≡◌, ◌≢◌, ◌++◌, ℕ, List, None, Some, MatchOption};
 ghost use Rattle.std.specs.Option.{option_copied};
 ghost use Rattle.vm_replay.specs.Numbers.{number_of, id_of};
-ghost use Rattle.vm_replay.specs.Words.{blank, words_of, words_behind, one_in, two_in, three_in};
+ghost use Rattle.vm_replay.specs.Words.{words_of, words_behind, number_first, one_in, two_in, three_in};
 
-use crate::number::{parse_id, parse_number};
+use crate::number::number_ahead;
 
-/// Where the first space stands.
-fn space_at(text: &[u8]) -> Option<usize>
-    ensures { result ≡ position (λ byte. byte == blank) text.now }
+/// What stands behind the front of a text, where the text begins with it.
+#[inline(always)]
+#[tactic(auto, using(crate::proofs::Splitting::too_short, crate::proofs::Splitting::begins_else, crate::proofs::Splitting::begins_so))]
+pub fn behind<'a, const N: usize>(front: &[u8; N], text: &'a [u8]) -> Option<&'a [u8]>
+    ensures { MatchOption result
+        ((rest : List ℕ) → text.now ≢ front.now ++ rest)
+        (λ rest. text.now ≡ front.now ++ rest.now) }
 {
-    text.iter().position(|byte| *byte == b' ')
-}
-
-/// The first word of a text, and what stands after the space behind it.
-#[tactic(auto, using(crate::proofs::Splitting::words_some, crate::proofs::Splitting::words_none))]
-pub fn first_word(text: &[u8]) -> (&[u8], Option<&[u8]>)
-    ensures { words_of text.now ≡ result.0.now ∷ words_behind (option_copied result.1) }
-{
-    match space_at(text) {
-        Some(end) => (&text[..end], Some(&text[end + 1..])),
-        None => (text, None),
-    }
-}
-
-/// The word of a text, where it is one.
-#[tactic(auto, using(crate::proofs::Splitting::some_words))]
-fn one_word(text: &[u8]) -> Option<&[u8]>
-    ensures { MatchOption result (length (words_of text.now) ≢ 1) (λ word. words_of text.now ≡ word.now ∷ []) }
-{
-    let (word, more) = first_word(text);
-    if more.is_some() {
+    if text.len() < N {
         return None;
     }
-    Some(word)
+    for i in 0..N {
+        if text[i] != front[i] {
+            return None;
+        }
+    }
+    Some(&text[N..])
 }
 
-/// The words of a text, where they are two.
-fn two_words(text: &[u8]) -> Option<(&[u8], &[u8])>
+/// The number that the first word of a text says, and what stands after the space behind it.
+#[inline(always)]
+#[tactic(auto, using(crate::proofs::FirstNumber::no_number, crate::proofs::FirstNumber::alone_number, crate::proofs::FirstNumber::then_blank, crate::proofs::FirstNumber::then_other))]
+fn first_number(text: &[u8]) -> Option<(u64, Option<&[u8]>)>
     ensures { MatchOption result
-        (length (words_of text.now) ≢ 2)
-        (λ words. words_of text.now ≡ words.0.now ∷ words.1.now ∷ []) }
+        (number_first (words_of text.now) ≡ None)
+        (λ found. number_first (words_of text.now) ≡ Some (found.0, words_behind (option_copied found.1))) }
 {
-    let (first, rest) = first_word(text);
-    Some((first, one_word(rest?)?))
+    let (number, count) = number_ahead(text)?;
+    if count == text.len() {
+        return Some((number, None));
+    }
+    if text[count] != b' ' {
+        return None;
+    }
+    Some((number, Some(&text[count + 1..])))
+}
+
+/// The number that the word of a text says, where it is one.
+#[inline(always)]
+#[tactic(auto, using(crate::proofs::FirstNumber::one_none, crate::proofs::FirstNumber::one_alone, crate::proofs::FirstNumber::one_more, crate::proofs::Splitting::some_words))]
+fn one_number(text: &[u8]) -> Option<u64>
+    ensures { result ≡ one_in number_of (words_of text.now) }
+{
+    let (number, rest) = first_number(text)?;
+    if rest.is_some() {
+        return None;
+    }
+    Some(number)
 }
 
 /// The numbers that the words of a text say, where they are two.
-#[tactic(auto, using(crate::proofs::Splitting::not_two))]
+#[tactic(auto, using(crate::proofs::FirstNumber::two_none, crate::proofs::FirstNumber::two_some))]
 pub fn two_numbers(text: &[u8]) -> Option<(u64, u64)>
     ensures { result ≡ two_in number_of (words_of text.now) }
 {
-    let (first, second) = two_words(text)?;
-    Some((parse_number(first)?, parse_number(second)?))
+    let (first, rest) = first_number(text)?;
+    Some((first, one_number(rest?)?))
 }
 
 /// The numbers that the words of a text say, where they are three.
+#[tactic(auto, using(crate::proofs::FirstNumber::three_none, crate::proofs::FirstNumber::three_some))]
 pub fn three_numbers(text: &[u8]) -> Option<(u64, u64, u64)>
     ensures { result ≡ three_in number_of (words_of text.now) }
 {
-    let (first, rest) = first_word(text);
+    let (first, rest) = first_number(text)?;
     let (second, third) = two_numbers(rest?)?;
-    Some((parse_number(first)?, second, third))
-}
-
-/// The ids that the words of a text say, where they are two.
-#[tactic(auto, using(crate::proofs::Splitting::not_two))]
-pub fn two_ids(text: &[u8]) -> Option<(u32, u32)>
-    ensures { result ≡ two_in id_of (words_of text.now) }
-{
-    let (first, second) = two_words(text)?;
-    Some((parse_id(first)?, parse_id(second)?))
+    Some((first, second, third))
 }
 
 /// The id that the word of a text says, where it is one.
-#[tactic(auto, using(crate::proofs::Splitting::not_one))]
+#[tactic(auto, using(crate::proofs::FirstNumber::one_id))]
 pub fn one_id(text: &[u8]) -> Option<u32>
     ensures { result ≡ one_in id_of (words_of text.now) }
 {
-    parse_id(one_word(text)?)
+    u32::try_from(one_number(text)?).ok()
+}
+
+/// The ids that the words of a text say, where they are two.
+#[tactic(auto, using(crate::proofs::FirstNumber::two_ids))]
+pub fn two_ids(text: &[u8]) -> Option<(u32, u32)>
+    ensures { result ≡ two_in id_of (words_of text.now) }
+{
+    let (first, second) = two_numbers(text)?;
+    Some((u32::try_from(first).ok()?, u32::try_from(second).ok()?))
 }
