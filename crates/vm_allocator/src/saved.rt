@@ -21,3 +21,6 @@ pub enum ValueError {
     #[error("There is not enough memory.")]
     OutOfMemory,
 }
+
+#[cfg(test)]
+mod tests;
