@@ -10,4 +10,5 @@ pub mod histories
 pub mod ids
 pub mod walks
 pub mod comparing
+pub mod saving
 pub mod Callers

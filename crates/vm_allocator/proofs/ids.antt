@@ -5,3 +5,4 @@ pub mod GivingBack
 pub mod Answers
 pub mod EveryCall
 pub mod Histories
+pub mod Ends

@@ -5,7 +5,6 @@ use Rattle.vm_allocator.specs.Range.{Range, range_code}
 use Rattle.vm_allocator.specs.Address.{AddressState}
 use Rattle.vm_allocator.specs.Shape.{Shape, shape_code}
 use Rattle.vm_allocator.specs.SpaceTree.{tree_state}
-use Rattle.vm_allocator.specs.declared.error.Error.{Error}
 
 -- a space, and the tree of its blocks
 pub record SpaceInTree : Type 0 where
@@ -24,7 +23,7 @@ space_code =
 abbrev pub state_of : SpaceInTree → AddressState
 state_of allocator = tree_state allocator.tree
 
--- the state of the allocator that is made, or why none is
-abbrev pub made_state : Result SpaceInTree Error → Result AddressState Error
+-- the state of the allocator that is made or read, or why none is
+abbrev pub made_state : {E : Type 0} → Result SpaceInTree E → Result AddressState E
 made_state (Ok allocator) = Ok (state_of allocator)
 made_state (Err error) = Err error

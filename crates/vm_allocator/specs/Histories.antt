@@ -1,12 +1,14 @@
 -- Histories: calls of an address allocator, one after the other.
-use Rattle.std.specs.Prelude.{◌≡◌, ℕ, ◌%◌, ◌≤◌, List, [], ◌∷◌, Result, Ok, Err}
+use Rattle.std.specs.Prelude.{◌≡◌, ℕ, ◌%◌, ◌≤◌, ◌⊎◌, List, [], ◌∷◌, Result, Ok, Err}
 use Rattle.std.specs.List.{Contains}
 use Rattle.std.specs.Result.{result_unwrap_or}
+use Rattle.serde_json.specs.Data.{Data}
 use Rattle.vm_allocator.specs.Range.{Range, MAX, span}
 use Rattle.vm_allocator.specs.Address.{AddressState}
 use Rattle.vm_allocator.specs.Request.{Request}
 use Rattle.vm_allocator.specs.Answer.{Allocates, Frees, Makes}
 use Rattle.vm_allocator.specs.Cloning.{Clones}
+use Rattle.vm_allocator.specs.SavedTree.{StatesAddresses}
 use Rattle.vm_allocator.specs.declared.error.Error.{Error}
 use Rattle.vm_allocator.specs.declared.error.Error.TheVariants.{OutOfMemory}
 
@@ -45,16 +47,29 @@ abbrev pub IsHistoryFrom : AddressState → List Call → AddressState → Type 
 IsHistoryFrom old [] new = new ≡ old
 IsHistoryFrom old (call ∷ calls) new = (mid : AddressState) × IsCallFrom old call mid × IsHistoryFrom mid calls new
 
--- the calls lead from a new allocator to the state, of it or of a clone that one of them made
-pub record IsReached (calls : List Call) (state : AddressState) : Type 0 where
+-- the state of a new allocator
+pub record IsMade (state : AddressState) : Type 0 where
   pub base : ℕ
   pub size : ℕ
   pub word : size ≤ MAX
+  pub made : Makes base size (Ok state)
+
+-- the state that a saved value states, and so that of the allocator read from it
+pub record IsRead (state : AddressState) : Type 0 where
+  pub value : Data
+  pub stated : StatesAddresses value state
+
+-- a history begins with an allocator that is new, or was read
+abbrev pub Begins : AddressState → Type 0
+Begins first = IsMade first ⊎ IsRead first
+
+-- the calls lead from an allocator that was made or read to the state, of it or of a clone that one of them made
+pub record IsReached (calls : List Call) (state : AddressState) : Type 0 where
   pub first : AddressState
-  pub made : Makes base size (Ok first)
+  pub begins : Begins first
   pub history : IsHistoryFrom first calls state
 
--- a state, and calls that lead to it from a new allocator
+-- a state, and calls that lead to it from an allocator that was made or read
 pub record Reached : Type 0 where
   pub calls : List Call
   pub state : AddressState
@@ -66,6 +81,11 @@ pub record WasGiven (calls : List Call) (r : Range) : Type 0 where
   pub call : Contains calls (Allocation request (Ok r))
   pub aligned : r.start % request.align ≡ 0
   pub long : r ≡ span r.start request.size
+
+-- a value that was read stated the range as held
+pub record WasStated (first : AddressState) (r : Range) : Type 0 where
+  pub read : IsRead first
+  pub held : Contains first.held r
 
 -- the ranges given back in this order, each with success
 abbrev pub releases : List Range → List Call

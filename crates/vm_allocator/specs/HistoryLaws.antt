@@ -1,7 +1,8 @@
--- What holds along every history of an address allocator, from a new one on.
+-- What holds along every history of an address allocator, from one on that was made or read.
 use Rattle.std.specs.Prelude.{◌≡◌, ◌≢◌, ℕ, ◌+◌, ◌-◌, ◌<◌, ◌≤◌, ◌⊎◌, ◌↔◌, List, [], ◌∷◌, ◌++◌, map, Result, Ok, Err}
 use Rattle.std.specs.List.{All, Contains}
 use Rattle.std.specs.List.Sorted.{IsPermutation}
+use Rattle.serde_json.specs.Data.{Data}
 use Rattle.vm_allocator.specs.Range.{Range, MAX, IsIn, span}
 use Rattle.vm_allocator.specs.Address.{AddressState, AreClear, IsPlace, IsLeastPlace, IsGreatestPlace, IsAddressState}
 use Rattle.vm_allocator.specs.Request.{Request, request_for, IsRequest, MakesConstraint}
@@ -9,7 +10,8 @@ use Rattle.vm_allocator.specs.Answer.{IsChosen, Takes, Allocates, Frees, Makes}
 use Rattle.vm_allocator.specs.Laws.{AgreeButForSplits, LieApart}
 use Rattle.vm_allocator.specs.Cloning.{Clones}
 use Rattle.vm_allocator.specs.Comparison.{AreEqual}
-use Rattle.vm_allocator.specs.Histories.{Call, Cloning, Asked, asked_by, RunsOutOfMemory, IsHistoryFrom, IsReached, Reached, WasGiven, releases}
+use Rattle.vm_allocator.specs.SavedTree.{StatesAddresses}
+use Rattle.vm_allocator.specs.Histories.{Call, Cloning, Asked, asked_by, RunsOutOfMemory, IsHistoryFrom, IsReached, Reached, WasGiven, WasStated, releases}
 use Rattle.vm_allocator.specs.declared.error.Error.{Error}
 use Rattle.vm_allocator.specs.declared.error.Error.TheVariants.{Overflow, ResourceNotAvailable, InvalidStateTransition, OutOfMemory}
 use Rattle.vm_allocator.specs.declared.allocation_engine.NodeState.TheVariants.{Allocated}
@@ -78,11 +80,13 @@ pub record RefusalsChangeNothing : Type 0 where
   pub release : (old : Reached) (new : AddressState) (r : Range) (e : Error) →
       Frees old.state r (Err e) new → new ≡ old.state
 
--- in each state the held ranges lie apart, and each was given as it was asked for
+-- in each state the held ranges lie apart, and each was given as it was asked for, or was held in the value from which
+-- the allocator was read
 pub record SlotsAreGood : Type 0 where
   pub state : (old : Reached) → IsAddressState old.state
   pub apart : (old : Reached) → LieApart old.state
-  pub given : (old : Reached) (r : Range) → Contains old.state.held r → WasGiven old.calls r
+  pub given : (old : Reached) (r : Range) → Contains old.state.held r →
+      WasGiven old.calls r ⊎ WasStated old.reached.first r
 
 -- one space, and the same held ranges
 pub record AreAlike (first second : AddressState) : Type 0 where
@@ -138,6 +142,10 @@ abbrev pub CloneIsReached : Type 0
 CloneIsReached =
     (old : Reached) (clone : AddressState) → Clones old.state (Ok clone) →
     (clone ≡ old.state) × IsReached (old.calls ++ Cloning (Ok clone) ∷ []) clone
+
+-- the state of an allocator that was read is reached, by no call
+abbrev pub ReadIsReached : Type 0
+ReadIsReached = (value : Data) (state : AddressState) → StatesAddresses value state → IsReached [] state
 
 -- allocators with one space and the same held ranges are equal, whatever the calls that led there
 abbrev pub OneEndIsEqual : Type 0

@@ -1,7 +1,9 @@
 -- Histories: calls of an id allocator, one after the other.
-use Rattle.std.specs.Prelude.{◌≡◌, ℕ, ◌≤◌, Bool, true, false, if◌then◌else◌, nat_eq, List, [], ◌∷◌, Result, Ok, Err}
+use Rattle.std.specs.Prelude.{◌≡◌, ℕ, ◌≤◌, ◌⊎◌, Bool, true, false, if◌then◌else◌, nat_eq, List, [], ◌∷◌, Result, Ok, Err}
 use Rattle.std.specs.Result.{result_unwrap_or}
+use Rattle.serde_json.specs.Data.{Data}
 use Rattle.vm_allocator.specs.Cloning.{Clones}
+use Rattle.vm_allocator.specs.SavedIds.{StatesIds}
 use Rattle.vm_allocator.specs.Ids.{MAX_ID, IdState, MakesIds, AllocatesId, FreesId}
 use Rattle.vm_allocator.specs.declared.error.Error.{Error}
 use Rattle.vm_allocator.specs.declared.error.Error.TheVariants.{OutOfMemory}
@@ -41,13 +43,22 @@ abbrev pub IsIdHistoryFrom : IdState → List IdCall → IdState → Type 0
 IsIdHistoryFrom old [] new = new ≡ old
 IsIdHistoryFrom old (call ∷ calls) new = (mid : IdState) × IsIdCallFrom old call mid × IsIdHistoryFrom mid calls new
 
--- the calls lead from a new allocator of ids to the state, of it or of a clone that one of them made
-pub record AreIdsReached (calls : List IdCall) (state : IdState) : Type 0 where
+-- the state of a new allocator of ids
+pub record AreIdsMade (state : IdState) : Type 0 where
   pub lo : ℕ
   pub hi : ℕ
   pub word : hi ≤ MAX_ID
+  pub made : MakesIds lo hi (Ok state)
+
+-- the state of ids that a saved value states, and so that of the allocator read from it
+pub record AreIdsRead (state : IdState) : Type 0 where
+  pub value : Data
+  pub stated : StatesIds value state
+
+-- the calls lead from an allocator of ids that was made or read to the state, of it or of a clone that one of them made
+pub record AreIdsReached (calls : List IdCall) (state : IdState) : Type 0 where
   pub first : IdState
-  pub made : MakesIds lo hi (Ok first)
+  pub begins : AreIdsMade first ⊎ AreIdsRead first
   pub history : IsIdHistoryFrom first calls state
 
 -- whether an id is held after a call, from whether it was before

@@ -1,9 +1,12 @@
--- What holds along every history of an id allocator, from a new one on.
+-- What holds along every history of an id allocator, from one on that was made or read.
 use Rattle.std.specs.Prelude.{◌≡◌, ◌≢◌, ℕ, ◌↔◌, List, [], ◌∷◌, ◌++◌, map, IsTrue, false, Result, Ok, Err}
 use Rattle.std.specs.List.{All, Contains}
+use Rattle.std.specs.FinSet as set
+use Rattle.serde_json.specs.Data.{Data}
 use Rattle.vm_allocator.specs.Ids.{IdState, IsHeld, IsLeastNotHeld, IsIdState, MakesIds, AllocatesId, PeeksId, FreesId}
 use Rattle.vm_allocator.specs.Cloning.{Clones}
-use Rattle.vm_allocator.specs.IdHistories.{IdCall, Allocation, Release, Cloning, IdAsked, id_asked_by, RunsOutOfMemory, IsIdHistoryFrom, AreIdsReached, is_out_after}
+use Rattle.vm_allocator.specs.SavedIds.{StatesIds}
+use Rattle.vm_allocator.specs.IdHistories.{IdCall, Allocation, Release, Cloning, IdAsked, id_asked_by, RunsOutOfMemory, IsIdHistoryFrom, AreIdsMade, AreIdsReached, is_out_after}
 use Rattle.vm_allocator.specs.declared.error.Error.{Error}
 use Rattle.vm_allocator.specs.declared.error.Error.TheVariants.{OutOfMemory}
 
@@ -20,11 +23,13 @@ NoIdIsHeldTwice =
     AreIdsReached (before ++ Allocation (Ok id) ∷ (between ++ Allocation (Ok id) ∷ [])) state →
     Contains between (Release id (Ok id))
 
--- an id is held exactly if it was given out and not given back since
-abbrev pub HeldIsOut : Type 0
-HeldIsOut =
-    (calls : List IdCall) (state : IdState) (id : ℕ) → AreIdsReached calls state →
-    IsHeld state id ↔ IsTrue (is_out_after id false calls)
+-- an id is held exactly if it was held at first or given out, and not given back since; in a new allocator none is held
+-- at first
+pub record HeldIsOut : Type 0 where
+  pub reached : (calls : List IdCall) (state : IdState) (id : ℕ) (reached : AreIdsReached calls state) →
+      IsHeld state id ↔ IsTrue (is_out_after id (set.contains reached.first.held id) calls)
+  pub made : (calls : List IdCall) (first state : IdState) (id : ℕ) → AreIdsMade first →
+      IsIdHistoryFrom first calls state → IsHeld state id ↔ IsTrue (is_out_after id false calls)
 
 -- the ids handed out are a front of the range in each state, and the held ones are among them
 unfoldable pub StatesAreOfIds : Type 0
@@ -51,3 +56,7 @@ abbrev pub IdCloneIsReached : Type 0
 IdCloneIsReached =
     (calls : List IdCall) (old clone : IdState) → AreIdsReached calls old → Clones old (Ok clone) →
     (clone ≡ old) × AreIdsReached (calls ++ Cloning (Ok clone) ∷ []) clone
+
+-- the state of an allocator of ids that was read is reached, by no call
+abbrev pub IdReadIsReached : Type 0
+IdReadIsReached = (value : Data) (state : IdState) → StatesIds value state → AreIdsReached [] state

@@ -34,3 +34,12 @@ pub mod Carving
 pub mod Walks
 pub mod Comparison
 pub mod Cloning
+pub mod SavedFields
+pub mod SavedRange
+pub mod SavedTree
+pub mod SavedIds
+pub mod Saving
+pub mod SavedChecks
+pub mod SavedIdChecks
+pub mod SavedParts
+pub mod SavedLaws

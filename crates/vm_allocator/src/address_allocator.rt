@@ -25,8 +25,8 @@ mod tests;
 /// each lies in the space, and none contains `u64::MAX`.
 #[derive(Debug, Drop)]
 pub struct AddressAllocator {
-    address_space: RangeInclusive,
-    interval_tree: IntervalTree,
+    pub(crate) address_space: RangeInclusive,
+    pub(crate) interval_tree: IntervalTree,
 }
 
 impl Model for AddressAllocator {

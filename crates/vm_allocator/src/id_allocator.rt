@@ -10,12 +10,12 @@ use std::marker::Model;
 /// Gives out the ids of a range, each to one holder at a time.
 #[derive(Debug, Drop)]
 pub struct IdAllocator {
-    range_base: u32,
+    pub(crate) range_base: u32,
     // The least id that was never handed out; none where that would pass `u32::MAX`.
-    next_id: Option<u32>,
-    range_end: u32,
+    pub(crate) next_id: Option<u32>,
+    pub(crate) range_end: u32,
     // The ids that were handed out and are not held any more.
-    freed_ids: BTreeSet<u32>,
+    pub(crate) freed_ids: BTreeSet<u32>,
 }
 
 impl Model for IdAllocator {

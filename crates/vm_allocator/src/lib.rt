@@ -8,6 +8,7 @@ mod error;
 mod id_allocator;
 mod laws;
 mod range;
+mod saved;
 
 pub use address_allocator::AddressAllocator;
 pub use address_allocator::held_ranges::HeldRanges;
@@ -15,6 +16,7 @@ pub use constraint::{AllocPolicy, Constraint, DEFAULT_CONSTRAINT_ALIGN};
 pub use error::{Error, Result};
 pub use id_allocator::IdAllocator;
 pub use range::RangeInclusive;
+pub use saved::ValueError;
 
 #[cfg(test)]
 mod tests;

@@ -29,6 +29,18 @@ pub(crate) fn made(rt: &(impl Abort + AllocGlobal), base: u64, size: u64) -> Add
     }
 }
 
+/// Whether these ranges are held, and no others.
+pub(crate) fn holds_just(space: &AddressAllocator, ranges: &[(u64, u64)]) -> bool {
+    let mut held = space.held_ranges();
+    for range in ranges {
+        match held.next() {
+            Some(next) if (next.start(), next.end()) == *range => {}
+            _ => return false,
+        }
+    }
+    held.next().is_none()
+}
+
 /// Asks for memory, whether it is there or not. tests/refused_memory refuses every later request.
 pub(crate) fn end_of_memory(alloc: Global) {
     let _ = Vec::<u8>::with_capacity(alloc, LAST_REQUEST);

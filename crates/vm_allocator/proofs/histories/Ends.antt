@@ -1,8 +1,8 @@
 -- Where a history ends: in a clone, or in a state that others end in.
-use Rattle.std.proofs.Common.{List, [], ◌∷◌, ◌++◌, refl, subst, Ok}
+use Rattle.std.proofs.Common.{List, [], ◌∷◌, ◌++◌, refl, subst, inr, Ok}
 use Rattle.vm_allocator.specs.Address.{AddressState}
 use Rattle.vm_allocator.specs.Histories.{Call, Cloning, IsHistoryFrom}
-use Rattle.vm_allocator.specs.HistoryLaws.{CloneIsReached, OneEndIsEqual, ReleaseMakesEqual, OrderOfReleasesMakesEqual}
+use Rattle.vm_allocator.specs.HistoryLaws.{CloneIsReached, ReadIsReached, OneEndIsEqual, ReleaseMakesEqual, OrderOfReleasesMakesEqual}
 use Rattle.vm_allocator.proofs.answers.Cloning.{clone_is}
 use Rattle.vm_allocator.proofs.comparing.States.{equal_states}
 use Rattle.vm_allocator.proofs.histories.Histories.{alike_state, release_undoes}
@@ -17,14 +17,14 @@ clone_is_reached old clone c =
     let r = old.reached in (
       clone_is old.state clone c,
       record {
-        base = r.base;
-        size = r.size;
-        word = r.word;
         first = r.first;
-        made = r.made;
+        begins = r.begins;
         history = history_append old.calls (Cloning (Ok clone) ∷ []) r.first old.state clone r.history (clone, (c, refl), refl);
       },
     )
+
+pub read_is_reached : ReadIsReached
+read_is_reached value state s = record { first = state; begins = inr (record { value = value; stated = s }); history = refl }
 
 pub one_end_is_equal : OneEndIsEqual
 one_end_is_equal first second h = equal_states first.state second.state (alike_state first second h)

@@ -5,11 +5,12 @@ use Rattle.vm_allocator.specs.Range.{Range, span}
 use Rattle.vm_allocator.specs.Address.{AddressState, IsPlace, IsAddressState}
 use Rattle.vm_allocator.specs.Request.{Request}
 use Rattle.vm_allocator.specs.Answer.{Allocates, Frees}
-use Rattle.vm_allocator.specs.Histories.{Call, Allocation, Release, Cloning, IsCallFrom, IsHistoryFrom, Reached, WasGiven}
+use Rattle.vm_allocator.specs.Histories.{Call, Allocation, Release, Cloning, IsCallFrom, IsHistoryFrom, Begins, Reached, WasGiven, WasStated}
 use Rattle.vm_allocator.specs.HistoryLaws.{SlotsAreGood, AreAlike, StateDecides, ReleaseUndoes}
 use Rattle.vm_allocator.specs.declared.error.Error.{Error}
 use Rattle.vm_allocator.proofs.blocks.Words.{IsHeld, contains_held, held_contains}
 use Rattle.vm_allocator.proofs.answers.Outcomes.{IsRefused}
+use Rattle.vm_allocator.proofs.saving.Allocators.{stated_state}
 use Rattle.vm_allocator.proofs.answers.Cloning.{cloning_keeps}
 use Rattle.vm_allocator.proofs.answers.Once.{allocates_once, frees_once}
 use Rattle.vm_allocator.proofs.blocks.HeldSets.{same_slots}
@@ -26,9 +27,13 @@ pub history_state : (calls : List Call) (first last : AddressState) → IsHistor
 history_state [] first last h i = subst IsAddressState (sym h) i
 history_state (call ∷ calls) first last h i = history_state calls h.0 last h.2 (call_state first h.0 call h.1 i)
 
+first_state : (first : AddressState) → Begins first → IsAddressState first
+first_state first (inl m) = made_state m.base m.size first m.word m.made
+first_state first (inr r) = subst IsAddressState r.stated.is (stated_state r.value r.stated.allocator r.stated.stated)
+
 pub reached_state : (old : Reached) → IsAddressState old.state
 reached_state old =
-    let r = old.reached in history_state old.calls r.first old.state r.history (made_state r.base r.size r.first r.word r.made)
+    let r = old.reached in history_state old.calls r.first old.state r.history (first_state r.first r.begins)
 
 -- ---- the held ranges
 -- what a call gave a longer list of calls gave
@@ -71,14 +76,17 @@ history_gives (call ∷ calls) first last r s h =
     (λ (g : WasGiven calls r). inr (given_later call calls r g))
     (history_gives calls s.0 last r s.2 h)
 
--- a new allocator holds none, so each held range was given
-reached_given : (old : Reached) (r : Range) → Contains old.state.held r → WasGiven old.calls r
+-- a new allocator holds none, so each held range was given, or stated by the value that was read
+first_holds : (first : AddressState) (r : Range) → Begins first → IsHeld first.held r → WasStated first r
+first_holds first r (inl m) k = absurd (subst (λ (v : AddressState). IsHeld v.held r) (made_is m.base m.size first m.made).2 k)
+first_holds first r (inr read) k = record { read = read; held = contains_held first.held r k }
+
+reached_given : (old : Reached) (r : Range) → Contains old.state.held r → WasGiven old.calls r ⊎ WasStated old.reached.first r
 reached_given old r c =
     let h = old.reached in
-    let made = made_is h.base h.size h.first h.made in
     ⊎_elim
-    (λ (k : IsHeld h.first.held r). absurd (subst (λ (v : AddressState). IsHeld v.held r) made.2 k))
-    (λ (g : WasGiven old.calls r). g)
+    (λ (k : IsHeld h.first.held r). inr (first_holds h.first r h.begins k))
+    (λ (g : WasGiven old.calls r). inl g)
     (history_gives old.calls h.first old.state r h.history (held_contains old.state.held r c))
 
 pub slots_good : SlotsAreGood

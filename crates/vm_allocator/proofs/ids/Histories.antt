@@ -1,16 +1,17 @@
 -- What holds along every history of an id allocator.
-use Rattle.std.proofs.Common.{◌≡◌, ◌≢◌, ℕ, Bool, true, false, cond, nat_eq, refl, sym, ap, ◌∙◌, subst, arith, inl, inr, ⊎_elim, List, [], ◌∷◌, ◌++◌, Ok, Err}
+use Rattle.std.proofs.Common.{◌≡◌, ◌≢◌, ◌⊎◌, ℕ, Bool, true, false, cond, nat_eq, refl, sym, ap, ◌∙◌, subst, arith, inl, inr, ⊎_elim, List, [], ◌∷◌, ◌++◌, Ok, Err}
 use Rattle.std.proofs.lemmas.Bool.{cases_eq, cases_Bool, both_ways, cond-true, cond-false, eq-eqb, ne_eqb, false_from_ne_true}
 use Rattle.std.proofs.lemmas.List.Elements.{Contains-append_right}
 use Rattle.std.specs.List.{Contains}
 use Rattle.std.specs.Ordering.{nat_cmp}
 use Rattle.std.specs.FinSet as set
 use Rattle.vm_allocator.specs.Ids.{IdState, IsHeld, IsLeastNotHeld, IsIdState, fresh_ids, MakesIds, ByLeastNotHeld, AllocatesId, FreesId}
-use Rattle.vm_allocator.specs.IdHistories.{IdCall, Allocation, Release, Cloning, IsIdCallFrom, IsIdHistoryFrom, AreIdsReached, is_held_after, is_out_after}
-use Rattle.vm_allocator.specs.IdHistoryLaws.{IdCloneIsReached, EachIsLeastNotHeld, NoIdIsHeldTwice, HeldIsOut, StatesAreOfIds}
+use Rattle.vm_allocator.specs.IdHistories.{IdCall, Allocation, Release, Cloning, IsIdCallFrom, IsIdHistoryFrom, AreIdsMade, AreIdsRead, AreIdsReached, is_held_after, is_out_after}
+use Rattle.vm_allocator.specs.IdHistoryLaws.{EachIsLeastNotHeld, NoIdIsHeldTwice, HeldIsOut, StatesAreOfIds}
 use Rattle.vm_allocator.specs.declared.error.Error.{Error}
-use Rattle.vm_allocator.proofs.answers.Cloning.{clone_is, cloning_keeps}
+use Rattle.vm_allocator.proofs.answers.Cloning.{cloning_keeps}
 use Rattle.vm_allocator.proofs.ids.Sets.{same_test}
+use Rattle.vm_allocator.proofs.saving.IdStates.{stated_state}
 use Rattle.vm_allocator.proofs.ids.Answers.{front_is_kept, allocating_adds, freeing_takes}
 
 -- What one call says.
@@ -63,12 +64,13 @@ history_state [] first last s e = subst IsIdState (sym e) s
 history_state (call ∷ calls) first last s history =
     history_state calls history.0 last (call_state call first history.0 s history.1) history.2
 
-first_state : (calls : List IdCall) (state : IdState) (r : AreIdsReached calls state) → IsIdState r.first
-first_state calls state r = front_is_kept.made r.lo r.hi r.first r.word r.made
+first_state : (first : IdState) → AreIdsMade first ⊎ AreIdsRead first → IsIdState first
+first_state first (inl m) = front_is_kept.made m.lo m.hi first m.word m.made
+first_state first (inr r) = stated_state r.value first r.stated
 
 pub states_are_of_ids : StatesAreOfIds
 unfolding StatesAreOfIds
-states_are_of_ids calls state r = history_state calls r.first state (first_state calls state r) r.history
+states_are_of_ids calls state r = history_state calls r.first state (first_state r.first r.begins) r.history
 
 -- An id is held exactly if it is out.
 
@@ -112,34 +114,17 @@ none_held_at_first lo hi first id (inr a) =
     let same : first ≡ fresh_ids lo hi = cc (a.1) in
     same_held (fresh_ids lo hi) first id same ∙ set.contains-empty nat_cmp id
 
-held_from_first : (calls : List IdCall) (state : IdState) (id : ℕ) → AreIdsReached calls state → set.contains state.held id ≡ is_out_after id false calls
-held_from_first calls state id r =
-    held_after_history calls r.first state id (first_state calls state r) r.history
-    ∙ ap (λ (b : Bool). is_out_after id b calls) (none_held_at_first r.lo r.hi r.first id r.made)
-
 pub held_is_out : HeldIsOut
-held_is_out calls state id r = let e = held_from_first calls state id r in (λ h. sym e ∙ h, λ h. e ∙ h)
+held_is_out = record {
+  reached = λ calls state id r.
+      let e = held_after_history calls r.first state id (first_state r.first r.begins) r.history in
+      (λ h. sym e ∙ h, λ h. e ∙ h);
+  made = λ calls first state id m history.
+      let e = held_after_history calls first state id (first_state first (inl m)) history ∙ ap (λ (b : Bool). is_out_after id b calls) (none_held_at_first m.lo m.hi first id m.made) in
+      (λ h. sym e ∙ h, λ h. e ∙ h);
+}
 
 pub ruleset held_ids = (held_is_out, states_are_of_ids)
-
--- A clone of what is reached is reached.
-
-history_append : (xs ys : List IdCall) (first mid last : IdState) → IsIdHistoryFrom first xs mid → IsIdHistoryFrom mid ys last → IsIdHistoryFrom first (xs ++ ys) last
-history_append [] ys first mid last h k = subst (λ (v : IdState). IsIdHistoryFrom v ys last) h k
-history_append (x ∷ xs) ys first mid last h k = (h.0, h.1, history_append xs ys h.0 mid last h.2 k)
-
-pub clone_is_reached : IdCloneIsReached
-clone_is_reached calls old clone r c = (
-  clone_is old clone c,
-  record {
-    lo = r.lo;
-    hi = r.hi;
-    word = r.word;
-    first = r.first;
-    made = r.made;
-    history = history_append calls (Cloning (Ok clone) ∷ []) r.first old clone r.history (clone, (c, refl), refl);
-  },
-)
 
 -- The ids that are given.
 
@@ -194,6 +179,6 @@ pub no_id_is_held_twice : NoIdIsHeldTwice
 unfolding NoIdIsHeldTwice
 no_id_is_held_twice before between state id r =
     let cut = state_between before (Allocation (Ok id) ∷ (between ++ Allocation (Ok id) ∷ [])) r.first state r.history in
-    given_twice between cut.0 state id (history_state before r.first cut.0 (first_state _ state r) cut.1) cut.2
+    given_twice between cut.0 state id (history_state before r.first cut.0 (first_state r.first r.begins) cut.1) cut.2
 
 pub ruleset least_ids = (each_is_least, no_id_is_held_twice)

@@ -13,7 +13,7 @@ use Rattle.vm_allocator.specs.Ids.{IsHandedOut, IsHeld, bound_of, held_of, ids_o
 tied_here : (i : ℕ) → eq_by_cmp nat_cmp i i ≡ true
 tied_here i = unsigned_tied i i ∙ eq-eqb i i refl
 
-tied_is : (i j : ℕ) → eq_by_cmp nat_cmp i j ≡ true → i ≡ j
+pub tied_is : (i j : ℕ) → eq_by_cmp nat_cmp i j ≡ true → i ≡ j
 tied_is i j e = eqb-true i j (sym (unsigned_tied i j) ∙ e)
 
 apart_not_tied : (i j : ℕ) → (i ≡ j → ⊥) → eq_by_cmp nat_cmp i j ≡ false

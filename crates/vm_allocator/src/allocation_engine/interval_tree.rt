@@ -30,7 +30,7 @@ pub(crate) mod tests;
 /// The blocks of a space of addresses, in a balanced tree.
 #[derive(Debug, Drop)]
 pub struct IntervalTree {
-    root: Child,
+    pub(crate) root: Child,
 }
 
 impl Model for IntervalTree {
@@ -82,7 +82,7 @@ impl IntervalTree {
 
     /// The root, which is always there.
     #[tactic(auto, using(crate::proofs::nodes::Spaces::rooted))]
-    fn root(&self) -> &InnerNode
+    pub(crate) fn root(&self) -> &InnerNode
         ensures value { result.now ≡ self.now }
         ensures space { IsSpaceTree self.now }
     {

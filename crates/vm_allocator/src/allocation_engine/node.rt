@@ -1,9 +1,9 @@
 //! A balanced search tree of blocks. Each function in here that calls itself counts the nodes that
 //! it enters: `count` rises by one for each, in `enter` alone.
-ghost use Rattle.std.specs.Prelude.{◌≡◌, ◌+◌, ◌<◌, ◌≤◌, ◌↔◌, IsNone};
+ghost use Rattle.std.specs.Prelude.{◌≡◌, ◌+◌, ◌<◌, ◌≤◌, ◌^◌, ◌↔◌, max, IsNone, MatchResult};
 ghost use Rattle.vm_allocator.specs.Range.{MAX};
 ghost use Rattle.vm_allocator.specs.Block.{free_length};
-ghost use Rattle.vm_allocator.specs.Shape.{Tip, height_of, max_free_of, single, root_block, IsTree};
+ghost use Rattle.vm_allocator.specs.Shape.{Tip, Fork, height_of, max_free_of, single, root_block, IsTree};
 ghost use Rattle.vm_allocator.specs.NodeFields.{side};
 
 mod balance;
@@ -21,7 +21,9 @@ mod tests;
 pub(crate) mod walks;
 
 use crate::allocation_engine::NodeState;
+use crate::error::{Error, Result};
 use crate::range::RangeInclusive;
+use std::alloc::Global;
 use std::marker::Model;
 
 /// A node of the tree, with the tree below it: keys in order without an address in common, the
@@ -72,6 +74,38 @@ impl InnerNode {
             right: None,
             height: 1,
             max_free: free_length(&key, node_state),
+        }
+    }
+
+    /// A node over children whose heights are at most one apart, and between whose keys its own lies.
+    /// `OutOfMemory` where there is no memory for it.
+    pub(crate) fn with_children(
+        alloc: Global,
+        left: Child,
+        key: RangeInclusive,
+        node_state: NodeState,
+        right: Child,
+    ) -> Result<Box<InnerNode>>
+        requires tree { IsTree (Fork (side left) (record { key = key; state = node_state }) (side right)) }
+        requires height_fits { max (height_of (side left)) (height_of (side right)) + 1 < 2 ^ 64 }
+        ensures { MatchResult result
+            (λ node. node.value ≡ Fork (side left) (record { key = key; state = node_state }) (side right))
+            (λ error. error ≡ Error.OutOfMemory) }
+    {
+        let height = height(&left).max(height(&right)) + 1;
+        let own = free_length(&key, node_state);
+        let max_free = max_free(&left).max(max_free(&right)).max(own);
+        let node = InnerNode {
+            key,
+            node_state,
+            left,
+            right,
+            height,
+            max_free,
+        };
+        match Box::new(alloc, node) {
+            Ok(node) => Ok(node),
+            Err(_) => Err(Error::OutOfMemory),
         }
     }
 

@@ -1,6 +1,6 @@
-//! Laws of whole histories: every list of calls of an address allocator, from a new one on, clones
-//! made on the way among them.
-ghost use Rattle.vm_allocator.specs.HistoryLaws.{FirstIsLeast, LastIsGreatest, ExactIsNamed, PlacesAnswer, RefusalsChangeNothing, SlotsAreGood, StateDecides, ReleaseUndoes, OrderOfReleasesIsFree, EveryCallIsAnswered, EveryListHasHistory, CloneIsReached, OneEndIsEqual, ReleaseMakesEqual, OrderOfReleasesMakesEqual};
+//! Laws of whole histories: every list of calls of an address allocator, from one on that was made or
+//! read, clones made on the way among them.
+ghost use Rattle.vm_allocator.specs.HistoryLaws.{FirstIsLeast, LastIsGreatest, ExactIsNamed, PlacesAnswer, RefusalsChangeNothing, SlotsAreGood, StateDecides, ReleaseUndoes, OrderOfReleasesIsFree, EveryCallIsAnswered, EveryListHasHistory, CloneIsReached, ReadIsReached, OneEndIsEqual, ReleaseMakesEqual, OrderOfReleasesMakesEqual};
 
 /// In every history `FirstMatch` gives the least place, `LastMatch` the greatest and `ExactMatch` the
 /// named one.
@@ -16,8 +16,8 @@ fn places_answer()
     ensures refusals { RefusalsChangeNothing }
 {}
 
-/// The held ranges have no address in common, lie in the space, do not contain `u64::MAX`, and are
-/// aligned and as long as was asked.
+/// The held ranges have no address in common, lie in the space and do not contain `u64::MAX`; each is
+/// aligned and as long as was asked, or was stated by the value that was read.
 #[tactic(auto, using(crate::proofs::histories::Histories::slots_good))]
 fn slots_are_good()
     ensures { SlotsAreGood }
@@ -45,6 +45,11 @@ fn every_call_is_answered()
 /// A clone is reached as its original is, so all that holds of every history holds of clones.
 fn clones_are_reached()
     ensures { CloneIsReached }
+{}
+
+/// An allocator that was read is reached too, by no call, so all that holds of every history holds of it.
+fn reads_are_reached()
+    ensures { ReadIsReached }
 {}
 
 /// Allocators that hold the same are equal, whatever the order and the kind of the calls before.

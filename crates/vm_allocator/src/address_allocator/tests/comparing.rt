@@ -1,6 +1,6 @@
 //! Equality, order and clones, and what is held.
 use super::*;
-use crate::tests::balance;
+use crate::tests::{balance, holds_just};
 use std::cmp::Ordering;
 
 /// The allocator that the calls lead to.
@@ -10,18 +10,6 @@ fn reached(rt: &(impl Abort + AllocGlobal), calls: &[Call]) -> Result<AddressAll
         ask(rt, &mut space, *call)?;
     }
     Ok(space)
-}
-
-/// Whether these ranges are held, and no others.
-pub(crate) fn holds_just(space: &AddressAllocator, ranges: &[(u64, u64)]) -> bool {
-    let mut held = space.held_ranges();
-    for range in ranges {
-        match held.next() {
-            Some(next) if (next.start(), next.end()) == *range => {}
-            _ => return false,
-        }
-    }
-    held.next().is_none()
 }
 
 /// [1, 1] and [6, 6] held in [0, 7], by two calls.

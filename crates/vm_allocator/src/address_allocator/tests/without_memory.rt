@@ -1,7 +1,6 @@
 //! What asks for no memory. tests/refused_memory refuses every request after `end_of_memory`.
-use super::comparing::holds_just;
 use super::*;
-use crate::tests::end_of_memory;
+use crate::tests::{end_of_memory, holds_just};
 use std::cmp::Ordering;
 
 /// Does the calls in turn, each with the answer that it has to have, memory or not.

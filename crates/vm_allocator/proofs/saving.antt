@@ -1,0 +1,13 @@
+pub mod Fields
+pub mod Ranges
+pub mod States
+pub mod Fronts
+pub mod Trees
+pub mod OneTree
+pub mod Writing
+pub mod Numbers
+pub mod Rising
+pub mod Ids
+pub mod IdStates
+pub mod Again
+pub mod Allocators

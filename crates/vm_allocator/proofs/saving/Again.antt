@@ -1,0 +1,46 @@
+-- What is written is read again.
+use Rattle.std.proofs.Common.{◌≡◌, ap, inl, inr, refl, Result, Ok, Err}
+use Rattle.serde_json.specs.View.{view}
+use Rattle.serde_json.specs.Data.{Data}
+use Rattle.vm_allocator.specs.SavedRange.{StatesRange, StatesState}
+use Rattle.vm_allocator.specs.SavedTree.{StatesAllocator}
+use Rattle.vm_allocator.specs.SavedIds.{StatesIds}
+use Rattle.vm_allocator.specs.SavedLaws.{StatesOne, ReadsWritten}
+use Rattle.vm_allocator.specs.declared.saved.ValueError.TheVariants.{NotAState, OutOfMemory}
+use Rattle.vm_allocator.proofs.saving.Ranges.{one_range}
+use Rattle.vm_allocator.proofs.saving.States.{one_state}
+use Rattle.vm_allocator.proofs.saving.Allocators.{one_allocator}
+use Rattle.vm_allocator.proofs.saving.IdStates.{one_stated}
+
+pub one_range_stated : StatesOne StatesRange
+one_range_stated = one_range
+
+pub one_state_stated : StatesOne StatesState
+one_state_stated = one_state
+
+pub one_allocator_stated : StatesOne StatesAllocator
+one_allocator_stated = one_allocator
+
+pub one_ids_stated : StatesOne StatesIds
+one_ids_stated = one_stated
+
+pub ruleset one_object = (one_range_stated, one_state_stated, one_allocator_stated, one_ids_stated)
+
+again : {X : Type 0} (States : Data → X → Type 0) → StatesOne States → ReadsWritten States
+again States one old value (Ok x) w r = inl (ap Ok (one (view value) x old r w))
+again States one old value (Err NotAState) w r = absurd (r (old, w))
+again States one old value (Err OutOfMemory) w r = inr refl
+
+pub range_again : ReadsWritten StatesRange
+range_again = again StatesRange one_range
+
+pub state_again : ReadsWritten StatesState
+state_again = again StatesState one_state
+
+pub allocator_again : ReadsWritten StatesAllocator
+allocator_again = again StatesAllocator one_allocator
+
+pub ids_again : ReadsWritten StatesIds
+ids_again = again StatesIds one_stated
+
+pub ruleset read_again = (range_again, state_again, allocator_again, ids_again)

@@ -1,0 +1,24 @@
+//! Laws of saved values.
+ghost use Rattle.vm_allocator.specs.SavedRange.{StatesRange, StatesState};
+ghost use Rattle.vm_allocator.specs.SavedTree.{StatesAllocator};
+ghost use Rattle.vm_allocator.specs.SavedIds.{StatesIds};
+ghost use Rattle.vm_allocator.specs.SavedLaws.{StatesOne, ReadsWritten};
+
+/// A value states one object of a type at most.
+#[tactic(auto, using(crate::proofs::saving::Again::one_object))]
+fn values_state_one()
+    ensures ranges { StatesOne StatesRange }
+    ensures states { StatesOne StatesState }
+    ensures allocators { StatesOne StatesAllocator }
+    ensures ids { StatesOne StatesIds }
+{}
+
+/// What `to_value` writes of an object `from_value` reads as this object, node for node, unless it is
+/// refused memory.
+#[tactic(auto, using(crate::proofs::saving::Again::read_again))]
+fn written_is_read()
+    ensures ranges { ReadsWritten StatesRange }
+    ensures states { ReadsWritten StatesState }
+    ensures allocators { ReadsWritten StatesAllocator }
+    ensures ids { ReadsWritten StatesIds }
+{}

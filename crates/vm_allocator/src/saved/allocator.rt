@@ -1,0 +1,117 @@
+//! The saved form of an address allocator.
+ghost use Rattle.std.specs.Prelude.{◌≡◌, IfOk, is_some, option_map};
+ghost use Rattle.serde_json.specs.View.{view};
+ghost use Rattle.vm_allocator.specs.Address.{IsAddressState};
+ghost use Rattle.vm_allocator.specs.Allocator.{state_of, made_state};
+ghost use Rattle.vm_allocator.specs.SavedTree.{StatesAllocator, StatesAddresses};
+ghost use Rattle.vm_allocator.specs.SavedParts.{AllocatorParts};
+ghost use Rattle.vm_allocator.specs.SavedChecks.{allocator_found, root_found, root_fitting};
+ghost use Rattle.vm_allocator.specs.Saving.{Saves, Reads};
+
+use super::ValueError;
+use super::fields::{has_fields, range_in};
+use super::tree::{Front, build, check};
+use crate::address_allocator::AddressAllocator;
+use crate::allocation_engine::node::walks::saving::save;
+use crate::allocation_engine::{IntervalTree, NodeState};
+use crate::error::{Error, Result};
+use crate::range::RangeInclusive;
+use serde_json::{Value, json};
+use std::alloc::{AllocError, Global};
+
+/// No node of a saved tree is nested deeper, since no tree of an allocator is higher.
+const MOST_NESTED: u64 = 49;
+
+impl AddressAllocator {
+    /// The value that states the allocator: its space, and its tree node for node. `OutOfMemory` where
+    /// there is no memory for it.
+    #[tactic(auto, using(crate::proofs::saving::Writing::allocators))]
+    pub fn to_value(&self, alloc: Global) -> Result<Value>
+        ensures { Saves (λ d. StatesAllocator d self.now) result }
+    {
+        let _ = self.interval_tree.height();
+        let root = save(self.interval_tree.root(), alloc)?;
+        let space = self.address_space.to_value(alloc)?;
+        match save_allocator(alloc, space, root) {
+            Ok(value) => Ok(value),
+            Err(_) => Err(Error::OutOfMemory),
+        }
+    }
+
+    /// The allocator that a value states: its space and held ranges, in a tree of the same nodes.
+    /// `NotAState` where the value states none, and else `OutOfMemory` where there is no memory for the
+    /// tree. To find out which takes no memory and goes down at most 50 levels of the value.
+    pub fn from_value(alloc: Global, value: &Value) -> std::result::Result<Self, ValueError>
+        ensures answer { Reads (StatesAddresses (view value.now)) (made_state result) }
+        ensures tree { Reads (StatesAllocator (view value.now)) result }
+        ensures state { IfOk result (λ allocator. IsAddressState (state_of allocator)) }
+    {
+        let Some(checked) = check_allocator(value) else {
+            return Err(ValueError::NotAState);
+        };
+        let Ok(root) = build(checked.root, MOST_NESTED, alloc) else {
+            return Err(ValueError::OutOfMemory);
+        };
+        Ok(AddressAllocator {
+            address_space: checked.space,
+            interval_tree: IntervalTree { root },
+        })
+    }
+}
+
+/// The object of an allocator's fields.
+fn save_allocator(
+    alloc: Global,
+    space: Value,
+    root: Value,
+) -> std::result::Result<Value, AllocError>
+    ensures { IfOk result (λ value. AllocatorParts (view value) (view space) (view root)) }
+{
+    json!(in alloc; {"address_space": space, "interval_tree": {"root": root}})
+}
+
+/// The space that a value states, and the root of its tree; both are checked.
+#[derive(Drop)]
+struct CheckedAllocator<'a> {
+    space: RangeInclusive,
+    root: &'a Value,
+}
+
+/// The space that a value states, and the root of its tree.
+fn check_allocator(value: &Value) -> Option<CheckedAllocator<'_>>
+    ensures { option_map (λ c. (c.space, view c.root.now)) result ≡ allocator_found (view value.now) }
+{
+    if !has_fields(value, 2) {
+        return None;
+    }
+    let space = range_in(value, "address_space")?;
+    let root = root_of(value.get("interval_tree")?)?;
+    if !fits(&space, root) {
+        return None;
+    }
+    Some(CheckedAllocator { space, root })
+}
+
+/// The root of a tree's value.
+fn root_of(tree: &Value) -> Option<&Value>
+    ensures { option_map (λ v. view v.now) result ≡ root_found (view tree.now) }
+{
+    if !has_fields(tree, 1) {
+        return None;
+    }
+    tree.get("root")
+}
+
+/// Whether the tree of this root is one, with blocks from the start to the end of the space.
+fn fits(space: &RangeInclusive, root: &Value) -> bool
+    ensures { result ≡ is_some (root_fitting space.now (view root.now)) }
+{
+    let before = Front {
+        next: space.start().into(),
+        before: NodeState::Allocated,
+    };
+    let Some(found) = check(root, MOST_NESTED, before) else {
+        return false;
+    };
+    found.front.next == u128::from(space.end()) + 1
+}

@@ -1,0 +1,55 @@
+//! The saved form of a range.
+ghost use Rattle.std.specs.Prelude.{◌≡◌, ◌≢◌, Err};
+ghost use Rattle.serde_json.specs.View.{view};
+ghost use Rattle.vm_allocator.specs.SavedRange.{StatesRange};
+ghost use Rattle.vm_allocator.specs.SavedChecks.{range_found};
+ghost use Rattle.vm_allocator.specs.Saving.{Saves, Reads};
+
+use super::ValueError;
+use super::fields::{has_fields, number_in};
+use crate::error::{Error, Result};
+use crate::range::RangeInclusive;
+use serde_json::{Value, json};
+use std::alloc::Global;
+
+impl RangeInclusive {
+    /// The value that states the range: an object of `start` and `end`. `OutOfMemory` where there is no
+    /// memory for it.
+    #[tactic(auto)]
+    pub fn to_value(&self, alloc: Global) -> Result<Value>
+        ensures { Saves (λ d. StatesRange d self.now) result }
+    {
+        match json!(in alloc; {"start": self.start(), "end": self.end()}) {
+            Ok(value) => Ok(value),
+            Err(_) => Err(Error::OutOfMemory),
+        }
+    }
+
+    /// The range that a value states. `NotAState` where it states none. It takes no memory.
+    #[tactic(auto, using(crate::proofs::saving::Ranges::read))]
+    pub fn from_value(_alloc: Global, value: &Value) -> std::result::Result<Self, ValueError>
+        ensures answer { Reads (StatesRange (view value.now)) result }
+        ensures memory { result ≢ Err ValueError.OutOfMemory }
+    {
+        match RangeInclusive::stated_by(value) {
+            Some(range) => Ok(range),
+            None => Err(ValueError::NotAState),
+        }
+    }
+
+    /// The range that a value states.
+    #[tactic(auto, using(crate::proofs::saving::Ranges::made))]
+    pub(super) fn stated_by(value: &Value) -> Option<RangeInclusive>
+        ensures { result ≡ range_found (view value.now) }
+    {
+        if !has_fields(value, 2) {
+            return None;
+        }
+        let start = number_in(value, "start")?;
+        let end = number_in(value, "end")?;
+        match RangeInclusive::new(start, end) {
+            Ok(range) => Some(range),
+            Err(_) => None,
+        }
+    }
+}

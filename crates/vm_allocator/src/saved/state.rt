@@ -1,0 +1,52 @@
+//! The saved form of a state.
+ghost use Rattle.std.specs.Prelude.{◌≡◌, ◌≢◌, Err};
+ghost use Rattle.serde_json.specs.View.{view};
+ghost use Rattle.vm_allocator.specs.SavedRange.{StatesState};
+ghost use Rattle.vm_allocator.specs.SavedChecks.{state_found};
+ghost use Rattle.vm_allocator.specs.Saving.{Saves, Reads};
+
+use super::ValueError;
+use crate::allocation_engine::NodeState;
+use crate::error::{Error, Result};
+use serde_json::Value;
+use std::alloc::Global;
+
+impl NodeState {
+    /// The value that states the state: the text `Free` or the text `Allocated`. `OutOfMemory` where
+    /// there is no memory for it.
+    pub fn to_value(&self, alloc: Global) -> Result<Value>
+        ensures { Saves (λ d. StatesState d self.now) result }
+    {
+        let name = match self {
+            NodeState::Free => "Free",
+            NodeState::Allocated => "Allocated",
+        };
+        match Value::try_from_str(alloc, name) {
+            Ok(value) => Ok(value),
+            Err(_) => Err(Error::OutOfMemory),
+        }
+    }
+
+    /// The state that a value states. `NotAState` where it states none. It takes no memory.
+    #[tactic(auto, using(crate::proofs::saving::States::read))]
+    pub fn from_value(_alloc: Global, value: &Value) -> std::result::Result<Self, ValueError>
+        ensures answer { Reads (StatesState (view value.now)) result }
+        ensures memory { result ≢ Err ValueError.OutOfMemory }
+    {
+        match NodeState::stated_by(value) {
+            Some(state) => Ok(state),
+            None => Err(ValueError::NotAState),
+        }
+    }
+
+    /// The state that a value states.
+    pub(super) fn stated_by(value: &Value) -> Option<NodeState>
+        ensures { result ≡ state_found (view value.now) }
+    {
+        match value.as_str() {
+            Some("Free") => Some(NodeState::Free),
+            Some("Allocated") => Some(NodeState::Allocated),
+            _ => None,
+        }
+    }
+}
