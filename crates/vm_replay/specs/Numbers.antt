@@ -1,5 +1,5 @@
 -- What a word says as a number.
-use Rattle.std.specs.Prelude.{ℕ, ◌+◌, ◌-◌, ◌*◌, ◌^◌, Bool, ◌&&◌, if◌then◌else◌, nat_lt, nat_le, List, [], ◌∷◌, length, Option, Some, None}
+use Rattle.std.specs.Prelude.{ℕ, ◌+◌, ◌-◌, ◌*◌, ◌^◌, Bool, ◌&&◌, if◌then◌else◌, nat_lt, nat_le, List, [], ◌∷◌, length, take, Option, Some, None, MatchOption, ◌≡◌}
 use Rattle.std.specs.List.{list_all, prefix_len}
 
 -- the byte of the digit 0
@@ -42,3 +42,10 @@ number_of word = number_below (2 ^ 64) word
 -- the value of a numeral of 32 bits
 abbrev pub id_of : List ℕ → Option ℕ
 id_of word = number_below (2 ^ 32) word
+
+-- the number that the digits at the front of a text say, and how many digits they are
+abbrev pub IsNumberAhead : List ℕ → Option (ℕ × ℕ) → Type 0
+IsNumberAhead text result =
+    MatchOption result
+    (number_of (take (digits_ahead text) text) ≡ None)
+    (λ found. (number_of (take (digits_ahead text) text) ≡ Some found.0) × (found.1 ≡ digits_ahead text))

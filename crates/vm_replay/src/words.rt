@@ -65,6 +65,7 @@ pub fn two_numbers(text: &[u8]) -> Option<(u64, u64)>
 }
 
 /// The numbers that the words of a text say, where they are three.
+#[inline(always)]
 #[tactic(auto, using(crate::proofs::FirstNumber::three_none, crate::proofs::FirstNumber::three_some))]
 pub fn three_numbers(text: &[u8]) -> Option<(u64, u64, u64)>
     ensures { result ≡ three_in number_of (words_of text.now) }
