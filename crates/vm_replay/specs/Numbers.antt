@@ -1,6 +1,6 @@
 -- What a word says as a number.
-use Rattle.std.specs.Prelude.{ℕ, ◌+◌, ◌-◌, ◌*◌, ◌^◌, Bool, ◌&&◌, if◌then◌else◌, nat_lt, nat_le, List, [], ◌∷◌, length, take, Option, Some, None, MatchOption, ◌≡◌}
-use Rattle.std.specs.List.{list_all, prefix_len}
+use Rattle.std.specs.Prelude.{ℕ, ◌+◌, ◌-◌, ◌*◌, ◌^◌, Bool, ◌&&◌, if◌then◌else◌, nat_lt, nat_le, List, [], ◌∷◌, length, Option, Some, None}
+use Rattle.std.specs.List.{list_all}
 
 -- the byte of the digit 0
 abbrev pub digit_zero : ℕ
@@ -27,10 +27,6 @@ value_from before (digit ∷ digits) = value_from (before * 10 + (digit - digit_
 abbrev pub is_numeral : List ℕ → Bool
 is_numeral word = nat_le 1 (length word) && nat_le (length word) most_digits && list_all is_digit word
 
--- how many digits stand at the front of a text
-abbrev pub digits_ahead : List ℕ → ℕ
-digits_ahead text = prefix_len is_digit text
-
 -- the value of a numeral, where it is below the bound
 abbrev pub number_below : ℕ → List ℕ → Option ℕ
 number_below bound word = if is_numeral word && nat_lt (value_from 0 word) bound then Some (value_from 0 word) else None
@@ -42,10 +38,3 @@ number_of word = number_below (2 ^ 64) word
 -- the value of a numeral of 32 bits
 abbrev pub id_of : List ℕ → Option ℕ
 id_of word = number_below (2 ^ 32) word
-
--- the number that the digits at the front of a text say, and how many digits they are
-abbrev pub IsNumberAhead : List ℕ → Option (ℕ × ℕ) → Type 0
-IsNumberAhead text result =
-    MatchOption result
-    (number_of (take (digits_ahead text) text) ≡ None)
-    (λ found. (number_of (take (digits_ahead text) text) ≡ Some found.0) × (found.1 ≡ digits_ahead text))

@@ -1,5 +1,6 @@
 ghost use Rattle.std.specs.Prelude.{◌≡◌, ◌≤◌, take, min};
-ghost use Rattle.vm_replay.specs.Numbers.{value_from, digits_ahead, IsNumberAhead};
+ghost use Rattle.vm_replay.specs.Numbers.{value_from};
+ghost use Rattle.vm_replay.specs.Reading.{digits_ahead, IsNumberAhead};
 
 /// No number of the language has more digits, and none of 64 bits needs more.
 pub const MOST_DIGITS: usize = 20;
