@@ -9,8 +9,9 @@ use Rattle.std.proofs.lemmas.List.{take_all, get_or-take, length-take-le}
 use Rattle.std.proofs.lemmas.List.Folds.{list_all_at}
 use Rattle.std.proofs.lemmas.List.Splits.{slice_split_first}
 use Rattle.std.proofs.lemmas.List.Sums.{prefix_len_stops, prefix_len-le-length, passes_at_first, fails_before_first}
-use Rattle.vm_replay.specs.Numbers.{is_digit, number_of, id_of, digits_ahead}
-use Rattle.vm_replay.specs.Words.{blank, words_of, number_first, one_in, two_in, three_in}
+use Rattle.vm_replay.specs.Numbers.{is_digit, number_of, id_of}
+use Rattle.vm_replay.specs.Reading.{digits_ahead, number_first}
+use Rattle.vm_replay.specs.Words.{blank, words_of, one_in, two_in, three_in}
 use Rattle.vm_replay.proofs.Splitting.{words_some, words_none}
 
 -- Words that begin with a number.

@@ -5,7 +5,8 @@ use Rattle.std.specs.Str.{bytes_eq}
 use Rattle.std.specs.List.{join_with_byte}
 use Rattle.std.proofs.lemmas.List.Splits.{join_with_byte-slice_split}
 use Rattle.std.proofs.lemmas.Slice.Eq.{bytes_eq-Decides}
-use Rattle.vm_replay.specs.Commands.{asked, asked_on_ids}
+use Rattle.vm_replay.specs.Commands.{asked}
+use Rattle.vm_replay.specs.Reading.{asked_on_ids}
 use Rattle.vm_replay.specs.Words.{blank, words_of, alone}
 use Rattle.vm_replay.specs.declared.command.Command.{Command}
 use Rattle.vm_replay.specs.declared.command.Command.TheVariants.{Id}

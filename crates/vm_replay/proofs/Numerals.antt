@@ -6,7 +6,8 @@ use Rattle.std.proofs.lemmas.Grind.{pow_more}
 use Rattle.std.proofs.lemmas.List.{take_more, take_all, get_or-drop}
 use Rattle.std.proofs.lemmas.List.Sums.{prefix_len-le-length}
 use Rattle.std.proofs.Math.Nat.{pow-le-pow_right}
-use Rattle.vm_replay.specs.Numbers.{value_from, is_digit, digit_zero, number_of, digits_ahead}
+use Rattle.vm_replay.specs.Numbers.{value_from, is_digit, digit_zero, number_of}
+use Rattle.vm_replay.specs.Reading.{digits_ahead}
 
 -- Values.
 

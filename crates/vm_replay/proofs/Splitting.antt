@@ -1,5 +1,5 @@
 -- The words of a line and the parts of a piece, by where the first byte between them stands.
-use Rattle.std.proofs.Common.{◌≡◌, ◌≢◌, ℕ, ◌+◌, ◌-◌, ◌<◌, ◌≤◌, Bool, true, false, List, [], ◌∷◌, length, take, drop, Option, Some, None, ◌==◌, refl, arith, rules, ◌++◌, get_or, length-drop, sym, ⊎_elim, ap, ◌∙◌}
+use Rattle.std.proofs.Common.{◌≡◌, ◌≢◌, ℕ, ◌+◌, ◌-◌, ◌<◌, ◌≤◌, Bool, true, false, List, [], ◌∷◌, length, take, drop, Some, None, ◌==◌, refl, arith, rules, ◌++◌, get_or, length-drop, sym, ⊎_elim, ap, ◌∙◌}
 use Rattle.std.specs.Prelude.{position}
 use Rattle.std.specs.List.{position_or_len, slice_split, after_first}
 use Rattle.std.proofs.lemmas.List.Splits.{slice_split_first, length-slice_split}
@@ -10,7 +10,7 @@ use Rattle.std.proofs.lemmas.List.Prefix.{front_fits, front_reads, front_from_re
 use Rattle.std.proofs.lemmas.List.Sums.{split_at_first, passes_at_first}
 use Rattle.std.proofs.lemmas.Grind.{common_steps}
 use Rattle.vm_replay.specs.Lines.{newline, parts_of}
-use Rattle.vm_replay.specs.Words.{blank, words_of, alone, one_in, two_in}
+use Rattle.vm_replay.specs.Words.{blank, words_of}
 
 -- a text, cut at each such byte
 abbrev cut_at : ℕ → List ℕ → List (List ℕ)
@@ -88,24 +88,3 @@ parts_none piece e = cut_none newline piece e
 -- a text has a word
 pub some_words : (text : List ℕ) → 0 < length (words_of text)
 some_words text = omega (arith, length-slice_split (λ byte. byte == blank) text)
-
--- more words do not stand alone
-pub not_alone : {A : Type 0} (asked : A) (text : List ℕ) → alone asked (words_of text) ≡ None
-not_alone asked text = some_is_more asked (words_of text) (some_words text)
-  where
-    some_is_more : {A : Type 0} (asked : A) (words : List (List ℕ)) → 0 < length words → alone asked words ≡ None
-    some_is_more asked [] h = absurd (omega arith)
-    some_is_more asked (word ∷ words) h = refl
-
--- words that are not one say no number
-pub not_one : (read : List ℕ → Option ℕ) (words : List (List ℕ)) → length words ≢ 1 → one_in read words ≡ None
-not_one read [] h = refl
-not_one read (a ∷ []) h = absurd (h refl)
-not_one read (a ∷ b ∷ cs) h = refl
-
--- words that are not two say no two numbers
-pub not_two : (read : List ℕ → Option ℕ) (words : List (List ℕ)) → length words ≢ 2 → two_in read words ≡ None
-not_two read [] h = refl
-not_two read (a ∷ []) h = refl
-not_two read (a ∷ b ∷ []) h = absurd (h refl)
-not_two read (a ∷ b ∷ c ∷ ds) h = refl

@@ -16,11 +16,6 @@ asked_of_ids name words =
     else if bytes_eq name (codes "has") then option_map (λ i. Has i) (one_in id_of words)
     else None
 
--- what the words of a line ask of the ids, where they are in the language
-abbrev pub asked_on_ids : List (List ℕ) → Option Command
-asked_on_ids [] = None
-asked_on_ids (name ∷ words) = asked_of_ids name words
-
 -- what the words of a line ask for, where they are in the language
 abbrev pub asked : List (List ℕ) → Option Command
 asked [] = None

@@ -1,9 +1,10 @@
 pub mod Numbers
 pub mod Words
 pub mod Commands
+pub mod Reading
 pub mod Lines
-pub mod Digits
 pub mod Replies
+pub mod Printing
 pub mod Machines
 pub mod Runs
 pub mod Sessions

@@ -1,6 +1,6 @@
 -- What a word says as a number.
 use Rattle.std.specs.Prelude.{ℕ, ◌+◌, ◌-◌, ◌*◌, ◌^◌, Bool, ◌&&◌, if◌then◌else◌, nat_lt, nat_le, List, [], ◌∷◌, length, Option, Some, None}
-use Rattle.std.specs.List.{list_all, prefix_len}
+use Rattle.std.specs.List.{list_all}
 
 -- the byte of the digit 0
 abbrev pub digit_zero : ℕ
@@ -26,10 +26,6 @@ value_from before (digit ∷ digits) = value_from (before * 10 + (digit - digit_
 -- one digit or more, and not too many
 abbrev pub is_numeral : List ℕ → Bool
 is_numeral word = nat_le 1 (length word) && nat_le (length word) most_digits && list_all is_digit word
-
--- how many digits stand at the front of a text
-abbrev pub digits_ahead : List ℕ → ℕ
-digits_ahead text = prefix_len is_digit text
 
 -- the value of a numeral, where it is below the bound
 abbrev pub number_below : ℕ → List ℕ → Option ℕ

@@ -2,7 +2,6 @@
 use Rattle.std.specs.Prelude.{ℕ, ◌==◌, List, [], ◌∷◌, Option, Some, None}
 use Rattle.std.specs.List.{slice_split}
 use Rattle.std.specs.Option.{option_map, option_zip}
-use Rattle.vm_replay.specs.Numbers.{number_of}
 
 -- the byte that separates words
 abbrev pub blank : ℕ
@@ -16,11 +15,6 @@ words_of text = slice_split (λ byte. byte == blank) text
 abbrev pub words_behind : Option (List ℕ) → List (List ℕ)
 words_behind None = []
 words_behind (Some rest) = words_of rest
-
--- the number that the first word says, and the words behind it
-abbrev pub number_first : List (List ℕ) → Option (ℕ × List (List ℕ))
-number_first [] = None
-number_first (word ∷ words) = option_map (λ number. (number, words)) (number_of word)
 
 -- what is asked, where no word stands behind it
 abbrev pub alone : {A : Type 0} → A → List (List ℕ) → Option A

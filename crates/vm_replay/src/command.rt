@@ -1,5 +1,6 @@
 ghost use Rattle.std.specs.Prelude.{◌≡◌};
-ghost use Rattle.vm_replay.specs.Commands.{command_of, asked_on_ids};
+ghost use Rattle.vm_replay.specs.Commands.{command_of};
+ghost use Rattle.vm_replay.specs.Reading.{asked_on_ids};
 ghost use Rattle.vm_replay.specs.Words.{words_of};
 
 use crate::words::{behind, one_id, three_numbers, two_ids, two_numbers};

@@ -1,5 +1,6 @@
-ghost use Rattle.std.specs.Prelude.{◌≡◌, ◌≤◌, None, Some, MatchOption, length, take, min};
-ghost use Rattle.vm_replay.specs.Numbers.{value_from, number_of, digits_ahead};
+ghost use Rattle.std.specs.Prelude.{◌≡◌, ◌≤◌, take, min};
+ghost use Rattle.vm_replay.specs.Numbers.{value_from};
+ghost use Rattle.vm_replay.specs.Reading.{digits_ahead, IsNumberAhead};
 
 /// No number of the language has more digits, and none of 64 bits needs more.
 pub const MOST_DIGITS: usize = 20;
@@ -13,9 +14,7 @@ const BASE: u64 = 10;
 #[inline(always)]
 #[tactic(auto, using(crate::proofs::Numerals::number_is, crate::proofs::Numerals::number_none))]
 pub fn number_ahead(text: &[u8]) -> Option<(u64, usize)>
-    ensures { MatchOption result
-        (number_of (take (digits_ahead text.now) text.now) ≡ None)
-        (λ found. (number_of (take (digits_ahead text.now) text.now) ≡ Some found.0) × (found.1 ≡ digits_ahead text.now)) }
+    ensures { IsNumberAhead text.now result }
 {
     let (value, count) = safe_value(text);
     if count == 0 {
@@ -49,9 +48,7 @@ fn safe_value(text: &[u8]) -> (u64, usize)
 fn with_last_digit(value: u64, text: &[u8]) -> Option<(u64, usize)>
     requires digits { SAFE_DIGITS ≤ digits_ahead text.now }
     requires value { value ≡ value_from 0 (take SAFE_DIGITS text.now) }
-    ensures { MatchOption result
-        (number_of (take (digits_ahead text.now) text.now) ≡ None)
-        (λ found. (number_of (take (digits_ahead text.now) text.now) ≡ Some found.0) × (found.1 ≡ digits_ahead text.now)) }
+    ensures { IsNumberAhead text.now result }
 {
     let (last, more) = safe_value(&text[SAFE_DIGITS..]);
     match more {

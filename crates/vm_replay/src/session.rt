@@ -75,6 +75,7 @@ impl Session {
     }
 
     /// Tells what the line asks of which all bytes are kept. After that no line has begun.
+    #[cold]
     fn take_kept(&mut self) -> Option<Command>
         ensures asked { result ≡ asked_by self.old.line }
         ensures machine { self.new.machine ≡ self.old.machine }

@@ -273,6 +273,22 @@ fn programs_on_ids(rt: HostRuntime) {
     expect_rows(&rt, rt.alloc(), "space-beside-ids", SPACE_BESIDE_IDS);
 }
 
+/// A line may begin and end anywhere in a piece.
+#[test]
+fn pieces_of_each_small_size(rt: HostRuntime) {
+    let input = input_of(PROGRAM_REFUSALS);
+    for longest in 1..=40 {
+        let outcome = run_on(rt.alloc(), input.as_slice(), longest, 0, ErrorKind::Other);
+        assert_eq!(rt; outcome.result, Ok(()), "in pieces of {longest}");
+        expect_answers(
+            &rt,
+            outcome.sink.text.as_slice(),
+            PROGRAM_REFUSALS,
+            "an input in small pieces",
+        );
+    }
+}
+
 #[test]
 fn long_lines(rt: HostRuntime) {
     let rows = [

@@ -1,7 +1,8 @@
 ghost use Rattle.std.specs.Prelude.{◌≡◌, ◌≢◌, ◌++◌, ℕ, List, None, Some, MatchOption};
 ghost use Rattle.std.specs.Option.{option_copied};
 ghost use Rattle.vm_replay.specs.Numbers.{number_of, id_of};
-ghost use Rattle.vm_replay.specs.Words.{words_of, words_behind, number_first, one_in, two_in, three_in};
+ghost use Rattle.vm_replay.specs.Words.{words_of, words_behind, one_in, two_in, three_in};
+ghost use Rattle.vm_replay.specs.Reading.{number_first};
 
 use crate::number::number_ahead;
 
@@ -65,6 +66,7 @@ pub fn two_numbers(text: &[u8]) -> Option<(u64, u64)>
 }
 
 /// The numbers that the words of a text say, where they are three.
+#[inline(always)]
 #[tactic(auto, using(crate::proofs::FirstNumber::three_none, crate::proofs::FirstNumber::three_some))]
 pub fn three_numbers(text: &[u8]) -> Option<(u64, u64, u64)>
     ensures { result ≡ three_in number_of (words_of text.now) }

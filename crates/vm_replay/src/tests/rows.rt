@@ -43,6 +43,10 @@ pub const FULL_SPACE: Rows = &[
 pub const WORDS_AND_NUMBERS: Rows = &[
     ("space 00000000000000000016 4", "done"),
     ("first 000000000000000000001 1", "error line"),
+    ("first 1 9999999999999999999", "error invalid-alignment"),
+    ("first 1 000000000000000000a", "error line"),
+    ("first 1 0000000000000000000a", "error line"),
+    ("first 1 99999999999999999999", "error line"),
     (" first 1 1", "error line"),
     ("first 1 1 ", "error line"),
     ("first\t1 1", "error line"),

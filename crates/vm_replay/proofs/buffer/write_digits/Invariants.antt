@@ -1,6 +1,6 @@
 use Rattle.std.proofs.Common.{◌≡◌, ◌++◌, ◌≤◌, ◌<◌, ◌^◌, length}
 use Rattle.std.specs.Fmt.{decimal}
-use Rattle.vm_replay.specs.Digits.{written}
+use Rattle.vm_replay.specs.Printing.{written}
 use Rattle.vm_replay.proofs.buffer.write_digits.Given as goal
 
 -- the digits of the rest, and those that are written

@@ -1,5 +1,6 @@
 use Rattle.std.proofs.Common.{◌≡◌, ◌+◌, ◌≤◌, ◌<◌, ◌-◌, ◌^◌, take, drop}
-use Rattle.vm_replay.specs.Numbers.{value_from, digits_ahead}
+use Rattle.vm_replay.specs.Numbers.{value_from}
+use Rattle.vm_replay.specs.Reading.{digits_ahead}
 use Rattle.vm_replay.proofs.number.safe_value.Given as goal
 
 -- the digits so far, and those that are left

@@ -1,0 +1,28 @@
+-- What is read of a line, part by part.
+use Rattle.std.specs.Prelude.{◌≡◌, ℕ, List, [], ◌∷◌, take, Option, Some, None, MatchOption}
+use Rattle.std.specs.List.{prefix_len}
+use Rattle.std.specs.Option.{option_map}
+use Rattle.vm_replay.specs.Commands.{asked_of_ids}
+use Rattle.vm_replay.specs.Numbers.{is_digit, number_of}
+use Rattle.vm_replay.specs.declared.command.Command.{Command}
+
+-- how many digits stand at the front of a text
+abbrev pub digits_ahead : List ℕ → ℕ
+digits_ahead text = prefix_len is_digit text
+
+-- the number that the digits at the front of a text say, and how many digits they are
+abbrev pub IsNumberAhead : List ℕ → Option (ℕ × ℕ) → Type 0
+IsNumberAhead text result =
+    MatchOption result
+    (number_of (take (digits_ahead text) text) ≡ None)
+    (λ found. (number_of (take (digits_ahead text) text) ≡ Some found.0) × (found.1 ≡ digits_ahead text))
+
+-- the number that the first word says, and the words behind it
+abbrev pub number_first : List (List ℕ) → Option (ℕ × List (List ℕ))
+number_first [] = None
+number_first (word ∷ words) = option_map (λ number. (number, words)) (number_of word)
+
+-- what the words of a line ask of the ids, where they are in the language
+abbrev pub asked_on_ids : List (List ℕ) → Option Command
+asked_on_ids [] = None
+asked_on_ids (name ∷ words) = asked_of_ids name words
