@@ -1,12 +1,16 @@
--- What a caller wants to know of a range or an id that it was given.
+-- What a caller wants to know of a range or an id that it was given, and of an allocator that it saved.
 use Rattle.std.proofs.Common.{◌≡◌, ℕ, ◌+◌, ◌-◌, ◌%◌, List, [], ◌∷◌, ◌<◌, ◌≤◌, ◌⊎◌, arith, refl, sym, ap, ◌∙◌, inl, inr, ⊎_elim, subst, Result, Ok, Err, IfOk, IfErr}
 use Rattle.std.specs.List.{Contains}
+use Rattle.serde_json.specs.Data.{Data}
 use Rattle.vm_allocator.specs.Range.{Range, IsIn, Overlaps, address_count, span}
 use Rattle.vm_allocator.specs.Address.{AddressState, AreClear, IsPlace, IsAddressState, holding, releasing, without_range}
 use Rattle.vm_allocator.specs.Alignment.{IsAlignment}
 use Rattle.vm_allocator.specs.Request.{Request, request_for, IsRequest, IsStartAligned}
 use Rattle.vm_allocator.specs.Answer.{IsChosen, Takes, Allocates, Frees}
 use Rattle.vm_allocator.specs.Ids.{IdState, IsHeld, IsLeastNotHeld, holding_id, ByLeastNotHeld, AllocatesId}
+use Rattle.vm_allocator.specs.Allocator.{SpaceInTree}
+use Rattle.vm_allocator.specs.SavedTree.{StatesAllocator}
+use Rattle.vm_allocator.specs.SavedIds.{StatesIds}
 use Rattle.vm_allocator.specs.declared.error.Error.{Error}
 use Rattle.vm_allocator.specs.declared.error.Error.TheVariants.{Overflow, OutOfMemory}
 use Rattle.vm_allocator.specs.declared.constraint.AllocPolicy.{AllocPolicy}
@@ -18,6 +22,8 @@ use Rattle.vm_allocator.proofs.answers.Once.{chosen_place}
 use Rattle.vm_allocator.proofs.answers.Filling.{allocates_chosen}
 use Rattle.vm_allocator.proofs.answers.Outcomes.{allocates_outcome}
 use Rattle.vm_allocator.proofs.ids.Sets.{inserted_here}
+use Rattle.vm_allocator.proofs.saving.Allocators.{one_allocator}
+use Rattle.vm_allocator.proofs.saving.IdStates.{one_stated}
 
 -- a range that was given: as long as was asked, from a multiple of the alignment on, clear before and held after
 pub record IsGiven (old : AddressState) (request : Request) (r : Range) (new : AddressState) : Type 0 where
@@ -156,4 +162,12 @@ id_is_held old new (Ok id) h =
     h
 id_is_held old new (Err e) h = tt
 
-pub ruleset callers = (given_aligned, given_long, given_held, given_apart, taken_again, refused_again, id_was_free, id_is_held)
+-- ---- saved values
+-- what is read of a written value is what was written
+pub allocator_again : (d : Data) (old new : SpaceInTree) → StatesAllocator d old → StatesAllocator d new → new ≡ old
+allocator_again d old new s t = one_allocator d new old t s
+
+pub ids_again : (d : Data) (old new : IdState) → StatesIds d old → StatesIds d new → new ≡ old
+ids_again d old new s t = one_stated d new old t s
+
+pub ruleset callers = (given_aligned, given_long, given_held, given_apart, taken_again, refused_again, id_was_free, id_is_held, allocator_again, ids_again)

@@ -6,7 +6,7 @@ ghost use Rattle.vm_allocator.specs.Allocator.{state_of};
 ghost use Rattle.vm_allocator.specs.Ids.{IsHeld};
 
 use super::made;
-use super::windows::windows;
+use super::windows::{restored, windows};
 use crate::*;
 use std::alloc::Global;
 use std::test::Fail;
@@ -56,6 +56,11 @@ fn uses(rt: HostRuntime) -> std::result::Result<(), Fail> {
     assert_eq!(rt; (first.start(), second.start()), (0xD000_0000, 0xD000_1000));
 
     let mut gap = made(&rt, 0xE000_1000, 0xFF_F000);
+    let empty = match restored(rt.alloc(), &gap) {
+        Err(_) => restored(rt.alloc(), &gap)?,
+        answer => answer?,
+    };
+    assert!(rt; empty == gap);
     let bar = match place_bar(rt.alloc(), &mut gap, 0x10_0000) {
         Err(Error::OutOfMemory) => place_bar(rt.alloc(), &mut gap, 0x10_0000)?,
         answer => answer?,
