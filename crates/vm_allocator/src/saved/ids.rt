@@ -127,10 +127,7 @@ fn check_ids(value: &Value) -> Option<CheckedIds<'_>>
 fn id_from(number: u64) -> Option<u32>
     ensures { result ≡ id_from number }
 {
-    if number > u32::MAX as u64 {
-        return None;
-    }
-    Some(number as u32)
+    u32::try_from(number).ok()
 }
 
 /// The id in a field.
@@ -171,7 +168,7 @@ fn is_next(next: Option<u32>, base: u32, end: u32) -> bool
 {
     match next {
         None => end == u32::MAX,
-        Some(next) => base <= next && next as u64 <= end as u64 + 1,
+        Some(next) => base <= next && u64::from(next) <= u64::from(end) + 1,
     }
 }
 
@@ -180,8 +177,8 @@ fn bound_of(next: Option<u32>, end: u32) -> u64
     ensures { result ≡ bound_of next end }
 {
     match next {
-        None => end as u64 + 1,
-        Some(next) => next as u64,
+        None => u64::from(end) + 1,
+        Some(next) => u64::from(next),
     }
 }
 
