@@ -9,6 +9,7 @@ use std::process::Abort;
 use std::test::Fail;
 
 mod allocators;
+mod damage;
 mod hostile;
 mod ids;
 mod snapshots;

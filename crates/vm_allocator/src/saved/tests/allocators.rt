@@ -3,7 +3,7 @@ use super::*;
 use crate::allocation_engine::NodeState;
 
 /// [16, 19], with nothing held.
-const FRESH: &str = r#"{"address_space":{"start":16,"end":19},"interval_tree":{"root":{
+pub(super) const FRESH: &str = r#"{"address_space":{"start":16,"end":19},"interval_tree":{"root":{
     "key":{"start":16,"end":19},"node_state":"Free","left":null,"right":null,"height":1}}}"#;
 
 #[test]
@@ -29,7 +29,8 @@ fn fresh_space(rt: HostRuntime) -> std::result::Result<(), Fail> {
 }
 
 /// [0, 4095], with [1280, 1535] held.
-const ONE_HELD: &str = r#"{"address_space":{"start":0,"end":4095},"interval_tree":{"root":{
+pub(super) const ONE_HELD: &str =
+    r#"{"address_space":{"start":0,"end":4095},"interval_tree":{"root":{
     "key":{"start":1280,"end":1535},"node_state":"Allocated",
     "left":{"key":{"start":0,"end":1279},"node_state":"Free","left":null,"right":null,"height":1},
     "right":{"key":{"start":1536,"end":4095},"node_state":"Free","left":null,"right":null,"height":1},

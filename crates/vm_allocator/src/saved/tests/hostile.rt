@@ -90,7 +90,7 @@ fn nested(alloc: std::alloc::Global, levels: u64) -> std::result::Result<Value, 
 
 #[test]
 fn deep_values(rt: HostRuntime) -> std::result::Result<(), Fail> {
-    for levels in [50, 51, 60] {
+    for levels in [50, 51, 200] {
         let value = match nested(rt.alloc(), levels) {
             Ok(value) => value,
             Err(_) => nested(rt.alloc(), levels)?,
