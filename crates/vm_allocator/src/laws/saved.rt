@@ -8,9 +8,9 @@ ghost use Rattle.vm_allocator.specs.SavedLaws.{StatesOne, ReadsWritten};
 #[tactic(auto, using(crate::proofs::saving::Again::one_object))]
 fn values_state_one()
     ensures ranges { StatesOne StatesRange }
-    ensures states { StatesOne StatesState }
-    ensures allocators { StatesOne StatesAllocator }
-    ensures ids { StatesOne StatesIds }
+    ensures node_states { StatesOne StatesState }
+    ensures address_allocators { StatesOne StatesAllocator }
+    ensures id_allocators { StatesOne StatesIds }
 {}
 
 /// What `to_value` writes of an object `from_value` reads as this object, node for node, unless it is
@@ -18,7 +18,7 @@ fn values_state_one()
 #[tactic(auto, using(crate::proofs::saving::Again::read_again))]
 fn written_is_read()
     ensures ranges { ReadsWritten StatesRange }
-    ensures states { ReadsWritten StatesState }
-    ensures allocators { ReadsWritten StatesAllocator }
-    ensures ids { ReadsWritten StatesIds }
+    ensures node_states { ReadsWritten StatesState }
+    ensures address_allocators { ReadsWritten StatesAllocator }
+    ensures id_allocators { ReadsWritten StatesIds }
 {}

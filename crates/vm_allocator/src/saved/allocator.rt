@@ -43,7 +43,7 @@ impl AddressAllocator {
     /// tree. To find out which takes no memory and goes down at most 50 levels of the value.
     pub fn from_value(alloc: Global, value: &Value) -> std::result::Result<Self, ValueError>
         ensures answer { Reads (StatesAddresses (view value.now)) (made_state result) }
-        ensures tree { Reads (StatesAllocator (view value.now)) result }
+        ensures nodes { Reads (StatesAllocator (view value.now)) result }
         ensures state { IfOk result (λ allocator. IsAddressState (state_of allocator)) }
     {
         let Some(checked) = check_allocator(value) else {

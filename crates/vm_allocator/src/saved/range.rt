@@ -1,5 +1,5 @@
 //! The saved form of a range.
-ghost use Rattle.std.specs.Prelude.{◌≡◌, ◌≢◌, Err};
+ghost use Rattle.std.specs.Prelude.{◌≡◌, ◌≢◌, IfErr};
 ghost use Rattle.serde_json.specs.View.{view};
 ghost use Rattle.vm_allocator.specs.SavedRange.{StatesRange};
 ghost use Rattle.vm_allocator.specs.SavedChecks.{range_found};
@@ -29,7 +29,7 @@ impl RangeInclusive {
     #[tactic(auto, using(crate::proofs::saving::Ranges::read))]
     pub fn from_value(_alloc: Global, value: &Value) -> std::result::Result<Self, ValueError>
         ensures answer { Reads (StatesRange (view value.now)) result }
-        ensures memory { result ≢ Err ValueError.OutOfMemory }
+        ensures no_memory { IfErr result (λ error. error ≢ ValueError.OutOfMemory) }
     {
         match RangeInclusive::stated_by(value) {
             Some(range) => Ok(range),

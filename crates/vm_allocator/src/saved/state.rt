@@ -1,5 +1,5 @@
 //! The saved form of a state.
-ghost use Rattle.std.specs.Prelude.{◌≡◌, ◌≢◌, Err};
+ghost use Rattle.std.specs.Prelude.{◌≡◌, ◌≢◌, IfErr};
 ghost use Rattle.serde_json.specs.View.{view};
 ghost use Rattle.vm_allocator.specs.SavedRange.{StatesState};
 ghost use Rattle.vm_allocator.specs.SavedChecks.{state_found};
@@ -31,7 +31,7 @@ impl NodeState {
     #[tactic(auto, using(crate::proofs::saving::States::read))]
     pub fn from_value(_alloc: Global, value: &Value) -> std::result::Result<Self, ValueError>
         ensures answer { Reads (StatesState (view value.now)) result }
-        ensures memory { result ≢ Err ValueError.OutOfMemory }
+        ensures no_memory { IfErr result (λ error. error ≢ ValueError.OutOfMemory) }
     {
         match NodeState::stated_by(value) {
             Some(state) => Ok(state),

@@ -53,7 +53,7 @@ pub(super) struct Checked {
 #[tactic(auto, unfolding(crate::specs::SavedChecks::tree_found))]
 pub(super) fn check(value: &Value, depth: u64, front: Front) -> Option<Checked>
     ensures found { result ≡ tree_found depth (view value.now) front }
-    ensures height { IfSome result (λ found. found.height ≤ depth) }
+    ensures not_deeper { IfSome result (λ found. found.height ≤ depth) }
 {
     if value.is_null() {
         return Some(Checked { height: 0, front });

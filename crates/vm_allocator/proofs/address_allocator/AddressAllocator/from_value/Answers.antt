@@ -7,8 +7,8 @@ use Rattle.vm_allocator.proofs.address_allocator.AddressAllocator.from_value.Goa
 pub returns-in_default-clause-answer : goal.returns-in_default-clause-answer
 returns-in_default-clause-answer c = no_addresses (view c.args.value.now) (sym c.in_default.ensures)
 
-pub returns-in_default-clause-tree : goal.returns-in_default-clause-tree
-returns-in_default-clause-tree c = none_stated (view c.args.value.now) (sym c.in_default.ensures)
+pub returns-in_default-clause-nodes : goal.returns-in_default-clause-nodes
+returns-in_default-clause-nodes c = none_stated (view c.args.value.now) (sym c.in_default.ensures)
 
 pub build-requires : goal.build-requires
 build-requires c = root_has (view c.args.value.now) c.in-Some.checked.space (view c.in-Some.checked.root.now) (sym c.in-Some.ensures)
@@ -16,8 +16,8 @@ build-requires c = root_has (view c.args.value.now) c.in-Some.checked.space (vie
 pub returns-in_default-build-clause-answer : goal.returns-in_default-build-clause-answer
 returns-in_default-build-clause-answer c = some_addresses (view c.args.value.now) c.in-Some.checked.space (view c.in-Some.checked.root.now) (sym c.in-Some.ensures)
 
-pub returns-in_default-build-clause-tree : goal.returns-in_default-build-clause-tree
-returns-in_default-build-clause-tree c = some_stated (view c.args.value.now) c.in-Some.checked.space (view c.in-Some.checked.root.now) (sym c.in-Some.ensures)
+pub returns-in_default-build-clause-nodes : goal.returns-in_default-build-clause-nodes
+returns-in_default-build-clause-nodes c = some_stated (view c.args.value.now) c.in-Some.checked.space (view c.in-Some.checked.root.now) (sym c.in-Some.ensures)
 
 pub invariant_of-result : goal.invariant_of-result
 invariant_of-result c =
@@ -35,8 +35,8 @@ returns-clause-answer c =
     let s = built_states (view c.args.value.now) c.in-Some.checked.space (view c.in-Some.checked.root.now) (side c.in-Ok.root) (sym c.in-Some.ensures) c.in-Ok.ensures in
     record { allocator = a; stated = s; is = refl }
 
-pub returns-clause-tree : goal.returns-clause-tree
-returns-clause-tree c = built_states (view c.args.value.now) c.in-Some.checked.space (view c.in-Some.checked.root.now) (side c.in-Ok.root) (sym c.in-Some.ensures) c.in-Ok.ensures
+pub returns-clause-nodes : goal.returns-clause-nodes
+returns-clause-nodes c = built_states (view c.args.value.now) c.in-Some.checked.space (view c.in-Some.checked.root.now) (side c.in-Ok.root) (sym c.in-Some.ensures) c.in-Ok.ensures
 
 pub returns-clause-state : goal.returns-clause-state
 returns-clause-state c =
