@@ -1,6 +1,9 @@
 //! Rows of the program, and readers and writers that fail.
 ghost use Rattle.std.specs.Prelude.{◌≤◌, length};
 
+mod fronts;
+mod long_run;
+mod refused_requests;
 mod rows;
 
 use crate::buffer::Buffer;
@@ -12,7 +15,7 @@ use crate::status;
 use rows::{
     ALL_POLICIES, FIRST_PROGRAM, FULL_SPACE, HELD_IDS, LINE_GRAMMAR, LINES_NOT_THERE_YET,
     NUMBERS_OF_32_BITS, PLACES_OF_A_START, PROGRAM_IDS, PROGRAM_REFUSALS, REFUSALS_IN_ORDER,
-    REFUSALS_OF_IDS, SPACE_BESIDE_IDS, WORDS_AND_NUMBERS,
+    REFUSALS_OF_IDS, Rows, SPACE_BESIDE_IDS, WORDS_AND_NUMBERS,
 };
 use std::alloc::Global;
 use std::io;
@@ -296,8 +299,8 @@ fn long_lines(rt: HostRuntime) {
         ("space 16 4", "done"),
         ("first 1 1", "range 16 16"),
     ];
-    for length in [119, 120, 121, 122, 4096, 9000] {
-        let mut input = [b'0'; 9022];
+    for length in [119, 120, 121, 122, 4096, 9000, 100_000] {
+        let mut input = [b'0'; 100_022];
         input[..6].copy_from_slice(b"first ");
         input[length..length + 22].copy_from_slice(b"\nspace 16 4\nfirst 1 1\n");
         expect_program(

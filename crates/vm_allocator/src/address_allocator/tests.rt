@@ -9,6 +9,10 @@ use std::process::Abort;
 use std::test::Fail;
 
 mod comparing;
+mod departures;
+mod ends;
+mod long_run;
+mod splits;
 mod without_memory;
 
 const MAX: u64 = u64::MAX;
@@ -303,41 +307,11 @@ fn answers_for_one_start(rt: HostRuntime) {
 }
 
 #[test]
-fn ends_of_all_addresses(rt: HostRuntime) {
-    let mut space = made(&rt, 1, MAX);
-    let rows = [
-        (Last(1, 1), Overflow),
-        (Last(1, 2), Range(LAST, LAST)),
-        (Free(LAST, LAST), Range(LAST, LAST)),
-        (First(MAX, 1), Overflow),
-        (First(LAST, 1), Range(1, LAST)),
-        (First(1, 1), Overflow),
-        (Free(1, LAST), Range(1, LAST)),
-        (First(1, HALF), Range(HALF, HALF)),
-        (First(1, HALF), NotAvailable),
-        (Free(HALF, HALF), Range(HALF, HALF)),
-        (Exact(HALF, HALF, HALF), Overflow),
-        (First(HALF, HALF), Overflow),
-        (Space(1, MAX), Range(1, MAX)),
-        (Space(0, MAX), Range(0, LAST)),
-        (Space(MAX, 1), Range(MAX, MAX)),
-        (Space(MAX, 2), Overflow),
-        (Space(1, 0), Underflow),
-        (First(1, 1), Overflow),
-    ];
-    replay(&rt, &mut space, &rows);
-}
-
-#[test]
-fn small_trees(rt: HostRuntime) {
+fn a_tree_of_one_block(rt: HostRuntime) {
     let mut space = made(&rt, 0, 0x1000);
     assert_eq!(rt; space.height(), 1);
     let (answer, count) = space.allocate_counted(rt.alloc(), 0, 1, FirstMatch);
     assert_eq!(rt; (answer, count), (Err(Error::InvalidSize(0)), 0));
-    let rows = [(Exact(0x100, 0x100, 0x500), Range(0x500, 0x5FF))];
-    replay(&rt, &mut space, &rows);
-    assert_eq!(rt; space.height(), 2);
-    assert_eq!(rt; space.interval_tree.block_count(), 3);
 }
 
 #[test]

@@ -275,12 +275,14 @@ fn cloned_whole_or_not_at_all(rt: HostRuntime) -> std::result::Result<(), Fail> 
     let mut ids = IdAllocator::new(rt.alloc(), 5, 23)?;
     take_all(&rt, &mut ids, 5, 7);
     assert_eq!(rt; give_back(&rt, &mut ids, 6), Ok(6));
+    let before = answers(&ids);
     balance(rt.alloc());
     match ids.try_clone(rt.alloc()) {
-        Ok(clone) => assert!(rt; answers(&clone) == answers(&ids)),
+        Ok(clone) => assert!(rt; answers(&clone) == before),
         Err(error) => assert_eq!(rt; error, Error::OutOfMemory),
     }
     balance(rt.alloc());
+    assert!(rt; answers(&ids) == before);
     let mut clone = match ids.try_clone(rt.alloc()) {
         Err(Error::OutOfMemory) => ids.try_clone(rt.alloc())?,
         answer => answer?,

@@ -74,17 +74,22 @@ fn equal_ones_answer_alike(rt: HostRuntime) -> std::result::Result<(), Fail> {
 #[test]
 fn cloned_whole_or_not_at_all(rt: HostRuntime) -> std::result::Result<(), Fail> {
     let mut space = reached(&rt, &ALL_BUT_TWO)?;
+    let before = reached(&rt, &ALL_BUT_TWO)?;
     balance(rt.alloc());
     match space.try_clone(rt.alloc()) {
         Ok(clone) => {
             assert!(rt; clone == space);
             assert!(rt; clone.interval_tree.is_same(&space.interval_tree));
         }
-        Err(error) => assert_eq!(rt; error, Error::OutOfMemory),
+        Err(error) => {
+            assert_eq!(rt; error, Error::OutOfMemory);
+            assert!(rt; space == before);
+        }
     }
     balance(rt.alloc());
     // A clone is an allocator of its own.
     let before = cloned(&rt, &space);
+    assert!(rt; before == space);
     ask(&rt, &mut space, First(4, 1))?;
     assert!(rt; holds_just(&before, &[(1, 1), (6, 6)]));
     Ok(())
