@@ -6,7 +6,7 @@ use Rattle.std.specs.List.{Contains}
 use Rattle.std.specs.Ordering.{nat_cmp}
 use Rattle.std.specs.FinSet as set
 use Rattle.vm_allocator.specs.Ids.{IdState, IsHeld, IsLeastNotHeld, IsIdState, fresh_ids, MakesIds, ByLeastNotHeld, AllocatesId, FreesId}
-use Rattle.vm_allocator.specs.IdHistories.{IdCall, Allocation, Release, Cloning, IsIdCallFrom, IsIdHistoryFrom, AreIdsMade, AreIdsRead, AreIdsReached, is_held_after, is_out_after}
+use Rattle.vm_allocator.specs.IdHistories.{IdCall, Allocation, Release, Cloning, IsIdCallFrom, IsIdHistoryFrom, AreIdsMade, AreIdsRead, is_held_after, is_out_after}
 use Rattle.vm_allocator.specs.IdHistoryLaws.{EachIsLeastNotHeld, NoIdIsHeldTwice, HeldIsOut, StatesAreOfIds}
 use Rattle.vm_allocator.specs.declared.error.Error.{Error}
 use Rattle.vm_allocator.proofs.answers.Cloning.{cloning_keeps}

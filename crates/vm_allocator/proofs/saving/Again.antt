@@ -1,5 +1,5 @@
 -- What is written is read again.
-use Rattle.std.proofs.Common.{◌≡◌, ap, inl, inr, refl, Result, Ok, Err}
+use Rattle.std.proofs.Common.{ap, inl, inr, refl, Ok, Err}
 use Rattle.serde_json.specs.View.{view}
 use Rattle.serde_json.specs.Data.{Data}
 use Rattle.vm_allocator.specs.SavedRange.{StatesRange, StatesState}

@@ -1,9 +1,8 @@
 -- What is put together of written parts states the whole.
-use Rattle.std.proofs.Common.{◌≡◌, ℕ, ◌+◌, ◌≤◌, max, codes, Option, Some, option_and_then, refl, sym, ap, ◌∙◌, subst, arith}
+use Rattle.std.proofs.Common.{◌≡◌, ℕ, ◌+◌, max, codes, Option, Some, sym, ap, ◌∙◌, subst}
 use Rattle.serde_json.specs.Data.{Data}
 use Rattle.serde_json.specs.Find.{get}
 use Rattle.vm_allocator.specs.Range.{Range}
-use Rattle.vm_allocator.specs.Block.{Block}
 use Rattle.vm_allocator.specs.Blocks.{IsTiling}
 use Rattle.vm_allocator.specs.Shape.{Shape, Tip, Fork, blocks, height_of, IsTree}
 use Rattle.vm_allocator.specs.SpaceTree.{space_of, IsSpaceTree}
