@@ -38,8 +38,8 @@ abbrev pub ids_found : Data → Option (ℕ × Option ℕ × ℕ × Items)
 ids_found d =
     if is_count 4 (field_count d) then
     option_and_then (λ lo. option_and_then (λ hi. option_and_then (λ next. option_and_then (λ freed.
-    if nat_le lo hi && (is_next next lo hi && is_some (rising lo (bound_of next hi) freed)) then Some (lo, next, hi, freed)
-    else None)
+    if nat_le lo hi && (is_next next lo hi && is_some (rising lo (bound_of next hi) freed))
+    then Some (lo, next, hi, freed) else None)
     (option_and_then as_array (get (codes "freed_ids") d)))
     (option_and_then next_found (get (codes "next_id") d)))
     (id_in (codes "range_end") d))
