@@ -13,6 +13,9 @@ const CALLS: u64 = 20_000;
 /// The lines that make the space: a second one for a run in which the first is refused.
 const SPACES: u64 = 2;
 
+/// No line and no answer of the run is longer.
+const LONGEST: usize = 64;
+
 /// What a line asks for.
 #[derive(Clone, Copy)]
 enum Call {
@@ -38,14 +41,14 @@ enum Answer {
 /// A line without its newline.
 #[derive(Drop)]
 struct Line {
-    bytes: [u8; 64],
+    bytes: [u8; LONGEST],
     filled: usize,
 }
 
 impl Line {
     fn empty() -> Line {
         Line {
-            bytes: [0; 64],
+            bytes: [0; LONGEST],
             filled: 0,
         }
     }
@@ -62,41 +65,32 @@ impl Line {
     }
 }
 
-impl Write for Line {
-    fn write(&mut self, buf: &[u8]) -> io::Result<usize> {
-        for byte in buf {
-            self.push(*byte);
-        }
-        Ok(buf.len())
-    }
-
-    fn flush(&mut self) -> io::Result<()> {
-        Ok(())
-    }
-}
-
 fn line_of(call: Call) -> io::Result<Line> {
-    let mut line = Line::empty();
+    let mut bytes = [0; LONGEST];
+    let mut rest = bytes.as_mut_slice();
     match call {
-        Space => write!(line, "space 0 {ADDRESSES}")?,
-        First(size, alignment) => write!(line, "first {size} {alignment}")?,
-        Last(size, alignment) => write!(line, "last {size} {alignment}")?,
-        Exact(size, alignment, start) => write!(line, "exact {size} {alignment} {start}")?,
-        Free(start, end) => write!(line, "free {start} {end}")?,
+        Space => write!(rest, "space 0 {ADDRESSES}")?,
+        First(size, alignment) => write!(rest, "first {size} {alignment}")?,
+        Last(size, alignment) => write!(rest, "last {size} {alignment}")?,
+        Exact(size, alignment, start) => write!(rest, "exact {size} {alignment} {start}")?,
+        Free(start, end) => write!(rest, "free {start} {end}")?,
     }
-    Ok(line)
+    let filled = LONGEST.saturating_sub(rest.len());
+    Ok(Line { bytes, filled })
 }
 
 fn line_of_answer(answer: Answer) -> io::Result<Line> {
-    let mut line = Line::empty();
+    let mut bytes = [0; LONGEST];
+    let mut rest = bytes.as_mut_slice();
     match answer {
-        Done => write!(line, "done")?,
-        Range(start, end) => write!(line, "range {start} {end}")?,
-        State(start, end) => write!(line, "error state {start} {end}")?,
-        Unaligned => write!(line, "error unaligned")?,
-        NotAvailable => write!(line, "error not-available")?,
+        Done => write!(rest, "done")?,
+        Range(start, end) => write!(rest, "range {start} {end}")?,
+        State(start, end) => write!(rest, "error state {start} {end}")?,
+        Unaligned => write!(rest, "error unaligned")?,
+        NotAvailable => write!(rest, "error not-available")?,
     }
-    Ok(line)
+    let filled = LONGEST.saturating_sub(rest.len());
+    Ok(Line { bytes, filled })
 }
 
 /// What an address is.
