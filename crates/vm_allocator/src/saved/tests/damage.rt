@@ -76,11 +76,70 @@ impl Reader {
     }
 }
 
+/// Whether an object is stated where the field is left out.
+fn accepts_without(rt: &(impl Abort + AllocGlobal), reader: Reader, field: Field<'_>) -> bool {
+    if let Some(after) = field.after.strip_prefix(',') {
+        return reader.accepts(rt, &[field.before, after]);
+    }
+    let before = field.before.trim_end();
+    let before = before.strip_suffix(',').unwrap_or(before);
+    reader.accepts(rt, &[before, field.after])
+}
+
+/// Whether an object is stated where the field's value stands under another name too.
+fn accepts_doubled(rt: &(impl Abort + AllocGlobal), reader: Reader, field: Field<'_>) -> bool {
+    let Field {
+        before,
+        name,
+        value,
+        after,
+    } = field;
+    let parts = [before, "\"more\":", value, ",\"", name, "\":", value, after];
+    reader.accepts(rt, &parts)
+}
+
+/// Whether an object is stated where the field has this value.
+fn accepts_with(
+    rt: &(impl Abort + AllocGlobal),
+    reader: Reader,
+    field: Field<'_>,
+    value: &str,
+) -> bool {
+    let parts = [field.before, "\"", field.name, "\":", value, field.after];
+    reader.accepts(rt, &parts)
+}
+
 /// What stands in the place of a field's value.
 const REPLACEMENTS: [&str; 7] = ["null", "true", "-1", "1.5", "\"x\"", "[]", "{}"];
 
-/// Damages each field of a text in turn. `accepted` has the fields and the replacements with which the
-/// value states another object; a value in its own place states the same one.
+fn is_accepted(accepted: &[(&str, &str)], name: &str, value: &str) -> bool {
+    for (field, replacement) in accepted {
+        if *field == name && *replacement == value {
+            return true;
+        }
+    }
+    false
+}
+
+/// Damages a field. `accepted` has the fields and the replacements with which the value states another
+/// object; a value in its own place states the same one.
+fn damage_field(
+    rt: &(impl Abort + AllocGlobal),
+    reader: Reader,
+    field: Field<'_>,
+    accepted: &[(&str, &str)],
+) {
+    let name = field.name;
+    assert!(rt; !accepts_without(rt, reader, field), "{name} left out");
+    assert!(rt; !accepts_doubled(rt, reader, field), "{name} doubled");
+    for new in REPLACEMENTS {
+        let want = new == field.value.trim() || is_accepted(accepted, name, new);
+        let answer = accepts_with(rt, reader, field, new);
+        assert_eq!(rt; answer, want, "{name} is {new}");
+    }
+}
+
+/// Damages each field of a text in turn.
 fn damage(
     rt: &(impl Abort + AllocGlobal),
     reader: Reader,
@@ -89,37 +148,8 @@ fn damage(
     accepted: &[(&str, &str)],
 ) {
     for number in 0..fields {
-        let field = field_at(text, number);
-        let field = field.expect(rt, "there are so many fields");
-        let name = field.name;
-        let left_out = match field.after.strip_prefix(',') {
-            Some(after) => [field.before, after],
-            None => {
-                let before = field.before.trim_end();
-                [before.strip_suffix(',').unwrap_or(before), field.after]
-            }
-        };
-        assert!(rt; !reader.accepts(rt, &left_out), "{number}, {name} left out");
-        let doubled = [
-            field.before,
-            "\"more\":",
-            field.value,
-            ",\"",
-            name,
-            "\":",
-            field.value,
-            field.after,
-        ];
-        assert!(rt; !reader.accepts(rt, &doubled), "{number}, {name} doubled");
-        for new in REPLACEMENTS {
-            let parts = [field.before, "\"", name, "\":", new, field.after];
-            let want = new == field.value.trim() || accepted.contains(&(name, new));
-            assert_eq!(rt;
-                reader.accepts(rt, &parts),
-                want,
-                "{number}, {name} is {new}"
-            );
-        }
+        let field = field_at(text, number).expect(rt, "there are so many fields");
+        damage_field(rt, reader, field, accepted);
     }
     assert!(rt; field_at(text, fields).is_none(), "there are more fields");
 }
