@@ -310,6 +310,8 @@ fn long_lines(rt: HostRuntime) {
             &rows,
             "an input with a long line",
         );
+        let alone = &input[..length];
+        expect_program(&rt, rt.alloc(), alone, &rows[..1], "a long line alone");
     }
 }
 
