@@ -220,6 +220,24 @@ fn texts_of_errors_with_ranges(rt: HostRuntime) -> std::result::Result<(), Fail>
 }
 
 #[test]
+fn texts_of_value_errors(rt: HostRuntime) -> std::result::Result<(), Fail> {
+    let rows = [
+        (ValueError::NotAState, "The value states no valid object."),
+        (ValueError::OutOfMemory, "There is not enough memory."),
+    ];
+    for (error, want) in &rows {
+        let text = match error.to_string(rt.alloc()) {
+            Ok(text) => text,
+            Err(_) => error.to_string(rt.alloc())?,
+        };
+        assert_eq!(rt; text.as_str(), *want);
+    }
+    assert!(rt; ValueError::NotAState == ValueError::NotAState);
+    assert!(rt; ValueError::NotAState != ValueError::OutOfMemory);
+    Ok(())
+}
+
+#[test]
 fn errors_rise(rt: HostRuntime) {
     let rising = [
         Error::Overflow,
