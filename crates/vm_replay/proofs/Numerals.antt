@@ -80,11 +80,6 @@ number_none text = refl
 pub number_large : (text : List ℕ) (n : ℕ) → 2 ^ 64 ≤ value_from 0 (take n text) → number_of (take n text) ≡ None
 number_large text n large = grind (arith, nat_tests)
 
-pub number_long : (text : List ℕ) (n : ℕ) → n ≤ digits_ahead text → 20 < n → number_of (take n text) ≡ None
-number_long text n h many =
-    let long : length (take n text) ≡ n = omega (arith, length-take n text, prefix_len-le-length is_digit text) in
-    rw long (grind (arith, nat_tests))
-
 -- The last digit, behind nineteen.
 
 -- what stands behind nineteen bytes

@@ -1,6 +1,6 @@
 -- A search for a place enters few nodes: those of the trees that have a gap which is long enough.
 use Rattle.std.specs.Prelude.{◌||◌}
-use Rattle.std.proofs.Common.{◌≡◌, List, ◌++◌, ℕ, ◌+◌, ◌*◌, ◌<◌, ◌≤◌, max, Bool, true, false, cond, [], ◌∷◌, length, refl, sym, ap, ◌∙◌, arith, ⊎_elim}
+use Rattle.std.proofs.Common.{◌≡◌, List, ◌++◌, ℕ, ◌+◌, ◌-◌, ◌*◌, ◌<◌, ◌≤◌, Bool, true, false, cond, ltb, [], ◌∷◌, length, refl, sym, ap, ◌∙◌, arith, ⊎_elim}
 use Rattle.std.specs.List.{list_any, filter}
 use Rattle.std.proofs.Math.Nat.{mul-le-mul}
 use Rattle.std.proofs.lemmas.List.{length-append}
@@ -55,92 +55,61 @@ some_futile n a (Fork l b r) z p e =
     (λ (k : n ≤ max_free_of l). omega (arith, split, some_futile n a l z k none.0))
     (cases_lt (max_free_of l) n)
 
+-- ---- a node of which the side `near` is searched first, and then the side `far`
+module _ (n a : ℕ) (s near far : Shape) (first second : ℕ) (low : (height_of near < height_of s) × (height_of far < height_of s)) (split : futile_among n a (blocks near) + futile_among n a (blocks far) ≤ futile_among n a (blocks s)) where
+  -- what is entered, where a place is found in the first side or here, and where none is
+  abbrev entered : Bool → ℕ
+  entered found = cond (ltb (max_free_of s) n) 0 (first + cond found 0 second + 1)
+
+  within : (f x y w : ℕ) → first ≤ height_of near * x → w ≤ height_of far * y → x + y ≤ f → 1 ≤ f → first + w + 1 ≤ height_of s * f
+  within f x y w p q u o =
+      let h : height_of s ≡ height_of s - 1 + 1 = omega (arith, low.0) in
+      rw h (one_more (height_of s - 1) f (height_of near) x first (height_of far) y w (omega (arith, low.0)) (omega (arith, low.1)) p q u o)
+
+  unless_short : (found : Bool) (most : ℕ) → (n ≤ max_free_of s → first + cond found 0 second + 1 ≤ most) → entered found ≤ most
+  unless_short found most f =
+      ⊎_elim
+      (λ (k : max_free_of s < n). rw (lt-ltb (max_free_of s) n k) (omega arith))
+      (λ (k : n ≤ max_free_of s). rw (le-ltb (max_free_of s) n k) (f k))
+      (cases_lt (max_free_of s) n)
+
+  in_vain : 0 < n → list_any (has_fit n a) (blocks s) ≡ false → first ≤ height_of near * futile_among n a (blocks near) → second ≤ height_of far * futile_among n a (blocks far) → entered false ≤ height_of s * futile_among n a (blocks s)
+  in_vain z e p q = unless_short false _ (λ k. within _ _ _ second p q split (some_futile n a s z k e))
+
+  among : (found : Bool) → first ≤ height_of near * (futile_among n a (blocks near) + 1) → (found ≡ false → first ≤ height_of near * futile_among n a (blocks near)) → second ≤ height_of far * (futile_among n a (blocks far) + 1) → entered found ≤ height_of s * (futile_among n a (blocks s) + 1)
+  among true p g q = unless_short true _ (λ k. within _ (futile_among n a (blocks near) + 1) 0 0 p (omega arith) (omega (arith, split)) (omega arith))
+  among false p g q = unless_short false _ (λ k. within _ _ (futile_among n a (blocks far) + 1) second (g refl) q (omega (arith, split)) (omega arith))
+
 -- ---- the search for the least place
 pub first_in_vain : (n a : ℕ) (s : Shape) → 0 < n → list_any (has_fit n a) (blocks s) ≡ false → way_of_first n a s ≤ height_of s * futile_among n a (blocks s)
 unfolding way_of_first
 first_in_vain n a Tip z e = omega arith
 first_in_vain n a (Fork l b r) z e =
-    let s = Fork l b r in
     let none = fit_split n a l b r e in
-    let f = futile_among n a (blocks s) in
-    ⊎_elim
-    (λ (k : max_free_of s < n). rw (lt-ltb (max_free_of s) n k) (omega arith))
-    (λ (k : n ≤ max_free_of s).
-    rw (le-ltb (max_free_of s) n k, none.0, none.1)
-    (one_more (max (height_of l) (height_of r)) f (height_of l) (futile_among n a (blocks l)) (way_of_first n a l) (height_of r) (futile_among n a (blocks r)) (way_of_first n a r) (omega arith) (omega arith)
-    (first_in_vain n a l z none.0) (first_in_vain n a r z none.2) (omega (arith, futile_split n a l b r)) (some_futile n a s z k e)))
-    (cases_lt (max_free_of s) n)
+    let split = futile_split n a l b r in
+    rw (none.0, none.1) (in_vain n a (Fork l b r) l r (way_of_first n a l) (way_of_first n a r) (omega arith, omega arith) (omega (arith, split)) z e (first_in_vain n a l z none.0) (first_in_vain n a r z none.2))
 
 pub first_among : (n a : ℕ) (s : Shape) → 0 < n → way_of_first n a s ≤ height_of s * (futile_among n a (blocks s) + 1)
 unfolding way_of_first
 first_among n a Tip z = omega arith
 first_among n a (Fork l b r) z =
-    let s = Fork l b r in
-    let f = futile_among n a (blocks s) in
-    let m = max (height_of l) (height_of r) in
+    let found : Bool = list_any (has_fit n a) (blocks l) || has_fit n a b in
     let split = futile_split n a l b r in
-    let near : ℕ = futile_among n a (blocks l) in
-    let found : (x : ℕ) → x ≤ near + 1 → way_of_first n a l ≤ height_of l * x → way_of_first n a l + 0 + 1 ≤ (m + 1) * (f + 1) =
-    λ x p q. one_more m (f + 1) (height_of l) x (way_of_first n a l) 0 0 0 (omega arith) (omega arith) q (omega arith) (omega (arith, split)) (omega arith) in
-    let here : (t : Bool) → way_of_first n a l ≤ height_of l * near → way_of_first n a l + cond t 0 (way_of_first n a r) + 1 ≤ (m + 1) * (f + 1) =
-    λ t q.
-    elim t as (λ v. way_of_first n a l + cond v 0 (way_of_first n a r) + 1 ≤ (m + 1) * (f + 1)) [
-      | true ↦ found near (omega arith) q
-      | false ↦
-          one_more m (f + 1) (height_of l) near (way_of_first n a l) (height_of r) (futile_among n a (blocks r) + 1) (way_of_first n a r) (omega arith) (omega arith) q (first_among n a r z) (omega (arith, split)) (omega arith)
-    ] in
-    let searched : (t : Bool) → list_any (has_fit n a) (blocks l) ≡ t → way_of_first n a l + cond (t || has_fit n a b) 0 (way_of_first n a r) + 1 ≤ (m + 1) * (f + 1) =
-    λ t.
-    elim t as (λ v. list_any (has_fit n a) (blocks l) ≡ v → way_of_first n a l + cond (v || has_fit n a b) 0 (way_of_first n a r) + 1 ≤ (m + 1) * (f + 1)) [
-      | true ↦ λ e. found (near + 1) (omega arith) (first_among n a l z)
-      | false ↦ λ e. here (has_fit n a b) (first_in_vain n a l z e)
-    ] in
-    ⊎_elim
-    (λ (k : max_free_of s < n). rw (lt-ltb (max_free_of s) n k) (omega arith))
-    (λ (k : n ≤ max_free_of s). rw (le-ltb (max_free_of s) n k) (searched (list_any (has_fit n a) (blocks l)) refl))
-    (cases_lt (max_free_of s) n)
+    among n a (Fork l b r) l r (way_of_first n a l) (way_of_first n a r) (omega arith, omega arith) (omega (arith, split)) found (first_among n a l z) (λ e. first_in_vain n a l z (or_parts _ _ e).0) (first_among n a r z)
 
 -- ---- the search for the greatest place
 pub last_in_vain : (n a : ℕ) (s : Shape) → 0 < n → list_any (has_fit n a) (blocks s) ≡ false → way_of_last n a s ≤ height_of s * futile_among n a (blocks s)
 unfolding way_of_last
 last_in_vain n a Tip z e = omega arith
 last_in_vain n a (Fork l b r) z e =
-    let s = Fork l b r in
     let none = fit_split n a l b r e in
-    let f = futile_among n a (blocks s) in
-    ⊎_elim
-    (λ (k : max_free_of s < n). rw (lt-ltb (max_free_of s) n k) (omega arith))
-    (λ (k : n ≤ max_free_of s).
-    rw (le-ltb (max_free_of s) n k, none.2, none.1)
-    (one_more (max (height_of l) (height_of r)) f (height_of r) (futile_among n a (blocks r)) (way_of_last n a r) (height_of l) (futile_among n a (blocks l)) (way_of_last n a l) (omega arith) (omega arith)
-    (last_in_vain n a r z none.2) (last_in_vain n a l z none.0) (omega (arith, futile_split n a l b r)) (some_futile n a s z k e)))
-    (cases_lt (max_free_of s) n)
+    let split = futile_split n a l b r in
+    rw (none.2, none.1) (in_vain n a (Fork l b r) r l (way_of_last n a r) (way_of_last n a l) (omega arith, omega arith) (omega (arith, split)) z e (last_in_vain n a r z none.2) (last_in_vain n a l z none.0))
 
 pub last_among : (n a : ℕ) (s : Shape) → 0 < n → way_of_last n a s ≤ height_of s * (futile_among n a (blocks s) + 1)
 unfolding way_of_last
 last_among n a Tip z = omega arith
 last_among n a (Fork l b r) z =
-    let s = Fork l b r in
-    let f = futile_among n a (blocks s) in
-    let m = max (height_of l) (height_of r) in
+    let found : Bool = list_any (has_fit n a) (blocks r) || has_fit n a b in
     let split = futile_split n a l b r in
-    let near : ℕ = futile_among n a (blocks r) in
-    let found : (x : ℕ) → x ≤ near + 1 → way_of_last n a r ≤ height_of r * x → way_of_last n a r + 0 + 1 ≤ (m + 1) * (f + 1) =
-    λ x p q. one_more m (f + 1) (height_of r) x (way_of_last n a r) 0 0 0 (omega arith) (omega arith) q (omega arith) (omega (arith, split)) (omega arith) in
-    let here : (t : Bool) → way_of_last n a r ≤ height_of r * near → way_of_last n a r + cond t 0 (way_of_last n a l) + 1 ≤ (m + 1) * (f + 1) =
-    λ t q.
-    elim t as (λ v. way_of_last n a r + cond v 0 (way_of_last n a l) + 1 ≤ (m + 1) * (f + 1)) [
-      | true ↦ found near (omega arith) q
-      | false ↦
-          one_more m (f + 1) (height_of r) near (way_of_last n a r) (height_of l) (futile_among n a (blocks l) + 1) (way_of_last n a l) (omega arith) (omega arith) q (last_among n a l z) (omega (arith, split)) (omega arith)
-    ] in
-    let searched : (t : Bool) → list_any (has_fit n a) (blocks r) ≡ t → way_of_last n a r + cond (t || has_fit n a b) 0 (way_of_last n a l) + 1 ≤ (m + 1) * (f + 1) =
-    λ t.
-    elim t as (λ v. list_any (has_fit n a) (blocks r) ≡ v → way_of_last n a r + cond (v || has_fit n a b) 0 (way_of_last n a l) + 1 ≤ (m + 1) * (f + 1)) [
-      | true ↦ λ e. found (near + 1) (omega arith) (last_among n a r z)
-      | false ↦ λ e. here (has_fit n a b) (last_in_vain n a r z e)
-    ] in
-    ⊎_elim
-    (λ (k : max_free_of s < n). rw (lt-ltb (max_free_of s) n k) (omega arith))
-    (λ (k : n ≤ max_free_of s). rw (le-ltb (max_free_of s) n k) (searched (list_any (has_fit n a) (blocks r)) refl))
-    (cases_lt (max_free_of s) n)
+    among n a (Fork l b r) r l (way_of_last n a r) (way_of_last n a l) (omega arith, omega arith) (omega (arith, split)) found (last_among n a r z) (λ e. last_in_vain n a r z (or_parts _ _ e).0) (last_among n a l z)

@@ -1,14 +1,11 @@
 -- A block of a tree that gets another key or state.
 use Rattle.std.proofs.Common.{◌≡◌, ℕ, ◌+◌, true, false, cond, List, [], ◌∷◌, ◌++◌, refl, ap, ◌∙◌, subst, sym, arith, Some, None, Option, IsSome, Result, Err}
-use Rattle.std.specs.Global.{Box}
 use Rattle.vm_allocator.specs.Range.{Range}
 use Rattle.vm_allocator.specs.RangeOrder.{Before, same_range}
 use Rattle.vm_allocator.specs.Block.{Block}
 use Rattle.vm_allocator.specs.BlockList.{IsOrderedFrom, replace_block, find_key}
 use Rattle.vm_allocator.specs.Shape.{Shape, Tip, Fork, blocks, height_of, root_block, IsTree}
 use Rattle.vm_allocator.specs.NodeAnswer.{Marks, MarksBlock}
-use Rattle.vm_allocator.specs.NodeFields.{side}
-use Rattle.vm_allocator.specs.declared.allocation_engine.node.InnerNode.{InnerNode}
 use Rattle.vm_allocator.specs.declared.error.Error.{Error}
 use Rattle.vm_allocator.specs.declared.error.Error.TheVariants.{ResourceNotAvailable}
 use Rattle.vm_allocator.specs.declared.allocation_engine.NodeState.{NodeState}
@@ -28,11 +25,6 @@ known_left s l x r k e p t h = rw (find_in_left s l x r k e p t) at h
 
 pub known_right : (s l : Shape) (x : Block) (r : Shape) (k : Range) → s ≡ Fork l x r → Before x.key k → IsTree s → IsSome (find_key k (blocks s)) → IsSome (find_key k (blocks r))
 known_right s l x r k e p t h = rw (find_in_right s l x r k e p t) at h
-
--- a side that has a block is there
-pub known_some : (k : Range) (child : Option (Box InnerNode)) → IsSome (find_key k (blocks (side child))) → IsSome child
-known_some k None h = h
-known_some k (Some n) h = refl
 
 pub rewrite_here : (s l : Shape) (x : Block) (r : Shape) (k : Range) (y : Block) → s ≡ Fork l x r → k ≡ x.key → IsTree s → replace_block k (y ∷ []) (blocks s) ≡ blocks l ++ y ∷ blocks r
 rewrite_here s l x r k y e p t = replace_in_middle s l x r k (y ∷ []) e p t

@@ -20,6 +20,7 @@ mod search_tree;
 mod tests;
 pub(crate) mod walks;
 
+use self::balance::fork;
 use crate::allocation_engine::NodeState;
 use crate::error::{Error, Result};
 use crate::range::RangeInclusive;
@@ -92,19 +93,8 @@ impl InnerNode {
             (λ node. node.value ≡ Fork (side left) (record { key = key; state = node_state }) (side right))
             (λ error. error ≡ Error.OutOfMemory) }
     {
-        let height = height(&left).max(height(&right)) + 1;
-        let own = free_length(&key, node_state);
-        let max_free = max_free(&left).max(max_free(&right)).max(own);
-        let node = InnerNode {
-            key,
-            node_state,
-            left,
-            right,
-            height,
-            max_free,
-        };
-        match Box::new(alloc, node) {
-            Ok(node) => Ok(node),
+        match Box::new(alloc, InnerNode::new(key, node_state)) {
+            Ok(middle) => Ok(fork(left, middle, right)),
             Err(_) => Err(Error::OutOfMemory),
         }
     }

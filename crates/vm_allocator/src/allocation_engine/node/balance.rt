@@ -1,4 +1,4 @@
-//! Heights and rotations. Nothing here calls itself, and nothing takes memory.
+//! What a node keeps, and rotations. Nothing here calls itself, and nothing takes memory.
 ghost use Rattle.std.specs.Prelude.{◌≡◌, ◌+◌, ◌<◌, ◌≤◌, ◌^◌, ◌++◌, ◌∷◌, max, true, None, IsSome, ◌↔◌, IsNone};
 ghost use Rattle.vm_allocator.specs.BlockList.{IsOrderedFrom};
 ghost use Rattle.vm_allocator.specs.Shape.{Fork, blocks, height_of, max_free_of, single, root_block, IsTree, DifferByAtMost, IsSameIfNot, IsLeaf, CanBalance, Balances};
@@ -110,7 +110,7 @@ fn part(mut node: Box<InnerNode>) -> (Child, Box<InnerNode>, Child)
 }
 
 /// A node with these sides, whose heights differ by at most one.
-fn fork(left: Child, mut middle: Box<InnerNode>, right: Child) -> Box<InnerNode>
+pub(super) fn fork(left: Child, mut middle: Box<InnerNode>, right: Child) -> Box<InnerNode>
     requires leaf { IsLeaf middle.value }
     requires ordered { IsOrderedFrom 0 (blocks (side left) ++ root_block middle.value ∷ blocks (side right)) }
     requires close { DifferByAtMost 1 (height_of (side left)) (height_of (side right)) }

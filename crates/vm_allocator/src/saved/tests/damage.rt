@@ -52,7 +52,7 @@ fn joined(alloc: Global, parts: &[&str]) -> std::result::Result<String, AllocErr
     Ok(text)
 }
 
-/// What a text with one of its fields damaged states, by the reader of the type that is meant.
+/// Which type's reader is asked.
 #[derive(Clone, Copy, Debug)]
 enum Reader {
     Allocator,
