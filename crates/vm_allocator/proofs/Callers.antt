@@ -6,7 +6,7 @@ use Rattle.vm_allocator.specs.Range.{Range, IsIn, Overlaps, address_count, span}
 use Rattle.vm_allocator.specs.Address.{AddressState, AreClear, IsPlace, IsAddressState, holding, releasing, without_range}
 use Rattle.vm_allocator.specs.Alignment.{IsAlignment}
 use Rattle.vm_allocator.specs.Request.{Request, request_for, IsRequest, IsStartAligned}
-use Rattle.vm_allocator.specs.Answer.{IsChosen, Takes, Allocates, Frees}
+use Rattle.vm_allocator.specs.Answer.{IsChosen, IsSplitRefusal, Takes, Allocates, Frees}
 use Rattle.vm_allocator.specs.Ids.{IdState, IsHeld, IsLeastNotHeld, holding_id, ByLeastNotHeld, AllocatesId}
 use Rattle.vm_allocator.specs.Allocator.{SpaceInTree}
 use Rattle.vm_allocator.specs.SavedTree.{StatesAllocator}
@@ -121,11 +121,10 @@ released_clear old r i h x low high =
           (one_held lo hi x old.held r q.0 i.slots h (held_without r q.0 old.held q.1) inside q.2)),
     )
 
--- so nothing but memory or depth refuses it
-pub refused_again : (old mid new : AddressState) (r : Range) (freed : Result (Unit {0}) Error) (answer : Result Range Error) → IsAddressState old → Contains old.held r → Frees old r freed mid → Allocates mid (request_for (address_count r) 1 (ExactMatch r.start)) answer new → IfErr answer (λ e. (e ≡ OutOfMemory) ⊎ (e ≡ Overflow))
+-- so it is given again, unless the split is refused
+pub given_again : (old mid new : AddressState) (r : Range) (freed : Result (Unit {0}) Error) (answer : Result Range Error) → IsAddressState old → Contains old.held r → Frees old r freed mid → Allocates mid (request_for (address_count r) 1 (ExactMatch r.start)) answer new → (answer ≡ Ok r) ⊎ IsSplitRefusal mid answer
 unfolding Frees Takes IsPlace IsChosen IsStartAligned IsAlignment
-refused_again old mid new r freed (Ok again) i c f h = tt
-refused_again old mid new r freed (Err e) i c f h =
+given_again old mid new r freed answer i c f h =
     let held = held_contains old.held r c in
     let l = held_lies old.space.start old.space.end old.held r i.slots held in
     let left : mid ≡ releasing r old = ⊎_elim (λ k. k.1.1) (λ k. absurd (k.0 c)) f in
@@ -136,8 +135,17 @@ refused_again old mid new r freed (Err e) i c f h =
     let chosen : IsChosen request mid r.start = (refl, (one, clear)) in
     ⊎_elim
     (λ k. absurd (omega (arith, l.1, l.3, k.0)))
-    (λ k. ⊎_elim (λ t. absurd (cc (t.0))) (λ t. ⊎_elim (λ o. inl (cc o)) (λ o. inr (cc (o.1))) t.2) k.1)
-    (allocates_chosen request r.start mid new (Err e) sensible (omega (arith, l.1, l.3)) chosen h)
+    (λ k. ⊎_elim (λ t. inl (t.0 ∙ ap (λ (v : Range). Ok v) (same_range r l.1))) (λ t. inr t.2) k.1)
+    (allocates_chosen request r.start mid new answer sensible (omega (arith, l.1, l.3)) chosen h)
+
+-- and nothing but memory or depth refuses it
+pub refused_again : (old mid new : AddressState) (r : Range) (freed : Result (Unit {0}) Error) (answer : Result Range Error) → IsAddressState old → Contains old.held r → Frees old r freed mid → Allocates mid (request_for (address_count r) 1 (ExactMatch r.start)) answer new → IfErr answer (λ e. (e ≡ OutOfMemory) ⊎ (e ≡ Overflow))
+refused_again old mid new r freed (Ok again) i c f h = tt
+refused_again old mid new r freed (Err e) i c f h =
+    ⊎_elim
+    (λ k. absurd (cc (k)))
+    (λ k. ⊎_elim (λ o. inl (cc o)) (λ o. inr (cc (o.1))) k)
+    (given_again old mid new r freed (Err e) i c f h)
 
 -- ---- ids
 -- an id that was given was held by no one, and is held now

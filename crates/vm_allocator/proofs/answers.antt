@@ -7,3 +7,4 @@ pub mod Filling
 pub mod AddressAnswers
 pub mod EveryCall
 pub mod Cloning
+pub mod Amply

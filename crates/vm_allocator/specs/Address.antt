@@ -1,12 +1,22 @@
 -- A space of addresses, the ranges held in it, and the places that are left.
-use Rattle.std.specs.Prelude.{◌≡◌, ℕ, ◌+◌, ◌%◌, ◌<◌, ◌≤◌, ◌⊎◌, List, [], ◌∷◌, if◌then◌else◌, nat_lt, nat_eq}
+use Rattle.std.specs.Prelude.{◌≡◌, ℕ, ◌+◌, ◌%◌, ◌<◌, ◌≤◌, ◌⊎◌, List, [], ◌∷◌, if◌then◌else◌, nat_lt, nat_eq, refl}
 use Rattle.std.specs.List.{All}
-use Rattle.vm_allocator.specs.Range.{Range, MAX, IsRange, IsIn}
+use Rattle.std.specs.Coded.{Coded, code_by, coded×, coded_list}
+use Rattle.vm_allocator.specs.Range.{Range, range_code, MAX, IsRange, IsIn}
 
 -- a space and the ranges held in it, from the lowest to the highest
 pub record AddressState : Type 0 where
   pub space : Range
   pub held : List Range
+
+-- an address state is stored as the pair of its fields
+abbrev pub address_state_code : Coded AddressState
+address_state_code =
+    code_by (Range × List Range)
+    (coded× range_code (coded_list range_code))
+    (λ s. (s.space, s.held))
+    (λ p. record { space = p.0; held = p.1 })
+    (λ _. refl)
 
 -- an address of the space that lies in no held range
 abbrev pub IsClear : AddressState → ℕ → Type 0

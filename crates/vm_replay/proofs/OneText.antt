@@ -3,14 +3,15 @@ use Rattle.std.proofs.Common.{◌≡◌, ◌≢◌, ℕ, ◌<◌, ◌↔◌, Boo
 use Rattle.std.specs.Prelude.{IfSome, IsTrue, MatchOption}
 use Rattle.vm_allocator.specs.Range.{Range}
 use Rattle.vm_allocator.specs.Address.{AddressState}
-use Rattle.vm_allocator.specs.Answer.{FEWEST_TOO_DEEP, IsSplitRefusal, Allocates, Makes}
+use Rattle.vm_allocator.specs.Answer.{FEWEST_TOO_DEEP}
 use Rattle.vm_allocator.specs.Request.{Request}
 use Rattle.vm_allocator.specs.Ids.{IdState, IsHeld}
 use Rattle.vm_allocator.specs.declared.constraint.AllocPolicy.TheVariants.{FirstMatch, LastMatch, ExactMatch}
 use Rattle.vm_allocator.specs.declared.error.Error.{Error}
 use Rattle.vm_allocator.specs.declared.error.Error.TheVariants.{OutOfMemory}
-use Rattle.vm_allocator.proofs.answers.Cases.{if_same, unless_same}
-use Rattle.vm_allocator.proofs.answers.Once.{allocates_once, frees_once}
+use Rattle.vm_allocator.proofs.answers.Cases.{unless_same}
+use Rattle.vm_allocator.proofs.answers.Once.{frees_once}
+use Rattle.vm_allocator.proofs.answers.Amply.{placed_once, made_once}
 use Rattle.vm_allocator.proofs.ids.Answers.{making_is_determined, allocating_is_determined, freeing_is_determined}
 use Rattle.vm_replay.specs.Commands.{command_of}
 use Rattle.vm_replay.specs.Lines.{newline}
@@ -35,36 +36,11 @@ same_told : {A : Type 0} (tell : Result A Error → Reply) (x y : Reply) (answer
     → y ≡ tell other → answer ≡ other → x ≡ y
 same_told tell x y answer other p q e = p ∙ ap tell e ∙ sym q
 
--- where few ranges are held, no request is refused for the depth of a tree
-no_split_refusal : (old : AddressState) (answer : Result Range Error) → length old.held < FEWEST_TOO_DEEP
-    → answer ≢ Err OutOfMemory → IsSplitRefusal old answer → ⊥
-no_split_refusal old answer few plain (inl e) = plain e
-no_split_refusal old answer few plain (inr p) = omega (arith, few, p.0)
-
--- so a request has one answer
-placed_once : (old m n : AddressState) (request : Request) (x y : Result Range Error)
-    → length old.held < FEWEST_TOO_DEEP → x ≢ Err OutOfMemory → y ≢ Err OutOfMemory
-    → Allocates old request x m
-    → Allocates old request y n → (x ≡ y) × (m ≡ n)
-placed_once old m n request x y few p q a b =
-    ⊎_elim (λ same. same)
-    (λ differ. absurd (⊎_elim (no_split_refusal old x few p) (no_split_refusal old y few q) differ.refused))
-    (allocates_once old m n request x y a b)
-
 released_once : (old m n : AddressState) (start end : ℕ) (x y : Result (Unit {0}) Error) → Releases old start end x m
     → Releases old start end y n → (x ≡ y) × (m ≡ n)
 unfolding Releases
 released_once old m n start end x y a b =
     unless_same _ _ _ _ _ a b (λ u v. (u.0 ∙ sym v.0, u.1 ∙ sym v.1)) (frees_once old m n (record { start = start; end = end }) x y)
-
--- a space is made or refused, by its ends, or there is no memory for it
-made_once : (base size : ℕ) (x y : Result AddressState Error) → x ≢ Err OutOfMemory → y ≢ Err OutOfMemory
-    → Makes base size x → Makes base size y → x ≡ y
-unfolding Makes
-made_once base size x y p q a b =
-    if_same _ _ _ _ _ a b (λ u v. u ∙ sym v)
-    (λ a b. if_same _ _ _ _ _ a b (λ u v. u ∙ sym v) (λ u v.
-    ⊎_elim (λ e. ⊎_elim (λ f. e ∙ sym f) (λ f. absurd (q f)) v) (λ e. absurd (p e)) u))
 
 -- the ids that are held are known
 told_once : (state : IdState) (id : ℕ) (held other : Bool) → IsTrue held ↔ IsHeld state id → IsTrue other ↔ IsHeld state id → held ≡ other

@@ -9,6 +9,7 @@ use Rattle.vm_allocator.specs.Ids.{IdState, ByLeastNotHeld, AllocatesId, FreesId
 use Rattle.vm_allocator.specs.declared.error.Error.{Error}
 use Rattle.vm_allocator.specs.declared.error.Error.TheVariants.{InvalidRange, OutOfMemory}
 use Rattle.vm_allocator.proofs.numbers.Decisions.{Decided, decided_both, decided_below, decided_up_to}
+use Rattle.vm_allocator.proofs.answers.Amply.{frees_no_memory, makes_ids_no_memory, allocates_id_no_memory}
 use Rattle.vm_allocator.proofs.answers.EveryCall.{every_call}
 use Rattle.vm_allocator.proofs.ids.EveryCall.{every_call as every_id_call}
 use Rattle.vm_replay.specs.Machines.{Releases}
@@ -23,11 +24,6 @@ allocates_answered old request = every_call.allocated old request
 
 pub makes_answered : (base size : ℕ) → (answer : Result AddressState Error) × Makes base size answer × (answer ≢ Err OutOfMemory)
 makes_answered base size = every_call.made base size
-
-frees_no_memory : (old new : AddressState) (r : Range) (answer : Result (Unit {0}) Error) → Frees old r answer new → answer ≢ Err OutOfMemory
-unfolding Frees
-frees_no_memory old new r answer (inl k) e = cc (k.1.0, e)
-frees_no_memory old new r answer (inr k) e = cc (k.1.0, e)
 
 decided_range : (start end : ℕ) → Decided (IsRange start end)
 decided_range start end = by_last (decided_both (start ≤ end) (end ≤ MAX) (decided_up_to start end) (decided_up_to end MAX)) (cases_eq start 0) (decided_below end MAX)
@@ -49,12 +45,6 @@ releases_answered old start end =
     (λ (none : IsRange start end → ⊥). (Err (InvalidRange start end), old, inl (none, (refl, refl)), λ e. cc e))
     (decided_range start end)
 
-allocates_id_no_memory : (old new : IdState) (answer : Result ℕ Error) → AllocatesId old answer new → answer ≢ Err OutOfMemory
-unfolding AllocatesId ByLeastNotHeld
-allocates_id_no_memory old new answer (inl k) e = cc (k.2.0, e)
-allocates_id_no_memory old new answer (inr (all, inl k)) e = cc (k.1.0, e)
-allocates_id_no_memory old new answer (inr (all, inr k)) e = cc (k.1.0, e)
-
 pub allocates_id_answered : (old : IdState) → IsAnswered (AllocatesId old)
 allocates_id_answered old =
     let a = every_id_call.allocated old in
@@ -62,11 +52,6 @@ allocates_id_answered old =
 
 pub frees_id_answered : (old : IdState) (id : ℕ) → IsAnswered (FreesId old id)
 frees_id_answered old id = every_id_call.freed old id
-
-makes_ids_no_memory : (lo hi : ℕ) (answer : Result IdState Error) → MakesIds lo hi answer → answer ≢ Err OutOfMemory
-unfolding MakesIds
-makes_ids_no_memory lo hi answer (inl k) e = cc (k.1, e)
-makes_ids_no_memory lo hi answer (inr k) e = cc (k.1, e)
 
 pub makes_ids_answered : (lo hi : ℕ) → (answer : Result IdState Error) × MakesIds lo hi answer × (answer ≢ Err OutOfMemory)
 makes_ids_answered lo hi =

@@ -1,9 +1,9 @@
 -- What the lines so far have made, and what a further line does to it.
-use Rattle.std.specs.Prelude.{◌≡◌, ◌↔◌, ℕ, Bool, IsTrue, List, Option, Some, None, Result, Ok, Err, MatchOption, refl}
-use Rattle.std.specs.Coded.{Coded, code_by, coded×, coded_list, coded_option}
+use Rattle.std.specs.Prelude.{◌≡◌, ◌↔◌, ℕ, Bool, IsTrue, Option, Some, None, Result, Ok, Err, MatchOption, refl}
+use Rattle.std.specs.Coded.{Coded, code_by, coded×, coded_option}
 use Rattle.vm_allocator.specs.Cases.{Unless}
-use Rattle.vm_allocator.specs.Range.{Range, range_code, IsRange}
-use Rattle.vm_allocator.specs.Address.{AddressState}
+use Rattle.vm_allocator.specs.Range.{Range, IsRange}
+use Rattle.vm_allocator.specs.Address.{AddressState, address_state_code}
 use Rattle.vm_allocator.specs.Answer.{Allocates, Frees, Makes}
 use Rattle.vm_allocator.specs.Request.{Request}
 use Rattle.vm_allocator.specs.Ids.{IdState, id_state_code, IsHeld, MakesIds, AllocatesId, FreesId}
@@ -20,15 +20,6 @@ use Rattle.vm_replay.specs.declared.reply.Reply.TheVariants.{Held, NoSpace, NoId
 pub record Machine : Type 0 where
   pub space : Option AddressState
   pub ids : Option IdState
-
--- an address state is stored as the pair of its fields
-abbrev pub address_state_code : Coded AddressState
-address_state_code =
-    code_by (Range × List Range)
-    (coded× range_code (coded_list range_code))
-    (λ s. (s.space, s.held))
-    (λ p. record { space = p.0; held = p.1 })
-    (λ _. refl)
 
 -- a machine is stored as the pair of its fields
 abbrev pub machine_code : Coded Machine

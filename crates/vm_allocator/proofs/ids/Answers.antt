@@ -12,11 +12,11 @@ use Rattle.vm_allocator.proofs.ids.Sets.{inserted_here, inserted_other, from_ins
 
 -- One answer.
 
-one_least : (state : IdState) (i j : ℕ) → IsLeastNotHeld state i → IsLeastNotHeld state j → i ≡ j
+pub one_least : (state : IdState) (i j : ℕ) → IsLeastNotHeld state i → IsLeastNotHeld state j → i ≡ j
 unfolding IsLeastNotHeld
 one_least state i j a b = let up = a.1 j b.0 in let down = b.1 i a.0 in omega (arith, up, down)
 
-by_same_least : (state : IdState) (takes takes' : ℕ → Type 0) (refused refused' : Error → Type 0) (G : Type 0) → ByLeastNotHeld state takes refused → ByLeastNotHeld state takes' refused' → ((i : ℕ) → takes i → takes' i → G) → ((e : Error) → refused e → refused' e → G) → G
+pub by_same_least : (state : IdState) (takes takes' : ℕ → Type 0) (refused refused' : Error → Type 0) (G : Type 0) → ByLeastNotHeld state takes refused → ByLeastNotHeld state takes' refused' → ((i : ℕ) → takes i → takes' i → G) → ((e : Error) → refused e → refused' e → G) → G
 unfolding ByLeastNotHeld AreAllHeld IsLeastNotHeld
 by_same_least state takes takes' refused refused' G (inl a) (inl b) f g =
     f b.0 (subst takes (one_least state a.0 b.0 a.1 b.1) a.2) b.2

@@ -1,0 +1,104 @@
+-- What a released device held is reserved again.
+use Rattle.std.proofs.Common.{◌≡◌, ◌≢◌, ℕ, ◌≤◌, ◌⊎◌, arith, refl, sym, ap, ◌∙◌, inl, inr, ⊎_elim, subst, Option, MatchOption, Result, Ok, Err}
+use Rattle.std.specs.FinMap as map
+use Rattle.vm_allocator.specs.Range.{Range, address_count}
+use Rattle.vm_allocator.specs.Address.{AddressState, holding, releasing}
+use Rattle.vm_allocator.specs.Request.{Request, request_for}
+use Rattle.vm_allocator.specs.Answer.{IsSplitRefusal, Allocates}
+use Rattle.vm_allocator.specs.Ids.{IdState, IsHeld, IsLeastNotHeld, AreAllHeld, ByLeastNotHeld, holding_id, releasing_id}
+use Rattle.vm_allocator.specs.declared.error.Error.{Error}
+use Rattle.vm_allocator.specs.declared.error.Error.TheVariants.{NeverAllocated, OutOfMemory}
+use Rattle.vm_allocator.specs.declared.constraint.AllocPolicy.TheVariants.{ExactMatch}
+use Rattle.vm_allocator.proofs.blocks.Words.{held_contains}
+use Rattle.vm_allocator.proofs.Callers.{given_held, given_again}
+use Rattle.vm_allocator.proofs.answers.Once.{allocates_once}
+use Rattle.vm_allocator.proofs.answers.AddressAnswers.{freeing_undoes, releases_held}
+use Rattle.vm_allocator.proofs.ids.Sets.{inserted_other, removed_other, from_removed}
+use Rattle.vm_allocator.proofs.ids.Answers.{one_least}
+use Rattle.vm_devices.specs.declared.device_slot.DeviceSlot.{DeviceSlot}
+use Rattle.vm_devices.specs.Devices.{DeviceState, IsDevice, with_device, without_device, Pairs, Reserves, Releases}
+use Rattle.vm_devices.specs.Laws.{IsExcused, ReservedAgain, RangeComesBack}
+use Rattle.vm_devices.proofs.Tables.{with_here}
+use Rattle.vm_devices.proofs.Pairs.{id_held}
+use Rattle.vm_devices.proofs.Reserving.{reserved_device}
+
+-- a device that is released without want of memory is gone
+device_released : (old new : DeviceState) (id : ℕ) (r : Range) (answer : Result (Unit {0}) Error) → IsDevice old id r → Releases old id answer new → answer ≢ Err OutOfMemory → new ≡ without_device id r old
+unfolding Releases
+device_released old new id r answer d h plain =
+    let P : Option Range → Type 0 = λ at.
+        MatchOption at ((answer ≡ Err (NeverAllocated id)) × (new ≡ old))
+        (λ r. ((answer ≡ Ok tt) × (new ≡ without_device id r old)) ⊎ ((answer ≡ Err OutOfMemory) × (new ≡ old))) in
+    ⊎_elim (λ t. t.1) (λ m. absurd (plain m.0)) (subst P d h)
+
+-- what a request for a range comes to, for an id
+told : (old new : DeviceState) (id : ℕ) (given : Result Range Error) (answer : Result DeviceSlot Error) (r : Range) → Pairs old id given answer new → (given ≡ Ok r) ⊎ IsSplitRefusal old.space given → (answer ≡ Ok (record { id = id; range = r })) ⊎ IsExcused old answer
+told old new id given answer r p (inl e) =
+    ⊎_elim (λ t. inl t.0) (λ m. inr (inl m.0)) (subst (λ (g : Result Range Error). Pairs old id g answer new) e p)
+told old new id given answer r p (inr (inl e)) =
+    inr (inl (subst (λ (g : Result Range Error). Pairs old id g answer new) e p).0)
+told old new id given answer r p (inr (inr e)) =
+    inr (inr (e.0, (subst (λ (g : Result Range Error). Pairs old id g answer new) e.1 p).0))
+
+-- ---- the same request
+-- the id that was taken and given back is the least again
+least_again : (ids : IdState) (id : ℕ) → IsLeastNotHeld ids id → IsLeastNotHeld (releasing_id id (holding_id id ids)) id
+unfolding IsLeastNotHeld
+least_again ids id h = (
+  (h.0.0, λ k. (from_removed (holding_id id ids).held id id k).0 refl),
+  λ j n. h.1 j (n.0, λ k. n.1 (removed_other (holding_id id ids).held id j (λ e. h.0.1 (subst (IsHeld ids) e k)) (inserted_other ids.held id j k))),
+)
+
+-- where an id is the least that is not held, a request is for that one
+for_least : (ids : IdState) (id : ℕ) (takes : ℕ → Type 0) (refused : Error → Type 0) → IsLeastNotHeld ids id → ByLeastNotHeld ids takes refused → takes id
+unfolding ByLeastNotHeld AreAllHeld IsLeastNotHeld
+for_least ids id takes refused least (inl h) = subst takes (one_least ids h.0 id h.1 least) h.2
+for_least ids id takes refused least (inr h) = absurd (least.0.1 (h.0 id least.0.0))
+
+-- the same range is given, or the split is refused
+same_given : (old new : AddressState) (request : Request) (r : Range) (given : Result Range Error) → Allocates old request (Ok r) (holding r old) → Allocates old request given new → (given ≡ Ok r) ⊎ IsSplitRefusal old given
+same_given old new request r given a b =
+    ⊎_elim
+    (λ same. inl (sym same.0))
+    (λ differ. ⊎_elim (λ k. absurd (⊎_elim (λ e. cc e) (λ e. cc (e.1)) k)) (λ k. inr k) differ.refused)
+    (allocates_once old (holding r old) new request (Ok r) given a b)
+
+pub reserved_again : ReservedAgain
+unfolding Reserves
+reserved_again old mid new later request slot released answer i s f plain t =
+    let m = reserved_device old mid request slot s in
+    let id = slot.id in
+    let r = slot.range in
+    let device : IsDevice mid id r = ap (λ (v : DeviceState). map.get v.devices id) m.left ∙ with_here old.devices id r in
+    let left : new ≡ without_device id r (with_device id r old) = device_released mid new id r released device f plain ∙ ap (without_device id r) m.left in
+    let held = held_contains (holding r old.space).held r (given_held old.space (holding r old.space) request r m.given) in
+    let back : releasing r (holding r old.space) ≡ old.space = (freeing_undoes old.space (holding r old.space) (releasing r (holding r old.space)) request r (Ok tt) i.space m.given (releases_held (holding r old.space) r held)).1 in
+    let space : new.space ≡ old.space = ap (λ (v : DeviceState). v.space) left ∙ back in
+    let least : IsLeastNotHeld new.ids id = subst (λ (v : IdState). IsLeastNotHeld v id) (sym (ap (λ (v : DeviceState). v.ids) left)) (least_again old.ids id m.least) in
+    let u = for_least new.ids id _ _ least t in
+    let given = same_given new.space u.1 request r u.0 (subst (λ (v : AddressState). Allocates v request (Ok r) (holding r v)) (sym space) m.given) u.2 in
+    told new later id u.0 answer r u.3 given
+
+-- ---- the same range
+-- an id that is given back leaves one that is not held
+for_some : (ids : IdState) (id : ℕ) (takes : ℕ → Type 0) (refused : Error → Type 0) → (ids.lo ≤ id) × (id ≤ ids.hi) → ByLeastNotHeld (releasing_id id ids) takes refused → (some : ℕ) × takes some
+unfolding ByLeastNotHeld AreAllHeld
+for_some ids id takes refused inside (inl h) = (h.0, h.2)
+for_some ids id takes refused inside (inr h) = absurd ((from_removed ids.held id id (h.0 id inside)).0 refl)
+
+pub range_comes_back : RangeComesBack
+unfolding Reserves
+range_comes_back old new later id r released answer i d f plain t =
+    let left = device_released old new id r released d f plain in
+    let out = i.ids.held id (id_held old id r i d) in
+    let held = i.pairs.held id r d in
+    let t' = subst (λ (v : DeviceState). Reserves v (request_for (address_count r) 1 (ExactMatch r.start)) answer later) left t in
+    let u = for_some old.ids id _ _ (out.0, omega (arith, out.1, i.ids.front.1)) t' in
+    let frees = releases_held old.space r (held_contains old.space.held r held) in
+    let given = given_again old.space (releasing r old.space) u.1.1 r (Ok tt) u.1.0 i.space held frees u.1.2 in
+    ⊎_elim
+    (λ e. inl (u.0, e))
+    (λ e. inr (subst (λ (v : DeviceState). IsExcused v answer) (sym left) e))
+    (told (without_device id r old) later u.0 u.1.0 answer r u.1.3 given)
+
+pub ruleset again = (reserved_again, range_comes_back)

@@ -1,0 +1,94 @@
+-- Every call of a manager has an answer, and so every list of calls a history.
+use Rattle.std.proofs.Common.{◌≡◌, ◌≢◌, ℕ, List, [], ◌∷◌, refl, ap, inl, inr, Option, Some, None, Result, Ok, Err}
+use Rattle.std.proofs.lemmas.List.Elements.{All-nil, All-cons}
+use Rattle.std.specs.FinMap as map
+use Rattle.vm_allocator.specs.Range.{Range}
+use Rattle.vm_allocator.specs.Address.{AddressState}
+use Rattle.vm_allocator.specs.Request.{Request}
+use Rattle.vm_allocator.specs.Answer.{Allocates}
+use Rattle.vm_allocator.specs.Ids.{IdState, IsLeastNotHeld, ByLeastNotHeld, PeeksId}
+use Rattle.vm_allocator.specs.declared.error.Error.{Error}
+use Rattle.vm_allocator.specs.declared.error.Error.TheVariants.{Overflow, ResourceNotAvailable, NeverAllocated, OutOfMemory}
+use Rattle.vm_allocator.proofs.answers.Amply.{makes_ids_no_memory}
+use Rattle.vm_allocator.proofs.answers.EveryCall.{every_call}
+use Rattle.vm_allocator.proofs.ids.EveryCall.{every_call as every_id_call}
+use Rattle.vm_devices.specs.declared.device_slot.DeviceSlot.{DeviceSlot}
+use Rattle.vm_devices.specs.Devices.{DeviceState, made_devices, with_device, without_device, MakesManager, Reserves, Releases}
+use Rattle.vm_devices.specs.Histories.{Reservation, Release, DeviceAsked, Reserve, GiveBack, RunsOutOfMemory}
+use Rattle.vm_devices.specs.Laws.{EveryDeviceCallIsAnswered, EveryDeviceListHasHistory}
+
+-- ---- making
+made_plainly : (ids : Result IdState Error) (space : Result AddressState Error) → ids ≢ Err OutOfMemory → space ≢ Err OutOfMemory → made_devices ids space ≢ Err OutOfMemory
+made_plainly (Err e) space p q h = let same : e ≡ OutOfMemory = cc (h) in p (ap (λ (v : Error). Err v) same)
+made_plainly (Ok ids) (Err e) p q h = let same : e ≡ OutOfMemory = cc (h) in q (ap (λ (v : Error). Err v) same)
+made_plainly (Ok ids) (Ok space) p q h = cc (h)
+
+total_makes : (lo hi base size : ℕ) → (answer : Result DeviceState Error) × MakesManager lo hi base size answer × (answer ≢ Err OutOfMemory)
+unfolding MakesManager
+total_makes lo hi base size =
+    let ids = every_id_call.made lo hi in
+    let space = every_call.made base size in (
+      made_devices ids.0 space.0,
+      (ids.0, space.0, ids.1, space.1, refl),
+      made_plainly ids.0 space.0 (makes_ids_no_memory lo hi ids.0 ids.1) space.2,
+    )
+
+-- ---- reserving
+-- some answer, not that memory ran out, and some next state
+abbrev IsAnswered : DeviceState → Request → Type 0
+IsAnswered old request =
+    (answer : Result DeviceSlot Error) × (new : DeviceState) × Reserves old request answer new × (answer ≢ Err OutOfMemory)
+
+with_id : (old : DeviceState) (request : Request) (id : ℕ) (given : Result Range Error) (space : AddressState) → IsLeastNotHeld old.ids id → Allocates old.space request given space → given ≢ Err OutOfMemory → IsAnswered old request
+unfolding Reserves ByLeastNotHeld
+with_id old request id (Err e) space least a plain =
+    (Err e, old, inl (id, least, (Err e, space, a, (refl, refl))), λ h. let same : e ≡ OutOfMemory = cc (h) in plain (ap (λ (v : Error). Err v) same))
+with_id old request id (Ok r) space least a plain =
+    (Ok (record { id = id; range = r }), with_device id r old, inl (id, least, (Ok r, space, a, inl (refl, refl))), λ h. cc (h))
+
+by_peeking : (old : DeviceState) (request : Request) (peeked : Result ℕ Error) → PeeksId old.ids peeked → IsAnswered old request
+unfolding Reserves PeeksId ByLeastNotHeld
+by_peeking old request peeked (inl h) =
+    let a = every_call.allocated old.space request in
+    with_id old request h.0 a.0 a.1 h.1 a.2 a.3
+by_peeking old request peeked (inr (all, inl h)) = (Err Overflow, old, inr (all, inl (h.0, (refl, refl))), λ e. cc (e))
+by_peeking old request peeked (inr (all, inr h)) = (Err ResourceNotAvailable, old, inr (all, inr (h.0, (refl, refl))), λ e. cc (e))
+
+total_reserves : (old : DeviceState) (request : Request) → IsAnswered old request
+total_reserves old request = let p = every_id_call.peeked old.ids in by_peeking old request p.0 p.1
+
+-- ---- releasing
+total_releases_at : (old : DeviceState) (id : ℕ) (at : Option Range) → map.get old.devices id ≡ at → (answer : Result (Unit {0}) Error) × (new : DeviceState) × Releases old id answer new × (answer ≢ Err OutOfMemory)
+unfolding Releases
+total_releases_at old id None e = (Err (NeverAllocated id), old, rw e (refl, refl), λ h. cc (h))
+total_releases_at old id (Some r) e = (Ok tt, without_device id r old, rw e (inl (refl, refl)), λ h. cc (h))
+
+total_releases : (old : DeviceState) (id : ℕ) → (answer : Result (Unit {0}) Error) × (new : DeviceState) × Releases old id answer new × (answer ≢ Err OutOfMemory)
+total_releases old id = total_releases_at old id (map.get old.devices id) refl
+
+pub every_device_call : EveryDeviceCallIsAnswered
+every_device_call = record { made = total_makes; reserved = total_reserves; released = total_releases }
+
+-- ---- and so is each list of what is asked
+pub every_list : EveryDeviceListHasHistory
+every_list old [] = ([], old, refl, refl, All-nil _)
+every_list old (Reserve request ∷ asked) =
+    let a = total_reserves old request in
+    let rest = every_list a.1 asked in (
+      Reservation request a.0 ∷ rest.0,
+      rest.1,
+      (a.1, a.2, rest.2),
+      ap (λ (v : List DeviceAsked). Reserve request ∷ v) rest.3,
+      All-cons (λ call. ¬ RunsOutOfMemory call) (Reservation request a.0) rest.0 a.3 rest.4,
+    )
+every_list old (GiveBack id ∷ asked) =
+    let f = total_releases old id in
+    let rest = every_list f.1 asked in (
+      Release id f.0 ∷ rest.0,
+      rest.1,
+      (f.1, f.2, rest.2),
+      ap (λ (v : List DeviceAsked). GiveBack id ∷ v) rest.3,
+      All-cons (λ call. ¬ RunsOutOfMemory call) (Release id f.0) rest.0 f.3 rest.4,
+    )
+
+pub ruleset answers = (every_device_call, every_list)

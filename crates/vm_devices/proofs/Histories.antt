@@ -1,0 +1,109 @@
+-- What holds along every history of a manager.
+use Rattle.std.proofs.Common.{◌≡◌, ◌≢◌, ℕ, ◌<◌, ◌⊎◌, List, [], ◌∷◌, suc, arith, sym, ap, ◌∙◌, inl, inr, ⊎_elim, subst, Some, None, Ok}
+use Rattle.std.proofs.lemmas.Bool.{cases_eq}
+use Rattle.std.specs.Ordering.{nat_cmp}
+use Rattle.std.specs.FinMap as map
+use Rattle.vm_allocator.specs.Range.{Range, MAX, Overlaps, Covers}
+use Rattle.vm_allocator.specs.Address.{holding}
+use Rattle.vm_allocator.specs.Answer.{Allocates}
+use Rattle.vm_allocator.specs.Ids.{IsOfRange}
+use Rattle.vm_allocator.proofs.answers.AddressAnswers.{lie_apart}
+use Rattle.vm_allocator.proofs.Callers.{given, given_aligned}
+use Rattle.vm_devices.specs.declared.device_slot.DeviceSlot.{DeviceSlot}
+use Rattle.vm_devices.specs.Devices.{DeviceState, IsDevice, IsDeviceState}
+use Rattle.vm_devices.specs.Histories.{DeviceCall, Reservation, Release, IsDeviceCallFrom, IsDeviceHistoryFrom, AreDevicesReached, WasReserved}
+use Rattle.vm_devices.specs.Laws.{DevicesAreGood}
+use Rattle.vm_devices.proofs.Tables.{with_here, with_other}
+use Rattle.vm_devices.proofs.Pairs.{one_range, was, id_held}
+use Rattle.vm_devices.proofs.Making.{made_state}
+use Rattle.vm_devices.proofs.Reserving.{reserving_outcome, releasing_outcome, reserved_state, released_state}
+
+-- ---- every state that is reached is one
+call_state : (old new : DeviceState) (call : DeviceCall) → IsDeviceCallFrom old call new → IsDeviceState old → IsDeviceState new
+call_state old new (Reservation request answer) h i = reserved_state old new request answer i h
+call_state old new (Release id answer) h i = released_state old new id answer i h
+
+history_state : (calls : List DeviceCall) (first last : DeviceState) → IsDeviceHistoryFrom first calls last → IsDeviceState first → IsDeviceState last
+history_state [] first last h i = subst IsDeviceState (sym h) i
+history_state (call ∷ calls) first last h i = history_state calls h.0 last h.2 (call_state first h.0 call h.1 i)
+
+reached_state : (calls : List DeviceCall) (old : DeviceState) → AreDevicesReached calls old → IsDeviceState old
+reached_state calls old r =
+    let b = r.begins in
+    history_state calls r.first old r.history (made_state b.lo b.hi b.base b.size r.first b.id b.word b.made).0
+
+-- ---- each device was reserved
+reserved_later : (call : DeviceCall) (calls : List DeviceCall) (id : ℕ) (r : Range) → WasReserved calls id r → WasReserved (call ∷ calls) id r
+reserved_later call calls id r g =
+    let c = g.call in
+    record { request = g.request; call = (suc c.0, omega (arith, c.1), c.2); aligned = g.aligned; long = g.long }
+
+-- a device after a call was one before it, or the call reserved it
+call_reserves : (old new : DeviceState) (call : DeviceCall) (calls : List DeviceCall) (id : ℕ) (r : Range) → IsDeviceCallFrom old call new → IsDeviceState old → IsDevice new id r → IsDevice old id r ⊎ WasReserved (call ∷ calls) id r
+call_reserves old new (Reservation request answer) calls id r h i d =
+    ⊎_elim
+    (λ refused. inl (subst (λ (s : DeviceState). IsDevice s id r) refused.2 d))
+    (λ made.
+    let slot = made.0 in
+    let m = made.2 in
+    let now = subst (λ (s : DeviceState). IsDevice s id r) m.left d in
+    ⊎_elim
+    (λ (e : id ≡ slot.id).
+    let same : r ≡ slot.range = one_range r slot.range _ (ap (map.get (map.insert old.devices slot.id slot.range)) (sym e) ∙ now) (with_here old.devices slot.id slot.range) in
+    let a = subst (λ (v : Range). Allocates old.space request (Ok v) (holding slot.range old.space)) (sym same) m.given in
+    let named : record {id = slot.id; range = slot.range} ≡ record {id = id; range = r} = cc (e, same) in
+    inr (record {
+      request = request;
+      call = (0, omega arith, ap (Reservation request) (made.1 ∙ ap (λ (s : DeviceSlot). Ok s) named));
+      aligned = given_aligned old.space (holding slot.range old.space) request.size request.align request.policy (Ok r) a;
+      long = (given old.space (holding slot.range old.space) request r a).long;
+    }))
+    (λ (ne : id ≡ slot.id → ⊥). inl (sym (with_other old.devices slot.id slot.range id ne) ∙ now))
+    (cases_eq id slot.id))
+    (reserving_outcome old new request answer h)
+call_reserves old new (Release q answer) calls id r h i d =
+    inl (⊎_elim
+    (λ refused. subst (λ (s : DeviceState). IsDevice s id r) refused.2 d)
+    (λ left. was old q left.0 i left.1 id r (subst (λ (s : DeviceState). IsDevice s id r) left.3 d))
+    (releasing_outcome old new q answer h))
+
+history_reserves : (calls : List DeviceCall) (first last : DeviceState) (id : ℕ) (r : Range) → IsDeviceHistoryFrom first calls last → IsDeviceState first → IsDevice last id r → IsDevice first id r ⊎ WasReserved calls id r
+history_reserves [] first last id r h i d = inl (subst (λ (s : DeviceState). IsDevice s id r) h d)
+history_reserves (call ∷ calls) first last id r h i d =
+    ⊎_elim
+    (λ (k : IsDevice h.0 id r). call_reserves first h.0 call calls id r h.1 i k)
+    (λ (g : WasReserved calls id r). inr (reserved_later call calls id r g))
+    (history_reserves calls h.0 last id r h.2 (call_state first h.0 call h.1 i) d)
+
+reached_reserved : (calls : List DeviceCall) (old : DeviceState) (id : ℕ) (r : Range) → AreDevicesReached calls old → IsDevice old id r → WasReserved calls id r
+reached_reserved calls old id r h d =
+    let b = h.begins in
+    let made = made_state b.lo b.hi b.base b.size h.first b.id b.word b.made in
+    ⊎_elim
+    (λ (k : IsDevice h.first id r).
+    let none : None ≡ Some r = sym (ap (λ (m : map.FinMap nat_cmp Range). map.get m id) made.1 ∙ map.get-empty nat_cmp id) ∙ k in
+    absurd (cc (none)))
+    (λ (g : WasReserved calls id r). g)
+    (history_reserves calls h.first old id r h.history made.0 d)
+
+-- ---- where devices lie
+devices_apart : (old : DeviceState) (i j : ℕ) (r s : Range) → IsDeviceState old → IsDevice old i r → IsDevice old j s → i ≢ j → ¬ Overlaps r s
+devices_apart old i j r s is d f ne o =
+    let p = is.pairs in
+    let same : r ≡ s = (lie_apart old.space is.space).apart r s (p.held i r d) (p.held j s f) o in
+    ne (p.once i j s (d ∙ ap Some same) f)
+
+device_inside : (old : DeviceState) (id : ℕ) (r : Range) → IsDeviceState old → IsDevice old id r → IsOfRange old.ids id × Covers old.space.space r × (r.end < MAX)
+device_inside old id r is d =
+    let l = lie_apart old.space is.space in
+    let c = is.pairs.held id r d in
+    let out = is.ids.held id (id_held old id r is d) in
+    ((out.0, omega (arith, out.1, is.ids.front.1)), (l.inside r c).1, l.below r c)
+
+pub devices_are_good : DevicesAreGood
+devices_are_good = record {
+  state = reached_state;
+  apart = λ calls old i j r s h. devices_apart old i j r s (reached_state calls old h);
+  inside = λ calls old id r h. device_inside old id r (reached_state calls old h);
+  reserved = reached_reserved;
+}

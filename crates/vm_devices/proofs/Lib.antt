@@ -1,0 +1,9 @@
+pub mod Tables
+pub mod Pairs
+pub mod Making
+pub mod Reserving
+pub mod Histories
+pub mod Again
+pub mod Once
+pub mod EveryCall
+pub mod Calls

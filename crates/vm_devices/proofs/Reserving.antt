@@ -1,0 +1,97 @@
+-- The answers to one call of a manager, case by case.
+use Rattle.std.proofs.Common.{◌≡◌, ℕ, refl, sym, inl, inr, ◌⊎◌, ⊎_elim, subst, Option, Some, None, MatchOption, Result, Ok, Err}
+use Rattle.std.specs.FinMap as map
+use Rattle.vm_allocator.specs.Range.{Range}
+use Rattle.vm_allocator.specs.Address.{AddressState, holding}
+use Rattle.vm_allocator.specs.Request.{Request}
+use Rattle.vm_allocator.specs.Answer.{Allocates}
+use Rattle.vm_allocator.specs.Ids.{IsLeastNotHeld, ByLeastNotHeld, AllocatesId, holding_id}
+use Rattle.vm_allocator.specs.declared.error.Error.{Error}
+use Rattle.vm_allocator.specs.declared.error.Error.TheVariants.{NeverAllocated, OutOfMemory}
+use Rattle.vm_allocator.proofs.Callers.{given}
+use Rattle.vm_devices.specs.declared.device_slot.DeviceSlot.{DeviceSlot}
+use Rattle.vm_devices.specs.Devices.{DeviceState, IsDevice, IsDeviceState, with_device, without_device, Pairs, Reserves, Releases}
+use Rattle.vm_devices.proofs.Pairs.{state_with, state_without}
+
+-- ---- a reservation
+-- a device that a reservation made: the least id that was not held, with the range that the request got
+pub record IsReserved (old : DeviceState) (request : Request) (slot : DeviceSlot) (new : DeviceState) : Type 0 where
+  pub least : IsLeastNotHeld old.ids slot.id
+  pub given : Allocates old.space request (Ok slot.range) (holding slot.range old.space)
+  pub left : new ≡ with_device slot.id slot.range old
+
+-- the least id that is not held is what a request for one gets
+pub gets_least : (old : DeviceState) (id : ℕ) → IsLeastNotHeld old.ids id → AllocatesId old.ids (Ok id) (holding_id id old.ids)
+unfolding AllocatesId ByLeastNotHeld
+gets_least old id least = inl (id, least, (refl, refl))
+
+-- what is held after a range was given
+pub given_holding : (old new : AddressState) (request : Request) (r : Range) → Allocates old request (Ok r) new → Allocates old request (Ok r) (holding r old)
+given_holding old new request r a = subst (Allocates old request (Ok r)) (given old new request r a).left a
+
+-- a refusal that changes nothing, or a device
+abbrev pub IsRefusedOrReserved : DeviceState → Request → Result DeviceSlot Error → DeviceState → Type 0
+IsRefusedOrReserved old request answer new =
+    ((e : Error) × (answer ≡ Err e) × (new ≡ old))
+    ⊎ ((slot : DeviceSlot) × (answer ≡ Ok slot) × IsReserved old request slot new)
+
+paired_outcome : (old new : DeviceState) (space : AddressState) (request : Request) (id : ℕ) (given : Result Range Error) (answer : Result DeviceSlot Error) → IsLeastNotHeld old.ids id → Allocates old.space request given space → Pairs old id given answer new → IsRefusedOrReserved old request answer new
+paired_outcome old new space request id (Err e) answer least a p = inl (e, p.0, p.1)
+paired_outcome old new space request id (Ok r) answer least a p =
+    ⊎_elim
+    (λ t.
+    inr (
+      record { id = id; range = r },
+      t.0,
+      record { least = least; given = given_holding old.space space request r a; left = t.1 },
+    ))
+    (λ m. inl (OutOfMemory, m.0, m.1))
+    p
+
+pub reserving_outcome : (old new : DeviceState) (request : Request) (answer : Result DeviceSlot Error) → Reserves old request answer new → IsRefusedOrReserved old request answer new
+unfolding Reserves ByLeastNotHeld
+reserving_outcome old new request answer (inl h) =
+    paired_outcome old new h.2.1 request h.0 h.2.0 answer h.1 h.2.2 h.2.3
+reserving_outcome old new request answer (inr (all, inl h)) = inl (_, h.1.0, h.1.1)
+reserving_outcome old new request answer (inr (all, inr h)) = inl (_, h.1.0, h.1.1)
+
+pub reserved_device : (old new : DeviceState) (request : Request) (slot : DeviceSlot) → Reserves old request (Ok slot) new → IsReserved old request slot new
+reserved_device old new request slot h =
+    ⊎_elim
+    (λ r. absurd (cc (r.1)))
+    (λ d. let same : d.0 ≡ slot = cc (d.1) in subst (λ (s : DeviceSlot). IsReserved old request s new) same d.2)
+    (reserving_outcome old new request (Ok slot) h)
+
+-- ---- a release
+-- a refusal that changes nothing, or a device that is gone
+abbrev pub IsRefusedOrReleased : DeviceState → ℕ → Result (Unit {0}) Error → DeviceState → Type 0
+IsRefusedOrReleased old id answer new =
+    ((e : Error) × (answer ≡ Err e) × (new ≡ old))
+    ⊎ ((r : Range) × IsDevice old id r × (answer ≡ Ok tt) × (new ≡ without_device id r old))
+
+released_outcome : (old new : DeviceState) (id : ℕ) (answer : Result (Unit {0}) Error) (at : Option Range) → map.get old.devices id ≡ at → MatchOption at ((answer ≡ Err (NeverAllocated id)) × (new ≡ old)) (λ r. ((answer ≡ Ok tt) × (new ≡ without_device id r old)) ⊎ ((answer ≡ Err OutOfMemory) × (new ≡ old))) → IsRefusedOrReleased old id answer new
+released_outcome old new id answer None e h = inl (NeverAllocated id, h.0, h.1)
+released_outcome old new id answer (Some r) e h =
+    ⊎_elim (λ t. inr (r, e, t.0, t.1)) (λ m. inl (OutOfMemory, m.0, m.1)) h
+
+pub releasing_outcome : (old new : DeviceState) (id : ℕ) (answer : Result (Unit {0}) Error) → Releases old id answer new → IsRefusedOrReleased old id answer new
+unfolding Releases
+releasing_outcome old new id answer h = released_outcome old new id answer (map.get old.devices id) refl h
+
+-- ---- each call keeps ids and ranges in pairs
+pub reserved_state : (old new : DeviceState) (request : Request) (answer : Result DeviceSlot Error) → IsDeviceState old → Reserves old request answer new → IsDeviceState new
+reserved_state old new request answer i h =
+    ⊎_elim
+    (λ r. subst IsDeviceState (sym r.2) i)
+    (λ d.
+    let slot = d.0 in
+    let made = d.2 in
+    subst IsDeviceState (sym made.left) (state_with old slot.id slot.range request i (gets_least old slot.id made.least) made.given))
+    (reserving_outcome old new request answer h)
+
+pub released_state : (old new : DeviceState) (id : ℕ) (answer : Result (Unit {0}) Error) → IsDeviceState old → Releases old id answer new → IsDeviceState new
+released_state old new id answer i h =
+    ⊎_elim
+    (λ r. subst IsDeviceState (sym r.2) i)
+    (λ d. subst IsDeviceState (sym d.3) (state_without old id d.0 i d.1))
+    (releasing_outcome old new id answer h)

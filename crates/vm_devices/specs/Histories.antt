@@ -1,0 +1,64 @@
+-- Histories: calls of a manager of devices, one after the other.
+use Rattle.std.specs.Prelude.{◌≡◌, ℕ, ◌%◌, ◌≤◌, List, [], ◌∷◌, Result, Ok, Err}
+use Rattle.std.specs.List.{Contains}
+use Rattle.vm_allocator.specs.Range.{Range, MAX, span}
+use Rattle.vm_allocator.specs.Request.{Request}
+use Rattle.vm_allocator.specs.Ids.{MAX_ID}
+use Rattle.vm_allocator.specs.declared.error.Error.{Error}
+use Rattle.vm_allocator.specs.declared.error.Error.TheVariants.{OutOfMemory}
+use Rattle.vm_devices.specs.declared.device_slot.DeviceSlot.{DeviceSlot}
+use Rattle.vm_devices.specs.Devices.{DeviceState, MakesManager, Reserves, Releases}
+
+-- a call with its answer: a request for a device, or the id of one that is given back
+pub data DeviceCall : Type 0 where
+  Reservation : Request → Result DeviceSlot Error → DeviceCall
+  Release : ℕ → Result (Unit {0}) Error → DeviceCall
+
+-- what is asked by a call
+pub data DeviceAsked : Type 0 where
+  Reserve : Request → DeviceAsked
+  GiveBack : ℕ → DeviceAsked
+
+-- a call without its answer
+abbrev pub device_asked_by : DeviceCall → DeviceAsked
+device_asked_by (Reservation request answer) = Reserve request
+device_asked_by (Release id answer) = GiveBack id
+
+-- the call was refused for memory
+abbrev pub RunsOutOfMemory : DeviceCall → Type 0
+RunsOutOfMemory (Reservation request answer) = answer ≡ Err OutOfMemory
+RunsOutOfMemory (Release id answer) = answer ≡ Err OutOfMemory
+
+-- in the state old the call has its answer, and leaves new
+abbrev pub IsDeviceCallFrom : DeviceState → DeviceCall → DeviceState → Type 0
+IsDeviceCallFrom old (Reservation request answer) new = Reserves old request answer new
+IsDeviceCallFrom old (Release id answer) new = Releases old id answer new
+
+-- each call is on the state that the one before it left
+abbrev pub IsDeviceHistoryFrom : DeviceState → List DeviceCall → DeviceState → Type 0
+IsDeviceHistoryFrom old [] new = new ≡ old
+IsDeviceHistoryFrom old (call ∷ calls) new =
+    (mid : DeviceState) × IsDeviceCallFrom old call mid × IsDeviceHistoryFrom mid calls new
+
+-- the state of a new manager
+pub record IsManagerMade (state : DeviceState) : Type 0 where
+  pub lo : ℕ
+  pub hi : ℕ
+  pub base : ℕ
+  pub size : ℕ
+  pub id : hi ≤ MAX_ID
+  pub word : size ≤ MAX
+  pub made : MakesManager lo hi base size (Ok state)
+
+-- the calls lead from a new manager to the state
+pub record AreDevicesReached (calls : List DeviceCall) (state : DeviceState) : Type 0 where
+  pub first : DeviceState
+  pub begins : IsManagerMade first
+  pub history : IsDeviceHistoryFrom first calls state
+
+-- some call reserved the range for the id, for as many addresses as it has, at a multiple of the alignment asked for
+pub record WasReserved (calls : List DeviceCall) (id : ℕ) (r : Range) : Type 0 where
+  pub request : Request
+  pub call : Contains calls (Reservation request (Ok (record { id = id; range = r })))
+  pub aligned : r.start % request.align ≡ 0
+  pub long : r ≡ span r.start request.size

@@ -1,0 +1,76 @@
+-- What holds along every history of a manager of devices.
+use Rattle.std.specs.Prelude.{◌≡◌, ◌≢◌, ℕ, ◌<◌, ◌≤◌, ◌⊎◌, List, map, length, Result, Ok, Err}
+use Rattle.std.specs.List.{All}
+use Rattle.vm_allocator.specs.Range.{Range, MAX, Overlaps, Covers, address_count}
+use Rattle.vm_allocator.specs.Request.{Request, request_for}
+use Rattle.vm_allocator.specs.Answer.{FEWEST_TOO_DEEP}
+use Rattle.vm_allocator.specs.Ids.{IsOfRange}
+use Rattle.vm_allocator.specs.declared.error.Error.{Error}
+use Rattle.vm_allocator.specs.declared.error.Error.TheVariants.{Overflow, OutOfMemory}
+use Rattle.vm_allocator.specs.declared.constraint.AllocPolicy.TheVariants.{ExactMatch}
+use Rattle.vm_devices.specs.declared.device_slot.DeviceSlot.{DeviceSlot}
+use Rattle.vm_devices.specs.Devices.{DeviceState, IsDevice, IsDeviceState, MakesManager, Reserves, Releases}
+use Rattle.vm_devices.specs.Histories.{DeviceCall, DeviceAsked, device_asked_by, RunsOutOfMemory, IsDeviceHistoryFrom, AreDevicesReached, WasReserved}
+
+-- in each state the devices pair the held ids with the held ranges; no two share an address; each lies in the space,
+-- below MAX, and has an id of the range and what some call reserved for it
+pub record DevicesAreGood : Type 0 where
+  pub state : (calls : List DeviceCall) (old : DeviceState) → AreDevicesReached calls old → IsDeviceState old
+  pub apart : (calls : List DeviceCall) (old : DeviceState) (i j : ℕ) (r s : Range) → AreDevicesReached calls old →
+      IsDevice old i r → IsDevice old j s → i ≢ j → ¬ Overlaps r s
+  pub inside : (calls : List DeviceCall) (old : DeviceState) (id : ℕ) (r : Range) → AreDevicesReached calls old →
+      IsDevice old id r → IsOfRange old.ids id × Covers old.space.space r × (r.end < MAX)
+  pub reserved : (calls : List DeviceCall) (old : DeviceState) (id : ℕ) (r : Range) → AreDevicesReached calls old →
+      IsDevice old id r → WasReserved calls id r
+
+-- the answer is a refusal for memory, or, where so many ranges are held that a tree of them may be too deep, for depth
+abbrev pub IsExcused : DeviceState → Result DeviceSlot Error → Type 0
+IsExcused old answer =
+    (answer ≡ Err OutOfMemory) ⊎ ((FEWEST_TOO_DEEP ≤ length old.space.held) × (answer ≡ Err Overflow))
+
+-- a device that was just reserved and released is reserved again by the same request, with the same id and range
+abbrev pub ReservedAgain : Type 0
+ReservedAgain =
+    (old mid new later : DeviceState) (request : Request) (slot : DeviceSlot)
+    (released : Result (Unit {0}) Error) (answer : Result DeviceSlot Error) → IsDeviceState old →
+    Reserves old request (Ok slot) mid → Releases mid slot.id released new → released ≢ Err OutOfMemory →
+    Reserves new request answer later → (answer ≡ Ok slot) ⊎ IsExcused new answer
+
+-- the range of any device that was released can be reserved at once, by its start
+abbrev pub RangeComesBack : Type 0
+RangeComesBack =
+    (old new later : DeviceState) (id : ℕ) (r : Range)
+    (released : Result (Unit {0}) Error) (answer : Result DeviceSlot Error) → IsDeviceState old →
+    IsDevice old id r → Releases old id released new → released ≢ Err OutOfMemory →
+    Reserves new (request_for (address_count r) 1 (ExactMatch r.start)) answer later →
+    ((some : ℕ) × (answer ≡ Ok (record { id = some; range = r }))) ⊎ IsExcused new answer
+
+-- where memory suffices and few ranges are held, a call has one answer and one next state
+pub record DevicesDecide : Type 0 where
+  pub made : (lo hi base size : ℕ) (answer other : Result DeviceState Error) →
+      answer ≢ Err OutOfMemory → other ≢ Err OutOfMemory →
+      MakesManager lo hi base size answer → MakesManager lo hi base size other → answer ≡ other
+  pub reserved : (old new later : DeviceState) (request : Request) (answer other : Result DeviceSlot Error) →
+      answer ≢ Err OutOfMemory → other ≢ Err OutOfMemory → length old.space.held < FEWEST_TOO_DEEP →
+      Reserves old request answer new → Reserves old request other later → (answer ≡ other) × (new ≡ later)
+  pub released : (old new later : DeviceState) (id : ℕ) (answer other : Result (Unit {0}) Error) →
+      answer ≢ Err OutOfMemory → other ≢ Err OutOfMemory →
+      Releases old id answer new → Releases old id other later → (answer ≡ other) × (new ≡ later)
+
+-- in every state each call has an answer, and one other than out of memory
+pub record EveryDeviceCallIsAnswered : Type 0 where
+  pub made : (lo hi base size : ℕ) →
+      (answer : Result DeviceState Error) × MakesManager lo hi base size answer × (answer ≢ Err OutOfMemory)
+  pub reserved : (old : DeviceState) (request : Request) →
+      (answer : Result DeviceSlot Error) × (new : DeviceState) ×
+      Reserves old request answer new × (answer ≢ Err OutOfMemory)
+  pub released : (old : DeviceState) (id : ℕ) →
+      (answer : Result (Unit {0}) Error) × (new : DeviceState) ×
+      Releases old id answer new × (answer ≢ Err OutOfMemory)
+
+-- so whatever is asked, one after the other, has a history, and one in which no call runs out of memory
+abbrev pub EveryDeviceListHasHistory : Type 0
+EveryDeviceListHasHistory =
+    (old : DeviceState) (asked : List DeviceAsked) →
+    (calls : List DeviceCall) × (new : DeviceState) × IsDeviceHistoryFrom old calls new ×
+    (map device_asked_by calls ≡ asked) × All (λ call. ¬ RunsOutOfMemory call) calls

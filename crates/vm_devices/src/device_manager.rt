@@ -1,0 +1,107 @@
+ghost use Rattle.std.specs.Prelude.{◌≡◌, OnErr};
+ghost use Rattle.std.specs.FinMap as map;
+ghost use Rattle.vm_allocator.specs.Request.{request_for};
+ghost use Rattle.vm_devices.specs.Devices.{IsDeviceState, MakesManager, Reserves, Releases};
+
+use crate::device_slot::DeviceSlot;
+use std::alloc::Global;
+use std::collections::BTreeMap;
+use std::marker::Model;
+use vm_allocator::{AddressAllocator, AllocPolicy, Error, IdAllocator, RangeInclusive, Result};
+
+/// Gives each device an id and a range of addresses, both or neither. No two devices share an id or
+/// an address.
+#[derive(Debug, Drop)]
+pub struct DeviceManager {
+    id_allocator: IdAllocator,
+    mmio_allocator: AddressAllocator,
+    // The range of each device, by its id.
+    slots: BTreeMap<u32, RangeInclusive>,
+}
+
+impl Model for DeviceManager {
+    ghost use Rattle.vm_allocator.specs.Allocator.{state_of};
+    ghost use Rattle.vm_devices.specs.Devices.{DeviceState, device_state_code, devices_of, IsDeviceState};
+
+    ghost Value = { DeviceState };
+
+    ghost coded = { device_state_code };
+
+    ghost view = { λ a. devices_of a.id_allocator (state_of a.mmio_allocator) a.slots };
+
+    ghost invariant = { λ a. IsDeviceState (devices_of a.id_allocator (state_of a.mmio_allocator) a.slots) };
+}
+
+impl DeviceManager {
+    /// A manager without devices, for the ids from `id_lo` to `id_hi`, both included, and for the
+    /// `size` addresses from `base` on. In this order: `InvalidRange(id_lo, id_hi)` where the last id
+    /// is below the first, `Underflow` for a size of 0, `Overflow` for an end past `u64::MAX`, and
+    /// `OutOfMemory`.
+    #[tactic(auto, using(crate::proofs::Calls::makes_managers))]
+    pub fn new(alloc: Global, id_lo: u32, id_hi: u32, base: u64, size: u64) -> Result<Self>
+        ensures { MakesManager id_lo id_hi base size result }
+    {
+        let id_allocator = IdAllocator::new(alloc, id_lo, id_hi)?;
+        let mmio_allocator = AddressAllocator::new(alloc, base, size)?;
+        Ok(DeviceManager {
+            id_allocator,
+            mmio_allocator,
+            slots: BTreeMap::new(alloc),
+        })
+    }
+
+    /// Gives a new device the least id that is not held, and the `size` addresses at the place that
+    /// the policy chooses, a multiple of `align`. In this order: `Overflow` or `ResourceNotAvailable`
+    /// where all ids are held, as `IdAllocator::allocate_id` says; what `AddressAllocator::allocate`
+    /// refuses; and `OutOfMemory`. A refusal leaves ids, ranges and devices as they were.
+    #[tactic(auto, using(crate::proofs::Calls::reserves_devices))]
+    pub fn reserve(
+        &mut self,
+        alloc: Global,
+        size: u64,
+        align: u64,
+        policy: AllocPolicy,
+    ) -> Result<DeviceSlot>
+        ensures answer { Reserves self.old (request_for size align policy) result self.new }
+        ensures unchanged { OnErr result (self.new ≡ self.old) }
+        ensures state { IsDeviceState self.new }
+    {
+        let id = self.id_allocator.peek_id()?;
+        let range = self.mmio_allocator.allocate(alloc, size, align, policy)?;
+        let Ok(_) = self.slots.insert(id, range) else {
+            // What is held is always given back.
+            let _ = self.mmio_allocator.free(&range);
+            return Err(Error::OutOfMemory);
+        };
+        // The id that was foretold.
+        let _ = self.id_allocator.allocate_id();
+        Ok(DeviceSlot { id, range })
+    }
+
+    /// Gives back the id and the range of a device. `NeverAllocated(id)` where no device has the id,
+    /// and then `OutOfMemory`. A refusal leaves ids, ranges and devices as they were.
+    #[tactic(auto, using(crate::proofs::Calls::releases_devices))]
+    pub fn release(&mut self, id: u32) -> Result<()>
+        ensures answer { Releases self.old id result self.new }
+        ensures unchanged { OnErr result (self.new ≡ self.old) }
+        ensures state { IsDeviceState self.new }
+    {
+        let Some(range) = self.slot(id) else {
+            return Err(Error::NeverAllocated(id));
+        };
+        // This alone may be refused, for memory, so it comes first.
+        self.id_allocator.free_id(id)?;
+        let _ = self.mmio_allocator.free(&range);
+        self.slots.remove(&id);
+        Ok(())
+    }
+
+    /// The range of the device with this id, where there is one. It takes no memory.
+    #[tactic(auto, using(crate::proofs::Tables::seen))]
+    pub fn slot(&self, id: u32) -> Option<RangeInclusive>
+        ensures value { result ≡ map.get self.now.devices id }
+        ensures state { IsDeviceState self.now }
+    {
+        self.slots.get(&id).copied()
+    }
+}

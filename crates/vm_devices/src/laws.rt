@@ -1,0 +1,31 @@
+//! Laws: theorems about the definitions that the contracts cite, each the contract of a function that
+//! does nothing.
+ghost use Rattle.vm_devices.specs.Laws.{DevicesAreGood, ReservedAgain, RangeComesBack, DevicesDecide, EveryDeviceCallIsAnswered, EveryDeviceListHasHistory};
+
+/// In every history no two devices share an id or an address, and each lies in the space, aligned and
+/// as long as it was asked for.
+#[tactic(auto, using(crate::proofs::Histories::devices_are_good))]
+fn devices_are_good()
+    ensures { DevicesAreGood }
+{}
+
+/// What a released device held can be reserved again at once; the same request gets the same slot.
+#[tactic(auto, using(crate::proofs::Again::again))]
+fn released_devices_come_back()
+    ensures same { ReservedAgain }
+    ensures range { RangeComesBack }
+{}
+
+/// Ids, space and devices alone decide what a call answers, where memory suffices and few ranges are
+/// held.
+#[tactic(auto, using(crate::proofs::Once::devices_decide))]
+fn devices_decide()
+    ensures { DevicesDecide }
+{}
+
+/// Every call has an answer in every state, and so every list of calls a history.
+#[tactic(auto, using(crate::proofs::EveryCall::answers))]
+fn every_call_is_answered()
+    ensures call { EveryDeviceCallIsAnswered }
+    ensures list { EveryDeviceListHasHistory }
+{}

@@ -1,0 +1,9 @@
+//! Devices of a virtual machine: each has an id and a range of addresses, both or neither.
+#![tactic(auto)]
+
+mod device_manager;
+mod device_slot;
+mod laws;
+
+pub use device_manager::DeviceManager;
+pub use device_slot::DeviceSlot;
