@@ -27,8 +27,8 @@ device_released : (old new : DeviceState) (id : ℕ) (r : Range) (answer : Resul
 unfolding Releases
 device_released old new id r answer d h plain =
     let P : Option Range → Type 0 = λ at.
-        MatchOption at ((answer ≡ Err (NeverAllocated id)) × (new ≡ old))
-        (λ r. ((answer ≡ Ok tt) × (new ≡ without_device id r old)) ⊎ ((answer ≡ Err OutOfMemory) × (new ≡ old))) in
+    MatchOption at ((answer ≡ Err (NeverAllocated id)) × (new ≡ old))
+    (λ r. ((answer ≡ Ok tt) × (new ≡ without_device id r old)) ⊎ ((answer ≡ Err OutOfMemory) × (new ≡ old))) in
     ⊎_elim (λ t. t.1) (λ m. absurd (plain m.0)) (subst P d h)
 
 -- what a request for a range comes to, for an id

@@ -51,7 +51,7 @@ call_reserves old new (Reservation request answer) calls id r h i d =
     (λ (e : id ≡ slot.id).
     let same : r ≡ slot.range = one_range r slot.range _ (ap (map.get (map.insert old.devices slot.id slot.range)) (sym e) ∙ now) (with_here old.devices slot.id slot.range) in
     let a = subst (λ (v : Range). Allocates old.space request (Ok v) (holding slot.range old.space)) (sym same) m.given in
-    let named : record {id = slot.id; range = slot.range} ≡ record {id = id; range = r} = cc (e, same) in
+    let named : record { id = slot.id; range = slot.range } ≡ record { id = id; range = r } = cc (e, same) in
     inr (record {
       request = request;
       call = (0, omega arith, ap (Reservation request) (made.1 ∙ ap (λ (s : DeviceSlot). Ok s) named));

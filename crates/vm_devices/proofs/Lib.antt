@@ -7,3 +7,4 @@ pub mod Again
 pub mod Once
 pub mod EveryCall
 pub mod Calls
+pub mod Callers

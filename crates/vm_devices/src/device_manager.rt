@@ -1,4 +1,4 @@
-ghost use Rattle.std.specs.Prelude.{◌≡◌, OnErr};
+ghost use Rattle.std.specs.Prelude.{◌≡◌, OnErr, IfOk};
 ghost use Rattle.std.specs.FinMap as map;
 ghost use Rattle.vm_allocator.specs.Request.{request_for};
 ghost use Rattle.vm_devices.specs.Devices.{IsDeviceState, MakesManager, Reserves, Releases};
@@ -8,6 +8,9 @@ use std::alloc::Global;
 use std::collections::BTreeMap;
 use std::marker::Model;
 use vm_allocator::{AddressAllocator, AllocPolicy, Error, IdAllocator, RangeInclusive, Result};
+
+#[cfg(test)]
+mod tests;
 
 /// Gives each device an id and a range of addresses, both or neither. No two devices share an id or
 /// an address.
@@ -39,7 +42,8 @@ impl DeviceManager {
     /// `OutOfMemory`.
     #[tactic(auto, using(crate::proofs::Calls::makes_managers))]
     pub fn new(alloc: Global, id_lo: u32, id_hi: u32, base: u64, size: u64) -> Result<Self>
-        ensures { MakesManager id_lo id_hi base size result }
+        ensures answer { MakesManager id_lo id_hi base size result }
+        ensures state { IfOk result IsDeviceState }
     {
         let id_allocator = IdAllocator::new(alloc, id_lo, id_hi)?;
         let mmio_allocator = AddressAllocator::new(alloc, base, size)?;
