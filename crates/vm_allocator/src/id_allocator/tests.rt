@@ -1,6 +1,6 @@
 use super::*;
 use crate::tests::{balance, end_of_memory};
-use Call::{Allocate, Free, Holds, Peek};
+use Call::{Allocate, Count, Free, Holds, Peek};
 use Want::{AlreadyReleased, Id, NeverAllocated, NotAvailable, OutOfRange, Overflow};
 use std::process::Abort;
 use std::test::Fail;
@@ -47,6 +47,7 @@ enum Call {
     Peek(Want),
     Free(u32, Want),
     Holds(u32, bool),
+    Count(u64),
 }
 
 /// An id, or why there is none.
@@ -81,6 +82,7 @@ fn replay(rt: &impl Abort, ids: &mut IdAllocator, calls: &[Call]) {
             Peek(want) => assert_eq!(rt; ids.peek_id(), want.answer(), "{call:?}"),
             Free(id, want) => assert_eq!(rt; give_back(rt, ids, *id), want.answer(), "{call:?}"),
             Holds(id, want) => assert_eq!(rt; ids.is_allocated(*id), *want, "{call:?}"),
+            Count(want) => assert_eq!(rt; ids.held_count(), *want, "{call:?}"),
         }
     }
 }
@@ -218,6 +220,67 @@ fn test_id_sanity_checks(rt: HostRuntime) -> std::result::Result<(), Fail> {
 }
 
 #[test]
+fn counts(rt: HostRuntime) -> std::result::Result<(), Fail> {
+    let mut ids = IdAllocator::new(rt.alloc(), 5, 23)?;
+    let calls = [
+        Count(0),
+        Allocate(Id(5)),
+        Allocate(Id(6)),
+        Allocate(Id(7)),
+        Count(3),
+        Free(6, Id(6)),
+        Count(2),
+        // What is refused changes nothing.
+        Free(6, AlreadyReleased(6)),
+        Free(8, NeverAllocated(8)),
+        Free(24, OutOfRange(24)),
+        Count(2),
+        // None is held again.
+        Free(7, Id(7)),
+        Free(5, Id(5)),
+        Count(0),
+        Allocate(Id(5)),
+        Count(1),
+    ];
+    replay(&rt, &mut ids, &calls);
+
+    let (low, high) = (4294967294, 4294967295);
+    let mut last = IdAllocator::new(rt.alloc(), low, high)?;
+    let calls = [
+        Count(0),
+        Allocate(Id(low)),
+        Allocate(Id(high)),
+        Count(2),
+        Allocate(Overflow),
+        Count(2),
+        Free(high, Id(high)),
+        Count(1),
+        Free(low, Id(low)),
+        Count(0),
+        Allocate(Id(low)),
+        Count(1),
+    ];
+    replay(&rt, &mut last, &calls);
+    assert_eq!(rt; last.next_id, None);
+
+    // All ids there are.
+    let mut all = IdAllocator {
+        range_base: 0,
+        next_id: None,
+        range_end: u32::MAX,
+        freed_ids: BTreeSet::new(rt.alloc()),
+    };
+    let calls = [
+        Count(4294967296),
+        Allocate(Overflow),
+        Free(7, Id(7)),
+        Count(4294967295),
+    ];
+    replay(&rt, &mut all, &calls);
+    Ok(())
+}
+
+#[test]
 fn greatest_id_alone(rt: HostRuntime) -> std::result::Result<(), Fail> {
     let id = 4294967295;
     let mut ids = IdAllocator::new(rt.alloc(), id, id)?;
@@ -248,6 +311,7 @@ fn without_memory(rt: HostRuntime) -> std::result::Result<(), Fail> {
         Free(6, AlreadyReleased(6)),
         Holds(5, true),
         Holds(6, false),
+        Count(2),
         Peek(Id(6)),
         Allocate(Id(6)),
         Free(7, AlreadyReleased(7)),
