@@ -5,6 +5,8 @@ use Want::{AlreadyReleased, Id, NeverAllocated, NotAvailable, OutOfRange, Overfl
 use std::process::Abort;
 use std::test::Fail;
 
+mod counts;
+
 /// What the calls that only read answer: whether each id is held, and what a request would get.
 /// No range of these tests has more ids.
 fn answers(ids: &IdAllocator) -> ([bool; 19], Result<u32>) {
@@ -216,67 +218,6 @@ fn test_id_sanity_checks(rt: HostRuntime) -> std::result::Result<(), Fail> {
     for (id, want) in [(6, true), (4, false), (25, false)] {
         assert_eq!(rt; ids.id_in_range(id), want, "at {id}");
     }
-    Ok(())
-}
-
-#[test]
-fn counts(rt: HostRuntime) -> std::result::Result<(), Fail> {
-    let mut ids = IdAllocator::new(rt.alloc(), 5, 23)?;
-    let calls = [
-        Count(0),
-        Allocate(Id(5)),
-        Allocate(Id(6)),
-        Allocate(Id(7)),
-        Count(3),
-        Free(6, Id(6)),
-        Count(2),
-        // What is refused changes nothing.
-        Free(6, AlreadyReleased(6)),
-        Free(8, NeverAllocated(8)),
-        Free(24, OutOfRange(24)),
-        Count(2),
-        // None is held again.
-        Free(7, Id(7)),
-        Free(5, Id(5)),
-        Count(0),
-        Allocate(Id(5)),
-        Count(1),
-    ];
-    replay(&rt, &mut ids, &calls);
-
-    let (low, high) = (4294967294, 4294967295);
-    let mut last = IdAllocator::new(rt.alloc(), low, high)?;
-    let calls = [
-        Count(0),
-        Allocate(Id(low)),
-        Allocate(Id(high)),
-        Count(2),
-        Allocate(Overflow),
-        Count(2),
-        Free(high, Id(high)),
-        Count(1),
-        Free(low, Id(low)),
-        Count(0),
-        Allocate(Id(low)),
-        Count(1),
-    ];
-    replay(&rt, &mut last, &calls);
-    assert_eq!(rt; last.next_id, None);
-
-    // All ids there are.
-    let mut all = IdAllocator {
-        range_base: 0,
-        next_id: None,
-        range_end: u32::MAX,
-        freed_ids: BTreeSet::new(rt.alloc()),
-    };
-    let calls = [
-        Count(4294967296),
-        Allocate(Overflow),
-        Free(7, Id(7)),
-        Count(4294967295),
-    ];
-    replay(&rt, &mut all, &calls);
     Ok(())
 }
 
