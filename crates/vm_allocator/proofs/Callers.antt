@@ -24,6 +24,9 @@ use Rattle.vm_allocator.proofs.answers.Outcomes.{allocates_outcome}
 use Rattle.vm_allocator.proofs.ids.Sets.{inserted_here}
 use Rattle.vm_allocator.proofs.saving.Allocators.{one_allocator}
 use Rattle.vm_allocator.proofs.saving.IdStates.{one_stated}
+-- a list of held ranges or ids, no two the same, has all of them exactly if it has as many as are held
+pub use Rattle.vm_allocator.proofs.blocks.HeldLists.{slots_listed}
+pub use Rattle.vm_allocator.proofs.ids.Counting.{ids_listed}
 
 -- a range that was given: as long as was asked, from a multiple of the alignment on, clear before and held after
 pub record IsGiven (old : AddressState) (request : Request) (r : Range) (new : AddressState) : Type 0 where

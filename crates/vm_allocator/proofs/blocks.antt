@@ -6,3 +6,4 @@ pub mod Unique
 pub mod States
 pub mod HeldSets
 pub mod HeldChanges
+pub mod HeldLists

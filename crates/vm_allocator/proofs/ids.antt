@@ -1,6 +1,7 @@
 pub mod Sets
 pub mod States
 pub mod Taking
+pub mod Counting
 pub mod GivingBack
 pub mod Answers
 pub mod EveryCall

@@ -51,7 +51,7 @@ abbrev pub OrderAgreesWithEquality : Type 0
 OrderAgreesWithEquality = (a b : AddressState) → (state_cmp a b ≡ Equal) ↔ AreEqual a b
 
 -- these orders are total, as they are made of total ones
-range_cmp-total : IsTotalOrder range_cmp
+pub range_cmp-total : IsTotalOrder range_cmp
 range_cmp-total = then_total (on_total (λ (r : Range). r.start) nat_cmp_total) (on_total (λ (r : Range). r.end) nat_cmp_total)
 
 pub block_cmp-total : IsTotalOrder block_cmp

@@ -1,6 +1,7 @@
 -- Laws of ids, which follow from the definitions alone.
-use Rattle.std.specs.Prelude.{◌≡◌, ◌≢◌, ℕ, ◌≤◌, ◌⊎◌, ◌↔◌, Result, Ok, Err}
-use Rattle.vm_allocator.specs.Ids.{MAX_ID, IdState, IsHandedOut, IsHeld, IsIdState, holding_id, MakesIds, AllocatesId, PeeksId, FreesId}
+use Rattle.std.specs.Prelude.{◌≡◌, ◌≢◌, ℕ, ◌≤◌, ◌⊎◌, ◌↔◌, List, length, Result, Ok, Err}
+use Rattle.std.specs.List.{All, AllPairs, Contains}
+use Rattle.vm_allocator.specs.Ids.{MAX_ID, IdState, IsHandedOut, IsHeld, held_count, IsIdState, holding_id, MakesIds, AllocatesId, PeeksId, FreesId}
 use Rattle.vm_allocator.specs.declared.error.Error.{Error}
 use Rattle.vm_allocator.specs.declared.error.Error.TheVariants.{OutOfMemory}
 
@@ -56,3 +57,9 @@ AllocatingAdds = (old new : IdState) (id : ℕ) → IsIdState old → AllocatesI
 -- an id given back is taken away
 abbrev pub FreeingTakes : Type 0
 FreeingTakes = (old new : IdState) (id back : ℕ) → FreesId old id (Ok back) new → TakesId old new id
+
+-- a list of held ids, no two the same, has as many as are held exactly if each held id is in it
+abbrev pub IdCountTellsAll : Type 0
+IdCountTellsAll =
+    (state : IdState) (list : List ℕ) → AllPairs (λ i j. i ≢ j) list → All (IsHeld state) list →
+    (length list ≡ held_count state) ↔ ((i : ℕ) → IsHeld state i → Contains list i)

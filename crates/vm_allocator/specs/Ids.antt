@@ -41,6 +41,10 @@ IsHandedOut state i = (state.lo ≤ i) × (i < state.bound)
 abbrev pub IsHeld : IdState → ℕ → Type 0
 IsHeld state i = IsTrue (set.contains state.held i)
 
+-- how many ids are held
+abbrev pub held_count : IdState → ℕ
+held_count state = set.len state.held
+
 -- an id of the range that is not held
 abbrev pub IsNotHeld : IdState → ℕ → Type 0
 IsNotHeld state i = IsOfRange state i × ¬ IsHeld state i

@@ -1,6 +1,6 @@
 -- What follows from the definitions alone, for one call of an address allocator.
-use Rattle.std.specs.Prelude.{◌≡◌, ◌≢◌, ℕ, ◌<◌, ◌≤◌, ◌⊎◌, ◌↔◌, true, Result, Ok}
-use Rattle.std.specs.List.{Contains}
+use Rattle.std.specs.Prelude.{◌≡◌, ◌≢◌, ℕ, ◌<◌, ◌≤◌, ◌⊎◌, ◌↔◌, true, List, length, Result, Ok}
+use Rattle.std.specs.List.{All, AllPairs, Contains}
 use Rattle.vm_allocator.specs.Range.{Range, MAX, Overlaps, Covers}
 use Rattle.vm_allocator.specs.Address.{AddressState, IsClear, LeavesClear, IsAddressState}
 use Rattle.vm_allocator.specs.Block.{Block, free_length}
@@ -95,3 +95,10 @@ FutileIsTold = (n a : ℕ) (b : Block) → 0 < a → (is_futile n a b ≡ true) 
 -- each gap that is long enough has a place at alignment 1
 abbrev pub NoneIsFutileAtOne : Type 0
 NoneIsFutileAtOne = (state : AddressState) (request : Request) → 0 < request.size → request.align ≡ 1 → futile_gaps state request ≡ 0
+
+-- a list of held ranges, no two the same, has as many as are held exactly if each held range is in it
+abbrev pub CountTellsAll : Type 0
+CountTellsAll =
+    (state : AddressState) (list : List Range) → IsAddressState state →
+    AllPairs (λ r s. r ≢ s) list → All (Contains state.held) list →
+    (length list ≡ length state.held) ↔ ((r : Range) → Contains state.held r → Contains list r)

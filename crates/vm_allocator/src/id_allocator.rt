@@ -1,6 +1,6 @@
 ghost use Rattle.std.specs.Prelude.{◌≡◌, ℕ, ◌≤◌, ◌⊎◌, ◌↔◌, IsTrue, IsOk, OnErr, Ok, Err};
 ghost use Rattle.vm_allocator.specs.Cloning.{Clones};
-ghost use Rattle.vm_allocator.specs.Ids.{MakesIds, AllocatesId, PeeksId, FreesId, NextId, IsOfRange, IsHandedOut, IsHeld, IsNotHeld, IsIdState};
+ghost use Rattle.vm_allocator.specs.Ids.{MakesIds, AllocatesId, PeeksId, FreesId, NextId, IsOfRange, IsHandedOut, IsHeld, IsNotHeld, IsIdState, held_count, bound_of};
 
 use crate::error::{Error, Result};
 use std::alloc::Global;
@@ -38,6 +38,16 @@ fn next_of_range(next_id: Option<u32>, range_end: u32) -> Result<u32>
         None => Err(Error::Overflow),
         Some(id) if id > range_end => Err(Error::ResourceNotAvailable),
         Some(id) => Ok(id),
+    }
+}
+
+/// The bound of the ids handed out: no id from there on was.
+pub(crate) fn bound_of(next: Option<u32>, end: u32) -> u64
+    ensures { result ≡ bound_of next end }
+{
+    match next {
+        None => u64::from(end) + 1,
+        Some(next) => u64::from(next),
     }
 }
 
@@ -114,6 +124,15 @@ impl IdAllocator {
         ensures state { IsIdState self.now }
     {
         self.was_handed_out(id) && !self.freed_ids.contains(&id)
+    }
+
+    /// How many ids are held. It takes no memory, and looks at none of them.
+    #[tactic(auto, using(crate::proofs::ids::Counting::counts))]
+    pub fn held_count(&self) -> u64
+        ensures { result ≡ held_count self.now }
+    {
+        let handed_out = bound_of(self.next_id, self.range_end) - u64::from(self.range_base);
+        handed_out - self.freed_ids.len() as u64
     }
 
     /// Gives back an id that is held, and answers it. In this order: `OutOfRange(id)` where it is

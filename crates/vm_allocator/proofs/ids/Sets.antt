@@ -10,13 +10,13 @@ use Rattle.vm_allocator.specs.Ids.{IsHandedOut, IsHeld, bound_of, held_of, ids_o
 
 -- Members of sets of numbers.
 
-tied_here : (i : ℕ) → eq_by_cmp nat_cmp i i ≡ true
+pub tied_here : (i : ℕ) → eq_by_cmp nat_cmp i i ≡ true
 tied_here i = unsigned_tied i i ∙ eq-eqb i i refl
 
 pub tied_is : (i j : ℕ) → eq_by_cmp nat_cmp i j ≡ true → i ≡ j
 tied_is i j e = eqb-true i j (sym (unsigned_tied i j) ∙ e)
 
-apart_not_tied : (i j : ℕ) → (i ≡ j → ⊥) → eq_by_cmp nat_cmp i j ≡ false
+pub apart_not_tied : (i j : ℕ) → (i ≡ j → ⊥) → eq_by_cmp nat_cmp i j ≡ false
 apart_not_tied i j ne = unsigned_tied i j ∙ ne_eqb i j ne
 
 pub same_test : (a b : Bool) → (a ≡ true → b ≡ true) → (b ≡ true → a ≡ true) → a ≡ b
@@ -51,7 +51,7 @@ from_removed s k q h =
 
 -- The numbers of a row.
 
-in_row : (a n i : ℕ) → a ≤ i → i < a + n → list_any (eq_by_cmp nat_cmp i) (range_with_len a n) ≡ true
+pub in_row : (a n i : ℕ) → a ≤ i → i < a + n → list_any (eq_by_cmp nat_cmp i) (range_with_len a n) ≡ true
 in_row a zero i l h = absurd (omega arith)
 in_row a (suc n) i l h =
     ⊎_elim (λ (e : i ≡ a). or_left _ _ (ap (λ (x : ℕ). eq_by_cmp nat_cmp i x) (sym e) ∙ tied_here i)) (λ (ne : i ≡ a → ⊥). or_right _ _ (in_row (a + 1) n i (omega arith) (omega arith))) (cases_eq i a)

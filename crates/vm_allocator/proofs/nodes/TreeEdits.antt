@@ -26,7 +26,7 @@ pub record Cut (bs : List Block) (b : Block) : Type 0 where
 cut_later : (x b : Block) (bs : List Block) → Cut bs b → Cut (x ∷ bs) b
 cut_later x b bs c = record { before = x ∷ c.before; after = c.after; is = ap (λ (v : List Block). x ∷ v) c.is }
 
-some_same : (x y : Block) → Some x ≡ Some y → x ≡ y
+pub some_same : (x y : Block) → Some x ≡ Some y → x ≡ y
 some_same x y e = cc
 
 pub ranges_if : (a b : Range) → same_range a b ≡ true → a ≡ b

@@ -1,19 +1,21 @@
 -- What is found is held, and what is not found is not.
-use Rattle.std.proofs.Common.{◌≡◌, ℕ, ◌+◌, ◌≤◌, true, false, cond, List, [], ◌∷◌, ◌++◌, Option, Some, None, refl, sym, ap, ◌∙◌, arith, ⊎_elim, subst}
+use Rattle.std.proofs.Common.{◌≡◌, ℕ, ◌+◌, ◌≤◌, ◌↔◌, true, false, cond, List, [], ◌∷◌, ◌++◌, Option, Some, None, refl, sym, ap, ◌∙◌, arith, inl, inr, ⊎_elim, subst}
+use Rattle.std.specs.List.{Contains}
 use Rattle.vm_allocator.specs.Range.{Range}
 use Rattle.vm_allocator.specs.RangeOrder.{same_range}
 use Rattle.vm_allocator.specs.Block.{Block}
-use Rattle.vm_allocator.specs.Blocks.{held_of}
-use Rattle.vm_allocator.specs.BlockList.{IsOrderedFrom}
+use Rattle.vm_allocator.specs.Blocks.{held_of, TilesSpace}
+use Rattle.vm_allocator.specs.BlockList.{IsOrderedFrom, find_key}
 use Rattle.vm_allocator.specs.Shape.{Shape, blocks}
+use Rattle.vm_allocator.specs.SpaceTree.{space_of, tree_state, IsSpaceTree}
 use Rattle.vm_allocator.specs.Release.{held_block, HasSlot, key_if_free, last_free, first_free, if_held, neighbours}
 use Rattle.vm_allocator.specs.declared.allocation_engine.node.neighbours.Neighbours.{Neighbours}
 use Rattle.vm_allocator.specs.declared.allocation_engine.NodeState.{NodeState}
 use Rattle.vm_allocator.specs.declared.allocation_engine.NodeState.TheVariants.{Free, Allocated}
-use Rattle.vm_allocator.proofs.blocks.Words.{IsHeld}
+use Rattle.vm_allocator.proofs.blocks.Words.{IsHeld, contains_held, held_contains}
 use Rattle.vm_allocator.proofs.blocks.Gaps.{state_cases}
 use Rattle.vm_allocator.proofs.blocks.Unique.{held_of-free, held_of-held, same_block}
-use Rattle.vm_allocator.proofs.nodes.TreeEdits.{ranges_if}
+use Rattle.vm_allocator.proofs.nodes.TreeEdits.{tiles_ordered, some_same, ranges_if}
 use Rattle.vm_allocator.proofs.blocks.Replacement.{same_range_self}
 
 held_from : (lo : ℕ) (r : Range) (bs : List Block) → IsOrderedFrom lo bs → IsHeld (held_of bs) r → lo ≤ r.start
@@ -85,6 +87,54 @@ not_held lo d e (b ∷ bs) k o f h =
           ⊎_elim (λ (i : b.key ≡ k). let bad : true ≡ false = sym (same_if k b.key i) ∙ s in cc) (not_held (b.key.end + 1) (key_if_free b.state b.key) e bs k o.2 g) m)
           (state_cases b.state)
     ] refl f
-  where
-    same_if : (a b : Range) → b ≡ a → same_range a b ≡ true
-    same_if a b e = rw e (same_range_self a)
+
+-- ---- the same by the key alone
+held_later : (b : Block) (bs : List Block) (k : Range) → IsHeld (held_of bs) k → IsHeld (held_of (b ∷ bs)) k
+held_later b bs k h =
+    ⊎_elim
+    (λ (e : b.state ≡ Free). subst (λ (v : List Range). IsHeld v k) (sym (held_of-free b bs e)) h)
+    (λ (e : b.state ≡ Allocated). subst (λ (v : List Range). IsHeld v k) (sym (held_of-held b bs e)) (inr h))
+    (state_cases b.state)
+
+found_held : (k : Range) (bs : List Block) → find_key k bs ≡ Some (held_block k) → IsHeld (held_of bs) k
+found_held k [] f = absurd (cc)
+found_held k (b ∷ bs) f =
+    elim (same_range k b.key) as (λ v. cond v (Some b) (find_key k bs) ≡ Some (held_block k) → IsHeld (held_of (b ∷ bs)) k) [
+      | true ↦ λ g. subst (λ (v : Block). IsHeld (held_of (v ∷ bs)) k) (sym (some_same b (held_block k) g)) (inl refl)
+      | false ↦ λ g. held_later b bs k (found_held k bs g)
+    ] f
+
+held_found : (lo : ℕ) (k : Range) (bs : List Block) → IsOrderedFrom lo bs → IsHeld (held_of bs) k → find_key k bs ≡ Some (held_block k)
+held_found lo k [] o h = absurd h
+held_found lo k (b ∷ bs) o h =
+    elim (same_range k b.key) as (λ v. same_range k b.key ≡ v → cond v (Some b) (find_key k bs) ≡ Some (held_block k)) [
+      | true ↦ λ s.
+          let same = ranges_if k b.key s in
+          ⊎_elim
+          (λ (q : b.state ≡ Free).
+          let rest = held_from (b.key.end + 1) k bs o.2 (subst (λ (v : List Range). IsHeld v k) (held_of-free b bs q) h) in
+          let start : k.start ≡ b.key.start = ap (λ (v : Range). v.start) same in
+          absurd (omega (arith, rest, o.1)))
+          (λ (q : b.state ≡ Allocated). ap Some (same_block b (held_block k) (sym same) q))
+          (state_cases b.state)
+      | false ↦ λ s.
+          ⊎_elim
+          (λ (q : b.state ≡ Free). held_found (b.key.end + 1) k bs o.2 (subst (λ (v : List Range). IsHeld v k) (held_of-free b bs q) h))
+          (λ (q : b.state ≡ Allocated).
+          let m : IsHeld (b.key ∷ held_of bs) k = subst (λ (v : List Range). IsHeld v k) (held_of-held b bs q) h in
+          ⊎_elim (λ (i : b.key ≡ k). let bad : true ≡ false = sym (same_if k b.key i) ∙ s in absurd (cc)) (held_found (b.key.end + 1) k bs o.2) m)
+          (state_cases b.state)
+    ] refl
+
+-- the held block of a range is found in the tree exactly where the range is held
+pub found_if_held : (s : Shape) (k : Range) → IsSpaceTree s → (find_key k (blocks s) ≡ Some (held_block k)) ↔ Contains (tree_state s).held k
+unfolding TilesSpace
+found_if_held s k h =
+    let bs = blocks s in
+    let space = space_of bs in
+    let o = tiles_ordered Allocated space.start space.end bs h.tiling.tiles in (
+      λ f. contains_held (held_of bs) k (found_held k bs f),
+      λ c. held_found space.start k bs o (held_contains (held_of bs) k c),
+    )
+
+pub ruleset held_by_key = (found_if_held)

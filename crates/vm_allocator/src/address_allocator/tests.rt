@@ -11,6 +11,7 @@ use std::test::Fail;
 mod comparing;
 mod departures;
 mod ends;
+mod held;
 mod long_run;
 mod splits;
 mod without_memory;

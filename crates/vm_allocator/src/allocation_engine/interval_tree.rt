@@ -21,6 +21,7 @@ use std::alloc::Global;
 use std::marker::Model;
 
 mod comparing;
+mod held;
 mod holding;
 pub(crate) mod placing;
 mod release;

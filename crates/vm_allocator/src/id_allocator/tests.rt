@@ -1,9 +1,11 @@
 use super::*;
 use crate::tests::{balance, end_of_memory};
-use Call::{Allocate, Free, Holds, Peek};
+use Call::{Allocate, Count, Free, Holds, Peek};
 use Want::{AlreadyReleased, Id, NeverAllocated, NotAvailable, OutOfRange, Overflow};
 use std::process::Abort;
 use std::test::Fail;
+
+mod counts;
 
 /// What the calls that only read answer: whether each id is held, and what a request would get.
 /// No range of these tests has more ids.
@@ -47,6 +49,7 @@ enum Call {
     Peek(Want),
     Free(u32, Want),
     Holds(u32, bool),
+    Count(u64),
 }
 
 /// An id, or why there is none.
@@ -81,6 +84,7 @@ fn replay(rt: &impl Abort, ids: &mut IdAllocator, calls: &[Call]) {
             Peek(want) => assert_eq!(rt; ids.peek_id(), want.answer(), "{call:?}"),
             Free(id, want) => assert_eq!(rt; give_back(rt, ids, *id), want.answer(), "{call:?}"),
             Holds(id, want) => assert_eq!(rt; ids.is_allocated(*id), *want, "{call:?}"),
+            Count(want) => assert_eq!(rt; ids.held_count(), *want, "{call:?}"),
         }
     }
 }
@@ -248,6 +252,7 @@ fn without_memory(rt: HostRuntime) -> std::result::Result<(), Fail> {
         Free(6, AlreadyReleased(6)),
         Holds(5, true),
         Holds(6, false),
+        Count(2),
         Peek(Id(6)),
         Allocate(Id(6)),
         Free(7, AlreadyReleased(7)),

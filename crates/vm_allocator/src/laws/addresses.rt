@@ -1,4 +1,4 @@
-ghost use Rattle.vm_allocator.specs.Laws.{AllocatesOnce, FreesOnce, StateIsKept, HeldLieApart, AllocatingAddsRange, FreeingTakesRange, FreeingUndoes, FutileIsTold, NoneIsFutileAtOne};
+ghost use Rattle.vm_allocator.specs.Laws.{AllocatesOnce, FreesOnce, StateIsKept, HeldLieApart, AllocatingAddsRange, FreeingTakesRange, FreeingUndoes, FutileIsTold, NoneIsFutileAtOne, CountTellsAll};
 
 /// The state of an allocator decides its answer to a request and the state after it, the refusal of
 /// a split for memory or for depth aside.
@@ -34,4 +34,10 @@ fn one_range_changes()
 fn futile_gaps_are_told()
     ensures told { FutileIsTold }
     ensures none { NoneIsFutileAtOne }
+{}
+
+/// As many different held ranges as are held are all of them.
+#[tactic(auto, using(crate::proofs::blocks::HeldLists::listings))]
+fn counts_tell_all()
+    ensures { CountTellsAll }
 {}

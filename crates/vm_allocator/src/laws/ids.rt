@@ -1,5 +1,5 @@
 //! Laws of ids.
-ghost use Rattle.vm_allocator.specs.IdLaws.{MakingIsDetermined, AllocatingIsDetermined, PeekingForetells, FreeingIsDetermined, FrontIsKept, AllocatingAdds, FreeingTakes};
+ghost use Rattle.vm_allocator.specs.IdLaws.{MakingIsDetermined, AllocatingIsDetermined, PeekingForetells, FreeingIsDetermined, FrontIsKept, AllocatingAdds, FreeingTakes, IdCountTellsAll};
 
 /// From one state a call has one answer and one next state, out of memory aside.
 #[tactic(auto, using(crate::proofs::ids::Answers::determined))]
@@ -21,4 +21,10 @@ fn front_is_kept()
 fn one_id_changes()
     ensures takes { AllocatingAdds }
     ensures gives_back { FreeingTakes }
+{}
+
+/// As many different held ids as are held are all of them.
+#[tactic(auto, using(crate::proofs::ids::Counting::listings))]
+fn id_counts_tell_all()
+    ensures { IdCountTellsAll }
 {}

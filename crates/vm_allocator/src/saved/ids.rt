@@ -11,7 +11,7 @@ ghost use Rattle.vm_allocator.specs.Saving.{Saves, Reads};
 use super::ValueError;
 use super::fields::{has_fields, number_in};
 use crate::error::{Error, Result};
-use crate::id_allocator::IdAllocator;
+use crate::id_allocator::{IdAllocator, bound_of};
 use serde_json::{Value, json};
 use std::alloc::{AllocError, Global};
 use std::collections::BTreeSet;
@@ -169,16 +169,6 @@ fn is_next(next: Option<u32>, base: u32, end: u32) -> bool
     match next {
         None => end == u32::MAX,
         Some(next) => base <= next && u64::from(next) <= u64::from(end) + 1,
-    }
-}
-
-/// The bound of the ids handed out.
-fn bound_of(next: Option<u32>, end: u32) -> u64
-    ensures { result ≡ bound_of next end }
-{
-    match next {
-        None => u64::from(end) + 1,
-        Some(next) => u64::from(next),
     }
 }
 

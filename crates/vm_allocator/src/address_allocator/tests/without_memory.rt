@@ -38,7 +38,7 @@ fn split(rt: &(impl Abort + AllocGlobal), space: &mut AddressAllocator) {
 }
 
 #[test]
-fn filled_and_given_back(rt: HostRuntime) {
+fn filled_and_given_back(rt: HostRuntime) -> std::result::Result<(), Fail> {
     let mut spaces = [(three_held(&rt), Plain), (three_held(&rt), Counted)];
     let rows = [
         (First(2, 1), Range(0, 1)),
@@ -58,12 +58,17 @@ fn filled_and_given_back(rt: HostRuntime) {
     let [(plain, _), (counted, _)] = &spaces;
     assert!(rt; plain == counted && plain.cmp(counted) == Ordering::Equal);
     assert!(rt; holds_just(plain, &[(2, 3), (6, 7), (10, 11)]));
+    assert!(rt;
+        plain.holds(&RangeInclusive::new(6, 7)?) && !plain.holds(&RangeInclusive::new(6, 6)?)
+    );
+    assert_eq!(rt; plain.held_count(), 3);
     for (space, form) in &mut spaces {
         replay(&rt, space, *form, &rows);
         assert_eq!(rt; (space.base(), space.end(), space.height()), (0, 15, 1));
     }
     let [(space, _), _] = &mut spaces;
     split(&rt, space);
+    Ok(())
 }
 
 #[test]

@@ -7,6 +7,7 @@ ghost use Rattle.vm_allocator.specs.Walks.{blocks_ahead, Fits};
 
 pub(crate) mod comparing;
 pub(crate) mod copying;
+pub(crate) mod held;
 pub(crate) mod saving;
 #[cfg(test)]
 pub(crate) mod shapes;

@@ -1,0 +1,77 @@
+//! Which ranges are held, and how many.
+use super::*;
+use Row::{Ask, Count, Holds};
+
+/// A call with the answer that it has to have, or what has to be so in between.
+#[derive(Clone, Copy, Debug)]
+enum Row {
+    Ask(Call, Want),
+    /// The first and the last address of a range, and whether it is held.
+    Holds(u64, u64, bool),
+    /// How many ranges are held.
+    Count(u64),
+}
+
+const ROWS: [Row; 41] = [
+    Count(0),
+    Holds(0, 7, false),
+    Ask(First(2, 1), Range(0, 1)),
+    Ask(First(2, 1), Range(2, 3)),
+    Holds(0, 1, true),
+    Holds(0, 0, false),
+    Holds(0, 3, false),
+    Holds(4, 7, false),
+    Count(2),
+    // What is refused changes neither.
+    Ask(Free(0, 0), NotAvailable),
+    Ask(Exact(2, 1, 2), Held(2, 3)),
+    Holds(2, 3, true),
+    Count(2),
+    // What is given back is not held any more.
+    Ask(Free(0, 1), Range(0, 1)),
+    Holds(0, 1, false),
+    Holds(2, 3, true),
+    Count(1),
+    // Both ends of the space, and past them.
+    Ask(First(1, 1), Range(0, 0)),
+    Ask(Last(1, 1), Range(7, 7)),
+    Holds(0, 0, true),
+    Holds(7, 7, true),
+    Holds(7, 8, false),
+    Holds(8, 8, false),
+    Count(3),
+    Ask(Space(0, 8), Range(0, 7)),
+    Ask(First(8, 1), Range(0, 7)),
+    Holds(0, 7, true),
+    Holds(0, 6, false),
+    Holds(1, 7, false),
+    Holds(0, 8, false),
+    Count(1),
+    // Both ends of all addresses.
+    Ask(Space(1, MAX), Range(1, MAX)),
+    Ask(Last(1, 2), Range(LAST, LAST)),
+    Ask(First(1, 1), Range(1, 1)),
+    Holds(LAST, LAST, true),
+    Holds(LAST, MAX, false),
+    Holds(MAX, MAX, false),
+    Holds(1, 1, true),
+    Holds(0, 1, false),
+    Holds(1, MAX, false),
+    Count(2),
+];
+
+#[test]
+fn held_or_not(rt: HostRuntime) -> std::result::Result<(), Fail> {
+    let mut space = made(&rt, 0, 8);
+    for row in &ROWS {
+        match *row {
+            Ask(call, want) => assert_eq!(rt; ask(&rt, &mut space, call), want.answer(), "{row:?}"),
+            Holds(start, end, want) => {
+                let range = RangeInclusive::new(start, end)?;
+                assert_eq!(rt; space.holds(&range), want, "{row:?}");
+            }
+            Count(want) => assert_eq!(rt; space.held_count(), want, "{row:?}"),
+        }
+    }
+    Ok(())
+}
