@@ -8,3 +8,7 @@ pub mod Once
 pub mod EveryCall
 pub mod Calls
 pub mod Callers
+pub mod AllHeld
+pub mod Slots
+pub mod Apart
+pub mod Saving

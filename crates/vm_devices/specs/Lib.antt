@@ -1,3 +1,5 @@
 pub mod Devices
 pub mod Histories
 pub mod Laws
+pub mod Saved
+pub mod SavedChecks

@@ -9,6 +9,7 @@ use std::collections::BTreeMap;
 use std::marker::Model;
 use vm_allocator::{AddressAllocator, AllocPolicy, Error, IdAllocator, RangeInclusive, Result};
 
+mod saved;
 #[cfg(test)]
 mod tests;
 

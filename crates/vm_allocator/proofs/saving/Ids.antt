@@ -26,10 +26,10 @@ id-some n m e =
     let same : n ≡ m = same_Some n m p.1 in
     (same, subst (λ (x : ℕ). x ≤ MAX_ID) same (ltb-false MAX_ID n p.0))
 
-some-id : (n : ℕ) → n ≤ MAX_ID → id_from n ≡ Some n
+pub some-id : (n : ℕ) → n ≤ MAX_ID → id_from n ≡ Some n
 some-id n p = rw (le-ltb MAX_ID n p) refl
 
-id_in-some : (k : List ℕ) (d : Data) (n : ℕ) → id_in k d ≡ Some n → (number_in k d ≡ Some n) × (n ≤ MAX_ID)
+pub id_in-some : (k : List ℕ) (d : Data) (n : ℕ) → id_in k d ≡ Some n → (number_in k d ≡ Some n) × (n ≤ MAX_ID)
 id_in-some k d n e =
     let p = and_then_some id_from (number_in k d) n e in
     let q = id-some p.0 n p.2 in

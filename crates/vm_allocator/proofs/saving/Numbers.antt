@@ -14,7 +14,7 @@ use Rattle.vm_allocator.proofs.saving.Fields.{and_then_some, if_some}
 
 -- Items one by one.
 
-items_from : (vs : List Value) (i : ℕ) (v : Value) → i < length vs → v ≡ get_or vs i v → items_view (drop i vs) ≡ item (view v) (items_view (drop (i + 1) vs))
+pub items_from : (vs : List Value) (i : ℕ) (v : Value) → i < length vs → v ≡ get_or vs i v → items_view (drop i vs) ≡ item (view v) (items_view (drop (i + 1) vs))
 items_from vs i v h e = ap items_view (drop_more vs i v h ∙ ap (λ (x : Value). x ∷ drop (i + 1) vs) (sym e))
 
 pub no_number : (least bound i : ℕ) (vs : List Value) (v : Value) → i < length vs → v ≡ get_or vs i v → whole_number (view v) ≡ None → rising least bound (items_view (drop i vs)) ≡ None

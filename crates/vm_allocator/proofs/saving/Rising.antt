@@ -42,10 +42,10 @@ states-rising (n ∷ ns) least bound (item d ds) s r = rw (s.0, le-leb least n r
 abbrev IsWithin : ℕ → ℕ → ℕ → Type 0
 IsWithin least bound n = (least ≤ n) × (n < bound)
 
-less : (n m : ℕ) → n < m → nat_cmp n m ≡ Less
+pub less : (n m : ℕ) → n < m → nat_cmp n m ≡ Less
 less n m p = sym (nat_cmp_is n m Less p)
 
-less_is : (n m : ℕ) → nat_cmp n m ≡ Less → n < m
+pub less_is : (n m : ℕ) → nat_cmp n m ≡ Less → n < m
 less_is n m e = subst (λ (o : Ordering). MatchOrdering o (n < m) (n ≡ m) (m < n)) e (ranks n m)
 
 above : (n least bound : ℕ) (ns : List ℕ) → n < least → RiseWithin least bound ns → AllByRecursion (λ m. nat_cmp n m ≡ Less) ns

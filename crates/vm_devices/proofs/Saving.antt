@@ -1,0 +1,198 @@
+-- A manager's value: what is found of it is what it states, what is read is that, and what is written states it.
+use Rattle.std.proofs.Common.{◌≡◌, ℕ, ◌+◌, ◌≤◌, ◌==◌, leb, cond, true, List, [], ◌∷◌, Option, Some, None, Result, Err, option_map, option_and_then, MatchOption, codes, refl, sym, ap, ◌∙◌, subst, arith, Less}
+use Rattle.std.proofs.lemmas.Bool.{leb-true, eqb-true}
+use Rattle.std.proofs.lemmas.Option.{same_Some}
+use Rattle.std.specs.BTreeMap.{BTreeMap}
+use Rattle.std.specs.List.{AllByRecursion}
+use Rattle.std.specs.List.Sorted.{IsStrictlySortedBy}
+use Rattle.std.specs.Map.{keys_of}
+use Rattle.std.specs.Ordering.{nat_cmp}
+use Rattle.serde_json.specs.Data.{Data, Items, no_items, item}
+use Rattle.serde_json.specs.Find.{get, as_array}
+use Rattle.vm_allocator.specs.Range.{Range}
+use Rattle.vm_allocator.specs.Address.{AddressState, IsAddressState}
+use Rattle.vm_allocator.specs.Ids.{IdState}
+use Rattle.vm_allocator.specs.Allocator.{SpaceInTree, state_of}
+use Rattle.vm_allocator.specs.SavedFields.{field_count, FieldIs, number_in}
+use Rattle.vm_allocator.specs.SavedTree.{StatesAllocator, StatesAddresses}
+use Rattle.vm_allocator.specs.SavedIds.{StatesIds}
+use Rattle.vm_allocator.specs.Saving.{Reads}
+use Rattle.vm_allocator.specs.SavedChecks.{is_count}
+use Rattle.vm_allocator.specs.declared.saved.ValueError.{ValueError}
+use Rattle.vm_allocator.specs.declared.saved.ValueError.TheVariants.{NotAState, OutOfMemory}
+use Rattle.vm_allocator.proofs.saving.Fields.{and_then_some, if_some, count-true, true-count, in_field, field_is}
+use Rattle.vm_allocator.proofs.saving.Allocators.{one_allocator, stated_state as allocator_state}
+use Rattle.vm_allocator.proofs.saving.IdStates.{one_stated, stated_state as ids_state}
+use Rattle.vm_allocator.proofs.saving.Rising.{less}
+use Rattle.vm_devices.specs.Devices.{DeviceState, IsDeviceState, devices_of}
+use Rattle.vm_devices.specs.Saved.{StatesDevices, StatesList, StatesManager, ReadsInParts}
+use Rattle.vm_devices.specs.SavedChecks.{device_found, rising_devices, FindsDevices, manager_found, AreAllHeld, ManagerParts}
+use Rattle.vm_devices.proofs.AllHeld.{pairs_all, all_paired}
+use Rattle.vm_devices.proofs.Slots.{RiseFrom, mapped, rising-states, states-rising}
+
+-- ---- ids that rise
+rises : (least : ℕ) (ds : Items) (es : List (ℕ × Range)) → rising_devices least ds ≡ Some es → RiseFrom least es
+rises least no_items [] h = tt
+rises least no_items (e ∷ es) h = absurd (cc)
+rises least (item d ds) es h =
+    let a = and_then_some _ (device_found d) es h in
+    let b = if_some (leb least a.0.0) _ es a.2 in
+    let m = mapped _ (rising_devices (a.0.0 + 1) ds) es b.1 in
+    subst (RiseFrom least) m.2 (leb-true least a.0.0 b.0, rises (a.0.0 + 1) ds m.0 m.1)
+
+above : (n least : ℕ) (es : List (ℕ × Range)) → n + 1 ≤ least → RiseFrom least es → AllByRecursion (λ k. nat_cmp n k ≡ Less) (keys_of es)
+above n least [] p r = tt
+above n least (e ∷ es) p r = let l = r.0 in (less n e.0 (omega arith), above n (e.0 + 1) es (omega arith) r.1)
+
+sorted : (least : ℕ) (es : List (ℕ × Range)) → RiseFrom least es → IsStrictlySortedBy nat_cmp (keys_of es)
+unfolding IsStrictlySortedBy
+sorted least [] r = tt
+sorted least (e ∷ es) r = (above e.0 (e.0 + 1) es (omega arith) r.1, sorted (e.0 + 1) es r.1)
+
+rising_sorted : (ds : Items) (es : List (ℕ × Range)) → rising_devices 0 ds ≡ Some es → IsStrictlySortedBy nat_cmp (keys_of es)
+rising_sorted ds es h = sorted 0 es (rises 0 ds es h)
+
+-- ---- the fields of a value that states a manager
+in_list : (d : Data) (es : List (ℕ × Range)) → StatesList d es → (ds : Items) × (as_array d ≡ Some ds) × StatesDevices ds es
+in_list d es s = found (as_array d) s where
+  found : (o : Option Items) → MatchOption o ⊥ (λ ds. StatesDevices ds es) → (ds : Items) × (o ≡ Some ds) × StatesDevices ds es
+  found None s = absurd s
+  found (Some ds) s = (ds, refl, s)
+
+-- what the parts of a value state of a manager
+record ArePartsOf (d : Data) (state : DeviceState) (listed : List (ℕ × Range)) : Type 0 where
+  ids : Data
+  space : Data
+  slots : Items
+  found : manager_found d ≡ Some (ids, space, slots)
+  ids_stated : StatesIds ids state.ids
+  space_stated : StatesAddresses space state.space
+  slots_stated : StatesDevices slots listed
+
+parts_of : (d : Data) (state : DeviceState) (s : StatesManager d state) → ArePartsOf d state s.listed
+parts_of d state s =
+    let ids = in_field (codes "id_allocator") d (λ v. StatesIds v state.ids) s.id_allocator in
+    let space = in_field (codes "mmio_allocator") d (λ v. StatesAddresses v state.space) s.mmio_allocator in
+    let slots = in_field (codes "slots") d (λ v. StatesList v s.listed) s.slots in
+    let list = in_list slots.0 s.listed slots.2 in
+    record {
+      ids = ids.0;
+      space = space.0;
+      slots = list.0;
+      found = rw (true-count 4 (field_count d) s.four_fields, s.version, ids.1, space.1, slots.1, list.1) refl;
+      ids_stated = ids.2;
+      space_stated = space.2;
+      slots_stated = list.2;
+    }
+
+-- a value has one such list of parts
+module _ (d : Data) (ids space : Data) (slots : Items) (found : manager_found d ≡ Some (ids, space, slots)) (state : DeviceState) (s : StatesManager d state) where
+  same_parts : ◌≡◌ {A = Data × Data × Items} (ids, space, slots) ((parts_of d state s).ids, (parts_of d state s).space, (parts_of d state s).slots)
+  same_parts = same_Some _ _ (sym found ∙ (parts_of d state s).found)
+
+  its_ids : StatesIds ids state.ids
+  its_ids = subst (λ (p : Data × Data × Items). StatesIds p.0 state.ids) (sym same_parts) (parts_of d state s).ids_stated
+
+  its_space : StatesAddresses space state.space
+  its_space = subst (λ (p : Data × Data × Items). StatesAddresses p.1 state.space) (sym same_parts) (parts_of d state s).space_stated
+
+  its_slots : rising_devices 0 slots ≡ Some s.listed
+  its_slots = states-rising slots s.listed (subst (λ (p : Data × Data × Items). StatesDevices p.2 s.listed) (sym same_parts) (parts_of d state s).slots_stated) s.rising
+
+-- ---- where a part states nothing, the whole states none
+pub no_fields : (d : Data) → manager_found d ≡ None → ¬ ((state : DeviceState) × StatesManager d state)
+no_fields d none h = let p = parts_of d h.0 h.1 in let e : None ≡ Some (p.ids, p.space, p.slots) = sym none ∙ p.found in absurd (cc (e))
+
+pub no_ids : (d ids space : Data) (slots : Items) → manager_found d ≡ Some (ids, space, slots) → ¬ ((i : IdState) × StatesIds ids i) → ¬ ((state : DeviceState) × StatesManager d state)
+no_ids d ids space slots found none h = none (h.0.ids, its_ids d ids space slots found h.0 h.1)
+
+pub no_space : (d ids space : Data) (slots : Items) → manager_found d ≡ Some (ids, space, slots) → ¬ ((a : AddressState) × StatesAddresses space a) → ¬ ((state : DeviceState) × StatesManager d state)
+no_space d ids space slots found none h = none (h.0.space, its_space d ids space slots found h.0 h.1)
+
+pub no_slots : (d ids space : Data) (slots : Items) → manager_found d ≡ Some (ids, space, slots) → rising_devices 0 slots ≡ None → ¬ ((state : DeviceState) × StatesManager d state)
+no_slots d ids space slots found none h =
+    let e : None ≡ Some h.1.listed = sym none ∙ its_slots d ids space slots found h.0 h.1 in absurd (cc (e))
+
+one_addresses : (d : Data) (a b : AddressState) → StatesAddresses d a → StatesAddresses d b → a ≡ b
+one_addresses d a b s t = sym s.is ∙ ap state_of (one_allocator d s.allocator t.allocator s.stated t.stated) ∙ t.is
+
+addresses_state : (d : Data) (a : AddressState) → StatesAddresses d a → IsAddressState a
+addresses_state d a s = subst IsAddressState s.is (allocator_state d s.allocator s.stated)
+
+pub not_paired : (d ids space : Data) (slots : Items) (i : IdState) (a : AddressState) (table : BTreeMap ℕ Range) → manager_found d ≡ Some (ids, space, slots) → StatesIds ids i → StatesAddresses space a → rising_devices 0 slots ≡ Some table.entries → ¬ AreAllHeld i a table.entries → ¬ ((state : DeviceState) × StatesManager d state)
+not_paired d ids space slots i a table found is held rise none h =
+    let state = h.0 in
+    let s = h.1 in
+    let same_ids : state.ids ≡ i = one_stated ids state.ids i (its_ids d ids space slots found state s) is in
+    let same_space : state.space ≡ a = one_addresses space state.space a (its_space d ids space slots found state s) held in
+    let same_list : s.listed ≡ table.entries = same_Some s.listed table.entries (sym (its_slots d ids space slots found state s) ∙ rise) in
+    let all = all_paired state s.listed s.devices s.rising (addresses_state space state.space (its_space d ids space slots found state s)) s.pairs in
+    none (rw (← same_ids, ← same_space, ← same_list) all)
+
+-- a refused part refuses the whole
+pub ids_refused : (d ids space : Data) (slots : Items) (e : ValueError) → manager_found d ≡ Some (ids, space, slots) → Reads {X = IdState} (StatesIds ids) (Err e) → ReadsInParts (StatesManager d) (Err e)
+ids_refused d ids space slots NotAState found r = no_ids d ids space slots found r
+ids_refused d ids space slots OutOfMemory found r = tt
+
+pub space_refused : (d ids space : Data) (slots : Items) (e : ValueError) → manager_found d ≡ Some (ids, space, slots) → Reads {X = AddressState} (StatesAddresses space) (Err e) → ReadsInParts (StatesManager d) (Err e)
+space_refused d ids space slots NotAState found r = no_space d ids space slots found r
+space_refused d ids space slots OutOfMemory found r = tt
+
+pub slots_refused : (d ids space : Data) (slots : Items) (e : ValueError) → manager_found d ≡ Some (ids, space, slots) → FindsDevices slots (Err e) → ReadsInParts (StatesManager d) (Err e)
+slots_refused d ids space slots NotAState found r = no_slots d ids space slots found r
+slots_refused d ids space slots OutOfMemory found r = tt
+
+pub ruleset readers = (no_fields, space_refused)
+
+-- ---- what is read is stated
+list_stated : (d : Data) (ds : Items) (es : List (ℕ × Range)) → as_array d ≡ Some ds → StatesDevices ds es → StatesList d es
+list_stated d ds es e s = rw e s
+
+module _ (d ids space : Data) (slots : Items) (i : IdState) (a : AddressState) (table : BTreeMap ℕ Range) (found : manager_found d ≡ Some (ids, space, slots)) (is : StatesIds ids i) (held : StatesAddresses space a) (rise : rising_devices 0 slots ≡ Some table.entries) (all : AreAllHeld i a table.entries) where
+  rising : IsStrictlySortedBy nat_cmp (keys_of table.entries)
+  rising = rising_sorted slots table.entries rise
+
+  pub read_state : IsDeviceState (devices_of i a table)
+  read_state = record {
+    ids = ids_state ids i is;
+    space = addresses_state space a held;
+    pairs = pairs_all (devices_of i a table) table.entries refl rising (addresses_state space a held) all;
+  }
+
+  pub manager_read : StatesManager d (devices_of i a table)
+  manager_read =
+      let four = if_some (is_count 4 (field_count d)) _ (ids, space, slots) found in
+      let version = and_then_some _ (number_in (codes "version") d) (ids, space, slots) four.1 in
+      let one = if_some (version.0 == 1) _ (ids, space, slots) version.2 in
+      let x = and_then_some _ (get (codes "id_allocator") d) (ids, space, slots) one.1 in
+      let y = and_then_some _ (get (codes "mmio_allocator") d) (ids, space, slots) x.2 in
+      let z = mapped _ (option_and_then as_array (get (codes "slots") d)) (ids, space, slots) y.2 in
+      let list = and_then_some as_array (get (codes "slots") d) z.0 z.1 in
+      let at_ids : x.0 ≡ ids = ap (λ (p : Data × Data × Items). p.0) z.2 in
+      let at_space : y.0 ≡ space = ap (λ (p : Data × Data × Items). p.1) z.2 in
+      let at_slots : z.0 ≡ slots = ap (λ (p : Data × Data × Items). p.2) z.2 in
+      record {
+        four_fields = count-true 4 (field_count d) four.0;
+        version = version.1 ∙ ap Some (eqb-true version.0 1 one.0);
+        id_allocator = field_is (codes "id_allocator") d ids (λ v. StatesIds v i) (x.1 ∙ ap Some at_ids) is;
+        mmio_allocator = field_is (codes "mmio_allocator") d space (λ v. StatesAddresses v a) (y.1 ∙ ap Some at_space) held;
+        listed = table.entries;
+        slots = field_is (codes "slots") d list.0 (λ v. StatesList v table.entries) list.1 (list_stated list.0 slots table.entries (list.2 ∙ ap Some at_slots) (rising-states 0 slots table.entries rise));
+        rising = rising;
+        devices = refl;
+        pairs = read_state.pairs;
+      }
+
+-- ---- what is written states the manager
+pub manager_written : (d ids space slots : Data) (i : IdState) (a : SpaceInTree) (table : BTreeMap ℕ Range) → ManagerParts d ids space slots → StatesIds ids i → StatesAllocator space a → StatesList slots table.entries → IsStrictlySortedBy nat_cmp (keys_of table.entries) → IsDeviceState (devices_of i (state_of a) table) → StatesManager d (devices_of i (state_of a) table)
+manager_written d ids space slots i a table p is held ss rise state = record {
+  four_fields = p.four_fields;
+  version = p.version_is;
+  id_allocator = field_is (codes "id_allocator") d ids (λ v. StatesIds v i) p.ids_is is;
+  mmio_allocator = field_is (codes "mmio_allocator") d space (λ v. StatesAddresses v (state_of a)) p.space_is (record { allocator = a; stated = held; is = refl });
+  listed = table.entries;
+  slots = field_is (codes "slots") d slots (λ v. StatesList v table.entries) p.slots_is ss;
+  rising = rise;
+  devices = refl;
+  pairs = state.pairs;
+}

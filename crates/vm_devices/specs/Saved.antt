@@ -1,0 +1,54 @@
+-- The saved value of a manager of devices.
+use Rattle.std.specs.Prelude.{◌≡◌, ℕ, ◌≤◌, List, [], ◌∷◌, Some, MatchOption, Result, Ok, Err, codes}
+use Rattle.std.specs.List.Sorted.{IsStrictlySortedBy}
+use Rattle.std.specs.Map.{keys_of}
+use Rattle.std.specs.Ordering.{nat_cmp}
+use Rattle.std.specs.FinMap as map
+use Rattle.serde_json.specs.Data.{Data, Items, no_items, item}
+use Rattle.serde_json.specs.Find.{as_array}
+use Rattle.vm_allocator.specs.Range.{Range}
+use Rattle.vm_allocator.specs.Ids.{MAX_ID}
+use Rattle.vm_allocator.specs.SavedFields.{field_count, FieldIs, number_in}
+use Rattle.vm_allocator.specs.SavedRange.{StatesRange}
+use Rattle.vm_allocator.specs.SavedTree.{StatesAddresses}
+use Rattle.vm_allocator.specs.SavedIds.{StatesIds}
+use Rattle.vm_allocator.specs.declared.saved.ValueError.{ValueError}
+use Rattle.vm_allocator.specs.declared.saved.ValueError.TheVariants.{NotAState, OutOfMemory}
+use Rattle.vm_devices.specs.Devices.{DeviceState, ArePaired}
+
+-- the value is an object of an id and a range alone
+pub record StatesDevice (d : Data) (device : ℕ × Range) : Type 0 where
+  pub two_fields : field_count d ≡ Some 2
+  pub id : number_in (codes "id") d ≡ Some device.0
+  pub word : device.0 ≤ MAX_ID
+  pub mmio_range : FieldIs (codes "mmio_range") d (λ v. StatesRange v device.1)
+
+-- the items are these devices, in this order
+abbrev pub StatesDevices : Items → List (ℕ × Range) → Type 0
+StatesDevices no_items [] = Unit {0}
+StatesDevices no_items (e ∷ es) = ⊥
+StatesDevices (item d ds) [] = ⊥
+StatesDevices (item d ds) (e ∷ es) = StatesDevice d e × StatesDevices ds es
+
+-- the value is the list of these devices
+abbrev pub StatesList : Data → List (ℕ × Range) → Type 0
+StatesList d es = MatchOption (as_array d) ⊥ (λ ds. StatesDevices ds es)
+
+-- the value is an object of a version, the two allocators and the devices alone; the version is 1, the ids of the
+-- devices rise, and they pair the held ids with the held ranges
+pub record StatesManager (d : Data) (state : DeviceState) : Type 0 where
+  pub four_fields : field_count d ≡ Some 4
+  pub version : number_in (codes "version") d ≡ Some 1
+  pub id_allocator : FieldIs (codes "id_allocator") d (λ v. StatesIds v state.ids)
+  pub mmio_allocator : FieldIs (codes "mmio_allocator") d (λ v. StatesAddresses v state.space)
+  pub listed : List (ℕ × Range)
+  pub slots : FieldIs (codes "slots") d (λ v. StatesList v listed)
+  pub rising : IsStrictlySortedBy nat_cmp (keys_of listed)
+  pub devices : state.devices ≡ map.from_entries listed
+  pub pairs : ArePaired state
+
+-- the object that is stated; NotAState where none is; memory may run out for any value, since its parts are read in turn
+abbrev pub ReadsInParts : {X : Type 0} → (X → Type 0) → Result X ValueError → Type 0
+ReadsInParts States (Ok x) = States x
+ReadsInParts {X} States (Err NotAState) = ¬ ((x : X) × States x)
+ReadsInParts States (Err OutOfMemory) = Unit {0}

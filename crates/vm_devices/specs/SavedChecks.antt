@@ -1,0 +1,80 @@
+-- What the reader of a manager finds, part by part, in the order in which it looks, and objects put together field by
+-- field. Private functions alone cite these.
+use Rattle.std.specs.Prelude.{◌≡◌, ℕ, ◌+◌, ◌==◌, nat_le, if◌then◌else◌, List, [], ◌∷◌, length, Option, Some, None, option_map, option_and_then, Result, Ok, Err, IsTrue, codes}
+use Rattle.std.specs.List.{Contains}
+use Rattle.std.specs.Ordering.{nat_cmp}
+use Rattle.std.specs.BTreeMap.{BTreeMap}
+use Rattle.std.specs.FinSet as set
+use Rattle.serde_json.specs.Data.{Data, Items, no_items, item}
+use Rattle.serde_json.specs.Find.{get, as_array}
+use Rattle.vm_allocator.specs.Range.{Range}
+use Rattle.vm_allocator.specs.Address.{AddressState}
+use Rattle.vm_allocator.specs.Ids.{IdState, IsHeld, held_count}
+use Rattle.vm_allocator.specs.SavedFields.{field_count, number_in}
+use Rattle.vm_allocator.specs.SavedChecks.{is_count, range_found}
+use Rattle.vm_allocator.specs.SavedIdChecks.{id_in}
+use Rattle.vm_allocator.specs.declared.saved.ValueError.{ValueError}
+use Rattle.vm_allocator.specs.declared.saved.ValueError.TheVariants.{NotAState, OutOfMemory}
+
+-- the device that a value states
+abbrev pub device_found : Data → Option (ℕ × Range)
+device_found d =
+    if is_count 2 (field_count d) then
+    option_and_then (λ id. option_map (λ r. (id, r)) (option_and_then range_found (get (codes "mmio_range") d)))
+    (id_in (codes "id") d)
+    else None
+
+-- the devices of the items, where their ids rise from `least` on
+abbrev pub rising_devices : ℕ → Items → Option (List (ℕ × Range))
+rising_devices least no_items = Some []
+rising_devices least (item d ds) =
+    option_and_then (λ e.
+    if nat_le least e.0 then option_map (λ es. e ∷ es) (rising_devices (e.0 + 1) ds) else None)
+    (device_found d)
+
+-- what the reader of the items answers: these devices, or that there are none such
+abbrev pub FindsDevices : Items → Result (BTreeMap ℕ Range) ValueError → Type 0
+FindsDevices ds (Ok slots) = rising_devices 0 ds ≡ Some slots.entries
+FindsDevices ds (Err NotAState) = rising_devices 0 ds ≡ None
+FindsDevices ds (Err OutOfMemory) = Unit {0}
+
+-- the values of a manager's fields, where the version is 1
+abbrev pub manager_found : Data → Option (Data × Data × Items)
+manager_found d =
+    if is_count 4 (field_count d) then
+    option_and_then (λ version.
+    if version == 1 then
+    option_and_then (λ ids. option_and_then (λ space. option_map (λ slots. (ids, space, slots))
+    (option_and_then as_array (get (codes "slots") d)))
+    (get (codes "mmio_allocator") d))
+    (get (codes "id_allocator") d)
+    else None)
+    (number_in (codes "version") d)
+    else None
+
+-- the id and the range of each device are held, and no range starts where an earlier one does, or one of `seen`
+abbrev pub AreHeldApart : IdState → AddressState → set.FinSet nat_cmp → List (ℕ × Range) → Type 0
+AreHeldApart ids space seen [] = Unit {0}
+AreHeldApart ids space seen (e ∷ es) =
+    IsHeld ids e.0 × Contains space.held e.1 × ¬ IsTrue (set.contains seen e.1.start)
+    × AreHeldApart ids space (set.insert seen e.1.start) es
+
+-- the devices are as many as the held ids and as the held ranges, and each has its own
+pub record AreAllHeld (ids : IdState) (space : AddressState) (es : List (ℕ × Range)) : Type 0 where
+  pub ids_counted : length es ≡ held_count ids
+  pub ranges_counted : length es ≡ length space.held
+  pub apart : AreHeldApart ids space set.empty es
+
+-- a device's two fields, and no other
+pub record DeviceParts (d : Data) (id : ℕ) (range : Data) : Type 0 where
+  pub two_fields : field_count d ≡ Some 2
+  pub id_is : number_in (codes "id") d ≡ Some id
+  pub range_is : get (codes "mmio_range") d ≡ Some range
+
+-- a manager's four fields, and no other
+pub record ManagerParts (d ids space slots : Data) : Type 0 where
+  pub four_fields : field_count d ≡ Some 4
+  pub version_is : number_in (codes "version") d ≡ Some 1
+  pub ids_is : get (codes "id_allocator") d ≡ Some ids
+  pub space_is : get (codes "mmio_allocator") d ≡ Some space
+  pub slots_is : get (codes "slots") d ≡ Some slots
