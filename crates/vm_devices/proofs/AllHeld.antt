@@ -1,5 +1,5 @@
 -- Devices that are as many as the held ids and the held ranges, each with its own, pair them all.
-use Rattle.std.proofs.Common.{◌≡◌, ◌≢◌, ℕ, ◌<◌, ◌≤◌, ◌⊎◌, ◌↔◌, true, false, cond, List, [], ◌∷◌, length, refl, sym, ap, ◌∙◌, arith, inl, inr, ⊎_elim, subst, suc, Some, IsSome, IsTrue, Less}
+use Rattle.std.proofs.Common.{◌≡◌, ◌≢◌, ℕ, ◌<◌, ◌⊎◌, true, false, cond, List, [], ◌∷◌, length, refl, sym, ap, ◌∙◌, arith, inl, inr, ⊎_elim, subst, suc, Some, IsSome, IsTrue, Less}
 use Rattle.std.proofs.lemmas.Bool.{eq-eqb, ne_eqb, cases_eq, both_ways}
 use Rattle.std.proofs.lemmas.Option.{same_Some}
 use Rattle.std.proofs.lemmas.List.Elements.{All-nil, All-cons, Contains-get_or}
@@ -10,12 +10,12 @@ use Rattle.std.specs.Cmp.{nat_cmp_total, unsigned_tied}
 use Rattle.std.specs.List.{All, AllByRecursion, AllPairs, Contains}
 use Rattle.std.specs.List.Sorted.{IsStrictlySortedBy}
 use Rattle.std.specs.Map.{keys_of, values_of}
-use Rattle.std.specs.Ordering.{nat_cmp, eq_by_cmp, MatchOrdering}
+use Rattle.std.specs.Ordering.{nat_cmp, eq_by_cmp}
 use Rattle.std.specs.FinMap as map
 use Rattle.std.specs.FinSet as set
 use Rattle.vm_allocator.specs.Range.{Range, Overlaps}
 use Rattle.vm_allocator.specs.Address.{AddressState, IsAddressState}
-use Rattle.vm_allocator.specs.Ids.{IdState, IsHeld, held_count}
+use Rattle.vm_allocator.specs.Ids.{IdState, IsHeld}
 use Rattle.vm_allocator.proofs.answers.AddressAnswers.{lie_apart}
 use Rattle.vm_allocator.proofs.ids.Sets.{inserted_here, inserted_other, from_inserted}
 use Rattle.vm_allocator.proofs.saving.Rising.{less_is}

@@ -1,6 +1,6 @@
 -- Devices gone through one by one: whether those that are left have each its own, behind the starts seen so far.
-use Rattle.std.proofs.Common.{◌≡◌, ℕ, ◌↔◌, true, false, not, List, ◌∷◌, sym, ap, ◌∙◌, subst, ⊎_elim, IsTrue}
-use Rattle.std.proofs.lemmas.Bool.{cases_eq, both_ways, not-true}
+use Rattle.std.proofs.Common.{◌≡◌, ℕ, ◌↔◌, true, false, List, ◌∷◌, sym, ap, ◌∙◌, subst, ⊎_elim, IsTrue}
+use Rattle.std.proofs.lemmas.Bool.{cases_eq, both_ways}
 use Rattle.std.specs.Cmp.{nat_cmp_total}
 use Rattle.std.specs.Ordering.{nat_cmp}
 use Rattle.std.specs.BTreeSet.{BTreeSet, contains, Updates}

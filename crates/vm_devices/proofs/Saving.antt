@@ -1,5 +1,5 @@
 -- A manager's value: what is found of it is what it states, what is read is that, and what is written states it.
-use Rattle.std.proofs.Common.{◌≡◌, ℕ, ◌+◌, ◌≤◌, ◌==◌, leb, cond, true, List, [], ◌∷◌, Option, Some, None, Result, Err, option_map, option_and_then, MatchOption, codes, refl, sym, ap, ◌∙◌, subst, arith, Less}
+use Rattle.std.proofs.Common.{◌≡◌, ℕ, ◌+◌, ◌≤◌, ◌==◌, leb, List, [], ◌∷◌, Option, Some, None, Err, option_and_then, MatchOption, codes, refl, sym, ap, ◌∙◌, subst, arith, Less}
 use Rattle.std.proofs.lemmas.Bool.{leb-true, eqb-true}
 use Rattle.std.proofs.lemmas.Option.{same_Some}
 use Rattle.std.specs.BTreeMap.{BTreeMap}
@@ -13,7 +13,7 @@ use Rattle.vm_allocator.specs.Range.{Range}
 use Rattle.vm_allocator.specs.Address.{AddressState, IsAddressState}
 use Rattle.vm_allocator.specs.Ids.{IdState}
 use Rattle.vm_allocator.specs.Allocator.{SpaceInTree, state_of}
-use Rattle.vm_allocator.specs.SavedFields.{field_count, FieldIs, number_in}
+use Rattle.vm_allocator.specs.SavedFields.{field_count, number_in}
 use Rattle.vm_allocator.specs.SavedTree.{StatesAllocator, StatesAddresses}
 use Rattle.vm_allocator.specs.SavedIds.{StatesIds}
 use Rattle.vm_allocator.specs.Saving.{Reads}

@@ -1,7 +1,6 @@
 -- The list of devices in a value: what is found of it is what it states.
-use Rattle.std.proofs.Common.{◌≡◌, ℕ, ◌+◌, ◌<◌, ◌≤◌, cond, leb, List, [], ◌∷◌, ◌++◌, length, get_or, drop, map, Option, Some, None, option_map, option_and_then, refl, sym, ap, ◌∙◌, subst, arith, append_assoc, Greater, Less, codes}
-use Rattle.std.proofs.lemmas.Bool.{le-leb, lt-leb, leb-true}
-use Rattle.std.proofs.lemmas.Option.{same_Some}
+use Rattle.std.proofs.Common.{◌≡◌, ℕ, ◌+◌, ◌<◌, ◌≤◌, leb, List, [], ◌∷◌, ◌++◌, length, get_or, drop, map, Option, Some, None, option_map, option_and_then, refl, sym, ap, ◌∙◌, subst, arith, append_assoc, Greater, Less, codes}
+use Rattle.std.proofs.lemmas.Bool.{le-leb, lt-leb}
 use Rattle.std.specs.Cmp.{nat_cmp_is}
 use Rattle.std.specs.BTreeMap.{insert_entry}
 use Rattle.std.specs.List.{AllByRecursion}
@@ -13,7 +12,7 @@ use Rattle.serde_json.specs.Find.{get}
 use Rattle.serde_json.specs.View.{view, items_view}
 use Rattle.serde_json.specs.declared.value.Value.{Value}
 use Rattle.vm_allocator.specs.Range.{Range}
-use Rattle.vm_allocator.specs.SavedFields.{field_count, FieldIs, number_in}
+use Rattle.vm_allocator.specs.SavedFields.{field_count}
 use Rattle.vm_allocator.specs.SavedRange.{StatesRange}
 use Rattle.vm_allocator.specs.SavedChecks.{is_count, range_found}
 use Rattle.vm_allocator.specs.SavedIdChecks.{id_in}
@@ -23,7 +22,7 @@ use Rattle.vm_allocator.proofs.saving.Ids.{id_in-some, some-id}
 use Rattle.vm_allocator.proofs.saving.Numbers.{items_from}
 use Rattle.vm_allocator.proofs.saving.Rising.{less_is}
 use Rattle.vm_devices.specs.Saved.{StatesDevice, StatesDevices}
-use Rattle.vm_devices.specs.SavedChecks.{device_found, rising_devices, DeviceParts}
+use Rattle.vm_devices.specs.SavedChecks.{device_found, rising_devices}
 
 -- ---- one device
 pub mapped : {A B : Type 0} (f : A → B) (o : Option A) (b : B) → option_map f o ≡ Some b → (a : A) × (o ≡ Some a) × (f a ≡ b)

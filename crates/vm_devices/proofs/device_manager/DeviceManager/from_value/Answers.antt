@@ -1,6 +1,8 @@
-use Rattle.std.proofs.Common.{◌≡◌, sym, Err, rules}
+use Rattle.std.proofs.Common.{◌≡◌, List, sym, subst, Err, rules}
 use Rattle.serde_json.specs.View.{view, items_view}
+use Rattle.serde_json.specs.declared.value.Value.{Value}
 use Rattle.vm_allocator.specs.Allocator.{state_of}
+use Rattle.vm_devices.specs.SavedChecks.{FindsDevices}
 use Rattle.vm_devices.proofs.Saving.{ids_refused, slots_refused, not_paired, read_state, manager_read}
 use Rattle.vm_devices.proofs.device_manager.DeviceManager.from_value.Goals as goal
 
@@ -14,7 +16,7 @@ pub returns-in_err-slots-clause-answer : goal.returns-in_err-slots-clause-answer
 returns-in_err-slots-clause-answer c =
     let is : c.from_residual-in_err-slots.result ≡ Err c.in_err-slots.field-0.0 = search rules in
     let f = c.in-Some.fields in
-    rw is (slots_refused (view c.args.value.now) (view f.ids.now) (view f.space.now) (items_view f.slots.now.items) c.in_err-slots.field-0.0 (sym c.in-Some.ensures) (rw c.deref.ensures.value at c.in_err-slots.ensures))
+    rw is (slots_refused (view c.args.value.now) (view f.ids.now) (view f.space.now) (items_view f.slots.now.items) c.in_err-slots.field-0.0 (sym c.in-Some.ensures) (subst (λ (list : List Value). FindsDevices (items_view list) (Err c.in_err-slots.field-0.0)) c.deref.ensures.value c.in_err-slots.ensures))
 
 pub invariant_of-result : goal.invariant_of-result
 invariant_of-result c =
