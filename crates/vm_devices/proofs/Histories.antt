@@ -11,11 +11,12 @@ use Rattle.vm_allocator.proofs.answers.AddressAnswers.{lie_apart}
 use Rattle.vm_allocator.proofs.Callers.{given, given_aligned}
 use Rattle.vm_devices.specs.declared.device_slot.DeviceSlot.{DeviceSlot}
 use Rattle.vm_devices.specs.Devices.{DeviceState, IsDevice, IsDeviceState}
-use Rattle.vm_devices.specs.Histories.{DeviceCall, Reservation, Release, IsDeviceCallFrom, IsDeviceHistoryFrom, AreDevicesReached, WasReserved}
+use Rattle.vm_devices.specs.Histories.{DeviceCall, Reservation, Release, IsDeviceCallFrom, IsDeviceHistoryFrom, IsManagerMade, IsManagerRead, AreDevicesReached, WasReserved, WasStated}
 use Rattle.vm_devices.specs.Laws.{DevicesAreGood}
 use Rattle.vm_devices.proofs.Tables.{with_here, with_other}
 use Rattle.vm_devices.proofs.Pairs.{one_range, was, id_held}
 use Rattle.vm_devices.proofs.Making.{made_state}
+use Rattle.vm_devices.proofs.Saving.{stated_state}
 use Rattle.vm_devices.proofs.Reserving.{reserving_outcome, releasing_outcome, reserved_state, released_state}
 
 -- ---- every state that is reached is one
@@ -27,10 +28,12 @@ history_state : (calls : List DeviceCall) (first last : DeviceState) → IsDevic
 history_state [] first last h i = subst IsDeviceState (sym h) i
 history_state (call ∷ calls) first last h i = history_state calls h.0 last h.2 (call_state first h.0 call h.1 i)
 
+first_state : (first : DeviceState) → IsManagerMade first ⊎ IsManagerRead first → IsDeviceState first
+first_state first (inl m) = (made_state m.lo m.hi m.base m.size first m.id m.word m.made).0
+first_state first (inr r) = stated_state r.value first r.stated
+
 reached_state : (calls : List DeviceCall) (old : DeviceState) → AreDevicesReached calls old → IsDeviceState old
-reached_state calls old r =
-    let b = r.begins in
-    history_state calls r.first old r.history (made_state b.lo b.hi b.base b.size r.first b.id b.word b.made).0
+reached_state calls old r = history_state calls r.first old r.history (first_state r.first r.begins)
 
 -- ---- each device was reserved
 reserved_later : (call : DeviceCall) (calls : List DeviceCall) (id : ℕ) (r : Range) → WasReserved calls id r → WasReserved (call ∷ calls) id r
@@ -75,16 +78,20 @@ history_reserves (call ∷ calls) first last id r h i d =
     (λ (g : WasReserved calls id r). inr (reserved_later call calls id r g))
     (history_reserves calls h.0 last id r h.2 (call_state first h.0 call h.1 i) d)
 
-reached_reserved : (calls : List DeviceCall) (old : DeviceState) (id : ℕ) (r : Range) → AreDevicesReached calls old → IsDevice old id r → WasReserved calls id r
+-- a new manager has no device, so each was reserved, or stated by the value that was read
+first_devices : (first : DeviceState) (id : ℕ) (r : Range) → IsManagerMade first ⊎ IsManagerRead first → IsDevice first id r → WasStated first id r
+first_devices first id r (inl m) k =
+    let made = made_state m.lo m.hi m.base m.size first m.id m.word m.made in
+    let none : None ≡ Some r = sym (ap (λ (t : map.FinMap nat_cmp Range). map.get t id) made.1 ∙ map.get-empty nat_cmp id) ∙ k in
+    absurd (cc (none))
+first_devices first id r (inr read) k = record { read = read; device = k }
+
+reached_reserved : (calls : List DeviceCall) (old : DeviceState) (id : ℕ) (r : Range) (h : AreDevicesReached calls old) → IsDevice old id r → WasReserved calls id r ⊎ WasStated h.first id r
 reached_reserved calls old id r h d =
-    let b = h.begins in
-    let made = made_state b.lo b.hi b.base b.size h.first b.id b.word b.made in
     ⊎_elim
-    (λ (k : IsDevice h.first id r).
-    let none : None ≡ Some r = sym (ap (λ (m : map.FinMap nat_cmp Range). map.get m id) made.1 ∙ map.get-empty nat_cmp id) ∙ k in
-    absurd (cc (none)))
-    (λ (g : WasReserved calls id r). g)
-    (history_reserves calls h.first old id r h.history made.0 d)
+    (λ (k : IsDevice h.first id r). inr (first_devices h.first id r h.begins k))
+    (λ (g : WasReserved calls id r). inl g)
+    (history_reserves calls h.first old id r h.history (first_state h.first h.begins) d)
 
 -- ---- where devices lie
 devices_apart : (old : DeviceState) (i j : ℕ) (r s : Range) → IsDeviceState old → IsDevice old i r → IsDevice old j s → i ≢ j → ¬ Overlaps r s

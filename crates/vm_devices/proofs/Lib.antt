@@ -8,7 +8,9 @@ pub mod Once
 pub mod EveryCall
 pub mod Calls
 pub mod Callers
+pub mod Entries
 pub mod AllHeld
 pub mod Slots
 pub mod Apart
+pub mod RisingIds
 pub mod Saving

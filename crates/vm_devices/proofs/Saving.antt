@@ -1,13 +1,13 @@
 -- A manager's value: what is found of it is what it states, what is read is that, and what is written states it.
-use Rattle.std.proofs.Common.{◌≡◌, ℕ, ◌+◌, ◌≤◌, ◌==◌, leb, List, [], ◌∷◌, Option, Some, None, Err, option_and_then, MatchOption, codes, refl, sym, ap, ◌∙◌, subst, arith, Less}
-use Rattle.std.proofs.lemmas.Bool.{leb-true, eqb-true}
+use Rattle.std.proofs.Common.{◌≡◌, ℕ, ◌==◌, List, Option, Some, None, Result, Ok, Err, inl, inr, ◌⊎◌, option_and_then, MatchOption, codes, refl, sym, ap, ◌∙◌, subst}
+use Rattle.std.proofs.lemmas.Bool.{eqb-true}
 use Rattle.std.proofs.lemmas.Option.{same_Some}
 use Rattle.std.specs.BTreeMap.{BTreeMap}
-use Rattle.std.specs.List.{AllByRecursion}
 use Rattle.std.specs.List.Sorted.{IsStrictlySortedBy}
 use Rattle.std.specs.Map.{keys_of}
 use Rattle.std.specs.Ordering.{nat_cmp}
-use Rattle.serde_json.specs.Data.{Data, Items, no_items, item}
+use Rattle.std.specs.FinMap as map
+use Rattle.serde_json.specs.Data.{Data, Items}
 use Rattle.serde_json.specs.Find.{get, as_array}
 use Rattle.vm_allocator.specs.Range.{Range}
 use Rattle.vm_allocator.specs.Address.{AddressState, IsAddressState}
@@ -23,34 +23,13 @@ use Rattle.vm_allocator.specs.declared.saved.ValueError.TheVariants.{NotAState, 
 use Rattle.vm_allocator.proofs.saving.Fields.{and_then_some, if_some, count-true, true-count, in_field, field_is}
 use Rattle.vm_allocator.proofs.saving.Allocators.{one_allocator, stated_state as allocator_state}
 use Rattle.vm_allocator.proofs.saving.IdStates.{one_stated, stated_state as ids_state}
-use Rattle.vm_allocator.proofs.saving.Rising.{less}
 use Rattle.vm_devices.specs.Devices.{DeviceState, IsDeviceState, devices_of}
 use Rattle.vm_devices.specs.Saved.{StatesDevices, StatesList, StatesManager, ReadsInParts}
-use Rattle.vm_devices.specs.SavedChecks.{device_found, rising_devices, FindsDevices, manager_found, AreAllHeld, ManagerParts}
+use Rattle.vm_devices.specs.Laws.{ManagerIsReadAgain}
+use Rattle.vm_devices.specs.SavedChecks.{rising_devices, FindsDevices, manager_found, AreAllHeld, ManagerParts}
 use Rattle.vm_devices.proofs.AllHeld.{pairs_all, all_paired}
-use Rattle.vm_devices.proofs.Slots.{RiseFrom, mapped, rising-states, states-rising}
-
--- ---- ids that rise
-rises : (least : ℕ) (ds : Items) (es : List (ℕ × Range)) → rising_devices least ds ≡ Some es → RiseFrom least es
-rises least no_items [] h = tt
-rises least no_items (e ∷ es) h = absurd (cc)
-rises least (item d ds) es h =
-    let a = and_then_some _ (device_found d) es h in
-    let b = if_some (leb least a.0.0) _ es a.2 in
-    let m = mapped _ (rising_devices (a.0.0 + 1) ds) es b.1 in
-    subst (RiseFrom least) m.2 (leb-true least a.0.0 b.0, rises (a.0.0 + 1) ds m.0 m.1)
-
-above : (n least : ℕ) (es : List (ℕ × Range)) → n + 1 ≤ least → RiseFrom least es → AllByRecursion (λ k. nat_cmp n k ≡ Less) (keys_of es)
-above n least [] p r = tt
-above n least (e ∷ es) p r = let l = r.0 in (less n e.0 (omega arith), above n (e.0 + 1) es (omega arith) r.1)
-
-sorted : (least : ℕ) (es : List (ℕ × Range)) → RiseFrom least es → IsStrictlySortedBy nat_cmp (keys_of es)
-unfolding IsStrictlySortedBy
-sorted least [] r = tt
-sorted least (e ∷ es) r = (above e.0 (e.0 + 1) es (omega arith) r.1, sorted (e.0 + 1) es r.1)
-
-rising_sorted : (ds : Items) (es : List (ℕ × Range)) → rising_devices 0 ds ≡ Some es → IsStrictlySortedBy nat_cmp (keys_of es)
-rising_sorted ds es h = sorted 0 es (rises 0 ds es h)
+use Rattle.vm_devices.proofs.Slots.{mapped, rising-states, states-rising}
+use Rattle.vm_devices.proofs.RisingIds.{rising_sorted}
 
 -- ---- the fields of a value that states a manager
 in_list : (d : Data) (es : List (ℕ × Range)) → StatesList d es → (ds : Items) × (as_array d ≡ Some ds) × StatesDevices ds es
@@ -182,6 +161,29 @@ module _ (d ids space : Data) (slots : Items) (i : IdState) (a : AddressState) (
         devices = refl;
         pairs = read_state.pairs;
       }
+
+-- ---- one manager
+pub stated_state : (d : Data) (state : DeviceState) → StatesManager d state → IsDeviceState state
+stated_state d state s =
+    let p = parts_of d state s in
+    record { ids = ids_state p.ids state.ids p.ids_stated; space = addresses_state p.space state.space p.space_stated; pairs = s.pairs }
+
+pub one_manager : (d : Data) (a b : DeviceState) → StatesManager d a → StatesManager d b → a ≡ b
+one_manager d a b s t =
+    let p = parts_of d a s in
+    let ids : a.ids ≡ b.ids = one_stated p.ids a.ids b.ids p.ids_stated (its_ids d p.ids p.space p.slots p.found b t) in
+    let space : a.space ≡ b.space = one_addresses p.space a.space b.space p.space_stated (its_space d p.ids p.space p.slots p.found b t) in
+    let list = same_Some s.listed t.listed (sym (its_slots d p.ids p.space p.slots p.found a s) ∙ its_slots d p.ids p.space p.slots p.found b t) in
+    let devices : a.devices ≡ b.devices = s.devices ∙ ap (λ (es : List (ℕ × Range)). map.from_entries es) list ∙ sym t.devices in
+    ap (λ v. record { ids = v; space = a.space; devices = a.devices }) ids ∙ ap (λ v. record { ids = b.ids; space = v; devices = a.devices }) space ∙ ap (λ v. record { ids = b.ids; space = b.space; devices = v }) devices
+
+read_again : (d : Data) (old : DeviceState) (answer : Result DeviceState ValueError) → StatesManager d old → ReadsInParts (StatesManager d) answer → (answer ≡ Ok old) ⊎ (answer ≡ Err OutOfMemory)
+read_again d old (Ok new) s r = inl (ap (λ (v : DeviceState). Ok v) (one_manager d new old r s))
+read_again d old (Err NotAState) s r = absurd (r (old, s))
+read_again d old (Err OutOfMemory) s r = inr refl
+
+pub manager_again : ManagerIsReadAgain
+manager_again = record { one = one_manager; again = read_again }
 
 -- ---- what is written states the manager
 pub manager_written : (d ids space slots : Data) (i : IdState) (a : SpaceInTree) (table : BTreeMap ℕ Range) → ManagerParts d ids space slots → StatesIds ids i → StatesAllocator space a → StatesList slots table.entries → IsStrictlySortedBy nat_cmp (keys_of table.entries) → IsDeviceState (devices_of i (state_of a) table) → StatesManager d (devices_of i (state_of a) table)

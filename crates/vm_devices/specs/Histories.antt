@@ -1,13 +1,15 @@
 -- Histories: calls of a manager of devices, one after the other.
-use Rattle.std.specs.Prelude.{◌≡◌, ℕ, ◌%◌, ◌≤◌, List, [], ◌∷◌, Result, Ok, Err}
+use Rattle.std.specs.Prelude.{◌≡◌, ℕ, ◌%◌, ◌≤◌, ◌⊎◌, List, [], ◌∷◌, Result, Ok, Err}
 use Rattle.std.specs.List.{Contains}
+use Rattle.serde_json.specs.Data.{Data}
 use Rattle.vm_allocator.specs.Range.{Range, MAX, span}
 use Rattle.vm_allocator.specs.Request.{Request}
 use Rattle.vm_allocator.specs.Ids.{MAX_ID}
 use Rattle.vm_allocator.specs.declared.error.Error.{Error}
 use Rattle.vm_allocator.specs.declared.error.Error.TheVariants.{OutOfMemory}
 use Rattle.vm_devices.specs.declared.device_slot.DeviceSlot.{DeviceSlot}
-use Rattle.vm_devices.specs.Devices.{DeviceState, MakesManager, Reserves, Releases}
+use Rattle.vm_devices.specs.Devices.{DeviceState, IsDevice, MakesManager, Reserves, Releases}
+use Rattle.vm_devices.specs.Saved.{StatesManager}
 
 -- a call with its answer: a request for a device, or the id of one that is given back
 pub data DeviceCall : Type 0 where
@@ -50,10 +52,15 @@ pub record IsManagerMade (state : DeviceState) : Type 0 where
   pub word : size ≤ MAX
   pub made : MakesManager lo hi base size (Ok state)
 
--- the calls lead from a new manager to the state
+-- the state that a saved value states, and so that of the manager read from it
+pub record IsManagerRead (state : DeviceState) : Type 0 where
+  pub value : Data
+  pub stated : StatesManager value state
+
+-- the calls lead from a manager that was made or read to the state
 pub record AreDevicesReached (calls : List DeviceCall) (state : DeviceState) : Type 0 where
   pub first : DeviceState
-  pub begins : IsManagerMade first
+  pub begins : IsManagerMade first ⊎ IsManagerRead first
   pub history : IsDeviceHistoryFrom first calls state
 
 -- some call reserved the range for the id, for as many addresses as it has, at a multiple of the alignment asked for
@@ -62,3 +69,8 @@ pub record WasReserved (calls : List DeviceCall) (id : ℕ) (r : Range) : Type 0
   pub call : Contains calls (Reservation request (Ok (record { id = id; range = r })))
   pub aligned : r.start % request.align ≡ 0
   pub long : r ≡ span r.start request.size
+
+-- a value that was read stated the device
+pub record WasStated (first : DeviceState) (id : ℕ) (r : Range) : Type 0 where
+  pub read : IsManagerRead first
+  pub device : IsDevice first id r

@@ -1,27 +1,31 @@
--- What holds along every history of a manager of devices.
+-- What holds along every history of a manager of devices, from one on that was made or read.
 use Rattle.std.specs.Prelude.{◌≡◌, ◌≢◌, ℕ, ◌<◌, ◌≤◌, ◌⊎◌, List, map, length, Result, Ok, Err}
 use Rattle.std.specs.List.{All}
+use Rattle.serde_json.specs.Data.{Data}
 use Rattle.vm_allocator.specs.Range.{Range, MAX, Overlaps, Covers, address_count}
 use Rattle.vm_allocator.specs.Request.{Request, request_for}
 use Rattle.vm_allocator.specs.Answer.{FEWEST_TOO_DEEP}
 use Rattle.vm_allocator.specs.Ids.{IsOfRange}
 use Rattle.vm_allocator.specs.declared.error.Error.{Error}
 use Rattle.vm_allocator.specs.declared.error.Error.TheVariants.{Overflow, OutOfMemory}
+use Rattle.vm_allocator.specs.declared.saved.ValueError.{ValueError}
+use Rattle.vm_allocator.specs.declared.saved.ValueError.TheVariants as unread
 use Rattle.vm_allocator.specs.declared.constraint.AllocPolicy.TheVariants.{ExactMatch}
 use Rattle.vm_devices.specs.declared.device_slot.DeviceSlot.{DeviceSlot}
 use Rattle.vm_devices.specs.Devices.{DeviceState, IsDevice, IsDeviceState, MakesManager, Reserves, Releases}
-use Rattle.vm_devices.specs.Histories.{DeviceCall, DeviceAsked, device_asked_by, RunsOutOfMemory, IsDeviceHistoryFrom, AreDevicesReached, WasReserved}
+use Rattle.vm_devices.specs.Saved.{StatesManager, ReadsInParts}
+use Rattle.vm_devices.specs.Histories.{DeviceCall, DeviceAsked, device_asked_by, RunsOutOfMemory, IsDeviceHistoryFrom, AreDevicesReached, WasReserved, WasStated}
 
 -- in each state the devices pair the held ids with the held ranges; no two share an address; each lies in the space,
--- below MAX, and has an id of the range and what some call reserved for it
+-- below MAX, and has an id of the range and what some call reserved for it, or what the value stated that was read
 pub record DevicesAreGood : Type 0 where
   pub state : (calls : List DeviceCall) (old : DeviceState) → AreDevicesReached calls old → IsDeviceState old
   pub apart : (calls : List DeviceCall) (old : DeviceState) (i j : ℕ) (r s : Range) → AreDevicesReached calls old →
       IsDevice old i r → IsDevice old j s → i ≢ j → ¬ Overlaps r s
   pub inside : (calls : List DeviceCall) (old : DeviceState) (id : ℕ) (r : Range) → AreDevicesReached calls old →
       IsDevice old id r → IsOfRange old.ids id × Covers old.space.space r × (r.end < MAX)
-  pub reserved : (calls : List DeviceCall) (old : DeviceState) (id : ℕ) (r : Range) → AreDevicesReached calls old →
-      IsDevice old id r → WasReserved calls id r
+  pub reserved : (calls : List DeviceCall) (old : DeviceState) (id : ℕ) (r : Range) (reached : AreDevicesReached calls old) →
+      IsDevice old id r → WasReserved calls id r ⊎ WasStated reached.first id r
 
 -- the answer is a refusal for memory, or, where so many ranges are held that a tree of them may be too deep, for depth
 abbrev pub IsExcused : DeviceState → Result DeviceSlot Error → Type 0
@@ -74,3 +78,10 @@ EveryDeviceListHasHistory =
     (old : DeviceState) (asked : List DeviceAsked) →
     (calls : List DeviceCall) × (new : DeviceState) × IsDeviceHistoryFrom old calls new ×
     (map device_asked_by calls ≡ asked) × All (λ call. ¬ RunsOutOfMemory call) calls
+
+-- what reading a written value answers is what was written, unless memory runs out; a value states one manager at most
+pub record ManagerIsReadAgain : Type 0 where
+  pub one : (d : Data) (a b : DeviceState) → StatesManager d a → StatesManager d b → a ≡ b
+  pub again : (d : Data) (old : DeviceState) (answer : Result DeviceState ValueError) →
+      StatesManager d old → ReadsInParts (StatesManager d) answer →
+      (answer ≡ Ok old) ⊎ (answer ≡ Err unread.OutOfMemory)

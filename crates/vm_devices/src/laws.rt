@@ -1,9 +1,9 @@
 //! Laws: theorems about the definitions that the contracts cite, each the contract of a function that
 //! does nothing.
-ghost use Rattle.vm_devices.specs.Laws.{DevicesAreGood, ReservedAgain, RangeComesBack, DevicesDecide, EveryDeviceCallIsAnswered, EveryDeviceListHasHistory};
+ghost use Rattle.vm_devices.specs.Laws.{DevicesAreGood, ReservedAgain, RangeComesBack, DevicesDecide, EveryDeviceCallIsAnswered, EveryDeviceListHasHistory, ManagerIsReadAgain};
 
 /// In every history no two devices share an id or an address, and each lies in the space, aligned and
-/// as long as it was asked for.
+/// as long as it was asked for, or as the value stated it that was read.
 #[tactic(auto, using(crate::proofs::Histories::devices_are_good))]
 fn devices_are_good()
     ensures { DevicesAreGood }
@@ -28,4 +28,10 @@ fn devices_decide()
 fn every_call_is_answered()
     ensures call { EveryDeviceCallIsAnswered }
     ensures list { EveryDeviceListHasHistory }
+{}
+
+/// What is read of a written manager is that manager, and a value states one at most.
+#[tactic(auto, using(crate::proofs::Saving::manager_again))]
+fn managers_are_read_again()
+    ensures { ManagerIsReadAgain }
 {}

@@ -1,5 +1,5 @@
 use Rattle.vm_devices.proofs.Slots.{IsSoFar}
-use Rattle.vm_devices.proofs.device_manager.saved.read_slots.Given as goal
+use Rattle.vm_devices.proofs.device_manager.saved.slots.read_slots.Given as goal
 
 -- the devices so far are in the table, and those that are left go on from them
 abbrev pub invariant-loop-item : goal.invariant-loop-item

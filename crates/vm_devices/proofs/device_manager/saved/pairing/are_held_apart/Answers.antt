@@ -6,7 +6,7 @@ use Rattle.std.specs.FinSet as set
 use Rattle.vm_allocator.specs.Allocator.{state_of}
 use Rattle.vm_devices.specs.SavedChecks.{AreHeldApart}
 use Rattle.vm_devices.proofs.Apart.{one_apart, one_twice}
-use Rattle.vm_devices.proofs.device_manager.saved.are_held_apart.Goals as goal
+use Rattle.vm_devices.proofs.device_manager.saved.pairing.are_held_apart.Goals as goal
 
 pub loop-id-preserved : goal.loop-id-preserved
 loop-id-preserved c =

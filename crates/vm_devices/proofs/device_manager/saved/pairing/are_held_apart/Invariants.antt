@@ -2,7 +2,7 @@ use Rattle.std.proofs.Common.{◌↔◌}
 use Rattle.std.specs.FinSet as set
 use Rattle.vm_allocator.specs.Allocator.{state_of}
 use Rattle.vm_devices.specs.SavedChecks.{AreHeldApart}
-use Rattle.vm_devices.proofs.device_manager.saved.are_held_apart.Given as goal
+use Rattle.vm_devices.proofs.device_manager.saved.pairing.are_held_apart.Given as goal
 
 -- all have their own exactly if those that are left do, behind the starts so far
 abbrev pub invariant-loop-id : goal.invariant-loop-id

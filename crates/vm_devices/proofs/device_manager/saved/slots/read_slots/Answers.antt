@@ -1,6 +1,6 @@
 use Rattle.std.proofs.Common.{sym, arith}
 use Rattle.vm_devices.proofs.Slots.{one_more}
-use Rattle.vm_devices.proofs.device_manager.saved.read_slots.Goals as goal
+use Rattle.vm_devices.proofs.device_manager.saved.slots.read_slots.Goals as goal
 
 pub loop-item-preserved : goal.loop-item-preserved
 loop-item-preserved c =

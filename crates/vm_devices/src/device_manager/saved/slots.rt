@@ -1,0 +1,103 @@
+//! The list of devices in a manager's value.
+ghost use Rattle.std.specs.Prelude.{◌≡◌, IfOk, option_map};
+ghost use Rattle.std.specs.List.Sorted.{IsStrictlySortedBy};
+ghost use Rattle.std.specs.Map.{keys_of};
+ghost use Rattle.std.specs.Ordering.{nat_cmp};
+ghost use Rattle.serde_json.specs.View.{view, items_view};
+ghost use Rattle.vm_allocator.specs.Saving.{Saves};
+ghost use Rattle.vm_allocator.specs.SavedChecks.{range_found};
+ghost use Rattle.vm_allocator.specs.SavedIdChecks.{id_from};
+ghost use Rattle.vm_devices.specs.Saved.{StatesDevice, StatesList};
+ghost use Rattle.vm_devices.specs.SavedChecks.{device_found, FindsDevices, DeviceParts};
+
+use super::has_fields;
+use crate::device_slot::DeviceSlot;
+use serde_json::{Value, json};
+use std::alloc::{AllocError, Global};
+use std::collections::BTreeMap;
+use vm_allocator::{Error, RangeInclusive, Result, ValueError};
+
+/// The list of devices, by rising ids.
+pub(super) fn save_slots(alloc: Global, slots: &BTreeMap<u32, RangeInclusive>) -> Result<Value>
+    ensures answer { Saves (λ d. StatesList d slots.now.entries) result }
+    ensures rising { IsStrictlySortedBy nat_cmp (keys_of slots.now.entries) }
+{
+    let mut list = Vec::new(alloc);
+    for (id, range) in slots.iter() {
+        let slot = save_slot(alloc, *id, range)?;
+        let Ok(()) = list.push(slot) else {
+            return Err(Error::OutOfMemory);
+        };
+    }
+    Ok(Value::from(list))
+}
+
+/// The value of one device.
+fn save_slot(alloc: Global, id: u32, range: &RangeInclusive) -> Result<Value>
+    ensures { Saves (λ d. StatesDevice d (id, range.now)) result }
+{
+    let range = range.to_value(alloc)?;
+    match put_slot(alloc, id, range) {
+        Ok(value) => Ok(value),
+        Err(_) => Err(Error::OutOfMemory),
+    }
+}
+
+/// The object of a device's fields.
+fn put_slot(alloc: Global, id: u32, range: Value) -> std::result::Result<Value, AllocError>
+    ensures { IfOk result (λ value. DeviceParts (view value) id (view range)) }
+{
+    json!(in alloc; {"id": id, "mmio_range": range})
+}
+
+/// The table of the devices that a list states, where their ids rise.
+#[tactic(auto, using(crate::proofs::Slots::tables))]
+pub(super) fn read_slots(
+    alloc: Global,
+    list: &[Value],
+) -> std::result::Result<BTreeMap<u32, RangeInclusive>, ValueError>
+    ensures { FindsDevices (items_view list.now) result }
+{
+    let mut slots = BTreeMap::new(alloc);
+    let mut least = 0u64;
+    for item in list {
+        let Some(slot) = slot_of(alloc, item) else {
+            return Err(ValueError::NotAState);
+        };
+        if u64::from(slot.id) < least {
+            return Err(ValueError::NotAState);
+        }
+        let Ok(_) = slots.insert(slot.id, slot.range) else {
+            return Err(ValueError::OutOfMemory);
+        };
+        least = u64::from(slot.id) + 1;
+    }
+    Ok(slots)
+}
+
+/// The device that a value states.
+fn slot_of(alloc: Global, value: &Value) -> Option<DeviceSlot>
+    ensures { option_map (λ slot. (slot.id, slot.range)) result ≡ device_found (view value.now) }
+{
+    if !has_fields(value, 2) {
+        return None;
+    }
+    let id = id_of(value.get("id")?.as_u64()?)?;
+    let range = range_of(alloc, value.get("mmio_range")?)?;
+    Some(DeviceSlot { id, range })
+}
+
+/// The number as an id.
+fn id_of(number: u64) -> Option<u32>
+    ensures { result ≡ id_from number }
+{
+    u32::try_from(number).ok()
+}
+
+/// The range that a value states.
+#[tactic(auto, using(crate::proofs::Slots::ranges))]
+fn range_of(alloc: Global, value: &Value) -> Option<RangeInclusive>
+    ensures { result ≡ range_found (view value.now) }
+{
+    RangeInclusive::from_value(alloc, value).ok()
+}
