@@ -1,8 +1,8 @@
 -- What holding the keys of nodes one after the other makes of a state.
-use Rattle.std.proofs.Common.{◌≡◌, ℕ, ◌+◌, ◌-◌, ◌≤◌, List, [], ◌∷◌, ◌++◌, None, Some, refl, sym, ap, ◌∙◌, subst, arith}
+use Rattle.std.proofs.Common.{◌≡◌, ℕ, ◌-◌, ◌≤◌, List, [], ◌∷◌, ◌++◌, None, Some, refl, sym, ap, ◌∙◌, subst, arith}
 use Rattle.std.proofs.lemmas.List.{append_assoc, append-nil}
 use Rattle.std.proofs.lemmas.Option.{same_Some}
-use Rattle.serde_json.specs.Data.{Data, null}
+use Rattle.serde_json.specs.Data.{Data}
 use Rattle.vm_allocator.specs.Range.{Range}
 use Rattle.vm_allocator.specs.Address.{AddressState}
 use Rattle.vm_allocator.specs.Block.{Block}

@@ -18,7 +18,7 @@ use Rattle.vm_allocator.proofs.answers.AddressAnswers.{made_is}
 use Rattle.vm_allocator.proofs.blocks.States.{tiles_keys, keys_slots}
 use Rattle.vm_allocator.proofs.saving.Fields.{and_then_some, if_some, field_map}
 use Rattle.vm_allocator.proofs.saving.Nodes.{shape_nodes, one_tree, keys_stated}
-use Rattle.vm_allocator.proofs.saving.Parts.{HasParts, parts_stated, parts_are}
+use Rattle.vm_allocator.proofs.saving.Parts.{HasParts, parts_stated, parts_are, one_root}
 use Rattle.vm_allocator.proofs.saving.Allocators.{stated_ends}
 use Rattle.vm_allocator.proofs.repairing.Rows.{in_row, row_in}
 use Rattle.vm_allocator.proofs.repairing.Nodes.{sound, complete}
@@ -90,15 +90,11 @@ passes d state p =
 -- a value states one such allocator at most
 pub one_repaired : (d : Data) (a b : AddressState) → StatesRepaired d a → StatesRepaired d b → a ≡ b
 one_repaired d a b p q =
-    let x = parts_are d a.space (λ v. HasNodes v p.tree) (fields_of d a p) in
-    let y = parts_are d b.space (λ v. HasNodes v q.tree) (fields_of d b q) in
-    let same = same_Some (a.space, x.0) (b.space, y.0) (sym x.1 ∙ y.1) in
-    let space : a.space ≡ b.space = ap (λ (v : Range × Data). v.0) same in
-    let nodes : HasNodes x.0 q.tree = subst (λ (v : Range × Data). HasNodes v.1 q.tree) (sym same) y.2 in
-    let tree : p.tree ≡ q.tree = one_tree p.tree q.tree x.0 x.2 nodes in
+    let one = one_root d a.space b.space (λ v. HasNodes v p.tree) (λ v. HasNodes v q.tree) (fields_of d a p) (fields_of d b q) in
+    let tree : p.tree ≡ q.tree = one_tree p.tree q.tree one.0 one.2 one.3 in
     let held : a.held ≡ b.held = sym p.held ∙ ap (λ (s : Shape). held_of (blocks s)) tree ∙ q.held in
     let f : Range → List Range → AddressState = λ s hs. record { space = s; held = hs } in
-    let first : f a.space a.held ≡ f b.space a.held = ap (λ (s : Range). f s a.held) space in
+    let first : f a.space a.held ≡ f b.space a.held = ap (λ (s : Range). f s a.held) one.1 in
     first ∙ ap (λ (hs : List Range). f b.space hs) held
 
 -- it is the state of an allocator

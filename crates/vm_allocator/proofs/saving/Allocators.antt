@@ -19,7 +19,7 @@ use Rattle.vm_allocator.proofs.nodes.Spaces.{space_tiled, space_tree, state_of_t
 use Rattle.vm_allocator.proofs.nodes.TreeEdits.{tiles_ordered}
 use Rattle.vm_allocator.proofs.saving.Fields.{and_then_some, if_some}
 use Rattle.vm_allocator.proofs.saving.Nodes.{shape_nodes, keys_stated}
-use Rattle.vm_allocator.proofs.saving.Parts.{HasParts, parts_stated, parts_are}
+use Rattle.vm_allocator.proofs.saving.Parts.{HasParts, parts_stated, parts_are, one_root}
 use Rattle.vm_allocator.proofs.saving.Fronts.{tiled, all_behind}
 use Rattle.vm_allocator.proofs.saving.Trees.{sound, complete}
 use Rattle.vm_allocator.proofs.saving.OneTree.{one_shape}
@@ -89,13 +89,9 @@ passes d a p =
 -- a value states one allocator at most
 pub one_allocator : (d : Data) (a b : SpaceInTree) → StatesAllocator d a → StatesAllocator d b → a ≡ b
 one_allocator d a b p q =
-    let x = parts_are d a.space (λ v. StatesShape v a.tree) (fields_of d a p) in
-    let y = parts_are d b.space (λ v. StatesShape v b.tree) (fields_of d b q) in
-    let same = same_Some (a.space, x.0) (b.space, y.0) (sym x.1 ∙ y.1) in
-    let space : a.space ≡ b.space = ap (λ (v : Range × Data). v.0) same in
-    let stated : StatesShape x.0 b.tree = subst (λ (v : Range × Data). StatesShape v.1 b.tree) (sym same) y.2 in
-    let tree : a.tree ≡ b.tree = one_shape a.tree b.tree x.0 x.2 stated in
-    ap (λ (x : Range). over x a.tree) space ∙ ap (λ (s : Shape). over b.space s) tree
+    let one = one_root d a.space b.space (λ v. StatesShape v a.tree) (λ v. StatesShape v b.tree) (fields_of d a p) (fields_of d b q) in
+    let tree : a.tree ≡ b.tree = one_shape a.tree b.tree one.0 one.2 one.3 in
+    ap (λ (x : Range). over x a.tree) one.1 ∙ ap (λ (s : Shape). over b.space s) tree
 
 -- What the code's clauses say.
 

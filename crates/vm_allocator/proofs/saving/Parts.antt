@@ -1,5 +1,6 @@
 -- The fields of an allocator's value: the space, and the root of the tree.
-use Rattle.std.proofs.Common.{◌≡◌, Some, option_map, option_and_then, codes, refl, sym, subst}
+use Rattle.std.proofs.Common.{◌≡◌, Some, option_map, option_and_then, codes, refl, sym, ap, ◌∙◌, subst}
+use Rattle.std.proofs.lemmas.Option.{same_Some}
 use Rattle.serde_json.specs.Data.{Data}
 use Rattle.serde_json.specs.Find.{get}
 use Rattle.vm_allocator.specs.Range.{Range, IsRange}
@@ -40,3 +41,11 @@ parts_are d space Root p =
     let t = in_field (codes "interval_tree") d (λ v. StatesTree v Root) p.interval_tree in
     let v = in_field (codes "root") t.0 Root t.2.root in
     (v.0, rw (true-count 2 (field_count d) p.two_fields, r.1, ranges.states-found r.0 space r.2, t.1, true-count 1 (field_count t.0) t.2.one_field, v.1) refl, v.2, r.2.range)
+
+-- a value has one space and one root at most
+pub one_root : (d : Data) (first second : Range) (First Second : Data → Type 0) → HasParts d first First → HasParts d second Second → (root : Data) × (first ≡ second) × First root × Second root
+one_root d first second First Second p q =
+    let x = parts_are d first First p in
+    let y = parts_are d second Second q in
+    let same = same_Some (second, y.0) (first, x.0) (sym y.1 ∙ x.1) in
+    (x.0, ap (λ (v : Range × Data). v.0) (sym same), x.2, subst (λ (v : Range × Data). Second v.1) same y.2)

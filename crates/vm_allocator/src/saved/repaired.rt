@@ -65,7 +65,7 @@ struct Row {
 }
 
 impl Row {
-    /// The row with one more block, where it may stand behind the others in a space that ends there.
+    /// The row with one more block, where it may stand behind the others in a space up to `end`.
     fn extended(self, end: u64, key: &RangeInclusive, state: NodeState) -> Option<Row>
         ensures { result ≡ extended end self (record { key = key.now; state = state }) }
     {
@@ -87,8 +87,8 @@ impl Row {
     }
 }
 
-/// The row with the blocks of the nodes of a value, in order. None where it has no nodes, has them
-/// nested deeper than `depth`, or a block may not stand where it does.
+/// The row with the blocks of the nodes of a value, in order. None where it is no tree of nodes, has
+/// them nested deeper than `depth`, or has a block that may not stand where it does.
 #[tactic(auto, unfolding(crate::specs::SavedRepairs::row_found))]
 fn check_keys(value: &Value, end: u64, depth: u64, row: Row) -> Option<Row>
     ensures { result ≡ row_found end depth (view value.now) row }
@@ -152,7 +152,8 @@ fn hold_key(
     allocator: &mut AddressAllocator,
 ) -> Result<()>
     requires { CanAdd (range_if_held state key.now) (state_of allocator.old) }
-    ensures held { OnOk result (state_of allocator.new ≡ adding (range_if_held state key.now) (state_of allocator.old)) }
+    ensures held { OnOk result
+        (state_of allocator.new ≡ adding (range_if_held state key.now) (state_of allocator.old)) }
     ensures error { IfErr result (λ error. error ≡ Error.OutOfMemory) }
 {
     if state == NodeState::Free {
