@@ -11,4 +11,5 @@ pub mod ids
 pub mod walks
 pub mod comparing
 pub mod saving
+pub mod repairing
 pub mod Callers

@@ -2,6 +2,7 @@ pub mod Fields
 pub mod Ranges
 pub mod States
 pub mod Fronts
+pub mod Nodes
 pub mod Trees
 pub mod OneTree
 pub mod Writing
@@ -10,4 +11,5 @@ pub mod Rising
 pub mod Ids
 pub mod IdStates
 pub mod Again
+pub mod Parts
 pub mod Allocators

@@ -56,6 +56,12 @@ blocks_state space bs = record { space = space; held = held_of bs }
 unfoldable pub TilesSpace : Range → List Block → Type 0
 TilesSpace space bs = Tiles Allocated space.start bs space.end
 
+-- from lo to hi the keys stand in order with no address in common, with or without gaps
+abbrev pub AreKeysIn : ℕ → List Block → ℕ → Type 0
+AreKeysIn lo [] hi = Unit {0}
+AreKeysIn lo (b ∷ bs) hi =
+    (lo ≤ b.key.start) × (b.key.start ≤ b.key.end) × (b.key.end ≤ hi) × AreKeysIn (b.key.end + 1) bs hi
+
 -- none of the ranges ends at MAX
 abbrev pub AreBelowMax : List Range → Type 0
 AreBelowMax [] = Unit {0}

@@ -9,6 +9,7 @@ use Rattle.vm_allocator.specs.Request.{Request}
 use Rattle.vm_allocator.specs.Answer.{Allocates, Frees, Makes}
 use Rattle.vm_allocator.specs.Cloning.{Clones}
 use Rattle.vm_allocator.specs.SavedTree.{StatesAddresses}
+use Rattle.vm_allocator.specs.SavedRepaired.{StatesRepaired}
 use Rattle.vm_allocator.specs.declared.error.Error.{Error}
 use Rattle.vm_allocator.specs.declared.error.Error.TheVariants.{OutOfMemory}
 
@@ -54,10 +55,10 @@ pub record IsMade (state : AddressState) : Type 0 where
   pub word : size ≤ MAX
   pub made : Makes base size (Ok state)
 
--- the state that a saved value states, and so that of the allocator read from it
+-- the state that a saved value states, read with repairs or without, and so that of the allocator read from it
 pub record IsRead (state : AddressState) : Type 0 where
   pub value : Data
-  pub stated : StatesAddresses value state
+  pub stated : StatesAddresses value state ⊎ StatesRepaired value state
 
 -- a history begins with an allocator that is new, or was read
 abbrev pub Begins : AddressState → Type 0

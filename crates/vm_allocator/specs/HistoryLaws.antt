@@ -10,7 +10,6 @@ use Rattle.vm_allocator.specs.Answer.{IsChosen, Takes, Allocates, Frees, Makes}
 use Rattle.vm_allocator.specs.Laws.{AgreeButForSplits, LieApart}
 use Rattle.vm_allocator.specs.Cloning.{Clones}
 use Rattle.vm_allocator.specs.Comparison.{AreEqual}
-use Rattle.vm_allocator.specs.SavedTree.{StatesAddresses}
 use Rattle.vm_allocator.specs.Histories.{Call, Cloning, Asked, asked_by, RunsOutOfMemory, IsHistoryFrom, IsReached, Reached, WasGiven, WasStated, releases}
 use Rattle.vm_allocator.specs.declared.error.Error.{Error}
 use Rattle.vm_allocator.specs.declared.error.Error.TheVariants.{Overflow, ResourceNotAvailable, InvalidStateTransition, OutOfMemory}
@@ -144,8 +143,8 @@ CloneIsReached =
     (clone ≡ old.state) × IsReached (old.calls ++ Cloning (Ok clone) ∷ []) clone
 
 -- the state of an allocator that was read is reached, by no call
-abbrev pub ReadIsReached : Type 0
-ReadIsReached = (value : Data) (state : AddressState) → StatesAddresses value state → IsReached [] state
+abbrev pub ReadIsReached : (Data → AddressState → Type 0) → Type 0
+ReadIsReached States = (value : Data) (state : AddressState) → States value state → IsReached [] state
 
 -- allocators with one space and the same held ranges are equal, whatever the calls that led there
 abbrev pub OneEndIsEqual : Type 0

@@ -41,5 +41,7 @@ pub mod SavedIds
 pub mod Saving
 pub mod SavedChecks
 pub mod SavedIdChecks
+pub mod SavedRepaired
+pub mod SavedRepairs
 pub mod SavedParts
 pub mod SavedLaws

@@ -1,6 +1,6 @@
 -- What the check of a saved value finds, part by part, in the order in which it looks. The lemmas of proofs/saving say
 -- that this is what the value states.
-use Rattle.std.specs.Prelude.{ℕ, zero, suc, ◌+◌, max, Bool, false, not, ◌&&◌, ◌||◌, ◌==◌, nat_lt, nat_le, if◌then◌else◌, List, [], ◌∷◌, Option, Some, None, is_some, option_and_then, codes, bytes_eq}
+use Rattle.std.specs.Prelude.{ℕ, zero, suc, ◌+◌, max, Bool, false, not, ◌&&◌, ◌||◌, ◌==◌, nat_lt, nat_le, if◌then◌else◌, List, [], ◌∷◌, Option, Some, None, is_some, option_map, option_and_then, codes, bytes_eq}
 use Rattle.serde_json.specs.Data.{Data}
 use Rattle.serde_json.specs.Find.{get, as_null, as_str}
 use Rattle.vm_allocator.specs.Range.{Range, MAX}
@@ -44,6 +44,32 @@ state_named (Some t) =
 abbrev pub state_found : Data → Option NodeState
 state_found d = state_named (as_str d)
 
+-- what stands in the fields of a node's value
+pub record NodeData : Type 0 where
+  pub block : Block
+  pub height : ℕ
+  pub left : Data
+  pub right : Data
+
+-- the fields of a node's value
+abbrev pub node_data : Data → Option NodeData
+node_data d =
+    if is_count 5 (field_count d) then
+    option_and_then (λ key. option_and_then (λ state. option_and_then (λ height. option_and_then (λ left.
+    option_map (λ right.
+    record { block = record { key = key; state = state }; height = height; left = left; right = right })
+    (get (codes "right") d))
+    (get (codes "left") d))
+    (number_in (codes "height") d))
+    (option_and_then state_found (get (codes "node_state") d)))
+    (option_and_then range_found (get (codes "key") d))
+    else None
+
+-- what some blocks, one after the other, make of something, where each may be refused
+abbrev pub after_all : {S : Type 0} → (S → Block → Option S) → List Block → S → Option S
+after_all step [] s = Some s
+after_all step (b ∷ bs) s = option_and_then (after_all step bs) (step s b)
+
 -- a block may stand right behind the front: it starts there, is not the second free one in a row, and if held ends
 -- below MAX
 abbrev pub follows : Front → Block → Bool
@@ -55,11 +81,6 @@ follows front b =
 abbrev pub behind : Front → Block → Option Front
 behind front b = if follows front b then Some (record { next = b.key.end + 1; before = b.state }) else None
 
--- the front behind some more blocks
-abbrev pub behind_all : List Block → Front → Option Front
-behind_all [] front = Some front
-behind_all (b ∷ bs) front = option_and_then (behind_all bs) (behind front b)
-
 -- the height is that of a node over children of heights l and r that are close
 abbrev pub is_true_height : ℕ → ℕ → ℕ → Bool
 is_true_height l r h = (nat_le l (r + 1) && nat_le r (l + 1)) && (h == max l r + 1)
@@ -67,18 +88,14 @@ is_true_height l r h = (nat_le l (r + 1) && nat_le r (l + 1)) && (h == max l r +
 -- what is found of a node, where `below` finds what is in a child
 abbrev pub node_found : (Data → Front → Option Checked) → Data → Front → Option Checked
 node_found below d front =
-    if is_count 5 (field_count d) then
-    option_and_then (λ key. option_and_then (λ state. option_and_then (λ height.
-    option_and_then (λ left. option_and_then (λ middle. option_and_then (λ right.
-    if is_true_height left.height right.height height then Some (record { height = height; front = right.front })
+    option_and_then (λ node. option_and_then (λ left. option_and_then (λ middle. option_and_then (λ right.
+    if is_true_height left.height right.height node.height then
+    Some (record { height = node.height; front = right.front })
     else None)
-    (option_and_then (λ v. below v middle) (get (codes "right") d)))
-    (behind left.front (record { key = key; state = state })))
-    (option_and_then (λ v. below v front) (get (codes "left") d)))
-    (number_in (codes "height") d))
-    (option_and_then state_found (get (codes "node_state") d)))
-    (option_and_then range_found (get (codes "key") d))
-    else None
+    (below node.right middle))
+    (behind left.front node.block))
+    (below node.left front))
+    (node_data d)
 
 -- what is found of a tree of nodes nested at most that deep: its height, and the front behind its blocks
 unfoldable pub tree_found : ℕ → Data → Front → Option Checked
@@ -100,11 +117,15 @@ root_fitting space root =
 abbrev pub root_found : Data → Option Data
 root_found d = if is_count 1 (field_count d) then get (codes "root") d else None
 
--- the space that a value states, and the root of its tree
-abbrev pub allocator_found : Data → Option (Range × Data)
-allocator_found d =
+-- the fields of an allocator's value: the space, and the root of the tree
+abbrev pub parts_found : Data → Option (Range × Data)
+parts_found d =
     if is_count 2 (field_count d) then
-    option_and_then (λ space.
-    option_and_then (root_fitting space) (option_and_then root_found (get (codes "interval_tree") d)))
+    option_and_then (λ space. option_map (λ root. (space, root))
+    (option_and_then root_found (get (codes "interval_tree") d)))
     (option_and_then range_found (get (codes "address_space") d))
     else None
+
+-- the space that a value states, and the root of its tree
+abbrev pub allocator_found : Data → Option (Range × Data)
+allocator_found d = option_and_then (λ parts. root_fitting parts.0 parts.1) (parts_found d)

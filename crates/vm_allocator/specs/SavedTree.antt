@@ -25,17 +25,17 @@ StatesShape d Tip = d ≡ null
 StatesShape d (Fork l b r) =
     StatesNode d b (λ v. StatesShape v l) (λ v. StatesShape v r) (max (height_of l) (height_of r) + 1)
 
--- the value is an object of a root alone, which has the tree
-pub record StatesTree (d : Data) (s : Shape) : Type 0 where
+-- the value is an object of a root alone: what stands for it
+pub record StatesTree (d : Data) (Root : Data → Type 0) : Type 0 where
   pub one_field : field_count d ≡ Some 1
-  pub root : FieldIs (codes "root") d (λ v. StatesShape v s)
+  pub root : FieldIs (codes "root") d Root
 
 -- the value is an object of a space and a tree alone; the tree has a node, is not too high, in order and balanced, and
 -- its blocks are those of the space
 pub record StatesAllocator (d : Data) (allocator : SpaceInTree) : Type 0 where
   pub two_fields : field_count d ≡ Some 2
   pub address_space : FieldIs (codes "address_space") d (λ v. StatesRange v allocator.space)
-  pub interval_tree : FieldIs (codes "interval_tree") d (λ v. StatesTree v allocator.tree)
+  pub interval_tree : FieldIs (codes "interval_tree") d (λ v. StatesTree v (λ root. StatesShape root allocator.tree))
   pub some_node : allocator.tree ≢ Tip
   pub nested : height_of allocator.tree ≤ MAX_HEIGHT
   pub ordered : IsOrderedFrom 0 (blocks allocator.tree)

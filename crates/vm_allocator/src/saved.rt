@@ -6,6 +6,7 @@ mod allocator;
 mod fields;
 mod ids;
 mod range;
+mod repaired;
 mod state;
 mod tree;
 

@@ -1,6 +1,8 @@
 -- Where a history ends: in a clone, or in a state that others end in.
-use Rattle.std.proofs.Common.{List, [], ◌∷◌, ◌++◌, refl, subst, inr, Ok}
+use Rattle.std.proofs.Common.{List, [], ◌∷◌, ◌++◌, refl, subst, inl, inr, Ok}
 use Rattle.vm_allocator.specs.Address.{AddressState}
+use Rattle.vm_allocator.specs.SavedTree.{StatesAddresses}
+use Rattle.vm_allocator.specs.SavedRepaired.{StatesRepaired}
 use Rattle.vm_allocator.specs.Histories.{Call, Cloning, IsHistoryFrom}
 use Rattle.vm_allocator.specs.HistoryLaws.{CloneIsReached, ReadIsReached, OneEndIsEqual, ReleaseMakesEqual, OrderOfReleasesMakesEqual}
 use Rattle.vm_allocator.proofs.answers.Cloning.{clone_is}
@@ -23,8 +25,11 @@ clone_is_reached old clone c =
       },
     )
 
-pub read_is_reached : ReadIsReached
-read_is_reached value state s = record { first = state; begins = inr (record { value = value; stated = s }); history = refl }
+pub read_is_reached : ReadIsReached StatesAddresses
+read_is_reached value state s = record { first = state; begins = inr (record { value = value; stated = inl s }); history = refl }
+
+pub repaired_is_reached : ReadIsReached StatesRepaired
+repaired_is_reached value state s = record { first = state; begins = inr (record { value = value; stated = inr s }); history = refl }
 
 pub one_end_is_equal : OneEndIsEqual
 one_end_is_equal first second h = equal_states first.state second.state (alike_state first second h)

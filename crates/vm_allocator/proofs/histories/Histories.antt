@@ -11,6 +11,7 @@ use Rattle.vm_allocator.specs.declared.error.Error.{Error}
 use Rattle.vm_allocator.proofs.blocks.Words.{IsHeld, contains_held, held_contains}
 use Rattle.vm_allocator.proofs.answers.Outcomes.{IsRefused}
 use Rattle.vm_allocator.proofs.saving.Allocators.{stated_state}
+use Rattle.vm_allocator.proofs.repairing.Values.{repaired_state}
 use Rattle.vm_allocator.proofs.answers.Cloning.{cloning_keeps}
 use Rattle.vm_allocator.proofs.answers.Once.{allocates_once, frees_once}
 use Rattle.vm_allocator.proofs.blocks.HeldSets.{same_slots}
@@ -29,7 +30,7 @@ history_state (call ∷ calls) first last h i = history_state calls h.0 last h.2
 
 first_state : (first : AddressState) → Begins first → IsAddressState first
 first_state first (inl m) = made_state m.base m.size first m.word m.made
-first_state first (inr r) = subst IsAddressState r.stated.is (stated_state r.value r.stated.allocator r.stated.stated)
+first_state first (inr r) = ⊎_elim (λ s. subst IsAddressState s.is (stated_state r.value s.allocator s.stated)) (repaired_state r.value first) r.stated
 
 pub reached_state : (old : Reached) → IsAddressState old.state
 reached_state old =

@@ -5,12 +5,14 @@ use Rattle.serde_json.specs.Data.{Data}
 use Rattle.vm_allocator.specs.SavedRange.{StatesRange, StatesState}
 use Rattle.vm_allocator.specs.SavedTree.{StatesAllocator}
 use Rattle.vm_allocator.specs.SavedIds.{StatesIds}
-use Rattle.vm_allocator.specs.SavedLaws.{StatesOne, ReadsWritten}
+use Rattle.vm_allocator.specs.SavedRepaired.{StatesRepaired}
+use Rattle.vm_allocator.specs.SavedLaws.{StatesOne, ReadsWritten, ReadsAlike}
 use Rattle.vm_allocator.specs.declared.saved.ValueError.TheVariants.{NotAState, OutOfMemory}
 use Rattle.vm_allocator.proofs.saving.Ranges.{one_range}
 use Rattle.vm_allocator.proofs.saving.States.{one_state}
 use Rattle.vm_allocator.proofs.saving.Allocators.{one_allocator}
 use Rattle.vm_allocator.proofs.saving.IdStates.{one_stated}
+use Rattle.vm_allocator.proofs.repairing.Values.{one_repaired, strict_repaired}
 
 pub one_range_stated : StatesOne StatesRange
 one_range_stated = one_range
@@ -24,7 +26,10 @@ one_allocator_stated = one_allocator
 pub one_ids_stated : StatesOne StatesIds
 one_ids_stated = one_stated
 
-pub ruleset one_object = (one_range_stated, one_state_stated, one_allocator_stated, one_ids_stated)
+pub one_repaired_stated : StatesOne StatesRepaired
+one_repaired_stated = one_repaired
+
+pub ruleset one_object = (one_range_stated, one_state_stated, one_allocator_stated, one_ids_stated, one_repaired_stated)
 
 again : {X : Type 0} (States : Data → X → Type 0) → StatesOne States → ReadsWritten States
 again States one old value (Ok x) w r = inl (ap Ok (one (view value) x old r w))
@@ -44,3 +49,7 @@ pub ids_again : ReadsWritten StatesIds
 ids_again = again StatesIds one_stated
 
 pub ruleset read_again = (range_again, state_again, allocator_again, ids_again)
+
+-- and what is read without repairs is read with them
+pub reads_alike : ReadsAlike
+reads_alike value state answer s few r = again StatesRepaired one_repaired state value answer (strict_repaired (view value) state s few) r

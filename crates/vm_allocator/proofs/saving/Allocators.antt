@@ -1,29 +1,27 @@
 -- The check of an allocator's value finds just the allocators that values state.
-use Rattle.std.proofs.Common.{◌≡◌, ◌+◌, true, eqb, Some, None, is_some, option_and_then, codes, refl, sym, ap, ◌∙◌, subst, arith, true≢false}
+use Rattle.std.proofs.Common.{◌≡◌, ◌+◌, true, eqb, Some, None, is_some, refl, sym, ap, ◌∙◌, subst, arith, true≢false}
 use Rattle.std.proofs.lemmas.Bool.{eqb-true, eq-eqb}
 use Rattle.std.proofs.lemmas.Option.{same_Some}
 use Rattle.serde_json.specs.Data.{Data}
-use Rattle.serde_json.specs.Find.{get}
 use Rattle.vm_allocator.specs.Range.{Range, IsRange}
 use Rattle.vm_allocator.specs.Address.{AddressState, IsAddressState}
 use Rattle.vm_allocator.specs.Blocks.{TilesSpace}
 use Rattle.vm_allocator.specs.Shape.{Shape, Tip, MAX_HEIGHT, blocks}
 use Rattle.vm_allocator.specs.SpaceTree.{space_of, IsSpaceTree}
 use Rattle.vm_allocator.specs.Allocator.{SpaceInTree, state_of}
-use Rattle.vm_allocator.specs.SavedFields.{field_count}
-use Rattle.vm_allocator.specs.SavedRange.{StatesRange}
-use Rattle.vm_allocator.specs.SavedTree.{StatesShape, StatesTree, StatesAllocator, StatesAddresses}
+use Rattle.vm_allocator.specs.SavedTree.{StatesShape, StatesAllocator, StatesAddresses}
 use Rattle.vm_allocator.specs.SavedParts.{IsShapeWithin, HasShapeWithin}
-use Rattle.vm_allocator.specs.SavedChecks.{is_count, range_found, tree_found, front_of, root_fitting, root_found, allocator_found}
+use Rattle.vm_allocator.specs.SavedChecks.{tree_found, front_of, root_fitting, parts_found, allocator_found}
 use Rattle.vm_allocator.specs.declared.allocation_engine.NodeState.TheVariants.{Allocated}
 use Rattle.vm_allocator.specs.declared.saved.tree.Checked.{Checked}
 use Rattle.vm_allocator.proofs.blocks.Order.{ordered_weaken}
 use Rattle.vm_allocator.proofs.nodes.Spaces.{space_tiled, space_tree, state_of_tree}
 use Rattle.vm_allocator.proofs.nodes.TreeEdits.{tiles_ordered}
-use Rattle.vm_allocator.proofs.saving.Fields.{and_then_some, if_some, count-true, true-count, in_field, field_is, same_field}
-use Rattle.vm_allocator.proofs.saving.Ranges as ranges
+use Rattle.vm_allocator.proofs.saving.Fields.{and_then_some, if_some}
+use Rattle.vm_allocator.proofs.saving.Nodes.{shape_nodes, keys_stated}
+use Rattle.vm_allocator.proofs.saving.Parts.{HasParts, parts_stated, parts_are, one_root}
 use Rattle.vm_allocator.proofs.saving.Fronts.{tiled, all_behind}
-use Rattle.vm_allocator.proofs.saving.Trees.{sound, complete, keys_stated}
+use Rattle.vm_allocator.proofs.saving.Trees.{sound, complete}
 use Rattle.vm_allocator.proofs.saving.OneTree.{one_shape}
 
 abbrev pub over : Range → Shape → SpaceInTree
@@ -42,67 +40,58 @@ not_empty space s r t e =
     let end = r.0 in
     omega arith
 
-root-is : (t root : Data) → root_found t ≡ Some root → (field_count t ≡ Some 1) × (get (codes "root") t ≡ Some root)
-root-is t root e = let p = if_some (is_count 1 (field_count t)) (get (codes "root") t) root e in (count-true 1 (field_count t) p.0, p.1)
+abbrev fields_of : (d : Data) (a : SpaceInTree) → StatesAllocator d a → HasParts d a.space (λ v. StatesShape v a.tree)
+fields_of d a p = record { two_fields = p.two_fields; address_space = p.address_space; interval_tree = p.interval_tree }
 
-checked_root : (d : Data) (space : Range) (t v root : Data) → field_count d ≡ Some 2 → get (codes "address_space") d ≡ Some v → StatesRange v space → get (codes "interval_tree") d ≡ Some t → field_count t ≡ Some 1 → get (codes "root") t ≡ Some root →
-    (found : Checked) → tree_found MAX_HEIGHT root (front_of space) ≡ Some found → found.front.next ≡ space.end + 1 → (s : Shape) × IsChecked d space root s
+checked_root : (d : Data) (space : Range) (root : Data) → parts_found d ≡ Some (space, root) → (found : Checked) → tree_found MAX_HEIGHT root (front_of space) ≡ Some found → found.front.next ≡ space.end + 1 → (s : Shape) × IsChecked d space root s
 unfolding TilesSpace
-checked_root d space t v root two space_at space_stated tree_at one root_at found e ends =
+checked_root d space root parts found e ends =
     let f = sound MAX_HEIGHT root (front_of space) found e in
-    let g = tiled (blocks f.0) (front_of space) found.front space.end (keys_stated f.0 root f.1.stated) f.1.behind ends in
+    let all = parts_stated d space root (λ v. StatesShape v f.0) parts f.1.stated in
+    let range = (parts_are d space (λ v. StatesShape v f.0) all).3 in
+    let g = tiled (blocks f.0) (front_of space) found.front space.end (keys_stated f.0 root (shape_nodes f.0 root f.1.stated)) f.1.behind ends in
     let ordered = ordered_weaken 0 space.start (blocks f.0) (omega arith) (tiles_ordered Allocated space.start space.end (blocks f.0) g.0) in (
       f.0,
       record {
         stated = record {
-          two_fields = two;
-          address_space = field_is (codes "address_space") d v (λ x. StatesRange x space) space_at space_stated;
-          interval_tree = field_is (codes "interval_tree") d t (λ x. StatesTree x f.0) tree_at (record { one_field = one; root = field_is (codes "root") t root (λ x. StatesShape x f.0) root_at f.1.stated });
-          some_node = not_empty space f.0 space_stated.range g.0;
+          two_fields = all.two_fields;
+          address_space = all.address_space;
+          interval_tree = all.interval_tree;
+          some_node = not_empty space f.0 range g.0;
           nested = f.1.within;
           ordered = ordered;
           balanced = f.1.balanced;
           blocks = record { tiles = g.0; below = g.1 };
         };
         root = record { stated = f.1.stated; tree = record { ordered = ordered; balanced = f.1.balanced }; height = f.1.within };
-        range = space_stated.range;
+        range = range;
       },
     )
 
 checks : (d : Data) (space : Range) (root : Data) → allocator_found d ≡ Some (space, root) → (s : Shape) × IsChecked d space root s
 checks d space root e =
-    let two = if_some (is_count 2 (field_count d)) _ (space, root) e in
-    let r = and_then_some (λ k. option_and_then (root_fitting k) (option_and_then root_found (get (codes "interval_tree") d))) (option_and_then range_found (get (codes "address_space") d)) (space, root) two.1 in
-    let r_at = and_then_some range_found (get (codes "address_space") d) r.0 r.1 in
-    let v = and_then_some (root_fitting r.0) (option_and_then root_found (get (codes "interval_tree") d)) (space, root) r.2 in
-    let v_at = and_then_some root_found (get (codes "interval_tree") d) v.0 v.1 in
-    let v_is = root-is v_at.0 v.0 v_at.2 in
-    let found = and_then_some _ (tree_found MAX_HEIGHT v.0 (front_of r.0)) (space, root) v.2 in
-    let ends = if_some (eqb found.0.front.next (r.0.end + 1)) _ (space, root) found.2 in
-    let same = same_Some (r.0, v.0) (space, root) ends.1 in
-    let all = checked_root d r.0 v_at.0 r_at.0 v.0 (count-true 2 (field_count d) two.0) r_at.1 (ranges.found-states r_at.0 r.0 r_at.2) v_at.1 v_is.0 v_is.1 found.0 found.1 (eqb-true found.0.front.next (r.0.end + 1) ends.0) in
+    let parts = and_then_some (λ p. root_fitting p.0 p.1) (parts_found d) (space, root) e in
+    let found = and_then_some _ (tree_found MAX_HEIGHT parts.0.1 (front_of parts.0.0)) (space, root) parts.2 in
+    let ends = if_some (eqb found.0.front.next (parts.0.0.end + 1)) _ (space, root) found.2 in
+    let same = same_Some (parts.0.0, parts.0.1) (space, root) ends.1 in
+    let all = checked_root d parts.0.0 parts.0.1 parts.1 found.0 found.1 (eqb-true found.0.front.next (parts.0.0.end + 1) ends.0) in
     (all.0, subst (λ (x : Range × Data). IsChecked d x.0 x.1 all.0) same all.1)
 
 -- a value that states an allocator passes
 passes : (d : Data) (a : SpaceInTree) → StatesAllocator d a → is_some (allocator_found d) ≡ true
 unfolding TilesSpace
 passes d a p =
-    let r = in_field (codes "address_space") d (λ v. StatesRange v a.space) p.address_space in
-    let t = in_field (codes "interval_tree") d (λ v. StatesTree v a.tree) p.interval_tree in
-    let v = in_field (codes "root") t.0 (λ v. StatesShape v a.tree) t.2.root in
+    let parts = parts_are d a.space (λ v. StatesShape v a.tree) (fields_of d a p) in
     let last = all_behind (blocks a.tree) (front_of a.space) a.space.end p.blocks.tiles p.blocks.below in
-    let found = complete a.tree MAX_HEIGHT v.0 (front_of a.space) last.0 v.2 p.balanced p.nested last.1 in
-    rw (true-count 2 (field_count d) p.two_fields, r.1, ranges.states-found r.0 a.space r.2, t.1, true-count 1 (field_count t.0) t.2.one_field, v.1, found, eq-eqb last.0.next (a.space.end + 1) last.2) refl
+    let found = complete a.tree MAX_HEIGHT parts.0 (front_of a.space) last.0 parts.2 p.balanced p.nested last.1 in
+    rw (parts.1, found, eq-eqb last.0.next (a.space.end + 1) last.2) refl
 
 -- a value states one allocator at most
 pub one_allocator : (d : Data) (a b : SpaceInTree) → StatesAllocator d a → StatesAllocator d b → a ≡ b
 one_allocator d a b p q =
-    let r = same_field (codes "address_space") d (λ v. StatesRange v a.space) (λ v. StatesRange v b.space) p.address_space q.address_space in
-    let t = same_field (codes "interval_tree") d (λ v. StatesTree v a.tree) (λ v. StatesTree v b.tree) p.interval_tree q.interval_tree in
-    let v = same_field (codes "root") t.0 (λ v. StatesShape v a.tree) (λ v. StatesShape v b.tree) t.1.root t.2.root in
-    let space : a.space ≡ b.space = ranges.one_range r.0 a.space b.space r.1 r.2 in
-    let tree : a.tree ≡ b.tree = one_shape a.tree b.tree v.0 v.1 v.2 in
-    ap (λ (x : Range). over x a.tree) space ∙ ap (λ (s : Shape). over b.space s) tree
+    let one = one_root d a.space b.space (λ v. StatesShape v a.tree) (λ v. StatesShape v b.tree) (fields_of d a p) (fields_of d b q) in
+    let tree : a.tree ≡ b.tree = one_shape a.tree b.tree one.0 one.2 one.3 in
+    ap (λ (x : Range). over x a.tree) one.1 ∙ ap (λ (s : Shape). over b.space s) tree
 
 -- What the code's clauses say.
 
@@ -127,7 +116,7 @@ built_states d space root s e p =
     subst (λ (x : Shape). StatesAllocator d (over space x)) (one_shape c.0 s root c.1.root.stated p) c.1.stated
 
 pub stated_space : (d : Data) (a : SpaceInTree) → StatesAllocator d a → IsRange a.space.start a.space.end
-stated_space d a p = let r = in_field (codes "address_space") d (λ v. StatesRange v a.space) p.address_space in r.2.range
+stated_space d a p = (parts_are d a.space (λ v. StatesShape v a.tree) (fields_of d a p)).3
 
 pub stated_tree : (d : Data) (a : SpaceInTree) → StatesAllocator d a → IsSpaceTree a.tree
 stated_tree d a p = space_tree a.space a.tree p.blocks (stated_space d a p) p.nested

@@ -1,6 +1,7 @@
 -- The fields of a saved value.
 use Rattle.std.proofs.Common.{◌≡◌, ℕ, Bool, true, false, cond, List, length, Option, Some, None, option_map, option_and_then, MatchOption, refl, ap, ◌∙◌}
 use Rattle.std.proofs.lemmas.Bool.{eqb-true, eq-eqb}
+use Rattle.std.proofs.lemmas.Option.{same_Some}
 use Rattle.serde_json.specs.Data.{Data}
 use Rattle.serde_json.specs.Find.{get, as_object}
 use Rattle.serde_json.specs.Events.{members_len}
@@ -18,6 +19,10 @@ pub ruleset counts = (field_count_of)
 pub and_then_some : {A B : Type 0} (f : A → Option B) (o : Option A) (b : B) → option_and_then f o ≡ Some b → (a : A) × (o ≡ Some a) × (f a ≡ Some b)
 and_then_some f None b e = absurd (cc)
 and_then_some f (Some a) b e = (a, refl, e)
+
+pub map_some : {A B : Type 0} (f : A → B) (o : Option A) (b : B) → option_map f o ≡ Some b → (a : A) × (o ≡ Some a) × (f a ≡ b)
+map_some f None b e = absurd (cc)
+map_some f (Some a) b e = (a, refl, same_Some (f a) b e)
 
 pub if_some : {A : Type 0} (t : Bool) (o : Option A) (b : A) → cond t o None ≡ Some b → (t ≡ true) × (o ≡ Some b)
 if_some true o b e = (refl, e)
@@ -46,3 +51,7 @@ same_field k d P Q = both (get k d) P Q where
   both : (o : Option Data) (P Q : Data → Type 0) → MatchOption o ⊥ P → MatchOption o ⊥ Q → (v : Data) × P v × Q v
   both None P Q h i = absurd h
   both (Some v) P Q h i = (v, h, i)
+
+-- what follows of what stands in a field
+pub field_map : (k : List ℕ) (d : Data) (P Q : Data → Type 0) → ((v : Data) → P v → Q v) → FieldIs k d P → FieldIs k d Q
+field_map k d P Q f h = let at = in_field k d P h in field_is k d at.0 Q at.1 (f at.0 at.2)

@@ -5,7 +5,7 @@ use Rattle.std.proofs.lemmas.Option.{same_Some}
 use Rattle.vm_allocator.specs.Range.{Range, MAX}
 use Rattle.vm_allocator.specs.Block.{Block, is_free}
 use Rattle.vm_allocator.specs.Blocks.{NotBothFree, Tiles, range_if_held, held_of, AreBelowMax}
-use Rattle.vm_allocator.specs.SavedChecks.{follows, behind, behind_all}
+use Rattle.vm_allocator.specs.SavedChecks.{follows, behind, after_all}
 use Rattle.vm_allocator.specs.declared.allocation_engine.NodeState.{NodeState}
 use Rattle.vm_allocator.specs.declared.allocation_engine.NodeState.TheVariants.{Free, Allocated}
 use Rattle.vm_allocator.specs.declared.saved.tree.Front.{Front}
@@ -41,14 +41,14 @@ below-true Allocated k rs b = (lt-ltb k.end MAX b.0, b.1)
 abbrev front_behind : Block → Front
 front_behind b = record { next = b.key.end + 1; before = b.state }
 
-pub tiled : (bs : List Block) (front last : Front) (hi : ℕ) → AreKeys bs → behind_all bs front ≡ Some last → last.next ≡ hi + 1 → Tiles front.before front.next bs hi × AreBelowMax (held_of bs)
+pub tiled : (bs : List Block) (front last : Front) (hi : ℕ) → AreKeys bs → after_all behind bs front ≡ Some last → last.next ≡ hi + 1 → Tiles front.before front.next bs hi × AreBelowMax (held_of bs)
 tiled [] front last hi k e q = (ap (λ (x : Front). x.next) (same_Some front last e) ∙ q, tt)
 tiled (b ∷ bs) front last hi k e q =
-    let t = and_then_some (behind_all bs) (behind front b) last e in
+    let t = and_then_some (after_all behind bs) (behind front b) last e in
     let u = if_some (follows front b) (Some (front_behind b)) t.0 t.1 in
     let v = and_parts (eqb b.key.start front.next) (not (is_free front.before && is_free b.state) && (is_free b.state || ltb b.key.end MAX)) u.0 in
     let w = and_parts (not (is_free front.before && is_free b.state)) (is_free b.state || ltb b.key.end MAX) v.1 in
-    let next : behind_all bs (front_behind b) ≡ Some last = subst (λ (x : Front). behind_all bs x ≡ Some last) (sym (same_Some (front_behind b) t.0 u.1)) t.2 in
+    let next : after_all behind bs (front_behind b) ≡ Some last = subst (λ (x : Front). after_all behind bs x ≡ Some last) (sym (same_Some (front_behind b) t.0 u.1)) t.2 in
     let rest = tiled bs (front_behind b) last hi k.1 next q in
     let start = eqb-true b.key.start front.next v.0 in
     let first = k.0 in (
@@ -56,7 +56,7 @@ tiled (b ∷ bs) front last hi k e q =
       below b.state b.key (held_of bs) w.1 rest.1,
     )
 
-pub all_behind : (bs : List Block) (front : Front) (hi : ℕ) → Tiles front.before front.next bs hi → AreBelowMax (held_of bs) → (last : Front) × (behind_all bs front ≡ Some last) × (last.next ≡ hi + 1)
+pub all_behind : (bs : List Block) (front : Front) (hi : ℕ) → Tiles front.before front.next bs hi → AreBelowMax (held_of bs) → (last : Front) × (after_all behind bs front ≡ Some last) × (last.next ≡ hi + 1)
 all_behind [] front hi t b = (front, refl, t)
 all_behind (x ∷ xs) front hi t b =
     let v = below-true x.state x.key (held_of xs) b in
@@ -64,13 +64,21 @@ all_behind (x ∷ xs) front hi t b =
     let rest = all_behind xs (front_behind x) hi t.3 v.1 in
     (rest.0, rw f rest.1, rest.2)
 
-pub behind_all-append : (xs ys : List Block) (front : Front) → behind_all (xs ++ ys) front ≡ option_and_then (behind_all ys) (behind_all xs front)
-behind_all-append [] ys front = refl
-behind_all-append (x ∷ xs) ys front = next (behind front x) (λ f. behind_all-append xs ys f) where
-  next : (o : Option Front) → ((f : Front) → behind_all (xs ++ ys) f ≡ option_and_then (behind_all ys) (behind_all xs f)) → option_and_then (behind_all (xs ++ ys)) o ≡ option_and_then (behind_all ys) (option_and_then (behind_all xs) o)
-  next None same = refl
-  next (Some f) same = same f
+-- one row of blocks after another
+pub after_all-append : {S : Type 0} (step : S → Block → Option S) (xs ys : List Block) (s : S) → after_all step (xs ++ ys) s ≡ option_and_then (after_all step ys) (after_all step xs s)
+after_all-append step [] ys s = refl
+after_all-append step (x ∷ xs) ys s = next step xs ys (step s x) (λ f. after_all-append step xs ys f) where
+  next : {S : Type 0} (step : S → Block → Option S) (xs ys : List Block) (o : Option S) → ((f : S) → after_all step (xs ++ ys) f ≡ option_and_then (after_all step ys) (after_all step xs f)) → option_and_then (after_all step (xs ++ ys)) o ≡ option_and_then (after_all step ys) (option_and_then (after_all step xs) o)
+  next step xs ys None same = refl
+  next step xs ys (Some f) same = same f
 
--- a front moved behind two rows of blocks and the one between them
-pub behind_three : (xs : List Block) (b : Block) (ys : List Block) (front left middle right : Front) → behind_all xs front ≡ Some left → behind left b ≡ Some middle → behind_all ys middle ≡ Some right → behind_all (xs ++ b ∷ ys) front ≡ Some right
-behind_three xs b ys front left middle right e f g = behind_all-append xs (b ∷ ys) front ∙ rw (e, f, g) refl
+-- two rows of blocks, and the one between them
+pub after_three : {S : Type 0} (step : S → Block → Option S) (xs : List Block) (b : Block) (ys : List Block) (first left middle right : S) → after_all step xs first ≡ Some left → step left b ≡ Some middle → after_all step ys middle ≡ Some right → after_all step (xs ++ b ∷ ys) first ≡ Some right
+after_three step xs b ys first left middle right e f g = after_all-append step xs (b ∷ ys) first ∙ rw (e, f, g) refl
+
+-- and where they come to an end, each of them has
+pub cut_in_three : {S : Type 0} (step : S → Block → Option S) (xs : List Block) (b : Block) (ys : List Block) (first last : S) → after_all step (xs ++ b ∷ ys) first ≡ Some last → (left : S) × (middle : S) × (after_all step xs first ≡ Some left) × (step left b ≡ Some middle) × (after_all step ys middle ≡ Some last)
+cut_in_three step xs b ys first last e =
+    let left = and_then_some (after_all step (b ∷ ys)) (after_all step xs first) last (sym (after_all-append step xs (b ∷ ys) first) ∙ e) in
+    let middle = and_then_some (after_all step ys) (step left.0 b) last left.2 in
+    (left.0, middle.0, left.1, middle.1, middle.2)

@@ -1,21 +1,18 @@
 -- The check of a tree finds just the trees that values have.
-use Rattle.std.proofs.Common.{◌≡◌, ℕ, zero, suc, ◌+◌, ◌≤◌, max, true, false, cond, ◌&&◌, eqb, leb, ◌∷◌, Some, is_some, option_and_then, codes, refl, sym, ap, ◌∙◌, subst, arith}
+use Rattle.std.proofs.Common.{◌≡◌, ℕ, zero, suc, ◌+◌, ◌≤◌, max, true, false, cond, ◌&&◌, eqb, leb, Some, is_some, refl, sym, ap, ◌∙◌, subst, arith}
 use Rattle.std.proofs.lemmas.Bool.{and_parts, eqb-true, eq-eqb, leb-true, le-leb}
 use Rattle.std.proofs.lemmas.Option.{same_Some}
 use Rattle.serde_json.specs.Data.{Data, null, boolean, number, string, array, object}
-use Rattle.serde_json.specs.Find.{get, as_null}
-use Rattle.vm_allocator.specs.Block.{Block}
+use Rattle.serde_json.specs.Find.{as_null}
 use Rattle.vm_allocator.specs.Shape.{Shape, Tip, Fork, blocks, height_of, IsBalanced}
-use Rattle.vm_allocator.specs.SavedFields.{field_count, number_in}
-use Rattle.vm_allocator.specs.SavedRange.{StatesRange, StatesState}
+use Rattle.vm_allocator.specs.SavedFields.{field_count}
 use Rattle.vm_allocator.specs.SavedTree.{StatesShape}
-use Rattle.vm_allocator.specs.SavedChecks.{is_count, range_found, state_found, behind, behind_all, is_true_height, node_found, tree_found}
+use Rattle.vm_allocator.specs.SavedChecks.{NodeData, node_data, after_all, behind, is_true_height, node_found, tree_found}
 use Rattle.vm_allocator.specs.declared.saved.tree.Front.{Front}
 use Rattle.vm_allocator.specs.declared.saved.tree.Checked.{Checked}
-use Rattle.vm_allocator.proofs.saving.Fields.{and_then_some, if_some, count-true, true-count, in_field, field_is}
-use Rattle.vm_allocator.proofs.saving.Ranges as ranges
-use Rattle.vm_allocator.proofs.saving.States as states
-use Rattle.vm_allocator.proofs.saving.Fronts.{behind_three, behind_all-append, AreKeys, keys-append}
+use Rattle.vm_allocator.proofs.saving.Fields.{and_then_some, if_some}
+use Rattle.vm_allocator.proofs.saving.Fronts.{after_three, cut_in_three}
+use Rattle.vm_allocator.proofs.saving.Nodes.{over_sides, node_is}
 
 -- Nulls.
 
@@ -57,7 +54,7 @@ pub record IsFound (depth : ℕ) (d : Data) (front : Front) (found : Checked) (s
   pub balanced : IsBalanced s
   pub height : found.height ≡ height_of s
   pub within : height_of s ≤ depth
-  pub behind : behind_all (blocks s) front ≡ Some found.front
+  pub behind : after_all behind (blocks s) front ≡ Some found.front
 
 abbrev checked : ℕ → Front → Checked
 checked h front = record { height = h; front = front }
@@ -73,50 +70,41 @@ found_null depth d front found z e =
       behind = ap (λ (x : Checked). Some x.front) same;
     }
 
+-- a node over the trees that are found of its children
+over_found : (depth : ℕ) (d : Data) (front middle : Front) (left right found : Checked) (n : NodeData) (l r : Shape) →
+    node_data d ≡ Some n → IsFound depth n.left front left l → behind left.front n.block ≡ Some middle → IsFound depth n.right middle right r →
+    is_true_height left.height right.height n.height ≡ true → checked n.height right.front ≡ found → IsFound (suc depth) d front found (Fork l n.block r)
+over_found depth d front middle left right found n l r e il behind_left ir true_height same =
+    let h = true_heights left.height right.height n.height true_height in
+    let lh = il.height in
+    let rh = ir.height in
+    let lw = il.within in
+    let rw_ = ir.within in
+    let is_height : n.height ≡ max (height_of l) (height_of r) + 1 = kept n.height left.height right.height (height_of l) (height_of r) h.2 lh rh in
+    record {
+      stated = over_sides d n (λ v. StatesShape v l) (λ v. StatesShape v r) (max (height_of l) (height_of r) + 1) e is_height il.stated ir.stated;
+      balanced = (il.balanced, ir.balanced, (omega arith, omega arith));
+      height = sym (ap (λ (x : Checked). x.height) same) ∙ is_height;
+      within = omega arith;
+      behind = after_three behind (blocks l) n.block (blocks r) front left.front middle found.front il.behind behind_left (ir.behind ∙ ap (λ (x : Checked). Some x.front) same);
+    } where
+      kept : (h a b c d : ℕ) → h ≡ max a b + 1 → a ≡ c → b ≡ d → h ≡ max c d + 1
+      kept h a b c d e p q = cc
+
 found_fork : (depth : ℕ) (d : Data) (front : Front) (found : Checked) →
     ((v : Data) (f : Front) (c : Checked) → tree_found depth v f ≡ Some c → (s : Shape) × IsFound depth v f c s) →
     node_found (tree_found depth) d front ≡ Some found → (s : Shape) × IsFound (suc depth) d front found s
 found_fork depth d front found below e =
-    let five = if_some (is_count 5 (field_count d)) _ found e in
-    let key = and_then_some _ (option_and_then range_found (get (codes "key") d)) found five.1 in
-    let state = and_then_some _ (option_and_then state_found (get (codes "node_state") d)) found key.2 in
-    let height = and_then_some _ (number_in (codes "height") d) found state.2 in
-    let left = and_then_some _ (option_and_then (λ v. tree_found depth v front) (get (codes "left") d)) found height.2 in
-    let middle = and_then_some _ (behind left.0.front (record { key = key.0; state = state.0 })) found left.2 in
-    let right = and_then_some _ (option_and_then (λ v. tree_found depth v middle.0) (get (codes "right") d)) found middle.2 in
-    let true_height = if_some (is_true_height left.0.height right.0.height height.0) _ found right.2 in
-    let key_at = and_then_some range_found (get (codes "key") d) key.0 key.1 in
-    let state_at = and_then_some state_found (get (codes "node_state") d) state.0 state.1 in
-    let left_at = and_then_some (λ v. tree_found depth v front) (get (codes "left") d) left.0 left.1 in
-    let right_at = and_then_some (λ v. tree_found depth v middle.0) (get (codes "right") d) right.0 right.1 in
-    let l = below left_at.0 front left.0 left_at.2 in
-    let r = below right_at.0 middle.0 right.0 right_at.2 in
-    let same = same_Some (checked height.0 right.0.front) found true_height.1 in
-    let h = true_heights left.0.height right.0.height height.0 true_height.0 in
-    let lh = l.1.height in
-    let rh = r.1.height in
-    let lw = l.1.within in
-    let rw_ = r.1.within in
-    let is_height : height.0 ≡ max (height_of l.0) (height_of r.0) + 1 = kept height.0 left.0.height right.0.height (height_of l.0) (height_of r.0) h.2 lh rh in
-    let b : Block = record { key = key.0; state = state.0 } in (
-      Fork l.0 b r.0,
-      record {
-        stated = record {
-          five_fields = count-true 5 (field_count d) five.0;
-          key = field_is (codes "key") d key_at.0 (λ v. StatesRange v key.0) key_at.1 (ranges.found-states key_at.0 key.0 key_at.2);
-          node_state = field_is (codes "node_state") d state_at.0 (λ v. StatesState v state.0) state_at.1 (states.found-states state_at.0 state.0 state_at.2);
-          left = field_is (codes "left") d left_at.0 (λ v. StatesShape v l.0) left_at.1 l.1.stated;
-          right = field_is (codes "right") d right_at.0 (λ v. StatesShape v r.0) right_at.1 r.1.stated;
-          height = height.1 ∙ ap Some is_height;
-        };
-        balanced = (l.1.balanced, r.1.balanced, (omega arith, omega arith));
-        height = sym (ap (λ (x : Checked). x.height) same) ∙ is_height;
-        within = omega arith;
-        behind = behind_three (blocks l.0) b (blocks r.0) front left.0.front middle.0 found.front l.1.behind middle.1 (r.1.behind ∙ ap (λ (x : Checked). Some x.front) same);
-      },
-    ) where
-      kept : (h a b c d : ℕ) → h ≡ max a b + 1 → a ≡ c → b ≡ d → h ≡ max c d + 1
-      kept h a b c d e p q = cc
+    let node = and_then_some _ (node_data d) found e in
+    let left = and_then_some _ (tree_found depth node.0.left front) found node.2 in
+    let middle = and_then_some _ (behind left.0.front node.0.block) found left.2 in
+    let right = and_then_some _ (tree_found depth node.0.right middle.0) found middle.2 in
+    let true_height = if_some (is_true_height left.0.height right.0.height node.0.height) _ found right.2 in
+    let l = below node.0.left front left.0 left.1 in
+    let r = below node.0.right middle.0 right.0 right.1 in (
+      Fork l.0 node.0.block r.0,
+      over_found depth d front middle.0 left.0 right.0 found node.0 l.0 r.0 node.1 l.1 middle.1 r.1 true_height.0 (same_Some (checked node.0.height right.0.front) found true_height.1),
+    )
 
 -- what is found is a tree that the value has
 pub sound : (depth : ℕ) (d : Data) (front : Front) (found : Checked) → tree_found depth d front ≡ Some found → (s : Shape) × IsFound depth d front found s
@@ -129,29 +117,15 @@ sound (suc depth) d front found e =
     ] refl e
 
 -- each tree that a value has is found
-pub complete : (s : Shape) (depth : ℕ) (d : Data) (front last : Front) → StatesShape d s → IsBalanced s → height_of s ≤ depth → behind_all (blocks s) front ≡ Some last → tree_found depth d front ≡ Some (checked (height_of s) last)
+pub complete : (s : Shape) (depth : ℕ) (d : Data) (front last : Front) → StatesShape d s → IsBalanced s → height_of s ≤ depth → after_all behind (blocks s) front ≡ Some last → tree_found depth d front ≡ Some (checked (height_of s) last)
 unfolding tree_found
 complete Tip zero d front last t b w e = rw t (ap (λ (x : Front). Some (checked 0 x)) (same_Some front last e))
 complete Tip (suc depth) d front last t b w e = rw t (ap (λ (x : Front). Some (checked 0 x)) (same_Some front last e))
 complete (Fork l x r) zero d front last t b w e = absurd (omega arith)
 complete (Fork l x r) (suc depth) d front last t b w e =
-    let cut = sym (behind_all-append (blocks l) (x ∷ blocks r) front) ∙ e in
-    let left = and_then_some (behind_all (x ∷ blocks r)) (behind_all (blocks l) front) last cut in
-    let middle = and_then_some (behind_all (blocks r)) (behind left.0 x) last left.2 in
-    let key_at = in_field (codes "key") d (λ v. StatesRange v x.key) t.key in
-    let state_at = in_field (codes "node_state") d (λ v. StatesState v x.state) t.node_state in
-    let left_at = in_field (codes "left") d (λ v. StatesShape v l) t.left in
-    let right_at = in_field (codes "right") d (λ v. StatesShape v r) t.right in
-    let in_left = complete l depth left_at.0 front left.0 left_at.2 b.0 (omega arith) left.1 in
-    let in_right = complete r depth right_at.0 middle.0 last right_at.2 b.1 (omega arith) middle.2 in
+    let cut = cut_in_three behind (blocks l) x (blocks r) front last e in
+    let n = node_is d x (λ v. StatesShape v l) (λ v. StatesShape v r) (max (height_of l) (height_of r) + 1) t in
+    let in_left = complete l depth n.0 front cut.0 n.3 b.0 (omega arith) cut.2 in
+    let in_right = complete r depth n.1 cut.1 last n.4 b.1 (omega arith) cut.4 in
     let close = heights_true (height_of l) (height_of r) b.2.0 b.2.1 in
-    rw (not_null d 5 t.five_fields, true-count 5 (field_count d) t.five_fields, key_at.1, ranges.states-found key_at.0 x.key key_at.2, state_at.1, states.states-found state_at.0 x.state state_at.2, t.height, left_at.1, in_left, middle.1, right_at.1, in_right, close) refl
-
--- the keys of a tree that a value has
-pub keys_stated : (s : Shape) (d : Data) → StatesShape d s → AreKeys (blocks s)
-keys_stated Tip d t = tt
-keys_stated (Fork l b r) d t =
-    let key_at = in_field (codes "key") d (λ v. StatesRange v b.key) t.key in
-    let left_at = in_field (codes "left") d (λ v. StatesShape v l) t.left in
-    let right_at = in_field (codes "right") d (λ v. StatesShape v r) t.right in
-    keys-append (blocks l) b (blocks r) (keys_stated l left_at.0 left_at.2) key_at.2.range.0 (keys_stated r right_at.0 right_at.2)
+    rw (not_null d 5 t.five_fields, n.2, in_left, cut.3, in_right, close) refl

@@ -38,7 +38,7 @@ states_allocator d space root a p space_stated root_stated tree ordered same =
     record {
       two_fields = p.two_fields;
       address_space = field_is (codes "address_space") d space (λ v. StatesRange v a.space) p.space_is space_stated;
-      interval_tree = field_is (codes "interval_tree") d at.0 (λ v. StatesTree v a.tree) at.1 (record {
+      interval_tree = field_is (codes "interval_tree") d at.0 (λ v. StatesTree v (λ root. StatesShape root a.tree)) at.1 (record {
         one_field = let e : one.0 ≡ at.0 = same_value one.0 at.0 (get (codes "interval_tree") d) one.1 at.1 in subst (λ (v : Data). field_count v ≡ Some 1) e one.2;
         root = field_is (codes "root") at.0 root (λ v. StatesShape v a.tree) at.2 root_stated;
       });

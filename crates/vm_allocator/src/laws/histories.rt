@@ -1,5 +1,7 @@
 //! Laws of whole histories: every list of calls of an address allocator, from one on that was made or
 //! read, clones made on the way among them.
+ghost use Rattle.vm_allocator.specs.SavedTree.{StatesAddresses};
+ghost use Rattle.vm_allocator.specs.SavedRepaired.{StatesRepaired};
 ghost use Rattle.vm_allocator.specs.HistoryLaws.{FirstIsLeast, LastIsGreatest, ExactIsNamed, PlacesAnswer, RefusalsChangeNothing, SlotsAreGood, StateDecides, ReleaseUndoes, OrderOfReleasesIsFree, EveryCallIsAnswered, EveryListHasHistory, CloneIsReached, ReadIsReached, OneEndIsEqual, ReleaseMakesEqual, OrderOfReleasesMakesEqual};
 
 /// In every history `FirstMatch` gives the least place, `LastMatch` the greatest and `ExactMatch` the
@@ -47,9 +49,11 @@ fn clones_are_reached()
     ensures { CloneIsReached }
 {}
 
-/// An allocator that was read is reached too, by no call, so all that holds of every history holds of it.
+/// An allocator that was read, with repairs or without, is reached too, by no call, so all that holds of
+/// every history holds of it.
 fn reads_are_reached()
-    ensures { ReadIsReached }
+    ensures read { ReadIsReached StatesAddresses }
+    ensures repaired { ReadIsReached StatesRepaired }
 {}
 
 /// Allocators that hold the same are equal, whatever the order and the kind of the calls before.

@@ -1,8 +1,9 @@
 //! Laws of saved values.
 ghost use Rattle.vm_allocator.specs.SavedRange.{StatesRange, StatesState};
 ghost use Rattle.vm_allocator.specs.SavedTree.{StatesAllocator};
+ghost use Rattle.vm_allocator.specs.SavedRepaired.{StatesRepaired};
 ghost use Rattle.vm_allocator.specs.SavedIds.{StatesIds};
-ghost use Rattle.vm_allocator.specs.SavedLaws.{StatesOne, ReadsWritten};
+ghost use Rattle.vm_allocator.specs.SavedLaws.{StatesOne, ReadsWritten, ReadsAlike};
 
 /// A value states one object of a type at most.
 #[tactic(auto, using(crate::proofs::saving::Again::one_object))]
@@ -11,6 +12,7 @@ fn values_state_one()
     ensures node_states { StatesOne StatesState }
     ensures address_allocators { StatesOne StatesAllocator }
     ensures id_allocators { StatesOne StatesIds }
+    ensures repaired { StatesOne StatesRepaired }
 {}
 
 /// What `to_value` writes of an object `from_value` reads as this object, node for node, unless it is
@@ -21,4 +23,10 @@ fn written_is_read()
     ensures node_states { ReadsWritten StatesState }
     ensures address_allocators { ReadsWritten StatesAllocator }
     ensures id_allocators { ReadsWritten StatesIds }
+{}
+
+/// A value that `from_value` reads with at most 6,293,134,512 held ranges `from_value_repaired` reads to
+/// the same space and held ranges, unless it is refused memory; so the two allocators are equal.
+fn both_readers_agree()
+    ensures { ReadsAlike }
 {}

@@ -5,7 +5,7 @@ ghost use Rattle.vm_allocator.specs.Address.{IsAddressState};
 ghost use Rattle.vm_allocator.specs.Allocator.{state_of, made_state};
 ghost use Rattle.vm_allocator.specs.SavedTree.{StatesAllocator, StatesAddresses};
 ghost use Rattle.vm_allocator.specs.SavedParts.{AllocatorParts};
-ghost use Rattle.vm_allocator.specs.SavedChecks.{allocator_found, root_found, root_fitting};
+ghost use Rattle.vm_allocator.specs.SavedChecks.{allocator_found, parts_found, root_found, root_fitting};
 ghost use Rattle.vm_allocator.specs.Saving.{Saves, Reads};
 
 use super::ValueError;
@@ -70,26 +70,36 @@ fn save_allocator(
     json!(in alloc; {"address_space": space, "interval_tree": {"root": root}})
 }
 
-/// The space that a value states, and the root of its tree; both are checked.
-#[derive(Drop)]
-struct CheckedAllocator<'a> {
-    space: RangeInclusive,
-    root: &'a Value,
+/// The space that an allocator's value states, and the root of its tree.
+#[derive(Clone, Copy)]
+pub(super) struct SavedAllocator<'a> {
+    pub(super) space: RangeInclusive,
+    pub(super) root: &'a Value,
 }
 
-/// The space that a value states, and the root of its tree.
-fn check_allocator(value: &Value) -> Option<CheckedAllocator<'_>>
-    ensures { option_map (λ c. (c.space, view c.root.now)) result ≡ allocator_found (view value.now) }
+/// The fields of an allocator's value, where it has these and no others.
+pub(super) fn parts_of(value: &Value) -> Option<SavedAllocator<'_>>
+    ensures { option_map (λ c. (c.space, view c.root.now)) result ≡ parts_found (view value.now) }
 {
     if !has_fields(value, 2) {
         return None;
     }
     let space = range_in(value, "address_space")?;
     let root = root_of(value.get("interval_tree")?)?;
-    if !fits(&space, root) {
+    Some(SavedAllocator { space, root })
+}
+
+/// The space that a value states, and the root of its tree; both are checked.
+fn check_allocator(value: &Value) -> Option<SavedAllocator<'_>>
+    ensures { option_map (λ c. (c.space, view c.root.now)) result ≡ allocator_found (view value.now) }
+{
+    let Some(parts) = parts_of(value) else {
+        return None;
+    };
+    if !fits(&parts.space, parts.root) {
         return None;
     }
-    Some(CheckedAllocator { space, root })
+    Some(parts)
 }
 
 /// The root of a tree's value.

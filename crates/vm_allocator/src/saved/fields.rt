@@ -1,9 +1,9 @@
 //! The fields of saved objects. Nothing here takes memory.
-ghost use Rattle.std.specs.Prelude.{◌≡◌, option_and_then};
+ghost use Rattle.std.specs.Prelude.{◌≡◌, option_map, option_and_then};
 ghost use Rattle.serde_json.specs.View.{view};
 ghost use Rattle.serde_json.specs.Find.{get};
 ghost use Rattle.vm_allocator.specs.SavedFields.{field_count, number_in};
-ghost use Rattle.vm_allocator.specs.SavedChecks.{is_count, range_found, state_found};
+ghost use Rattle.vm_allocator.specs.SavedChecks.{is_count, range_found, state_found, node_data};
 
 use crate::allocation_engine::NodeState;
 use crate::range::RangeInclusive;
@@ -55,4 +55,35 @@ pub(super) fn state_in(value: &Value, name: &str) -> Option<NodeState>
         Some(state) => NodeState::stated_by(state),
         None => None,
     }
+}
+
+/// What stands in the fields of a node's value.
+#[derive(Clone, Copy)]
+pub(super) struct SavedNode<'a> {
+    pub(super) key: RangeInclusive,
+    pub(super) state: NodeState,
+    pub(super) height: u64,
+    pub(super) left: &'a Value,
+    pub(super) right: &'a Value,
+}
+
+/// The fields of a node's value, where it has these and no others.
+pub(super) fn node_of(value: &Value) -> Option<SavedNode<'_>>
+    ensures { option_map (λ n. record {
+      block = record { key = n.key; state = n.state };
+      height = n.height;
+      left = view n.left.now;
+      right = view n.right.now;
+    }) result ≡ node_data (view value.now) }
+{
+    if !has_fields(value, 5) {
+        return None;
+    }
+    Some(SavedNode {
+        key: range_in(value, "key")?,
+        state: state_in(value, "node_state")?,
+        height: number_in(value, "height")?,
+        left: value.get("left")?,
+        right: value.get("right")?,
+    })
 }

@@ -12,6 +12,7 @@ mod allocators;
 mod damage;
 mod hostile;
 mod ids;
+mod repaired;
 mod snapshots;
 mod without_memory;
 
@@ -24,13 +25,29 @@ fn parsed(rt: &(impl Abort + AllocGlobal), text: &str) -> Value {
     }
 }
 
-/// The allocator that a value states.
+/// The allocator that a value states. Each that is read is equal to the one read with repairs.
 fn read(
     rt: &(impl Abort + AllocGlobal),
     value: &Value,
 ) -> std::result::Result<AddressAllocator, ValueError> {
-    match AddressAllocator::from_value(rt.alloc(), value) {
+    let answer = match AddressAllocator::from_value(rt.alloc(), value) {
         Err(ValueError::OutOfMemory) => AddressAllocator::from_value(rt.alloc(), value),
+        answer => answer,
+    };
+    if let Ok(space) = &answer {
+        let repaired = read_repaired(rt, value);
+        assert!(rt; repaired.is_ok_and(|repaired| repaired == *space));
+    }
+    answer
+}
+
+/// The allocator that a value states, read with repairs.
+fn read_repaired(
+    rt: &(impl Abort + AllocGlobal),
+    value: &Value,
+) -> std::result::Result<AddressAllocator, ValueError> {
+    match AddressAllocator::from_value_repaired(rt.alloc(), value) {
+        Err(ValueError::OutOfMemory) => AddressAllocator::from_value_repaired(rt.alloc(), value),
         answer => answer,
     }
 }

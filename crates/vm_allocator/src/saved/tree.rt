@@ -6,7 +6,7 @@ ghost use Rattle.vm_allocator.specs.SavedTree.{StatesShape};
 ghost use Rattle.vm_allocator.specs.SavedParts.{HasShapeWithin};
 ghost use Rattle.vm_allocator.specs.SavedChecks.{behind, is_true_height, tree_found};
 
-use super::fields::{has_fields, number_in, range_in, state_in};
+use super::fields::node_of;
 use crate::allocation_engine::NodeState;
 use crate::allocation_engine::node::{Child, InnerNode};
 use crate::error::Result;
@@ -58,20 +58,20 @@ pub(super) fn check(value: &Value, depth: u64, front: Front) -> Option<Checked>
     if value.is_null() {
         return Some(Checked { height: 0, front });
     }
-    if depth == 0 || !has_fields(value, 5) {
+    if depth == 0 {
         return None;
     }
-    let key = range_in(value, "key")?;
-    let state = state_in(value, "node_state")?;
-    let height = number_in(value, "height")?;
-    let left = check(value.get("left")?, depth - 1, front)?;
-    let middle = left.front.behind(&key, state)?;
-    let right = check(value.get("right")?, depth - 1, middle)?;
-    if !is_true_height(left.height, right.height, height) {
+    let Some(node) = node_of(value) else {
+        return None;
+    };
+    let left = check(node.left, depth - 1, front)?;
+    let middle = left.front.behind(&node.key, node.state)?;
+    let right = check(node.right, depth - 1, middle)?;
+    if !is_true_height(left.height, right.height, node.height) {
         return None;
     }
     Some(Checked {
-        height,
+        height: node.height,
         front: right.front,
     })
 }
@@ -91,12 +91,11 @@ pub(super) fn build(value: &Value, depth: u64, alloc: Global) -> Result<Child>
     requires { HasShapeWithin depth (view value.now) }
     ensures { IfOk result (λ tree. StatesShape (view value.now) (side tree)) }
 {
-    if value.is_null() {
+    let Some(node) = node_of(value) else {
         return Ok(None);
-    }
-    let key = range_in(value, "key").unwrap();
-    let state = state_in(value, "node_state").unwrap();
-    let left = build(&value["left"], depth - 1, alloc)?;
-    let right = build(&value["right"], depth - 1, alloc)?;
-    Ok(Some(InnerNode::with_children(alloc, left, key, state, right)?))
+    };
+    let left = build(node.left, depth - 1, alloc)?;
+    let right = build(node.right, depth - 1, alloc)?;
+    let node = InnerNode::with_children(alloc, left, node.key, node.state, right)?;
+    Ok(Some(node))
 }

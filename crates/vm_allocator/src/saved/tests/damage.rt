@@ -56,6 +56,7 @@ fn joined(alloc: Global, parts: &[&str]) -> std::result::Result<String, AllocErr
 #[derive(Clone, Copy, Debug)]
 enum Reader {
     Allocator,
+    Repaired,
     Ids,
 }
 
@@ -69,6 +70,7 @@ impl Reader {
         let value = parsed(rt, &text);
         let error = match self {
             Reader::Allocator => read(rt, &value).err(),
+            Reader::Repaired => read_repaired(rt, &value).err(),
             Reader::Ids => read_ids(rt, &value).err(),
         };
         assert!(rt; error != Some(ValueError::OutOfMemory), "{text}");
@@ -158,6 +160,13 @@ fn damage(
 fn each_field_of_an_allocator(rt: HostRuntime) {
     damage(&rt, Reader::Allocator, FRESH, 12, &[]);
     damage(&rt, Reader::Allocator, ONE_HELD, 26, &[]);
+}
+
+/// With repairs any node may be missing.
+#[test]
+fn each_field_of_a_repaired_allocator(rt: HostRuntime) {
+    let accepted = [("root", "null"), ("left", "null"), ("right", "null")];
+    damage(&rt, Reader::Repaired, ONE_HELD, 26, &accepted);
 }
 
 #[test]

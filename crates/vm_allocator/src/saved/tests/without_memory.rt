@@ -10,6 +10,10 @@ const ONE_NODE: &str = r#"{"address_space":{"start":16,"end":19},"interval_tree"
 const TOO_SHORT: &str = r#"{"address_space":{"start":16,"end":20},"interval_tree":{"root":{
     "key":{"start":16,"end":19},"node_state":"Allocated","left":null,"right":null,"height":1}}}"#;
 
+/// The same, but for a space that is shorter than the key.
+const TOO_LONG: &str = r#"{"address_space":{"start":16,"end":18},"interval_tree":{"root":{
+    "key":{"start":16,"end":19},"node_state":"Allocated","left":null,"right":null,"height":1}}}"#;
+
 /// Ids given back of which the last was never handed out.
 const NEVER_HANDED_OUT: &str =
     r#"{"range_base":5,"next_id":8,"range_end":23,"freed_ids":[5,6,7,8]}"#;
@@ -22,6 +26,7 @@ fn checked(rt: HostRuntime) {
     let range = parsed(&rt, r#"{"start":16,"end":19}"#);
     let state = parsed(&rt, r#""Allocated""#);
     let too_short = parsed(&rt, TOO_SHORT);
+    let too_long = parsed(&rt, TOO_LONG);
     let never_handed_out = parsed(&rt, NEVER_HANDED_OUT);
     let none_freed = parsed(&rt, NONE_FREED);
     let one_node = parsed(&rt, ONE_NODE);
@@ -36,6 +41,10 @@ fn checked(rt: HostRuntime) {
     assert_eq!(rt; answer, Err(ValueError::NotAState));
     for value in [&range, &state, &too_short, &none_freed] {
         let answer = AddressAllocator::from_value(rt.alloc(), value);
+        assert_eq!(rt; answer.err(), Some(ValueError::NotAState));
+    }
+    for value in [&range, &state, &too_long, &none_freed] {
+        let answer = AddressAllocator::from_value_repaired(rt.alloc(), value);
         assert_eq!(rt; answer.err(), Some(ValueError::NotAState));
     }
     for value in [&range, &state, &one_node, &never_handed_out] {

@@ -1,0 +1,24 @@
+use Rattle.std.proofs.Common.{sym}
+use Rattle.serde_json.specs.View.{view}
+use Rattle.vm_allocator.specs.Allocator.{state_of}
+use Rattle.vm_allocator.proofs.repairing.Values.{none_stated, some_stated, can_add, added_stated}
+use Rattle.vm_allocator.proofs.address_allocator.AddressAllocator.from_value_repaired.Goals as goal
+
+pub returns-in_default-clause-answer : goal.returns-in_default-clause-answer
+returns-in_default-clause-answer c = none_stated (view c.args.value.now) (sym c.in_default.ensures)
+
+pub returns-in_default-new-clause-answer : goal.returns-in_default-new-clause-answer
+returns-in_default-new-clause-answer c = some_stated (view c.args.value.now) _ _ (sym c.in-Some.ensures)
+
+pub hold_keys-requires : goal.hold_keys-requires
+hold_keys-requires c =
+    let made = rw (c.start.ensures.value, c.len.ensures) at c.in-Ok.ensures in
+    can_add (view c.args.value.now) c.in-Some.checked.space (view c.in-Some.checked.root.now) (sym c.in-Some.ensures) (state_of c.in-Ok.allocator) made
+
+pub returns-in_default-hold_keys-clause-answer : goal.returns-in_default-hold_keys-clause-answer
+returns-in_default-hold_keys-clause-answer c = some_stated (view c.args.value.now) _ _ (sym c.in-Some.ensures)
+
+pub returns-clause-answer : goal.returns-clause-answer
+returns-clause-answer c =
+    let made = rw (c.start.ensures.value, c.len.ensures) at c.in-Ok.ensures in
+    added_stated (view c.args.value.now) c.in-Some.checked.space (view c.in-Some.checked.root.now) (sym c.in-Some.ensures) (state_of c.in-Ok.allocator) made (state_of c.hold_keys.new.allocator) c.in-Ok-hold_keys.ensures.held

@@ -1,0 +1,5 @@
+pub mod Rows
+pub mod Nodes
+pub mod Adding
+pub mod Holding
+pub mod Values

@@ -1,0 +1,167 @@
+//! Address allocators that are read with repairs.
+use super::allocators::{FRESH, ONE_HELD};
+use super::*;
+use serde_json::json;
+use std::alloc::{AllocError, Global};
+
+/// What a value states when it is read with repairs: the base and the size of the space, and the ranges
+/// held in it.
+type Stated<'a> = Option<(u64, u64, &'a [(u64, u64)])>;
+
+/// The allocator of a space with these ranges held.
+fn with_held(
+    rt: &(impl Abort + AllocGlobal),
+    base: u64,
+    size: u64,
+    held: &[(u64, u64)],
+) -> AddressAllocator {
+    let mut space = made(rt, base, size);
+    for (start, end) in held {
+        let range = RangeInclusive::new(*start, *end).expect(rt, "it is a range");
+        let policy = AllocPolicy::ExactMatch(*start);
+        if space.allocate(rt.alloc(), range.len(), 1, policy).is_err() {
+            let again = space.allocate(rt.alloc(), range.len(), 1, policy);
+            assert!(rt; again.is_ok(), "memory is refused once");
+        }
+    }
+    space
+}
+
+/// The value of the text states nothing without repairs, and this with them.
+pub(super) fn assert_repaired(rt: &(impl Abort + AllocGlobal), text: &str, want: Stated<'_>) {
+    assert_refused(rt, text);
+    let answer = read_repaired(rt, &parsed(rt, text));
+    match want {
+        None => assert_eq!(rt; answer.err(), Some(ValueError::NotAState), "{text}"),
+        Some((base, size, held)) => {
+            let want = with_held(rt, base, size, held);
+            assert!(rt; answer.is_ok_and(|space| space == want), "{text}");
+        }
+    }
+}
+
+#[test]
+fn repaired_as_stated(rt: HostRuntime) {
+    for (text, want) in [
+        // A tree that was lost; two free neighbours; a gap on each side of a key, and a wrong height.
+        (
+            r#"{"address_space":{"start":1,"end":16},"interval_tree":{"root":null}}"#,
+            Some((1, 16, &[][..])),
+        ),
+        (
+            r#"{"address_space":{"start":16,"end":19},"interval_tree":{"root":null}}"#,
+            Some((16, 4, &[][..])),
+        ),
+        (
+            r#"{"address_space":{"start":16,"end":19},"interval_tree":{"root":{
+                "key":{"start":16,"end":17},"node_state":"Free","left":null,"right":{
+                "key":{"start":18,"end":19},"node_state":"Free","left":null,"right":null,"height":1},
+                "height":2}}}"#,
+            Some((16, 4, &[][..])),
+        ),
+        (ONE_BETWEEN_GAPS, Some((16, 4, &[(17, 17)][..]))),
+        // An address in two keys; a key that leaves the space, and one outside it.
+        (
+            r#"{"address_space":{"start":16,"end":19},"interval_tree":{"root":{
+                "key":{"start":16,"end":18},"node_state":"Free","left":null,"right":{
+                "key":{"start":18,"end":19},"node_state":"Allocated","left":null,"right":null,
+                "height":1},"height":2}}}"#,
+            None,
+        ),
+        (
+            r#"{"address_space":{"start":16,"end":19},"interval_tree":{"root":{
+                "key":{"start":16,"end":20},"node_state":"Allocated","left":null,"right":null,
+                "height":1}}}"#,
+            None,
+        ),
+        (
+            r#"{"address_space":{"start":1,"end":16},"interval_tree":{"root":{
+                "key":{"start":100,"end":200},"node_state":"Free","left":null,"right":null,"height":1}}}"#,
+            None,
+        ),
+        // The last address of all, held and free.
+        (
+            r#"{"address_space":{"start":1,"end":18446744073709551615},"interval_tree":{"root":{
+                "key":{"start":18446744073709551615,"end":18446744073709551615},
+                "node_state":"Allocated","left":null,"right":null,"height":1}}}"#,
+            None,
+        ),
+        (
+            r#"{"address_space":{"start":1,"end":18446744073709551615},"interval_tree":{"root":{
+                "key":{"start":18446744073709551615,"end":18446744073709551615},
+                "node_state":"Free","left":null,"right":null,"height":1}}}"#,
+            Some((1, u64::MAX, &[][..])),
+        ),
+    ] {
+        assert_repaired(&rt, text, want);
+    }
+}
+
+/// [16, 19] with [17, 17] held, its neighbours lost and its height wrong.
+const ONE_BETWEEN_GAPS: &str = r#"{"address_space":{"start":16,"end":19},"interval_tree":{"root":{
+    "key":{"start":17,"end":17},"node_state":"Allocated","left":null,"right":null,"height":7}}}"#;
+
+#[test]
+fn repaired_to_blocks(rt: HostRuntime) -> std::result::Result<(), Fail> {
+    let space = read_repaired(&rt, &parsed(&rt, ONE_BETWEEN_GAPS))?;
+    assert_eq!(rt; space.interval_tree.block_count(), 3);
+    assert_eq!(rt; space.height(), 2);
+    Ok(())
+}
+
+/// A value with that many keys of one address, from 0 on, all held, each the right child of the one
+/// before.
+fn chain(alloc: Global, keys: u64) -> std::result::Result<Value, AllocError> {
+    let mut node = Value::Null;
+    for at in (0..keys).rev() {
+        let key = json!(in alloc; {"start": at, "end": at})?;
+        node =
+            json!(in alloc; {"key": key, "node_state": "Allocated", "left": null, "right": node, "height": 0})?;
+    }
+    let space = json!(in alloc; {"start": 0, "end": keys.saturating_sub(1)})?;
+    json!(in alloc; {"address_space": space, "interval_tree": {"root": node}})
+}
+
+#[test]
+fn chains(rt: HostRuntime) -> std::result::Result<(), Fail> {
+    for keys in [1, 50, 51, 200] {
+        let value = match chain(rt.alloc(), keys) {
+            Ok(value) => value,
+            Err(_) => chain(rt.alloc(), keys)?,
+        };
+        assert_eq!(rt;
+            read(&rt, &value).err(),
+            Some(ValueError::NotAState),
+            "{keys}"
+        );
+        let answer = read_repaired(&rt, &value);
+        if keys > 50 {
+            assert_eq!(rt; answer.err(), Some(ValueError::NotAState), "{keys}");
+            continue;
+        }
+        let mut full = made(&rt, 0, keys);
+        for _ in 0..keys {
+            if full
+                .allocate(rt.alloc(), 1, 1, AllocPolicy::FirstMatch)
+                .is_err()
+            {
+                full.allocate(rt.alloc(), 1, 1, AllocPolicy::FirstMatch)?;
+            }
+        }
+        assert!(rt; answer? == full, "{keys}");
+    }
+    Ok(())
+}
+
+#[test]
+fn repaired_whole_or_not_at_all(rt: HostRuntime) {
+    for (text, held) in [(FRESH, &[][..]), (ONE_HELD, &[(1280, 1535)][..])] {
+        let value = parsed(&rt, text);
+        balance(rt.alloc());
+        match AddressAllocator::from_value_repaired(rt.alloc(), &value) {
+            Ok(space) => assert!(rt; holds_just(&space, held)),
+            Err(error) => assert_eq!(rt; error, ValueError::OutOfMemory),
+        }
+        balance(rt.alloc());
+    }
+}
