@@ -1,4 +1,6 @@
 pub mod Power
 pub mod Alignments
+pub mod Highest
+pub mod Multiples
 pub mod Decisions
 pub mod Ranges
