@@ -42,14 +42,17 @@ pub record IsGapSearchCount (h v : ℕ) (answer : Result Range Error) (count : �
   pub most : count ≤ h * (v + 1) + most_on_ways h
   pub none : answer ≡ Err ResourceNotAvailable → count ≤ h * v
 
--- the nodes that a request enters, if it names no start, for its futile gaps
-unfoldable pub SearchesGaps : ℕ → AddressState → Request → Result Range Error → ℕ → Type 0
-SearchesGaps h old request answer count =
-    let by_gaps : Type 0 = IsGapSearchCount h (futile_gaps old request) answer count in
+-- the nodes that a request enters, if it names no start
+abbrev pub SearchesAmong : ℕ → ℕ → Request → Result Range Error → ℕ → Type 0
+SearchesAmong h v request answer count =
+    let by_gaps : Type 0 = IsGapSearchCount h v answer count in
     ByPolicy request.policy by_gaps by_gaps (λ start. Unit {0})
 
--- the same for its futile or its cramped gaps, whichever are fewer
+-- of which its futile gaps are looked at in vain
+unfoldable pub SearchesGaps : ℕ → AddressState → Request → Result Range Error → ℕ → Type 0
+SearchesGaps h old request answer count = SearchesAmong h (futile_gaps old request) request answer count
+
+-- or its cramped gaps, where these are fewer
 unfoldable pub SearchesAligned : ℕ → AddressState → Request → Result Range Error → ℕ → Type 0
 SearchesAligned h old request answer count =
-    let by_gaps : Type 0 = IsGapSearchCount h (min (futile_gaps old request) (cramped_gaps old request)) answer count in
-    ByPolicy request.policy by_gaps by_gaps (λ start. Unit {0})
+    SearchesAmong h (min (futile_gaps old request) (cramped_gaps old request)) request answer count

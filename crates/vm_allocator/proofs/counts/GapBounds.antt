@@ -7,7 +7,7 @@ use Rattle.vm_allocator.specs.Block.{Block, is_free}
 use Rattle.vm_allocator.specs.Address.{AddressState, IsPlace}
 use Rattle.vm_allocator.specs.Alignment.{IsLeastMultiple}
 use Rattle.vm_allocator.specs.Answer.{ByExactStart, ByPlace, Takes, Settles}
-use Rattle.vm_allocator.specs.GapSearch.{is_futile, futile_gaps, is_cramped, cramped_gaps, IsGapSearchCount, SearchesGaps, SearchesAligned}
+use Rattle.vm_allocator.specs.GapSearch.{is_futile, futile_gaps, is_cramped, cramped_gaps, IsGapSearchCount, SearchesAmong, SearchesGaps, SearchesAligned}
 use Rattle.vm_allocator.specs.Request.{Request, request_for, IsRequest, ByPolicy, MakesConstraint}
 use Rattle.vm_allocator.specs.Shape.{Shape, blocks, height_of}
 use Rattle.vm_allocator.specs.SpaceTree.{space_of, tree_state, IsSpaceTree}
@@ -71,12 +71,8 @@ module _ (request : Request) (s : Shape) (h : IsSpaceTree s) (r : IsRequest requ
   no_fit_among : (new : AddressState) (answer : Result Range Error) → ByPlace request (tree_state s) (λ e. (answer ≡ Err e) × (new ≡ tree_state s)) (λ p. Takes (tree_state s) p answer new) → answer ≡ Err ResourceNotAvailable → list_any (has_fit request.size request.align) (blocks s) ≡ false
   no_fit_among new answer k e = none_fits request.size request.align s r.some (alignment_pos request.align r.aligned) h (no_place_by request (tree_state s) new answer e k)
 
--- the nodes that a request enters, if it names no start and v gaps are looked at in vain
-abbrev SearchesFor : ℕ → ℕ → Request → Result Range Error → ℕ → Type 0
-SearchesFor h v request answer c = ByPolicy request.policy (IsGapSearchCount h v answer c) (IsGapSearchCount h v answer c) (λ start. Unit {0})
-
 searched_by : (policy : AllocPolicy) (n a : ℕ) (q : Block → Bool) (s : Shape) (answer : Result Range Error) (new : AddressState) (c : ℕ) → HasOneInVain n a q → IsSpaceTree s → IsRequest (request_for n a policy)
-    → Settles (tree_state s) (request_for n a policy) answer new → Enters s (request_for n a policy) answer 0 c → SearchesFor (height_of s) (length (filter q (blocks s))) (request_for n a policy) answer c
+    → Settles (tree_state s) (request_for n a policy) answer new → Enters s (request_for n a policy) answer 0 c → SearchesAmong (height_of s) (length (filter q (blocks s))) (request_for n a policy) answer c
 unfolding Settles ByExactStart
 searched_by FirstMatch n a q s answer new c some h r k e =
     by_gaps (request_for n a FirstMatch) s h r answer (length (filter q (blocks s))) c (first_to_place n a q some s, λ u. first_in_vain n a q some s (no_fit_among (request_for n a FirstMatch) s h r new answer k u)) e
@@ -93,13 +89,13 @@ of_lesser P x y p q =
     (cases_lt x y)
 
 module _ (s : Shape) (request : Request) (answer : Result Range Error) (new : AddressState) (c : ℕ) (h : IsSpaceTree s) (r : IsRequest request) (k : Settles (tree_state s) request answer new) (e : Enters s request answer 0 c) where
-  by_futile : SearchesFor (height_of s) (futile_gaps (tree_state s) request) request answer c
+  by_futile : SearchesAmong (height_of s) (futile_gaps (tree_state s) request) request answer c
   unfolding futile_gaps
   by_futile =
       rw (tree_blocks s h)
       (searched_by request.policy request.size request.align (is_futile request.size request.align) s answer new c (futile_in_vain request.size request.align r.some) h r k e)
 
-  by_cramped : SearchesFor (height_of s) (cramped_gaps (tree_state s) request) request answer c
+  by_cramped : SearchesAmong (height_of s) (cramped_gaps (tree_state s) request) request answer c
   unfolding cramped_gaps
   by_cramped =
       rw (tree_blocks s h)
@@ -111,12 +107,12 @@ module _ (s : Shape) (request : Request) (answer : Result Range Error) (new : Ad
 
   pub searches_aligned : SearchesAligned (height_of s) (tree_state s) request answer c
   unfolding SearchesAligned
-  searches_aligned = of_lesser (λ v. SearchesFor (height_of s) v request answer c) (futile_gaps (tree_state s) request) (cramped_gaps (tree_state s) request) by_futile by_cramped
+  searches_aligned = of_lesser (λ v. SearchesAmong (height_of s) v request answer c) (futile_gaps (tree_state s) request) (cramped_gaps (tree_state s) request) by_futile by_cramped
 
 pub ruleset of_trees = (searches_gaps, searches_aligned)
 
 -- ---- requests that may make no sense
-none_searched : (h v : ℕ) (policy : AllocPolicy) (n a : ℕ) (e : Error) → SearchesFor h v (request_for n a policy) (Err e) 0
+none_searched : (h v : ℕ) (policy : AllocPolicy) (n a : ℕ) (e : Error) → SearchesAmong h v (request_for n a policy) (Err e) 0
 none_searched h v FirstMatch n a e = record { most = omega arith; none = λ k. omega arith }
 none_searched h v LastMatch n a e = record { most = omega arith; none = λ k. omega arith }
 none_searched h v (ExactMatch t) n a e = tt
