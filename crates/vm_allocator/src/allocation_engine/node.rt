@@ -2,7 +2,7 @@
 //! it enters: `count` rises by one for each, in `enter` alone.
 ghost use Rattle.std.specs.Prelude.{◌≡◌, ◌+◌, ◌<◌, ◌≤◌, ◌^◌, ◌↔◌, max, IsNone, MatchResult};
 ghost use Rattle.vm_allocator.specs.Range.{MAX};
-ghost use Rattle.vm_allocator.specs.Shape.{Tip, Fork, height_of, max_free_of, alignments_of, single, root_block, IsTree};
+ghost use Rattle.vm_allocator.specs.Shape.{Tip, Fork, height_of, single, root_block, IsTree};
 ghost use Rattle.vm_allocator.specs.NodeFields.{side};
 
 mod balance;
@@ -152,27 +152,5 @@ pub(crate) fn height(child: &Child) -> u64
     match child {
         None => 0,
         Some(node) => node.height,
-    }
-}
-
-/// The length of the longest free block below a child, 0 where there is none.
-#[inline(always)]
-pub(crate) fn max_free(child: &Child) -> u64
-    ensures value { result ≡ max_free_of (side child.now) }
-{
-    match child {
-        None => 0,
-        Some(node) => node.max_free,
-    }
-}
-
-/// How many of the 64 alignments have a multiple in a free block below a child.
-#[inline(always)]
-fn alignments(child: &Child) -> u8
-    ensures value { result ≡ alignments_of (side child.now) }
-{
-    match child {
-        None => 0,
-        Some(node) => node.alignments,
     }
 }

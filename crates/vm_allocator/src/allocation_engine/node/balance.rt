@@ -5,7 +5,7 @@ ghost use Rattle.vm_allocator.specs.Shape.{Fork, blocks, height_of, single, root
 ghost use Rattle.vm_allocator.specs.NodeFields.{side};
 ghost use Rattle.vm_allocator.specs.Settling.{IsSettled};
 
-use super::kept::{Room, refresh, room_of};
+use super::kept::{Room, kept_of, refresh, room_of};
 use super::{Child, InnerNode, height};
 
 /// What becomes of a node once one of its children has changed.
@@ -34,15 +34,15 @@ pub(super) fn settle(
     ensures left { IsTree (side left.old) }
     ensures right { IsTree (side right.old) }
 {
-    let left_height = height(left);
-    let right_height = height(right);
-    if left_height > right_height + 1 || right_height > left_height + 1 {
+    let first = kept_of(left);
+    let second = kept_of(right);
+    if first.height > second.height + 1 || second.height > first.height + 1 {
         *kept_height = 1;
         *max_free = own.longest;
         *alignments = own.alignments;
         return Settled::Leans(left.take(), right.take());
     }
-    let changed = refresh(left, right, own, kept_height, max_free, alignments);
+    let changed = refresh(first, second, own, kept_height, max_free, alignments);
     Settled::Stands(changed)
 }
 
@@ -89,8 +89,8 @@ pub(super) fn fork(left: Child, mut middle: Box<InnerNode>, right: Child) -> Box
     open.right = right;
     let own = room_of(&open.key, open.node_state);
     let _ = refresh(
-        &open.left,
-        &open.right,
+        kept_of(&open.left),
+        kept_of(&open.right),
         own,
         &mut open.height,
         &mut open.max_free,

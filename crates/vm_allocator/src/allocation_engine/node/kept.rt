@@ -2,11 +2,11 @@
 ghost use Rattle.std.specs.Prelude.{◌≡◌, ◌+◌, ◌<◌, ◌^◌, max};
 ghost use Rattle.vm_allocator.specs.Block.{free_length};
 ghost use Rattle.vm_allocator.specs.Multiples.{alignment_count, free_alignments};
-ghost use Rattle.vm_allocator.specs.Shape.{height_of, IsTree, IsSameIfNot};
+ghost use Rattle.vm_allocator.specs.Shape.{IsTree, IsSameIfNot};
 ghost use Rattle.vm_allocator.specs.NodeFields.{side};
-ghost use Rattle.vm_allocator.specs.Settling.{IsRoomOver};
+ghost use Rattle.vm_allocator.specs.Settling.{IsKeptOf, IsRoomOver};
 
-use super::{Child, alignments, height, max_free};
+use super::Child;
 use crate::allocation_engine::NodeState;
 use crate::range::RangeInclusive;
 
@@ -17,6 +17,15 @@ pub(super) struct Room {
     pub(super) longest: u64,
     /// How many of the 64 alignments have a multiple in a free block.
     pub(super) alignments: u8,
+}
+
+/// What a child keeps.
+#[derive(Clone, Copy, Debug)]
+pub(super) struct Kept {
+    /// How many nodes the longest way down from it has.
+    pub(super) height: u64,
+    /// What the free blocks of its tree have room for.
+    pub(super) room: Room,
 }
 
 /// What a block has room for: its clear addresses are all of a free one, none of a held one.
@@ -51,27 +60,49 @@ fn alignment_count(key: &RangeInclusive) -> u8
     ((start - 1) ^ key.end()).ilog2() as u8 + 1
 }
 
-/// Brings what a node keeps up to date; says whether a part of it changed.
+/// What a child keeps, all 0 where it is absent.
+#[inline(always)]
+pub(super) fn kept_of(child: &Child) -> Kept
+    ensures value { IsKeptOf (side child.now) result }
+    ensures tree { IsTree (side child.now) }
+{
+    match child {
+        None => Kept {
+            height: 0,
+            room: Room {
+                longest: 0,
+                alignments: 0,
+            },
+        },
+        Some(node) => Kept {
+            height: node.height,
+            room: Room {
+                longest: node.max_free,
+                alignments: node.alignments,
+            },
+        },
+    }
+}
+
+/// Brings what a node keeps up to date, from what its children keep; says whether a part of it changed.
 #[inline(always)]
 pub(super) fn refresh(
-    left: &Child,
-    right: &Child,
+    left: Kept,
+    right: Kept,
     own: Room,
     kept_height: &mut u64,
     max_free: &mut u64,
     alignments: &mut u8,
 ) -> bool
-    requires { max (height_of (side left.now)) (height_of (side right.now)) + 1 < 2 ^ 64 }
-    ensures height { kept_height.new ≡ max (height_of (side left.now)) (height_of (side right.now)) + 1 }
-    ensures room { IsRoomOver left.now right.now own max_free.new alignments.new }
-    ensures left { IsTree (side left.now) }
-    ensures right { IsTree (side right.now) }
+    requires { max left.height right.height + 1 < 2 ^ 64 }
+    ensures height { kept_height.new ≡ max left.height right.height + 1 }
+    ensures room { IsRoomOver left.room right.room own max_free.new alignments.new }
     ensures same { IsSameIfNot result kept_height.old kept_height.new }
     ensures same_longest { IsSameIfNot result max_free.old max_free.new }
     ensures same_alignments { IsSameIfNot result alignments.old alignments.new }
 {
-    let height = height(left).max(height(right)) + 1;
-    let changed = refresh_room(left, right, own, max_free, alignments);
+    let height = left.height.max(right.height) + 1;
+    let changed = refresh_room(left.room, right.room, own, max_free, alignments);
     if height == *kept_height {
         return changed;
     }
@@ -82,18 +113,18 @@ pub(super) fn refresh(
 /// Brings up to date what a node keeps of its tree's room; says whether a part of it changed.
 #[inline(always)]
 pub(super) fn refresh_room(
-    left: &Child,
-    right: &Child,
+    left: Room,
+    right: Room,
     own: Room,
     kept_longest: &mut u64,
     kept_alignments: &mut u8,
 ) -> bool
-    ensures room { IsRoomOver left.now right.now own kept_longest.new kept_alignments.new }
+    ensures room { IsRoomOver left right own kept_longest.new kept_alignments.new }
     ensures same_longest { IsSameIfNot result kept_longest.old kept_longest.new }
     ensures same_alignments { IsSameIfNot result kept_alignments.old kept_alignments.new }
 {
-    let longest = max_free(left).max(max_free(right)).max(own.longest);
-    let reached = alignments(left).max(alignments(right)).max(own.alignments);
+    let longest = left.longest.max(right.longest).max(own.longest);
+    let reached = left.alignments.max(right.alignments).max(own.alignments);
     if longest == *kept_longest && reached == *kept_alignments {
         return false;
     }

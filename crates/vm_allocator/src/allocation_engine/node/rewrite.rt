@@ -6,7 +6,7 @@ ghost use Rattle.vm_allocator.specs.Shape.{blocks, height_of, root_block, KeepsS
 ghost use Rattle.vm_allocator.specs.Ways.{way_to};
 ghost use Rattle.vm_allocator.specs.NodeFields.{side};
 
-use super::kept::{refresh_room, room_of};
+use super::kept::{kept_of, refresh_room, room_of};
 use super::{Child, InnerNode};
 use crate::allocation_engine::NodeState;
 use crate::range::RangeInclusive;
@@ -26,8 +26,8 @@ impl InnerNode {
         self.node_state = node_state;
         let own = room_of(&key, node_state);
         refresh_room(
-            &self.left,
-            &self.right,
+            kept_of(&self.left).room,
+            kept_of(&self.right).room,
             own,
             &mut self.max_free,
             &mut self.alignments,
@@ -72,8 +72,8 @@ impl InnerNode {
         }
         let own = room_of(&self.key, self.node_state);
         refresh_room(
-            &self.left,
-            &self.right,
+            kept_of(&self.left).room,
+            kept_of(&self.right).room,
             own,
             &mut self.max_free,
             &mut self.alignments,

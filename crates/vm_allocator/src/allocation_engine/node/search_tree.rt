@@ -9,7 +9,7 @@ ghost use Rattle.vm_allocator.specs.Ways.{way_down, way_to, way_across, way_to_r
 ghost use Rattle.vm_allocator.specs.NodeFields.{side};
 ghost use Rattle.vm_allocator.specs.NodeAnswer.{Inserts, TellsOverlap, RefusesKey, Marks, MarksBlock};
 
-use super::kept::{refresh_room, room_of};
+use super::kept::{kept_of, refresh_room, room_of};
 use super::link::link_at;
 use super::remove::{delete_at, join};
 use super::{InnerNode, height};
@@ -180,8 +180,8 @@ impl InnerNode {
         };
         let own = room_of(&self.key, self.node_state);
         refresh_room(
-            &self.left,
-            &self.right,
+            kept_of(&self.left).room,
+            kept_of(&self.right).room,
             own,
             &mut self.max_free,
             &mut self.alignments,
