@@ -1,10 +1,12 @@
 pub mod Ways
 pub mod WayBounds
 pub mod Carving
+pub mod Entering
 pub mod Searching
 pub mod GapSearch
 pub mod GapBounds
 pub mod Futile
+pub mod Cramped
 pub mod LeftClear
 pub mod Granting
 pub mod Releasing

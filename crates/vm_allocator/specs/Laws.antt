@@ -5,10 +5,13 @@ use Rattle.vm_allocator.specs.Range.{Range, MAX, Overlaps, Covers}
 use Rattle.vm_allocator.specs.Address.{AddressState, IsClear, LeavesClear, IsAddressState}
 use Rattle.vm_allocator.specs.Block.{Block, free_length}
 use Rattle.vm_allocator.specs.Fit.{HasNoFit}
-use Rattle.vm_allocator.specs.GapSearch.{is_futile, futile_gaps}
+use Rattle.vm_allocator.specs.Alignment.{IsAlignment}
+use Rattle.vm_allocator.specs.GapSearch.{is_futile, futile_gaps, is_cramped, cramped_gaps}
+use Rattle.vm_allocator.specs.Multiples.{HasMultiple, multiples_in}
 use Rattle.vm_allocator.specs.Request.{Request}
 use Rattle.vm_allocator.specs.Answer.{IsSplitRefusal, Takes, Allocates, Frees, Makes}
 use Rattle.vm_allocator.specs.declared.error.Error.{Error}
+use Rattle.vm_allocator.specs.declared.allocation_engine.NodeState.TheVariants.{Free}
 
 -- two answers and the states that they leave come from one range, which leaves a clear address beside it: each is the
 -- range taken or a split refused, and one of them at least is refused
@@ -102,3 +105,15 @@ CountTellsAll =
     (state : AddressState) (list : List Range) → IsAddressState state →
     AllPairs (λ r s. r ≢ s) list → All (Contains state.held) list →
     (length list ≡ length state.held) ↔ ((r : Range) → Contains state.held r → Contains list r)
+
+-- a gap is counted as cramped exactly where a multiple of the alignment lies in it, and no place for the addresses does
+abbrev pub CrampedIsTold : Type 0
+CrampedIsTold =
+    (n a : ℕ) (b : Block) → 0 < a →
+    (is_cramped n a b ≡ true) ↔ ((b.state ≡ Free) × HasMultiple a b.key × HasNoFit n a b)
+
+-- each cramped gap has a multiple of the alignment to itself, so there are no more than the space has
+abbrev pub CrampedAreFew : Type 0
+CrampedAreFew =
+    (state : AddressState) (request : Request) → IsAddressState state → IsAlignment request.align →
+    cramped_gaps state request ≤ multiples_in request.align state.space

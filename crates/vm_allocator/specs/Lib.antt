@@ -4,6 +4,7 @@ pub mod Block
 pub mod Address
 pub mod Request
 pub mod Alignment
+pub mod Multiples
 pub mod Answer
 pub mod Blocks
 pub mod Fit

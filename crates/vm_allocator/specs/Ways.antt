@@ -4,6 +4,7 @@ use Rattle.std.specs.List.{list_any}
 use Rattle.vm_allocator.specs.Range.{Range, MAX}
 use Rattle.vm_allocator.specs.RangeOrder.{same_range, comes_first}
 use Rattle.vm_allocator.specs.Block.{Block, is_free}
+use Rattle.vm_allocator.specs.Multiples.{has_aligned}
 use Rattle.vm_allocator.specs.BlockEdits.{before_part, after_part}
 use Rattle.vm_allocator.specs.Release.{at_address}
 use Rattle.vm_allocator.specs.Request.{Request}
@@ -98,20 +99,27 @@ multiple_from a x = x + (a - 1) - (x + (a - 1)) % a
 unfoldable pub has_fit : ℕ → ℕ → Block → Bool
 has_fit n a b = is_free b.state && nat_le (multiple_from a b.key.start + n) (b.key.end + 1)
 
--- what the search for the least place enters: none of a tree in which no free block is long enough, and else this node,
--- what the search of the left side enters, and where no place is found on the left or here what that of the right enters
+-- whether a search for n addresses at a multiple of a enters a tree: some free block of it is long enough, and a multiple
+-- lies in one
+unfoldable pub is_searched : ℕ → ℕ → Shape → Bool
+is_searched n a s = nat_le n (max_free_of s) && list_any (has_aligned a) (blocks s)
+
+-- what the search for the least place enters: none of a tree that it need not enter, and else this node, what the search
+-- of the left side enters, and where no place is found on the left or here what that of the right enters
 unfoldable pub way_of_first : ℕ → ℕ → Shape → ℕ
 way_of_first n a Tip = 0
 way_of_first n a (Fork l b r) =
-    if nat_lt (max_free_of (Fork l b r)) n then 0
-    else way_of_first n a l + (if list_any (has_fit n a) (blocks l) || has_fit n a b then 0 else way_of_first n a r) + 1
+    if is_searched n a (Fork l b r)
+    then way_of_first n a l + (if list_any (has_fit n a) (blocks l) || has_fit n a b then 0 else way_of_first n a r) + 1
+    else 0
 
 -- the same for the greatest place, from the right
 unfoldable pub way_of_last : ℕ → ℕ → Shape → ℕ
 way_of_last n a Tip = 0
 way_of_last n a (Fork l b r) =
-    if nat_lt (max_free_of (Fork l b r)) n then 0
-    else way_of_last n a r + (if list_any (has_fit n a) (blocks r) || has_fit n a b then 0 else way_of_last n a l) + 1
+    if is_searched n a (Fork l b r)
+    then way_of_last n a r + (if list_any (has_fit n a) (blocks r) || has_fit n a b then 0 else way_of_last n a l) + 1
+    else 0
 
 -- what the search by a policy enters: for a named start the way to the block that has it, if it is below MAX
 abbrev pub way_by : AllocPolicy → ℕ → ℕ → Shape → ℕ

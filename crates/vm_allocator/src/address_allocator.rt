@@ -6,7 +6,7 @@ ghost use Rattle.vm_allocator.specs.Answer.{Allocates, FillsGap, Frees, Makes};
 ghost use Rattle.vm_allocator.specs.Allocator.{state_of, made_state};
 ghost use Rattle.vm_allocator.specs.Cloning.{Clones};
 ghost use Rattle.vm_allocator.specs.Shape.{height_of};
-ghost use Rattle.vm_allocator.specs.GapSearch.{SearchesGaps};
+ghost use Rattle.vm_allocator.specs.GapSearch.{SearchesGaps, SearchesAligned};
 ghost use Rattle.vm_allocator.specs.Steps.{EntersToAllocate, EntersToFree, IsAllocationCount, IsReleaseCount, IsBalancedTreeOf, SplitsIfLow};
 
 use crate::allocation_engine::IntervalTree;
@@ -115,7 +115,8 @@ impl AddressAllocator {
     /// enters one at least, and one that leaves a part of its gap over h / 2 at least. Where v gaps
     /// are long enough and have no place all the same, the other policies enter at most
     /// h(v + 1) + 8h + 8, and at most hv where they answer `ResourceNotAvailable`; at alignment 1 no
-    /// gap is such.
+    /// gap is such. The same holds of w in the place of v, where w gaps have a multiple of the
+    /// alignment and no place: these are no more than the multiples in the space.
     #[tactic(auto, using(crate::proofs::answers::Requests::allocating, crate::proofs::nodes::Spaces::spaces, crate::proofs::answers::Filling::succeeding, crate::proofs::counts::Allocating::allocations, crate::proofs::counts::GapBounds::searches))]
     pub fn allocate_counted(
         &mut self,
@@ -137,6 +138,8 @@ impl AddressAllocator {
         ensures steps { IsAllocationCount (height_of self.old.tree) (state_of self.old)
             (request_for size alignment policy) result.0 result.1 }
         ensures search { SearchesGaps (height_of self.old.tree) (state_of self.old)
+            (request_for size alignment policy) result.0 result.1 }
+        ensures search_aligned { SearchesAligned (height_of self.old.tree) (state_of self.old)
             (request_for size alignment policy) result.0 result.1 }
     {
         match Constraint::new(size, alignment, policy) {

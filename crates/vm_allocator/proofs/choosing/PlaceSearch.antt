@@ -1,7 +1,7 @@
 -- The first and the last fit of a tree, from those of its sides.
 use Rattle.std.specs.Option.{is_some}
 use Rattle.std.specs.Prelude.{MatchOption}
-use Rattle.std.proofs.Common.{false, ◌≡◌, ℕ, Option, Some, None, List, [], ◌∷◌, ◌++◌, refl, sym, ap, ◌∙◌, subst, append_assoc}
+use Rattle.std.proofs.Common.{true, false, ◌≡◌, ℕ, Option, Some, None, List, [], ◌∷◌, ◌++◌, refl, sym, ap, ◌∙◌, subst, append_assoc}
 use Rattle.std.specs.List.{All}
 use Rattle.std.proofs.lemmas.List.Elements.{All-head, All-tail, All-cons}
 use Rattle.vm_allocator.specs.Block.{Block}
@@ -105,6 +105,14 @@ first_through_right n a s l b r (Some place) e h k m = first_in_right n a s l b 
 pub last_through_left : (n a : ℕ) (s l : Shape) (b : Block) (r : Shape) (found : Option Place) → s ≡ Fork l b r → All (HasNoFit n a) (blocks r) → HasNoFit n a b → FindsLast n a (blocks l) found → FindsLast n a (blocks s) found
 last_through_left n a s l b r None e h k m = none_of n a s l b r e m k h
 last_through_left n a s l b r (Some place) e h k m = last_in_left n a s l b r place e h k m
+
+pub some_is_not_none : (found : Option Place) → found ≡ None → is_some found ≡ true → ⊥
+some_is_not_none found e i = absurd (cc (ap is_some e, i))
+
+-- what is found in the right side is the last of the whole tree
+pub last_if_found : (n a : ℕ) (s l : Shape) (b : Block) (r : Shape) (found : Option Place) → s ≡ Fork l b r → is_some found ≡ true → FindsLast n a (blocks r) found → FindsLast n a (blocks s) found
+last_if_found n a s l b r None e i m = absurd (cc i)
+last_if_found n a s l b r (Some place) e i m = last_in_right n a s l b r place e m
 
 pub ruleset firsts = (first_in_left, first_here, first_through_right)
 

@@ -12,7 +12,7 @@ use Rattle.vm_allocator.specs.GapSearch.{is_futile, futile_among, futile_gaps}
 use Rattle.vm_allocator.specs.Laws.{FutileIsTold, NoneIsFutileAtOne}
 use Rattle.vm_allocator.specs.Release.{held_block}
 use Rattle.vm_allocator.specs.Ways.{has_fit}
-use Rattle.vm_allocator.proofs.counts.GapSearch.{futile_append}
+use Rattle.vm_allocator.proofs.counts.GapSearch.{among_append}
 use Rattle.vm_allocator.proofs.counts.Searching.{fit_found, no_fit_missed}
 
 not_true : (t : Bool) → not t ≡ true → t ≡ false
@@ -56,8 +56,8 @@ none_between n lo hi (r ∷ rs) z =
     let rest = blocks_between (r.end + 1) rs hi in
     omega (
       arith,
-      futile_append n 1 (gap_before lo r.start) (held_block r ∷ rest),
-      futile_append n 1 (held_block r ∷ []) rest,
+      among_append (is_futile n 1) (gap_before lo r.start) (held_block r ∷ rest),
+      among_append (is_futile n 1) (held_block r ∷ []) rest,
       gap_has_none n lo r.start z,
       held_has_none n r z,
       none_between n (r.end + 1) hi rs z,

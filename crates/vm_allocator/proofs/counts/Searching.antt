@@ -1,21 +1,21 @@
 -- How many nodes a search for a place enters, case by case, and at most.
 use Rattle.std.specs.Prelude.{◌||◌}
-use Rattle.std.proofs.Common.{◌≡◌, ℕ, ◌+◌, ◌-◌, ◌<◌, ◌≤◌, Bool, true, false, cond, leb, ltb, List, [], ◌∷◌, ◌++◌, refl, ap, ◌∙◌, arith}
+use Rattle.std.proofs.Common.{◌≡◌, ℕ, ◌+◌, ◌-◌, ◌<◌, ◌≤◌, Bool, true, false, cond, leb, List, [], ◌∷◌, ◌++◌, refl, ap, ◌∙◌, arith}
 use Rattle.std.specs.List.{All, list_any}
-use Rattle.std.proofs.lemmas.List.Elements.{All-nil, All-head, All-tail}
+use Rattle.std.proofs.lemmas.List.Elements.{All-head, All-tail}
 use Rattle.std.proofs.lemmas.List.Folds.{list_any-append}
-use Rattle.std.proofs.lemmas.Bool.{and_parts, leb-true, le-leb, lt-ltb, le-ltb, false_from_ne_true}
+use Rattle.std.proofs.lemmas.Bool.{and_parts, leb-true, le-leb, false_from_ne_true}
 use Rattle.vm_allocator.specs.Alignment.{IsAlignment, IsLeastMultiple}
-use Rattle.vm_allocator.specs.Block.{Block, is_free, free_length}
+use Rattle.vm_allocator.specs.Block.{Block, is_free}
 use Rattle.vm_allocator.specs.BlockEdits.{free_block}
 use Rattle.vm_allocator.specs.Fit.{IsFit, HasNoFit, IsLeastFit, IsGreatestFit}
 use Rattle.vm_allocator.specs.Place.{IsFirstFit, IsLastFit}
-use Rattle.vm_allocator.specs.Shape.{Shape, Tip, Fork, blocks, height_of, max_free_of, node_count}
-use Rattle.vm_allocator.specs.Ways.{multiple_from, has_fit, way_of_first, way_of_last}
+use Rattle.vm_allocator.specs.Shape.{Shape, Tip, Fork, blocks, height_of, node_count}
+use Rattle.vm_allocator.specs.Ways.{multiple_from, has_fit, is_searched, way_of_first, way_of_last}
 use Rattle.vm_allocator.specs.declared.allocation_engine.NodeState.{NodeState}
 use Rattle.vm_allocator.specs.declared.allocation_engine.NodeState.TheVariants.{Free, Allocated}
 use Rattle.vm_allocator.specs.declared.allocation_engine.node.places.Place.{Place}
-use Rattle.vm_allocator.proofs.choosing.PlaceSearch.{none_of}
+use Rattle.vm_allocator.proofs.counts.Entering.{none_unless_searched}
 use Rattle.vm_allocator.proofs.numbers.Power.{alignment_pos, greatest_multiple, least_multiple}
 
 -- ---- the test tells whether a block has a fit
@@ -61,57 +61,52 @@ unfolding IsGreatestFit
 last_found n a bs place p f =
     ap (list_any (has_fit n a)) f.cut ∙ one_found n a f.before (free_block place.key) f.after (fit_found n a place.start (free_block place.key) p f.fit.0)
 
--- ---- a tree without a free block that is long enough is passed over
-short_without_fit : (n a : ℕ) (b : Block) → free_length b < n → HasNoFit n a b
-unfolding HasNoFit
-short_without_fit n a b p = λ t f. let free : free_length b ≡ b.key.end - b.key.start + 1 = rw f.0 refl in omega (arith, f.2, f.3)
-
-pub none_in_short : (n a : ℕ) (s : Shape) → max_free_of s < n → All (HasNoFit n a) (blocks s)
-none_in_short n a Tip p = All-nil (HasNoFit n a)
-none_in_short n a (Fork l b r) p =
-    none_of n a (Fork l b r) l b r refl (none_in_short n a l (omega arith)) (short_without_fit n a b (omega arith)) (none_in_short n a r (omega arith))
-
-pub first_way_short : (n a : ℕ) (s : Shape) → max_free_of s < n → way_of_first n a s ≡ 0
+-- ---- a tree that is not searched is passed over
+pub first_way_passed : (n a : ℕ) (s : Shape) → is_searched n a s ≡ false → way_of_first n a s ≡ 0
 unfolding way_of_first
-first_way_short n a Tip p = refl
-first_way_short n a (Fork l b r) p = rw (lt-ltb (max_free_of (Fork l b r)) n p) refl
+first_way_passed n a Tip e = refl
+first_way_passed n a (Fork l b r) e = rw e refl
 
-pub last_way_short : (n a : ℕ) (s : Shape) → max_free_of s < n → way_of_last n a s ≡ 0
+pub last_way_passed : (n a : ℕ) (s : Shape) → is_searched n a s ≡ false → way_of_last n a s ≡ 0
 unfolding way_of_last
-last_way_short n a Tip p = refl
-last_way_short n a (Fork l b r) p = rw (lt-ltb (max_free_of (Fork l b r)) n p) refl
+last_way_passed n a Tip e = refl
+last_way_passed n a (Fork l b r) e = rw e refl
 
 -- ---- the search for the least place
-module _ (n a : ℕ) (l : Shape) (b : Block) (r : Shape) (u : IsAlignment a) (long : n ≤ max_free_of (Fork l b r)) where
+module _ (n a : ℕ) (l : Shape) (b : Block) (r : Shape) (u : IsAlignment a) (entered : is_searched n a (Fork l b r) ≡ true) where
   pub first_way_left : (place : Place) → IsFirstFit n a (blocks l) place → way_of_first n a (Fork l b r) ≡ way_of_first n a l + 1
   unfolding way_of_first
-  first_way_left place f = rw (le-ltb (max_free_of (Fork l b r)) n long, first_found n a (blocks l) place (alignment_pos a u) f) (omega arith)
+  first_way_left place f = rw (entered, first_found n a (blocks l) place (alignment_pos a u) f) (omega arith)
 
   pub first_way_here : (t : ℕ) → All (HasNoFit n a) (blocks l) → IsLeastFit n a b t → way_of_first n a (Fork l b r) ≡ way_of_first n a l + 1
   unfolding way_of_first IsLeastFit
-  first_way_here t none f = rw (le-ltb (max_free_of (Fork l b r)) n long, none_missed n a (blocks l) (alignment_pos a u) none, fit_found n a t b (alignment_pos a u) f.0) (omega arith)
+  first_way_here t none f = rw (entered, none_missed n a (blocks l) (alignment_pos a u) none, fit_found n a t b (alignment_pos a u) f.0) (omega arith)
 
   pub first_way_right : All (HasNoFit n a) (blocks l) → HasNoFit n a b → way_of_first n a (Fork l b r) ≡ way_of_first n a l + way_of_first n a r + 1
   unfolding way_of_first
-  first_way_right none h = rw (le-ltb (max_free_of (Fork l b r)) n long, none_missed n a (blocks l) (alignment_pos a u) none, no_fit_missed n a b (alignment_pos a u) h) refl
+  first_way_right none h = rw (entered, none_missed n a (blocks l) (alignment_pos a u) none, no_fit_missed n a b (alignment_pos a u) h) refl
 
   -- ---- the search for the greatest place
   pub last_way_right : (place : Place) → IsLastFit n a (blocks r) place → way_of_last n a (Fork l b r) ≡ way_of_last n a r + 1
   unfolding way_of_last
-  last_way_right place f = rw (le-ltb (max_free_of (Fork l b r)) n long, last_found n a (blocks r) place (alignment_pos a u) f) (omega arith)
+  last_way_right place f = rw (entered, last_found n a (blocks r) place (alignment_pos a u) f) (omega arith)
 
   pub last_way_here : (t : ℕ) → All (HasNoFit n a) (blocks r) → IsGreatestFit n a b t → way_of_last n a (Fork l b r) ≡ way_of_last n a r + 1
   unfolding way_of_last IsGreatestFit
-  last_way_here t none f = rw (le-ltb (max_free_of (Fork l b r)) n long, none_missed n a (blocks r) (alignment_pos a u) none, fit_found n a t b (alignment_pos a u) f.0) (omega arith)
+  last_way_here t none f = rw (entered, none_missed n a (blocks r) (alignment_pos a u) none, fit_found n a t b (alignment_pos a u) f.0) (omega arith)
 
   pub last_way_left : All (HasNoFit n a) (blocks r) → HasNoFit n a b → way_of_last n a (Fork l b r) ≡ way_of_last n a r + way_of_last n a l + 1
   unfolding way_of_last
-  last_way_left none h = rw (le-ltb (max_free_of (Fork l b r)) n long, none_missed n a (blocks r) (alignment_pos a u) none, no_fit_missed n a b (alignment_pos a u) h) refl
+  last_way_left none h = rw (entered, none_missed n a (blocks r) (alignment_pos a u) none, no_fit_missed n a b (alignment_pos a u) h) refl
 
 -- ---- at most
 pub height_at_most_nodes : (s : Shape) → height_of s ≤ node_count s
 height_at_most_nodes Tip = omega arith
 height_at_most_nodes (Fork l b r) = omega (arith, height_at_most_nodes l, height_at_most_nodes r)
+
+if_at_most : (t : Bool) (x most : ℕ) → x ≤ most → cond t x 0 ≤ most
+if_at_most true x most p = p
+if_at_most false x most p = omega arith
 
 none_or_at_most : (t : Bool) (x most : ℕ) → x ≤ most → cond t 0 x ≤ most
 none_or_at_most true x most p = omega arith
@@ -122,15 +117,15 @@ unfolding way_of_first
 first_way_at_most n a Tip = omega arith
 first_way_at_most n a (Fork l b r) =
     let right = none_or_at_most (list_any (has_fit n a) (blocks l) || has_fit n a b) (way_of_first n a r) (node_count r) (first_way_at_most n a r) in
-    none_or_at_most (ltb (max_free_of (Fork l b r)) n) _ (node_count (Fork l b r)) (omega (arith, first_way_at_most n a l, right))
+    if_at_most (is_searched n a (Fork l b r)) _ (node_count (Fork l b r)) (omega (arith, first_way_at_most n a l, right))
 
 pub last_way_at_most : (n a : ℕ) (s : Shape) → way_of_last n a s ≤ node_count s
 unfolding way_of_last
 last_way_at_most n a Tip = omega arith
 last_way_at_most n a (Fork l b r) =
     let left = none_or_at_most (list_any (has_fit n a) (blocks r) || has_fit n a b) (way_of_last n a l) (node_count l) (last_way_at_most n a l) in
-    none_or_at_most (ltb (max_free_of (Fork l b r)) n) _ (node_count (Fork l b r)) (omega (arith, last_way_at_most n a r, left))
+    if_at_most (is_searched n a (Fork l b r)) _ (node_count (Fork l b r)) (omega (arith, last_way_at_most n a r, left))
 
-pub ruleset firsts = (none_in_short, first_way_short, first_way_left, first_way_here, first_way_right, first_way_at_most, height_at_most_nodes)
+pub ruleset firsts = (none_unless_searched, first_way_passed, first_way_left, first_way_here, first_way_right, first_way_at_most, height_at_most_nodes)
 
-pub ruleset lasts = (none_in_short, last_way_short, last_way_right, last_way_here, last_way_left, last_way_at_most, height_at_most_nodes)
+pub ruleset lasts = (none_unless_searched, last_way_passed, last_way_right, last_way_here, last_way_left, last_way_at_most, height_at_most_nodes)

@@ -8,6 +8,7 @@ use Want::{Held, NoAlignment, NoSize, NotAvailable, Overflow, Range, Unaligned, 
 use std::process::Abort;
 use std::test::Fail;
 
+mod aligned;
 mod comparing;
 mod departures;
 mod ends;

@@ -6,7 +6,7 @@ ghost use Rattle.vm_allocator.specs.Address.{IsAddressState};
 ghost use Rattle.vm_allocator.specs.Answer.{Settles, Frees};
 ghost use Rattle.vm_allocator.specs.Cloning.{Clones};
 ghost use Rattle.vm_allocator.specs.Shape.{blocks, height_of, node_count, IsTree};
-ghost use Rattle.vm_allocator.specs.GapSearch.{SearchesGaps};
+ghost use Rattle.vm_allocator.specs.GapSearch.{SearchesGaps, SearchesAligned};
 ghost use Rattle.vm_allocator.specs.Steps.{Enters, EntersToFree, IsBalancedTreeOf, IsSettlingCount, IsReleaseCount, SplitsIfLow};
 ghost use Rattle.vm_allocator.specs.SpaceTree.{tree_state, IsSpaceTree, MakesTree};
 
@@ -123,7 +123,7 @@ impl IntervalTree {
     }
 
     /// `allocate`, and how many nodes it entered.
-    #[tactic(auto, using(crate::proofs::counts::Granting::settlings, crate::proofs::counts::GapBounds::searches_gaps))]
+    #[tactic(auto, using(crate::proofs::counts::Granting::settlings, crate::proofs::counts::GapBounds::of_trees))]
     pub(crate) fn allocate_counted(
         &mut self,
         alloc: Global,
@@ -135,6 +135,8 @@ impl IntervalTree {
         ensures count { Enters self.old constraint result.0 0 result.1 }
         ensures steps { IsSettlingCount (height_of self.old) (tree_state self.old) constraint result.0 result.1 }
         ensures search { SearchesGaps (height_of self.old) (tree_state self.old) constraint result.0 result.1 }
+        ensures search_aligned { SearchesAligned (height_of self.old) (tree_state self.old)
+            constraint result.0 result.1 }
     {
         let _ = self.height();
         let mut count = 0;

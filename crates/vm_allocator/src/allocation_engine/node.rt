@@ -2,13 +2,13 @@
 //! it enters: `count` rises by one for each, in `enter` alone.
 ghost use Rattle.std.specs.Prelude.{◌≡◌, ◌+◌, ◌<◌, ◌≤◌, ◌^◌, ◌↔◌, max, IsNone, MatchResult};
 ghost use Rattle.vm_allocator.specs.Range.{MAX};
-ghost use Rattle.vm_allocator.specs.Block.{free_length};
-ghost use Rattle.vm_allocator.specs.Shape.{Tip, Fork, height_of, max_free_of, single, root_block, IsTree};
+ghost use Rattle.vm_allocator.specs.Shape.{Tip, Fork, height_of, single, root_block, IsTree};
 ghost use Rattle.vm_allocator.specs.NodeFields.{side};
 
 mod balance;
 pub(crate) mod carve;
 mod find;
+mod kept;
 mod laws;
 mod link;
 pub(crate) mod neighbours;
@@ -21,6 +21,7 @@ mod tests;
 pub(crate) mod walks;
 
 use self::balance::fork;
+use self::kept::room_of;
 use crate::allocation_engine::NodeState;
 use crate::error::{Error, Result};
 use crate::range::RangeInclusive;
@@ -28,12 +29,14 @@ use std::alloc::Global;
 use std::marker::Model;
 
 /// A node of the tree, with the tree below it: keys in order without an address in common, the
-/// heights of its children at most one apart, its own height kept, and the length of the longest free
-/// block of its tree, 0 where it has none.
+/// heights of its children at most one apart, its own height kept, the length of the longest free block
+/// of its tree, 0 where it has none, and how many of the 64 alignments have a multiple in a free block
+/// of its tree. That is a byte beside the state, so that a node has 72.
 #[derive(Debug, Drop)]
 pub(crate) struct InnerNode {
     key: RangeInclusive,
     node_state: NodeState,
+    alignments: u8,
     left: Option<Box<InnerNode>>,
     right: Option<Box<InnerNode>>,
     height: u64,
@@ -68,13 +71,15 @@ impl InnerNode {
     pub(crate) fn new(key: RangeInclusive, node_state: NodeState) -> InnerNode
         ensures { result ≡ single (record { key = key; state = node_state }) }
     {
+        let own = room_of(&key, node_state);
         InnerNode {
             key,
             node_state,
+            alignments: own.alignments,
             left: None,
             right: None,
             height: 1,
-            max_free: free_length(&key, node_state),
+            max_free: own.longest,
         }
     }
 
@@ -137,17 +142,6 @@ impl InnerNode {
     }
 }
 
-/// How many clear addresses a block has: all of a free one, none of a held one.
-#[inline(always)]
-pub(crate) fn free_length(key: &RangeInclusive, node_state: NodeState) -> u64
-    ensures { result ≡ free_length (record { key = key.now; state = node_state }) }
-{
-    match node_state {
-        NodeState::Free => key.len(),
-        NodeState::Allocated => 0,
-    }
-}
-
 /// The height of a child, 0 where it is absent.
 #[inline(always)]
 pub(crate) fn height(child: &Child) -> u64
@@ -158,16 +152,5 @@ pub(crate) fn height(child: &Child) -> u64
     match child {
         None => 0,
         Some(node) => node.height,
-    }
-}
-
-/// The length of the longest free block below a child, 0 where there is none.
-#[inline(always)]
-pub(crate) fn max_free(child: &Child) -> u64
-    ensures value { result ≡ max_free_of (side child.now) }
-{
-    match child {
-        None => 0,
-        Some(node) => node.max_free,
     }
 }

@@ -1,4 +1,4 @@
-ghost use Rattle.vm_allocator.specs.Laws.{AllocatesOnce, FreesOnce, StateIsKept, HeldLieApart, AllocatingAddsRange, FreeingTakesRange, FreeingUndoes, FutileIsTold, NoneIsFutileAtOne, CountTellsAll};
+ghost use Rattle.vm_allocator.specs.Laws.{AllocatesOnce, FreesOnce, StateIsKept, HeldLieApart, AllocatingAddsRange, FreeingTakesRange, FreeingUndoes, FutileIsTold, NoneIsFutileAtOne, CountTellsAll, CrampedIsTold, CrampedAreFew};
 
 /// The state of an allocator decides its answer to a request and the state after it, the refusal of
 /// a split for memory or for depth aside.
@@ -40,4 +40,12 @@ fn futile_gaps_are_told()
 #[tactic(auto, using(crate::proofs::blocks::HeldLists::listings))]
 fn counts_tell_all()
     ensures { CountTellsAll }
+{}
+
+/// The test by which cramped gaps are counted tells the truth, and there are at most as many as
+/// multiples of the alignment in the space.
+#[tactic(auto, using(crate::proofs::counts::Cramped::cramped))]
+fn cramped_gaps_are_told()
+    ensures told { CrampedIsTold }
+    ensures few { CrampedAreFew }
 {}

@@ -1,11 +1,12 @@
-//! What a node keeps, and rotations. Nothing here calls itself, and nothing takes memory.
+//! Rotations, and what comes before them. Nothing here calls itself, and nothing takes memory.
 ghost use Rattle.std.specs.Prelude.{◌≡◌, ◌+◌, ◌<◌, ◌≤◌, ◌^◌, ◌++◌, ◌∷◌, max, true, None, IsSome, ◌↔◌, IsNone};
 ghost use Rattle.vm_allocator.specs.BlockList.{IsOrderedFrom};
-ghost use Rattle.vm_allocator.specs.Shape.{Fork, blocks, height_of, max_free_of, single, root_block, IsTree, DifferByAtMost, IsSameIfNot, IsLeaf, CanBalance, Balances};
+ghost use Rattle.vm_allocator.specs.Shape.{Fork, blocks, height_of, single, root_block, IsTree, DifferByAtMost, IsLeaf, CanBalance, Balances};
 ghost use Rattle.vm_allocator.specs.NodeFields.{side};
 ghost use Rattle.vm_allocator.specs.Settling.{IsSettled};
 
-use super::{Child, InnerNode, free_length, height, max_free};
+use super::kept::{Room, kept_of, refresh, room_of};
+use super::{Child, InnerNode, height};
 
 /// What becomes of a node once one of its children has changed.
 #[derive(Drop)]
@@ -17,69 +18,32 @@ pub(super) enum Settled {
 }
 
 /// Brings what a node keeps up to date, or takes its children out where they are to be balanced.
-/// `own` is the free length of the node's own block.
+/// `own` is the room of the node's own block.
 #[inline(always)]
 pub(super) fn settle(
     left: &mut Child,
     right: &mut Child,
-    own: u64,
+    own: Room,
     kept_height: &mut u64,
     max_free: &mut u64,
+    alignments: &mut u8,
 ) -> Settled
     requires { max (height_of (side left.old)) (height_of (side right.old)) + 1 < 2 ^ 64 }
-    ensures settled { IsSettled left.old right.old own kept_height.old max_free.old
-        result left.new right.new kept_height.new max_free.new }
+    ensures settled { IsSettled left.old right.old own kept_height.old max_free.old alignments.old
+        result left.new right.new kept_height.new max_free.new alignments.new }
     ensures left { IsTree (side left.old) }
     ensures right { IsTree (side right.old) }
 {
-    let left_height = height(left);
-    let right_height = height(right);
-    if left_height > right_height + 1 || right_height > left_height + 1 {
+    let first = kept_of(left);
+    let second = kept_of(right);
+    if first.height > second.height + 1 || second.height > first.height + 1 {
         *kept_height = 1;
-        *max_free = own;
+        *max_free = own.longest;
+        *alignments = own.alignments;
         return Settled::Leans(left.take(), right.take());
     }
-    Settled::Stands(refresh(left, right, own, kept_height, max_free))
-}
-
-/// Brings the kept height and the kept length of a node up to date; says whether one of them changed.
-#[inline(always)]
-pub(super) fn refresh(
-    left: &Child,
-    right: &Child,
-    own: u64,
-    kept_height: &mut u64,
-    max_free: &mut u64,
-) -> bool
-    requires { max (height_of (side left.now)) (height_of (side right.now)) + 1 < 2 ^ 64 }
-    ensures height { kept_height.new ≡ max (height_of (side left.now)) (height_of (side right.now)) + 1 }
-    ensures longest { max_free.new ≡ max (max (max_free_of (side left.now)) (max_free_of (side right.now))) own }
-    ensures left { IsTree (side left.now) }
-    ensures right { IsTree (side right.now) }
-    ensures same { IsSameIfNot result kept_height.old kept_height.new }
-    ensures same_longest { IsSameIfNot result max_free.old max_free.new }
-{
-    let height = height(left).max(height(right)) + 1;
-    let changed = refresh_longest(left, right, own, max_free);
-    if height == *kept_height {
-        return changed;
-    }
-    *kept_height = height;
-    true
-}
-
-/// Brings the kept length of a node up to date; says whether it changed.
-#[inline(always)]
-pub(super) fn refresh_longest(left: &Child, right: &Child, own: u64, kept: &mut u64) -> bool
-    ensures longest { kept.new ≡ max (max (max_free_of (side left.now)) (max_free_of (side right.now))) own }
-    ensures same { IsSameIfNot result kept.old kept.new }
-{
-    let longest = max_free(left).max(max_free(right)).max(own);
-    if longest == *kept {
-        return false;
-    }
-    *kept = longest;
-    true
+    let changed = refresh(first, second, own, kept_height, max_free, alignments);
+    Settled::Stands(changed)
 }
 
 impl InnerNode {
@@ -92,8 +56,10 @@ impl InnerNode {
         ensures height_fits { height_of self.old < 2 ^ 64 }
     {
         let sides = (self.left.take(), self.right.take());
+        let own = room_of(&self.key, self.node_state);
         self.height = 1;
-        self.max_free = free_length(&self.key, self.node_state);
+        self.max_free = own.longest;
+        self.alignments = own.alignments;
         sides
     }
 }
@@ -121,13 +87,14 @@ pub(super) fn fork(left: Child, mut middle: Box<InnerNode>, right: Child) -> Box
     let open = &mut *middle;
     open.left = left;
     open.right = right;
-    let own = free_length(&open.key, open.node_state);
+    let own = room_of(&open.key, open.node_state);
     let _ = refresh(
-        &open.left,
-        &open.right,
+        kept_of(&open.left),
+        kept_of(&open.right),
         own,
         &mut open.height,
         &mut open.max_free,
+        &mut open.alignments,
     );
     middle
 }

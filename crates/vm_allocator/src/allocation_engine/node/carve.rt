@@ -8,8 +8,9 @@ ghost use Rattle.vm_allocator.specs.Ways.{way_to_link, way_here, way_to_carve};
 ghost use Rattle.vm_allocator.specs.NodeFields.{side};
 
 use super::balance::{Settled, rebalance, settle};
+use super::kept::room_of;
 use super::link::link_at;
-use super::{Child, InnerNode, free_length, height};
+use super::{Child, InnerNode, height};
 use crate::allocation_engine::NodeState;
 use crate::range::RangeInclusive;
 use std::cmp::Ordering;
@@ -61,13 +62,14 @@ fn carve_here(at: &mut Child, range: RangeInclusive, rest: Rest, count: &mut u64
     tree.node_state = NodeState::Allocated;
     link_if(&mut tree.left, rest.before, count);
     link_if(&mut tree.right, rest.after, count);
-    let own = free_length(&tree.key, tree.node_state);
+    let own = room_of(&tree.key, tree.node_state);
     match settle(
         &mut tree.left,
         &mut tree.right,
         own,
         &mut tree.height,
         &mut tree.max_free,
+        &mut tree.alignments,
     ) {
         Settled::Stands(changed) => changed,
         Settled::Leans(left, right) => rebalance(at, left, right),
@@ -103,13 +105,14 @@ pub(crate) fn carve_at(
     if !changed {
         return false;
     }
-    let own = free_length(&tree.key, tree.node_state);
+    let own = room_of(&tree.key, tree.node_state);
     match settle(
         &mut tree.left,
         &mut tree.right,
         own,
         &mut tree.height,
         &mut tree.max_free,
+        &mut tree.alignments,
     ) {
         Settled::Stands(changed) => changed,
         Settled::Leans(left, right) => rebalance(at, left, right),

@@ -7,7 +7,8 @@ ghost use Rattle.vm_allocator.specs.Ways.{way_down};
 ghost use Rattle.vm_allocator.specs.NodeFields.{side};
 
 use super::balance::{Settled, rebalance, settle};
-use super::{Child, InnerNode, free_length};
+use super::kept::room_of;
+use super::{Child, InnerNode};
 
 /// Adds a leaf at a place, below the node there if there is one; says whether the height changed.
 #[tactic(auto, using(crate::proofs::blocks::Order::links, crate::proofs::nodes::SideChange::places, crate::proofs::counts::Ways::ways_down))]
@@ -36,13 +37,14 @@ pub(super) fn link_at(at: &mut Child, leaf: Box<InnerNode>, count: &mut u64) -> 
     if !changed {
         return false;
     }
-    let own = free_length(&tree.key, tree.node_state);
+    let own = room_of(&tree.key, tree.node_state);
     match settle(
         &mut tree.left,
         &mut tree.right,
         own,
         &mut tree.height,
         &mut tree.max_free,
+        &mut tree.alignments,
     ) {
         Settled::Stands(changed) => changed,
         Settled::Leans(left, right) => rebalance(at, left, right),

@@ -1,11 +1,11 @@
 //! The searches for the place of a request.
-ghost use Rattle.std.specs.Prelude.{◌≡◌, ◌+◌, ◌<◌, ◌≤◌, MatchOption};
+ghost use Rattle.std.specs.Prelude.{◌≡◌, ◌+◌, ◌<◌, ◌≤◌, true, false, MatchOption};
 ghost use Rattle.vm_allocator.specs.Range.{MAX};
 ghost use Rattle.vm_allocator.specs.Alignment.{IsAlignment};
 ghost use Rattle.vm_allocator.specs.Fit.{FindsLeastFit, FindsGreatestFit};
 ghost use Rattle.vm_allocator.specs.Place.{FindsFirst, FindsLast};
-ghost use Rattle.vm_allocator.specs.Shape.{blocks, max_free_of, node_count};
-ghost use Rattle.vm_allocator.specs.Ways.{way_of_first, way_of_last};
+ghost use Rattle.vm_allocator.specs.Shape.{blocks, node_count};
+ghost use Rattle.vm_allocator.specs.Ways.{is_searched, way_of_first, way_of_last};
 ghost use Rattle.vm_allocator.specs.NodeFields.{side};
 
 use super::{Child, InnerNode};
@@ -59,17 +59,20 @@ fn greatest_fit(key: &RangeInclusive, state: NodeState, size: u64, alignment: u6
     if start <= place { Some(place) } else { None }
 }
 
-/// The tree, if one of its free blocks is long enough for `size` addresses.
+/// The tree, if one of its free blocks is long enough for `size` addresses, and a multiple of the
+/// alignment lies in one of them.
 #[inline(always)]
-fn roomy(tree: &Child, size: u64) -> Option<&InnerNode>
-    requires { 0 < size }
+#[tactic(auto, using(crate::proofs::counts::Entering::searched))]
+fn roomy(tree: &Child, size: u64, alignment: u64) -> Option<&InnerNode>
+    requires sized { 0 < size }
+    requires aligned { IsAlignment alignment }
     ensures { MatchOption result
-        (max_free_of (side tree.now) < size)
-        (λ node. (side tree.now ≡ node.now) × (size ≤ max_free_of node.now)) }
+        (is_searched size alignment (side tree.now) ≡ false)
+        (λ node. (side tree.now ≡ node.now) × (is_searched size alignment node.now ≡ true)) }
 {
     let Some(node) = tree else { return None };
     let node: &InnerNode = node;
-    if node.max_free < size {
+    if node.max_free < size || u32::from(node.alignments) <= alignment.trailing_zeros() {
         None
     } else {
         Some(node)
@@ -85,7 +88,7 @@ pub(crate) fn first_place(tree: &Child, size: u64, alignment: u64, count: &mut u
     ensures place { FindsFirst size alignment (blocks (side tree.now)) result }
     ensures count { count.new ≡ count.old + way_of_first size alignment (side tree.now) }
 {
-    match roomy(tree, size) {
+    match roomy(tree, size, alignment) {
         None => None,
         Some(node) => node.first_place(size, alignment, count),
     }
@@ -100,7 +103,7 @@ pub(crate) fn last_place(tree: &Child, size: u64, alignment: u64, count: &mut u6
     ensures place { FindsLast size alignment (blocks (side tree.now)) result }
     ensures count { count.new ≡ count.old + way_of_last size alignment (side tree.now) }
 {
-    match roomy(tree, size) {
+    match roomy(tree, size, alignment) {
         None => None,
         Some(node) => node.last_place(size, alignment, count),
     }
@@ -112,13 +115,13 @@ impl InnerNode {
     fn first_place(&self, size: u64, alignment: u64, count: &mut u64) -> Option<Place>
         requires sized { 0 < size }
         requires aligned { IsAlignment alignment }
-        requires roomy { size ≤ max_free_of self.now }
+        requires roomy { is_searched size alignment self.now ≡ true }
         requires count_fits { count.old + node_count self.now ≤ MAX }
         ensures place { FindsFirst size alignment (blocks self.now) result }
         ensures count { count.new ≡ count.old + way_of_first size alignment self.now }
     {
         self.enter(count);
-        let found = match roomy(&self.left, size) {
+        let found = match roomy(&self.left, size, alignment) {
             None => None,
             Some(left) => left.first_place(size, alignment, count),
         };
@@ -131,7 +134,7 @@ impl InnerNode {
                 start,
             });
         }
-        let Some(right) = roomy(&self.right, size) else {
+        let Some(right) = roomy(&self.right, size, alignment) else {
             return None
         };
         right.first_place(size, alignment, count)
@@ -142,13 +145,13 @@ impl InnerNode {
     fn last_place(&self, size: u64, alignment: u64, count: &mut u64) -> Option<Place>
         requires sized { 0 < size }
         requires aligned { IsAlignment alignment }
-        requires roomy { size ≤ max_free_of self.now }
+        requires roomy { is_searched size alignment self.now ≡ true }
         requires count_fits { count.old + node_count self.now ≤ MAX }
         ensures place { FindsLast size alignment (blocks self.now) result }
         ensures count { count.new ≡ count.old + way_of_last size alignment self.now }
     {
         self.enter(count);
-        let found = match roomy(&self.right, size) {
+        let found = match roomy(&self.right, size, alignment) {
             None => None,
             Some(right) => right.last_place(size, alignment, count),
         };
@@ -161,7 +164,7 @@ impl InnerNode {
                 start,
             });
         }
-        let Some(left) = roomy(&self.left, size) else {
+        let Some(left) = roomy(&self.left, size, alignment) else {
             return None
         };
         left.last_place(size, alignment, count)

@@ -7,7 +7,8 @@ ghost use Rattle.vm_allocator.specs.Ways.{way_to_first, way_to_join, way_to_remo
 ghost use Rattle.vm_allocator.specs.NodeFields.{side};
 
 use super::balance::{Settled, balance, rebalance, settle};
-use super::{Child, InnerNode, free_length, height};
+use super::kept::room_of;
+use super::{Child, InnerNode, height};
 use crate::range::RangeInclusive;
 use std::cmp::Ordering;
 
@@ -38,13 +39,14 @@ fn take_least_at(at: &mut Child, count: &mut u64) -> (Box<InnerNode>, bool)
     if !changed {
         return (least, false);
     }
-    let own = free_length(&tree.key, tree.node_state);
+    let own = room_of(&tree.key, tree.node_state);
     match settle(
         &mut tree.left,
         &mut tree.right,
         own,
         &mut tree.height,
         &mut tree.max_free,
+        &mut tree.alignments,
     ) {
         Settled::Stands(changed) => (least, changed),
         Settled::Leans(left, right) => (least, rebalance(at, left, right)),
@@ -98,13 +100,14 @@ pub(crate) fn delete_at(at: &mut Child, key: &RangeInclusive, count: &mut u64) -
     if !changed {
         return false;
     }
-    let own = free_length(&tree.key, tree.node_state);
+    let own = room_of(&tree.key, tree.node_state);
     match settle(
         &mut tree.left,
         &mut tree.right,
         own,
         &mut tree.height,
         &mut tree.max_free,
+        &mut tree.alignments,
     ) {
         Settled::Stands(changed) => changed,
         Settled::Leans(left, right) => rebalance(at, left, right),

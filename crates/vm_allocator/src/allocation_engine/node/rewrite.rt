@@ -6,15 +6,15 @@ ghost use Rattle.vm_allocator.specs.Shape.{blocks, height_of, root_block, KeepsS
 ghost use Rattle.vm_allocator.specs.Ways.{way_to};
 ghost use Rattle.vm_allocator.specs.NodeFields.{side};
 
-use super::balance::refresh_longest;
-use super::{Child, InnerNode, free_length};
+use super::kept::{kept_of, refresh_room, room_of};
+use super::{Child, InnerNode};
 use crate::allocation_engine::NodeState;
 use crate::range::RangeInclusive;
 use std::cmp::Ordering;
 
 impl InnerNode {
     /// Gives this node another key, which keeps its place in the order, and another state; says
-    /// whether the longest free block from here on has another length.
+    /// whether what is kept here changed.
     #[tactic(auto, using(crate::proofs::nodes::Rewriting::rewritings))]
     pub(super) fn rewrite_here(&mut self, key: RangeInclusive, node_state: NodeState) -> bool
         requires { IsOrderedFrom 0 (with_block (root_block self.old).key key node_state (blocks self.old)) }
@@ -24,13 +24,18 @@ impl InnerNode {
         let _ = &self.height;
         self.key = key;
         self.node_state = node_state;
-        let own = free_length(&key, node_state);
-        refresh_longest(&self.left, &self.right, own, &mut self.max_free)
+        let own = room_of(&key, node_state);
+        refresh_room(
+            kept_of(&self.left).room,
+            kept_of(&self.right).room,
+            own,
+            &mut self.max_free,
+            &mut self.alignments,
+        )
     }
 
     /// Gives the node with key `at` another key, which keeps its place in the order, and another
-    /// state; says whether the longest free block from here on has another length. It takes no
-    /// memory.
+    /// state; says whether what is kept here changed. It takes no memory.
     #[tactic(auto, using(crate::proofs::nodes::Rewriting::rewritings, crate::proofs::counts::Ways::ways_to))]
     fn rewrite(
         &mut self,
@@ -65,8 +70,14 @@ impl InnerNode {
         if !changed {
             return false;
         }
-        let own = free_length(&self.key, self.node_state);
-        refresh_longest(&self.left, &self.right, own, &mut self.max_free)
+        let own = room_of(&self.key, self.node_state);
+        refresh_room(
+            kept_of(&self.left).room,
+            kept_of(&self.right).room,
+            own,
+            &mut self.max_free,
+            &mut self.alignments,
+        )
     }
 }
 

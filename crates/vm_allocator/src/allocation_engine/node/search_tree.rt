@@ -9,10 +9,10 @@ ghost use Rattle.vm_allocator.specs.Ways.{way_down, way_to, way_across, way_to_r
 ghost use Rattle.vm_allocator.specs.NodeFields.{side};
 ghost use Rattle.vm_allocator.specs.NodeAnswer.{Inserts, TellsOverlap, RefusesKey, Marks, MarksBlock};
 
-use super::balance::refresh_longest;
+use super::kept::{kept_of, refresh_room, room_of};
 use super::link::link_at;
 use super::remove::{delete_at, join};
-use super::{InnerNode, free_length, height};
+use super::{InnerNode, height};
 use crate::allocation_engine::NodeState;
 use crate::error::{Error, Result};
 use crate::range::RangeInclusive;
@@ -178,8 +178,14 @@ impl InnerNode {
                 right.mark_as_allocated(key, count)
             }
         };
-        let own = free_length(&self.key, self.node_state);
-        refresh_longest(&self.left, &self.right, own, &mut self.max_free);
+        let own = room_of(&self.key, self.node_state);
+        refresh_room(
+            kept_of(&self.left).room,
+            kept_of(&self.right).room,
+            own,
+            &mut self.max_free,
+            &mut self.alignments,
+        );
         answer
     }
 

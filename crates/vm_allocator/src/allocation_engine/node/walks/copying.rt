@@ -21,6 +21,7 @@ pub(crate) fn copy(tree: &InnerNode, alloc: Global) -> Result<Box<InnerNode>>
     let node = InnerNode {
         key: tree.key,
         node_state: tree.node_state,
+        alignments: tree.alignments,
         left,
         right,
         height: tree.height,

@@ -1,0 +1,154 @@
+use super::*;
+
+/// Ranges of one length, evenly apart.
+#[derive(Clone, Copy, Debug)]
+struct Stretch {
+    /// The first one's start.
+    start: u64,
+    /// How many there are.
+    number: u64,
+    /// From the start of one to that of the next.
+    apart: u64,
+    size: u64,
+}
+
+const NONE: Stretch = Stretch {
+    start: 0,
+    number: 0,
+    apart: 0,
+    size: 0,
+};
+
+/// Single addresses.
+fn single(start: u64, number: u64, apart: u64) -> Stretch {
+    Stretch {
+        start,
+        number,
+        apart,
+        size: 1,
+    }
+}
+
+/// A space cut up, and what two searches in it answer and enter at most.
+#[derive(Clone, Copy, Debug)]
+struct Row {
+    /// The base and the size.
+    space: (u64, u64),
+    held: [Stretch; 3],
+    /// What is given back of it.
+    freed: Stretch,
+    size: u64,
+    alignment: u64,
+    first: Want,
+    last: Want,
+    /// The most nodes for each level of the tree, and the most besides.
+    most: (u64, u64),
+}
+
+impl Stretch {
+    /// Holds each range of these, or gives each back.
+    fn change(self, rt: &(impl Abort + AllocGlobal), space: &mut AddressAllocator, held: bool) {
+        for i in 0..self.number {
+            let start = self.start.saturating_add(i.saturating_mul(self.apart));
+            let end = start.saturating_add(self.size).saturating_sub(1);
+            let call = if held {
+                Exact(self.size, 1, start)
+            } else {
+                Free(start, end)
+            };
+            let mut answer = call.ask(space, rt.alloc(), Plain);
+            if answer == Err(Error::OutOfMemory) {
+                answer = call.ask(space, rt.alloc(), Plain);
+            }
+            assert_eq!(rt; answer, Ok((start, end)), "{call:?}");
+        }
+    }
+}
+
+impl Row {
+    fn meets(self, rt: &(impl Abort + AllocGlobal)) {
+        let mut space = made(rt, self.space.0, self.space.1);
+        for stretch in self.held {
+            stretch.change(rt, &mut space, true);
+        }
+        self.freed.change(rt, &mut space, false);
+        for (policy, want) in [(FirstMatch, self.first), (LastMatch, self.last)] {
+            let most = self
+                .most
+                .0
+                .saturating_mul(space.height())
+                .saturating_add(self.most.1);
+            let (mut answer, mut count) = space.allocate_counted(
+                rt.alloc(),
+                self.size,
+                self.alignment,
+                policy,
+            );
+            if answer == Err(Error::OutOfMemory) {
+                (answer, count) = space.allocate_counted(
+                    rt.alloc(),
+                    self.size,
+                    self.alignment,
+                    policy,
+                );
+            }
+            let answer = match answer {
+                Ok(range) => Ok((range.start(), range.end())),
+                Err(error) => Err(error),
+            };
+            assert_eq!(rt; answer, want.answer(), "{policy:?} of {self:?}");
+            assert!(rt; count <= most, "{count} entered by {policy:?} of {self:?}");
+        }
+    }
+}
+
+#[test]
+fn aligned_places_are_found_at_once(rt: HostRuntime) {
+    let rows = [
+        // No address of the space is a multiple: no gap is looked into.
+        Row {
+            space: (1, 0x1000),
+            held: [single(1, 0x800, 2), NONE, NONE],
+            freed: NONE,
+            size: 1,
+            alignment: 0x2000,
+            first: NotAvailable,
+            last: NotAvailable,
+            most: (0, 0),
+        },
+        // One gap is long enough, and the two that have a multiple are too short.
+        Row {
+            space: (1, 48),
+            held: [
+                single(15, 2, 33),
+                Stretch {
+                    start: 17,
+                    number: 2,
+                    apart: 16,
+                    size: 15,
+                },
+                NONE,
+            ],
+            freed: NONE,
+            size: 2,
+            alignment: 16,
+            first: NotAvailable,
+            last: NotAvailable,
+            most: (1, 0),
+        },
+        // The 127 gaps below are long enough and odd.
+        Row {
+            space: (0, 0x1000),
+            held: [single(0, 0x100, 1), NONE, NONE],
+            freed: single(1, 0x80, 2),
+            size: 1,
+            alignment: 2,
+            first: Range(0x100, 0x100),
+            last: Range(0xFFE, 0xFFE),
+            most: (9, 8),
+        },
+    ];
+    for row in rows {
+        row.meets(&rt);
+    }
+}
