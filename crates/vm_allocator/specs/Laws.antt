@@ -1,7 +1,8 @@
 -- What follows from the definitions alone, for one call of an address allocator.
 use Rattle.std.specs.Prelude.{◌≡◌, ◌≢◌, ℕ, ◌<◌, ◌≤◌, ◌⊎◌, ◌↔◌, true, List, length, Result, Ok}
 use Rattle.std.specs.List.{All, AllPairs, Contains}
-use Rattle.vm_allocator.specs.Range.{Range, MAX, Overlaps, Covers}
+use Rattle.std.specs.declared.cmp.Ordering.TheVariants.{Equal}
+use Rattle.vm_allocator.specs.Range.{Range, MAX, Overlaps, Covers, range_cmp}
 use Rattle.vm_allocator.specs.Address.{AddressState, IsClear, LeavesClear, IsAddressState}
 use Rattle.vm_allocator.specs.Block.{Block, free_length}
 use Rattle.vm_allocator.specs.Fit.{HasNoFit}
@@ -117,3 +118,11 @@ abbrev pub CrampedAreFew : Type 0
 CrampedAreFew =
     (state : AddressState) (request : Request) → IsAddressState state → IsAlignment request.align →
     cramped_gaps state request ≤ multiples_in request.align state.space
+
+-- overlapping goes both ways, each range covers itself and what a covered one covers, and the order finds two ranges
+-- equal just where they are one
+pub record RangesAreSets : Type 0 where
+  pub symmetric : (r s : Range) → Overlaps r s → Overlaps s r
+  pub reflexive : (r : Range) → Covers r r
+  pub transitive : (r s t : Range) → Covers r s → Covers s t → Covers r t
+  pub equal : (r s : Range) → (range_cmp r s ≡ Equal) ↔ (r ≡ s)

@@ -1,13 +1,14 @@
 -- What the orders of blocks and of lists of them say.
-use Rattle.std.proofs.Common.{◌≡◌, [], ◌∷◌, refl, ap, ◌∙◌, arith}
+use Rattle.std.proofs.Common.{◌≡◌, [], ◌∷◌, refl, ap, ◌∙◌, arith, subst}
 use Rattle.std.specs.declared.cmp.Ordering.{Ordering}
 use Rattle.std.specs.declared.cmp.Ordering.TheVariants.{Less, Equal, Greater}
 use Rattle.std.specs.Ordering.{nat_cmp, ordering_then, ordering_reverse}
-use Rattle.std.specs.Cmp.{IsTotalOrder}
+use Rattle.std.specs.Cmp.{IsTotalOrder, tied_itself}
 use Rattle.std.proofs.lemmas.Map.Lookups.{CmpEqualImpliesEq, exact_unsigned}
-use Rattle.vm_allocator.specs.Range.{range_cmp}
+use Rattle.vm_allocator.specs.Range.{Range, Overlaps, Covers, range_cmp}
 use Rattle.vm_allocator.specs.Address.{AddressState}
-use Rattle.vm_allocator.specs.Comparison.{rank, block_cmp, blocks_cmp, IsOrder}
+use Rattle.vm_allocator.specs.Comparison.{rank, range_cmp-total, block_cmp, blocks_cmp, IsOrder}
+use Rattle.vm_allocator.specs.Laws.{RangesAreSets}
 use Rattle.vm_allocator.specs.declared.allocation_engine.NodeState.{NodeState}
 use Rattle.vm_allocator.specs.declared.allocation_engine.NodeState.TheVariants.{Free, Allocated}
 use Rattle.vm_allocator.proofs.blocks.Unique.{same_range, same_block}
@@ -54,3 +55,13 @@ blocks_cmp-exact (x ∷ xs) (y ∷ ys) h =
     let first = block_cmp-exact x y p.0 in
     let rest = blocks_cmp-exact xs ys p.1 in
     cc
+
+-- ---- ranges as sets of addresses
+pub ranges_are_sets : RangesAreSets
+unfolding Overlaps Covers
+ranges_are_sets = record {
+  symmetric = λ r s o. (o.0, o.2, o.1);
+  reflexive = λ r x i. i;
+  transitive = λ r s t c d x i. c x (d x i);
+  equal = λ r s. (range_cmp-exact r s, λ e. subst (λ (v : Range). range_cmp r v ≡ Equal) e (tied_itself range_cmp-total r));
+}

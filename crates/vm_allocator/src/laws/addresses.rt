@@ -1,4 +1,4 @@
-ghost use Rattle.vm_allocator.specs.Laws.{AllocatesOnce, FreesOnce, StateIsKept, HeldLieApart, AllocatingAddsRange, FreeingTakesRange, FreeingUndoes, FutileIsTold, NoneIsFutileAtOne, CountTellsAll, CrampedIsTold, CrampedAreFew};
+ghost use Rattle.vm_allocator.specs.Laws.{AllocatesOnce, FreesOnce, StateIsKept, HeldLieApart, AllocatingAddsRange, FreeingTakesRange, FreeingUndoes, FutileIsTold, NoneIsFutileAtOne, CountTellsAll, CrampedIsTold, CrampedAreFew, RangesAreSets};
 
 /// The state of an allocator decides its answer to a request and the state after it, the refusal of
 /// a split for memory or for depth aside.
@@ -48,4 +48,11 @@ fn counts_tell_all()
 fn cramped_gaps_are_told()
     ensures told { CrampedIsTold }
     ensures few { CrampedAreFew }
+{}
+
+/// Overlapping is symmetric, containing reflexive and transitive, and the order of ranges agrees with
+/// their equality.
+#[tactic(auto, using(crate::proofs::comparing::Orders::ranges_are_sets))]
+fn ranges_are_sets()
+    ensures { RangesAreSets }
 {}
