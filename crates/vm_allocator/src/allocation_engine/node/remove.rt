@@ -7,7 +7,6 @@ ghost use Rattle.vm_allocator.specs.Ways.{way_to_first, way_to_join, way_to_remo
 ghost use Rattle.vm_allocator.specs.NodeFields.{side};
 
 use super::balance::{Settled, balance, rebalance, settle};
-use super::kept::room_of;
 use super::{Child, InnerNode, height};
 use crate::range::RangeInclusive;
 use std::cmp::Ordering;
@@ -39,11 +38,11 @@ fn take_least_at(at: &mut Child, count: &mut u64) -> (Box<InnerNode>, bool)
     if !changed {
         return (least, false);
     }
-    let own = room_of(&tree.key, tree.node_state);
     match settle(
         &mut tree.left,
         &mut tree.right,
-        own,
+        &tree.key,
+        tree.node_state,
         &mut tree.height,
         &mut tree.max_free,
         &mut tree.alignments,
@@ -90,7 +89,10 @@ pub(crate) fn delete_at(at: &mut Child, key: &RangeInclusive, count: &mut u64) -
     tree.enter(count);
     let changed = match tree.key.order(key) {
         Ordering::Equal => {
-            let (left, right) = tree.strip();
+            let Some(node) = at.take() else {
+                unreachable!()
+            };
+            let InnerNode { left, right, .. } = Box::into_inner(node);
             *at = join(left, right, count);
             return true;
         }
@@ -100,11 +102,11 @@ pub(crate) fn delete_at(at: &mut Child, key: &RangeInclusive, count: &mut u64) -
     if !changed {
         return false;
     }
-    let own = room_of(&tree.key, tree.node_state);
     match settle(
         &mut tree.left,
         &mut tree.right,
-        own,
+        &tree.key,
+        tree.node_state,
         &mut tree.height,
         &mut tree.max_free,
         &mut tree.alignments,
