@@ -5,8 +5,10 @@ ghost use Rattle.vm_allocator.specs.Shape.{Fork, blocks, height_of, single, root
 ghost use Rattle.vm_allocator.specs.NodeFields.{side};
 ghost use Rattle.vm_allocator.specs.Settling.{IsSettled};
 
-use super::kept::{Room, kept_of, refresh, room_of};
+use super::kept::{kept_of, refresh, room_of};
 use super::{Child, InnerNode, height};
+use crate::allocation_engine::NodeState;
+use crate::range::RangeInclusive;
 
 /// What becomes of a node once one of its children has changed.
 #[derive(Drop)]
@@ -18,18 +20,19 @@ pub(super) enum Settled {
 }
 
 /// Brings what a node keeps up to date, or takes its children out where they are to be balanced.
-/// `own` is the room of the node's own block.
 #[inline(always)]
 pub(super) fn settle(
     left: &mut Child,
     right: &mut Child,
-    own: Room,
+    key: &RangeInclusive,
+    node_state: NodeState,
     kept_height: &mut u64,
     max_free: &mut u64,
     alignments: &mut u8,
 ) -> Settled
     requires { max (height_of (side left.old)) (height_of (side right.old)) + 1 < 2 ^ 64 }
-    ensures settled { IsSettled left.old right.old own kept_height.old max_free.old alignments.old
+    ensures settled { IsSettled left.old right.old (record { key = key.now; state = node_state })
+        kept_height.old max_free.old alignments.old
         result left.new right.new kept_height.new max_free.new alignments.new }
     ensures left { IsTree (side left.old) }
     ensures right { IsTree (side right.old) }
@@ -37,11 +40,13 @@ pub(super) fn settle(
     let first = kept_of(left);
     let second = kept_of(right);
     if first.height > second.height + 1 || second.height > first.height + 1 {
+        let own = room_of(key, node_state);
         *kept_height = 1;
         *max_free = own.longest;
         *alignments = own.alignments;
         return Settled::Leans(left.take(), right.take());
     }
+    let own = room_of(key, node_state);
     let changed = refresh(first, second, own, kept_height, max_free, alignments);
     Settled::Stands(changed)
 }

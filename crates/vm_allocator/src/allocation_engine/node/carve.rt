@@ -8,7 +8,6 @@ ghost use Rattle.vm_allocator.specs.Ways.{way_to_link, way_here, way_to_carve};
 ghost use Rattle.vm_allocator.specs.NodeFields.{side};
 
 use super::balance::{Settled, rebalance, settle};
-use super::kept::room_of;
 use super::link::link_at;
 use super::{Child, InnerNode, height};
 use crate::allocation_engine::NodeState;
@@ -62,11 +61,11 @@ fn carve_here(at: &mut Child, range: RangeInclusive, rest: Rest, count: &mut u64
     tree.node_state = NodeState::Allocated;
     link_if(&mut tree.left, rest.before, count);
     link_if(&mut tree.right, rest.after, count);
-    let own = room_of(&tree.key, tree.node_state);
     match settle(
         &mut tree.left,
         &mut tree.right,
-        own,
+        &tree.key,
+        tree.node_state,
         &mut tree.height,
         &mut tree.max_free,
         &mut tree.alignments,
@@ -105,11 +104,11 @@ pub(crate) fn carve_at(
     if !changed {
         return false;
     }
-    let own = room_of(&tree.key, tree.node_state);
     match settle(
         &mut tree.left,
         &mut tree.right,
-        own,
+        &tree.key,
+        tree.node_state,
         &mut tree.height,
         &mut tree.max_free,
         &mut tree.alignments,

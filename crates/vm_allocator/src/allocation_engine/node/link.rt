@@ -7,7 +7,6 @@ ghost use Rattle.vm_allocator.specs.Ways.{way_down};
 ghost use Rattle.vm_allocator.specs.NodeFields.{side};
 
 use super::balance::{Settled, rebalance, settle};
-use super::kept::room_of;
 use super::{Child, InnerNode};
 
 /// Adds a leaf at a place, below the node there if there is one; says whether the height changed.
@@ -37,11 +36,11 @@ pub(super) fn link_at(at: &mut Child, leaf: Box<InnerNode>, count: &mut u64) -> 
     if !changed {
         return false;
     }
-    let own = room_of(&tree.key, tree.node_state);
     match settle(
         &mut tree.left,
         &mut tree.right,
-        own,
+        &tree.key,
+        tree.node_state,
         &mut tree.height,
         &mut tree.max_free,
         &mut tree.alignments,

@@ -1,13 +1,12 @@
 //! A block removed from a tree.
-ghost use Rattle.std.specs.Prelude.{◌≡◌, ◌+◌, ◌<◌, ◌≤◌, ◌^◌, ◌++◌, [], ◌∷◌, max, IsSome};
+ghost use Rattle.std.specs.Prelude.{◌≡◌, ◌+◌, ◌<◌, ◌≤◌, ◌^◌, ◌++◌, [], ◌∷◌, ◌↔◌, max, true, IsNone, IsSome};
 ghost use Rattle.vm_allocator.specs.Range.{MAX};
 ghost use Rattle.vm_allocator.specs.BlockList.{IsOrderedFrom, replace_block};
-ghost use Rattle.vm_allocator.specs.Shape.{blocks, height_of, root_block, IsLeaf, Joins, Shrinks, DifferByAtMost, LeavesIfAbsent};
+ghost use Rattle.vm_allocator.specs.Shape.{Shape, Tip, Fork, blocks, height_of, root_block, IsLeaf, Joins, Shrinks, DifferByAtMost, LeavesIfAbsent};
 ghost use Rattle.vm_allocator.specs.Ways.{way_to_first, way_to_join, way_to_remove};
 ghost use Rattle.vm_allocator.specs.NodeFields.{side};
 
 use super::balance::{Settled, balance, rebalance, settle};
-use super::kept::room_of;
 use super::{Child, InnerNode, height};
 use crate::range::RangeInclusive;
 use std::cmp::Ordering;
@@ -39,11 +38,11 @@ fn take_least_at(at: &mut Child, count: &mut u64) -> (Box<InnerNode>, bool)
     if !changed {
         return (least, false);
     }
-    let own = room_of(&tree.key, tree.node_state);
     match settle(
         &mut tree.left,
         &mut tree.right,
-        own,
+        &tree.key,
+        tree.node_state,
         &mut tree.height,
         &mut tree.max_free,
         &mut tree.alignments,
@@ -75,6 +74,27 @@ pub(super) fn join(left: Child, mut right: Child, count: &mut u64) -> Child
     Some(balance(left, least, right))
 }
 
+impl InnerNode {
+    /// The tree without its root's key: its child where it has one alone, none where it has none,
+    /// and else both children below the least node of the right one. It takes no memory.
+    #[tactic(auto, using(crate::proofs::counts::WayBounds::removal_bounds, crate::proofs::counts::Ways::ways_to_remove))]
+    #[inline(never)]
+    pub(crate) fn delete_root(tree: Box<InnerNode>, count: &mut u64) -> Option<Box<InnerNode>>
+        requires { count.old + height_of tree.value ≤ MAX + 1 }
+        ensures blocks { blocks (side result) ≡ replace_block (root_block tree.value).key [] (blocks tree.value) }
+        ensures none { IsNone result ↔ (side result ≡ Tip) }
+        ensures no_right { (left : Shape) → tree.value ≡ Fork left (root_block tree.value) Tip → side result ≡ left }
+        ensures no_left { (right : Shape) → tree.value ≡ Fork Tip (root_block tree.value) right → side result ≡ right }
+        ensures shrinks { Shrinks tree.value (side result) true }
+        ensures count { count.new + 1 ≡ count.old + way_to_remove (root_block tree.value).key tree.value }
+    {
+        let InnerNode { left, right, .. } = Box::into_inner(tree);
+        let joined = join(left, right, count);
+        let _ = height(&joined);
+        joined
+    }
+}
+
 /// Removes the node with a key from below the node at a place, if there is one; says whether the
 /// height there changed.
 #[tactic(auto, using(crate::proofs::blocks::Replacement::removals, crate::proofs::blocks::Replacement::leavings, crate::proofs::nodes::SideChange::takes, crate::proofs::counts::Ways::ways_to_remove))]
@@ -90,8 +110,10 @@ pub(crate) fn delete_at(at: &mut Child, key: &RangeInclusive, count: &mut u64) -
     tree.enter(count);
     let changed = match tree.key.order(key) {
         Ordering::Equal => {
-            let (left, right) = tree.strip();
-            *at = join(left, right, count);
+            let Some(node) = at.take() else {
+                unreachable!()
+            };
+            *at = InnerNode::delete_root(node, count);
             return true;
         }
         Ordering::Greater => delete_at(&mut tree.left, key, count),
@@ -100,11 +122,11 @@ pub(crate) fn delete_at(at: &mut Child, key: &RangeInclusive, count: &mut u64) -
     if !changed {
         return false;
     }
-    let own = room_of(&tree.key, tree.node_state);
     match settle(
         &mut tree.left,
         &mut tree.right,
-        own,
+        &tree.key,
+        tree.node_state,
         &mut tree.height,
         &mut tree.max_free,
         &mut tree.alignments,

@@ -89,24 +89,6 @@ impl InnerNode {
         at
     }
 
-    /// The tree without its root's key: its child where it has one alone, none where it has none,
-    /// and else both children below the least node of the right one. It takes no memory.
-    #[tactic(auto, using(crate::proofs::counts::WayBounds::removal_bounds, crate::proofs::counts::Ways::ways_to_remove))]
-    pub(crate) fn delete_root(mut tree: Box<InnerNode>, count: &mut u64) -> Option<Box<InnerNode>>
-        requires { count.old + height_of tree.value ≤ MAX }
-        ensures blocks { blocks (side result) ≡ replace_block (root_block tree.value).key [] (blocks tree.value) }
-        ensures none { IsNone result ↔ (side result ≡ Tip) }
-        ensures no_right { (left : Shape) → tree.value ≡ Fork left (root_block tree.value) Tip → side result ≡ left }
-        ensures no_left { (right : Shape) → tree.value ≡ Fork Tip (root_block tree.value) right → side result ≡ right }
-        ensures shrinks { Shrinks tree.value (side result) true }
-        ensures count { count.new + 1 ≡ count.old + way_to_remove (root_block tree.value).key tree.value }
-    {
-        let (left, right) = tree.strip();
-        let joined = join(left, right, count);
-        let _ = height(&joined);
-        joined
-    }
-
     /// The node with exactly this key.
     #[tactic(auto, using(crate::proofs::blocks::Replacement::findings, crate::proofs::counts::Ways::ways_to))]
     pub(crate) fn search(&self, key: &RangeInclusive, count: &mut u64) -> Option<&InnerNode>
