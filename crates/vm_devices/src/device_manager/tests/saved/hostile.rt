@@ -1,0 +1,139 @@
+//! Values of strangers, which state no manager.
+use super::*;
+
+/// The text in which `new` stands for the first `old`, or none where it has no `old`.
+fn changed(
+    alloc: Global,
+    text: &str,
+    old: &str,
+    new: &str,
+) -> std::result::Result<Option<String>, AllocError> {
+    let Some((before, after)) = text.split_once(old) else {
+        return Ok(None);
+    };
+    let mut changed = String::new(alloc);
+    for part in [before, new, after] {
+        changed.push_str(part)?;
+    }
+    Ok(Some(changed))
+}
+
+/// The value of the text states no manager.
+fn assert_refused(rt: &(impl Abort + AllocGlobal), text: &str) {
+    let answer = read(rt, &parsed(rt, text));
+    assert_eq!(rt; answer.err(), Some(ValueError::NotAState), "{text}");
+}
+
+/// The text states a manager, and with each of these changes none.
+fn assert_all_refused(rt: &(impl Abort + AllocGlobal), text: &str, changes: &[(&str, &str)]) {
+    assert!(rt; read(rt, &parsed(rt, text)).is_ok());
+    for (old, new) in changes {
+        let other = match changed(rt.alloc(), text, old, new) {
+            Ok(other) => other,
+            Err(_) => changed(rt.alloc(), text, old, new).expect(rt, "memory is refused once"),
+        };
+        assert_refused(rt, &other.expect(rt, "the text has what is changed"));
+    }
+}
+
+/// Parts of `ONE_DEVICE`, and of `TWO_DEVICES` the list.
+const IDS: &str = r#""id_allocator":{"range_base":0,"next_id":1,"range_end":1,"freed_ids":[]},"#;
+
+const SLOTS: &str = r#"[{"id":0,"mmio_range":{"start":4096,"end":6143}}]"#;
+
+const SLOT: &str = r#"{"id":0,"mmio_range":{"start":4096,"end":6143}}"#;
+
+const RANGE: &str = r#""mmio_range":{"start":4096,"end":6143}"#;
+
+const TWO_SLOTS: &str =
+    r#"[{"id":0,"mmio_range":{"start":4096,"end":6143}},{"id":1,"mmio_range":{"start":6144,"end":8191}}]"#;
+
+#[test]
+fn each_field_of_a_manager(rt: HostRuntime) {
+    let changes = [
+        // Another version, or none; fields left out, or more of them.
+        (r#""version":1"#, r#""version":2"#),
+        (r#""version":1"#, r#""version":0"#),
+        (r#""version":1"#, r#""version":"1""#),
+        (r#""version":1"#, r#""version":1.0"#),
+        (r#""version":1"#, r#""version":null"#),
+        (r#""version":1"#, r#""Version":1"#),
+        (r#""version":1,"#, ""),
+        (r#""version":1"#, r#""version":1,"more":1"#),
+        (IDS, ""),
+        (r#""slots""#, r#""Slots""#),
+        (r#""id_allocator""#, r#""ids""#),
+        (r#""mmio_allocator""#, r#""mmio""#),
+        // Allocators that are none: id 1 was never handed out, a height is wrong, or a field.
+        (r#""freed_ids":[]"#, r#""freed_ids":[1]"#),
+        (r#""range_base":0"#, r#""range_base":2"#),
+        (r#""height":2"#, r#""height":3"#),
+        (r#""interval_tree":"#, r#""tree":"#),
+        // Slots that are no list, and slots that are no devices.
+        (SLOTS, "null"),
+        (SLOTS, SLOT),
+        (SLOTS, r#"{"0":{"start":4096,"end":6143}}"#),
+        (SLOTS, r#"[null]"#),
+        (SLOTS, r#"[[0,{"start":4096,"end":6143}]]"#),
+        (r#""id":0"#, r#""id":4294967296"#),
+        (r#""id":0"#, r#""id":"0""#),
+        (r#""id":0"#, r#""id":0.0"#),
+        (r#""id":0"#, r#""id":0,"size":2048"#),
+        (r#""id":0,"#, ""),
+        (r#""id":0"#, r#""Id":0"#),
+        (RANGE, r#""mmio_range":{"start":6143,"end":4096}"#),
+        (RANGE, r#""mmio_range":null"#),
+        (RANGE, r#""range":{"start":4096,"end":6143}"#),
+        // An id, or a range, that is not held.
+        (r#""id":0"#, r#""id":1"#),
+        (r#""freed_ids":[]"#, r#""freed_ids":[0]"#),
+        (RANGE, r#""mmio_range":{"start":4096,"end":6142}"#),
+        (RANGE, r#""mmio_range":{"start":4096,"end":8191}"#),
+        (
+            "}}]}",
+            r#"}},{"id":1,"mmio_range":{"start":6144,"end":8191}}]}"#,
+        ),
+        // A held id, a held range, or both, without a device.
+        (r#""next_id":1"#, r#""next_id":2"#),
+        (r#""Free""#, r#""Allocated""#),
+        (SLOTS, "[]"),
+        // One device twice.
+        (
+            "}}]}",
+            r#"}},{"id":0,"mmio_range":{"start":4096,"end":6143}}]}"#,
+        ),
+    ];
+    assert_all_refused(&rt, ONE_DEVICE, &changes);
+}
+
+#[test]
+fn devices_that_share(rt: HostRuntime) {
+    let changes = [
+        // Both have the first range, or the second, or one of no device.
+        (
+            r#""id":1,"mmio_range":{"start":6144,"end":8191}"#,
+            r#""id":1,"mmio_range":{"start":4096,"end":6143}"#,
+        ),
+        (RANGE, r#""mmio_range":{"start":6144,"end":8191}"#),
+        (RANGE, r#""mmio_range":{"start":4096,"end":8191}"#),
+        // Both have one id, or their ids fall.
+        (r#""id":1"#, r#""id":0"#),
+        (r#""id":0"#, r#""id":1"#),
+        (
+            TWO_SLOTS,
+            r#"[{"id":1,"mmio_range":{"start":6144,"end":8191}},{"id":0,"mmio_range":{"start":4096,"end":6143}}]"#,
+        ),
+        // One of them is left out, or its id or its range alone is no more held.
+        (TWO_SLOTS, SLOTS),
+        (r#""next_id":2"#, r#""next_id":1"#),
+        (r#""freed_ids":[]"#, r#""freed_ids":[1]"#),
+        (
+            r#""node_state":"Allocated","left":null,"right":null"#,
+            r#""node_state":"Free","left":null,"right":null"#,
+        ),
+    ];
+    assert_all_refused(&rt, TWO_DEVICES, &changes);
+    for text in ["null", "true", "1", r#""""#, "[]", "{}", r#"{"version":1}"#] {
+        assert_refused(&rt, text);
+    }
+}
