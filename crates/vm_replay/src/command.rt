@@ -52,16 +52,16 @@ pub enum Command {
     Has {
         id: u32,
     },
-    /// A manager of devices, for the ids from `id_lo` to `id_hi` and the `size` addresses from `base`
-    /// on.
+    /// A manager of devices, for the ids from `id_lo` to `id_hi` and the `size` addresses from
+    /// `base` on.
     Manager {
         id_lo: u32,
         id_hi: u32,
         base: u64,
         size: u64,
     },
-    /// A device: the least id that is not held, and the first place for `size` addresses at a multiple
-    /// of `alignment`.
+    /// A device: the least id that is not held, and the first place for `size` addresses at a
+    /// multiple of `alignment`.
     Device {
         size: u64,
         alignment: u64,
