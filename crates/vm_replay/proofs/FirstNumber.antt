@@ -1,6 +1,6 @@
 -- The number that the first word of a text says.
-use Rattle.std.proofs.Common.{◌≡◌, ◌≢◌, ℕ, ◌+◌, ◌-◌, ◌<◌, ◌≤◌, Bool, true, false, List, [], ◌∷◌, length, take, drop, get_or, Option, Some, None, ◌==◌, ◌^◌, refl, sym, ap, ◌∙◌, arith, ⊎_elim}
-use Rattle.std.specs.Prelude.{if◌then◌else◌, nat_lt, not}
+use Rattle.std.proofs.Common.{◌≡◌, ◌≢◌, ℕ, ◌+◌, ◌-◌, ◌<◌, ◌≤◌, Bool, true, false, List, [], ◌∷◌, length, take, drop, get_or, Option, Some, None, ◌==◌, refl, sym, ap, ◌∙◌, arith, ⊎_elim}
+use Rattle.std.specs.Prelude.{not}
 use Rattle.std.specs.List.{position_or_len, after_first}
 use Rattle.std.specs.Option.{option_map, option_zip}
 use Rattle.std.proofs.lemmas.Bool.Decides.{nat_tests}
@@ -9,7 +9,7 @@ use Rattle.std.proofs.lemmas.List.{take_all, get_or-take, length-take-le}
 use Rattle.std.proofs.lemmas.List.Folds.{list_all_at}
 use Rattle.std.proofs.lemmas.List.Splits.{slice_split_first}
 use Rattle.std.proofs.lemmas.List.Sums.{prefix_len_stops, prefix_len-le-length, passes_at_first, fails_before_first}
-use Rattle.vm_replay.specs.Numbers.{is_digit, number_of, id_of}
+use Rattle.vm_replay.specs.Numbers.{is_digit, number_of}
 use Rattle.vm_replay.specs.Reading.{digits_ahead, number_first}
 use Rattle.vm_replay.specs.Words.{blank, words_of, one_in, two_in, three_in}
 use Rattle.vm_replay.proofs.Splitting.{words_some, words_none}
@@ -17,14 +17,14 @@ use Rattle.vm_replay.proofs.Splitting.{words_some, words_none}
 -- Words that begin with a number.
 
 -- what the first word says
-says_none : (word : List ℕ) (words : List (List ℕ)) → number_first (word ∷ words) ≡ None → number_of word ≡ None
+pub says_none : (word : List ℕ) (words : List (List ℕ)) → number_first (word ∷ words) ≡ None → number_of word ≡ None
 says_none word words e = step (number_of word) refl
   where
     step : (o : Option ℕ) → number_of word ≡ o → number_of word ≡ None
     step None is = is
     step (Some n) is = absurd (let f = rw is at e in cc)
 
-says_some : (word : List ℕ) (words behind : List (List ℕ)) (number : ℕ) → number_first (word ∷ words) ≡ Some (number, behind)
+pub says_some : (word : List ℕ) (words behind : List (List ℕ)) (number : ℕ) → number_first (word ∷ words) ≡ Some (number, behind)
     → (number_of word ≡ Some number) × (words ≡ behind)
 says_some word words behind number e = step (number_of word) refl
   where
@@ -84,38 +84,6 @@ three_some (word ∷ words) behind number e =
     zip : (o : Option (ℕ × ℕ)) → option_map {U = ℕ × ℕ × ℕ} (λ p. (p.0, p.1.0, p.1.1)) (option_zip (Some number) o) ≡ option_map {U = ℕ × ℕ × ℕ} (λ p. (number, p.0, p.1)) o
     zip None = refl
     zip (Some p) = refl
-
--- ids
-abbrev pub id_in : Option ℕ → Option ℕ
-id_in None = None
-id_in (Some n) = if nat_lt n (2 ^ 32) then Some n else None
-
-abbrev pub ids_in : Option (ℕ × ℕ) → Option (ℕ × ℕ)
-ids_in None = None
-ids_in (Some p) = option_zip (id_in (Some p.0)) (id_in (Some p.1))
-
-id_is : (word : List ℕ) → id_of word ≡ id_in (number_of word)
-id_is word = grind (arith, nat_tests)
-
-pub one_id : (words : List (List ℕ)) → one_in id_of words ≡ id_in (one_in number_of words)
-one_id [] = refl
-one_id (word ∷ []) = id_is word
-one_id (word ∷ second ∷ more) = refl
-
-pub two_ids : (words : List (List ℕ)) → two_in id_of words ≡ ids_in (two_in number_of words)
-two_ids [] = refl
-two_ids (word ∷ []) = refl
-two_ids (word ∷ second ∷ []) = rw (id_is word, id_is second) (zip (number_of word) (number_of second))
-  where
-    zip : (o p : Option ℕ) → option_zip (id_in o) (id_in p) ≡ ids_in (option_zip o p)
-    zip None p = refl
-    zip (Some n) None = alone (id_in (Some n))
-      where
-        alone : (o : Option ℕ) → option_zip {U = ℕ} o None ≡ None
-        alone None = refl
-        alone (Some m) = refl
-    zip (Some n) (Some m) = refl
-two_ids (word ∷ second ∷ third ∷ more) = refl
 
 -- A text by its digits at the front.
 

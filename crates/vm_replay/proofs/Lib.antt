@@ -3,6 +3,7 @@ pub mod Names
 pub mod Lanes
 pub mod Numerals
 pub mod FirstNumber
+pub mod IdNumbers
 pub mod Decimals
 pub mod Parts
 pub mod Known

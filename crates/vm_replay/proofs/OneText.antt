@@ -1,7 +1,6 @@
 -- Lines have one text and leave one machine, where memory suffices and few ranges are held.
-use Rattle.std.proofs.Common.{◌≡◌, ◌≢◌, ℕ, ◌<◌, ◌↔◌, Bool, true, false, List, [], ◌∷◌, ◌++◌, length, refl, sym, ap, ◌∙◌, subst, arith, inl, inr, ⊎_elim, Option, Some, None, Result, Err}
-use Rattle.std.specs.Prelude.{IfSome, IsTrue, MatchOption}
-use Rattle.vm_allocator.specs.Range.{Range}
+use Rattle.std.proofs.Common.{◌≡◌, ◌≢◌, ℕ, ◌<◌, ◌↔◌, Bool, true, false, List, [], ◌∷◌, ◌++◌, length, refl, sym, ap, ◌∙◌, subst, Option, Some, None, Result, Err}
+use Rattle.std.specs.Prelude.{IfSome, IsTrue}
 use Rattle.vm_allocator.specs.Address.{AddressState}
 use Rattle.vm_allocator.specs.Answer.{FEWEST_TOO_DEEP}
 use Rattle.vm_allocator.specs.Request.{Request}
@@ -15,13 +14,15 @@ use Rattle.vm_allocator.proofs.answers.Amply.{placed_once, made_once}
 use Rattle.vm_allocator.proofs.ids.Answers.{making_is_determined, allocating_is_determined, freeing_is_determined}
 use Rattle.vm_replay.specs.Commands.{command_of}
 use Rattle.vm_replay.specs.Lines.{newline}
-use Rattle.vm_replay.specs.Machines.{Machine, start, with_space, with_ids, OnSpace, OnIds, Places, Releases, Does}
-use Rattle.vm_replay.specs.Replies.{text_of, done_or_refused, given_or_refused, id_or_refused}
+use Rattle.vm_devices.specs.Devices.{DeviceState}
+use Rattle.vm_devices.proofs.Once.{devices_decide}
+use Rattle.vm_replay.specs.Machines.{Machine, start, with_space, with_ids, with_devices, OnPart, OnSpace, OnIds, OnDevices, Places, Releases, Does}
+use Rattle.vm_replay.specs.Replies.{text_of, done_or_refused, given_or_refused, id_or_refused, device_or_refused}
 use Rattle.vm_replay.specs.Laws.{HoldsFew, AreAnsweredAmply, OneText}
 use Rattle.vm_replay.specs.declared.command.Command.{Command}
-use Rattle.vm_replay.specs.declared.command.Command.TheVariants.{Space, First, Last, Exact, Free, Ids, Id, Unid, Has}
+use Rattle.vm_replay.specs.declared.command.Command.TheVariants.{Space, First, Last, Exact, Free, Ids, Id, Unid, Has, Manager, Device, Undevice}
 use Rattle.vm_replay.specs.declared.reply.Reply.{Reply}
-use Rattle.vm_replay.specs.declared.reply.Reply.TheVariants.{Held, Refused, NoSpace, NoIds}
+use Rattle.vm_replay.specs.declared.reply.Reply.TheVariants.{Held, Refused, NoSpace, NoIds, NoManager}
 
 -- Answers.
 
@@ -58,9 +59,7 @@ Agree x m y n = (x ≡ y) × (m ≡ n)
 -- What a line does to a part that may be there is determined where the call on that part is.
 part_once : {S : Type 0} (part : Option S) (put : S → Machine) (old m n : Machine) (absent x y : Reply) (call other : S → S → Type 0)
     → ((state later after : S) → part ≡ Some state → call state later → other state after → (x ≡ y) × (later ≡ after))
-    → MatchOption part ((x ≡ absent) × (m ≡ old)) (λ state. (later : S) × call state later × (m ≡ put later))
-    → MatchOption part ((y ≡ absent) × (n ≡ old)) (λ state. (later : S) × other state later × (n ≡ put later))
-    → Agree x m y n
+    → OnPart part put absent old x m call → OnPart part put absent old y n other → Agree x m y n
 part_once None put old m n absent x y call other once a b = (a.0 ∙ sym b.0, a.1 ∙ sym b.1)
 part_once (Some state) put old m n absent x y call other once a b =
     let same = once state a.0 b.0 refl a.1 b.1 in
@@ -72,7 +71,7 @@ on_space_once : (old m n : Machine) (x y : Reply) (call other : AddressState →
 unfolding OnSpace
 on_space_once old m n x y call other few once a b =
     part_once old.space (λ s. record old { space = Some s }) old m n NoSpace x y call other
-    (λ state later after e p q. once state later after (subst (λ (s : Option AddressState). IfSome s (λ t. length t.held < FEWEST_TOO_DEEP)) e few) p q) a b
+    (λ state later after e p q. once state later after (subst (λ (s : Option AddressState). IfSome s (λ t. length t.held < FEWEST_TOO_DEEP)) e few.0) p q) a b
 
 on_ids_once : (old m n : Machine) (x y : Reply) (call other : IdState → IdState → Type 0)
     → ((state later after : IdState) → call state later → other state after → (x ≡ y) × (later ≡ after))
@@ -80,6 +79,14 @@ on_ids_once : (old m n : Machine) (x y : Reply) (call other : IdState → IdStat
 unfolding OnIds
 on_ids_once old m n x y call other once a b =
     part_once old.ids (λ s. record old { ids = Some s }) old m n NoIds x y call other (λ state later after e p q. once state later after p q) a b
+
+on_devices_once : (old m n : Machine) (x y : Reply) (call other : DeviceState → DeviceState → Type 0) → HoldsFew old
+    → ((state later after : DeviceState) → length state.space.held < FEWEST_TOO_DEEP → call state later → other state after → (x ≡ y) × (later ≡ after))
+    → OnDevices old x m call → OnDevices old y n other → Agree x m y n
+unfolding OnDevices
+on_devices_once old m n x y call other few once a b =
+    part_once old.devices (λ s. record old { devices = Some s }) old m n NoManager x y call other
+    (λ state later after e p q. once state later after (subst (λ (s : Option DeviceState). IfSome s (λ t. length t.space.held < FEWEST_TOO_DEEP)) e few.1) p q) a b
 
 places_once : (old m n : Machine) (request : Request) (x y : Reply) → HoldsFew old → x ≢ Refused OutOfMemory
     → y ≢ Refused OutOfMemory → Places old request x m → Places old request y n → Agree x m y n
@@ -118,6 +125,17 @@ does_once (Some (Unid id)) old m n x y few p q a b =
 does_once (Some (Has id)) old m n x y few p q a b =
     on_ids_once old m n x y _ _ (λ state later after u v.
     (u.2 ∙ ap Held (told_once state id u.0 v.0 u.1 v.1) ∙ sym v.2, u.3 ∙ sym v.3)) a b
+does_once (Some (Manager id_lo id_hi base size)) old m n x y few p q a b =
+    let e = devices_decide.made id_lo id_hi base size a.0 b.0 (not_memory done_or_refused x a.0 refl a.2 p) (not_memory done_or_refused y b.0 refl b.2 q) a.1 b.1 in
+    (same_told done_or_refused x y a.0 b.0 a.2 b.2 e, a.3 ∙ ap (with_devices old) e ∙ sym b.3)
+does_once (Some (Device size alignment)) old m n x y few p q a b =
+    on_devices_once old m n x y _ _ few (λ state later after f u v.
+    let same = devices_decide.reserved state later after (record { size = size; align = alignment; policy = FirstMatch }) u.0 v.0 (not_memory device_or_refused x u.0 refl u.2 p) (not_memory device_or_refused y v.0 refl v.2 q) f u.1 v.1 in
+    (same_told device_or_refused x y u.0 v.0 u.2 v.2 same.0, same.1)) a b
+does_once (Some (Undevice id)) old m n x y few p q a b =
+    on_devices_once old m n x y _ _ few (λ state later after f u v.
+    let same = devices_decide.released state later after id u.0 v.0 (not_memory done_or_refused x u.0 refl u.2 p) (not_memory done_or_refused y v.0 refl v.2 q) u.1 v.1 in
+    (same_told done_or_refused x y u.0 v.0 u.2 v.2 same.0, same.1)) a b
 
 -- Lines one after the other.
 

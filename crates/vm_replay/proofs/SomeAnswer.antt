@@ -1,11 +1,11 @@
 -- Each call that a line may make has an answer, other than that memory ran out: from the library's laws.
 use Rattle.std.proofs.Common.{◌≡◌, ◌≢◌, ℕ, ◌<◌, ◌≤◌, refl, inl, inr, ⊎_elim, Result, Err}
 use Rattle.std.proofs.lemmas.Bool.{cases_eq}
-use Rattle.vm_allocator.specs.Range.{Range, MAX, IsRange}
+use Rattle.vm_allocator.specs.Range.{MAX, IsRange}
 use Rattle.vm_allocator.specs.Address.{AddressState}
 use Rattle.vm_allocator.specs.Request.{Request}
-use Rattle.vm_allocator.specs.Answer.{Allocates, Frees, Makes}
-use Rattle.vm_allocator.specs.Ids.{IdState, ByLeastNotHeld, AllocatesId, FreesId, MakesIds}
+use Rattle.vm_allocator.specs.Answer.{Allocates, Makes}
+use Rattle.vm_allocator.specs.Ids.{IdState, AllocatesId, FreesId, MakesIds}
 use Rattle.vm_allocator.specs.declared.error.Error.{Error}
 use Rattle.vm_allocator.specs.declared.error.Error.TheVariants.{InvalidRange, OutOfMemory}
 use Rattle.vm_allocator.proofs.numbers.Decisions.{Decided, decided_both, decided_below, decided_up_to}

@@ -1,6 +1,5 @@
 -- Each line has a reply, and so each input has a text.
 use Rattle.std.proofs.Common.{◌≡◌, ◌≢◌, ℕ, List, [], ◌∷◌, ◌++◌, refl, ap, Option, Some, None, Result, Ok, Err}
-use Rattle.std.specs.Prelude.{MatchOption}
 use Rattle.std.specs.FinSet as set
 use Rattle.vm_allocator.specs.Range.{Range}
 use Rattle.vm_allocator.specs.Address.{AddressState}
@@ -12,13 +11,16 @@ use Rattle.vm_allocator.specs.declared.error.Error.TheVariants.{OutOfMemory}
 use Rattle.vm_replay.specs.Commands.{command_of}
 use Rattle.vm_replay.specs.Laws.{HasReply, HasText}
 use Rattle.vm_replay.specs.Lines.{newline}
-use Rattle.vm_replay.specs.Machines.{Machine, start, with_space, with_ids, OnSpace, OnIds, Places, Does}
-use Rattle.vm_replay.specs.Replies.{text_of, done_or_refused, given_or_refused, id_or_refused}
+use Rattle.vm_devices.specs.declared.device_slot.DeviceSlot.{DeviceSlot}
+use Rattle.vm_devices.specs.Devices.{DeviceState}
+use Rattle.vm_devices.proofs.EveryCall.{every_device_call}
+use Rattle.vm_replay.specs.Machines.{Machine, start, with_space, with_ids, with_devices, OnPart, OnSpace, OnIds, OnDevices, Places, Does}
+use Rattle.vm_replay.specs.Replies.{text_of, done_or_refused, given_or_refused, id_or_refused, device_or_refused}
 use Rattle.vm_replay.specs.Runs.{AreAnswered}
 use Rattle.vm_replay.specs.declared.command.Command.{Command}
-use Rattle.vm_replay.specs.declared.command.Command.TheVariants.{Space, First, Last, Exact, Free, Ids, Id, Unid, Has}
+use Rattle.vm_replay.specs.declared.command.Command.TheVariants.{Space, First, Last, Exact, Free, Ids, Id, Unid, Has, Manager, Device, Undevice}
 use Rattle.vm_replay.specs.declared.reply.Reply.{Reply}
-use Rattle.vm_replay.specs.declared.reply.Reply.TheVariants.{Held, Refused, NoSpace, NoIds, NotInLanguage}
+use Rattle.vm_replay.specs.declared.reply.Reply.TheVariants.{Held, Refused, NoSpace, NoIds, NoManager, NotInLanguage}
 use Rattle.vm_replay.proofs.SomeAnswer.{IsAnswered, allocates_answered, releases_answered, makes_answered, allocates_id_answered, frees_id_answered, makes_ids_answered}
 
 -- One line.
@@ -44,6 +46,10 @@ plain_id : (answer : Result ℕ Error) → answer ≢ Err OutOfMemory → id_or_
 plain_id (Ok id) plain = λ e. cc
 plain_id (Err e) plain = plain_refused e {A = ℕ} plain
 
+plain_device : (answer : Result DeviceSlot Error) → answer ≢ Err OutOfMemory → device_or_refused answer ≢ Refused OutOfMemory
+plain_device (Ok slot) plain = λ e. cc
+plain_device (Err e) plain = plain_refused e {A = DeviceSlot} plain
+
 -- a call that is answered is replied to in the words for its answer
 replied : {A S : Type 0} (tell : Result A Error → Reply)
     → ((answer : Result A Error) → answer ≢ Err OutOfMemory → tell answer ≢ Refused OutOfMemory)
@@ -55,7 +61,7 @@ replied tell plain call h = (tell h.0, h.1, (h.0, h.2, refl), plain h.0 h.3)
 on_part : {S : Type 0} (part : Option S) (put : S → Machine) (old : Machine) (absent : Reply)
     → absent ≢ Refused OutOfMemory → (call : Reply → S → S → Type 0)
     → ((state : S) → IsReplied (λ reply later. call reply state later))
-    → IsReplied (λ reply new. MatchOption part ((reply ≡ absent) × (new ≡ old)) (λ state. (later : S) × call reply state later × (new ≡ put later)))
+    → IsReplied (λ reply new. OnPart part put absent old reply new (call reply))
 on_part None put old absent plain call each = (absent, old, (refl, refl), plain)
 on_part (Some state) put old absent plain call each = let h = each state in (h.0, put h.1, (h.1, h.2, refl), h.3)
 
@@ -70,6 +76,12 @@ on_ids : (old : Machine) (call : Reply → IdState → IdState → Type 0)
     → IsReplied (λ reply new. OnIds old reply new (call reply))
 unfolding OnIds
 on_ids old call each = on_part old.ids (λ s. record old { ids = Some s }) old NoIds (λ e. cc) call each
+
+on_devices : (old : Machine) (call : Reply → DeviceState → DeviceState → Type 0)
+    → ((state : DeviceState) → IsReplied (λ reply later. call reply state later))
+    → IsReplied (λ reply new. OnDevices old reply new (call reply))
+unfolding OnDevices
+on_devices old call each = on_part old.devices (λ s. record old { devices = Some s }) old NoManager (λ e. cc) call each
 
 places_replied : (old : Machine) (request : Request) → IsReplied (λ reply new. Places old request reply new)
 unfolding Places
@@ -95,6 +107,13 @@ does_replied (Some Id) old = on_ids old _ (λ state. replied id_or_refused plain
 does_replied (Some (Unid id)) old = on_ids old _ (λ state. replied id_or_refused plain_id _ (frees_id_answered state id))
 does_replied (Some (Has id)) old =
     on_ids old _ (λ state. let held = set.contains state.held id in (Held held, state, (held, (λ h. h, λ h. h), refl, refl), λ e. cc))
+does_replied (Some (Manager id_lo id_hi base size)) old =
+    let h = every_device_call.made id_lo id_hi base size in
+    (done_or_refused h.0, with_devices old h.0, (h.0, h.1, refl, refl), plain_done h.0 h.2)
+does_replied (Some (Device size alignment)) old =
+    on_devices old _ (λ state. replied device_or_refused plain_device _ (every_device_call.reserved state (record { size = size; align = alignment; policy = FirstMatch })))
+does_replied (Some (Undevice id)) old =
+    on_devices old _ (λ state. replied done_or_refused plain_done _ (every_device_call.released state id))
 
 -- Lines one after the other.
 

@@ -3,18 +3,26 @@ use Rattle.std.specs.Prelude.{ℕ, if◌then◌else◌, nat_le, List, [], ◌∷
 use Rattle.std.specs.Option.{option_map}
 use Rattle.std.specs.Str.{bytes_eq}
 use Rattle.vm_replay.specs.Numbers.{number_of, id_of}
-use Rattle.vm_replay.specs.Words.{words_of, alone, one_in, two_in, three_in}
+use Rattle.vm_replay.specs.Words.{words_of, alone, one_in, two_in, three_in, four_in}
 use Rattle.vm_replay.specs.declared.command.Command.{Command}
-use Rattle.vm_replay.specs.declared.command.Command.TheVariants.{Space, First, Last, Exact, Free, Ids, Id, Unid, Has}
+use Rattle.vm_replay.specs.declared.command.Command.TheVariants.{Space, First, Last, Exact, Free, Ids, Id, Unid, Has, Manager, Device, Undevice}
 
--- what a line with this first word asks of the ids, where it is in the language
+-- what a line with this first word asks of the devices, where it is in the language
+abbrev pub asked_of_devices : List ℕ → List (List ℕ) → Option Command
+asked_of_devices name words =
+    if bytes_eq name (codes "manager") then option_map (λ p. Manager p.0.0 p.0.1 p.1.0 p.1.1) (four_in id_of number_of words)
+    else if bytes_eq name (codes "device") then option_map (λ p. Device p.0 p.1) (two_in number_of words)
+    else if bytes_eq name (codes "undevice") then option_map (λ i. Undevice i) (one_in id_of words)
+    else None
+
+-- what a line with this first word asks of the ids, or else of the devices, where it is in the language
 abbrev pub asked_of_ids : List ℕ → List (List ℕ) → Option Command
 asked_of_ids name words =
     if bytes_eq name (codes "ids") then option_map (λ p. Ids p.0 p.1) (two_in id_of words)
     else if bytes_eq name (codes "id") then alone Id words
     else if bytes_eq name (codes "unid") then option_map (λ i. Unid i) (one_in id_of words)
     else if bytes_eq name (codes "has") then option_map (λ i. Has i) (one_in id_of words)
-    else None
+    else asked_of_devices name words
 
 -- what the words of a line ask for, where they are in the language
 abbrev pub asked : List (List ℕ) → Option Command

@@ -10,9 +10,11 @@ use Rattle.vm_replay.specs.Runs.{MayAnswer}
 use Rattle.vm_replay.specs.declared.reply.Reply.{Reply}
 use Rattle.vm_replay.specs.declared.reply.Reply.TheVariants.{Refused}
 
--- so few ranges are held that no split is refused for the depth of a tree
+-- so few ranges are held, by lines on the space and by devices, that no split is refused for the depth of a tree
 abbrev pub HoldsFew : Machine → Type 0
-HoldsFew machine = IfSome machine.space (λ state. length state.held < FEWEST_TOO_DEEP)
+HoldsFew machine =
+    IfSome machine.space (λ state. length state.held < FEWEST_TOO_DEEP)
+    × IfSome machine.devices (λ state. length state.space.held < FEWEST_TOO_DEEP)
 
 -- As `AreAnswered`, where no line is refused because memory ran out, and few ranges are held before each.
 abbrev pub AreAnsweredAmply : Machine → List (List ℕ) → List ℕ → Machine → Type 0

@@ -10,29 +10,33 @@ use Rattle.vm_allocator.specs.Ids.{IdState, id_state_code, IsHeld, MakesIds, All
 use Rattle.vm_allocator.specs.declared.constraint.AllocPolicy.TheVariants.{FirstMatch, LastMatch, ExactMatch}
 use Rattle.vm_allocator.specs.declared.error.Error.{Error}
 use Rattle.vm_allocator.specs.declared.error.Error.TheVariants.{InvalidRange}
-use Rattle.vm_replay.specs.Replies.{done_or_refused, given_or_refused, id_or_refused}
+use Rattle.vm_devices.specs.declared.device_slot.DeviceSlot.{DeviceSlot}
+use Rattle.vm_devices.specs.Devices.{DeviceState, device_state_code, MakesManager, Reserves, Releases as ReleasesDevice}
+use Rattle.vm_replay.specs.Replies.{done_or_refused, given_or_refused, id_or_refused, device_or_refused}
 use Rattle.vm_replay.specs.declared.command.Command.{Command}
-use Rattle.vm_replay.specs.declared.command.Command.TheVariants.{Space, First, Last, Exact, Free, Ids, Id, Unid, Has}
+use Rattle.vm_replay.specs.declared.command.Command.TheVariants.{Space, First, Last, Exact, Free, Ids, Id, Unid, Has, Manager, Device, Undevice}
 use Rattle.vm_replay.specs.declared.reply.Reply.{Reply}
-use Rattle.vm_replay.specs.declared.reply.Reply.TheVariants.{Held, NoSpace, NoIds, NotInLanguage}
+use Rattle.vm_replay.specs.declared.reply.Reply.TheVariants.{Held, NoSpace, NoIds, NoManager, NotInLanguage}
 
--- what the lines so far have made: the space of the last `space` that was done, and the ids of the last `ids`
+-- what the lines so far have made: the space of the last `space` that was done, the ids of the last `ids`, and the
+-- devices of the last `manager`
 pub record Machine : Type 0 where
   pub space : Option AddressState
   pub ids : Option IdState
+  pub devices : Option DeviceState
 
--- a machine is stored as the pair of its fields
+-- a machine is stored as the tuple of its fields
 abbrev pub machine_code : Coded Machine
 machine_code =
-    code_by (Option AddressState × Option IdState)
-    (coded× (coded_option address_state_code) (coded_option id_state_code))
-    (λ m. (m.space, m.ids))
-    (λ p. record { space = p.0; ids = p.1 })
+    code_by (Option AddressState × (Option IdState × Option DeviceState))
+    (coded× (coded_option address_state_code) (coded× (coded_option id_state_code) (coded_option device_state_code)))
+    (λ m. (m.space, (m.ids, m.devices)))
+    (λ p. record { space = p.0; ids = p.1.0; devices = p.1.1 })
     (λ _. refl)
 
 -- before the first line
 abbrev pub start : Machine
-start = record { space = None; ids = None }
+start = record { space = None; ids = None; devices = None }
 
 -- a space that is made takes the place of the old one, and a refused one does not
 abbrev pub with_space : Machine → Result AddressState Error → Machine
@@ -44,19 +48,31 @@ abbrev pub with_ids : Machine → Result IdState Error → Machine
 with_ids old (Ok state) = record old { ids = Some state }
 with_ids old (Err error) = old
 
+-- a manager that is made takes the place of the old one, and a refused one does not
+abbrev pub with_devices : Machine → Result DeviceState Error → Machine
+with_devices old (Ok state) = record old { devices = Some state }
+with_devices old (Err error) = old
+
+-- the line needs this part: where it is absent this is the reply; else this call settles the reply, and the state that is
+-- put back
+abbrev pub OnPart : {S : Type 0} → Option S → (S → Machine) → Reply → Machine → Reply → Machine → (S → S → Type 0) → Type 0
+OnPart {S} part put absent old reply new call =
+    MatchOption part
+    ((reply ≡ absent) × (new ≡ old))
+    (λ state. (later : S) × call state later × (new ≡ put later))
+
 -- the line needs a space: where there is one, this call settles the reply and the state that it leaves
 unfoldable pub OnSpace : Machine → Reply → Machine → (AddressState → AddressState → Type 0) → Type 0
-OnSpace old reply new call =
-    MatchOption old.space
-    ((reply ≡ NoSpace) × (new ≡ old))
-    (λ state. (later : AddressState) × call state later × (new ≡ record old { space = Some later }))
+OnSpace old reply new call = OnPart old.space (λ later. record old { space = Some later }) NoSpace old reply new call
 
 -- the line needs ids: where there are some, this call settles the reply and the state that it leaves
 unfoldable pub OnIds : Machine → Reply → Machine → (IdState → IdState → Type 0) → Type 0
-OnIds old reply new call =
-    MatchOption old.ids
-    ((reply ≡ NoIds) × (new ≡ old))
-    (λ state. (later : IdState) × call state later × (new ≡ record old { ids = Some later }))
+OnIds old reply new call = OnPart old.ids (λ later. record old { ids = Some later }) NoIds old reply new call
+
+-- the line needs a manager: where there is one, this call settles the reply and the state that it leaves
+unfoldable pub OnDevices : Machine → Reply → Machine → (DeviceState → DeviceState → Type 0) → Type 0
+OnDevices old reply new call =
+    OnPart old.devices (λ later. record old { devices = Some later }) NoManager old reply new call
 
 -- an allocation
 unfoldable pub Places : Machine → Request → Reply → Machine → Type 0
@@ -102,3 +118,16 @@ Does old (Some (Unid id)) reply new =
 Does old (Some (Has id)) reply new =
     OnIds old reply new (λ state later.
     (held : Bool) × (IsTrue held ↔ IsHeld state id) × (reply ≡ Held held) × (later ≡ state))
+Does old (Some (Manager id_lo id_hi base size)) reply new =
+    (answer : Result DeviceState Error)
+    × MakesManager id_lo id_hi base size answer
+    × (reply ≡ done_or_refused answer)
+    × (new ≡ with_devices old answer)
+Does old (Some (Device size alignment)) reply new =
+    OnDevices old reply new (λ state later.
+    (answer : Result DeviceSlot Error)
+    × Reserves state (record { size = size; align = alignment; policy = FirstMatch }) answer later
+    × (reply ≡ device_or_refused answer))
+Does old (Some (Undevice id)) reply new =
+    OnDevices old reply new (λ state later.
+    (answer : Result (Unit {0}) Error) × ReleasesDevice state id answer later × (reply ≡ done_or_refused answer))

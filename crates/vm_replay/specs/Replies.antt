@@ -3,13 +3,18 @@ use Rattle.std.specs.Prelude.{ℕ, if◌then◌else◌, List, ◌∷◌, ◌++�
 use Rattle.vm_allocator.specs.Range.{Range}
 use Rattle.vm_allocator.specs.declared.error.Error.{Error}
 use Rattle.vm_allocator.specs.declared.error.Error.TheVariants.{Overflow, OutOfRange, AlreadyReleased, NeverAllocated, ResourceNotAvailable, InvalidRange, InvalidAlignment, Overlap, InvalidStateTransition, UnalignedAddress, Underflow, InvalidSize, OutOfMemory}
+use Rattle.vm_devices.specs.declared.device_slot.DeviceSlot.{DeviceSlot}
 use Rattle.vm_replay.specs.Words.{blank}
 use Rattle.vm_replay.specs.declared.reply.Reply.{Reply}
-use Rattle.vm_replay.specs.declared.reply.Reply.TheVariants.{Done, Given, Id, Held, Refused, NoSpace, NoIds, NotInLanguage}
+use Rattle.vm_replay.specs.declared.reply.Reply.TheVariants.{Done, Given, Id, Held, Device, Refused, NoSpace, NoIds, NoManager, NotInLanguage}
 
 -- two numbers, with a blank between them
 abbrev pub pair_text : ℕ → ℕ → List ℕ
 pair_text first second = decimal first ++ blank ∷ decimal second
+
+-- how a device reads: its id and its range
+abbrev pub device_text : DeviceSlot → List ℕ
+device_text slot = codes "device " ++ decimal slot.id ++ blank ∷ pair_text slot.range.start slot.range.end
 
 -- how a refusal reads: no call answers an overlap
 abbrev pub refusal_text : Error → List ℕ
@@ -33,9 +38,11 @@ text_of Done = codes "done"
 text_of (Given range) = codes "range " ++ pair_text range.start range.end
 text_of (Id id) = codes "id " ++ decimal id
 text_of (Held held) = if held then codes "yes" else codes "no"
+text_of (Device slot) = device_text slot
 text_of (Refused error) = refusal_text error
 text_of NoSpace = codes "error no-space"
 text_of NoIds = codes "error no-ids"
+text_of NoManager = codes "error no-manager"
 text_of NotInLanguage = codes "error line"
 
 -- the reply to a call that gives nothing which is told
@@ -52,3 +59,8 @@ given_or_refused (Err error) = Refused error
 abbrev pub id_or_refused : Result ℕ Error → Reply
 id_or_refused (Ok id) = Id id
 id_or_refused (Err error) = Refused error
+
+-- the reply to a call that gives a device
+abbrev pub device_or_refused : Result DeviceSlot Error → Reply
+device_or_refused (Ok slot) = Device slot
+device_or_refused (Err error) = Refused error

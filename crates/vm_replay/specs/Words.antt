@@ -38,3 +38,9 @@ two_in read (first ∷ second ∷ third ∷ more) = None
 abbrev pub three_in : (List ℕ → Option ℕ) → List (List ℕ) → Option (ℕ × ℕ × ℕ)
 three_in read [] = None
 three_in read (first ∷ words) = option_map (λ p. (p.0, p.1.0, p.1.1)) (option_zip (read first) (two_in read words))
+
+-- the numbers that the words say, two by the one reading and two by the other, where they are four
+abbrev pub four_in : (List ℕ → Option ℕ) → (List ℕ → Option ℕ) → List (List ℕ) → Option ((ℕ × ℕ) × (ℕ × ℕ))
+four_in read other [] = None
+four_in read other (first ∷ []) = None
+four_in read other (first ∷ second ∷ words) = option_zip (option_zip (read first) (read second)) (two_in other words)

@@ -1,9 +1,9 @@
 ghost use Rattle.std.specs.Prelude.{◌≡◌};
 ghost use Rattle.vm_replay.specs.Commands.{command_of};
-ghost use Rattle.vm_replay.specs.Reading.{asked_on_ids};
+ghost use Rattle.vm_replay.specs.Reading.{asked_on_ids, asked_on_devices};
 ghost use Rattle.vm_replay.specs.Words.{words_of};
 
-use crate::words::{behind, one_id, three_numbers, two_ids, two_numbers};
+use crate::words::{behind, ids_and_numbers, one_id, three_numbers, two_ids, two_numbers};
 
 /// A longer line is not in the language.
 pub const LONGEST_LINE: usize = 120;
@@ -52,6 +52,24 @@ pub enum Command {
     Has {
         id: u32,
     },
+    /// A manager of devices, for the ids from `id_lo` to `id_hi` and the `size` addresses from
+    /// `base` on.
+    Manager {
+        id_lo: u32,
+        id_hi: u32,
+        base: u64,
+        size: u64,
+    },
+    /// A device: the least id that is not held, and the first place for `size` addresses at a
+    /// multiple of `alignment`.
+    Device {
+        size: u64,
+        alignment: u64,
+    },
+    /// The release of the device with this id.
+    Undevice {
+        id: u32,
+    },
 }
 
 /// What a line asks for. `None` where it is not in the language.
@@ -90,8 +108,8 @@ pub fn parse(line: &[u8]) -> Option<Command>
     parse_on_ids(line)
 }
 
-/// What a line asks of the ids.
-#[tactic(auto, using(crate::proofs::Names::on_nothing))]
+/// What a line asks of the ids, or else of the devices.
+#[tactic(auto, using(crate::proofs::Names::on_devices))]
 fn parse_on_ids(line: &[u8]) -> Option<Command>
     ensures { result ≡ asked_on_ids (words_of line.now) }
 {
@@ -112,6 +130,31 @@ fn parse_on_ids(line: &[u8]) -> Option<Command>
     }
     if line == b"id".as_slice() {
         return Some(Command::Id);
+    }
+    parse_on_devices(line)
+}
+
+/// What a line asks of the devices.
+#[tactic(auto, using(crate::proofs::Names::on_nothing))]
+fn parse_on_devices(line: &[u8]) -> Option<Command>
+    ensures { result ≡ asked_on_devices (words_of line.now) }
+{
+    if let Some(rest) = behind(b"device ", line) {
+        let (size, alignment) = two_numbers(rest)?;
+        return Some(Command::Device { size, alignment });
+    }
+    if let Some(rest) = behind(b"undevice ", line) {
+        let id = one_id(rest)?;
+        return Some(Command::Undevice { id });
+    }
+    if let Some(rest) = behind(b"manager ", line) {
+        let ((id_lo, id_hi), (base, size)) = ids_and_numbers(rest)?;
+        return Some(Command::Manager {
+            id_lo,
+            id_hi,
+            base,
+            size,
+        });
     }
     None
 }

@@ -7,12 +7,16 @@ use crate::reply::Reply;
 use std::alloc::Global;
 use std::marker::Model;
 use vm_allocator::{AddressAllocator, AllocPolicy, IdAllocator, RangeInclusive, Result};
+use vm_devices::DeviceManager;
+
+mod devices;
 
 /// What the lines so far have made.
 #[derive(Drop)]
 pub struct Machine {
     space: Option<AddressAllocator>,
     ids: Option<IdAllocator>,
+    devices: Option<DeviceManager>,
 }
 
 impl Model for Machine {
@@ -24,7 +28,7 @@ impl Model for Machine {
 
     ghost coded = { machine_code };
 
-    ghost view = { λ a. record { space = option_map state_of a.space; ids = a.ids } };
+    ghost view = { λ a. record { space = option_map state_of a.space; ids = a.ids; devices = a.devices } };
 }
 
 impl Machine {
@@ -37,6 +41,7 @@ impl Machine {
         Machine {
             space: None,
             ids: None,
+            devices: None,
         }
     }
 
@@ -69,6 +74,14 @@ impl Machine {
             Command::Id => self.take_id(),
             Command::Unid { id } => self.release_id(id),
             Command::Has { id } => self.has_id(id),
+            Command::Manager {
+                id_lo,
+                id_hi,
+                base,
+                size,
+            } => self.make_manager(alloc, id_lo, id_hi, base, size),
+            Command::Device { size, alignment } => self.reserve(alloc, size, alignment),
+            Command::Undevice { id } => self.release_device(id),
         }
     }
 

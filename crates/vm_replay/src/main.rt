@@ -1,5 +1,5 @@
-//! Replays lines of calls: each line of the standard input asks an allocator for something, and is
-//! answered by one line of the standard output.
+//! Replays lines of calls: each line of the standard input asks an allocator or a manager of devices
+//! for something, and is answered by one line of the standard output.
 #![tactic(auto)]
 
 ghost use Rattle.std.specs.Prelude.{◌≡◌};

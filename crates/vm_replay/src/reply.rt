@@ -1,9 +1,10 @@
 ghost use Rattle.std.specs.Prelude.{◌≡◌, ◌++◌, ◌+◌, ◌≤◌, length, decimal};
-ghost use Rattle.vm_replay.specs.Replies.{text_of, refusal_text, pair_text};
+ghost use Rattle.vm_replay.specs.Replies.{text_of, refusal_text, pair_text, device_text};
 
 use crate::buffer::{Buffer, CAPACITY};
 use crate::number::MOST_DIGITS;
 use vm_allocator::{Error, RangeInclusive};
+use vm_devices::DeviceSlot;
 
 /// The most bytes that a reply takes, the newline behind it aside: those of an invalid range.
 pub const LONGEST_REPLY: usize = 61;
@@ -19,12 +20,16 @@ pub enum Reply {
     Id(u32),
     /// Whether the id is held.
     Held(bool),
+    /// This device is there from now on.
+    Device(DeviceSlot),
     /// The call was refused.
     Refused(Error),
     /// The line needs a space, and none has been made.
     NoSpace,
     /// The line needs ids, and none have been made.
     NoIds,
+    /// The line needs a manager, and none has been made.
+    NoManager,
     /// The line is not in the language, or it is too long.
     NotInLanguage,
 }
@@ -41,11 +46,25 @@ pub fn write_reply(output: &mut Buffer, reply: Reply)
         Reply::Id(id) => write_number(output, b"id ", id.into()),
         Reply::Held(true) => output.push_all(b"yes"),
         Reply::Held(false) => output.push_all(b"no"),
+        Reply::Device(slot) => write_device(output, slot),
         Reply::Refused(error) => write_refusal(output, error),
         Reply::NoSpace => output.push_all(b"error no-space"),
         Reply::NoIds => output.push_all(b"error no-ids"),
+        Reply::NoManager => output.push_all(b"error no-manager"),
         Reply::NotInLanguage => output.push_all(b"error line"),
     }
+}
+
+/// Writes how a device reads.
+fn write_device(output: &mut Buffer, slot: DeviceSlot)
+    requires { length output.old + LONGEST_REPLY ≤ CAPACITY }
+    ensures text { output.new ≡ output.old ++ device_text slot }
+    ensures room { length output.new ≤ length output.old + LONGEST_REPLY }
+{
+    output.push_all(b"device ");
+    output.push_number(slot.id.into());
+    output.push(b' ');
+    push_pair(output, slot.range.start(), slot.range.end());
 }
 
 /// Writes how a refusal reads.
@@ -97,6 +116,16 @@ fn write_pair(output: &mut Buffer, text: &[u8], first: u64, second: u64)
     ensures room { length output.new ≤ length output.old + LONGEST_REPLY }
 {
     output.push_all(text);
+    push_pair(output, first, second);
+}
+
+/// Writes two numbers.
+#[inline(always)]
+fn push_pair(output: &mut Buffer, first: u64, second: u64)
+    requires { length output.old + MOST_DIGITS + 1 + MOST_DIGITS ≤ CAPACITY }
+    ensures text { output.new ≡ output.old ++ pair_text first second }
+    ensures room { length output.new ≤ length output.old + MOST_DIGITS + 1 + MOST_DIGITS }
+{
     output.push_number(first);
     output.push(b' ');
     output.push_number(second);

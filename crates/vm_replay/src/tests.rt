@@ -1,6 +1,7 @@
 //! Rows of the program, and readers and writers that fail.
 ghost use Rattle.std.specs.Prelude.{◌≤◌, length};
 
+mod device_rows;
 mod fronts;
 mod long_run;
 mod refused_requests;
@@ -12,10 +13,11 @@ use crate::machine::Machine;
 use crate::reply::write_reply;
 use crate::run::{RunError, run};
 use crate::status;
+use device_rows::{MANAGER_BESIDE_OTHERS, PROGRAM_DEVICES, REFUSALS_OF_DEVICES, WORDS_ON_DEVICES};
 use rows::{
-    ALL_POLICIES, FIRST_PROGRAM, FULL_SPACE, HELD_IDS, LINE_GRAMMAR, LINES_NOT_THERE_YET,
-    NUMBERS_OF_32_BITS, PLACES_OF_A_START, PROGRAM_IDS, PROGRAM_REFUSALS, REFUSALS_IN_ORDER,
-    REFUSALS_OF_IDS, Rows, SPACE_BESIDE_IDS, WORDS_AND_NUMBERS,
+    ALL_POLICIES, FIRST_PROGRAM, FULL_SPACE, HELD_IDS, LINE_GRAMMAR, NUMBERS_OF_32_BITS,
+    PLACES_OF_A_START, PROGRAM_IDS, PROGRAM_REFUSALS, REFUSALS_IN_ORDER, REFUSALS_OF_IDS, Rows,
+    SPACE_BESIDE_IDS, WORDS_AND_NUMBERS,
 };
 use std::alloc::Global;
 use std::io;
@@ -251,7 +253,6 @@ fn programs_of_the_language(rt: HostRuntime) {
     expect_rows(&rt, rt.alloc(), "line-grammar", LINE_GRAMMAR);
     expect_rows(&rt, rt.alloc(), "words-and-numbers", WORDS_AND_NUMBERS);
     expect_rows(&rt, rt.alloc(), "numbers-of-32-bits", NUMBERS_OF_32_BITS);
-    expect_rows(&rt, rt.alloc(), "lines-not-there-yet", LINES_NOT_THERE_YET);
 }
 
 #[test]
@@ -274,6 +275,19 @@ fn programs_on_ids(rt: HostRuntime) {
     expect_rows(&rt, rt.alloc(), "refusals-of-ids", REFUSALS_OF_IDS);
     expect_rows(&rt, rt.alloc(), "held-ids", HELD_IDS);
     expect_rows(&rt, rt.alloc(), "space-beside-ids", SPACE_BESIDE_IDS);
+}
+
+#[test]
+fn programs_on_devices(rt: HostRuntime) {
+    expect_rows(&rt, rt.alloc(), "program-devices", PROGRAM_DEVICES);
+    expect_rows(&rt, rt.alloc(), "refusals-of-devices", REFUSALS_OF_DEVICES);
+    expect_rows(&rt, rt.alloc(), "words-on-devices", WORDS_ON_DEVICES);
+    expect_rows(
+        &rt,
+        rt.alloc(),
+        "manager-beside-others",
+        MANAGER_BESIDE_OTHERS,
+    );
 }
 
 /// A line may begin and end anywhere in a piece.
@@ -510,6 +524,38 @@ fn a_line_comes_again_when_memory_ran_out(rt: HostRuntime) {
         ("has 5", "no", "has 6", "yes"),
         ("id", "id 5", "has 5", "no"),
         ("id", "id 7", "has 7", "no"),
+        ("manager 0 1 16 4", "done", "device 1 1", "error no-manager"),
+        (
+            "device 1 1",
+            "device 0 16 16",
+            "undevice 0",
+            "error never-allocated 0",
+        ),
+        (
+            "device 2 1",
+            "device 1 17 18",
+            "undevice 1",
+            "error never-allocated 1",
+        ),
+        ("undevice 0", "done", "device 1 1", "error not-available"),
+        (
+            "device 1 1",
+            "device 0 16 16",
+            "undevice 0",
+            "error never-allocated 0",
+        ),
+        (
+            "manager 0 0 32 4",
+            "done",
+            "device 1 1",
+            "error not-available",
+        ),
+        (
+            "device 4 1",
+            "device 0 32 35",
+            "undevice 0",
+            "error never-allocated 0",
+        ),
     ] {
         let mut got = answer(&rt, rt.alloc(), &mut machine, line);
         if shown(got.as_slice()) == "error memory" {

@@ -1,7 +1,7 @@
 ghost use Rattle.std.specs.Prelude.{◌≡◌, ◌≢◌, ◌++◌, ℕ, List, None, Some, MatchOption};
 ghost use Rattle.std.specs.Option.{option_copied};
 ghost use Rattle.vm_replay.specs.Numbers.{number_of, id_of};
-ghost use Rattle.vm_replay.specs.Words.{words_of, words_behind, one_in, two_in, three_in};
+ghost use Rattle.vm_replay.specs.Words.{words_of, words_behind, one_in, two_in, three_in, four_in};
 ghost use Rattle.vm_replay.specs.Reading.{number_first};
 
 use crate::number::number_ahead;
@@ -77,7 +77,7 @@ pub fn three_numbers(text: &[u8]) -> Option<(u64, u64, u64)>
 }
 
 /// The id that the word of a text says, where it is one.
-#[tactic(auto, using(crate::proofs::FirstNumber::one_id))]
+#[tactic(auto, using(crate::proofs::IdNumbers::one_id))]
 pub fn one_id(text: &[u8]) -> Option<u32>
     ensures { result ≡ one_in id_of (words_of text.now) }
 {
@@ -85,10 +85,21 @@ pub fn one_id(text: &[u8]) -> Option<u32>
 }
 
 /// The ids that the words of a text say, where they are two.
-#[tactic(auto, using(crate::proofs::FirstNumber::two_ids))]
+#[tactic(auto, using(crate::proofs::IdNumbers::two_ids))]
 pub fn two_ids(text: &[u8]) -> Option<(u32, u32)>
     ensures { result ≡ two_in id_of (words_of text.now) }
 {
     let (first, second) = two_numbers(text)?;
     Some((u32::try_from(first).ok()?, u32::try_from(second).ok()?))
+}
+
+/// The two ids and the two numbers that the words of a text say, where they are four.
+#[tactic(auto, using(crate::proofs::IdNumbers::four_none, crate::proofs::IdNumbers::four_some))]
+pub fn ids_and_numbers(text: &[u8]) -> Option<((u32, u32), (u64, u64))>
+    ensures { result ≡ four_in id_of number_of (words_of text.now) }
+{
+    let (first, rest) = first_number(text)?;
+    let (second, third, fourth) = three_numbers(rest?)?;
+    let ids = (u32::try_from(first).ok()?, u32::try_from(second).ok()?);
+    Some((ids, (third, fourth)))
 }

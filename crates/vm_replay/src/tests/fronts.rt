@@ -81,6 +81,15 @@ const CUT_IDS: CutLines = &[
     (12, "unid 429496729", "error out-of-range 429496729"),
 ];
 
+const CUT_DEVICES: CutLines = &[
+    (1, "manager 0 1 4096 4", "done"),
+    (1, "manager 0 1 4096 40", "done"),
+    (1, "manager 0 1 4096 409", "done"),
+    (2, "device 2048 2", "device 0 4096 6143"),
+    (2, "device 2048 20", "error invalid-alignment"),
+    (2, "device 2048 204", "error invalid-alignment"),
+];
+
 /// The answer to what the input has of the line of this number, counted from 0.
 fn answer_of(number: usize, line: &[u8], rows: Rows, cut_lines: CutLines) -> &'static str {
     if let Some((whole, answer)) = rows.get(number) {
@@ -140,4 +149,9 @@ fn fronts_of_refusals(rt: HostRuntime) {
 #[test]
 fn fronts_on_ids(rt: HostRuntime) {
     expect_fronts(&rt, rt.alloc(), PROGRAM_IDS, CUT_IDS);
+}
+
+#[test]
+fn fronts_on_devices(rt: HostRuntime) {
+    expect_fronts(&rt, rt.alloc(), PROGRAM_DEVICES, CUT_DEVICES);
 }

@@ -18,6 +18,14 @@ const REQUEST_OF_AN_ID: Columns = &[
     "done\nid 5\nid 6\nerror memory\nyes\nid 5\nid 5\nid 7\n",
 ];
 
+const REQUESTS_OF_DEVICES: Columns = &[
+    "done\ndevice 0 16 16\ndevice 1 17 19\ndone\nerror never-allocated 0\ndevice 0 16 16\n",
+    "error memory\nerror no-manager\nerror no-manager\nerror no-manager\nerror no-manager\nerror no-manager\n",
+    "done\nerror memory\ndevice 0 16 18\ndone\nerror never-allocated 0\ndevice 0 16 16\n",
+    "done\nerror memory\ndevice 0 16 18\ndone\nerror never-allocated 0\ndevice 0 16 16\n",
+    "done\ndevice 0 16 16\ndevice 1 17 19\nerror memory\ndone\ndevice 0 16 16\n",
+];
+
 /// The number of the request that tests/refused_memory refuses.
 fn refused_request(rt: &impl Env) -> Option<usize> {
     let mut digits = [0u8; 20];
@@ -52,4 +60,10 @@ fn two_requests(rt: HostRuntime) {
 fn request_of_an_id(rt: HostRuntime) {
     let input = "ids 5 9\nid\nid\nunid 5\nhas 5\nunid 5\nid\nid\n";
     expect_column(&rt, rt.alloc(), input, REQUEST_OF_AN_ID);
+}
+
+#[test]
+fn requests_of_devices(rt: HostRuntime) {
+    let input = "manager 0 1 16 4\ndevice 1 1\ndevice 3 1\nundevice 0\nundevice 0\ndevice 1 1\n";
+    expect_column(&rt, rt.alloc(), input, REQUESTS_OF_DEVICES);
 }

@@ -58,14 +58,6 @@ pub const WORDS_AND_NUMBERS: Rows = &[
     ("first 1 1", "range 16 16"),
 ];
 
-/// Lines that the language does not have yet.
-pub const LINES_NOT_THERE_YET: Rows = &[
-    ("space 16 4", "done"),
-    ("manager 0 1 4096 4096", "error line"),
-    ("device 1 1", "error line"),
-    ("undevice 0", "error line"),
-];
-
 /// Which refusal comes first; a refused space keeps the old one.
 pub const REFUSALS_IN_ORDER: Rows = &[
     ("free 2 1", "error no-space"),
