@@ -4,7 +4,7 @@ use Rattle.std.proofs.Common.{◌≡◌, ℕ, ◌+◌, ◌-◌, ◌%◌, ◌<◌
 use Rattle.std.proofs.lemmas.Bool.{and_parts, lt-ltb, le-ltb, cases_lt, not-true}
 use Rattle.vm_allocator.specs.Range.{Range}
 use Rattle.vm_allocator.specs.Address.{AreSlots}
-use Rattle.vm_allocator.specs.Block.{Block, is_free}
+use Rattle.vm_allocator.specs.Block.{is_free}
 use Rattle.vm_allocator.specs.Blocks.{gap_before, blocks_between, blocks_of}
 use Rattle.vm_allocator.specs.BlockEdits.{free_block}
 use Rattle.vm_allocator.specs.Fit.{HasNoFit}

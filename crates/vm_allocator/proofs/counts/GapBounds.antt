@@ -8,7 +8,7 @@ use Rattle.vm_allocator.specs.Address.{AddressState, IsPlace}
 use Rattle.vm_allocator.specs.Alignment.{IsLeastMultiple}
 use Rattle.vm_allocator.specs.Answer.{ByExactStart, ByPlace, Takes, Settles}
 use Rattle.vm_allocator.specs.GapSearch.{is_futile, futile_gaps, is_cramped, cramped_gaps, IsGapSearchCount, SearchesAmong, SearchesGaps, SearchesAligned}
-use Rattle.vm_allocator.specs.Request.{Request, request_for, IsRequest, ByPolicy, MakesConstraint}
+use Rattle.vm_allocator.specs.Request.{Request, request_for, IsRequest, MakesConstraint}
 use Rattle.vm_allocator.specs.Shape.{Shape, blocks, height_of}
 use Rattle.vm_allocator.specs.SpaceTree.{space_of, tree_state, IsSpaceTree}
 use Rattle.vm_allocator.specs.Steps.{Enters, IsHeldIn}

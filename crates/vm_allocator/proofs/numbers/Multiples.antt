@@ -1,5 +1,5 @@
 -- Whether a multiple lies in a range, and how many alignments have one there.
-use Rattle.std.proofs.Common.{◌≡◌, ◌≢◌, ℕ, ◌+◌, ◌-◌, ◌*◌, ◌/◌, ◌%◌, ◌^◌, ◌<◌, ◌≤◌, ◌↔◌, zero, suc, true, false, cond, bit_xor, refl, sym, ap, ◌∙◌, subst, arith, ⊎_elim, pow_mono}
+use Rattle.std.proofs.Common.{◌≡◌, ◌≢◌, ℕ, ◌+◌, ◌-◌, ◌*◌, ◌%◌, ◌^◌, ◌<◌, ◌≤◌, ◌↔◌, zero, suc, true, false, cond, bit_xor, refl, sym, ap, ◌∙◌, subst, arith, ⊎_elim, pow_mono}
 use Rattle.std.specs.Int.{w64, trailing_zeros, bit_at}
 use Rattle.std.proofs.lemmas.Bool.{cases_lt, cases_eq, le-leb, leb-true}
 use Rattle.std.proofs.lemmas.Nat.{pow_pos, mod-pow-add}
