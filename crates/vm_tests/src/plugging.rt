@@ -1,13 +1,12 @@
 //! The README's example, word for word below this line.
 ghost use Rattle.std.specs.Prelude.{◌≡◌, IfOk};
 
-use crate as vm_devices;
 use std::alloc::Global;
 use vm_allocator::{AllocPolicy, Result};
 use vm_devices::{DeviceManager, DeviceSlot};
 
 /// A device that is plugged in, out and in again: it gets the same id and the same window.
-#[tactic(auto, using(crate::proofs::Callers::callers))]
+#[tactic(auto, using(vm_devices::proofs::Callers::callers))]
 pub fn replugged(alloc: Global) -> Result<(DeviceSlot, DeviceSlot)>
     ensures { IfOk result (λ both. both.0 ≡ both.1) }
 {

@@ -1,56 +1,13 @@
-use super::*;
-use crate::allocation_engine::NodeState;
+//! Ranges, constraints, and errors with their texts.
 use std::alloc::{AllocError, Global};
 use std::cmp::Ordering;
-use std::process::Abort;
 use std::test::Fail;
-
-mod uses;
-mod windows;
+use vm_allocator::allocation_engine::NodeState;
+use vm_allocator::{
+    AllocPolicy, Constraint, DEFAULT_CONSTRAINT_ALIGN, Error, RangeInclusive, ValueError,
+};
 
 const MAX: u64 = u64::MAX;
-
-/// How many bytes `end_of_memory` asks for. Nothing else asks for as many, and tests/refused_memory
-/// has the same number.
-const LAST_REQUEST: usize = 1_000_003;
-
-/// How many bytes `balance` asks for; tests/refused_memory has the same number.
-const BALANCE_REQUEST: usize = 1_000_005;
-
-/// The allocator of a space. A second try stands for a run in which one request for memory is
-/// refused, here and below.
-pub(crate) fn made(rt: &(impl Abort + AllocGlobal), base: u64, size: u64) -> AddressAllocator {
-    match AddressAllocator::new(rt.alloc(), base, size) {
-        Ok(space) => space,
-        Err(_) => AddressAllocator::new(rt.alloc(), base, size).expect(
-            rt,
-            "memory is refused once",
-        ),
-    }
-}
-
-/// Whether these ranges are held, and no others.
-pub(crate) fn holds_just(space: &AddressAllocator, ranges: &[(u64, u64)]) -> bool {
-    let mut held = space.held_ranges();
-    for range in ranges {
-        match held.next() {
-            Some(next) if (next.start(), next.end()) == *range => {}
-            _ => return false,
-        }
-    }
-    held.next().is_none()
-}
-
-/// Asks for memory, whether it is there or not. tests/refused_memory refuses every later request.
-pub(crate) fn end_of_memory(alloc: Global) {
-    let _ = Vec::<u8>::with_capacity(alloc, LAST_REQUEST);
-}
-
-/// Asks for memory, whether it is there or not. From one call of this to the next as much has to be
-/// given back as was given: tests/refused_memory counts.
-pub(crate) fn balance(alloc: Global) {
-    let _ = Vec::<u8>::with_capacity(alloc, BALANCE_REQUEST);
-}
 
 #[test]
 fn test_new_range(rt: HostRuntime) -> std::result::Result<(), Fail> {

@@ -2,12 +2,11 @@
 ghost use Rattle.std.specs.Prelude.{◌≡◌, IfOk};
 ghost use Rattle.vm_allocator.specs.Range.{Overlaps};
 
-use crate as vm_allocator;
 use std::alloc::Global;
 use vm_allocator::{AddressAllocator, AllocPolicy, RangeInclusive, Result, ValueError};
 
 /// Two windows of a page each in the gap below 4 GiB.
-#[tactic(auto, using(crate::proofs::Callers::callers))]
+#[tactic(auto, using(vm_allocator::proofs::Callers::callers))]
 pub fn windows(alloc: Global) -> Result<(RangeInclusive, RangeInclusive)>
     ensures { IfOk result (λ both. ¬ Overlaps both.0 both.1) }
 {
@@ -18,7 +17,7 @@ pub fn windows(alloc: Global) -> Result<(RangeInclusive, RangeInclusive)>
 }
 
 /// The allocator that is read from what is written of another: the same one, node for node.
-#[tactic(auto, using(crate::proofs::Callers::callers))]
+#[tactic(auto, using(vm_allocator::proofs::Callers::callers))]
 pub fn restored(
     alloc: Global,
     mmio: &AddressAllocator,

@@ -5,14 +5,15 @@ ghost use Rattle.vm_allocator.specs.Range.{address_count};
 ghost use Rattle.vm_allocator.specs.Allocator.{state_of};
 ghost use Rattle.vm_allocator.specs.Ids.{IsHeld};
 
-use super::made;
-use super::windows::{restored, windows};
-use crate::*;
+use crate::fixtures::made;
+use crate::plugging::replugged;
+use crate::windows::{restored, windows};
 use std::alloc::Global;
 use std::test::Fail;
+use vm_allocator::{AddressAllocator, AllocPolicy, Error, IdAllocator, RangeInclusive, Result};
 
 /// A bar, which has to lie at a multiple of its size.
-#[tactic(auto, using(crate::proofs::Callers::callers))]
+#[tactic(auto, using(vm_allocator::proofs::Callers::callers))]
 fn place_bar(alloc: Global, gap: &mut AddressAllocator, size: u64) -> Result<RangeInclusive>
     ensures aligned { IfOk result (λ bar. bar.start % size ≡ 0) }
     ensures long { IfOk result (λ bar. address_count bar ≡ size) }
@@ -21,7 +22,7 @@ fn place_bar(alloc: Global, gap: &mut AddressAllocator, size: u64) -> Result<Ran
 }
 
 /// Gives a slot back and takes it again, as for a device that is plugged out and in.
-#[tactic(auto, using(crate::proofs::Callers::callers))]
+#[tactic(auto, using(vm_allocator::proofs::Callers::callers))]
 fn replug(
     alloc: Global,
     memory: &mut AddressAllocator,
@@ -38,7 +39,7 @@ fn replug(
 }
 
 /// An interrupt number for a device, which no other device holds.
-#[tactic(auto, using(crate::proofs::Callers::callers))]
+#[tactic(auto, using(vm_allocator::proofs::Callers::callers))]
 fn take_interrupt(numbers: &mut IdAllocator) -> Result<u32>
     ensures nobodys { IfOk result (λ number. ¬ IsHeld numbers.old number) }
     ensures held { IfOk result (λ number. IsHeld numbers.new number) }
@@ -47,7 +48,7 @@ fn take_interrupt(numbers: &mut IdAllocator) -> Result<u32>
 }
 
 #[test]
-#[tactic(auto, using(crate::proofs::Callers::callers))]
+#[tactic(auto, using(vm_allocator::proofs::Callers::callers))]
 fn uses(rt: HostRuntime) -> std::result::Result<(), Fail> {
     let (first, second) = match windows(rt.alloc()) {
         Err(Error::OutOfMemory) => windows(rt.alloc())?,
@@ -74,5 +75,19 @@ fn uses(rt: HostRuntime) -> std::result::Result<(), Fail> {
     let mut numbers = IdAllocator::new(rt.alloc(), 5, 23)?;
     assert_eq!(rt; take_interrupt(&mut numbers), Ok(5));
     assert_eq!(rt; take_interrupt(&mut numbers), Ok(6));
+    Ok(())
+}
+
+#[test]
+fn replugs(rt: HostRuntime) -> std::result::Result<(), Fail> {
+    let (first, again) = match replugged(rt.alloc()) {
+        Err(Error::OutOfMemory) => replugged(rt.alloc())?,
+        answer => answer?,
+    };
+    assert_eq!(rt;
+        (first.id, first.range.start(), first.range.end()),
+        (0, 0xD000_0000, 0xD000_0FFF)
+    );
+    assert_eq!(rt; again, first);
     Ok(())
 }

@@ -1,6 +1,6 @@
 //! What asks for no memory. tests/refused_memory refuses every request after `end_of_memory`.
 use super::*;
-use crate::tests::{end_of_memory, holds_just};
+use crate::fixtures::{end_of_memory, holds_just};
 use std::cmp::Ordering;
 
 /// Does the calls in turn, each with the answer that it has to have, memory or not.

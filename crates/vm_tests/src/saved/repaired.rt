@@ -104,7 +104,7 @@ const ONE_BETWEEN_GAPS: &str = r#"{"address_space":{"start":16,"end":19},"interv
 #[test]
 fn repaired_to_blocks(rt: HostRuntime) -> std::result::Result<(), Fail> {
     let space = read_repaired(&rt, &parsed(&rt, ONE_BETWEEN_GAPS))?;
-    assert_eq!(rt; space.interval_tree.block_count(), 3);
+    assert_eq!(rt; block_count(&rt, &space), 3);
     assert_eq!(rt; space.height(), 2);
     Ok(())
 }

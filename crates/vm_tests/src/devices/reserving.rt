@@ -80,21 +80,15 @@ fn memory_for_each_device(rt: HostRuntime) {
     let mut devices = made(&rt, (0, 40), 0, 0x1_0000);
     for id in 0..30u32 {
         let start = u64::from(id) * 16;
-        replay(
-            &rt,
-            &mut devices,
-            &[(First(16, 16), Device(id, start, start + 15))],
-        );
+        let want = Device(id, start, start + 15);
+        ask_again(&rt, &mut devices, First(16, 16), want);
     }
     for id in 0..15u32 {
-        replay(&rt, &mut devices, &[(Release(id * 2), Gone)]);
+        ask_again(&rt, &mut devices, Release(id * 2), Gone);
     }
     for id in 0..15u32 {
         let start = u64::from(id) * 32;
-        replay(
-            &rt,
-            &mut devices,
-            &[(First(16, 16), Device(id * 2, start, start + 15))],
-        );
+        let want = Device(id * 2, start, start + 15);
+        ask_again(&rt, &mut devices, First(16, 16), want);
     }
 }

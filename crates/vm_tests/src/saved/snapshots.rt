@@ -225,15 +225,6 @@ const EVERY_SECOND_FREED: &str =
 /// Ids 5 to 23: seven taken, 6 and 9 given back.
 const IDS: &str = r#"{"range_base":5,"next_id":12,"range_end":23,"freed_ids":[6,9]}"#;
 
-/// How many ranges are held.
-fn held_count(space: &AddressAllocator) -> u64 {
-    let mut count = 0u64;
-    for _ in space.held_ranges() {
-        count = count.wrapping_add(1);
-    }
-    count
-}
-
 #[test]
 fn read_as_the_other_crate_wrote(rt: HostRuntime) -> std::result::Result<(), Fail> {
     let windows = [
@@ -261,7 +252,7 @@ fn read_as_the_other_crate_wrote(rt: HostRuntime) -> std::result::Result<(), Fai
     ] {
         let value = parsed(&rt, text);
         let space = read(&rt, &value)?;
-        assert_eq!(rt; held_count(&space), count, "{text}");
+        assert_eq!(rt; space.held_count(), count, "{text}");
         for (held, want) in space.held_ranges().zip(first) {
             assert_eq!(rt; (held.start(), held.end()), *want, "{text}");
         }

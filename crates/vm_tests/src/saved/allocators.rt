@@ -1,6 +1,5 @@
 //! Address allocators, their ranges and states.
 use super::*;
-use crate::allocation_engine::NodeState;
 
 /// [16, 19], with nothing held.
 pub(super) const FRESH: &str = r#"{"address_space":{"start":16,"end":19},"interval_tree":{"root":{
@@ -109,23 +108,13 @@ fn blocks_that_are_none_of_a_space(rt: HostRuntime) {
     }
 }
 
-/// The text of a value. A second try stands for a run in which one request for memory is refused.
-fn text_of(rt: &(impl Abort + AllocGlobal), value: &Value) -> String {
-    match value.to_string(rt.alloc()) {
-        Ok(text) => text,
-        Err(_) => value
-            .to_string(rt.alloc())
-            .expect(rt, "memory is refused once"),
-    }
-}
-
 #[test]
 fn by_way_of_a_text(rt: HostRuntime) -> std::result::Result<(), Fail> {
     let space = one_held(&rt);
     let text = text_of(&rt, &saved(&rt, &space));
     let again = read(&rt, &parsed(&rt, &text))?;
     assert!(rt; again == space);
-    assert!(rt; again.interval_tree.is_same(&space.interval_tree));
+    assert!(rt; saved(&rt, &again) == saved(&rt, &space));
     Ok(())
 }
 

@@ -1,6 +1,5 @@
 //! Values of strangers.
 use super::*;
-use crate::allocation_engine::NodeState;
 use serde_json::json;
 use std::alloc::AllocError;
 

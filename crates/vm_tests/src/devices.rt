@@ -1,8 +1,12 @@
-use super::*;
+//! Managers of devices.
 use Call::{Exact, First, Last, Release};
 use Want::{Device, Gone, Held, NeverAllocated, NoSize, NotAvailable, Overflow, Unaligned};
+use serde_json::Value;
+use std::alloc::Global;
 use std::process::Abort;
 use vm_allocator::allocation_engine::NodeState::Allocated;
+use vm_allocator::{AddressAllocator, AllocPolicy, Error, RangeInclusive, Result};
+use vm_devices::DeviceManager;
 
 mod reserving;
 mod saved;
@@ -87,39 +91,38 @@ fn made(rt: &(impl Abort + AllocGlobal), ids: (u32, u32), base: u64, size: u64) 
     }
 }
 
-/// What a manager holds, part by part.
+/// What a manager holds: its saved value, and the allocator of its addresses, whose tree may have
+/// another shape after a refusal.
 #[derive(Drop)]
 struct Parts {
-    ids: IdAllocator,
+    value: Value,
     space: AddressAllocator,
-    slots: BTreeMap<u32, RangeInclusive>,
 }
 
 impl Parts {
-    fn copied(devices: &DeviceManager, alloc: Global) -> Result<Parts> {
-        let Ok(slots) = devices.slots.clone() else {
-            return Err(Error::OutOfMemory);
-        };
-        Ok(Parts {
-            ids: devices.id_allocator.try_clone(alloc)?,
-            space: devices.mmio_allocator.try_clone(alloc)?,
-            slots,
-        })
-    }
-
     fn of(rt: &(impl Abort + AllocGlobal), devices: &DeviceManager) -> Parts {
-        match Parts::copied(devices, rt.alloc()) {
-            Ok(parts) => parts,
-            Err(_) => Parts::copied(devices, rt.alloc()).expect(rt, "memory is refused once"),
-        }
+        let value = saved_devices(rt, devices);
+        let part = value.get("mmio_allocator").expect(rt, "a manager has it");
+        let space = crate::fixtures::read(rt, part).expect(rt, "it is an allocator");
+        Parts { value, space }
     }
 
-    /// Whether the manager holds the same: no test has an id from 200 on, but for the last of all.
-    fn are_of(&self, devices: &DeviceManager) -> bool {
-        let same_ids = self.ids.peek_id() == devices.id_allocator.peek_id()
-            && (0..200).all(|id| self.ids.is_allocated(id)
-                == devices.id_allocator.is_allocated(id));
-        same_ids && self.space == devices.mmio_allocator && self.slots == devices.slots
+    /// Whether the ids, the devices and the held ranges are the same.
+    fn are_of(&self, rt: &(impl Abort + AllocGlobal), devices: &DeviceManager) -> bool {
+        let other = Parts::of(rt, devices);
+        self.value.get("id_allocator") == other.value.get("id_allocator")
+            && self.value.get("slots") == other.value.get("slots")
+            && self.space == other.space
+    }
+}
+
+/// The value that states a manager.
+fn saved_devices(rt: &(impl Abort + AllocGlobal), devices: &DeviceManager) -> Value {
+    match devices.to_value(rt.alloc()) {
+        Ok(value) => value,
+        Err(_) => devices
+            .to_value(rt.alloc())
+            .expect(rt, "memory is refused once"),
     }
 }
 
@@ -130,16 +133,37 @@ fn replay(rt: &(impl Abort + AllocGlobal), devices: &mut DeviceManager, rows: &[
         let before = Parts::of(rt, devices);
         let answer = match call.ask(devices, rt.alloc()) {
             Err(Error::OutOfMemory) => {
-                assert!(rt; before.are_of(devices), "a refusal changes nothing");
+                assert!(rt; before.are_of(rt, devices), "a refusal changes nothing");
                 call.ask(devices, rt.alloc())
             }
             answer => answer,
         };
         assert_eq!(rt; answer, want.answer(), "{call:?}");
         if answer.is_err() {
-            assert!(rt; before.are_of(devices), "a refusal changes nothing");
+            assert!(rt; before.are_of(rt, devices), "a refusal changes nothing");
         }
     }
+}
+
+/// Does a call of many, which has to have its answer. Where memory is refused the devices stay, and
+/// the same call is made again.
+fn ask_again(rt: &(impl Abort + AllocGlobal), devices: &mut DeviceManager, call: Call, want: Want) {
+    let before = slots_of(devices);
+    let mut answer = call.ask(devices, rt.alloc());
+    if answer == Err(Error::OutOfMemory) {
+        assert!(rt; slots_of(devices) == before, "a refusal changes nothing");
+        answer = call.ask(devices, rt.alloc());
+    }
+    assert_eq!(rt; answer, want.answer(), "{call:?}");
+}
+
+/// The ranges of the devices with the first ids.
+fn slots_of(devices: &DeviceManager) -> [Option<RangeInclusive>; 64] {
+    let mut slots = [None; 64];
+    for (id, slot) in slots.iter_mut().enumerate() {
+        *slot = devices.slot(id as u32);
+    }
+    slots
 }
 
 /// The first and the last address that the device with this id has.

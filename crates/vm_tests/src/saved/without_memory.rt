@@ -1,6 +1,5 @@
 //! What asks for no memory. tests/refused_memory refuses every request after `end_of_memory`.
 use super::*;
-use crate::allocation_engine::NodeState;
 
 /// An allocator whose tree has one node.
 const ONE_NODE: &str = r#"{"address_space":{"start":16,"end":19},"interval_tree":{"root":{

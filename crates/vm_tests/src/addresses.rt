@@ -1,12 +1,14 @@
-use super::*;
-use crate::allocation_engine::NodeState::Allocated;
-use crate::tests::made;
+//! Address allocators.
+use crate::fixtures::{block_count, cloned, made};
 use AllocPolicy::{ExactMatch, FirstMatch, LastMatch};
 use Call::{Exact, First, Free, Last, Space};
 use Form::{Counted, Plain};
 use Want::{Held, NoAlignment, NoSize, NotAvailable, Overflow, Range, Unaligned, Underflow};
+use std::alloc::Global;
 use std::process::Abort;
 use std::test::Fail;
+use vm_allocator::allocation_engine::NodeState::Allocated;
+use vm_allocator::{AddressAllocator, AllocPolicy, Error, RangeInclusive, Result};
 
 mod aligned;
 mod comparing;
@@ -109,16 +111,6 @@ impl Call {
             Counted => space.allocate_counted(alloc, size, alignment, policy).0?,
         };
         Ok((range.start(), range.end()))
-    }
-}
-
-/// A clone, made again where memory is refused once.
-fn cloned(rt: &(impl Abort + AllocGlobal), space: &AddressAllocator) -> AddressAllocator {
-    match space.try_clone(rt.alloc()) {
-        Ok(clone) => clone,
-        Err(_) => space
-            .try_clone(rt.alloc())
-            .expect(rt, "memory is refused once"),
     }
 }
 
@@ -396,7 +388,7 @@ fn balanced_and_counted(rt: HostRuntime) -> std::result::Result<(), Fail> {
     }
     assert_eq!(rt; held, 1024);
     assert!(rt; space.height() <= 15);
-    assert_eq!(rt; space.interval_tree.block_count(), 2047);
+    assert_eq!(rt; block_count(&rt, &space), 2047);
     every_second_is_clear(&rt, &mut space);
     Ok(())
 }

@@ -1,9 +1,6 @@
 //! What asks for no memory, run with every request refused.
 use super::*;
-
-/// How many bytes the test asks for last. Nothing else asks for as many, and tests/refused_memory has
-/// the same number.
-const LAST_REQUEST: usize = 1_000_003;
+use crate::fixtures::end_of_memory;
 
 #[test]
 fn looked_up_or_refused(rt: HostRuntime) {
@@ -13,7 +10,7 @@ fn looked_up_or_refused(rt: HostRuntime) {
         &mut devices,
         &[(First(0x800, 1), Device(0, 0x1000, 0x17FF))],
     );
-    let _ = Vec::<u8>::with_capacity(rt.alloc(), LAST_REQUEST);
+    end_of_memory(rt.alloc());
     assert_eq!(rt; slot_of(&devices, 0), Some((0x1000, 0x17FF)));
     assert_eq!(rt; slot_of(&devices, 1), None);
     let refused = [

@@ -16,5 +16,5 @@ fn splits_by_each_policy(rt: HostRuntime) {
         (Exact(0x100, 0x100, 0x500), Range(0x500, 0x5FF)),
     ];
     replay(&rt, &mut space, &rows);
-    assert_eq!(rt; (space.height(), space.interval_tree.block_count()), (2, 3));
+    assert_eq!(rt; (space.height(), block_count(&rt, &space)), (2, 3));
 }

@@ -1,6 +1,6 @@
 //! Managers written and read, and values of strangers.
 use super::*;
-use serde_json::Value;
+use crate::fixtures::{balance, parsed};
 use std::alloc::AllocError;
 use std::test::Fail;
 use vm_allocator::ValueError;
@@ -45,15 +45,6 @@ const NO_DEVICE: &str = r#"{"version":1,
     "key":{"start":4096,"end":8191},"node_state":"Free","left":null,"right":null,"height":1}}},
     "slots":[]}"#;
 
-/// The value of a text. A second try stands for a run in which one request for memory is refused,
-/// here and below.
-fn parsed(rt: &(impl Abort + AllocGlobal), text: &str) -> Value {
-    match Value::from_str(rt.alloc(), text) {
-        Ok(value) => value,
-        Err(_) => Value::from_str(rt.alloc(), text).expect(rt, "memory is refused once"),
-    }
-}
-
 /// The manager that a value states.
 fn read(
     rt: &(impl Abort + AllocGlobal),
@@ -63,25 +54,6 @@ fn read(
         Err(ValueError::OutOfMemory) => DeviceManager::from_value(rt.alloc(), value),
         answer => answer,
     }
-}
-
-/// The value that states a manager.
-fn saved(rt: &(impl Abort + AllocGlobal), devices: &DeviceManager) -> Value {
-    match devices.to_value(rt.alloc()) {
-        Ok(value) => value,
-        Err(_) => devices
-            .to_value(rt.alloc())
-            .expect(rt, "memory is refused once"),
-    }
-}
-
-/// How many bytes `balance` asks for; tests/refused_memory has the same number.
-const BALANCE_REQUEST: usize = 1_000_005;
-
-/// Asks for memory, whether it is there or not. From one call of this to the next as much has to be
-/// given back as was given: tests/refused_memory counts.
-fn balance(alloc: Global) {
-    let _ = Vec::<u8>::with_capacity(alloc, BALANCE_REQUEST);
 }
 
 #[test]
@@ -101,10 +73,13 @@ fn devices_written_and_read(rt: HostRuntime) -> std::result::Result<(), Fail> {
     let first = [(First(2048, 2048), Device(0, 4096, 6143))];
     replay(&rt, &mut devices, &first);
     let before = Parts::of(&rt, &devices);
-    let value = saved(&rt, &devices);
-    assert!(rt; before.are_of(&devices), "writing changes nothing");
+    let value = saved_devices(&rt, &devices);
+    assert!(rt; before.are_of(&rt, &devices), "writing changes nothing");
     let mut again = read(&rt, &value)?;
-    assert!(rt; before.are_of(&again), "what is read is what was written");
+    assert!(rt;
+        before.are_of(&rt, &again),
+        "what is read is what was written"
+    );
     assert_eq!(rt; slot_of(&again, 0), Some((4096, 6143)));
     replay(&rt, &mut again, &[(First(1, 1), Device(1, 6144, 6144))]);
     Ok(())
@@ -125,7 +100,7 @@ fn devices_that_values_state(rt: HostRuntime) -> std::result::Result<(), Fail> {
         let mut devices = read(&rt, &value)?;
         let found = (slot_of(&devices, 0), slot_of(&devices, 1));
         assert_eq!(rt; found, slots, "{text}");
-        assert!(rt; saved(&rt, &devices) == value, "{text}");
+        assert!(rt; saved_devices(&rt, &devices) == value, "{text}");
         replay(&rt, &mut devices, &[(First(1, 1), want)]);
     }
     Ok(())

@@ -57,12 +57,13 @@ const ALL: [Call; 5] = [
 fn counts(rt: HostRuntime) -> std::result::Result<(), Fail> {
     let middle = IdAllocator::new(rt.alloc(), 5, 23)?;
     let last = IdAllocator::new(rt.alloc(), LOW, HIGH)?;
-    let all = IdAllocator {
-        range_base: 0,
-        next_id: None,
-        range_end: HIGH,
-        freed_ids: BTreeSet::new(rt.alloc()),
-    };
+    let all = read_ids(
+        &rt,
+        &parsed(
+            &rt,
+            r#"{"range_base":0,"next_id":null,"range_end":4294967295,"freed_ids":[]}"#,
+        ),
+    )?;
     let mut tables = [(middle, &MIDDLE[..]), (last, &LAST[..]), (all, &ALL[..])];
     for (ids, calls) in &mut tables {
         replay(&rt, ids, calls);
