@@ -16,6 +16,7 @@ mod departures;
 mod ends;
 mod held;
 mod long_run;
+mod requests;
 mod splits;
 mod without_memory;
 

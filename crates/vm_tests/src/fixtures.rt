@@ -3,7 +3,7 @@
 use serde_json::Value;
 use std::alloc::Global;
 use std::process::Abort;
-use vm_allocator::{AddressAllocator, IdAllocator, ValueError};
+use vm_allocator::{AddressAllocator, AllocPolicy, IdAllocator, ValueError};
 
 /// How many bytes `end_of_memory` asks for. Nothing else asks for as many, and tests/refused_memory
 /// has the same number.
@@ -11,6 +11,10 @@ const LAST_REQUEST: usize = 1_000_003;
 
 /// How many bytes `balance` asks for; tests/refused_memory has the same number.
 const BALANCE_REQUEST: usize = 1_000_005;
+
+/// How many bytes `expect_requests` asks for, and as many more as the requests that it expects;
+/// tests/refused_memory has the same number.
+const COUNT_REQUEST: usize = 1_000_100;
 
 /// What a second try says where it fails too.
 const REFUSED_ONCE: &str = "memory is refused once";
@@ -24,6 +28,12 @@ pub(crate) fn end_of_memory(alloc: Global) {
 /// given back as was given: tests/refused_memory counts.
 pub(crate) fn balance(alloc: Global) {
     let _ = Vec::<u8>::with_capacity(alloc, BALANCE_REQUEST);
+}
+
+/// Asks for memory, whether it is there or not. From the last call of this on so many requests were
+/// made, where none was refused: tests/refused_memory counts.
+pub(crate) fn expect_requests(alloc: Global, number: usize) {
+    let _ = Vec::<u8>::with_capacity(alloc, COUNT_REQUEST.saturating_add(number));
 }
 
 /// The allocator of a space.
@@ -78,6 +88,20 @@ pub(crate) fn saved(rt: &(impl Abort + AllocGlobal), space: &AddressAllocator) -
     match space.to_value(rt.alloc()) {
         Ok(value) => value,
         Err(_) => space.to_value(rt.alloc()).expect(rt, REFUSED_ONCE),
+    }
+}
+
+/// Holds a range that is clear.
+pub(crate) fn hold(
+    rt: &(impl Abort + AllocGlobal),
+    space: &mut AddressAllocator,
+    start: u64,
+    size: u64,
+) {
+    let policy = AllocPolicy::ExactMatch(start);
+    if space.allocate(rt.alloc(), size, 1, policy).is_err() {
+        let again = space.allocate(rt.alloc(), size, 1, policy);
+        assert!(rt; again.is_ok(), "{REFUSED_ONCE}");
     }
 }
 

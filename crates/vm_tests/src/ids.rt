@@ -305,3 +305,22 @@ fn cloned_whole_or_not_at_all(rt: HostRuntime) -> std::result::Result<(), Fail> 
     assert_eq!(rt; ids.allocate_id(), Ok(6));
     Ok(())
 }
+
+/// A clone without ids given back; then twelve given back, one by one, written and read.
+#[test]
+fn memory_for_twelve_ids(rt: HostRuntime) -> std::result::Result<(), Fail> {
+    let mut ids = IdAllocator::new(rt.alloc(), 0, 23)?;
+    take_all(&rt, &mut ids, 0, 23);
+    let mut clone = match ids.try_clone(rt.alloc()) {
+        Err(Error::OutOfMemory) => ids.try_clone(rt.alloc())?,
+        answer => answer?,
+    };
+    assert_eq!(rt; clone.allocate_id(), Err(Error::ResourceNotAvailable));
+    for number in 0..12u32 {
+        assert_eq!(rt; give_back(&rt, &mut ids, number * 2), Ok(number * 2));
+    }
+    let again = read_ids(&rt, &saved_ids(&rt, &ids))?;
+    assert!(rt; answers(&again) == answers(&ids));
+    assert_eq!(rt; again.held_count(), 12);
+    Ok(())
+}

@@ -13,6 +13,8 @@ mod fixtures;
 #[cfg(test)]
 mod ids;
 #[cfg(test)]
+mod many;
+#[cfg(test)]
 mod plugging;
 #[cfg(test)]
 mod ranges;

@@ -6,6 +6,7 @@ use vm_allocator::allocation_engine::NodeState;
 use vm_allocator::{
     AllocPolicy, Constraint, DEFAULT_CONSTRAINT_ALIGN, Error, RangeInclusive, ValueError,
 };
+use vm_devices::DeviceSlot;
 
 const MAX: u64 = u64::MAX;
 
@@ -194,17 +195,72 @@ fn texts_of_value_errors(rt: HostRuntime) -> std::result::Result<(), Fail> {
     Ok(())
 }
 
+/// By the kind of error first, and then by its fields.
 #[test]
-fn errors_rise(rt: HostRuntime) {
+fn errors_rise(rt: HostRuntime) -> std::result::Result<(), Fail> {
+    let (low, middle) = (RangeInclusive::new(1, 2)?, RangeInclusive::new(1, 3)?);
+    let high = RangeInclusive::new(2, 2)?;
     let rising = [
         Error::Overflow,
         Error::OutOfRange(0),
         Error::OutOfRange(1),
         Error::AlreadyReleased(0),
+        Error::AlreadyReleased(1),
+        Error::NeverAllocated(0),
+        Error::NeverAllocated(1),
+        Error::ResourceNotAvailable,
+        Error::InvalidRange(2, 1),
+        Error::InvalidRange(3, 0),
+        Error::InvalidRange(3, 1),
+        Error::InvalidAlignment,
+        Error::Overlap(low, high),
+        Error::Overlap(middle, low),
+        Error::Overlap(middle, middle),
+        Error::InvalidStateTransition(low, NodeState::Allocated),
+        Error::InvalidStateTransition(middle, NodeState::Free),
+        Error::InvalidStateTransition(middle, NodeState::Allocated),
+        Error::UnalignedAddress,
+        Error::Underflow,
         Error::InvalidSize(0),
+        Error::InvalidSize(1),
         Error::OutOfMemory,
     ];
-    for i in 1..6usize {
-        assert!(rt; rising[i - 1] < rising[i], "at {i}");
+    for (i, first) in rising.iter().enumerate() {
+        for (j, second) in rising.iter().enumerate() {
+            assert_eq!(rt; first.cmp(second), i.cmp(&j), "{i} and {j}");
+            assert_eq!(rt; first == second, i == j, "{i} and {j}");
+        }
     }
+    Ok(())
+}
+
+/// Requests, policies and devices are equal where all their fields are.
+#[test]
+fn fields_compared(rt: HostRuntime) -> std::result::Result<(), Fail> {
+    let policies = [
+        AllocPolicy::FirstMatch,
+        AllocPolicy::LastMatch,
+        AllocPolicy::ExactMatch(8),
+        AllocPolicy::ExactMatch(16),
+    ];
+    let requests = [
+        Constraint::new(4, 4, AllocPolicy::FirstMatch)?,
+        Constraint::new(8, 4, AllocPolicy::FirstMatch)?,
+        Constraint::new(4, 8, AllocPolicy::FirstMatch)?,
+        Constraint::new(4, 4, AllocPolicy::LastMatch)?,
+    ];
+    let (low, high) = (RangeInclusive::new(1, 2)?, RangeInclusive::new(1, 3)?);
+    let devices = [(1, low), (2, low), (1, high), (2, high)];
+    for i in 0..4usize {
+        for j in 0..4usize {
+            assert_eq!(rt; policies[i] == policies[j], i == j, "{i} and {j}");
+            assert_eq!(rt; requests[i] == requests[j], i == j, "{i} and {j}");
+            let [first, second] = [devices[i], devices[j]].map(|(id, range)| DeviceSlot {
+                id,
+                range,
+            });
+            assert_eq!(rt; first == second, i == j, "{i} and {j}");
+        }
+    }
+    Ok(())
 }

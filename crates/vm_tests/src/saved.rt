@@ -1,13 +1,13 @@
 //! Values that are written and read.
 use crate::fixtures::{
-    balance, block_count, end_of_memory, holds_just, made, parsed, read_ids, read_repaired, saved,
-    saved_ids, text_of,
+    balance, block_count, end_of_memory, hold, holds_just, made, parsed, read_ids, read_repaired,
+    saved, saved_ids, text_of,
 };
 use serde_json::Value;
 use std::process::Abort;
 use std::test::Fail;
 use vm_allocator::allocation_engine::NodeState;
-use vm_allocator::{AddressAllocator, AllocPolicy, IdAllocator, RangeInclusive, ValueError};
+use vm_allocator::{AddressAllocator, IdAllocator, RangeInclusive, ValueError};
 
 mod allocators;
 mod damage;

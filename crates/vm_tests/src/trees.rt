@@ -1,4 +1,5 @@
 //! Trees by themselves.
+use crate::fixtures::expect_requests;
 use std::alloc::Global;
 use std::process::Abort;
 use std::test::Fail;
@@ -30,6 +31,39 @@ fn test_integer_wrapping(rt: HostRuntime) -> std::result::Result<(), Fail> {
     let half = 1 << 63;
     let constraint = Constraint::new(half, half, AllocPolicy::ExactMatch(half))?;
     assert_eq!(rt; tree.allocate(rt.alloc(), constraint), Err(Error::Overflow));
+    Ok(())
+}
+
+/// A split asks for a box for each part of its gap that is left over, and nothing else asks for any.
+#[test]
+fn requests_of_a_tree(rt: HostRuntime) -> std::result::Result<(), Fail> {
+    expect_requests(rt.alloc(), 0);
+    let tree = IntervalTree::new(rt.alloc(), RangeInclusive::new(0, 15)?);
+    expect_requests(rt.alloc(), 1);
+    let mut tree = match tree {
+        Err(Error::OutOfMemory) => tree_of(&rt, 0, 15),
+        answer => answer?,
+    };
+    for (size, policy, start, requests) in [
+        (2, AllocPolicy::FirstMatch, 0, 1),
+        (2, AllocPolicy::LastMatch, 14, 1),
+        (2, AllocPolicy::ExactMatch(6), 6, 2),
+        (4, AllocPolicy::FirstMatch, 2, 0),
+        (6, AllocPolicy::LastMatch, 8, 0),
+    ] {
+        let constraint = Constraint::new(size, 1, policy)?;
+        expect_requests(rt.alloc(), 0);
+        let mut answer = tree.allocate(rt.alloc(), constraint);
+        expect_requests(rt.alloc(), requests);
+        if answer == Err(Error::OutOfMemory) {
+            answer = tree.allocate(rt.alloc(), constraint);
+        }
+        let want = RangeInclusive::new(start, start + size - 1);
+        assert_eq!(rt; answer, want, "{size} by {policy:?}");
+    }
+    expect_requests(rt.alloc(), 0);
+    tree.free(&RangeInclusive::new(6, 7)?)?;
+    expect_requests(rt.alloc(), 0);
     Ok(())
 }
 

@@ -17,4 +17,5 @@ fn splits_by_each_policy(rt: HostRuntime) {
     ];
     replay(&rt, &mut space, &rows);
     assert_eq!(rt; (space.height(), block_count(&rt, &space)), (2, 3));
+    assert!(rt; space.held_count() == 1 && is_low(&space, 1));
 }

@@ -105,3 +105,18 @@ fn devices_that_values_state(rt: HostRuntime) -> std::result::Result<(), Fail> {
     }
     Ok(())
 }
+
+/// Twelve devices, written and read one by one.
+#[test]
+fn memory_for_twelve_devices(rt: HostRuntime) -> std::result::Result<(), Fail> {
+    let mut devices = made(&rt, (0, 11), 0, 0x1000);
+    for id in 0..12u32 {
+        let start = u64::from(id) * 16;
+        let want = Device(id, start, start + 15);
+        ask_again(&rt, &mut devices, First(16, 16), want);
+        devices = read(&rt, &saved_devices(&rt, &devices))?;
+    }
+    assert_eq!(rt; slot_of(&devices, 11), Some((176, 191)));
+    ask_again(&rt, &mut devices, First(16, 16), NotAvailable);
+    Ok(())
+}

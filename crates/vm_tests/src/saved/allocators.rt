@@ -36,7 +36,7 @@ pub(super) const ONE_HELD: &str =
     "height":2}}}"#;
 
 /// The same three blocks, all of them held, and the fields in another order.
-const ALL_HELD: &str = r#"{"interval_tree":{"root":{"height":2,
+pub(super) const ALL_HELD: &str = r#"{"interval_tree":{"root":{"height":2,
     "right":{"right":null,"left":null,"height":1,"node_state":"Allocated","key":{"end":4095,"start":1536}},
     "left":{"right":null,"left":null,"height":1,"node_state":"Allocated","key":{"end":1279,"start":0}},
     "node_state":"Allocated","key":{"end":1535,"start":1280}}},"address_space":{"end":4095,"start":0}}"#;
@@ -44,11 +44,7 @@ const ALL_HELD: &str = r#"{"interval_tree":{"root":{"height":2,
 /// The allocator with one range held.
 fn one_held(rt: &(impl Abort + AllocGlobal)) -> AddressAllocator {
     let mut space = made(rt, 0, 0x1000);
-    let policy = AllocPolicy::ExactMatch(0x500);
-    if space.allocate(rt.alloc(), 0x100, 0x100, policy).is_err() {
-        let again = space.allocate(rt.alloc(), 0x100, 0x100, policy);
-        assert!(rt; again.is_ok(), "memory is refused once");
-    }
+    hold(rt, &mut space, 0x500, 0x100);
     space
 }
 

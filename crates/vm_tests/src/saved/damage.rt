@@ -1,5 +1,5 @@
 //! Values of which one field is damaged: left out, doubled under another name, or replaced.
-use super::allocators::{FRESH, ONE_HELD};
+use super::allocators::{ALL_HELD, FRESH, ONE_HELD};
 use super::*;
 use std::alloc::{AllocError, Global};
 
@@ -160,6 +160,7 @@ fn damage(
 fn each_field_of_an_allocator(rt: HostRuntime) {
     damage(&rt, Reader::Allocator, FRESH, 12, &[]);
     damage(&rt, Reader::Allocator, ONE_HELD, 26, &[]);
+    damage(&rt, Reader::Allocator, ALL_HELD, 26, &[]);
 }
 
 /// With repairs any node may be missing.

@@ -18,11 +18,7 @@ fn with_held(
     let mut space = made(rt, base, size);
     for (start, end) in held {
         let range = RangeInclusive::new(*start, *end).expect(rt, "it is a range");
-        let policy = AllocPolicy::ExactMatch(*start);
-        if space.allocate(rt.alloc(), range.len(), 1, policy).is_err() {
-            let again = space.allocate(rt.alloc(), range.len(), 1, policy);
-            assert!(rt; again.is_ok(), "memory is refused once");
-        }
+        hold(rt, &mut space, *start, range.len());
     }
     space
 }
@@ -109,48 +105,68 @@ fn repaired_to_blocks(rt: HostRuntime) -> std::result::Result<(), Fail> {
     Ok(())
 }
 
-/// A value with that many keys of one address, from 0 on, all held, each the right child of the one
-/// before.
-fn chain(alloc: Global, keys: u64) -> std::result::Result<Value, AllocError> {
+/// Which child of each key of a chain the next one is.
+#[derive(Clone, Copy, Debug, PartialEq, Eq)]
+enum Side {
+    Left,
+    Right,
+}
+
+/// A value with that many keys of one address, from 0 on, all held, each a child of the one before or,
+/// to the left, of the one after.
+fn chain(alloc: Global, keys: u64, side: Side) -> std::result::Result<Value, AllocError> {
     let mut node = Value::Null;
-    for at in (0..keys).rev() {
+    for number in 0..keys {
+        let is_left = side == Side::Left;
+        let at = if is_left {
+            number
+        } else {
+            keys.saturating_sub(number).saturating_sub(1)
+        };
+        let (left, right) = if is_left {
+            (node, Value::Null)
+        } else {
+            (Value::Null, node)
+        };
         let key = json!(in alloc; {"start": at, "end": at})?;
         node =
-            json!(in alloc; {"key": key, "node_state": "Allocated", "left": null, "right": node, "height": 0})?;
+            json!(in alloc; {"key": key, "node_state": "Allocated", "left": left, "right": right, "height": 0})?;
     }
     let space = json!(in alloc; {"start": 0, "end": keys.saturating_sub(1)})?;
     json!(in alloc; {"address_space": space, "interval_tree": {"root": node}})
 }
 
-#[test]
-fn chains(rt: HostRuntime) -> std::result::Result<(), Fail> {
-    for keys in [1, 50, 51, 200] {
-        let value = match chain(rt.alloc(), keys) {
-            Ok(value) => value,
-            Err(_) => chain(rt.alloc(), keys)?,
-        };
-        assert_eq!(rt;
-            read(&rt, &value).err(),
-            Some(ValueError::NotAState),
-            "{keys}"
-        );
-        let answer = read_repaired(&rt, &value);
-        if keys > 50 {
-            assert_eq!(rt; answer.err(), Some(ValueError::NotAState), "{keys}");
-            continue;
-        }
-        let mut full = made(&rt, 0, keys);
-        for _ in 0..keys {
-            if full
-                .allocate(rt.alloc(), 1, 1, AllocPolicy::FirstMatch)
-                .is_err()
-            {
-                full.allocate(rt.alloc(), 1, 1, AllocPolicy::FirstMatch)?;
-            }
-        }
-        assert!(rt; answer? == full, "{keys}");
+/// What reading a chain answers: `NotAState`, but for one that is no deeper than 50 and read with
+/// repairs.
+fn expect_chain(rt: &(impl Abort + AllocGlobal), keys: u64, side: Side) {
+    let value = match chain(rt.alloc(), keys, side) {
+        Ok(value) => value,
+        Err(_) => chain(rt.alloc(), keys, side).expect(rt, "memory is refused once"),
+    };
+    let refused = Some(ValueError::NotAState);
+    assert_eq!(rt; read(rt, &value).err(), refused, "{keys} to {side:?}");
+    let answer = read_repaired(rt, &value);
+    if keys > 50 {
+        assert_eq!(rt; answer.err(), refused, "{keys} to {side:?}");
+        return;
     }
-    Ok(())
+    let mut full = made(rt, 0, keys);
+    for start in 0..keys {
+        hold(rt, &mut full, start, 1);
+    }
+    assert!(rt;
+        answer.is_ok_and(|space| space == full),
+        "{keys} to {side:?}"
+    );
+}
+
+#[test]
+fn chains(rt: HostRuntime) {
+    for side in [Side::Left, Side::Right] {
+        for keys in [1, 50, 51, 200] {
+            expect_chain(&rt, keys, side);
+        }
+    }
 }
 
 #[test]

@@ -17,6 +17,14 @@ const TOO_LONG: &str = r#"{"address_space":{"start":16,"end":18},"interval_tree"
 const NEVER_HANDED_OUT: &str =
     r#"{"range_base":5,"next_id":8,"range_end":23,"freed_ids":[5,6,7,8]}"#;
 
+/// Ids given back, and a next id past the range, before it, or missing, or no range.
+const WRONG_NEXT: [&str; 4] = [
+    r#"{"range_base":5,"next_id":25,"range_end":23,"freed_ids":[6,7]}"#,
+    r#"{"range_base":5,"next_id":4,"range_end":23,"freed_ids":[6,7]}"#,
+    r#"{"range_base":5,"next_id":null,"range_end":23,"freed_ids":[6,7]}"#,
+    r#"{"range_base":23,"next_id":24,"range_end":5,"freed_ids":[23]}"#,
+];
+
 /// An id allocator with no id given back.
 const NONE_FREED: &str = r#"{"range_base":5,"next_id":8,"range_end":23,"freed_ids":[]}"#;
 
@@ -27,6 +35,7 @@ fn checked(rt: HostRuntime) {
     let too_short = parsed(&rt, TOO_SHORT);
     let too_long = parsed(&rt, TOO_LONG);
     let never_handed_out = parsed(&rt, NEVER_HANDED_OUT);
+    let wrong_next = WRONG_NEXT.map(|text| parsed(&rt, text));
     let none_freed = parsed(&rt, NONE_FREED);
     let one_node = parsed(&rt, ONE_NODE);
     end_of_memory(rt.alloc());
@@ -47,6 +56,10 @@ fn checked(rt: HostRuntime) {
         assert_eq!(rt; answer.err(), Some(ValueError::NotAState));
     }
     for value in [&range, &state, &one_node, &never_handed_out] {
+        let answer = IdAllocator::from_value(rt.alloc(), value);
+        assert_eq!(rt; answer.err(), Some(ValueError::NotAState));
+    }
+    for value in &wrong_next {
         let answer = IdAllocator::from_value(rt.alloc(), value);
         assert_eq!(rt; answer.err(), Some(ValueError::NotAState));
     }
