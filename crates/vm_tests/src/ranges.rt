@@ -234,33 +234,46 @@ fn errors_rise(rt: HostRuntime) -> std::result::Result<(), Fail> {
     Ok(())
 }
 
-/// Requests, policies and devices are equal where all their fields are.
+/// Policies, requests and devices are equal where all their fields are.
 #[test]
 fn fields_compared(rt: HostRuntime) -> std::result::Result<(), Fail> {
-    let policies = [
-        AllocPolicy::FirstMatch,
-        AllocPolicy::LastMatch,
-        AllocPolicy::ExactMatch(8),
-        AllocPolicy::ExactMatch(16),
-    ];
-    let requests = [
-        Constraint::new(4, 4, AllocPolicy::FirstMatch)?,
-        Constraint::new(8, 4, AllocPolicy::FirstMatch)?,
-        Constraint::new(4, 8, AllocPolicy::FirstMatch)?,
-        Constraint::new(4, 4, AllocPolicy::LastMatch)?,
-    ];
     let (low, high) = (RangeInclusive::new(1, 2)?, RangeInclusive::new(1, 3)?);
-    let devices = [(1, low), (2, low), (1, high), (2, high)];
-    for i in 0..4usize {
-        for j in 0..4usize {
-            assert_eq!(rt; policies[i] == policies[j], i == j, "{i} and {j}");
-            assert_eq!(rt; requests[i] == requests[j], i == j, "{i} and {j}");
-            let [first, second] = [devices[i], devices[j]].map(|(id, range)| DeviceSlot {
-                id,
-                range,
-            });
-            assert_eq!(rt; first == second, i == j, "{i} and {j}");
+    let rows = [
+        (
+            4,
+            4,
+            AllocPolicy::FirstMatch,
+            DeviceSlot { id: 1, range: low },
+        ),
+        (
+            8,
+            4,
+            AllocPolicy::LastMatch,
+            DeviceSlot { id: 2, range: low },
+        ),
+        (
+            4,
+            8,
+            AllocPolicy::ExactMatch(8),
+            DeviceSlot { id: 1, range: high },
+        ),
+        (
+            4,
+            4,
+            AllocPolicy::ExactMatch(16),
+            DeviceSlot { id: 2, range: high },
+        ),
+    ];
+    for (i, (size, align, policy, device)) in rows.iter().enumerate() {
+        let request = Constraint::new(*size, *align, *policy)?;
+        for (j, (other_size, other_align, other_policy, other_device)) in rows.iter().enumerate() {
+            let other = Constraint::new(*other_size, *other_align, *other_policy)?;
+            assert_eq!(rt; request == other, i == j, "{i} and {j}");
+            assert_eq!(rt; policy == other_policy, i == j, "{i} and {j}");
+            assert_eq!(rt; device == other_device, i == j, "{i} and {j}");
         }
+        let first_match = Constraint::new(*size, *align, AllocPolicy::FirstMatch)?;
+        assert_eq!(rt; request == first_match, i == 0, "{i} with another policy");
     }
     Ok(())
 }
