@@ -1,7 +1,8 @@
 """The forms of a source file: its items, and the types, patterns and expressions in them.
 
 An expression's `at` is the word that a message names."""
-from dataclasses import dataclass, field, fields
+from dataclasses import dataclass, field
+from functools import cached_property
 from typing import Any, Dict, List, Optional, Tuple
 
 
@@ -31,8 +32,8 @@ class Form:
 
     def parts(self):
         """The expressions right within this one."""
-        for each in fields(self):
-            yield from forms_in(getattr(self, each.name))
+        for value in vars(self).values():
+            yield from forms_in(value)
 
     def all(self):
         """This expression and all within it, in the order of the text."""
@@ -214,6 +215,11 @@ class Function:
     @property
     def shown(self):
         return f"{self.owner}::{self.name}" if self.owner else self.name
+
+    @cached_property
+    def forms(self):
+        """Every expression of the body, in the order of the text."""
+        return list(self.body.all())
 
     def __hash__(self):
         return id(self)

@@ -5,10 +5,7 @@ A type that can't be told is None. A call of a method then may be any method of 
 from dataclasses import dataclass
 from typing import Any, List, Optional
 
-from reading.forms import (
-    Binary, Block, Build, Call, Cast, Closure, FieldOf, Form, Function, If, Index, Leave, Let, Literal,
-    Loop, Macro, Match, MethodCall, Path, Several, Try, Type, Unary,
-)
+from reading.forms import Binary, Closure, Form, Function, Loop, Path, Type
 from reading.syntax import COMPARISONS, UNIT, module_of
 
 NUMBERS = {"u8", "u16", "u32", "u64", "u128", "usize", "i8", "i16", "i32", "i64", "i128", "isize"}
@@ -167,9 +164,8 @@ class Body:
         for parameter in function.parameters:
             self.scopes[0][parameter.name] = self.known(parameter.type)
         self.value(function.body)
-        forms = list(function.body.all())
-        self.loops = [form for form in forms if isinstance(form, Loop)]
-        self.closures = [form for form in forms if isinstance(form, Closure)]
+        self.loops = [form for form in function.forms if isinstance(form, Loop)]
+        self.closures = [form for form in function.forms if isinstance(form, Closure)]
 
     def known(self, type_):
         return self.crate.known(type_, self.function.module, self.function.owner)
@@ -242,9 +238,12 @@ class Body:
             return Type(names[0])
         return self.type_of_name(form)
 
+    def names_of(self, path):
+        return [self.function.owner if name == "Self" else name for name in path.names]
+
     def type_of_name(self, form):
         """The type of a constant or a variant."""
-        names = [self.function.owner if name == "Self" else name for name in form.names]
+        names = self.names_of(form)
         path, rest = self.crate.find(self.function.module, names)
         if path is None:
             if names[-1] not in ("None", "Equal", "Less", "Greater"):
@@ -260,7 +259,7 @@ class Body:
 
     def target(self, form):
         """The function of the crate that a path means."""
-        names = [self.function.owner if name == "Self" else name for name in form.names]
+        names = self.names_of(form)
         path, rest = self.crate.find(self.function.module, names)
         if path is None:
             return None
@@ -383,7 +382,7 @@ class Body:
     def value_of_build(self, form):
         self.values([value for _, value in form.values])
         self.value(form.rest)
-        path, _ = self.crate.find(self.function.module, [n if n != "Self" else self.function.owner for n in form.names])
+        path, _ = self.crate.find(self.function.module, self.names_of(form))
         return Type("::".join(path)) if path else None
 
     def value_of_block(self, form):
