@@ -230,9 +230,9 @@ class Body:
         names = form.names
         if len(names) == 1 and self.local(names[0]) is not None:
             return self.local(names[0])[names[0]]
-        target = self.target(form)
-        if target is not None:
-            self.named.append((form.at, target))
+        named = self.functions_of(form)
+        if named:
+            self.named.append((form.at, named[0]))
             return None
         if names[0] in NUMBERS:
             return Type(names[0])
@@ -257,16 +257,14 @@ class Body:
         self.strange.append((form.at, f"'{'::'.join(names)}', which this rule does not know"))
         return None
 
-    def target(self, form):
-        """The function of the crate that a path means."""
-        names = self.names_of(form)
-        path, rest = self.crate.find(self.function.module, names)
-        if path is None:
-            return None
+    def functions_of(self, form):
+        """The functions of the crate that a path may mean."""
+        path, rest = self.crate.find(self.function.module, self.names_of(form))
+        if path is None or len(rest) > 1:
+            return []
         if not rest:
-            return self.crate.free.get(path)
-        found = self.crate.methods.get("::".join(path), {}).get(rest[0], [])
-        return found[0] if len(rest) == 1 and found else None
+            return [self.crate.free[path]] if path in self.crate.free else []
+        return self.crate.methods.get("::".join(path), {}).get(rest[0], [])
 
     def value_of_call(self, form):
         arguments = self.values(form.arguments)
@@ -274,10 +272,10 @@ class Body:
             self.value(form.function)
             self.strange.append((form.at, "a call of a value"))
             return None
-        target = self.target(form.function)
-        if target is not None:
-            self.calls.append(CallSite(form.at, form, [target]))
-            return self.result_of(target)
+        targets = self.functions_of(form.function)
+        if targets:
+            self.calls.append(CallSite(form.at, form, targets))
+            return self.result_of(targets[0])
         return self.made(form, arguments)
 
     def is_local(self, path):
