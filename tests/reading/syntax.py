@@ -493,7 +493,7 @@ class Reader:
             values.append(self.expression())
             if not self.is_at(")"):
                 self.expect(",")
-            elif len(values) == 1 and self.words[self.next - 1].text != ",":
+            elif len(values) == 1:
                 self.take()
                 return values[0]
         return Several(at, "(", values)
