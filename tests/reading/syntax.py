@@ -140,6 +140,11 @@ class Reader:
 
     def skip_item(self):
         """Passes over an item: to its semicolon, or to the end of the braces that no contract has."""
+        if self.accept("pub") and self.is_at("("):
+            self.bracketed()
+        if self.is_at("use"):
+            self.skip_to_semicolon()
+            return
         while not self.accept(";"):
             if self.is_at(*CONTRACTS):
                 self.contract()
