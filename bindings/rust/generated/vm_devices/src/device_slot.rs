@@ -1,0 +1,8 @@
+use vm_allocator::RangeInclusive;
+
+/// What a device holds: an id, and a range of addresses.
+#[derive(Clone, Copy, Debug, PartialEq, Eq)]
+pub struct DeviceSlot {
+    pub id: u32,
+    pub range: RangeInclusive,
+}
