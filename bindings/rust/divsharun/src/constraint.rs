@@ -1,5 +1,5 @@
-use crate::Result;
 use crate::error::settled;
+use crate::Result;
 use core::fmt;
 
 /// Which of the places for a request is taken. The default is `FirstMatch`.

@@ -56,8 +56,10 @@ impl DeviceManager {
     /// In this order: `InvalidRange(id_lo, id_hi)` where the last id is below the first; `Underflow`
     /// for a size of 0; `Overflow` for an end past `u64::MAX`.
     pub fn new(id_lo: u32, id_hi: u32, base: u64, size: u64) -> Result<Self> {
-        settled(proved_devices::DeviceManager::new(Global, id_lo, id_hi, base, size))
-            .map(DeviceManager)
+        settled(proved_devices::DeviceManager::new(
+            Global, id_lo, id_hi, base, size,
+        ))
+        .map(DeviceManager)
     }
 
     /// Gives a new device the least id that is not held, and the `size` addresses at the place that

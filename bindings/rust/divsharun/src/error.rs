@@ -53,7 +53,10 @@ impl fmt::Display for Error {
             Error::OutOfRange(id) => write!(f, "Specified id: {id} is not in the range."),
             Error::AlreadyReleased(id) => write!(f, "Specified id: {id} is already released."),
             Error::NeverAllocated(id) => {
-                write!(f, "Specified id: {id} was never allocated, can't release it.")
+                write!(
+                    f,
+                    "Specified id: {id} was never allocated, can't release it."
+                )
             }
             Error::ResourceNotAvailable => f.write_str("The requested resource is not available."),
             Error::InvalidRange(start, end) => {
@@ -61,10 +64,16 @@ impl fmt::Display for Error {
             }
             Error::InvalidAlignment => f.write_str("Alignment value is invalid."),
             Error::Overlap(new, old) => {
-                write!(f, "Addresses are overlapping.{new:?} intersects with existing {old:?}")
+                write!(
+                    f,
+                    "Addresses are overlapping.{new:?} intersects with existing {old:?}"
+                )
             }
             Error::InvalidStateTransition(range, state) => {
-                write!(f, "Invalid state transition for node {range:?} from {state:?} to NodeState::Free")
+                write!(
+                    f,
+                    "Invalid state transition for node {range:?} from {state:?} to NodeState::Free"
+                )
             }
             Error::UnalignedAddress => f.write_str("The address is not aligned."),
             Error::Underflow => {

@@ -1,5 +1,5 @@
-use crate::Result;
 use crate::error::{out_of_memory, settled};
+use crate::Result;
 use core::fmt;
 use rattle::Global;
 

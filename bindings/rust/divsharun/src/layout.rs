@@ -56,7 +56,11 @@ impl<'a> Layout<'a> {
 
     /// How many digits an address has at least.
     fn digits(&self) -> usize {
-        if self.allocator.end() < 1 << 16 { 4 } else { 8 }
+        if self.allocator.end() < 1 << 16 {
+            4
+        } else {
+            8
+        }
     }
 }
 

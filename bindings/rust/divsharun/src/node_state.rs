@@ -29,4 +29,12 @@ impl NodeState {
             proved::allocation_engine::NodeState::Allocated => NodeState::Allocated,
         }
     }
+    /// The state as the proved code has it.
+    #[cfg(feature = "serde")]
+    pub(crate) fn proved(self) -> proved::allocation_engine::NodeState {
+        match self {
+            NodeState::Free => proved::allocation_engine::NodeState::Free,
+            NodeState::Allocated => proved::allocation_engine::NodeState::Allocated,
+        }
+    }
 }

@@ -1,5 +1,5 @@
-use crate::Result;
 use crate::error::settled;
+use crate::Result;
 use core::fmt;
 
 /// A closed range of addresses: its start, its end and all between them. It is never empty and never
