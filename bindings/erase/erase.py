@@ -1,592 +1,815 @@
 #!/usr/bin/env python3
-"""Writes a proved Rattle crate as a plain Rust crate.
+"""Writes the proved crates of a project as plain Rust crates, by cutting out what is for the prover.
 
-  erase.py CRATE_DIR OUT_DIR [--name NAME] [--dep NAME=CRATE_DIR:TOML].. [--feature NAME=ITEM,ITEM..] [--tests]
+    erase.py PROJECT OUT [--tests]
 
-The output is the input with pieces cut out: clauses, ghost items and fields, tactics, models, laws and
-tests. Nothing is rewritten but paths (PATHS, RENAMED) and the parameter of `main`. A form or a name
-that is not in the tables is refused. --tests keeps the tests, and writes `let` for the parameter of each."""
+PROJECT/crates.txt names the crates and what each stands on. Each program and each library that one
+stands on is written to OUT/NAME, as a package of the workspace that holds OUT and a folder `rattle`
+beside it. With --tests every crate is written, with its tests.
+
+What is cut: clauses, `ghost` items, members and fields, `#[tactic(..)]`, `impl Model`, `Drop` among
+the derives, laws (functions of nothing that do nothing), modules that are empty then, and tests unless
+they are asked for. What is written: the line that says where a file comes from, the attributes of a
+crate, imports of what Rattle's prelude has and Rust's has not. What is changed: the front of a path, by
+the table FOLDERS, and the parameter `rt` of `main` and of tests, which becomes the first statement.
+
+Everything else is kept as it is, and refused where the tables do not name it: forms of items, paths of
+libraries, functions and methods that are not of these crates, macros, attributes, derives, traits. So
+is what would let a caller in plain Rust break what was proved: a `requires` on what such a caller may
+call, and a public field of a type with ghosts. A refusal says file, line and what was met. Tests are
+no part of the crates, and the names that they use are the compiler's to know."""
 import os
 import re
 import sys
 
-# ---- what is known to mean the same in Rust ----
-PATHS = {  # a path -> the path in Rust (None: for proofs alone)
-    "std::marker::Model": None,
-    "std::alloc::Global": "rattle::Global",
-    "std::alloc::AllocError": "rattle::AllocError",
-    "std::collections::BTreeMap": "rattle::BTreeMap",
-    "std::collections::BTreeSet": "rattle::BTreeSet",
-    "std::cmp::Ordering": "std::cmp::Ordering",
-    "std::result::Result": "std::result::Result",
-    "std::io::Read": "std::io::Read",
-    "std::io::Write": "std::io::Write",
-    "std::process::ExitCode": "std::process::ExitCode",
-    "std::simd::prelude::*": "rattle::simd::u8x16",
-    "serde_json::Value": "rattle::Value",
-    "serde_json::json": "rattle::json",
-    "thiserror::Error": "rattle::Error",
+# ---- What means the same in Rust ----
+
+# Folders of libraries: the folder that stands for each, and what may be used of it. None: for proofs.
+FOLDERS = {
+    "std::alloc": ("rattle", {"AllocError", "Global"}),
+    "std::cmp": ("core::cmp", {"Ordering"}),
+    "std::collections": ("rattle", {"BTreeMap", "BTreeSet"}),
+    "std::io": ("std::io", {"Read", "Write"}),
+    "std::marker": (None, {"Model"}),
+    "std::process": ("std::process", {"ExitCode"}),
+    "std::result": ("core::result", {"Result"}),
+    "std::simd::prelude": ("rattle::simd", {"*"}),
+    "serde_json": ("rattle", {"Value", "json"}),
+    "thiserror": ("rattle", {"Error"}),
 }
-LIBRARIES = {"std", "serde_json", "thiserror"}
-RENAMED = {}
-ADDED = {}
-SHIM = {"Box", "Vec", "HostRuntime"}  # in Rattle's prelude, and from the shim here
-NAMES = {"Option", "Some", "None", "Result", "Ok", "Err", "Self"}
+FOLDERS_OF_TESTS = {
+    "std": ("std", {"io"}),
+    "std::env": ("rattle::testing", {"Env"}),
+    "std::io": ("std::io", {"ErrorKind", "Read", "Write"}),
+    "std::process": ("rattle::testing", {"Abort"}),
+    "std::str": ("core::str", {"from_utf8"}),
+    "std::test": ("rattle::testing", {"Fail"}),
+}
+LIBRARIES = {folder.split("::")[0] for folder in FOLDERS}
+# Names of Rattle's prelude that Rust's has not, or has otherwise: `rattle` has them.
+PRELUDE = {"Box", "HostRuntime", "Vec"}
+# Names of both preludes, and of what else may be used of libraries.
+NAMES = {"Err", "Iterator", "None", "Ok", "Option", "Result", "Some"}
+NUMBERS = {"u8", "u16", "u32", "u64", "u128", "usize"}
 ASSOCIATED = {
-    "Ordering::Less", "Ordering::Equal", "Ordering::Greater", "Ord::cmp", "Box::new", "Box::into_inner",
-    "BTreeMap::new", "BTreeSet::new", "ExitCode::from", "u64::MAX", "u32::MAX", "u64::from", "u32::try_from",
-    "u32::from", "u128::from", "Value::Null", "Value::from", "Value::as_u64", "u8x16::from_slice", "u8x16::splat", "Vec::new", "Value::try_from_str",
+    "BTreeMap::new", "BTreeSet::new", "Box::into_inner", "Box::new", "ExitCode::from", "Ord::cmp",
+    "Ordering::Equal", "Ordering::Greater", "Ordering::Less", "Value::Null", "Value::as_u64", "Value::from",
+    "Value::try_from_str", "Vec::new", "u128::from", "u32::MAX", "u32::from", "u32::try_from", "u64::MAX",
+    "u64::from", "u8x16::from_slice", "u8x16::splat",
 }
-METHODS = {  # of types that the crates do not define; each was read against Rust's
+# Methods of types that are not of these crates; each was read beside Rust's.
+METHODS = {
     "alloc", "and_then", "as_array", "as_object", "as_slice", "as_str", "as_u64", "checked_add", "checked_mul",
     "clone", "cmp", "contains", "copied", "copy_from_slice", "first", "flush", "get", "ilog2", "insert", "into",
-    "is_ascii_digit", "is_none", "is_null", "is_power_of_two", "is_some", "iter", "len", "max", "min", "next", "ok",
-    "pop_first", "push", "read", "remove", "saturating_add", "simd_eq", "stdin", "stdout", "take", "to_bitmask",
-    "trailing_zeros", "unwrap", "write_all",
+    "is_ascii_digit", "is_none", "is_null", "is_power_of_two", "is_some", "iter", "len", "max", "min", "next",
+    "ok", "pop_first", "push", "read", "remove", "saturating_add", "simd_eq", "stdin", "stdout", "take",
+    "to_bitmask", "trailing_zeros", "unwrap", "write_all",
 }
-MACROS = {"unreachable", "json"}
-DERIVES = {"Clone", "Copy", "Debug", "Default", "PartialEq", "Eq", "PartialOrd", "Ord", "Hash", "Error"}
-TRAITS = {"Ord", "PartialOrd", "PartialEq", "Eq", "Iterator"}
-ATTRIBUTES = {"derive", "error", "allow", "inline", "default", "cold"}
-BANNED = set("""unsafe async await dyn extern trait macro_rules ghost requires ensures prove prove_eq union yield
-    f32 f64 decreases invariant box become gen try where""".split())
-KEYWORDS = set("""if else match return in let mut for while loop break continue fn pub struct enum impl const static
-    type use mod ref as move true false self super crate _ u8 u16 u32 u64 u128 usize bool str""".split())
-NUMBERS = {"u8", "u16", "u32", "u64", "u128", "usize"}
-# In tests, whose names are rustc's to check.
-TEST_PATHS = {
-    "std::process::Abort": "rattle::testing::Abort",
-    "std::test::Fail": "rattle::testing::Fail",
-    "std::env::Env": "rattle::testing::Env",
-    "std::io": "std::io",
-    "std::io::ErrorKind": "std::io::ErrorKind",
-    "std::str::from_utf8": "std::str::from_utf8",
+MACROS = {"json", "unreachable"}
+DERIVES = {
+    "Clone", "Copy", "Debug", "Default", "Drop", "Eq", "Error", "Hash", "Ord", "PartialEq", "PartialOrd",
 }
-TEST_SHIM = {"AllocGlobal": "testing::AllocGlobal", "String": "testing::String", "Vec": "Vec", "Box": "Box",
-             "HostRuntime": "HostRuntime", ".var": "testing::Env",
-             ".to_string": "testing::ToStringIn", "assert!": "testing::assert", "assert_eq!": "testing::assert_eq"}
+# No item of a crate may have one of these names, since the tables mean the libraries' own.
+TAKEN = (PRELUDE | NAMES | NUMBERS | {path.split("::")[0] for path in ASSOCIATED}) - {"Result"}
+TRAITS = {"Eq", "Iterator", "Ord", "PartialEq", "PartialOrd"}
+TRAITS_OF_TESTS = {"Read", "Write"}
+ATTRIBUTES = {"allow", "cold", "default", "derive", "error", "inline"}
+KEYWORDS = set("""_ as bool break const continue crate else enum false fn for if impl in let loop match mod
+    move mut pub ref return self static str struct super true type use while Self""".split()) | NUMBERS
+REFUSED_WORDS = set("""async await become box char decreases dyn extern f32 f64 gen ghost i8 i16 i32 i64
+    i128 invariant isize macro_rules prove prove_eq trait try union unsafe where yield""".split())
+CLAUSES = {"ensures", "requires"}
 
-HEAD = """#![forbid(unsafe_code)]
-#![allow(dead_code, unused_imports, unused_variables, unused_assignments)]
+# ---- What is written ----
+
+ORIGIN = "// Written by bindings/erase from {}: do not edit.\n"
+CRATE_ATTRIBUTES = """#![forbid(unsafe_code)]
+// What only proofs and tests use is kept as it is.
+#![allow(dead_code, unused_assignments, unused_imports, unused_variables)]
 """
-NO_STD = "#![no_std]\nextern crate core as std;\n"
-MAIN = "fn main() -> ExitCode {\n    proved_main(rattle::HostRuntime)\n}\n\n"
-TOKEN = re.compile(r"""(?P<skip>\s+|//(?![/!])[^\n]*)|(?P<doc>//[/!][^\n]*)
- |(?P<str>b?"(?:[^"\\]|\\[nrt0\\"'\n]|\\x[0-9a-fA-F]{2}|\\u\{[0-9a-fA-F]+\})*"|r\#"(?:[^"]|"(?!\#))*"\#)
- |(?P<char>b?'(?:[^'\\\n]|\\[nrt0\\"']|\\x[0-9a-fA-F]{2}|\\u\{[0-9a-fA-F]+\})')|(?P<life>'[a-z_]+)
- |(?P<word>[A-Za-z_]\w*)|(?P<num>[0-9]\w*)
- |(?P<op>::|->|=>|==|!=|<=|>=|&&|\|\||\.\.=|\.\.|[-+*/%&|^]=|<<|>>|[{}()\[\]<>,;:.=+\-*/%&|^!?\#@])""", re.X | re.A)
-OPEN, CLOSE = set("([{"), set(")]}")
+NO_STD = "#![no_std]\n"
+FOR_TESTS = "use rattle::testing::*;\nuse rattle::testing::{assert, assert_eq};\n"
+RUNTIME = "{\n    let rt = HostRuntime;"
+MANIFEST = """# Written by bindings/erase from crates/{name}: do not edit.
+[package]
+name = "{name}"
+version.workspace = true
+edition.workspace = true
+rust-version.workspace = true
+license.workspace = true
+publish.workspace = true
+
+[dependencies]
+rattle = {{ path = "../../rattle"{features} }}
+"""
+
+# ---- Tokens ----
+
+TOKEN = re.compile(r"""(?P<blank>\s+|//(?![/!])[^\n]*|////[^\n]*)
+ |(?P<doc>//[/!][^\n]*)
+ |(?P<literal>b?"(?:[^"\\]|\\[nrt0\\"'\n]|\\x[0-9a-fA-F]{2}|\\u\{[0-9a-fA-F]+\})*"
+    |r\#"(?:[^"]|"(?!\#))*"\#
+    |b?'(?:[^'\\\n]|\\[nrt0\\"']|\\x[0-9a-fA-F]{2}|\\u\{[0-9a-fA-F]+\})')
+ |(?P<lifetime>'[a-z_]\w*)
+ |(?P<word>[A-Za-z_]\w*)
+ |(?P<number>(?:0x[0-9a-fA-F_]+|0b[01_]+|[0-9][0-9_]*)(?:u8|u16|u32|u64|u128|usize)?(?![\w]))
+ |(?P<mark>::|->|=>|==|!=|<=|>=|&&|\|\||\.\.=|\.\.|[-+*/%&|^]=|<<|>>|[{}()\[\]<>,;:.=+\-*/%&|^!?\#])""",
+                   re.VERBOSE | re.ASCII)
+CLAUSE_HEAD = re.compile(r"\s+(?:[a-z_]\w*\s*)?(?=\{)")
+GHOST_USE = re.compile(r" use (?:[^;\"\n]|\n(?!\n))*?;")
+GHOST_MEMBER = re.compile(r" [A-Za-z_]\w*(:| =) (?=\{)")
+OPENING, CLOSING = {"(", "[", "{"}, {")", "]", "}"}
 
 
 class Refused(Exception):
-    pass
+    """What the eraser does not know, with the place where it was met."""
 
 
 class Token:
-    def __init__(self, kind, text, start, end):
-        self.kind, self.text, self.start, self.end = kind, text, start, end
+    def __init__(self, kind, text, start):
+        self.kind, self.text, self.start, self.end = kind, text, start, start + len(text)
 
 
-class File:
-    def __init__(self, crate, path, root, test):
-        self.crate, self.path, self.root, self.test = crate, path, root, test
-        self.text = open(path, encoding="utf-8").read()
-        self.toks, self.cuts, self.shim, self.bound, self.uses, self.generics = [], [], set(), {}, [], set()
-        self.required, self.laws, self.clauses = False, 0, 0
-        self.lex()
-        self.items()
+class Tokens:
+    """The tokens of a file, without clauses and ghosts, which are cut at once: their text is no Rust."""
 
-    def fail(self, why, at):
-        raise Refused(f"{self.path}:{self.text.count(chr(10), 0, at) + 1}: {why}")
+    def __init__(self, path, text):
+        self.path, self.text, self.tokens, self.cuts = path, text, [], []
+        self.depth = 0
+        self.signature = None  # the index of the `fn` whose signature is read
+        self.asking = {}  # the index of a `fn` with a `requires`, and where that is
+        position = 0
+        while position < len(text):
+            position = self.read(position)
 
-    def cut(self, start, end, new=""):
-        self.cuts.append((start, end, new))
+    def fail(self, why, start):
+        line = self.text.count("\n", 0, start) + 1
+        raise Refused(f"{self.path}:{line}: {why}")
 
-    # ---- tokens; clauses and ghosts go at once, since their text is antt's ----
-    def lex(self):
-        at, opened = 0, None  # opened: where the clauses of a function begin
-        while at < len(self.text):
-            m = TOKEN.match(self.text, at)
-            if not m:
-                self.fail(f"unknown text {self.text[at:at + 12]!r}", at)
-            kind, word, start, at = m.lastgroup, m.group(), at, m.end()
-            last = self.toks[-1] if self.toks else Token("", "", 0, 0)
-            if kind == "skip":
-                continue
-            if word in ("requires", "ensures"):
-                if not (last.text in (")", ">", ">>", "]") or last.kind == "word") or self.before("->", "|"):
-                    self.fail("a clause here", start)
-                m = re.compile(r"\s+(?:[a-z_]\w*\s*)?(?=\{)").match(self.text, at) or self.fail("a clause of this form", at)
-                at = self.braces(m.end())
-                opened = last.end if opened is None else opened
-                self.clauses += 1
-                if word == "requires" and self.is_public_fn() and not self.crate.is_program:
-                    self.fail("a public function with a requires", start)
-                continue
-            if opened is not None:
-                if word != "{":
-                    self.fail("clauses without a body", start)
-                self.cut(opened, start, " ")
-                opened = None
-            if word == "ghost":
-                at = self.ghost(start, at)
+    def cut(self, start, end, instead=""):
+        self.cuts.append((start, end, instead))
+
+    def read(self, start):
+        """Reads a token, a clause or a ghost. The answer is where it ends."""
+        found = TOKEN.match(self.text, start)
+        if not found or self.text.startswith("/*", start):
+            self.fail(f"text that begins with {self.text[start:start + 12]!r}", start)
+        word = found.group()
+        if found.lastgroup == "blank":
+            return found.end()
+        if word in CLAUSES:
+            return self.clauses(start)
+        if word == "ghost":
+            return self.ghost(start, found.end())
+        self.follow_signature(found.lastgroup, word)
+        self.tokens.append(Token(found.lastgroup, word, start))
+        return found.end()
+
+    def follow_signature(self, kind, word):
+        if kind == "word" and self.tokens and self.tokens[-1].text == "fn":
+            self.signature, self.depth = len(self.tokens) - 1, 0
+        elif word in ("{", ";") and self.depth == 0:
+            self.signature = None
+        elif kind == "mark":
+            self.depth += (word in OPENING) - (word in CLOSING)
+
+    def clauses(self, start):
+        """Cuts all clauses of a function, up to its body."""
+        if self.signature is None or self.depth != 0:
+            self.fail("a clause outside of a signature", start)
+        position = start
+        while not self.text.startswith("{", position):
+            found = TOKEN.match(self.text, position)
+            word = found.group() if found else ""
+            if word == "requires":
+                self.asking.setdefault(self.signature, position)
+            if word in CLAUSES:
+                head = CLAUSE_HEAD.match(self.text, found.end()) or self.fail("a clause of this form", position)
+                position = self.behind_braces(head.end())
+            elif found and found.lastgroup == "blank":
+                position = found.end()
             else:
-                self.toks.append(Token(kind, word, start, at))
+                self.fail("clauses without a body", position)
+        self.cut(self.tokens[-1].end, position, " ")
+        return position
 
-    def before(self, one, two):
-        """Whether the last `one` stands right behind `two`... of a closure."""
-        for i in range(len(self.toks) - 1, 0, -1):
-            if self.toks[i].text in ("fn", ";", "{"):
-                return False
-            if self.toks[i].text == one:
-                return self.toks[i - 1].text == two
-        return False
-
-    def is_public_fn(self):
-        i = max(i for i, t in enumerate(self.toks) if t.text == "fn")
-        return i > 0 and self.toks[i - 1].text == "pub"
-
-    def braces(self, at):
+    def behind_braces(self, start):
         depth = 0
-        for i in range(at, len(self.text)):
-            c = self.text[i]
-            if c in "\"'`" or self.text[i:i + 2] in ("--", "//", "/*", "{-"):
-                self.fail(f"{c!r} in a clause", i)
-            depth += (c == "{") - (c == "}")
+        for position in range(start, len(self.text)):
+            letter = self.text[position]
+            if letter in "\"'`" or self.text[position:position + 2] in ("--", "//", "/*", "{-"):
+                self.fail(f"{letter!r} in a clause", position)
+            depth += (letter == "{") - (letter == "}")
             if depth == 0:
-                return i + 1
-        self.fail("a clause without end", at)
+                return position + 1
+        self.fail("a clause without end", start)
 
-    def ghost(self, start, at):
-        last = self.toks[-1] if self.toks else Token("doc", "", 0, 0)
-        if last.text not in ("{", "}", ";", ",") and last.kind != "doc" and (last.text != "]" or self.text[start - 1] != "\n"):
+    def ghost(self, start, behind):
+        """Cuts `ghost use ..;`, `ghost member = {..};` or `ghost field: {..},`."""
+        last = self.tokens[-1] if self.tokens else None
+        ends_an_item = last is None or last.text in ("{", "}", ";", ",") or last.kind == "doc"
+        if not ends_an_item and not (last.text == "]" and self.text[start - 1] == "\n"):
             self.fail("'ghost' in code", start)
-        m = re.compile(r" use [^;\"]*?;").match(self.text, at)
-        if m and "\n\n" not in m.group() and m.group().count("{") == m.group().count("}"):
-            self.cut(start, m.end())
-            return m.end()
-        m = re.compile(r" [A-Za-z_]\w*(:| =) (?=\{)").match(self.text, at) or self.fail("a ghost of this form", start)
-        end, close = self.braces(m.end()), ";" if m[1] == " =" else ","
-        if self.text[end:end + 1] != close:
-            self.fail("a ghost of this form", start)
-        self.cut(start, end + 1)
-        return end + 1
+        imported = GHOST_USE.match(self.text, behind)
+        if imported and imported.group().count("{") == imported.group().count("}"):
+            end = imported.end()
+        else:
+            member = GHOST_MEMBER.match(self.text, behind) or self.fail("a ghost of this form", start)
+            end = self.behind_braces(member.end()) + 1
+            if self.text[end - 1:end] != (";" if member[1] == " =" else ","):
+                self.fail("a ghost of this form", start)
+        self.cut(start, end)
+        return end
 
-    # ---- items: what to cut as a whole, and what is known of the rest ----
-    def is_(self, i, *texts):
-        return all(i + k < len(self.toks) and (x is None or self.toks[i + k].text == x) for k, x in enumerate(texts))
 
-    def matching(self, i):
-        """The index behind the bracket that closes the one at i."""
+# ---- Items ----
+
+class Item:
+    """Where an item begins, its keyword, and what stands before that."""
+
+    def __init__(self, start, owner):
+        self.start, self.owner = start, owner  # owner: None, "impl" or the trait of the impl around
+        self.keyword, self.public = start, False
+        self.of_tests = self.is_test = False
+
+
+class File(Tokens):
+    """A source file: what is cut of it, and which names it gives and uses."""
+
+    def __init__(self, crate, path, of_tests):
+        with open(path, encoding="utf-8") as source:
+            super().__init__(os.path.relpath(path, crate.project.folder), source.read())
+        self.crate, self.of_tests = crate, of_tests
+        self.is_root = path == crate.root
+        self.children = os.path.dirname(path) if self.is_root else path[:-len(".rt")]
+        self.generics, self.imported, self.from_prelude = set(), {}, set()
+        self.uses = []  # (where, kind of name, name): known to be right when all files are read
+        self.first_kept = None
+        end = self.items(self.head(), None)
+        if end < len(self.tokens):
+            self.fail("a brace that closes nothing", self.tokens[end].start)
+
+    def at(self, index, *texts):
+        """Whether these tokens stand at an index."""
+        return [token.text for token in self.tokens[index:index + len(texts)]] == list(texts)
+
+    def start_of(self, index):
+        return self.tokens[index].start if index < len(self.tokens) else len(self.text)
+
+    def cut_tokens(self, first, behind, instead=""):
+        self.cut(self.tokens[first].start, self.tokens[behind - 1].end, instead)
+
+    def matching(self, index):
+        """Behind the bracket that closes the one at an index."""
         depth = 0
-        for k in range(i, len(self.toks)):
-            if self.toks[k].kind == "op":
-                depth += (self.toks[k].text in OPEN) - (self.toks[k].text in CLOSE)
+        for place in range(index, len(self.tokens)):
+            if self.tokens[place].kind == "mark":
+                depth += (self.tokens[place].text in OPENING) - (self.tokens[place].text in CLOSING)
             if depth == 0:
-                return k + 1
-        self.fail("a bracket without end", self.toks[i].start)
+                return place + 1
+        self.fail("a bracket without end", self.start_of(index))
 
-    def end_of_item(self, i):
-        while not self.is_(i, ";") and not self.is_(i, "{"):
-            i = self.matching(i) if self.is_(i, "(") or self.is_(i, "[") else i + 1
-        return i + 1 if self.is_(i, ";") else self.matching(i)
+    def end_of_item(self, index):
+        while not self.at(index, ";") and not self.at(index, "{"):
+            index = self.matching(index) if self.at(index, "(") or self.at(index, "[") else index + 1
+        return index + 1 if self.at(index, ";") else self.matching(index)
 
-    def angles(self, i, lifetimes):
-        """Behind <..>, of lifetimes alone or of the parameters of a function."""
-        if not self.is_(i, "<"):
-            return i
-        i += 1
-        while not self.is_(i, ">"):
-            t = self.toks[i]
-            if lifetimes and t.kind != "life" and t.text not in (",", "_") or t.kind == "op" and t.text not in (",", ":", "+"):
-                self.fail("parameters of this form", t.start)
-            self.generics.add(t.text)
-            i += 1
-        return i + 1
-
-    def items(self):
-        T, i, start, passed, self.first = self.toks, 0, 0, [], None
-        test = test_fn = False
-        depth_of = []  # the kinds of the braces that are open
-        while i < len(T):
-            t = T[i]
-            if t.kind == "doc" or self.is_(i, "#"):
-                if t.text.startswith("//!") and self.first is not None:
-                    self.fail("inner documentation behind an item", t.start)
-                if t.kind == "doc":
-                    i += 1
-                    start = i if t.text.startswith("//!") else start
-                    continue
-                inner = self.is_(i + 1, "!")
-                name, end = T[i + 1 + inner + 1], self.matching(i + 1 + inner)
-                words = [w.text for w in T[i + 3 + inner:end - 1]]
-                if name.text == "tactic":
-                    self.cut(t.start, T[end - 1].end)
-                elif name.text == "cfg" and words == ["(", "test", ")"]:
-                    test = True
-                elif name.text == "test" and not words and self.test:
-                    test_fn = True
-                elif name.text not in ATTRIBUTES or inner:
-                    self.fail(f"attribute {name.text}", t.start)
-                elif name.text == "derive":
-                    names = [w for w in words if w not in "(),"]
-                    if set(names) - DERIVES - {"Drop"}:
-                        self.fail("a derive that is not known", t.start)
-                    if "Drop" in names:
-                        names.remove("Drop")
-                        self.cut(t.start, T[end - 1].end, f"#[derive({', '.join(names)})]" if names else "")
-                i = end
-                if inner:
-                    start = i
-                continue
-            if t.text == "}" and depth_of:
-                depth_of.pop()
-                i = start = i + 1
-                continue
-            begin, at = start, i
-            if test and not self.crate.tests:
-                i = self.end_of_item(i)
-                self.cut(T[begin].start, T[i - 1].end)
-                test, start = False, i
-                continue
-            public = self.is_(i, "pub") and not self.is_(i + 1, "(")
-            if self.is_(i, "pub"):
-                i = i + 1 if public else self.matching(i + 1)
-            kind, name = T[i].text, T[i + 1].text if i + 1 < len(T) else ""
-            kept = True
-            if kind == "fn":
-                i, kept = self.function(begin, i, public, test_fn)
-            elif kind in ("const", "static", "type") and (not depth_of or kind == "const" or depth_of == ["Iterator"] and name == "Item"):
-                if name == "mut":
-                    self.fail("static mut", t.start)
-                self.crate.names.add(name)
-                if kind == "type":
-                    self.angles(i + 2, False)
-                while not self.is_(i, ";"):
-                    i = self.matching(i) if T[i].text in OPEN else i + 1
-                i += 1
-                passed.append((at, i))
-            elif depth_of:
-                self.fail(f"item {kind!r} in an impl", t.start)
-            elif kind == "use":
-                i, kept = self.imports(i, at)
-                self.crate.gate(self, "use", at, i)
-            elif kind == "mod" and self.is_(i + 2, ";"):
-                i += 3
-                self.crate.names.add(name)
-                kept = self.crate.child(self, name, test or self.test)
-                if not kept:
-                    self.cut(T[begin].start, T[i - 1].end)
-                else:
-                    self.crate.gate(self, name, at, i)
-            elif kind in ("struct", "enum"):
-                self.crate.names.add(name)
-                k = self.angles(i + 2, True)
-                if not self.is_(k, "{") and not self.test:
-                    self.fail("a struct without named fields", t.start)
-                i = self.end_of_item(i)
-                self.members(kind, name, k, i)
-                passed.append((k, i))
-            elif kind == "impl":
-                i = self.angles(i + 1, True)
-                trait = T[i].text if self.is_(i + 1, "for") else None
-                i = i + 2 if trait else i
-                self.uses.append((T[i].start, "name", T[i].text))
-                i = self.angles(i + 1, True)
-                if not self.is_(i, "{"):
-                    self.fail("an impl of this form", t.start)
-                if trait == "Model":
-                    if not self.is_(i + 1, "}"):
-                        self.fail("a member of Model that is no ghost", T[i + 1].start)
-                    self.cut(T[begin].start, T[i + 1].end)
-                    i, kept = i + 2, False
-                elif trait and trait not in TRAITS and not (self.test and trait in ("Read", "Write")):
-                    self.fail(f"impl {trait}", t.start)
-                else:
-                    depth_of.append(trait)
-                    i += 1
+    def head(self):
+        """The documentation and the attributes of the file itself."""
+        index = 0
+        while index < len(self.tokens):
+            if self.tokens[index].text.startswith("//!"):
+                index += 1
+            elif self.at(index, "#", "!", "[", "tactic"):
+                behind = self.matching(index + 2)
+                self.cut_tokens(index, behind)
+                index = behind
             else:
-                self.fail(f"item {kind!r}", t.start)
-            if kept and self.first is None:
-                self.first = T[begin].start
-            start, test, test_fn = i, False, False
-            self.kept_any |= kept
-        for a, b in passed:
-            self.audit(a, b)
+                break
+        return index
 
-    kept_any = False
+    def items(self, index, owner):
+        """Reads items up to the end of the file or of the braces around."""
+        while index < len(self.tokens) and not self.at(index, "}"):
+            item = Item(index, owner)
+            index = self.attributes(item)
+            if item.of_tests and not self.crate.project.with_tests:
+                behind, kept = self.end_of_item(index), False
+            else:
+                behind, kept = self.item(item, self.visibility(item, index))
+            if not kept:
+                self.cut_tokens(item.start, behind)
+            elif self.first_kept is None:
+                self.first_kept = self.start_of(item.start)
+            index = behind
+        return index
 
-    def members(self, kind, name, a, b):
-        """Fields: none is public where the type has ghosts. Variants are names."""
-        depth, guarded = 0, name in self.crate.guarded or any(c[0] > self.toks[a].start and c[1] < self.toks[b - 1].end and not c[2] for c in self.cuts)
-        for i in range(a, b):
-            depth += (self.toks[i].text in OPEN) - (self.toks[i].text in CLOSE)
-            if kind == "enum" and depth == 1 and self.toks[i].kind == "word":
-                self.crate.names.add(self.toks[i].text)
-            if guarded and self.is_(i, "pub") and not self.is_(i + 1, "(") and not self.crate.is_program:
-                self.fail(f"a public field of {name}, which has ghosts", self.toks[i].start)
+    def item(self, item, index):
+        """Reads an item by its keyword. The answer is where it ends, and whether it is kept."""
+        item.keyword = index
+        form = FORMS.get(self.tokens[index].text)
+        if form is None or item.owner and form not in FORMS_IN_IMPL:
+            self.fail(f"an item {self.tokens[index].text!r}", self.start_of(index))
+        return form(self, item)
 
-    def function(self, begin, i, public, test_fn):
-        T, at = self.toks, i
-        name, self.generics_before = T[i + 1].text, set(self.generics)
-        p = self.angles(i + 2, False)
-        if not self.is_(p, "("):
-            self.fail("a function of this form", T[i].start)
-        q = self.matching(p)
-        body = q
-        while not self.is_(body, "{"):
+    def attributes(self, item):
+        """Reads documentation and attributes. The answer is the index behind them."""
+        index = item.start
+        while self.tokens[index].kind == "doc" or self.at(index, "#"):
+            if self.tokens[index].text.startswith("//!"):
+                self.fail("documentation of the file behind an item", self.start_of(index))
+            if self.tokens[index].kind == "doc":
+                index += 1
+            else:
+                behind = self.matching(index + 1)
+                self.attribute(item, index, behind)
+                index = behind
+        return index
+
+    def attribute(self, item, index, behind):
+        words = [token.text for token in self.tokens[index + 2:behind - 1]]
+        if words[0] == "tactic":
+            self.cut_tokens(index, behind)
+        elif words == ["cfg", "(", "test", ")"]:
+            item.of_tests = True
+        elif words == ["test"] and self.of_tests:
+            item.is_test = True
+        elif words[0] not in ATTRIBUTES:
+            self.fail(f"an attribute {words[0]!r}", self.start_of(index))
+        elif words[0] == "derive":
+            self.derive([word for word in words[1:] if word not in "(),"], index, behind)
+
+    def derive(self, names, index, behind):
+        for name in names:
+            if name not in DERIVES:
+                self.fail(f"a derive of {name!r}", self.start_of(index))
+        if "Drop" in names:
+            names.remove("Drop")
+            self.cut_tokens(index, behind, f"#[derive({', '.join(names)})]" if names else "")
+
+    def visibility(self, item, index):
+        if not self.at(index, "pub"):
+            return index
+        if self.at(index + 1, "("):
+            return self.matching(index + 1)
+        item.public = True
+        return index + 1
+
+    def angles(self, index):
+        """Parameters of an item: lifetimes, and names with bounds. The answer is the index behind them."""
+        if not self.at(index, "<"):
+            return index
+        behind = index + 1
+        while not self.at(behind, ">"):
+            token, before = self.tokens[behind], self.tokens[behind - 1].text
+            if token.kind == "mark" and token.text not in (",", ":", "+"):
+                self.fail("parameters of this form", token.start)
+            if token.kind == "word" and token.text not in KEYWORDS:
+                if before in (":", "+"):
+                    self.uses.append((token.start, "a type", token.text))
+                else:
+                    self.define(behind, self.generics)
+            behind += 1
+        return behind + 1
+
+    def define(self, index, names):
+        """Takes the name at an index as one of the crate's own."""
+        name = self.tokens[index].text
+        if self.tokens[index].kind != "word" or name in TAKEN:
+            self.fail(f"a definition of {name!r}", self.start_of(index))
+        names.add(name)
+        return name
+
+    # One function for one form: each answers where its item ends, and whether it is kept.
+
+    def import_(self, item):
+        first = item.keyword + 1
+        behind = self.import_tree(first, [])
+        if not self.at(behind, ";"):
+            self.fail("an import of this form", self.start_of(behind))
+        return behind + 1, not self.is_for_proofs(first)
+
+    def is_for_proofs(self, first):
+        folder, _, _ = self.folder_at(first)
+        return folder is not None and folder[0] is None
+
+    def folder_at(self, index):
+        """The folder of a library that a path begins with, its name, and the index of what is used of it."""
+        words, behind = [self.tokens[index].text], index + 1
+        while self.at(behind, "::") and self.tokens[behind + 1].kind == "word":
+            words.append(self.tokens[behind + 1].text)
+            behind += 2
+        if words[0] not in LIBRARIES:
+            return None, None, index
+        if self.tokens[behind - 1].kind == "word" and not self.at(behind, "::"):
+            words, behind = words[:-1], behind - 2
+        name = "::".join(words)
+        folder = self.crate.project.folder_of(name, self.of_tests)
+        if folder is None:
+            self.fail(f"{name!r} is in no table", self.start_of(index))
+        return folder, name, behind + 1
+
+    def import_tree(self, index, path):
+        """Reads a path of an import, or several in braces."""
+        if not path:
+            folder, name, behind = self.folder_at(index)
+            if folder:
+                return self.import_of_library(index, folder, name, behind)
+            self.check_head(index)
+        while self.at(index + 1, "::"):
+            path, index = path + [self.tokens[index].text], index + 2
+        if self.at(index, "{"):
+            index += 1
+            while not self.at(index, "}"):
+                index = self.import_tree(index, path)
+                index += self.at(index, ",")
+            return index + 1
+        self.bind(index, path[0] if path else "")
+        if self.at(index + 1, "as") and self.of_tests:
+            return index + 3
+        return index + 1
+
+    def check_head(self, index):
+        """Refuses an import whose path begins with neither this crate nor one that it stands on."""
+        head = self.tokens[index].text
+        if head in self.crate.stands_on:
+            self.crate.use(head, self.of_tests)
+        elif head not in ("crate", "self", "super") and head not in self.crate.names and not self.of_tests:
+            self.fail(f"an import from {head!r}", self.start_of(index))
+
+    def bind(self, index, head):
+        name = self.tokens[index].text
+        if self.of_tests:
+            return
+        if self.tokens[index].kind != "word" or name in TAKEN:
+            self.fail(f"an import of {name!r}", self.start_of(index))
+        self.imported[name] = head
+
+    def import_of_library(self, index, folder, name, behind):
+        """An import of one name of a library, or of several in braces."""
+        new, allowed = folder
+        last = self.matching(behind) if self.at(behind, "{") else behind + 1
+        for token in self.tokens[behind:last]:
+            if token.text not in ("{", "}", ","):
+                if token.text not in allowed:
+                    self.fail(f"'{name}::{token.text}' is in no table", token.start)
+                self.imported[token.text] = name
+        if new and new != name:
+            self.cut_tokens(index, behind - 1, new)
+        return last
+
+    def module(self, item):
+        if not self.at(item.keyword + 2, ";"):
+            self.fail("a module of this form", self.start_of(item.keyword))
+        name = self.define(item.keyword + 1, self.crate.names)
+        return item.keyword + 3, self.crate.read_module(self, name, item.of_tests or self.of_tests)
+
+    def constant(self, item):
+        """`const`, `static` or `type`."""
+        self.define(item.keyword + 1, self.crate.names)
+        index = self.angles(item.keyword + 2)
+        while not self.at(index, ";"):
+            index = self.matching(index) if self.tokens[index].text in OPENING else index + 1
+        self.audit(item.keyword, index)
+        return index + 1, True
+
+    def type_(self, item):
+        """`struct` or `enum`."""
+        name = self.define(item.keyword + 1, self.crate.names)
+        index = self.angles(item.keyword + 2)
+        if not self.at(index, "{") and not self.of_tests:
+            self.fail("a type without braces", self.start_of(item.keyword))
+        behind = self.end_of_item(index)
+        depth = 0
+        for place in range(index, behind):
+            token = self.tokens[place]
+            depth += (token.text in OPENING) - (token.text in CLOSING)
+            if depth == 1 and self.at(item.keyword, "enum") and token.kind == "word":
+                self.define(place, self.crate.names)
+            elif self.at(place, "pub") and not self.at(place + 1, "("):
+                self.crate.public_fields.append((self, name, token.start))
+        if any(self.start_of(index) < cut[0] < self.start_of(behind - 1) for cut in self.cuts):
+            self.crate.guarded.add(name)
+        self.audit(index, behind)
+        return behind, True
+
+    def function(self, item):
+        index = self.angles(item.keyword + 2)
+        if not self.at(index, "("):
+            self.fail("a function of this form", self.start_of(item.keyword))
+        parameters = body = self.matching(index)
+        while not self.at(body, "{"):
             body += 1
-        end = self.matching(body)
-        if q == p + 2 and body == q and end == body + 2 and not public and not test_fn:
-            inside = (T[begin].start, T[end - 1].end)  # a law: it does nothing
-            self.cuts = [c for c in self.cuts if not inside[0] <= c[0] < inside[1]]
-            self.cut(*inside)
-            self.laws += 1
-            return end, False
-        self.crate.functions.add(name)
-        if test_fn and q > p + 2:
-            if self.text[T[p].end:T[q - 1].start] != "rt: HostRuntime":
-                self.fail("a test with other parameters", T[p].start)
-            self.cut(T[p].end, T[q - 1].start)
-            self.cut(T[body].start, T[body].end, "{\n    let rt = HostRuntime;")
-        if name == "main" and self.root:
-            self.cut(T[at].start, T[at].start, MAIN)
-            self.cut(T[at + 1].start, T[at + 1].end, "proved_main")
-        self.audit(p, end, False)
-        return end, True
+        behind = self.matching(body)
+        if self.is_law(item, index, body, behind):
+            return behind, False
+        name = self.define(item.keyword + 1, self.crate.functions)
+        reachable = item.public or item.owner not in (None, "impl")
+        if reachable and item.keyword in self.asking and not self.crate.is_program and not self.of_tests:
+            self.fail(f"a 'requires' of {name!r}, which anyone may call", self.asking[item.keyword])
+        if item.is_test or self.is_root and name == "main":
+            self.take_runtime(index, parameters, body)
+        self.audit(index, behind)
+        return behind, True
 
-    def imports(self, i, at):
-        """A use: the paths of libraries by the table, the others as they are."""
-        T, paths, table = self.toks, [], dict(PATHS, **TEST_PATHS) if self.test else PATHS
-        renames = False
+    def is_law(self, item, index, body, behind):
+        """A function of nothing that does nothing: only its clauses say something."""
+        empty = body == index + 2 and behind == body + 2
+        return empty and not (item.public or item.is_test or item.owner)
 
-        def tree(i, prefix):
-            nonlocal renames
-            while self.is_(i + 1, "::"):
-                prefix, i = prefix + [T[i].text], i + 2
-            if self.is_(i, "{"):
-                i += 1
-                while not self.is_(i, "}"):
-                    i = tree(i, prefix)
-                    i += self.is_(i, ",")
-                return i + 1
-            paths.append("::".join(prefix + [T[i].text]))
-            if self.is_(i + 1, "as"):
-                renames, i = True, i + 2
-            return i + 1
-        first = T[i + 1].start
-        i = tree(i + 1, [])
-        if not self.is_(i, ";"):
-            self.fail("a use of this form", T[i].start)
-        new = []
-        for p in paths:
-            top = p.split("::")[0]
-            if renames and (not self.test or top in LIBRARIES) or p.endswith("*") and p not in table and not self.test:
-                self.fail(f"use {p}", T[at].start)
-            if top in LIBRARIES:
-                if p not in table:
-                    self.fail(f"{p} is not in the table", T[at].start)
-                self.crate.libraries.add(top)
-                if not table[p]:
-                    continue
-                new.append(table[p])
-                self.bound[table[p].split("::")[-1]] = p
+    def take_runtime(self, index, parameters, body):
+        """Makes the parameter `rt` a statement."""
+        if parameters == index + 2:
+            return
+        if not self.at(index, "(", "rt", ":", "HostRuntime", ")"):
+            self.fail("other parameters than 'rt'", self.start_of(index))
+        self.cut(self.tokens[index].end, self.tokens[parameters - 1].start)
+        self.cut_tokens(body, body + 1, RUNTIME)
+
+    def implementation(self, item):
+        index = self.angles(item.keyword + 1)
+        trait = self.tokens[index].text if self.at(index + 1, "for") else None
+        index += 2 if trait else 0
+        name = self.tokens[index].text
+        self.uses.append((self.start_of(index), "a type", name))
+        index = self.angles(index + 1)
+        if not self.at(index, "{"):
+            self.fail("an impl of this form", self.start_of(item.keyword))
+        if trait == "Model":
+            self.crate.guarded.add(name)
+            if not self.at(index + 1, "}"):
+                self.fail("a member of Model that is no ghost", self.start_of(index + 1))
+            return index + 2, False
+        if trait and trait not in TRAITS and not (self.of_tests and trait in TRAITS_OF_TESTS):
+            self.fail(f"an impl of {trait!r}", self.start_of(item.keyword))
+        kept = self.first_kept
+        self.first_kept = kept if kept is not None else self.start_of(item.start)
+        return self.items(index + 1, trait or "impl") + 1, True
+
+    # ---- Names in code ----
+
+    def audit(self, index, behind):
+        """Looks at every name from an index on."""
+        while index < behind:
+            token = self.tokens[index]
+            if token.text == "#":
+                index = self.attribute_of_member(index)
+            elif token.kind == "word":
+                index = self.path_of_names(index)
             else:
-                new.append(p)
-            self.bound[p.split("::")[-1]] = p
-        if new != paths:
-            self.cut(T[at].start, T[i].end, "\n".join(f"{self.text[T[at].start:first]}{p};" for p in new))
-        return i + 1, bool(new)
+                floats = token.kind == "number" and self.at(index + 1, ".") and not self.at(index - 1, ".")
+                if floats and self.tokens[index + 2].kind != "word":
+                    self.fail("a number with a point", token.start)
+                index += 1
 
-    # ---- names ----
-    def audit(self, i, end, attributes=True):
-        T = self.toks
-        while i < end:
-            t = T[i]
-            if t.kind == "doc" and not self.test and self.text[t.start + 2] != "/" or self.is_(i, "@"):
-                self.fail(f"{t.text!r} in code", t.start)
-            if self.is_(i, "#"):  # of fields and variants; in a body it is refused
-                name, close = T[i + 2].text, self.matching(i + 1)
-                if not attributes or name not in ATTRIBUTES or T[i - 1].text not in ("{", ",") and T[i - 1].kind != "doc":
-                    self.fail("'#' in code", t.start)
-                i = close
-                continue
-            if t.kind != "word":
-                i += 1
-                continue
-            if t.text in BANNED:
-                self.fail(f"{t.text!r} in code", t.start)
-            k, parts = i, [t.text]
-            while self.is_(k + 1, "::"):
-                k += 2
-                if self.test and self.is_(k, "<", "u8", ">", "::"):
-                    k += 4
-                if T[k].kind != "word":
-                    self.fail("a path of this form", t.start)
-                parts.append(T[k].text)
-            self.name(i, k, parts)
-            i = k + 1
+    def attribute_of_member(self, index):
+        behind = self.matching(index + 1)
+        before = self.tokens[index - 1]
+        if self.tokens[index + 2].text not in ATTRIBUTES or not (before.text in ("{", ",", "]") or before.kind == "doc"):
+            self.fail("an attribute in code", self.start_of(index))
+        if before.text == "{" and self.tokens[index + 2].text not in ("default", "error"):
+            self.fail("an attribute in code", self.start_of(index))
+        return behind
 
-    def name(self, i, k, parts):
-        T, full, before, at = self.toks, "::".join(parts), self.toks[i - 1].text, self.toks[i].start
-        called = self.is_(k + 1, "(")
-        is_macro = self.is_(k + 1, "!") and k + 2 < len(T) and T[k + 2].text in OPEN
-        table = dict(PATHS, **TEST_PATHS) if self.test else PATHS
-        if parts[0] in LIBRARIES and len(parts) > 1:
-            if not table.get(full):
-                self.fail(f"{full} is not in the table", at)
-            if table[full] != full:
-                self.cut(at, T[k].end, table[full])
-        elif self.test:
-            key = full + "!" if is_macro else "." + full if before == "." else full
-            for key in {key, parts[0] if before != "." else key}:
-                if key in TEST_SHIM and (before != "." or called):
-                    self.shim.add(TEST_SHIM[key])
-            if before == "." and called and full == "to_string":
-                self.cut(at, T[k].end, "to_string_in")
-            if before == "." and called and full in ("expect", "expect_err"):
-                j = k + 2 + self.is_(k + 2, "&")
-                if not self.is_(j, "rt", ","):
-                    self.fail("an expect without rt", at)
-                self.cut(T[k + 2].start, T[j + 1].end)
-        elif is_macro:
-            if full not in MACROS or full == "json" and self.bound.get("json") != "serde_json::json":
-                self.fail(f"macro {full}!", at)
-        elif before == "as" and full not in NUMBERS:
-            self.fail(f"as {full}", at)
-        elif full in RENAMED:
-            self.cut(at, T[k].end, RENAMED[full])
-        elif full in ADDED:
-            self.shim.add(ADDED[full])
-        elif before == ".":
+    def path_of_names(self, first):
+        """Looks at the path that begins at an index. The answer is the index behind it."""
+        word = self.tokens[first].text
+        if word in REFUSED_WORDS and not self.of_tests:
+            self.fail(f"{word!r} in code", self.start_of(first))
+        last = first
+        while self.at(last + 1, "::") and self.tokens[last + 2].kind == "word":
+            last += 2
+        if self.at(last + 1, "::") and not self.of_tests:
+            self.fail("a path of this form", self.start_of(first))
+        if word in LIBRARIES and last > first:
+            self.path_of_library(first)
+        elif self.of_tests:
+            self.name_in_tests(first, word)
+        else:
+            self.name(first, last, [token.text for token in self.tokens[first:last + 1:2]])
+        return last + 1
+
+    def path_of_library(self, first):
+        folder, name, behind = self.folder_at(first)
+        new, allowed = folder
+        if new is None or self.tokens[behind].text not in allowed:
+            self.fail(f"'{name}::{self.tokens[behind].text}' is in no table", self.start_of(first))
+        if new != name:
+            self.cut_tokens(first, behind - 1, new)
+
+    def name_in_tests(self, index, word):
+        """Only `expect` is another function there: it is given the runtime, to end the test by."""
+        if self.at(index - 1, ".") and word in ("expect", "expect_err"):
+            runtime = index + 3 if self.at(index + 2, "&") else index + 2
+            if not self.at(runtime, "rt", ","):
+                self.fail(f"{word!r} without 'rt'", self.start_of(index))
+            self.cut(self.start_of(index + 2), self.start_of(runtime + 2))
+
+    def name(self, first, last, path):
+        start, head, full = self.start_of(first), path[0], "::".join(path)
+        called = self.at(last + 1, "(")
+        if self.at(last + 1, "!") and self.tokens[last + 2].text in OPENING:
+            self.macro(start, full)
+        elif self.at(first - 1, "."):
             if called:
-                self.uses.append((at, "method", full))
-        elif len(parts) > 1 and parts[0] not in ("crate", "self", "super"):
-            self.uses.append((at, "associated", full))
-        elif full not in KEYWORDS and full not in SHIM and full not in self.generics and (called or full[0].isupper()):
-            self.uses.append((at, "call" if called else "name", full))
-        if not self.test and full not in RENAMED and parts[0] in SHIM:
-            self.shim.add(parts[0])
+                self.uses.append((start, "a method", full))
+        elif self.at(first - 1, "as"):
+            if full not in NUMBERS:
+                self.fail(f"'as {full}'", start)
+        elif head in ("crate", "self", "super") or full in KEYWORDS:
+            pass
+        elif len(path) > 1:
+            self.uses.append((start, "a path", full))
+        elif called:
+            self.uses.append((start, "a function", full))
+        elif full[0].isupper():
+            self.uses.append((start, "a type", full))
+        if head in PRELUDE:
+            self.from_prelude.add(head)
+
+    def macro(self, start, name):
+        if name not in MACROS or name == "json" and self.imported.get(name) != "serde_json":
+            self.fail(f"a macro {name!r}", start)
 
     def check(self):
-        c = self.crate
-        for at, kind, name in self.uses:
-            top = name.split("::")[0]
-            known = {"method": name in c.functions or name in METHODS or name in c.dep_functions,
-                     "associated": top in c.names or top in ("Self", *self.generics) or name in ASSOCIATED,
-                     "call": name in c.functions or name in c.names or name in NAMES,
-                     "name": name in c.names or name in NAMES or name in self.bound}[kind]
-            if not known and not (top in self.bound and self.bound[top].split("::")[0] in c.deps):
-                self.fail(f"{kind} {name} is not known", at)
+        """Refuses the names that are neither of these crates nor in the tables."""
+        for start, kind, name in self.uses:
+            if not self.is_known(kind, name):
+                self.fail(f"{kind} {name!r}", start)
 
-    # ---- output ----
-    def output(self, head):
-        shim = {n for n in self.shim if n.split("::")[-1] not in self.bound}
-        if self.test and "rt: HostRuntime" in self.text:
-            shim.add("HostRuntime")
-        at = self.first if self.first is not None else len(self.text)
-        self.cut(at, at, head + "".join(f"use rattle::{n};\n" for n in sorted(shim)))
-        cuts, end = [], -1
-        for c in sorted(self.cuts, key=lambda c: (c[0], -c[1] if c[1] != c[0] else 1)):
-            if c[0] < end:  # inside a piece that goes as a whole
-                if c[1] > end:
-                    raise Refused(f"{self.path}: two cuts meet")
-                continue
-            cuts.append(c)
-            end = max(end, c[1])
-        out, last = [], 0
-        for s, e, new in cuts:
-            if not new and s != e:  # a line goes as a whole
-                a = self.text.rfind("\n", 0, s) + 1
-                if self.text[a:s].strip() == "" and self.text[e:e + 1] == "\n" and a >= last:
-                    s, e = a, e + 1
-            out += [self.text[last:s], new]
-            last = e
-        text = re.sub(r"[ \t]+\n", "\n", "".join(out) + self.text[last:])
-        text = re.sub(r"\n\n(\s*\})", r"\n\1", re.sub(r"\{\n\n", "{\n", re.sub(r"\n{3,}", "\n\n", text)))
-        return text.strip("\n") + "\n"
+    def is_known(self, kind, name):
+        head = name.split("::")[0]
+        own = self.crate.names | self.generics | {"Self"}
+        if kind == "a method":
+            return name in METHODS or any(name in crate.functions for crate in self.crate.and_below())
+        if self.imported.get(head) in self.crate.stands_on or head in self.crate.stands_on:
+            return True
+        if kind == "a path":
+            return name in ASSOCIATED or head in own
+        if kind == "a function":
+            return name in NAMES or name in self.crate.functions or name in own
+        return name in NAMES | PRELUDE or name in own or name in self.imported
+
+    # ---- Output ----
+
+    def plain(self):
+        """The text of the file in Rust."""
+        inserted = CRATE_ATTRIBUTES + NO_STD * (not self.crate.is_program) + "\n" if self.is_root else ""
+        if self.of_tests or self.is_root and self.crate.of_tests:
+            inserted += FOR_TESTS
+        elif self.from_prelude:
+            names = sorted(self.from_prelude)
+            inserted += f"use rattle::{names[0] if len(names) == 1 else '{' + ', '.join(names) + '}'};\n"
+        at = self.first_kept if self.first_kept is not None else len(self.text)
+        text, last = "", 0
+        for start, end, instead in sorted(self.outer_cuts() + [(at, at, inserted)]):
+            start, end = self.with_lines(start, end, instead, last)
+            text += self.text[last:start]
+            if not instead and start != end and text.endswith(("\n\n", "{\n")) and self.text.startswith("\n", end):
+                end += 1
+            text, last = text + instead, max(end, last)
+            if text.endswith("\n\n") and re.compile(r" *\}").match(self.text, last):
+                text = text[:-1]
+        return ORIGIN.format(self.path) + "\n" + (text + self.text[last:]).strip("\n") + "\n"
+
+    def outer_cuts(self):
+        """The cuts that lie in no other."""
+        outer = []
+        for cut in sorted(self.cuts, key=lambda cut: (cut[0], -cut[1])):
+            if not outer or cut[0] >= outer[-1][1]:
+                outer.append(cut)
+            elif cut[1] > outer[-1][1]:
+                self.fail("two pieces to cut that overlap", cut[0])
+        return outer
+
+    def with_lines(self, start, end, instead, last):
+        """The piece with the rest of its lines, where it is all that stands there."""
+        line = self.text.rfind("\n", 0, start) + 1
+        if instead or start == end or line < last:
+            return start, end
+        if self.text[line:start].strip() or not self.text.startswith("\n", end):
+            return start, end
+        return line, end + 1
+
+
+FORMS = {
+    "use": File.import_, "mod": File.module, "const": File.constant, "static": File.constant,
+    "type": File.constant, "struct": File.type_, "enum": File.type_, "fn": File.function,
+    "impl": File.implementation,
+}
+FORMS_IN_IMPL = {File.constant, File.function}
 
 
 class Crate:
-    def __init__(self, folder, tests=False, gates=None, deps=()):
-        self.src, self.tests, self.gates, self.gated = os.path.join(folder, "src"), tests, gates or {}, set()
-        self.names, self.functions, self.libraries, self.files = set(), set(), set(), {}
-        self.deps = {d for d, _ in deps}
-        self.dep_functions = set().union(*(c.functions for _, c in deps)) if deps else set()
-        self.all = {os.path.join(d, f) for d, _, fs in os.walk(self.src) for f in fs}
-        self.guarded = {n for p in self.all for n in re.findall(r"^impl(?:<[^>]*>)? Model for (\w+)", open(p).read(), re.M)}
-        self.is_program = os.path.join(self.src, "lib.rt") not in self.all
-        root = os.path.join(self.src, "main.rt" if self.is_program else "lib.rt")
-        self.files[root] = File(self, root, True, False)
-        for f in self.files.values():
-            f.check()
-        for feature, items in self.gates.items():
-            if {(feature, i) for i in items} - self.gated:
-                raise Refused(f"nothing to put under the feature {feature}")
+    """The files of a crate, and the names that they give."""
 
-    def child(self, parent, name, test):
-        path = os.path.join(os.path.dirname(parent.path) if parent.root else parent.path[:-3], name + ".rt")
-        if path not in self.all:
-            raise Refused(f"{parent.path}: no file for mod {name}")
-        f = File(self, path, False, test)
-        self.laws = getattr(self, "laws", 0) + f.laws
-        if f.kept_any:
-            self.files[path] = f
-        return f.kept_any
+    def __init__(self, project, name, of_tests):
+        self.project, self.name, self.of_tests = project, name, of_tests
+        self.stands_on, self.used = project.libraries[name], {}
+        self.folder = os.path.join(project.folder, "crates", name, "src")
+        self.is_program = os.path.exists(os.path.join(self.folder, "main.rt"))
+        self.root = os.path.join(self.folder, "main.rt" if self.is_program else "lib.rt")
+        self.names, self.functions = set(), set()
+        self.guarded, self.public_fields = set(), []  # types with ghosts; (file, type, where)
+        self.files = {}
+        self.files[self.root] = File(self, self.root, of_tests)
+        for file in self.files.values():
+            file.check()
+        if not (self.is_program or of_tests):
+            self.check_fields()
 
-    def gate(self, file, name, at, end):
-        text = file.text[file.toks[at].start:file.toks[end - 1].end]
-        for feature, items in self.gates.items():
-            for item in items:
-                if item == name or name == "use" and text.startswith("pub") and re.search(rf"\b{item};$", text):
-                    file.cut(file.toks[at].start, file.toks[at].start, f'#[cfg(feature = "{feature}")]\n')
-                    self.gated.add((feature, item))
+    def check_fields(self):
+        for file, name, start in self.public_fields:
+            if name in self.guarded and not file.of_tests:
+                file.fail(f"a public field of {name!r}, which has ghosts", start)
 
-    def write(self, out, name, deps):
-        for path, f in self.files.items():
-            to = os.path.join(out, "src", os.path.relpath(path, self.src)[:-3] + ".rs")
-            os.makedirs(os.path.dirname(to), exist_ok=True)
-            head = HEAD + NO_STD * (not self.is_program and not self.tests) if f.root else ""
-            open(to, "w", encoding="utf-8").write(f.output(head))
-        json = "serde_json" in self.libraries
-        wanted = ["json"] * (json and (self.tests or not self.gates)) + ["std"] * self.is_program + ["testing"] * self.tests
-        features = f", features = {wanted}".replace("'", '"') if wanted else ""
-        toml = f'[package]\nname = "{name}"\nversion = "0.1.0"\nedition = "2021"\n\n'
-        for feature in self.gates:
-            toml += f"[features]\n{feature} = [" + '"rattle/json"' * json + "]\n\n"
-        toml += f'[dependencies]\nrattle = {{ path = "../rattle", default-features = false{features} }}\n'
-        toml += 'thiserror = "1"\n' * ("thiserror" in self.libraries)
-        toml += "".join(f"{d} = {{ {p} }}\n" for d, p in deps.items())
-        open(os.path.join(out, "Cargo.toml"), "w").write(toml)
+    def read_module(self, parent, name, of_tests):
+        """Reads the file of a module. The answer is whether anything is kept of it."""
+        path = os.path.join(parent.children, name + ".rt")
+        if not os.path.exists(path):
+            raise Refused(f"{parent.path}: no file for the module {name!r}")
+        file = File(self, path, of_tests)
+        if file.first_kept is not None:
+            self.files[path] = file
+        return file.first_kept is not None
+
+    def use(self, name, in_tests):
+        """Notes that a library of the project is used, in tests alone or not."""
+        self.used[name] = self.used.get(name, False) or not in_tests
+        self.project.crate(name)
+
+    def and_below(self):
+        return [self] + [self.project.crate(name) for name in self.used]
+
+    def manifest(self):
+        used = [name for name in sorted(self.used) if self.used[name] or self.project.with_tests]
+        features = ["testing"] * self.project.with_tests + ["program"] * self.is_program
+        text = ", features = " + str(features).replace("'", '"') if features else ""
+        lines = [f'{name} = {{ path = "../{name}" }}\n' for name in used]
+        return MANIFEST.format(name=self.name, features=text) + "".join(lines)
+
+    def write(self, out):
+        write(os.path.join(out, "Cargo.toml"), self.manifest())
+        for path, file in self.files.items():
+            relative = os.path.relpath(path, self.folder)[:-len(".rt")] + ".rs"
+            write(os.path.join(out, "src", relative), file.plain())
+
+
+class Project:
+    """The crates of a project. Those that are written are those that a program stands on, and the programs."""
+
+    def __init__(self, folder, with_tests=False, kept=None):
+        self.folder, self.with_tests = os.path.abspath(folder), with_tests
+        self.libraries = self.read_libraries()
+        self.kept = kept if kept is not None else self.libraries
+        self.crates = {}
+        for name in self.libraries:
+            if with_tests or os.path.exists(os.path.join(self.folder, "crates", name, "src", "main.rt")):
+                self.crate(name)
+
+    def read_libraries(self):
+        """The crates of crates.txt, and which others each stands on."""
+        with open(os.path.join(self.folder, "crates.txt"), encoding="utf-8") as table:
+            lines = [line.split(":") for line in table if line.strip() and not line.startswith("#")]
+        return {name.strip(): set(below.split()) - LIBRARIES for name, below in lines}
+
+    def crate(self, name):
+        if name not in self.crates:
+            self.crates[name] = Crate(self, name, name not in self.kept)
+        return self.crates[name]
+
+    def folder_of(self, name, of_tests):
+        if of_tests and name in FOLDERS_OF_TESTS:
+            return FOLDERS_OF_TESTS[name]
+        return FOLDERS.get(name)
+
+
+def write(path, text):
+    os.makedirs(os.path.dirname(path), exist_ok=True)
+    with open(path, "w", encoding="utf-8") as file:
+        file.write(text)
+
+
+def erase(folder, out, with_tests):
+    """Writes the crates of a project. The answer is which."""
+    project = Project(folder)
+    if with_tests:
+        project = Project(folder, True, set(project.crates))
+    for name, crate in project.crates.items():
+        crate.write(os.path.join(out, name))
+    return project.crates
 
 
 def main():
-    args, deps, toml, gates, name, tests = [], [], {}, {}, None, False
-    words = iter(sys.argv[1:])
-    for a in words:
-        if a == "--dep":
-            d, _, rest = next(words).partition("=")
-            folder, _, toml[d] = rest.partition(":")
-            deps.append((d, Crate(folder, deps=deps)))
-        elif a == "--name":
-            name = next(words)
-        elif a == "--feature":
-            f, _, items = next(words).partition("=")
-            gates[f] = items.split(",")
-        elif a == "--tests":
-            tests = True
-        else:
-            args.append(a)
-    if len(args) != 2:
+    arguments = [word for word in sys.argv[1:] if word != "--tests"]
+    if len(arguments) != 2 or any(word.startswith("-") for word in arguments):
         sys.exit(__doc__)
     try:
-        crate = Crate(args[0], tests, gates, deps)
-        crate.write(args[1], name or os.path.basename(os.path.normpath(args[0])), toml)
-    except Refused as e:
-        sys.exit(f"refused: {e}")
-    fs = crate.files.values()
-    print(f"{len(fs)} files, {sum(f.clauses for f in fs)} clauses, {len(crate.functions)} names of functions")
+        crates = erase(*arguments, "--tests" in sys.argv)
+    except Refused as refused:
+        sys.exit(f"refused: {refused}")
+    for name, crate in crates.items():
+        print(f"{name}: {len(crate.files)} files")
 
 
 if __name__ == "__main__":

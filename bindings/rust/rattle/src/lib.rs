@@ -10,6 +10,8 @@ extern crate std;
 
 mod boxed;
 mod collections;
+#[cfg(feature = "testing")]
+mod parse;
 #[cfg(feature = "program")]
 mod program;
 pub mod simd;

@@ -1,3 +1,5 @@
+// Written by bindings/erase from crates/vm_allocator/src/address_allocator.rt: do not edit.
+
 use crate::allocation_engine::IntervalTree;
 use crate::constraint::{AllocPolicy, Constraint};
 use crate::error::{Error, Result};

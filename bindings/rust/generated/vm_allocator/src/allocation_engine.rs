@@ -1,3 +1,5 @@
+// Written by bindings/erase from crates/vm_allocator/src/allocation_engine.rt: do not edit.
+
 //! How addresses are aligned, and how a space is cut into blocks.
 
 mod block;

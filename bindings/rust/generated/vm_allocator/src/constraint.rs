@@ -1,3 +1,5 @@
+// Written by bindings/erase from crates/vm_allocator/src/constraint.rt: do not edit.
+
 use crate::error::{Error, Result};
 
 /// An alignment for requests that need no particular one.

@@ -1,3 +1,5 @@
+// Written by bindings/erase from crates/vm_allocator/src/error.rt: do not edit.
+
 use crate::allocation_engine::NodeState;
 use crate::range::RangeInclusive;
 use rattle::Error;
@@ -48,4 +50,4 @@ pub enum Error {
 }
 
 /// What a call answers: a value, or why it is refused.
-pub type Result<T> = std::result::Result<T, Error>;
+pub type Result<T> = core::result::Result<T, Error>;

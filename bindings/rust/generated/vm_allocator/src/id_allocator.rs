@@ -1,3 +1,5 @@
+// Written by bindings/erase from crates/vm_allocator/src/id_allocator.rt: do not edit.
+
 use crate::error::{Error, Result};
 use rattle::Global;
 use rattle::BTreeSet;

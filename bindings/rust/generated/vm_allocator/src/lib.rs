@@ -1,9 +1,12 @@
+// Written by bindings/erase from crates/vm_allocator/src/lib.rt: do not edit.
+
 //! Gives out ranges of addresses and ids.
 
 #![forbid(unsafe_code)]
-#![allow(dead_code, unused_imports, unused_variables, unused_assignments)]
+// What only proofs and tests use is kept as it is.
+#![allow(dead_code, unused_assignments, unused_imports, unused_variables)]
 #![no_std]
-extern crate core as std;
+
 mod address_allocator;
 pub mod allocation_engine;
 mod constraint;

@@ -1,5 +1,7 @@
+// Written by bindings/erase from crates/vm_allocator/src/range.rt: do not edit.
+
 use crate::error::{Error, Result};
-use std::cmp::Ordering;
+use core::cmp::Ordering;
 
 /// A closed range of addresses: its start, its end and all between them. It is never empty and
 /// never all of the 2^64 addresses, so its length fits a `u64`. Ranges are ordered by start, then

@@ -1,3 +1,5 @@
+// Written by bindings/erase from crates/vm_allocator/src/saved.rt: do not edit.
+
 //! Saved values: what is written of ranges, states and allocators as a `Value`, and read again. A value
 //! may come from a stranger. It is read only where it states an object: it has exactly the fields that
 //! it should, and all that has to hold of them holds. The order of the fields says nothing. The whole

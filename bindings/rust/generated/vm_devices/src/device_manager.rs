@@ -1,3 +1,5 @@
+// Written by bindings/erase from crates/vm_devices/src/device_manager.rt: do not edit.
+
 use crate::device_slot::DeviceSlot;
 use rattle::Global;
 use rattle::BTreeMap;

@@ -1,3 +1,5 @@
+// Written by bindings/erase from crates/vm_devices/src/device_slot.rt: do not edit.
+
 use vm_allocator::RangeInclusive;
 
 /// What a device holds: an id, and a range of addresses.

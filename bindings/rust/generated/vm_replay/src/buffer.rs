@@ -1,3 +1,5 @@
+// Written by bindings/erase from crates/vm_replay/src/buffer.rt: do not edit.
+
 use crate::number::MOST_DIGITS;
 
 /// How many bytes a buffer has room for.

@@ -1,3 +1,5 @@
+// Written by bindings/erase from crates/vm_replay/src/command.rt: do not edit.
+
 use crate::words::{behind, ids_and_numbers, one_id, three_numbers, two_ids, two_numbers};
 
 /// A longer line is not in the language.

@@ -1,3 +1,5 @@
+// Written by bindings/erase from crates/vm_replay/src/machine.rt: do not edit.
+
 use crate::command::Command;
 use crate::reply::Reply;
 use rattle::Global;

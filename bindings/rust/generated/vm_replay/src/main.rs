@@ -1,8 +1,12 @@
+// Written by bindings/erase from crates/vm_replay/src/main.rt: do not edit.
+
 //! Replays lines of calls: each line of the standard input asks an allocator or a manager of devices
 //! for something, and is answered by one line of the standard output.
 
 #![forbid(unsafe_code)]
-#![allow(dead_code, unused_imports, unused_variables, unused_assignments)]
+// What only proofs and tests use is kept as it is.
+#![allow(dead_code, unused_assignments, unused_imports, unused_variables)]
+
 use rattle::HostRuntime;
 mod buffer;
 mod command;
@@ -27,9 +31,6 @@ fn status(outcome: Result<(), RunError>) -> u8 {
 }
 
 fn main() -> ExitCode {
-    proved_main(rattle::HostRuntime)
-}
-
-fn proved_main(rt: HostRuntime) -> ExitCode {
+    let rt = HostRuntime;
     ExitCode::from(status(run(rt.alloc(), &mut rt.stdin(), &mut rt.stdout())))
 }

@@ -1,6 +1,8 @@
+// Written by bindings/erase from crates/vm_replay/src/newline.rt: do not edit.
+
 //! The search for the end of a line.
 
-use rattle::simd::u8x16;
+use rattle::simd::*;
 
 /// How many bytes are compared at a time.
 const LANES: usize = 16;

@@ -1,3 +1,5 @@
+// Written by bindings/erase from crates/vm_replay/src/number.rt: do not edit.
+
 /// No number of the language has more digits, and none of 64 bits needs more.
 pub const MOST_DIGITS: usize = 20;
 

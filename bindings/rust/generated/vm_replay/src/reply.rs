@@ -1,3 +1,5 @@
+// Written by bindings/erase from crates/vm_replay/src/reply.rt: do not edit.
+
 use crate::buffer::{Buffer, CAPACITY};
 use crate::number::MOST_DIGITS;
 use vm_allocator::{Error, RangeInclusive};

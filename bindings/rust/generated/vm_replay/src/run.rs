@@ -1,3 +1,5 @@
+// Written by bindings/erase from crates/vm_replay/src/run.rt: do not edit.
+
 use crate::buffer::{Buffer, CAPACITY};
 use crate::newline::newline_at;
 use crate::reply::LONGEST_REPLY;

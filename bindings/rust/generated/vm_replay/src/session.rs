@@ -1,3 +1,5 @@
+// Written by bindings/erase from crates/vm_replay/src/session.rt: do not edit.
+
 use crate::buffer::{Buffer, CAPACITY};
 use crate::command::{Command, LONGEST_LINE, parse};
 use crate::machine::Machine;

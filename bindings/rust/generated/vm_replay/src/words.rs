@@ -1,3 +1,5 @@
+// Written by bindings/erase from crates/vm_replay/src/words.rt: do not edit.
+
 use crate::number::number_ahead;
 
 /// What stands behind the front of a text, where the text begins with it.

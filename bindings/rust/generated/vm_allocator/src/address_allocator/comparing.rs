@@ -1,7 +1,9 @@
+// Written by bindings/erase from crates/vm_allocator/src/address_allocator/comparing.rt: do not edit.
+
 //! Equality and order of allocators: by their states, whatever the shapes of their trees.
 
 use super::AddressAllocator;
-use std::cmp::Ordering;
+use core::cmp::Ordering;
 
 impl PartialEq for AddressAllocator {
     /// Whether the spaces and the held ranges are the same. It takes no memory and stops at the first

@@ -1,3 +1,5 @@
+// Written by bindings/erase from crates/vm_allocator/src/address_allocator/held_ranges.rt: do not edit.
+
 //! The held ranges: one after the other, whether a range is one, and how many there are.
 
 use super::AddressAllocator;

@@ -1,8 +1,10 @@
+// Written by bindings/erase from crates/vm_allocator/src/allocation_engine/block.rt: do not edit.
+
 //! A block of a space.
 
 use super::NodeState;
 use crate::range::RangeInclusive;
-use std::cmp::Ordering;
+use core::cmp::Ordering;
 
 /// A range of addresses, and whether it is held. Blocks are ordered by start, then by end, then by
 /// state.

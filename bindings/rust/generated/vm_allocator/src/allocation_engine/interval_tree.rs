@@ -1,3 +1,5 @@
+// Written by bindings/erase from crates/vm_allocator/src/allocation_engine/interval_tree.rt: do not edit.
+
 //! The blocks of a space in a balanced tree: which place a request gets (`placing`), how the range
 //! there is held (`holding`), how a held one is given back (`release`), and how two compare (`comparing`).
 

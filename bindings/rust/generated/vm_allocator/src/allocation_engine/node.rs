@@ -1,3 +1,5 @@
+// Written by bindings/erase from crates/vm_allocator/src/allocation_engine/node.rt: do not edit.
+
 //! A balanced search tree of blocks. Each function in here that calls itself counts the nodes that
 //! it enters: `count` rises by one for each, in `enter` alone.
 

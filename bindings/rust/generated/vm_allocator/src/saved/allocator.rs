@@ -1,3 +1,5 @@
+// Written by bindings/erase from crates/vm_allocator/src/saved/allocator.rt: do not edit.
+
 //! The saved form of an address allocator.
 
 use super::ValueError;
@@ -8,10 +10,8 @@ use crate::allocation_engine::node::walks::saving::save;
 use crate::allocation_engine::{IntervalTree, NodeState};
 use crate::error::{Error, Result};
 use crate::range::RangeInclusive;
-use rattle::Value;
-use rattle::json;
-use rattle::AllocError;
-use rattle::Global;
+use rattle::{Value, json};
+use rattle::{AllocError, Global};
 
 /// No node of a saved tree is nested deeper, since no tree of an allocator is higher.
 const MOST_NESTED: u64 = 49;
@@ -32,7 +32,7 @@ impl AddressAllocator {
     /// The allocator that a value states: its space and held ranges, in a tree of the same nodes.
     /// `NotAState` where the value states none, and else `OutOfMemory` where there is no memory for the
     /// tree. To find out which takes no memory and goes down at most 50 levels of the value.
-    pub fn from_value(alloc: Global, value: &Value) -> std::result::Result<Self, ValueError> {
+    pub fn from_value(alloc: Global, value: &Value) -> core::result::Result<Self, ValueError> {
         let Some(checked) = check_allocator(value) else {
             return Err(ValueError::NotAState);
         };
@@ -51,7 +51,7 @@ fn save_allocator(
     alloc: Global,
     space: Value,
     root: Value,
-) -> std::result::Result<Value, AllocError> {
+) -> core::result::Result<Value, AllocError> {
     json!(in alloc; {"address_space": space, "interval_tree": {"root": root}})
 }
 

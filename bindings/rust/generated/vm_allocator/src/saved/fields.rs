@@ -1,3 +1,5 @@
+// Written by bindings/erase from crates/vm_allocator/src/saved/fields.rt: do not edit.
+
 //! The fields of saved objects. Nothing here takes memory.
 
 use crate::allocation_engine::NodeState;

@@ -1,3 +1,5 @@
+// Written by bindings/erase from crates/vm_allocator/src/saved/ids.rt: do not edit.
+
 //! The saved form of an id allocator.
 
 use rattle::Vec;
@@ -5,10 +7,8 @@ use super::ValueError;
 use super::fields::{has_fields, number_in};
 use crate::error::{Error, Result};
 use crate::id_allocator::{IdAllocator, bound_of};
-use rattle::Value;
-use rattle::json;
-use rattle::AllocError;
-use rattle::Global;
+use rattle::{Value, json};
+use rattle::{AllocError, Global};
 use rattle::BTreeSet;
 
 impl IdAllocator {
@@ -29,7 +29,7 @@ impl IdAllocator {
     /// The allocator that a value states: its range, the ids ever handed out and those held.
     /// `NotAState` where the value states none, and else `OutOfMemory` where there is no memory for the
     /// ids given back. To find out which takes no memory.
-    pub fn from_value(alloc: Global, value: &Value) -> std::result::Result<Self, ValueError> {
+    pub fn from_value(alloc: Global, value: &Value) -> core::result::Result<Self, ValueError> {
         let Some(ids) = check_ids(value) else {
             return Err(ValueError::NotAState);
         };
@@ -55,7 +55,7 @@ fn save_next(next: Option<u32>) -> Value {
 }
 
 /// The list of ids given back.
-fn save_ids(alloc: Global, ids: &BTreeSet<u32>) -> std::result::Result<Value, AllocError> {
+fn save_ids(alloc: Global, ids: &BTreeSet<u32>) -> core::result::Result<Value, AllocError> {
     let mut list = Vec::new(alloc);
     for id in ids.iter() {
         list.push(Value::from(*id))?;
@@ -70,7 +70,7 @@ fn save_parts(
     next: Value,
     end: u32,
     freed: Value,
-) -> std::result::Result<Value, AllocError> {
+) -> core::result::Result<Value, AllocError> {
     json!(in alloc; {"range_base": base, "next_id": next, "range_end": end, "freed_ids": freed})
 }
 
@@ -159,7 +159,7 @@ fn collect(
     list: &[Value],
     least: u64,
     bound: u64,
-) -> std::result::Result<BTreeSet<u32>, AllocError> {
+) -> core::result::Result<BTreeSet<u32>, AllocError> {
     let mut next = least;
     let mut ids = BTreeSet::new(alloc);
     for item in list {

@@ -1,11 +1,12 @@
+// Written by bindings/erase from crates/vm_allocator/src/saved/range.rt: do not edit.
+
 //! The saved form of a range.
 
 use super::ValueError;
 use super::fields::{has_fields, number_in};
 use crate::error::{Error, Result};
 use crate::range::RangeInclusive;
-use rattle::Value;
-use rattle::json;
+use rattle::{Value, json};
 use rattle::Global;
 
 impl RangeInclusive {
@@ -19,7 +20,7 @@ impl RangeInclusive {
     }
 
     /// The range that a value states. `NotAState` where it states none. It takes no memory.
-    pub fn from_value(_alloc: Global, value: &Value) -> std::result::Result<Self, ValueError> {
+    pub fn from_value(_alloc: Global, value: &Value) -> core::result::Result<Self, ValueError> {
         match RangeInclusive::stated_by(value) {
             Some(range) => Ok(range),
             None => Err(ValueError::NotAState),

@@ -1,3 +1,5 @@
+// Written by bindings/erase from crates/vm_allocator/src/saved/repaired.rt: do not edit.
+
 //! Address allocators read with repairs, from what the Rust crate vm-allocator 0.1.4 saves, its faults
 //! among it: a check of the whole value without memory, and the holding of its keys.
 
@@ -30,7 +32,7 @@ impl AddressAllocator {
     pub fn from_value_repaired(
         alloc: Global,
         value: &Value,
-    ) -> std::result::Result<Self, ValueError> {
+    ) -> core::result::Result<Self, ValueError> {
         let Some(checked) = check_repaired(value) else {
             return Err(ValueError::NotAState);
         };

@@ -1,3 +1,5 @@
+// Written by bindings/erase from crates/vm_allocator/src/saved/state.rt: do not edit.
+
 //! The saved form of a state.
 
 use super::ValueError;
@@ -21,7 +23,7 @@ impl NodeState {
     }
 
     /// The state that a value states. `NotAState` where it states none. It takes no memory.
-    pub fn from_value(_alloc: Global, value: &Value) -> std::result::Result<Self, ValueError> {
+    pub fn from_value(_alloc: Global, value: &Value) -> core::result::Result<Self, ValueError> {
         match NodeState::stated_by(value) {
             Some(state) => Ok(state),
             None => Err(ValueError::NotAState),

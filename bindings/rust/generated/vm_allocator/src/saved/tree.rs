@@ -1,3 +1,5 @@
+// Written by bindings/erase from crates/vm_allocator/src/saved/tree.rt: do not edit.
+
 //! The check of a saved tree, which takes no memory, and the building of the tree.
 
 use super::fields::node_of;

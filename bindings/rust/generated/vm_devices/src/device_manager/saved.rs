@@ -1,3 +1,5 @@
+// Written by bindings/erase from crates/vm_devices/src/device_manager/saved.rt: do not edit.
+
 //! The saved form of a manager: its version, both allocators, and the list of its devices. A value may
 //! come from a stranger; it is read only where all of this fits together.
 
@@ -8,10 +10,8 @@ mod slots;
 use self::pairing::are_all_held;
 use self::slots::{read_slots, save_slots};
 use super::DeviceManager;
-use rattle::Value;
-use rattle::json;
-use rattle::AllocError;
-use rattle::Global;
+use rattle::{Value, json};
+use rattle::{AllocError, Global};
 use vm_allocator::{AddressAllocator, Error, IdAllocator, Result, ValueError};
 
 /// The version of the saved form.
@@ -34,7 +34,7 @@ impl DeviceManager {
     /// states none: the version is another, a part states nothing, ids do not rise, a device has an id
     /// or a range that is not held, or a held one has no device. Its parts are read in turn, so
     /// `OutOfMemory` may come for any value.
-    pub fn from_value(alloc: Global, value: &Value) -> std::result::Result<Self, ValueError> {
+    pub fn from_value(alloc: Global, value: &Value) -> core::result::Result<Self, ValueError> {
         let Some(fields) = fields_of(value) else {
             return Err(ValueError::NotAState);
         };
@@ -59,7 +59,7 @@ fn put_manager(
     ids: Value,
     space: Value,
     slots: Value,
-) -> std::result::Result<Value, AllocError> {
+) -> core::result::Result<Value, AllocError> {
     json!(in alloc; {"version": VERSION, "id_allocator": ids, "mmio_allocator": space, "slots": slots})
 }
 

@@ -1,3 +1,5 @@
+// Written by bindings/erase from crates/vm_replay/src/machine/devices.rt: do not edit.
+
 //! What a line does to the devices.
 
 use super::Machine;

@@ -1,8 +1,10 @@
+// Written by bindings/erase from crates/vm_allocator/src/allocation_engine/interval_tree/comparing.rt: do not edit.
+
 //! Equality and order of trees: by their blocks, and so by the state that they stand for.
 
 use super::IntervalTree;
 use crate::allocation_engine::node::walks::comparing::{order_of_blocks, same_blocks};
-use std::cmp::Ordering;
+use core::cmp::Ordering;
 
 impl PartialEq for IntervalTree {
     /// Whether the blocks are the same. It stops at the first difference.

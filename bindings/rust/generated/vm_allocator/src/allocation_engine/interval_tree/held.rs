@@ -1,3 +1,5 @@
+// Written by bindings/erase from crates/vm_allocator/src/allocation_engine/interval_tree/held.rt: do not edit.
+
 //! What is held in a tree.
 
 use super::IntervalTree;

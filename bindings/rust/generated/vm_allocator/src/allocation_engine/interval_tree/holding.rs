@@ -1,3 +1,5 @@
+// Written by bindings/erase from crates/vm_allocator/src/allocation_engine/interval_tree/holding.rt: do not edit.
+
 //! How a range is held: what fills its free block is marked in place, and what does not is split
 //! from it, with all memory asked for before the first change.
 

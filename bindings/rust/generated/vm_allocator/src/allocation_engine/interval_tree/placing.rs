@@ -1,3 +1,5 @@
+// Written by bindings/erase from crates/vm_allocator/src/allocation_engine/interval_tree/placing.rt: do not edit.
+
 //! Where a request is placed: the least, the greatest or the named place, and the free block that
 //! has it.
 

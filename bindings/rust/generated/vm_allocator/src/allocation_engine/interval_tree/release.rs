@@ -1,3 +1,5 @@
+// Written by bindings/erase from crates/vm_allocator/src/allocation_engine/interval_tree/release.rt: do not edit.
+
 //! How a held range is given back: the free blocks beside it are removed, and its block takes their
 //! addresses, free again.
 

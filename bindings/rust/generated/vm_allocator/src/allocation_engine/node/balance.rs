@@ -1,3 +1,5 @@
+// Written by bindings/erase from crates/vm_allocator/src/allocation_engine/node/balance.rt: do not edit.
+
 //! Rotations, and what comes before them. Nothing here calls itself, and nothing takes memory.
 
 use rattle::Box;

@@ -1,3 +1,5 @@
+// Written by bindings/erase from crates/vm_allocator/src/allocation_engine/node/carve.rt: do not edit.
+
 //! A range taken from a free block, in one descent.
 
 use super::balance::{Settled, rebalance, settle};
@@ -5,7 +7,7 @@ use super::link::link_at;
 use super::{Child, InnerNode, height};
 use crate::allocation_engine::NodeState;
 use crate::range::RangeInclusive;
-use std::cmp::Ordering;
+use core::cmp::Ordering;
 
 /// What is left of a free block before and after a range, a leaf each.
 pub(crate) struct Rest {

@@ -1,3 +1,5 @@
+// Written by bindings/erase from crates/vm_allocator/src/allocation_engine/node/find.rt: do not edit.
+
 //! The block of an address.
 
 use super::InnerNode;

@@ -1,3 +1,5 @@
+// Written by bindings/erase from crates/vm_allocator/src/allocation_engine/node/kept.rt: do not edit.
+
 //! What a node keeps of its tree, brought up to date from its children and its own block.
 
 use super::Child;

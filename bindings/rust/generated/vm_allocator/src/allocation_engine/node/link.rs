@@ -1,3 +1,5 @@
+// Written by bindings/erase from crates/vm_allocator/src/allocation_engine/node/link.rt: do not edit.
+
 //! A leaf added to a tree.
 
 use rattle::Box;

@@ -1,9 +1,11 @@
+// Written by bindings/erase from crates/vm_allocator/src/allocation_engine/node/neighbours.rt: do not edit.
+
 //! The search for a held block and the free ones beside it, in one descent.
 
 use super::{Child, InnerNode};
 use crate::allocation_engine::NodeState;
 use crate::range::RangeInclusive;
-use std::cmp::Ordering;
+use core::cmp::Ordering;
 
 /// The free blocks right beside a held one.
 #[derive(Clone, Copy)]

@@ -1,3 +1,5 @@
+// Written by bindings/erase from crates/vm_allocator/src/allocation_engine/node/places.rt: do not edit.
+
 //! The searches for the place of a request.
 
 use super::{Child, InnerNode};

@@ -1,10 +1,12 @@
+// Written by bindings/erase from crates/vm_allocator/src/allocation_engine/node/remove.rt: do not edit.
+
 //! A block removed from a tree.
 
 use rattle::Box;
 use super::balance::{Settled, balance, rebalance, settle};
 use super::{Child, InnerNode, height};
 use crate::range::RangeInclusive;
-use std::cmp::Ordering;
+use core::cmp::Ordering;
 
 /// Takes the node with the least key out from below the node at a place; says whether the height
 /// there changed.

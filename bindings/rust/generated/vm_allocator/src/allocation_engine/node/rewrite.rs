@@ -1,10 +1,12 @@
+// Written by bindings/erase from crates/vm_allocator/src/allocation_engine/node/rewrite.rt: do not edit.
+
 //! A block changed in place.
 
 use super::kept::{kept_of, refresh_room, room_of};
 use super::{Child, InnerNode};
 use crate::allocation_engine::NodeState;
 use crate::range::RangeInclusive;
-use std::cmp::Ordering;
+use core::cmp::Ordering;
 
 impl InnerNode {
     /// Gives this node another key, which keeps its place in the order, and another state; says

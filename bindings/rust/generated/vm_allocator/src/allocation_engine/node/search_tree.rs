@@ -1,3 +1,5 @@
+// Written by bindings/erase from crates/vm_allocator/src/allocation_engine/node/search_tree.rt: do not edit.
+
 //! The other calls of a search tree: searching, inserting, deleting and marking by a key. The
 //! allocator makes none of them, and the tests that every search tree has to pass make them all.
 
@@ -10,7 +12,7 @@ use crate::allocation_engine::NodeState;
 use crate::error::{Error, Result};
 use crate::range::RangeInclusive;
 use rattle::Global;
-use std::cmp::Ordering;
+use core::cmp::Ordering;
 
 impl InnerNode {
     /// The tree with one more leaf, whose key overlaps none of the tree's. It takes no memory.
@@ -34,7 +36,7 @@ impl InnerNode {
         key: RangeInclusive,
         node_state: NodeState,
         count: &mut u64,
-    ) -> std::result::Result<Box<InnerNode>, (Error, Box<InnerNode>)> {
+    ) -> core::result::Result<Box<InnerNode>, (Error, Box<InnerNode>)> {
         if let Some(met) = tree.first_met(&key, count) {
             return Err((Error::Overlap(key, met), tree));
         }

@@ -1,3 +1,5 @@
+// Written by bindings/erase from crates/vm_allocator/src/allocation_engine/node/walks.rt: do not edit.
+
 //! Walks over the blocks of a tree, and recursions over nodes, that no counted function calls.
 
 pub(crate) mod comparing;

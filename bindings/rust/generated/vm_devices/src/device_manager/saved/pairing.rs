@@ -1,9 +1,9 @@
+// Written by bindings/erase from crates/vm_devices/src/device_manager/saved/pairing.rt: do not edit.
+
 //! Whether devices pair the held ids with the held ranges.
 
-use rattle::AllocError;
-use rattle::Global;
-use rattle::BTreeMap;
-use rattle::BTreeSet;
+use rattle::{AllocError, Global};
+use rattle::{BTreeMap, BTreeSet};
 use vm_allocator::{AddressAllocator, IdAllocator, RangeInclusive};
 
 /// Whether the devices are as many as the held ids and the held ranges, and each has its own.
@@ -12,7 +12,7 @@ pub(super) fn are_all_held(
     ids: &IdAllocator,
     space: &AddressAllocator,
     slots: &BTreeMap<u32, RangeInclusive>,
-) -> std::result::Result<bool, AllocError> {
+) -> core::result::Result<bool, AllocError> {
     let count = slots.len() as u64;
     if ids.held_count() != count || space.held_count() != count {
         return Ok(false);
@@ -26,7 +26,7 @@ fn are_held_apart(
     ids: &IdAllocator,
     space: &AddressAllocator,
     slots: &BTreeMap<u32, RangeInclusive>,
-) -> std::result::Result<bool, AllocError> {
+) -> core::result::Result<bool, AllocError> {
     let mut starts = BTreeSet::new(alloc);
     for (id, range) in slots.iter() {
         if !ids.is_allocated(*id) || !space.holds(range) {

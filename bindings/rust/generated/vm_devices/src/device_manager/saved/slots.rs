@@ -1,12 +1,12 @@
+// Written by bindings/erase from crates/vm_devices/src/device_manager/saved/slots.rt: do not edit.
+
 //! The list of devices in a manager's value.
 
 use rattle::Vec;
 use super::has_fields;
 use crate::device_slot::DeviceSlot;
-use rattle::Value;
-use rattle::json;
-use rattle::AllocError;
-use rattle::Global;
+use rattle::{Value, json};
+use rattle::{AllocError, Global};
 use rattle::BTreeMap;
 use vm_allocator::{Error, RangeInclusive, Result, ValueError};
 
@@ -32,7 +32,7 @@ fn save_slot(alloc: Global, id: u32, range: &RangeInclusive) -> Result<Value> {
 }
 
 /// The object of a device's fields.
-fn put_slot(alloc: Global, id: u32, range: Value) -> std::result::Result<Value, AllocError> {
+fn put_slot(alloc: Global, id: u32, range: Value) -> core::result::Result<Value, AllocError> {
     json!(in alloc; {"id": id, "mmio_range": range})
 }
 
@@ -40,7 +40,7 @@ fn put_slot(alloc: Global, id: u32, range: Value) -> std::result::Result<Value, 
 pub(super) fn read_slots(
     alloc: Global,
     list: &[Value],
-) -> std::result::Result<BTreeMap<u32, RangeInclusive>, ValueError> {
+) -> core::result::Result<BTreeMap<u32, RangeInclusive>, ValueError> {
     let mut slots = BTreeMap::new(alloc);
     let mut least = 0u64;
     for item in list {

@@ -1,8 +1,10 @@
+// Written by bindings/erase from crates/vm_allocator/src/allocation_engine/node/walks/comparing.rt: do not edit.
+
 //! How two trees compare, by their blocks and not by their shape.
 
 use super::Walk;
 use crate::allocation_engine::node::Child;
-use std::cmp::Ordering;
+use core::cmp::Ordering;
 
 /// Whether two trees have the same blocks. It stops at the first difference.
 pub(crate) fn same_blocks(a: &Child, b: &Child) -> bool {

@@ -1,3 +1,5 @@
+// Written by bindings/erase from crates/vm_allocator/src/allocation_engine/node/walks/copying.rt: do not edit.
+
 //! Copies of trees.
 
 use rattle::Box;

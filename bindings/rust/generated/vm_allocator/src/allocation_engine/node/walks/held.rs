@@ -1,9 +1,11 @@
+// Written by bindings/erase from crates/vm_allocator/src/allocation_engine/node/walks/held.rt: do not edit.
+
 //! What is held in a tree: whether a range is, and how many are.
 
 use crate::allocation_engine::NodeState;
 use crate::allocation_engine::node::{Child, InnerNode};
 use crate::range::RangeInclusive;
-use std::cmp::Ordering;
+use core::cmp::Ordering;
 
 /// Whether a held block has this key, by one way down.
 pub(crate) fn has_held(tree: &Child, key: &RangeInclusive) -> bool {

@@ -1,11 +1,11 @@
+// Written by bindings/erase from crates/vm_allocator/src/allocation_engine/node/walks/saving.rt: do not edit.
+
 //! The saved form of trees.
 
 use crate::allocation_engine::node::InnerNode;
 use crate::error::{Error, Result};
-use rattle::Value;
-use rattle::json;
-use rattle::AllocError;
-use rattle::Global;
+use rattle::{Value, json};
+use rattle::{AllocError, Global};
 
 /// The value that has the tree, node for node. `OutOfMemory` where there is no memory for it.
 pub(crate) fn save(tree: &InnerNode, alloc: Global) -> Result<Value> {
@@ -33,6 +33,6 @@ fn save_node(
     left: Value,
     right: Value,
     height: u64,
-) -> std::result::Result<Value, AllocError> {
+) -> core::result::Result<Value, AllocError> {
     json!(in alloc; {"key": key, "node_state": state, "left": left, "right": right, "height": height})
 }
