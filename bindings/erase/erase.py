@@ -3,9 +3,9 @@
 
     erase.py PROJECT OUT [--tests]
 
-PROJECT/crates.txt names the crates and what each stands on. Each program and each library that one
-stands on is written to OUT/NAME, as a package of the workspace that holds OUT and a folder `rattle`
-beside it. With --tests every crate is written, with its tests.
+PROJECT/crates.txt names the crates and what each stands on. Each program, and each library that one
+stands on, is written to OUT/NAME, as a package of a workspace that has OUT and a folder `rattle` beside
+it. With --tests every crate is written, with its tests.
 
 What is cut: clauses, `ghost` items, members and fields, `#[tactic(..)]`, `impl Model`, `Drop` among
 the derives, laws (functions of nothing that do nothing), modules that are empty then, and tests unless
@@ -18,9 +18,12 @@ libraries, functions and methods that are not of these crates, macros, attribute
 is what would let a caller in plain Rust break what was proved: a `requires` on what such a caller may
 call, and a public field of a type with ghosts. A refusal says file, line and what was met. Tests are
 no part of the crates, and the names that they use are the compiler's to know."""
+import collections
 import os
 import re
+import shutil
 import sys
+import types
 
 # ---- What means the same in Rust ----
 
@@ -66,9 +69,7 @@ METHODS = {
     "to_bitmask", "trailing_zeros", "unwrap", "write_all",
 }
 MACROS = {"json", "unreachable"}
-DERIVES = {
-    "Clone", "Copy", "Debug", "Default", "Drop", "Eq", "Error", "Hash", "Ord", "PartialEq", "PartialOrd",
-}
+DERIVES = {"Clone", "Copy", "Debug", "Default", "Drop", "Eq", "Error", "Hash", "Ord", "PartialEq", "PartialOrd"}
 # No item of a crate may have one of these names, since the tables mean the libraries' own.
 TAKEN = (PRELUDE | NAMES | NUMBERS | {path.split("::")[0] for path in ASSOCIATED}) - {"Result"}
 TRAITS = {"Eq", "Iterator", "Ord", "PartialEq", "PartialOrd"}
@@ -87,7 +88,6 @@ CRATE_ATTRIBUTES = """#![forbid(unsafe_code)]
 // What only proofs and tests use is kept as it is.
 #![allow(dead_code, unused_assignments, unused_imports, unused_variables)]
 """
-NO_STD = "#![no_std]\n"
 FOR_TESTS = "use rattle::testing::*;\nuse rattle::testing::{assert, assert_eq};\n"
 RUNTIME = "{\n    let rt = HostRuntime;"
 MANIFEST = """# Written by bindings/erase from crates/{name}: do not edit.
@@ -112,66 +112,57 @@ TOKEN = re.compile(r"""(?P<blank>\s+|//(?![/!])[^\n]*|////[^\n]*)
     |b?'(?:[^'\\\n]|\\[nrt0\\"']|\\x[0-9a-fA-F]{2}|\\u\{[0-9a-fA-F]+\})')
  |(?P<lifetime>'[a-z_]\w*)
  |(?P<word>[A-Za-z_]\w*)
- |(?P<number>(?:0x[0-9a-fA-F_]+|0b[01_]+|[0-9][0-9_]*)(?:u8|u16|u32|u64|u128|usize)?(?![\w]))
+ |(?P<number>(?:0x[0-9a-fA-F_]+|0b[01_]+|[0-9][0-9_]*)(?:u8|u16|u32|u64|u128|usize)?(?!\w|\.[0-9]))
  |(?P<mark>::|->|=>|==|!=|<=|>=|&&|\|\||\.\.=|\.\.|[-+*/%&|^]=|<<|>>|[{}()\[\]<>,;:.=+\-*/%&|^!?\#])""",
                    re.VERBOSE | re.ASCII)
 CLAUSE_HEAD = re.compile(r"\s+(?:[a-z_]\w*\s*)?(?=\{)")
 GHOST_USE = re.compile(r" use (?:[^;\"\n]|\n(?!\n))*?;")
 GHOST_MEMBER = re.compile(r" [A-Za-z_]\w*(:| =) (?=\{)")
 OPENING, CLOSING = {"(", "[", "{"}, {")", "]", "}"}
+Token = collections.namedtuple("Token", "kind text start end")
 
 
 class Refused(Exception):
     """What the eraser does not know, with the place where it was met."""
 
 
-class Token:
-    def __init__(self, kind, text, start):
-        self.kind, self.text, self.start, self.end = kind, text, start, start + len(text)
-
-
 class Tokens:
     """The tokens of a file, without clauses and ghosts, which are cut at once: their text is no Rust."""
 
     def __init__(self, path, text):
-        self.path, self.text, self.tokens, self.cuts = path, text, [], []
-        self.depth = 0
-        self.signature = None  # the index of the `fn` whose signature is read
+        self.path, self.text, self.tokens = path, text, []
+        self.cuts = []  # (start, end, what is written there)
+        self.signature, self.depth = None, 0  # the index of the `fn` whose signature is read
         self.asking = {}  # the index of a `fn` with a `requires`, and where that is
         position = 0
         while position < len(text):
             position = self.read(position)
+        self.tokens.append(Token("end", "", position, position))
 
     def fail(self, why, start):
         line = self.text.count("\n", 0, start) + 1
         raise Refused(f"{self.path}:{line}: {why}")
-
-    def cut(self, start, end, instead=""):
-        self.cuts.append((start, end, instead))
 
     def read(self, start):
         """Reads a token, a clause or a ghost. The answer is where it ends."""
         found = TOKEN.match(self.text, start)
         if not found or self.text.startswith("/*", start):
             self.fail(f"text that begins with {self.text[start:start + 12]!r}", start)
-        word = found.group()
-        if found.lastgroup == "blank":
+        kind, word = found.lastgroup, found.group()
+        if kind == "blank":
             return found.end()
         if word in CLAUSES:
             return self.clauses(start)
         if word == "ghost":
             return self.ghost(start, found.end())
-        self.follow_signature(found.lastgroup, word)
-        self.tokens.append(Token(found.lastgroup, word, start))
-        return found.end()
-
-    def follow_signature(self, kind, word):
         if kind == "word" and self.tokens and self.tokens[-1].text == "fn":
             self.signature, self.depth = len(self.tokens) - 1, 0
         elif word in ("{", ";") and self.depth == 0:
             self.signature = None
         elif kind == "mark":
             self.depth += (word in OPENING) - (word in CLOSING)
+        self.tokens.append(Token(kind, word, start, found.end()))
+        return found.end()
 
     def clauses(self, start):
         """Cuts all clauses of a function, up to its body."""
@@ -181,22 +172,21 @@ class Tokens:
         while not self.text.startswith("{", position):
             found = TOKEN.match(self.text, position)
             word = found.group() if found else ""
-            if word == "requires":
-                self.asking.setdefault(self.signature, position)
             if word in CLAUSES:
                 head = CLAUSE_HEAD.match(self.text, found.end()) or self.fail("a clause of this form", position)
+                if word == "requires":
+                    self.asking.setdefault(self.signature, position)
                 position = self.behind_braces(head.end())
             elif found and found.lastgroup == "blank":
                 position = found.end()
             else:
                 self.fail("clauses without a body", position)
-        self.cut(self.tokens[-1].end, position, " ")
+        self.cuts.append((self.tokens[-1].end, position, " "))
         return position
 
     def behind_braces(self, start):
         depth = 0
-        for position in range(start, len(self.text)):
-            letter = self.text[position]
+        for position, letter in enumerate(self.text[start:], start):
             if letter in "\"'`" or self.text[position:position + 2] in ("--", "//", "/*", "{-"):
                 self.fail(f"{letter!r} in a clause", position)
             depth += (letter == "{") - (letter == "}")
@@ -206,32 +196,22 @@ class Tokens:
 
     def ghost(self, start, behind):
         """Cuts `ghost use ..;`, `ghost member = {..};` or `ghost field: {..},`."""
-        last = self.tokens[-1] if self.tokens else None
-        ends_an_item = last is None or last.text in ("{", "}", ";", ",") or last.kind == "doc"
-        if not ends_an_item and not (last.text == "]" and self.text[start - 1] == "\n"):
+        last = self.tokens[-1] if self.tokens else Token("doc", "", 0, 0)
+        at_an_item = last.text in ("{", "}", ";", ",") or last.kind == "doc"
+        if not at_an_item and not (last.text == "]" and self.text[start - 1] == "\n"):
             self.fail("'ghost' in code", start)
-        imported = GHOST_USE.match(self.text, behind)
+        imported, member = GHOST_USE.match(self.text, behind), GHOST_MEMBER.match(self.text, behind)
         if imported and imported.group().count("{") == imported.group().count("}"):
             end = imported.end()
         else:
-            member = GHOST_MEMBER.match(self.text, behind) or self.fail("a ghost of this form", start)
-            end = self.behind_braces(member.end()) + 1
-            if self.text[end - 1:end] != (";" if member[1] == " =" else ","):
+            end = self.behind_braces(member.end()) + 1 if member else len(self.text)
+            if not member or self.text[end - 1:end] != (";" if member[1] == " =" else ","):
                 self.fail("a ghost of this form", start)
-        self.cut(start, end)
+        self.cuts.append((start, end, ""))
         return end
 
 
 # ---- Items ----
-
-class Item:
-    """Where an item begins, its keyword, and what stands before that."""
-
-    def __init__(self, start, owner):
-        self.start, self.owner = start, owner  # owner: None, "impl" or the trait of the impl around
-        self.keyword, self.public = start, False
-        self.of_tests = self.is_test = False
-
 
 class File(Tokens):
     """A source file: what is cut of it, and which names it gives and uses."""
@@ -239,66 +219,64 @@ class File(Tokens):
     def __init__(self, crate, path, of_tests):
         with open(path, encoding="utf-8") as source:
             super().__init__(os.path.relpath(path, crate.project.folder), source.read())
-        self.crate, self.of_tests = crate, of_tests
-        self.is_root = path == crate.root
+        self.crate, self.of_tests, self.is_root = crate, of_tests, path == crate.root
         self.children = os.path.dirname(path) if self.is_root else path[:-len(".rt")]
         self.generics, self.imported, self.from_prelude = set(), {}, set()
-        self.uses = []  # (where, kind of name, name): known to be right when all files are read
+        self.uses, self.public_fields = [], []  # (where, kind of name, name), (where, name of the type)
         self.first_kept = None
         end = self.items(self.head(), None)
-        if end < len(self.tokens):
-            self.fail("a brace that closes nothing", self.tokens[end].start)
+        if self.tokens[end].kind != "end":
+            self.fail("a brace that closes nothing", self.start_of(end))
 
     def at(self, index, *texts):
         """Whether these tokens stand at an index."""
         return [token.text for token in self.tokens[index:index + len(texts)]] == list(texts)
 
     def start_of(self, index):
-        return self.tokens[index].start if index < len(self.tokens) else len(self.text)
+        return self.tokens[index].start
 
-    def cut_tokens(self, first, behind, instead=""):
-        self.cut(self.tokens[first].start, self.tokens[behind - 1].end, instead)
+    def cut(self, first, behind, instead=""):
+        self.cuts.append((self.start_of(first), self.tokens[behind - 1].end, instead))
 
     def matching(self, index):
         """Behind the bracket that closes the one at an index."""
         depth = 0
-        for place in range(index, len(self.tokens)):
-            if self.tokens[place].kind == "mark":
-                depth += (self.tokens[place].text in OPENING) - (self.tokens[place].text in CLOSING)
+        for place, token in enumerate(self.tokens[index:], index):
+            depth += (token.text in OPENING) - (token.text in CLOSING)
             if depth == 0:
                 return place + 1
         self.fail("a bracket without end", self.start_of(index))
 
-    def end_of_item(self, index):
-        while not self.at(index, ";") and not self.at(index, "{"):
-            index = self.matching(index) if self.at(index, "(") or self.at(index, "[") else index + 1
-        return index + 1 if self.at(index, ";") else self.matching(index)
+    def next_of(self, index, *texts):
+        """The first of these marks from an index on, outside of brackets that open before it."""
+        while not any(self.at(index, text) for text in texts):
+            if self.tokens[index].kind == "end":
+                self.fail("an item without end", len(self.text))
+            index = self.matching(index) if self.tokens[index].text in OPENING else index + 1
+        return index
 
     def head(self):
-        """The documentation and the attributes of the file itself."""
+        """Behind the documentation and the attributes of the file itself."""
         index = 0
-        while index < len(self.tokens):
-            if self.tokens[index].text.startswith("//!"):
-                index += 1
-            elif self.at(index, "#", "!", "[", "tactic"):
-                behind = self.matching(index + 2)
-                self.cut_tokens(index, behind)
-                index = behind
-            else:
-                break
+        while self.tokens[index].text.startswith("//!"):
+            index += 1
+        while self.at(index, "#", "!", "[", "tactic"):
+            self.cut(index, self.matching(index + 2))
+            index = self.matching(index + 2)
         return index
 
     def items(self, index, owner):
-        """Reads items up to the end of the file or of the braces around."""
-        while index < len(self.tokens) and not self.at(index, "}"):
-            item = Item(index, owner)
+        """Reads items up to the end of the file or of the braces of an impl: of a trait, of "impl" itself."""
+        while self.tokens[index].text not in ("}", ""):
+            item = types.SimpleNamespace(start=index, owner=owner, of_tests=False, is_test=False, public=False)
             index = self.attributes(item)
             if item.of_tests and not self.crate.project.with_tests:
-                behind, kept = self.end_of_item(index), False
+                end = self.next_of(index, ";", "{")
+                behind, kept = end + 1 if self.at(end, ";") else self.matching(end), False
             else:
                 behind, kept = self.item(item, self.visibility(item, index))
             if not kept:
-                self.cut_tokens(item.start, behind)
+                self.cut(item.start, behind)
             elif self.first_kept is None:
                 self.first_kept = self.start_of(item.start)
             index = behind
@@ -307,10 +285,10 @@ class File(Tokens):
     def item(self, item, index):
         """Reads an item by its keyword. The answer is where it ends, and whether it is kept."""
         item.keyword = index
-        form = FORMS.get(self.tokens[index].text)
-        if form is None or item.owner and form not in FORMS_IN_IMPL:
+        words = FORMS if item.owner is None else ("fn", "const") if item.owner == "impl" else ("fn", "type")
+        if self.tokens[index].text not in words:
             self.fail(f"an item {self.tokens[index].text!r}", self.start_of(index))
-        return form(self, item)
+        return FORMS[self.tokens[index].text](self, item)
 
     def attributes(self, item):
         """Reads documentation and attributes. The answer is the index behind them."""
@@ -318,42 +296,37 @@ class File(Tokens):
         while self.tokens[index].kind == "doc" or self.at(index, "#"):
             if self.tokens[index].text.startswith("//!"):
                 self.fail("documentation of the file behind an item", self.start_of(index))
-            if self.tokens[index].kind == "doc":
-                index += 1
-            else:
-                behind = self.matching(index + 1)
+            behind = self.matching(index + 1) if self.at(index, "#") else index + 1
+            if self.at(index, "#"):
                 self.attribute(item, index, behind)
-                index = behind
+            index = behind
         return index
 
     def attribute(self, item, index, behind):
         words = [token.text for token in self.tokens[index + 2:behind - 1]]
-        if words[0] == "tactic":
-            self.cut_tokens(index, behind)
+        if words[:1] == ["tactic"]:
+            self.cut(index, behind)
         elif words == ["cfg", "(", "test", ")"]:
             item.of_tests = True
         elif words == ["test"] and self.of_tests:
             item.is_test = True
-        elif words[0] not in ATTRIBUTES:
-            self.fail(f"an attribute {words[0]!r}", self.start_of(index))
+        elif not words or words[0] not in ATTRIBUTES:
+            self.fail(f"an attribute {''.join(words[:1])!r}", self.start_of(index))
         elif words[0] == "derive":
             self.derive([word for word in words[1:] if word not in "(),"], index, behind)
 
     def derive(self, names, index, behind):
-        for name in names:
-            if name not in DERIVES:
-                self.fail(f"a derive of {name!r}", self.start_of(index))
+        for name in sorted(set(names) - DERIVES):
+            self.fail(f"a derive of {name!r}", self.start_of(index))
         if "Drop" in names:
             names.remove("Drop")
-            self.cut_tokens(index, behind, f"#[derive({', '.join(names)})]" if names else "")
+            self.cut(index, behind, f"#[derive({', '.join(names)})]" if names else "")
 
     def visibility(self, item, index):
         if not self.at(index, "pub"):
             return index
-        if self.at(index + 1, "("):
-            return self.matching(index + 1)
-        item.public = True
-        return index + 1
+        item.public = not self.at(index + 1, "(")
+        return index + 1 if item.public else self.matching(index + 1)
 
     def angles(self, index):
         """Parameters of an item: lifetimes, and names with bounds. The answer is the index behind them."""
@@ -381,82 +354,53 @@ class File(Tokens):
         return name
 
     # One function for one form: each answers where its item ends, and whether it is kept.
-
     def import_(self, item):
-        first = item.keyword + 1
-        behind = self.import_tree(first, [])
-        if not self.at(behind, ";"):
-            self.fail("an import of this form", self.start_of(behind))
-        return behind + 1, not self.is_for_proofs(first)
+        first, end = item.keyword + 1, self.next_of(item.keyword, ";")
+        folder, name, rest = self.folder_at(first)
+        leaves = [index for index in range(rest, end)
+                  if self.tokens[index + 1].text in (",", "}", ";") and self.tokens[index].text not in (",", "}")]
+        for index in leaves:
+            if folder:
+                self.allow(folder, name, index)
+                self.imported[self.tokens[index].text] = name
+            else:
+                self.import_of_crate(first, index)
+        if folder and folder[0] and folder[0] != name:
+            self.cut(first, rest - 1, folder[0])
+        return end + 1, not (folder and folder[0] is None)
 
-    def is_for_proofs(self, first):
-        folder, _, _ = self.folder_at(first)
-        return folder is not None and folder[0] is None
+    def import_of_crate(self, first, index):
+        """An import of one name of this crate, or of one that it stands on."""
+        head = self.tokens[first].text
+        if head in self.crate.stands_on:
+            self.crate.used.add(self.crate.project.crate(head).name)
+        if self.of_tests:
+            return
+        if head not in self.crate.stands_on | self.crate.names | {"crate", "self", "super"}:
+            self.fail(f"an import from {head!r}", self.start_of(first))
+        if self.at(index - 1, "as"):
+            self.fail("an import under another name", self.start_of(index))
+        self.define(index, set())
+        self.imported[self.tokens[index].text] = head
 
-    def folder_at(self, index):
+    def folder_at(self, first):
         """The folder of a library that a path begins with, its name, and the index of what is used of it."""
-        words, behind = [self.tokens[index].text], index + 1
+        words, behind = [self.tokens[first].text], first + 1
+        if words[0] not in LIBRARIES or not self.at(behind, "::"):
+            return None, None, first
         while self.at(behind, "::") and self.tokens[behind + 1].kind == "word":
             words.append(self.tokens[behind + 1].text)
             behind += 2
-        if words[0] not in LIBRARIES:
-            return None, None, index
-        if self.tokens[behind - 1].kind == "word" and not self.at(behind, "::"):
+        if not self.at(behind, "::"):
             words, behind = words[:-1], behind - 2
         name = "::".join(words)
-        folder = self.crate.project.folder_of(name, self.of_tests)
-        if folder is None:
-            self.fail(f"{name!r} is in no table", self.start_of(index))
+        folder = FOLDERS_OF_TESTS.get(name) if self.of_tests else None
+        folder = folder or FOLDERS.get(name) or self.fail(f"{name!r} is in no table", self.start_of(first))
         return folder, name, behind + 1
 
-    def import_tree(self, index, path):
-        """Reads a path of an import, or several in braces."""
-        if not path:
-            folder, name, behind = self.folder_at(index)
-            if folder:
-                return self.import_of_library(index, folder, name, behind)
-            self.check_head(index)
-        while self.at(index + 1, "::"):
-            path, index = path + [self.tokens[index].text], index + 2
-        if self.at(index, "{"):
-            index += 1
-            while not self.at(index, "}"):
-                index = self.import_tree(index, path)
-                index += self.at(index, ",")
-            return index + 1
-        self.bind(index, path[0] if path else "")
-        if self.at(index + 1, "as") and self.of_tests:
-            return index + 3
-        return index + 1
-
-    def check_head(self, index):
-        """Refuses an import whose path begins with neither this crate nor one that it stands on."""
-        head = self.tokens[index].text
-        if head in self.crate.stands_on:
-            self.crate.use(head, self.of_tests)
-        elif head not in ("crate", "self", "super") and head not in self.crate.names and not self.of_tests:
-            self.fail(f"an import from {head!r}", self.start_of(index))
-
-    def bind(self, index, head):
-        name = self.tokens[index].text
-        if self.of_tests:
-            return
-        if self.tokens[index].kind != "word" or name in TAKEN:
-            self.fail(f"an import of {name!r}", self.start_of(index))
-        self.imported[name] = head
-
-    def import_of_library(self, index, folder, name, behind):
-        """An import of one name of a library, or of several in braces."""
-        new, allowed = folder
-        last = self.matching(behind) if self.at(behind, "{") else behind + 1
-        for token in self.tokens[behind:last]:
-            if token.text not in ("{", "}", ","):
-                if token.text not in allowed:
-                    self.fail(f"'{name}::{token.text}' is in no table", token.start)
-                self.imported[token.text] = name
-        if new and new != name:
-            self.cut_tokens(index, behind - 1, new)
-        return last
+    def allow(self, folder, name, index):
+        if self.tokens[index].text not in folder[1]:
+            self.fail(f"'{name}::{self.tokens[index].text}' is in no table", self.start_of(index))
 
     def module(self, item):
         if not self.at(item.keyword + 2, ";"):
@@ -467,11 +411,9 @@ class File(Tokens):
     def constant(self, item):
         """`const`, `static` or `type`."""
         self.define(item.keyword + 1, self.crate.names)
-        index = self.angles(item.keyword + 2)
-        while not self.at(index, ";"):
-            index = self.matching(index) if self.tokens[index].text in OPENING else index + 1
-        self.audit(item.keyword, index)
-        return index + 1, True
+        end = self.next_of(self.angles(item.keyword + 2), ";")
+        self.audit(item.keyword + 2, end)
+        return end + 1, True
 
     def type_(self, item):
         """`struct` or `enum`."""
@@ -479,52 +421,46 @@ class File(Tokens):
         index = self.angles(item.keyword + 2)
         if not self.at(index, "{") and not self.of_tests:
             self.fail("a type without braces", self.start_of(item.keyword))
-        behind = self.end_of_item(index)
+        behind = self.matching(index) if self.at(index, "{") else self.next_of(index, ";") + 1
         depth = 0
         for place in range(index, behind):
-            token = self.tokens[place]
-            depth += (token.text in OPENING) - (token.text in CLOSING)
-            if depth == 1 and self.at(item.keyword, "enum") and token.kind == "word":
+            depth += (self.tokens[place].text in OPENING) - (self.tokens[place].text in CLOSING)
+            if depth == 1 and self.at(item.keyword, "enum") and self.tokens[place].kind == "word":
                 self.define(place, self.crate.names)
             elif self.at(place, "pub") and not self.at(place + 1, "("):
-                self.crate.public_fields.append((self, name, token.start))
+                self.public_fields.append((self.start_of(place), name))
         if any(self.start_of(index) < cut[0] < self.start_of(behind - 1) for cut in self.cuts):
             self.crate.guarded.add(name)
-        self.audit(index, behind)
+        self.audit(index, behind, {"pub"})
         return behind, True
 
     def function(self, item):
         index = self.angles(item.keyword + 2)
         if not self.at(index, "("):
             self.fail("a function of this form", self.start_of(item.keyword))
-        parameters = body = self.matching(index)
-        while not self.at(body, "{"):
-            body += 1
+        body = self.next_of(index, "{")
         behind = self.matching(body)
-        if self.is_law(item, index, body, behind):
-            return behind, False
+        nothing = body == index + 2 and behind == body + 2
+        if nothing and not (item.public or item.is_test or item.owner):
+            return behind, False  # a law: only its clauses say something
         name = self.define(item.keyword + 1, self.crate.functions)
-        reachable = item.public or item.owner not in (None, "impl")
-        if reachable and item.keyword in self.asking and not self.crate.is_program and not self.of_tests:
+        anyone = item.public or item.owner not in (None, "impl")
+        if anyone and item.keyword in self.asking and not self.crate.is_program and not self.of_tests:
             self.fail(f"a 'requires' of {name!r}, which anyone may call", self.asking[item.keyword])
         if item.is_test or self.is_root and name == "main":
-            self.take_runtime(index, parameters, body)
-        self.audit(index, behind)
+            self.take_runtime(index, body)
+        self.audit(index, body, {"impl"})
+        self.audit(body, behind)
         return behind, True
 
-    def is_law(self, item, index, body, behind):
-        """A function of nothing that does nothing: only its clauses say something."""
-        empty = body == index + 2 and behind == body + 2
-        return empty and not (item.public or item.is_test or item.owner)
-
-    def take_runtime(self, index, parameters, body):
+    def take_runtime(self, index, body):
         """Makes the parameter `rt` a statement."""
-        if parameters == index + 2:
+        if self.at(index, "(", ")"):
             return
         if not self.at(index, "(", "rt", ":", "HostRuntime", ")"):
             self.fail("other parameters than 'rt'", self.start_of(index))
-        self.cut(self.tokens[index].end, self.tokens[parameters - 1].start)
-        self.cut_tokens(body, body + 1, RUNTIME)
+        self.cut(index + 1, index + 4)
+        self.cut(body, body + 1, RUNTIME)
 
     def implementation(self, item):
         index = self.angles(item.keyword + 1)
@@ -542,133 +478,110 @@ class File(Tokens):
             return index + 2, False
         if trait and trait not in TRAITS and not (self.of_tests and trait in TRAITS_OF_TESTS):
             self.fail(f"an impl of {trait!r}", self.start_of(item.keyword))
-        kept = self.first_kept
-        self.first_kept = kept if kept is not None else self.start_of(item.start)
+        if self.first_kept is None:
+            self.first_kept = self.start_of(item.start)
         return self.items(index + 1, trait or "impl") + 1, True
 
     # ---- Names in code ----
 
-    def audit(self, index, behind):
-        """Looks at every name from an index on."""
+    def audit(self, index, behind, allowed=()):
+        """Looks at every name from an index on. An item is refused there, but for words that are allowed."""
         while index < behind:
             token = self.tokens[index]
             if token.text == "#":
-                index = self.attribute_of_member(index)
-            elif token.kind == "word":
-                index = self.path_of_names(index)
-            else:
-                floats = token.kind == "number" and self.at(index + 1, ".") and not self.at(index - 1, ".")
-                if floats and self.tokens[index + 2].kind != "word":
-                    self.fail("a number with a point", token.start)
+                if "pub" not in allowed or self.tokens[index + 2].text not in ATTRIBUTES:
+                    self.fail("an attribute in code", token.start)  # it may stand before fields and variants
+                index = self.matching(index + 1)
+            elif token.kind != "word":
                 index += 1
-
-    def attribute_of_member(self, index):
-        behind = self.matching(index + 1)
-        before = self.tokens[index - 1]
-        if self.tokens[index + 2].text not in ATTRIBUTES or not (before.text in ("{", ",", "]") or before.kind == "doc"):
-            self.fail("an attribute in code", self.start_of(index))
-        if before.text == "{" and self.tokens[index + 2].text not in ("default", "error"):
-            self.fail("an attribute in code", self.start_of(index))
-        return behind
+            elif token.text in ITEM_WORDS and token.text not in allowed and not self.of_tests:
+                self.fail(f"an item {token.text!r} in code", token.start)
+            else:
+                index = self.path_of_names(index)
 
     def path_of_names(self, first):
         """Looks at the path that begins at an index. The answer is the index behind it."""
-        word = self.tokens[first].text
-        if word in REFUSED_WORDS and not self.of_tests:
-            self.fail(f"{word!r} in code", self.start_of(first))
-        last = first
+        word, last = self.tokens[first].text, first
         while self.at(last + 1, "::") and self.tokens[last + 2].kind == "word":
             last += 2
-        if self.at(last + 1, "::") and not self.of_tests:
-            self.fail("a path of this form", self.start_of(first))
         if word in LIBRARIES and last > first:
-            self.path_of_library(first)
+            folder, name, index = self.folder_at(first)
+            self.allow(folder, name, index)
+            if folder[0] != name:
+                self.cut(first, index - 1, folder[0] or self.fail(f"{name!r} in code", self.start_of(first)))
         elif self.of_tests:
-            self.name_in_tests(first, word)
+            self.name_in_tests(first)
+        elif word in REFUSED_WORDS or self.at(last + 1, "::"):
+            self.fail(f"{word!r} in code", self.start_of(first))
         else:
-            self.name(first, last, [token.text for token in self.tokens[first:last + 1:2]])
+            self.name(first, last)
         return last + 1
 
-    def path_of_library(self, first):
-        folder, name, behind = self.folder_at(first)
-        new, allowed = folder
-        if new is None or self.tokens[behind].text not in allowed:
-            self.fail(f"'{name}::{self.tokens[behind].text}' is in no table", self.start_of(first))
-        if new != name:
-            self.cut_tokens(first, behind - 1, new)
-
-    def name_in_tests(self, index, word):
+    def name_in_tests(self, index):
         """Only `expect` is another function there: it is given the runtime, to end the test by."""
-        if self.at(index - 1, ".") and word in ("expect", "expect_err"):
+        if self.at(index - 1, ".") and self.tokens[index].text in ("expect", "expect_err"):
             runtime = index + 3 if self.at(index + 2, "&") else index + 2
             if not self.at(runtime, "rt", ","):
-                self.fail(f"{word!r} without 'rt'", self.start_of(index))
-            self.cut(self.start_of(index + 2), self.start_of(runtime + 2))
+                self.fail("'expect' without 'rt'", self.start_of(index))
+            self.cuts.append((self.start_of(index + 2), self.start_of(runtime + 2), ""))
 
-    def name(self, first, last, path):
-        start, head, full = self.start_of(first), path[0], "::".join(path)
+    def name(self, first, last):
+        start, head = self.start_of(first), self.tokens[first].text
+        name = "".join(token.text for token in self.tokens[first:last + 1])
         called = self.at(last + 1, "(")
-        if self.at(last + 1, "!") and self.tokens[last + 2].text in OPENING:
-            self.macro(start, full)
-        elif self.at(first - 1, "."):
-            if called:
-                self.uses.append((start, "a method", full))
-        elif self.at(first - 1, "as"):
-            if full not in NUMBERS:
-                self.fail(f"'as {full}'", start)
-        elif head in ("crate", "self", "super") or full in KEYWORDS:
-            pass
-        elif len(path) > 1:
-            self.uses.append((start, "a path", full))
-        elif called:
-            self.uses.append((start, "a function", full))
-        elif full[0].isupper():
-            self.uses.append((start, "a type", full))
         if head in PRELUDE:
             self.from_prelude.add(head)
-
-    def macro(self, start, name):
-        if name not in MACROS or name == "json" and self.imported.get(name) != "serde_json":
-            self.fail(f"a macro {name!r}", start)
+        if self.at(last + 1, "!") and self.tokens[last + 2].text in OPENING:
+            if name not in MACROS or name == "json" and self.imported.get(name) != "serde_json":
+                self.fail(f"a macro {name!r}", start)
+        elif self.at(first - 1, "."):
+            self.uses += [(start, "a method", name)] if called else []
+        elif self.at(first - 1, "as") and name not in NUMBERS:
+            self.fail(f"'as {name}'", start)
+        elif head not in ("crate", "self", "super") and name not in KEYWORDS:
+            kind = "a path" if last > first else "a function" if called else "a type"
+            self.uses += [(start, kind, name)] if kind != "a type" or name[0].isupper() else []
 
     def check(self):
-        """Refuses the names that are neither of these crates nor in the tables."""
+        """Refuses what can be seen to be wrong when all files are read."""
         for start, kind, name in self.uses:
             if not self.is_known(kind, name):
-                self.fail(f"{kind} {name!r}", start)
+                self.fail(f"{kind} {name!r} that is in no table", start)
+        for start, name in self.public_fields:
+            if name in self.crate.guarded and not (self.crate.is_program or self.of_tests):
+                self.fail(f"a public field of {name!r}, which has ghosts", start)
 
     def is_known(self, kind, name):
-        head = name.split("::")[0]
-        own = self.crate.names | self.generics | {"Self"}
+        crate, head = self.crate, name.split("::")[0]
         if kind == "a method":
-            return name in METHODS or any(name in crate.functions for crate in self.crate.and_below())
-        if self.imported.get(head) in self.crate.stands_on or head in self.crate.stands_on:
+            return name in METHODS or any(name in other.functions for other in crate.and_below())
+        if head in crate.names | self.generics | crate.stands_on | {"Self"}:
             return True
         if kind == "a path":
-            return name in ASSOCIATED or head in own
+            return name in ASSOCIATED or self.imported.get(head) in crate.stands_on
         if kind == "a function":
-            return name in NAMES or name in self.crate.functions or name in own
-        return name in NAMES | PRELUDE or name in own or name in self.imported
+            return name in NAMES or name in crate.functions or self.imported.get(head) in crate.stands_on
+        return name in NAMES | PRELUDE or name in self.imported
 
     # ---- Output ----
 
     def plain(self):
         """The text of the file in Rust."""
-        inserted = CRATE_ATTRIBUTES + NO_STD * (not self.crate.is_program) + "\n" if self.is_root else ""
-        if self.of_tests or self.is_root and self.crate.of_tests:
+        no_std, names = "" if self.crate.is_program else "#![no_std]\n", ", ".join(sorted(self.from_prelude))
+        inserted = CRATE_ATTRIBUTES + no_std + "\n" if self.is_root else ""
+        if self.of_tests:
             inserted += FOR_TESTS
-        elif self.from_prelude:
-            names = sorted(self.from_prelude)
-            inserted += f"use rattle::{names[0] if len(names) == 1 else '{' + ', '.join(names) + '}'};\n"
+        elif names:
+            inserted += f"use rattle::{{{names}}};\n" if "," in names else f"use rattle::{names};\n"
         at = self.first_kept if self.first_kept is not None else len(self.text)
         text, last = "", 0
         for start, end, instead in sorted(self.outer_cuts() + [(at, at, inserted)]):
             start, end = self.with_lines(start, end, instead, last)
             text += self.text[last:start]
-            if not instead and start != end and text.endswith(("\n\n", "{\n")) and self.text.startswith("\n", end):
-                end += 1
+            if not instead and text.endswith(("\n\n", "{\n")) and self.text.startswith("\n", end):
+                end += 1  # of two empty lines one is left
             text, last = text + instead, max(end, last)
-            if text.endswith("\n\n") and re.compile(r" *\}").match(self.text, last):
+            if text.endswith("\n\n") and self.text[last:].lstrip(" ").startswith("}"):
                 text = text[:-1]
         return ORIGIN.format(self.path) + "\n" + (text + self.text[last:]).strip("\n") + "\n"
 
@@ -685,43 +598,30 @@ class File(Tokens):
     def with_lines(self, start, end, instead, last):
         """The piece with the rest of its lines, where it is all that stands there."""
         line = self.text.rfind("\n", 0, start) + 1
-        if instead or start == end or line < last:
-            return start, end
-        if self.text[line:start].strip() or not self.text.startswith("\n", end):
-            return start, end
-        return line, end + 1
+        whole = not instead and start < end and line >= last and not self.text[line:start].strip()
+        return (line, end + 1) if whole and self.text.startswith("\n", end) else (start, end)
 
 
 FORMS = {
-    "use": File.import_, "mod": File.module, "const": File.constant, "static": File.constant,
-    "type": File.constant, "struct": File.type_, "enum": File.type_, "fn": File.function,
-    "impl": File.implementation,
+    "use": File.import_, "mod": File.module, "const": File.constant, "static": File.constant, "type": File.constant,
+    "struct": File.type_, "enum": File.type_, "fn": File.function, "impl": File.implementation,
 }
-FORMS_IN_IMPL = {File.constant, File.function}
-
+ITEM_WORDS = set(FORMS) | {"pub"}
 
 class Crate:
     """The files of a crate, and the names that they give."""
 
     def __init__(self, project, name, of_tests):
         self.project, self.name, self.of_tests = project, name, of_tests
-        self.stands_on, self.used = project.libraries[name], {}
+        self.stands_on, self.used = project.libraries[name], set()
         self.folder = os.path.join(project.folder, "crates", name, "src")
         self.is_program = os.path.exists(os.path.join(self.folder, "main.rt"))
         self.root = os.path.join(self.folder, "main.rt" if self.is_program else "lib.rt")
-        self.names, self.functions = set(), set()
-        self.guarded, self.public_fields = set(), []  # types with ghosts; (file, type, where)
+        self.names, self.functions, self.guarded = set(), set(), set()  # guarded: types with ghosts
         self.files = {}
         self.files[self.root] = File(self, self.root, of_tests)
         for file in self.files.values():
             file.check()
-        if not (self.is_program or of_tests):
-            self.check_fields()
-
-    def check_fields(self):
-        for file, name, start in self.public_fields:
-            if name in self.guarded and not file.of_tests:
-                file.fail(f"a public field of {name!r}, which has ghosts", start)
 
     def read_module(self, parent, name, of_tests):
         """Reads the file of a module. The answer is whether anything is kept of it."""
@@ -729,26 +629,21 @@ class Crate:
         if not os.path.exists(path):
             raise Refused(f"{parent.path}: no file for the module {name!r}")
         file = File(self, path, of_tests)
-        if file.first_kept is not None:
-            self.files[path] = file
-        return file.first_kept is not None
-
-    def use(self, name, in_tests):
-        """Notes that a library of the project is used, in tests alone or not."""
-        self.used[name] = self.used.get(name, False) or not in_tests
-        self.project.crate(name)
+        kept = file.first_kept is not None
+        self.files.update({path: file} if kept else {})
+        return kept
 
     def and_below(self):
         return [self] + [self.project.crate(name) for name in self.used]
 
     def manifest(self):
-        used = [name for name in sorted(self.used) if self.used[name] or self.project.with_tests]
-        features = ["testing"] * self.project.with_tests + ["program"] * self.is_program
-        text = ", features = " + str(features).replace("'", '"') if features else ""
-        lines = [f'{name} = {{ path = "../{name}" }}\n' for name in used]
+        feature = "testing" if self.project.with_tests else "program" if self.is_program else None
+        text = f', features = ["{feature}"]' if feature else ""
+        lines = [f'{name} = {{ path = "../{name}" }}\n' for name in sorted(self.used)]
         return MANIFEST.format(name=self.name, features=text) + "".join(lines)
 
     def write(self, out):
+        shutil.rmtree(os.path.join(out, "src"), ignore_errors=True)
         write(os.path.join(out, "Cargo.toml"), self.manifest())
         for path, file in self.files.items():
             relative = os.path.relpath(path, self.folder)[:-len(".rt")] + ".rs"
@@ -760,28 +655,18 @@ class Project:
 
     def __init__(self, folder, with_tests=False, kept=None):
         self.folder, self.with_tests = os.path.abspath(folder), with_tests
-        self.libraries = self.read_libraries()
-        self.kept = kept if kept is not None else self.libraries
-        self.crates = {}
+        with open(os.path.join(folder, "crates.txt"), encoding="utf-8") as table:
+            lines = [line.split(":") for line in table if line.strip() and not line.startswith("#")]
+        self.libraries = {name.strip(): set(below.split()) - LIBRARIES for name, below in lines}
+        self.kept, self.crates = kept if kept is not None else self.libraries, {}
         for name in self.libraries:
             if with_tests or os.path.exists(os.path.join(self.folder, "crates", name, "src", "main.rt")):
                 self.crate(name)
-
-    def read_libraries(self):
-        """The crates of crates.txt, and which others each stands on."""
-        with open(os.path.join(self.folder, "crates.txt"), encoding="utf-8") as table:
-            lines = [line.split(":") for line in table if line.strip() and not line.startswith("#")]
-        return {name.strip(): set(below.split()) - LIBRARIES for name, below in lines}
 
     def crate(self, name):
         if name not in self.crates:
             self.crates[name] = Crate(self, name, name not in self.kept)
         return self.crates[name]
-
-    def folder_of(self, name, of_tests):
-        if of_tests and name in FOLDERS_OF_TESTS:
-            return FOLDERS_OF_TESTS[name]
-        return FOLDERS.get(name)
 
 
 def write(path, text):
@@ -805,11 +690,10 @@ def main():
     if len(arguments) != 2 or any(word.startswith("-") for word in arguments):
         sys.exit(__doc__)
     try:
-        crates = erase(*arguments, "--tests" in sys.argv)
+        for name, crate in erase(*arguments, "--tests" in sys.argv).items():
+            print(f"{name}: {len(crate.files)} files")
     except Refused as refused:
         sys.exit(f"refused: {refused}")
-    for name, crate in crates.items():
-        print(f"{name}: {len(crate.files)} files")
 
 
 if __name__ == "__main__":
