@@ -337,11 +337,10 @@ class File(Tokens):
             token, before = self.tokens[behind], self.tokens[behind - 1].text
             if token.kind == "mark" and token.text not in (",", ":", "+"):
                 self.fail("parameters of this form", token.start)
-            if token.kind == "word" and token.text not in KEYWORDS:
-                if before in (":", "+"):
-                    self.uses.append((token.start, "a type", token.text))
-                else:
-                    self.define(behind, self.generics)
+            if before in (":", "+"):
+                self.uses.append((token.start, "a type", token.text))
+            elif token.kind == "word" and token.text not in ("_", "const"):
+                self.define(behind, self.generics)
             behind += 1
         return behind + 1
 
@@ -360,6 +359,8 @@ class File(Tokens):
         leaves = [index for index in range(rest, end)
                   if self.tokens[index + 1].text in (",", "}", ";") and self.tokens[index].text not in (",", "}")]
         for index in leaves:
+            if self.at(index - 1, "as") and (folder or not self.of_tests):
+                self.fail("an import under another name", self.start_of(index))
             if folder:
                 self.allow(folder, name, index)
                 self.imported[self.tokens[index].text] = name
@@ -378,8 +379,6 @@ class File(Tokens):
             return
         if head not in self.crate.stands_on | self.crate.names | {"crate", "self", "super"}:
             self.fail(f"an import from {head!r}", self.start_of(first))
-        if self.at(index - 1, "as"):
-            self.fail("an import under another name", self.start_of(index))
         self.define(index, set())
         self.imported[self.tokens[index].text] = head
 
@@ -561,7 +560,7 @@ class File(Tokens):
             return name in ASSOCIATED or self.imported.get(head) in crate.stands_on
         if kind == "a function":
             return name in NAMES or name in crate.functions or self.imported.get(head) in crate.stands_on
-        return name in NAMES | PRELUDE or name in self.imported
+        return name in NAMES | PRELUDE | NUMBERS or name in self.imported
 
     # ---- Output ----
 
