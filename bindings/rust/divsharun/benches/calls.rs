@@ -21,6 +21,7 @@ fn main() {
         let times: Vec<String> = devices
             .iter()
             .map(|devices| devices.measure::<Divsharun>(call, rounds))
+            .inspect(|measured| assert!(measured.answers.iter().all(Result::is_ok)))
             .map(|measured| format!("{:.0} ns", measured.nanoseconds))
             .collect();
         println!("| {call} | {} |", times.join(" | "));
