@@ -2,7 +2,8 @@ use crate::error::settled;
 use crate::Result;
 use core::fmt;
 
-/// Which of the places for a request is taken. The default is `FirstMatch`.
+/// What [`allocate`](crate::AddressAllocator::allocate) does where a request has several places;
+/// `FirstMatch` is the default.
 ///
 /// # Example
 ///

@@ -5,12 +5,13 @@ use std::cmp::Ord;
 use std::error::Error as StdError;
 use std::fmt::{Debug, Display};
 use std::hash::Hash;
+use std::panic::{RefUnwindSafe, UnwindSafe};
 use vm_allocator::{
     AddressAllocator, AllocPolicy, Constraint, Error, IdAllocator, RangeInclusive, Result,
     DEFAULT_CONSTRAINT_ALIGN,
 };
 
-fn is_shared_and_sent<T: Send + Sync + Unpin + 'static>() {}
+fn is_shared_and_sent<T: Send + Sync + Unpin + UnwindSafe + RefUnwindSafe + 'static>() {}
 
 #[test]
 fn ranges() {

@@ -51,24 +51,28 @@ fn seed_of_the_clock() -> u64 {
     now.map_or(1, |time| time.as_nanos() as u64)
 }
 
-/// Measures both on the same calls, in turn, and compares the answers.
+/// Measures both on the same calls, and compares the answers: nanoseconds a call of divsharun and of
+/// `vm-allocator`, and how many times as many these are.
 fn measure(tally: &mut Tally) {
-    println!("| call | held | vm-allocator 0.1.4 | divsharun | ratio |\n|---|---|---|---|---|");
+    println!("| call | 1000 held | 10000 held | 100000 held |\n|---|---|---|---|");
+    let devices = [1_000, 10_000, 100_000].map(Devices::new);
     for call in Call::ALL {
-        for count in [1_000, 10_000, 100_000] {
-            let devices = Devices::new(count);
-            let rust = devices.measure::<Rust>(call, ROUNDS);
-            let port = devices.measure::<Port>(call, ROUNDS);
-            for (rust_answer, port_answer) in rust.answers.iter().zip(&port.answers) {
-                if rust_answer != port_answer {
-                    tally.unnamed_difference(&format!(
-                        "{call} with {count} held: {rust_answer:?} and {port_answer:?}"
-                    ));
-                }
-            }
-            let (rust, port) = (rust.nanoseconds, port.nanoseconds);
-            let ratio = rust / port;
-            println!("| {call} | {count} | {rust:.0} ns | {port:.0} ns | {ratio:.1} |");
+        let cells: Vec<String> = devices
+            .iter()
+            .map(|devices| measure_call(call, devices, tally))
+            .collect();
+        println!("| {call} | {} |", cells.join(" | "));
+    }
+}
+
+fn measure_call(call: Call, devices: &Devices, tally: &mut Tally) -> String {
+    let rust = devices.measure::<Rust>(call, ROUNDS);
+    let port = devices.measure::<Port>(call, ROUNDS);
+    for (rust_answer, port_answer) in rust.answers.iter().zip(&port.answers) {
+        if rust_answer != port_answer {
+            tally.unnamed_difference(&format!("{call}: {rust_answer:?} and {port_answer:?}"));
         }
     }
+    let (rust, port) = (rust.nanoseconds, port.nanoseconds);
+    format!("{port:.0}, {rust:.0}: {:.1}", rust / port)
 }
