@@ -45,7 +45,7 @@ pub struct DeviceSlot {
 /// assert_eq!(devices.reserve(0x1000, 0x1000, AllocPolicy::FirstMatch)?, disk);
 /// # Ok::<(), Error>(())
 /// ```
-pub struct DeviceManager(proved_devices::DeviceManager);
+pub struct DeviceManager(pub(crate) proved_devices::DeviceManager);
 
 impl DeviceManager {
     /// A manager without devices, for the ids from `id_lo` to `id_hi`, both included, and for the

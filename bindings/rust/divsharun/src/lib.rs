@@ -83,7 +83,8 @@
 //! object: an address allocator is read also where a fault of the Rust crate left gaps between the
 //! nodes, free neighbours or no tree at all, and holds just the ranges that are said to be allocated;
 //! anything else is an error of the format. Before that, nodes that are nested more than 50 deep are
-//! refused, and lists of more than 2^20 ids that were given back, which are not written either.
+//! refused, and lists of more than 2^20 ids that were given back or devices, which are not written
+//! either. A [`DeviceManager`] is saved too: its version, both allocators, and its devices by rising ids.
 //!
 //! ```rust
 //! # #[cfg(feature = "serde")]

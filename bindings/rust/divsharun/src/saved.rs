@@ -8,7 +8,7 @@ mod reading;
 mod writing;
 
 use crate::error::{out_of_memory, settled};
-use crate::{AddressAllocator, IdAllocator, NodeState, RangeInclusive};
+use crate::{AddressAllocator, DeviceManager, IdAllocator, NodeState, RangeInclusive};
 use form::Form;
 use rattle::{Global, Value};
 use reading::Reading;
@@ -70,6 +70,12 @@ saved!(
     IdAllocator,
     form::ID_ALLOCATOR,
     proved::IdAllocator::from_value
+);
+
+saved!(
+    DeviceManager,
+    form::DEVICE_MANAGER,
+    proved_devices::DeviceManager::from_value
 );
 
 impl Serialize for NodeState {

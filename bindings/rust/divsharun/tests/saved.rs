@@ -7,7 +7,9 @@ mod packed;
 use serde::de::DeserializeOwned;
 use serde::Serialize;
 use std::cell::Cell;
-use vm_allocator::{AddressAllocator, AllocPolicy, IdAllocator, NodeState, RangeInclusive};
+use vm_allocator::{
+    AddressAllocator, AllocPolicy, DeviceManager, IdAllocator, NodeState, RangeInclusive,
+};
 
 const FRESH: &str = concat!(
     r#"{"address_space":{"start":16,"end":19},"interval_tree":{"root":"#,
@@ -129,6 +131,46 @@ fn what_is_written_is_read() {
     let bytes: (NodeState, RangeInclusive) =
         packed::from_bytes(packed::to_bytes(&pair).unwrap()).unwrap();
     assert!(text == pair && bytes == pair);
+}
+
+/// A manager with two devices, of which the second one was unplugged.
+fn manager() -> DeviceManager {
+    let mut devices = DeviceManager::new(0, 1, 4096, 4096).unwrap();
+    for size in [2048, 1024] {
+        devices
+            .reserve(size, size, AllocPolicy::FirstMatch)
+            .unwrap();
+    }
+    devices.release(1).unwrap();
+    devices
+}
+
+#[test]
+fn managers_are_saved_with_their_devices() {
+    let text = json(&manager());
+    assert!(text.starts_with(r#"{"version":1,"id_allocator":{"range_base":0,"next_id":2,"#));
+    assert!(text.ends_with(r#""slots":[{"id":0,"mmio_range":{"start":4096,"end":6143}}]}"#));
+    let mut from_text: DeviceManager = serde_json::from_str(&text).unwrap();
+    let bytes = packed::to_bytes(&manager()).unwrap();
+    let from_bytes: DeviceManager = packed::from_bytes(bytes).unwrap();
+    assert!(json(&from_text) == text && json(&from_bytes) == text);
+    let slot = from_text.reserve(1, 1, AllocPolicy::FirstMatch).unwrap();
+    assert_eq!((slot.id, slot.range.start()), (1, 6144));
+
+    let changes = [
+        (r#""version":1"#, r#""version":2"#),
+        (r#""id":0"#, r#""id":1"#),
+        (r#""end":6143}}]"#, r#""end":6142}}]"#),
+        (
+            r#""slots":[{"#,
+            r#""slots":[{"id":0,"mmio_range":{"start":1,"end":1}},{"#,
+        ),
+        (r#"]}"#, r#"],"colour":1}"#),
+    ];
+    for (old, new) in changes {
+        assert!(text.contains(old));
+        assert!(!is_read::<DeviceManager>(&text.replace(old, new)), "{new}");
+    }
 }
 
 #[test]
@@ -253,6 +295,20 @@ fn long_lists_are_refused_early() {
     let bytes = ids_given_back(u64::MAX, 0..3);
     assert!(packed::from_bytes::<IdAllocator>(counted(bytes, &asked)).is_err());
     assert_eq!(asked.get(), 21 + 12);
+}
+
+#[test]
+fn long_lists_of_devices_are_refused_early() {
+    // Without its list of one device, which is the last field.
+    let mut head = packed::to_bytes(&manager()).unwrap();
+    head.truncate(head.len() - 8 - 20);
+    head.extend(100_000_000u64.to_le_bytes());
+    let length = head.len() as u64;
+    let slot = |id: u32| [id.to_le_bytes().as_slice(), &[0; 16]].concat();
+    let asked = Cell::new(0);
+    let bytes = head.into_iter().chain((0..).flat_map(slot));
+    assert!(packed::from_bytes::<DeviceManager>(counted(bytes, &asked)).is_err());
+    assert!(asked.get() > length && asked.get() <= length + 20 * ((1 << 20) + 1));
 }
 
 #[test]

@@ -1,4 +1,5 @@
-//! How saved objects look: the names and the fields of the Rust crate's types, in its order.
+//! How saved objects look: the names and the fields of the Rust crate's types, in its order, and those
+//! of the device manager, which that crate has not.
 
 /// What stands in a place of a saved object.
 pub(super) enum Form {
@@ -10,6 +11,8 @@ pub(super) enum Form {
     OptionalId,
     /// A list of numbers of 32 bits, which rise.
     RisingIds,
+    /// A list of [`SLOT`]s, whose ids rise.
+    RisingSlots,
     /// A name of [`STATES`].
     State,
     /// A node with its children, or none.
@@ -79,4 +82,21 @@ pub(super) static ID_ALLOCATOR: Form = Form::Structure(Structure {
     name: "IdAllocator",
     names: &["range_base", "next_id", "range_end", "freed_ids"],
     forms: &[&Form::Id, &Form::OptionalId, &Form::Id, &Form::RisingIds],
+});
+
+pub(super) static SLOT: Form = Form::Structure(Structure {
+    name: "DeviceSlot",
+    names: &["id", "mmio_range"],
+    forms: &[&Form::Id, &RANGE],
+});
+
+pub(super) static DEVICE_MANAGER: Form = Form::Structure(Structure {
+    name: "DeviceManager",
+    names: &["version", "id_allocator", "mmio_allocator", "slots"],
+    forms: &[
+        &Form::Address,
+        &ID_ALLOCATOR,
+        &ADDRESS_ALLOCATOR,
+        &Form::RisingSlots,
+    ],
 });

@@ -1,8 +1,9 @@
 //! A value, read as its form says.
 
-use super::form::{Form, Structure, MOST_LISTED, MOST_NESTED, NODE, STATE, STATES};
+use super::form::{Form, Structure, MOST_LISTED, MOST_NESTED, NODE, SLOT, STATE, STATES};
 use alloc::vec::Vec;
 use core::fmt;
+use core::marker::PhantomData;
 use rattle::{Fields, Value};
 use serde::de::{
     DeserializeSeed, EnumAccess, Error, MapAccess, SeqAccess, Unexpected, VariantAccess, Visitor,
@@ -41,7 +42,8 @@ impl<'de> DeserializeSeed<'de> for Reading {
             Form::OptionalId => {
                 Option::<u32>::deserialize(from).map(|id| id.map_or(Value::Null, Value::from))
             }
-            Form::RisingIds => from.deserialize_seq(RisingIds),
+            Form::RisingIds => from.deserialize_seq(RisingList::<u32>(PhantomData)),
+            Form::RisingSlots => from.deserialize_seq(RisingList::<Slot>(PhantomData)),
             Form::State => from.deserialize_enum(STATE, STATES, State),
             Form::OptionalNode => from.deserialize_option(OptionalNode(self)),
             Form::Structure(structure) => {
@@ -177,11 +179,11 @@ impl<'de> Visitor<'de> for State {
     }
 }
 
-/// A list of ids that rise. It is read into as little memory as it can be, and no longer than it is
-/// known to be none of use.
-struct RisingIds;
+/// A list of items whose ids rise. It is read into as little memory as it can be, and no further than
+/// to the first item that makes it one of no use.
+struct RisingList<T>(PhantomData<T>);
 
-impl<'de> Visitor<'de> for RisingIds {
+impl<'de, T: Item> Visitor<'de> for RisingList<T> {
     type Value = Value;
 
     fn expecting(&self, f: &mut fmt::Formatter<'_>) -> fmt::Result {
@@ -189,14 +191,78 @@ impl<'de> Visitor<'de> for RisingIds {
     }
 
     fn visit_seq<A: SeqAccess<'de>>(self, mut from: A) -> Result<Value, A::Error> {
-        let mut ids: Vec<u32> = Vec::new();
-        while let Some(id) = from.next_element()? {
-            if ids.last().is_some_and(|last| *last >= id) || ids.len() == MOST_LISTED {
-                return Err(A::Error::invalid_value(Unexpected::Seq, &self));
+        let of_no_use = || A::Error::invalid_value(Unexpected::Seq, &self);
+        let mut items: Vec<T> = Vec::new();
+        while let Some(value) = from.next_element_seed(Reading::new(T::FORM))? {
+            let item = T::stated_by(&value).ok_or_else(of_no_use)?;
+            let rises = !items.last().is_some_and(|last| last.id() >= item.id());
+            if !rises || items.len() == MOST_LISTED {
+                return Err(of_no_use());
             }
-            ids.push(id);
+            items.push(item);
         }
-        let values: Vec<Value> = ids.into_iter().map(Value::from).collect();
+        let values: Vec<Value> = items.iter().map(T::value).collect();
         Ok(Value::Array(values.into()))
     }
+}
+
+/// An item of a [`RisingList`], as small as it can be.
+trait Item: Sized {
+    const FORM: &'static Form;
+
+    /// The item that a value of this form is.
+    fn stated_by(value: &Value) -> Option<Self>;
+    fn id(&self) -> u32;
+    fn value(&self) -> Value;
+}
+
+impl Item for u32 {
+    const FORM: &'static Form = &Form::Id;
+
+    fn stated_by(value: &Value) -> Option<Self> {
+        u32::try_from(value.as_u64()?).ok()
+    }
+
+    fn id(&self) -> u32 {
+        *self
+    }
+
+    fn value(&self) -> Value {
+        Value::from(*self)
+    }
+}
+
+/// A device with its range.
+struct Slot {
+    id: u32,
+    start: u64,
+    end: u64,
+}
+
+impl Item for Slot {
+    const FORM: &'static Form = &SLOT;
+
+    fn stated_by(value: &Value) -> Option<Self> {
+        let range = value.get("mmio_range")?;
+        Some(Slot {
+            id: u32::stated_by(value.get("id")?)?,
+            start: range.get("start")?.as_u64()?,
+            end: range.get("end")?.as_u64()?,
+        })
+    }
+
+    fn id(&self) -> u32 {
+        self.id
+    }
+
+    fn value(&self) -> Value {
+        let range = [("start", self.start.into()), ("end", self.end.into())];
+        object([("id", self.id.into()), ("mmio_range", object(range))])
+    }
+}
+
+/// The object of these fields.
+fn object<const N: usize>(fields: [(&str, Value); N]) -> Value {
+    let fields = fields.into_iter().map(|(name, value)| (name.into(), value));
+    Value::from(fields.collect::<Fields>())
 }

@@ -1,6 +1,6 @@
 //! A value, written as its form says.
 
-use super::form::{Form, Structure, MOST_LISTED, NODE, STATE, STATES};
+use super::form::{Form, Structure, MOST_LISTED, NODE, SLOT, STATE, STATES};
 use rattle::Value;
 use serde::ser::{Error, SerializeStruct};
 use serde::{Serialize, Serializer};
@@ -26,16 +26,16 @@ impl<'a> Writing<'a> {
         u32::try_from(self.address::<E>()?).map_err(E::custom)
     }
 
-    /// Writes a list of numbers of 32 bits.
-    fn write_ids<S: Serializer>(&self, to: S) -> Result<S::Ok, S::Error> {
-        let list = self
-            .value
-            .as_array()
-            .ok_or_else(|| S::Error::custom("no list"))?;
+    /// Writes a list of items that look so.
+    fn write_list<S: Serializer>(&self, item: &'static Form, to: S) -> Result<S::Ok, S::Error> {
+        let list = self.value.as_array();
+        let list = list.ok_or_else(|| S::Error::custom("no list"))?;
         if list.len() > MOST_LISTED {
-            return Err(S::Error::custom("more ids were given back than are saved"));
+            return Err(S::Error::custom(
+                "the list is longer than those that are read",
+            ));
         }
-        to.collect_seq(list.iter().map(|id| Writing::new(&Form::Id, id)))
+        to.collect_seq(list.iter().map(|value| Writing::new(item, value)))
     }
 
     /// Writes a state, by its name or its place.
@@ -69,7 +69,8 @@ impl Serialize for Writing<'_> {
         match self.form {
             Form::Address => to.serialize_u64(self.address::<S::Error>()?),
             Form::Id => to.serialize_u32(self.id::<S::Error>()?),
-            Form::RisingIds => self.write_ids(to),
+            Form::RisingIds => self.write_list(&Form::Id, to),
+            Form::RisingSlots => self.write_list(&SLOT, to),
             Form::State => self.write_state(to),
             Form::Structure(structure) => self.write_fields(structure, to),
             Form::OptionalId | Form::OptionalNode if self.value.is_null() => to.serialize_none(),
