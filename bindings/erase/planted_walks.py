@@ -16,6 +16,7 @@ import subprocess
 import sys
 
 import erase
+import scratch_workspace
 
 LIST = os.path.join("tests", "count_rule_bodies")
 SOURCES = os.path.join("crates", "vm_allocator", "src")
@@ -96,25 +97,11 @@ def outcome(body, project, scratch):
     return "not seen" if passed else "seen"
 
 
-def prepare(project, scratch):
-    """The workspace in which the copies are built."""
-    workspace = os.path.join(scratch, "rust")
-    shutil.rmtree(workspace, ignore_errors=True)
-    for name in ("rattle", "box_count"):
-        shutil.copytree(os.path.join(project, "bindings", "rust", name), os.path.join(workspace, name),
-                        ignore=shutil.ignore_patterns("target"))
-    with open(os.path.join(project, "bindings", "rust", "Cargo.toml"), encoding="utf-8") as file:
-        manifest = file.read()
-    manifest = re.sub(r"members = \[.*\]", 'members = ["rattle", "rattle/derive", "generated/*"]', manifest)
-    manifest = re.sub(r"\n(#[^\n]*\n)*\[patch\.crates-io\]\n(.+\n)*", "\n", manifest)
-    erase.write(os.path.join(workspace, "Cargo.toml"), manifest)
-
-
 def main():
     if len(sys.argv) != 3:
         sys.exit(__doc__)
     project, scratch = map(os.path.abspath, sys.argv[1:])
-    prepare(project, scratch)
+    scratch_workspace.make(project, os.path.join(scratch, "rust"))
     wrong, found = 0, collections.Counter()
     for body in bodies(os.path.join(project, LIST)):
         if body.name in UNSEEN or body.refused and not OF_WALKS.search(body.refused):
