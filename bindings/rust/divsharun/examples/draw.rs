@@ -235,7 +235,7 @@ fn write_keys(f: &mut fmt::Formatter<'_>, keys: &[(&str, &str)]) -> fmt::Result 
 fn is_long_enough_in_vain(gap: &RangeInclusive, request: &Placed) -> bool {
     let place = gap.start().checked_next_multiple_of(request.alignment);
     let last = place.and_then(|start| start.checked_add(request.size - 1));
-    gap.len() >= request.size && !last.is_some_and(|last| last <= gap.end())
+    gap.len() >= request.size && last.is_none_or(|last| last > gap.end())
 }
 
 impl Display for Drawing<'_> {

@@ -143,3 +143,8 @@ const _: () = {
     is_shared_and_sent::<Error>();
     is_shared_and_sent::<TryError>();
 };
+
+/// The example of README, so that it is tried.
+#[cfg(doctest)]
+#[doc = include_str!("../../README.md")]
+mod readme {}

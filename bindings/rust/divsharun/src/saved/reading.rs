@@ -195,7 +195,7 @@ impl<'de, T: Item> Visitor<'de> for RisingList<T> {
         let mut items: Vec<T> = Vec::new();
         while let Some(value) = from.next_element_seed(Reading::new(T::FORM))? {
             let item = T::stated_by(&value).ok_or_else(of_no_use)?;
-            let rises = !items.last().is_some_and(|last| last.id() >= item.id());
+            let rises = items.last().is_none_or(|last| last.id() < item.id());
             if !rises || items.len() == MOST_LISTED {
                 return Err(of_no_use());
             }
