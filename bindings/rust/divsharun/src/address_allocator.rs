@@ -44,7 +44,8 @@ impl AddressAllocator {
     ///
     /// # Errors
     ///
-    /// `Refused` with what `new` refuses; `OutOfMemory` where a request for memory was refused.
+    /// `Refused(Underflow)` and `Refused(Overflow)` where `new` answers so; `OutOfMemory` where a
+    /// request for memory was refused.
     pub fn try_new(base: u64, size: u64) -> core::result::Result<Self, TryError> {
         tried(proved::AddressAllocator::new(Global, base, size)).map(AddressAllocator)
     }
@@ -80,8 +81,10 @@ impl AddressAllocator {
     ///
     /// # Errors
     ///
-    /// `Refused` with what `allocate` refuses; `OutOfMemory` where a request for memory was refused,
-    /// which can only be where the place leaves a part of its gap over. A refusal changes nothing.
+    /// `Refused` with `InvalidSize`, `InvalidAlignment`, `UnalignedAddress`, `Overflow`,
+    /// `ResourceNotAvailable` or `InvalidStateTransition` where `allocate` answers so; `OutOfMemory`
+    /// where a request for memory was refused, which can only be where the place leaves a part of its
+    /// gap over. A refusal changes nothing.
     pub fn try_allocate(
         &mut self,
         size: u64,
@@ -98,7 +101,8 @@ impl AddressAllocator {
     ///
     /// # Errors
     ///
-    /// The answer is an error where that of `allocate` is, and the same one.
+    /// Those of `allocate`, in the same cases: `InvalidSize`, `InvalidAlignment`, `UnalignedAddress`,
+    /// `Overflow`, `ResourceNotAvailable` and `InvalidStateTransition`.
     pub fn allocate_counted(
         &mut self,
         size: u64,
@@ -124,7 +128,7 @@ impl AddressAllocator {
     ///
     /// # Errors
     ///
-    /// The answer is an error where that of `free` is, and the same one.
+    /// `ResourceNotAvailable` for any range that is not held, as `free` answers.
     pub fn free_counted(&mut self, key: &RangeInclusive) -> (Result<()>, u64) {
         let (answer, count) = self.0.free_counted(&key.0);
         (settled(answer), count)

@@ -67,10 +67,11 @@ impl DeviceManager {
     ///
     /// # Errors
     ///
-    /// Where all ids are held, `Overflow` or `ResourceNotAvailable` as
-    /// [`IdAllocator::allocate_id`](crate::IdAllocator::allocate_id) says; then those of
-    /// [`AddressAllocator::allocate`](crate::AddressAllocator::allocate). A refusal leaves ids, ranges
-    /// and devices as they were.
+    /// Where all ids are held, `Overflow` or `ResourceNotAvailable`, as
+    /// [`IdAllocator::allocate_id`](crate::IdAllocator::allocate_id) answers; then `InvalidSize`,
+    /// `InvalidAlignment`, `UnalignedAddress`, `Overflow`, `ResourceNotAvailable` or
+    /// `InvalidStateTransition`, as [`AddressAllocator::allocate`](crate::AddressAllocator::allocate)
+    /// answers. A refusal leaves ids, ranges and devices as they were.
     pub fn reserve(&mut self, size: u64, align: u64, policy: AllocPolicy) -> Result<DeviceSlot> {
         let slot = settled(self.0.reserve(Global, size, align, policy))?;
         Ok(DeviceSlot {

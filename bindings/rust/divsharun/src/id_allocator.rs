@@ -50,7 +50,7 @@ impl IdAllocator {
     ///
     /// # Errors
     ///
-    /// Those of `allocate_id`.
+    /// `Overflow` or `ResourceNotAvailable` where all ids are held, as `allocate_id` answers.
     pub fn peek_id(&self) -> Result<u32> {
         settled(self.0.peek_id())
     }

@@ -18,9 +18,9 @@
 //! # Ok::<(), divsharun::Error>(())
 //! ```
 //!
-//! # Who used `vm-allocator`
+//! # To change over from `vm-allocator`
 //!
-//! changes one line of a Cargo.toml, and no line of Rust:
+//! One line of Cargo.toml changes, and no line of Rust:
 //!
 //! ```toml
 //! vm-allocator = { package = "divsharun", git = ".." }
@@ -44,7 +44,7 @@
 //! where a set or a map of Rust's asks for the memory, since these can't answer that there is none: it
 //! is so for [`IdAllocator::free_id`] and a clone of an [`IdAllocator`], which keeps a set of the ids
 //! that were given back, and for all of [`DeviceManager`], which has a map of its devices besides. What
-//! gives a range back, takes an id, compares or looks takes no memory.
+//! gives a range back, takes an id, compares, or asks what is held takes no memory.
 //!
 //! # Threads
 //!
@@ -72,6 +72,12 @@
 //! assert_eq!(mmio.lock().expect("no call panics").held_count(), 4);
 //! # Ok::<(), divsharun::Error>(())
 //! ```
+//!
+//! # What is proved
+//!
+//! The answers of the calls, for every input, of the sources in Rattle from which the code below this
+//! library is written by cutting their contracts out. README of this library says which checks carry
+//! that over, and what is trusted: the library itself among it, which turns one type into the other.
 //!
 //! # Features
 //!

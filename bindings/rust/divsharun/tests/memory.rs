@@ -1,6 +1,5 @@
 //! Where there is no memory: the calls with `try_` answer it and change nothing, the others end the
-//! process. The program starts itself again with little memory, as `ulimit -v` gives it, so it says
-//! something only where a shell has that.
+//! process. The program starts itself again with as little memory as `ulimit -v` of Linux gives it.
 
 use divsharun::{AddressAllocator, AllocPolicy, TryError};
 use std::env;

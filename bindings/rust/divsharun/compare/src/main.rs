@@ -51,8 +51,8 @@ fn seed_of_the_clock() -> u64 {
     now.map_or(1, |time| time.as_nanos() as u64)
 }
 
-/// Measures both on the same calls, and compares the answers: nanoseconds a call of divsharun and of
-/// `vm-allocator`, and how many times as many these are.
+/// Measures both on the same calls, and compares the answers: nanoseconds a call of divsharun, and how
+/// many times as long `vm-allocator` takes.
 fn measure(tally: &mut Tally) {
     println!("| call | 1000 held | 10000 held | 100000 held |\n|---|---|---|---|");
     let devices = [1_000, 10_000, 100_000].map(Devices::new);
@@ -74,5 +74,5 @@ fn measure_call(call: Call, devices: &Devices, tally: &mut Tally) -> String {
         }
     }
     let (rust, port) = (rust.nanoseconds, port.nanoseconds);
-    format!("{port:.0}, {rust:.0}: {:.1}", rust / port)
+    format!("{port:.0} ns (× {:.1})", rust / port)
 }
