@@ -71,7 +71,11 @@ impl<'a> Reader<'a> {
         if self.takes("\"") {
             return Ok(Value::String(self.text()?));
         }
-        for (word, value) in [("null", Value::Null), ("true", Value::Bool(true)), ("false", Value::Bool(false))] {
+        for (word, value) in [
+            ("null", Value::Null),
+            ("true", Value::Bool(true)),
+            ("false", Value::Bool(false)),
+        ] {
             if self.takes(word) {
                 return Ok(value);
             }
@@ -97,7 +101,11 @@ impl<'a> Reader<'a> {
                 break;
             }
         }
-        if self.takes("}") { Ok(Value::Object(fields)) } else { Err(NoJson) }
+        if self.takes("}") {
+            Ok(Value::Object(fields))
+        } else {
+            Err(NoJson)
+        }
     }
 
     fn array(&mut self, levels: u32) -> Result<Value, NoJson> {
@@ -111,7 +119,11 @@ impl<'a> Reader<'a> {
                 break;
             }
         }
-        if self.takes("]") { Ok(Value::Array(items.into())) } else { Err(NoJson) }
+        if self.takes("]") {
+            Ok(Value::Array(items.into()))
+        } else {
+            Err(NoJson)
+        }
     }
 
     /// A text up to its end, behind its first quote. Of the escapes only those of one letter are read.
@@ -134,7 +146,8 @@ impl<'a> Reader<'a> {
     fn number(&mut self) -> Result<Value, NoJson> {
         let number = self.while_in("0123456789+-.eE");
         let digits = number.trim_start_matches('-');
-        let leads = digits.starts_with('0') && digits.as_bytes().get(1).is_some_and(u8::is_ascii_digit);
+        let leads =
+            digits.starts_with('0') && digits.as_bytes().get(1).is_some_and(u8::is_ascii_digit);
         if leads || number.starts_with(['+', '.']) || digits.ends_with('.') {
             return Err(NoJson);
         }

@@ -3,9 +3,9 @@ use crate::{Number, Value};
 use core::fmt;
 use core::ops::{Deref, Index};
 
-pub use crate::{AllocError, Box, Global, HostRuntime, Vec};
 #[doc(inline)]
 pub use crate::{__assert as assert, __assert_eq as assert_eq};
+pub use crate::{AllocError, Box, Global, HostRuntime, Vec};
 
 /// A test that returns this fails by any error.
 pub struct Fail(alloc::string::String);

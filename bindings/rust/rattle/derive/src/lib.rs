@@ -18,8 +18,12 @@ struct Variant {
 #[proc_macro_derive(Error, attributes(error))]
 pub fn derive_error(input: TokenStream) -> TokenStream {
     match implementations(input) {
-        Ok(code) => code.parse().expect("the code is made of tokens that were read"),
-        Err(why) => format!("::core::compile_error!({why:?});").parse().expect("a literal"),
+        Ok(code) => code
+            .parse()
+            .expect("the code is made of tokens that were read"),
+        Err(why) => format!("::core::compile_error!({why:?});")
+            .parse()
+            .expect("a literal"),
     }
 }
 
@@ -124,5 +128,8 @@ fn fields_of(tokens: &mut Tokens) -> usize {
     }
     let types = fields.stream().to_string();
     tokens.next();
-    types.split(',').filter(|part| !part.trim().is_empty()).count()
+    types
+        .split(',')
+        .filter(|part| !part.trim().is_empty())
+        .count()
 }
