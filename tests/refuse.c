@@ -2,7 +2,8 @@
  * that number, counted from 1, and with REFUSE_AFTER each one after the first request for that many
  * bytes. For each refusal one byte is added to the file named by REFUSED. Ends the program where, from
  * one request for as many bytes as BALANCE says to the next, more blocks or fewer were given back than
- * were given. */
+ * were given, and where, from one request for COUNT bytes or up to 99 more to the next, more requests or
+ * fewer were made than the bytes that this one asks for besides, and none was refused. */
 #define _GNU_SOURCE
 #include <dlfcn.h>
 #include <fcntl.h>
@@ -14,6 +15,8 @@ static unsigned long requests;
 static int last_was_met;
 static long given, balanced;
 static int is_balancing;
+static unsigned long counted;
+static int is_counting, was_refused;
 
 static int is_the_one(void) {
     const char *number = getenv("REFUSE");
@@ -35,9 +38,24 @@ static void balance(size_t size) {
     is_balancing = !is_balancing;
 }
 
+static void count(size_t size) {
+    const char *request = getenv("COUNT");
+    if (!request) return;
+    unsigned long least = strtoul(request, NULL, 10);
+    if (size < least || size > least + 99) {
+        counted++;
+        return;
+    }
+    if (is_counting && !was_refused && counted != size - least) abort();
+    is_counting = 1;
+    counted = 0;
+}
+
 static int is_refused(size_t size) {
     balance(size);
+    count(size);
     if (!is_the_one() && !is_after_the_last(size)) return 0;
+    was_refused = 1;
     const char *told = getenv("REFUSED");
     if (told) {
         int file = open(told, O_WRONLY | O_CREAT | O_APPEND, 0644);

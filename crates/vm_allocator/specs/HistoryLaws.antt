@@ -49,7 +49,8 @@ pub record IsRefusedInOrder (old : AddressState) (t n : ℕ) (answer : Result Ra
   pub ends_at_max : AreClear n old t → t + n - 1 ≡ MAX → answer ≡ Err Overflow
 
 -- A request that makes sense is answered by the places: the range at the chosen place is taken if it ends below MAX,
--- and refused if it ends there; where there is no place the request is refused, and a named start for its first fault.
+-- and refused if it ends there; where there is no place, and only there, FirstMatch and LastMatch answer that nothing is
+-- available; a named start is refused for its first fault.
 pub record IsAnsweredByPlaces (old : AddressState) (request : Request)
     (answer : Result Range Error) (new : AddressState) : Type 0 where
   pub taken : (s : ℕ) → IsChosen request old s → s + request.size - 1 < MAX →
@@ -57,6 +58,8 @@ pub record IsAnsweredByPlaces (old : AddressState) (request : Request)
   pub at_max : (s : ℕ) → IsChosen request old s → s + request.size - 1 ≡ MAX → answer ≡ Err Overflow
   pub no_place : (request.policy ≡ FirstMatch) ⊎ (request.policy ≡ LastMatch) →
       ((s : ℕ) → ¬ IsPlace request.size request.align old s) → answer ≡ Err ResourceNotAvailable
+  pub only_there : (request.policy ≡ FirstMatch) ⊎ (request.policy ≡ LastMatch) →
+      (s : ℕ) → IsPlace request.size request.align old s → answer ≢ Err ResourceNotAvailable
   pub named : (t : ℕ) → request.policy ≡ ExactMatch t → IsRefusedInOrder old t request.size answer
 
 -- so is each request; one that makes no sense is refused as its constraint is, and what is given is the chosen place

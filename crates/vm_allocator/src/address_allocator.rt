@@ -18,8 +18,6 @@ use std::marker::Model;
 
 mod comparing;
 pub(crate) mod held_ranges;
-#[cfg(test)]
-mod tests;
 
 /// Gives out the ranges of one space of addresses. Two ranges held at one time share no address,
 /// each lies in the space, and none contains `u64::MAX`.

@@ -17,6 +17,3 @@ pub use error::{Error, Result};
 pub use id_allocator::IdAllocator;
 pub use range::RangeInclusive;
 pub use saved::ValueError;
-
-#[cfg(test)]
-mod tests;

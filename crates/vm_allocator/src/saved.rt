@@ -22,6 +22,3 @@ pub enum ValueError {
     #[error("There is not enough memory.")]
     OutOfMemory,
 }
-
-#[cfg(test)]
-mod tests;

@@ -10,8 +10,6 @@ use std::marker::Model;
 use vm_allocator::{AddressAllocator, AllocPolicy, Error, IdAllocator, RangeInclusive, Result};
 
 mod saved;
-#[cfg(test)]
-mod tests;
 
 /// Gives each device an id and a range of addresses, both or neither. No two devices share an id or
 /// an address.

@@ -7,6 +7,3 @@ mod laws;
 
 pub use device_manager::DeviceManager;
 pub use device_slot::DeviceSlot;
-
-#[cfg(test)]
-mod tests;

@@ -18,7 +18,7 @@ use Rattle.vm_devices.specs.Devices.{DeviceState}
 use Rattle.vm_devices.proofs.Once.{devices_decide}
 use Rattle.vm_replay.specs.Machines.{Machine, start, with_space, with_ids, with_devices, OnPart, OnSpace, OnIds, OnDevices, Places, Releases, Does}
 use Rattle.vm_replay.specs.Replies.{text_of, done_or_refused, given_or_refused, id_or_refused, device_or_refused}
-use Rattle.vm_replay.specs.Laws.{HoldsFew, AreAnsweredAmply, OneText}
+use Rattle.vm_replay.specs.Laws.{HoldsFew, AreAnsweredInMemory, AreAnsweredAmply, OneText}
 use Rattle.vm_replay.specs.declared.command.Command.{Command}
 use Rattle.vm_replay.specs.declared.command.Command.TheVariants.{Space, First, Last, Exact, Free, Ids, Id, Unid, Has, Manager, Device, Undevice}
 use Rattle.vm_replay.specs.declared.reply.Reply.{Reply}
@@ -141,13 +141,13 @@ does_once (Some (Undevice id)) old m n x y few p q a b =
 
 -- from any machine such lines have one text, and leave one machine
 answered_once : (lines : List (List ℕ)) (old new end : Machine) (text other : List ℕ)
-    → AreAnsweredAmply old lines text new → AreAnsweredAmply old lines other end → (text ≡ other) × (new ≡ end)
+    → AreAnsweredAmply old lines text new → AreAnsweredInMemory old lines other end → (text ≡ other) × (new ≡ end)
 answered_once [] old new end text other a b = (a.0 ∙ sym b.0, a.1 ∙ sym b.1)
 answered_once (line ∷ lines) old new end text other a b =
     let same = does_once (command_of line) old a.1 b.1 a.0 b.0 a.5 a.4 b.4 a.3 b.3 in
-    let after = answered_once lines b.1 new end a.2 b.2 (subst (λ (m : Machine). AreAnsweredAmply m lines a.2 new) same.1 a.6) b.6 in
+    let after = answered_once lines b.1 new end a.2 b.2 (subst (λ (m : Machine). AreAnsweredAmply m lines a.2 new) same.1 a.6) b.5 in
     let told : text_of a.0 ++ newline ∷ a.2 ≡ text_of b.0 ++ newline ∷ b.2 = cc in
-    (a.7 ∙ told ∙ sym b.7, after.1)
+    (a.7 ∙ told ∙ sym b.6, after.1)
 
 pub one_text : OneText
 unfolding OneText

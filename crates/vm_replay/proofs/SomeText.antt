@@ -9,7 +9,7 @@ use Rattle.vm_allocator.specs.declared.constraint.AllocPolicy.TheVariants.{First
 use Rattle.vm_allocator.specs.declared.error.Error.{Error}
 use Rattle.vm_allocator.specs.declared.error.Error.TheVariants.{OutOfMemory}
 use Rattle.vm_replay.specs.Commands.{command_of}
-use Rattle.vm_replay.specs.Laws.{HasReply, HasText}
+use Rattle.vm_replay.specs.Laws.{HasReply, HasText, AreAnsweredInMemory}
 use Rattle.vm_replay.specs.Lines.{newline}
 use Rattle.vm_devices.specs.declared.device_slot.DeviceSlot.{DeviceSlot}
 use Rattle.vm_devices.specs.Devices.{DeviceState}
@@ -117,12 +117,13 @@ does_replied (Some (Undevice id)) old =
 
 -- Lines one after the other.
 
-lines_answered : (lines : List (List ℕ)) (old : Machine) → (text : List ℕ) × (new : Machine) × AreAnswered old lines text new
-lines_answered [] old = ([], old, (refl, refl))
+lines_answered : (lines : List (List ℕ)) (old : Machine)
+    → (text : List ℕ) × (new : Machine) × AreAnswered old lines text new × AreAnsweredInMemory old lines text new
+lines_answered [] old = ([], old, (refl, refl), (refl, refl))
 lines_answered (line ∷ lines) old =
     let h = does_replied (command_of line) old in
     let rest = lines_answered lines h.1 in
-    (text_of h.0 ++ newline ∷ rest.0, rest.1, (h.0, h.1, rest.0, h.2, rest.2, refl))
+    (text_of h.0 ++ newline ∷ rest.0, rest.1, (h.0, h.1, rest.0, h.2, rest.2, refl), (h.0, h.1, rest.0, h.2, h.3, rest.3, refl))
 
 pub has_reply : HasReply
 unfolding HasReply
@@ -130,4 +131,4 @@ has_reply old line = does_replied (command_of line) old
 
 pub has_text : HasText
 unfolding HasText
-has_text lines = let h = lines_answered lines start in (h.0, (h.1, h.2))
+has_text lines = let h = lines_answered lines start in (h.0, (h.1, h.2), (h.1, h.3))

@@ -2,15 +2,15 @@
 //! function that does nothing.
 ghost use Rattle.vm_replay.specs.Laws.{OneText, HasReply, HasText};
 
-/// Where memory suffices and fewer ranges are held than a refusal for depth takes, an input has one
-/// text.
+/// Where fewer ranges are held than a refusal for depth takes, an input has one text in which no line
+/// runs out of memory.
 #[tactic(auto, using(crate::proofs::OneText::one_text))]
 fn text_is_determined()
     ensures { OneText }
 {}
 
 /// From each state each line has a reply that does not need memory to run out, so each input has a
-/// text.
+/// text in which no line runs out of it.
 #[tactic(auto, using(crate::proofs::SomeText::has_reply, crate::proofs::SomeText::has_text))]
 fn each_input_has_a_text()
     ensures reply { HasReply }

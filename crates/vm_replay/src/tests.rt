@@ -228,6 +228,12 @@ fn expect_answers(rt: &impl Abort, written: &[u8], rows: &[(&str, &str)], place:
     );
 }
 
+/// How often an input in pieces of this length is read: once for each piece, and once at its end.
+fn reads_of(input: &[u8], longest: usize) -> usize {
+    let pieces = input.len().saturating_add(longest).saturating_sub(1);
+    pieces.checked_div(longest).unwrap_or(0).saturating_add(1)
+}
+
 /// The input is answered as a whole, in whatever pieces it comes.
 fn expect_program(rt: &impl Abort, alloc: Global, input: &[u8], rows: &[(&str, &str)], name: &str) {
     for longest in [1, 2, 3, 7, 64, 4096] {
@@ -235,6 +241,8 @@ fn expect_program(rt: &impl Abort, alloc: Global, input: &[u8], rows: &[(&str, &
         assert_eq!(rt; outcome.result, Ok(()), "{name} in pieces of {longest}");
         expect_answers(rt, outcome.sink.text.as_slice(), rows, name);
         assert_eq!(rt; outcome.sink.flushes, 1, "{name} in pieces of {longest}");
+        let reads = reads_of(input, longest) as u64;
+        assert_eq!(rt; outcome.reads, reads, "{name} in pieces of {longest}");
     }
 }
 

@@ -1,5 +1,5 @@
 -- What every call of a history returns.
-use Rattle.std.proofs.Common.{◌≡◌, ℕ, ◌+◌, ◌-◌, ◌<◌, arith, sym, ap, ◌∙◌, ◌⊎◌, ⊎_elim, subst, Result, Ok, Err}
+use Rattle.std.proofs.Common.{◌≡◌, ◌≢◌, ℕ, ◌+◌, ◌-◌, ◌<◌, arith, sym, ap, ◌∙◌, ◌⊎◌, ⊎_elim, subst, Result, Ok, Err}
 use Rattle.std.proofs.lemmas.Bool.{cases_eq}
 use Rattle.vm_allocator.specs.Range.{Range, MAX, IsIn, span}
 use Rattle.vm_allocator.specs.Address.{AddressState, IsPlace, IsAddressState}
@@ -81,6 +81,25 @@ none_settles FirstMatch n a old new answer p none h = none_by_place (request_for
 none_settles LastMatch n a old new answer p none h = none_by_place (request_for n a LastMatch) old new answer none h
 none_settles (ExactMatch t) n a old new answer p none h = ⊎_elim (λ e. absurd (cc e)) (λ e. absurd (cc e)) p
 
+-- where there is a place, what is refused is refused for memory, for depth or for its end
+taken_not_lacking : (old new : AddressState) (r : Range) (answer : Result Range Error) → Takes old r answer new → answer ≢ Err ResourceNotAvailable
+unfolding Takes
+taken_not_lacking old new r answer h e = ⊎_elim (λ l. cc (l.0, e)) (λ k. ⊎_elim (λ o. cc (o, e)) (λ o. cc (o.1, e)) k.2) h
+
+some_by_place : (request : Request) (old new : AddressState) (answer : Result Range Error) (s : ℕ) → IsPlace request.size request.align old s → ByPlace request old (λ e. (answer ≡ Err e) × (new ≡ old)) (λ r. Takes old r answer new) → answer ≢ Err ResourceNotAvailable
+unfolding ByPlace
+some_by_place request old new answer s place h e =
+    ⊎_elim
+    (λ l. absurd (l.0 s place))
+    (λ k. ⊎_elim (λ o. cc (o.1.0, e)) (λ o. taken_not_lacking old new (span k.0 request.size) answer o.1 e) k.2)
+    h
+
+some_settles : (policy : AllocPolicy) (n a : ℕ) (old new : AddressState) (answer : Result Range Error) → (policy ≡ FirstMatch) ⊎ (policy ≡ LastMatch) → (s : ℕ) → IsPlace n a old s → Settles old (request_for n a policy) answer new → answer ≢ Err ResourceNotAvailable
+unfolding Settles ByExactStart
+some_settles FirstMatch n a old new answer p s place h = some_by_place (request_for n a FirstMatch) old new answer s place h
+some_settles LastMatch n a old new answer p s place h = some_by_place (request_for n a LastMatch) old new answer s place h
+some_settles (ExactMatch t) n a old new answer p s place h = ⊎_elim (λ e. absurd (cc e)) (λ e. absurd (cc e)) p
+
 -- the faults of a request for the n addresses from t on, in order
 named_faults : (old new : AddressState) (answer : Result Range Error) (t n : ℕ) (Rest : Type 0) → IsAddressState old → 0 < n → ByStart t n old (λ e. (answer ≡ Err e) × (new ≡ old)) Rest → IsRefusedInOrder old t n answer
 unfolding ByStart
@@ -120,6 +139,7 @@ answered request old new answer state h =
             taken = chosen_taken request old new answer sense h;
             at_max = chosen_at_max request old new answer sense h;
             no_place = λ p none. none_settles request.policy request.size request.align old new answer p none settles;
+            only_there = λ p s place. some_settles request.policy request.size request.align old new answer p s place settles;
             named = λ t p. named_settles request.policy request.size request.align t old new answer state sense.some p settles;
           };
       given = λ r e. given_chosen request old new r (subst (λ (v : Result Range Error). Allocates old request v new) e h);

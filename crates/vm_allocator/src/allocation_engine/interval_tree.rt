@@ -25,8 +25,6 @@ mod held;
 mod holding;
 pub(crate) mod placing;
 mod release;
-#[cfg(test)]
-pub(crate) mod tests;
 
 /// The blocks of a space of addresses, in a balanced tree.
 #[derive(Debug, Drop)]

@@ -1,29 +1,5 @@
 use super::*;
 
-const MAX: u64 = u64::MAX;
-
-#[test]
-fn test_range_align_up(rt: HostRuntime) {
-    for (address, alignment, want) in [
-        (2, 4, Ok(4)),
-        (2, 1, Ok(2)),
-        (2, 2, Ok(2)),
-        (2, 3, Err(Error::InvalidAlignment)),
-        (2, 0, Err(Error::InvalidAlignment)),
-        (MAX - 2, 2, Ok(MAX - 1)),
-        (MAX - 2, 4, Err(Error::Overflow)),
-        (MAX, 3, Err(Error::Overflow)),
-        (MAX, 0, Err(Error::InvalidAlignment)),
-    ] {
-        assert_eq!(rt;
-            align_up(address, alignment),
-            want,
-            "{address} up by {alignment}"
-        );
-    }
-    assert_eq!(rt; align_down(7, 4), Ok(4));
-}
-
 #[test]
 fn test_is_free(rt: HostRuntime) {
     assert!(rt; NodeState::Free.is_free());

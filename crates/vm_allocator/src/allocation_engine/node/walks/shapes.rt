@@ -28,13 +28,3 @@ pub(crate) fn same(a: &Child, b: &Child) -> bool
         }
     }
 }
-
-/// How many nodes there are, or `u64::MAX` where there are more.
-pub(crate) fn node_count(tree: &Child) -> u64 {
-    match tree {
-        None => 0,
-        Some(node) => node_count(&node.left)
-            .saturating_add(node_count(&node.right))
-            .saturating_add(1),
-    }
-}

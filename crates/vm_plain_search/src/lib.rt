@@ -1,0 +1,221 @@
+//! A space of 64 addresses, searched address by address, and a long run of calls on it: what the
+//! tests of a library and of the program compare its answers with. Nothing but tests uses it.
+#![tactic(auto)]
+
+use Answer::{Done, Held, NotAvailable, Range, Unaligned};
+use Call::{Exact, First, Free, Last};
+use Place::{Clear, Further, Start};
+
+/// How many addresses the space has, from 0 on.
+pub const ADDRESSES: u64 = 64;
+
+/// How many calls a long run has.
+pub const CALLS: u64 = 20_000;
+
+/// What is asked of the space.
+#[derive(Clone, Copy, Debug)]
+pub enum Call {
+    /// A size and an alignment, for the least place.
+    First(u64, u64),
+    /// A size and an alignment, for the greatest place.
+    Last(u64, u64),
+    /// A size, an alignment and a start.
+    Exact(u64, u64, u64),
+    /// The first and the last address of what is given back.
+    Free(u64, u64),
+}
+
+/// What a call has to answer.
+#[derive(Clone, Copy, Debug)]
+pub enum Answer {
+    /// The first and the last address of a range that is given out.
+    Range(u64, u64),
+    /// A range was given back.
+    Done,
+    /// A refusal, since exactly this range is held.
+    Held(u64, u64),
+    Unaligned,
+    NotAvailable,
+}
+
+/// What an address is.
+#[derive(Clone, Copy, PartialEq, Eq)]
+enum Place {
+    Clear,
+    /// The first one of a held range.
+    Start,
+    /// A further one of a held range.
+    Further,
+}
+
+/// The addresses of the space, and which ranges of them are held.
+#[derive(Drop)]
+pub struct Addresses([Place; 64]);
+
+impl Addresses {
+    /// No range is held.
+    pub fn new() -> Addresses {
+        Addresses([Clear; 64])
+    }
+
+    /// What stands at an address: `None` outside the space.
+    fn at(&self, address: u64) -> Option<Place> {
+        self.0.get(address as usize).copied()
+    }
+
+    fn is_clear(&self, start: u64, size: u64) -> bool {
+        for address in start..start.saturating_add(size) {
+            if self.at(address) != Some(Clear) {
+                return false;
+            }
+        }
+        true
+    }
+
+    /// The held range that starts here.
+    fn range_at(&self, start: u64) -> Option<(u64, u64)> {
+        if self.at(start) != Some(Start) {
+            return None;
+        }
+        let mut end = start;
+        for address in start.saturating_add(1)..ADDRESSES {
+            if self.at(address) != Some(Further) {
+                break;
+            }
+            end = address;
+        }
+        Some((start, end))
+    }
+
+    /// How many ranges are held.
+    pub fn held_count(&self) -> u64 {
+        let mut count = 0u64;
+        for place in self.0 {
+            if place == Start {
+                count = count.saturating_add(1);
+            }
+        }
+        count
+    }
+
+    /// The held range with so many others before it.
+    pub fn held_range(&self, others: u64) -> Option<(u64, u64)> {
+        let mut left = others;
+        for start in 0..ADDRESSES {
+            let range = self.range_at(start);
+            if range.is_some() && left == 0 {
+                return range;
+            }
+            if range.is_some() {
+                left = left.saturating_sub(1);
+            }
+        }
+        None
+    }
+
+    fn is_place(&self, size: u64, alignment: u64, start: u64) -> bool {
+        start.checked_rem(alignment) == Some(0) && self.is_clear(start, size)
+    }
+
+    fn least_place(&self, size: u64, alignment: u64) -> Option<u64> {
+        for start in 0..ADDRESSES {
+            if self.is_place(size, alignment, start) {
+                return Some(start);
+            }
+        }
+        None
+    }
+
+    fn greatest_place(&self, size: u64, alignment: u64) -> Option<u64> {
+        let mut greatest = None;
+        for start in 0..ADDRESSES {
+            if self.is_place(size, alignment, start) {
+                greatest = Some(start);
+            }
+        }
+        greatest
+    }
+
+    /// What a call has to answer.
+    pub fn answer(&self, call: Call) -> Answer {
+        match call {
+            First(size, alignment) => range_from(self.least_place(size, alignment), size),
+            Last(size, alignment) => range_from(self.greatest_place(size, alignment), size),
+            Exact(size, alignment, start) => self.answer_of_exact(size, alignment, start),
+            Free(start, end) if self.range_at(start) == Some((start, end)) => Done,
+            Free(..) => NotAvailable,
+        }
+    }
+
+    fn answer_of_exact(&self, size: u64, alignment: u64, start: u64) -> Answer {
+        let end = start.saturating_add(size).saturating_sub(1);
+        if start.checked_rem(alignment) != Some(0) {
+            Unaligned
+        } else if self.range_at(start) == Some((start, end)) {
+            Held(start, end)
+        } else if self.is_clear(start, size) {
+            Range(start, end)
+        } else {
+            NotAvailable
+        }
+    }
+
+    fn set(&mut self, start: u64, end: u64, first: Place, further: Place) {
+        for address in start..=end {
+            if let Some(place) = self.0.get_mut(address as usize) {
+                *place = if address == start { first } else { further };
+            }
+        }
+    }
+
+    /// What a call with this answer makes of the addresses.
+    pub fn change(&mut self, call: Call, answer: Answer) {
+        match (call, answer) {
+            (_, Range(start, end)) => self.set(start, end, Start, Further),
+            (Free(start, end), Done) => self.set(start, end, Clear, Clear),
+            _ => {}
+        }
+    }
+}
+
+fn range_from(start: Option<u64>, size: u64) -> Answer {
+    match start {
+        Some(start) => Range(start, start.saturating_add(size).saturating_sub(1)),
+        None => NotAvailable,
+    }
+}
+
+/// The numbers that choose the calls of a long run.
+#[derive(Drop)]
+pub struct Draws(u64);
+
+impl Draws {
+    /// The numbers from their beginning on.
+    pub fn new() -> Draws {
+        Draws(1)
+    }
+
+    fn next(&mut self) -> u64 {
+        let Draws(number) = self;
+        *number = number.saturating_mul(75).saturating_add(74) % 65_537;
+        *number
+    }
+
+    /// The next call where these addresses are held. What is given back is held, unless nothing is.
+    pub fn call(&mut self, addresses: &Addresses) -> Call {
+        let (kind, second, third) = (self.next(), self.next(), self.next());
+        let size = second % 8 + 1;
+        let alignment = 1 << (third % 4);
+        match kind % 4 {
+            0 => First(size, alignment),
+            1 => Last(size, alignment),
+            2 => Exact(size, alignment, third / 4 % ADDRESSES),
+            _ => {
+                let others = second.checked_rem(addresses.held_count());
+                let range = others.and_then(|others| addresses.held_range(others));
+                let (start, end) = range.unwrap_or((0, 0));
+                Free(start, end)
+            }
+        }
+    }
+}

@@ -1,0 +1,66 @@
+//! A long run on 64 addresses, each answer against a plain search, address by address.
+use super::*;
+use vm_plain_search as plain;
+use vm_plain_search::{ADDRESSES, Addresses, CALLS, Draws};
+
+/// What a call of the run asks of an allocator.
+fn call_of(call: plain::Call) -> Call {
+    match call {
+        plain::Call::First(size, alignment) => First(size, alignment),
+        plain::Call::Last(size, alignment) => Last(size, alignment),
+        plain::Call::Exact(size, alignment, start) => Exact(size, alignment, start),
+        plain::Call::Free(start, end) => Free(start, end),
+    }
+}
+
+/// What the allocator has to answer then.
+fn want_of(call: plain::Call, answer: plain::Answer) -> Want {
+    match (answer, call) {
+        (plain::Answer::Done, plain::Call::Free(start, end)) => Range(start, end),
+        (plain::Answer::Range(start, end), _) => Range(start, end),
+        (plain::Answer::Held(start, end), _) => Held(start, end),
+        (plain::Answer::Unaligned, _) => Unaligned,
+        (plain::Answer::Done | plain::Answer::NotAvailable, _) => NotAvailable,
+    }
+}
+
+/// A fresh allocator in which these ranges are held, each placed by its start.
+fn placed(rt: &(impl Abort + AllocGlobal), addresses: &Addresses) -> AddressAllocator {
+    let mut space = made(rt, 0, ADDRESSES);
+    for number in 0..addresses.held_count() {
+        let range = addresses.held_range(number);
+        let (start, end) = range.expect(rt, "as many ranges are held");
+        let size = end.saturating_sub(start).saturating_add(1);
+        let mut answer = Exact(size, 1, start).ask(&mut space, rt.alloc(), Plain);
+        if answer == Err(Error::OutOfMemory) {
+            answer = Exact(size, 1, start).ask(&mut space, rt.alloc(), Plain);
+        }
+        assert_eq!(rt; answer, Ok((start, end)));
+    }
+    space
+}
+
+#[test]
+fn long_run(rt: HostRuntime) {
+    let mut draws = Draws::new();
+    let mut addresses = Addresses::new();
+    let mut space = made(&rt, 0, ADDRESSES);
+    for number in 1..=CALLS {
+        let asked = draws.call(&addresses);
+        let found = addresses.answer(asked);
+        let (call, want) = (call_of(asked), want_of(asked, found));
+        let mut answer = call.ask(&mut space, rt.alloc(), Plain);
+        if answer == Err(Error::OutOfMemory) {
+            assert!(rt;
+                space == placed(&rt, &addresses),
+                "call {number} is refused"
+            );
+            answer = call.ask(&mut space, rt.alloc(), Plain);
+        }
+        assert_eq!(rt; answer, want.answer(), "call {number}, {call:?}");
+        addresses.change(asked, found);
+        if number % 100 == 0 {
+            assert!(rt; space == placed(&rt, &addresses), "after call {number}");
+        }
+    }
+}

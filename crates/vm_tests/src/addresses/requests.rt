@@ -1,0 +1,49 @@
+//! How often each call asks for memory: once for each part of its gap that is left over, and at no
+//! other time. tests/refused_memory counts.
+use super::*;
+use crate::fixtures::expect_requests;
+
+/// Calls with their answers, and how many requests each makes.
+const ROWS: [(Call, Want, usize); 22] = [
+    (Space(0, 64), Range(0, 63), 1),
+    // What is left over is behind, before, and on both sides.
+    (First(4, 1), Range(0, 3), 1),
+    (Last(4, 1), Range(60, 63), 1),
+    (First(1, 8), Range(8, 8), 2),
+    (Last(1, 16), Range(48, 48), 2),
+    (Exact(4, 1, 20), Range(20, 23), 2),
+    (Exact(2, 1, 46), Range(46, 47), 1),
+    (Exact(2, 1, 24), Range(24, 25), 1),
+    (Last(2, 2), Range(58, 59), 1),
+    (First(1, 32), Range(32, 32), 2),
+    (First(4, 8), Range(16, 19), 1),
+    (Exact(4, 4, 36), Range(36, 39), 2),
+    // Nothing is left over.
+    (First(4, 4), Range(4, 7), 0),
+    (Exact(7, 1, 9), Range(9, 15), 0),
+    (Last(9, 1), Range(49, 57), 0),
+    // What is given back, and refusals.
+    (Free(16, 19), Range(16, 19), 0),
+    (Free(0, 3), Range(0, 3), 0),
+    (First(0, 1), NoSize, 0),
+    (First(64, 1), NotAvailable, 0),
+    (Last(64, 1), NotAvailable, 0),
+    (Exact(4, 1, 20), Held(20, 23), 0),
+    (Space(MAX, 2), Overflow, 0),
+];
+
+#[test]
+fn requests_of_each_call(rt: HostRuntime) {
+    for form in [Plain, Counted] {
+        let mut space = made(&rt, 0, 1);
+        for (call, want, requests) in &ROWS {
+            expect_requests(rt.alloc(), 0);
+            let mut answer = call.ask(&mut space, rt.alloc(), form);
+            expect_requests(rt.alloc(), *requests);
+            if answer == Err(Error::OutOfMemory) {
+                answer = call.ask(&mut space, rt.alloc(), form);
+            }
+            assert_eq!(rt; answer, want.answer(), "{form:?} {call:?}");
+        }
+    }
+}

@@ -1,0 +1,21 @@
+//! Splits of one box and of two, by each policy: each of their requests for memory is refused in turn.
+use super::*;
+
+#[test]
+fn splits_by_each_policy(rt: HostRuntime) {
+    let mut space = made(&rt, 0, 16);
+    let rows = [
+        // One box: for what is left behind, before, behind.
+        (First(4, 1), Range(0, 3)),
+        (Last(4, 1), Range(12, 15)),
+        (Exact(2, 1, 4), Range(4, 5)),
+        // Two boxes, since the clear addresses are [6, 11], then [6, 7] and [9, 11].
+        (First(1, 4), Range(8, 8)),
+        (Last(1, 2), Range(10, 10)),
+        (Space(0, 0x1000), Range(0, 0xFFF)),
+        (Exact(0x100, 0x100, 0x500), Range(0x500, 0x5FF)),
+    ];
+    replay(&rt, &mut space, &rows);
+    assert_eq!(rt; (space.height(), block_count(&rt, &space)), (2, 3));
+    assert!(rt; space.held_count() == 1 && is_low(&space, 1));
+}

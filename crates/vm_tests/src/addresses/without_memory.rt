@@ -1,0 +1,107 @@
+//! What asks for no memory. tests/refused_memory refuses every request after `end_of_memory`.
+use super::*;
+use crate::fixtures::{end_of_memory, holds_just};
+use std::cmp::Ordering;
+
+/// Does the calls in turn, each with the answer that it has to have, memory or not.
+fn replay(
+    rt: &(impl Abort + AllocGlobal),
+    space: &mut AddressAllocator,
+    form: Form,
+    rows: &[(Call, Want)],
+) {
+    for (call, want) in rows {
+        let answer = call.ask(space, rt.alloc(), form);
+        assert_eq!(rt; answer, want.answer(), "{form:?} {call:?}");
+    }
+}
+
+/// The allocator of [0, 15] in which [2, 3], [6, 7] and [10, 11] are held.
+fn three_held(rt: &(impl Abort + AllocGlobal)) -> AddressAllocator {
+    let mut space = made(rt, 0, 16);
+    let rows = [
+        (Exact(2, 1, 2), Range(2, 3)),
+        (Exact(2, 1, 6), Range(6, 7)),
+        (Exact(2, 1, 10), Range(10, 11)),
+    ];
+    super::replay(rt, &mut space, &rows);
+    space
+}
+
+/// A split, which asks for memory once: what a run without memory is known by.
+fn split(rt: &(impl Abort + AllocGlobal), space: &mut AddressAllocator) {
+    let answer = First(1, 1).ask(space, rt.alloc(), Plain);
+    assert!(rt;
+        answer == Err(Error::OutOfMemory) || answer == Ok((0, 0)),
+        "{answer:?}"
+    );
+}
+
+#[test]
+fn filled_and_given_back(rt: HostRuntime) -> std::result::Result<(), Fail> {
+    let mut spaces = [(three_held(&rt), Plain), (three_held(&rt), Counted)];
+    let rows = [
+        (First(2, 1), Range(0, 1)),
+        (Last(4, 1), Range(12, 15)),
+        (Exact(2, 1, 8), Range(8, 9)),
+        // Beside clear addresses on no side, before, on both sides, and after.
+        (Free(0, 1), Range(0, 1)),
+        (Free(6, 7), Range(6, 7)),
+        (Free(2, 3), Range(2, 3)),
+        (Free(12, 15), Range(12, 15)),
+        (Free(10, 11), Range(10, 11)),
+        (Free(8, 9), Range(8, 9)),
+        (First(16, 1), Range(0, 15)),
+        (Free(0, 15), Range(0, 15)),
+    ];
+    end_of_memory(rt.alloc());
+    let [(plain, _), (counted, _)] = &spaces;
+    assert!(rt; plain == counted && plain.cmp(counted) == Ordering::Equal);
+    assert!(rt; holds_just(plain, &[(2, 3), (6, 7), (10, 11)]));
+    assert!(rt;
+        plain.holds(&RangeInclusive::new(6, 7)?) && !plain.holds(&RangeInclusive::new(6, 6)?)
+    );
+    assert_eq!(rt; plain.held_count(), 3);
+    for (space, form) in &mut spaces {
+        replay(&rt, space, *form, &rows);
+        assert_eq!(rt; (space.base(), space.end(), space.height()), (0, 15, 1));
+    }
+    let [(space, _), _] = &mut spaces;
+    split(&rt, space);
+    Ok(())
+}
+
+#[test]
+fn refused(rt: HostRuntime) {
+    let mut space = three_held(&rt);
+    let rows = [
+        (Space(16, 0), Underflow),
+        (Space(MAX, 2), Overflow),
+        (First(0, 3), NoSize),
+        (Last(1, 3), NoAlignment),
+        (Exact(1, 4, 9), Unaligned),
+        (Exact(1, 1, MAX), Overflow),
+        (Exact(1, 1, 16), NotAvailable),
+        (Exact(MAX, 1, 4), Overflow),
+        (Exact(2, 1, 6), Held(6, 7)),
+        (Exact(1, 1, 6), NotAvailable),
+        (Exact(2, 1, 5), NotAvailable),
+        (First(5, 1), NotAvailable),
+        (Last(5, 1), NotAvailable),
+        (Free(4, 5), NotAvailable),
+        (Free(6, 6), NotAvailable),
+        (Free(16, 17), NotAvailable),
+    ];
+    let mut highest = made(&rt, MAX - 15, 16);
+    let ending_at_max = [
+        (Last(1, 1), Overflow),
+        (Exact(2, 1, LAST), Overflow),
+        (First(16, 1), Overflow),
+    ];
+    end_of_memory(rt.alloc());
+    for form in [Plain, Counted] {
+        replay(&rt, &mut space, form, &rows);
+        replay(&rt, &mut highest, form, &ending_at_max);
+    }
+    split(&rt, &mut space);
+}

@@ -1,0 +1,153 @@
+//! What the tests share. Where a call is tried a second time, that stands for a run in which one
+//! request for memory is refused.
+use serde_json::Value;
+use std::alloc::Global;
+use std::process::Abort;
+use vm_allocator::{AddressAllocator, AllocPolicy, IdAllocator, ValueError};
+
+/// How many bytes `end_of_memory` asks for. Nothing else asks for as many, and tests/refused_memory
+/// has the same number.
+const LAST_REQUEST: usize = 1_000_003;
+
+/// How many bytes `balance` asks for; tests/refused_memory has the same number.
+const BALANCE_REQUEST: usize = 1_000_005;
+
+/// How many bytes `expect_requests` asks for, and as many more as the requests that it expects;
+/// tests/refused_memory has the same number.
+const COUNT_REQUEST: usize = 1_000_100;
+
+/// What a second try says where it fails too.
+const REFUSED_ONCE: &str = "memory is refused once";
+
+/// Asks for memory, whether it is there or not. tests/refused_memory refuses every later request.
+pub(crate) fn end_of_memory(alloc: Global) {
+    let _ = Vec::<u8>::with_capacity(alloc, LAST_REQUEST);
+}
+
+/// Asks for memory, whether it is there or not. From one call of this to the next as much has to be
+/// given back as was given: tests/refused_memory counts.
+pub(crate) fn balance(alloc: Global) {
+    let _ = Vec::<u8>::with_capacity(alloc, BALANCE_REQUEST);
+}
+
+/// Asks for memory, whether it is there or not. From the last call of this on so many requests were
+/// made, where none was refused: tests/refused_memory counts.
+pub(crate) fn expect_requests(alloc: Global, number: usize) {
+    let _ = Vec::<u8>::with_capacity(alloc, COUNT_REQUEST.saturating_add(number));
+}
+
+/// The allocator of a space.
+pub(crate) fn made(rt: &(impl Abort + AllocGlobal), base: u64, size: u64) -> AddressAllocator {
+    match AddressAllocator::new(rt.alloc(), base, size) {
+        Ok(space) => space,
+        Err(_) => AddressAllocator::new(rt.alloc(), base, size).expect(rt, REFUSED_ONCE),
+    }
+}
+
+/// A clone of an allocator.
+pub(crate) fn cloned(
+    rt: &(impl Abort + AllocGlobal),
+    space: &AddressAllocator,
+) -> AddressAllocator {
+    match space.try_clone(rt.alloc()) {
+        Ok(clone) => clone,
+        Err(_) => space.try_clone(rt.alloc()).expect(rt, REFUSED_ONCE),
+    }
+}
+
+/// Whether these ranges are held, and no others.
+pub(crate) fn holds_just(space: &AddressAllocator, ranges: &[(u64, u64)]) -> bool {
+    let mut held = space.held_ranges();
+    for range in ranges {
+        match held.next() {
+            Some(next) if (next.start(), next.end()) == *range => {}
+            _ => return false,
+        }
+    }
+    held.next().is_none()
+}
+
+/// The value of a text.
+pub(crate) fn parsed(rt: &(impl Abort + AllocGlobal), text: &str) -> Value {
+    match Value::from_str(rt.alloc(), text) {
+        Ok(value) => value,
+        Err(_) => Value::from_str(rt.alloc(), text).expect(rt, REFUSED_ONCE),
+    }
+}
+
+/// The text of a value.
+pub(crate) fn text_of(rt: &(impl Abort + AllocGlobal), value: &Value) -> String {
+    match value.to_string(rt.alloc()) {
+        Ok(text) => text,
+        Err(_) => value.to_string(rt.alloc()).expect(rt, REFUSED_ONCE),
+    }
+}
+
+/// The value that states an allocator: its tree too, node for node.
+pub(crate) fn saved(rt: &(impl Abort + AllocGlobal), space: &AddressAllocator) -> Value {
+    match space.to_value(rt.alloc()) {
+        Ok(value) => value,
+        Err(_) => space.to_value(rt.alloc()).expect(rt, REFUSED_ONCE),
+    }
+}
+
+/// Holds a range that is clear.
+pub(crate) fn hold(
+    rt: &(impl Abort + AllocGlobal),
+    space: &mut AddressAllocator,
+    start: u64,
+    size: u64,
+) {
+    let policy = AllocPolicy::ExactMatch(start);
+    if space.allocate(rt.alloc(), size, 1, policy).is_err() {
+        let again = space.allocate(rt.alloc(), size, 1, policy);
+        assert!(rt; again.is_ok(), "{REFUSED_ONCE}");
+    }
+}
+
+/// How many blocks the tree of an allocator has.
+pub(crate) fn block_count(rt: &(impl Abort + AllocGlobal), space: &AddressAllocator) -> usize {
+    let text = text_of(rt, &saved(rt, space));
+    text.as_str().match_indices("node_state").count()
+}
+
+/// The value that states an id allocator.
+pub(crate) fn saved_ids(rt: &(impl Abort + AllocGlobal), ids: &IdAllocator) -> Value {
+    match ids.to_value(rt.alloc()) {
+        Ok(value) => value,
+        Err(_) => ids.to_value(rt.alloc()).expect(rt, REFUSED_ONCE),
+    }
+}
+
+/// The allocator that a value states.
+pub(crate) fn read(
+    rt: &(impl Abort + AllocGlobal),
+    value: &Value,
+) -> Result<AddressAllocator, ValueError> {
+    match AddressAllocator::from_value(rt.alloc(), value) {
+        Err(ValueError::OutOfMemory) => AddressAllocator::from_value(rt.alloc(), value),
+        answer => answer,
+    }
+}
+
+/// The allocator that a value states, read with repairs.
+pub(crate) fn read_repaired(
+    rt: &(impl Abort + AllocGlobal),
+    value: &Value,
+) -> Result<AddressAllocator, ValueError> {
+    match AddressAllocator::from_value_repaired(rt.alloc(), value) {
+        Err(ValueError::OutOfMemory) => AddressAllocator::from_value_repaired(rt.alloc(), value),
+        answer => answer,
+    }
+}
+
+/// The id allocator that a value states.
+pub(crate) fn read_ids(
+    rt: &(impl Abort + AllocGlobal),
+    value: &Value,
+) -> Result<IdAllocator, ValueError> {
+    match IdAllocator::from_value(rt.alloc(), value) {
+        Err(ValueError::OutOfMemory) => IdAllocator::from_value(rt.alloc(), value),
+        answer => answer,
+    }
+}

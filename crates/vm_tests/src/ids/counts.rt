@@ -1,0 +1,72 @@
+//! How many ids are held.
+use super::*;
+
+/// The greatest two ids.
+const LOW: u32 = 4294967294;
+
+const HIGH: u32 = 4294967295;
+
+/// Of a range in the middle.
+const MIDDLE: [Call; 16] = [
+    Count(0),
+    Allocate(Id(5)),
+    Allocate(Id(6)),
+    Allocate(Id(7)),
+    Count(3),
+    Free(6, Id(6)),
+    Count(2),
+    // What is refused changes nothing.
+    Free(6, AlreadyReleased(6)),
+    Free(8, NeverAllocated(8)),
+    Free(24, OutOfRange(24)),
+    Count(2),
+    // All are given back, and one is taken again.
+    Free(7, Id(7)),
+    Free(5, Id(5)),
+    Count(0),
+    Allocate(Id(5)),
+    Count(1),
+];
+
+/// Of the greatest two.
+const LAST: [Call; 12] = [
+    Count(0),
+    Allocate(Id(LOW)),
+    Allocate(Id(HIGH)),
+    Count(2),
+    Allocate(Overflow),
+    Count(2),
+    Free(HIGH, Id(HIGH)),
+    Count(1),
+    Free(LOW, Id(LOW)),
+    Count(0),
+    Allocate(Id(LOW)),
+    Count(1),
+];
+
+/// Of all that there are, where all are held.
+const ALL: [Call; 5] = [
+    Count(4294967296),
+    Allocate(Overflow),
+    Free(0, Id(0)),
+    Free(HIGH, Id(HIGH)),
+    Count(4294967294),
+];
+
+#[test]
+fn counts(rt: HostRuntime) -> std::result::Result<(), Fail> {
+    let middle = IdAllocator::new(rt.alloc(), 5, 23)?;
+    let last = IdAllocator::new(rt.alloc(), LOW, HIGH)?;
+    let all = read_ids(
+        &rt,
+        &parsed(
+            &rt,
+            r#"{"range_base":0,"next_id":null,"range_end":4294967295,"freed_ids":[]}"#,
+        ),
+    )?;
+    let mut tables = [(middle, &MIDDLE[..]), (last, &LAST[..]), (all, &ALL[..])];
+    for (ids, calls) in &mut tables {
+        replay(&rt, ids, calls);
+    }
+    Ok(())
+}

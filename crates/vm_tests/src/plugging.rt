@@ -1,0 +1,18 @@
+//! The README's example, word for word below this line.
+ghost use Rattle.std.specs.Prelude.{◌≡◌, IfOk};
+
+use std::alloc::Global;
+use vm_allocator::{AllocPolicy, Result};
+use vm_devices::{DeviceManager, DeviceSlot};
+
+/// A device that is plugged in, out and in again: it gets the same id and the same window.
+#[tactic(auto, using(vm_devices::proofs::Callers::callers))]
+pub fn replugged(alloc: Global) -> Result<(DeviceSlot, DeviceSlot)>
+    ensures { IfOk result (λ both. both.0 ≡ both.1) }
+{
+    let mut devices = DeviceManager::new(alloc, 0, 100, 0xD000_0000, 0x3000_0000)?;
+    let first = devices.reserve(alloc, 0x1000, 0x1000, AllocPolicy::FirstMatch)?;
+    devices.release(first.id)?;
+    let again = devices.reserve(alloc, 0x1000, 0x1000, AllocPolicy::FirstMatch)?;
+    Ok((first, again))
+}
