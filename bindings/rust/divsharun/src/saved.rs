@@ -5,6 +5,8 @@
 
 mod form;
 mod reading;
+#[cfg(test)]
+mod tests;
 mod writing;
 
 use crate::error::{out_of_memory, settled};
