@@ -125,12 +125,33 @@ impl From<i32> for Value {
     }
 }
 
+impl Value {
+    /// What stands behind a path of fields and places in lists, each of them behind a `/`.
+    pub fn pointer_mut(&mut self, path: &str) -> Option<&mut Value> {
+        let mut steps = path.split('/');
+        match steps.next() {
+            Some("") => steps.try_fold(self, |value, step| match value {
+                Value::Object(fields) => fields.get_mut(step),
+                Value::Array(items) => items.get_mut(step.parse::<usize>().ok()?),
+                _ => None,
+            }),
+            _ => None,
+        }
+    }
+
+    /// The value; `null` is left.
+    pub fn take(&mut self) -> Value {
+        core::mem::replace(self, Value::Null)
+    }
+}
+
 /// What stands in a field; a field that is not there is `null`.
 impl Index<&str> for Value {
     type Output = Value;
 
     fn index(&self, name: &str) -> &Value {
-        self.get(name).unwrap_or(&Value::Null)
+        static NULL: Value = Value::Null;
+        self.get(name).unwrap_or(&NULL)
     }
 }
 

@@ -162,12 +162,22 @@ fn write_text(text: &str, f: &mut fmt::Formatter<'_>) -> fmt::Result {
     f.write_str("\"")
 }
 
-/// `json!(in alloc; {"name": value, ..})`: an object of these fields, whose values are moved in.
+/// `json!(in alloc; {"name": value, ..})` is an object of these fields, whose values are moved in, and
+/// `json!(in alloc; [value, ..])` a list.
 #[macro_export]
 macro_rules! json {
     (in $alloc:expr; {$($fields:tt)*}) => {{
         let _: $crate::Global = $alloc;
         Ok::<$crate::Value, $crate::AllocError>($crate::json!(@object {$($fields)*}))
+    }};
+    (in $alloc:expr; [$($item:expr),*]) => {{
+        let mut items = $crate::Vec::new($alloc);
+        let mut pushed = Ok(());
+        $(pushed = pushed.and_then(|()| items.push($crate::Value::from($item)));)*
+        match pushed {
+            Ok(()) => Ok($crate::Value::Array(items)),
+            Err(refused) => Err($crate::AllocError::from(refused)),
+        }
     }};
     (@object {$($fields:tt)*}) => {{
         let mut fields = $crate::Fields::new();
