@@ -1,7 +1,7 @@
 //! Draws a space of addresses as SVG, to scale. It reads lines of the replay language from standard
-//! input, does what `space`, `first`, `last`, `exact` and `free` say, passes over the other lines, and
-//! writes the picture to standard output: held ranges, gaps, the multiples of the alignment that was
-//! asked for last, and the place that it got.
+//! input, does what `space`, `first`, `last`, `exact` and `free` say, passes over the other lines,
+//! and writes the picture to standard output: held ranges, gaps, the multiples of the alignment
+//! that was asked for last, and the place that it got.
 //!
 //!     cargo run --example draw < divsharun/examples/space.txt > space.svg
 
@@ -22,7 +22,8 @@ const MOST_TICKS: u64 = 256;
 const STYLE: &str = "\
   text { font: 13px system-ui, sans-serif; fill: #1f2328; }
   .size { font-size: 11px; text-anchor: middle; }
-  .held { fill: #9ec5ee; } .gap { fill: #eef1f4; } .vain { fill: url(#stripes); } .place { fill: #f4a261; }
+  .held { fill: #9ec5ee; } .gap { fill: #eef1f4; } .place { fill: #f4a261; }
+  .vain { fill: url(#stripes); }
   rect { stroke: #59636e; stroke-width: 0.5; } .stripe, .tick { stroke: #8b949e; }
   .arrow { fill: #c2561a; } .middle { text-anchor: middle; } .last { text-anchor: end; }
   @media (prefers-color-scheme: dark) {
@@ -31,6 +32,14 @@ const STYLE: &str = "\
     rect { stroke: #9198a1; } .stripe, .tick { stroke: #6e7681; } .arrow { fill: #f4a261; }
   }
 ";
+
+/// The filling of gaps that are long enough in vain.
+const STRIPES: &str = r#"<defs>
+<pattern id="stripes" width="6" height="6" patternUnits="userSpaceOnUse"
+  patternTransform="rotate(45)"><line class="stripe" y2="6" stroke-width="3"/></pattern>
+</defs>"#;
+
+const NAMESPACE: &str = "http://www.w3.org/2000/svg";
 
 /// What was asked for last, and what it got.
 struct Placed {
@@ -128,15 +137,15 @@ impl Drawing<'_> {
         let class = self.class(block);
         writeln!(
             f,
-            "<rect class=\"{class}\" x=\"{left:.2}\" y=\"{TOP}\" width=\"{width:.2}\" height=\"{HEIGHT}\">\
-             <title>{start:x}-{end:x} {block}</title></rect>"
+            r#"<rect class="{class}" x="{left:.2}" y="{TOP}" width="{width:.2}" height="{HEIGHT}">"#
         )?;
+        writeln!(f, "<title>{start:x}-{end:x} {block}</title></rect>")?;
         let size = Size(block.range.len()).to_string();
         if width > 8.0 * size.len() as f64 && class != "vain" {
             let (middle, height) = (left + width / 2.0, TOP + HEIGHT / 2.0 + 4.0);
             writeln!(
                 f,
-                "<text class=\"size\" x=\"{middle:.2}\" y=\"{height}\">{size}</text>"
+                r#"<text class="size" x="{middle:.2}" y="{height}">{size}</text>"#
             )?;
         }
         Ok(())
@@ -147,10 +156,15 @@ impl Drawing<'_> {
         (self.space.end() - self.space.base()) as f64 + 1.0
     }
 
+    /// Whether the multiples of an alignment can be told apart.
+    fn has_ticks(&self, alignment: u64) -> bool {
+        (self.space.end() - self.space.base()) / alignment <= MOST_TICKS
+    }
+
     /// The multiples of the alignment that was asked for last.
     fn write_alignments(&self, f: &mut fmt::Formatter<'_>, alignment: u64) -> fmt::Result {
         let (base, end) = (self.space.base(), self.space.end());
-        if (end - base) / alignment > MOST_TICKS {
+        if !self.has_ticks(alignment) {
             return Ok(());
         }
         let mut next = base.checked_next_multiple_of(alignment);
@@ -158,7 +172,7 @@ impl Drawing<'_> {
             let (at, low) = (self.across(multiple), BOTTOM + 8.0);
             writeln!(
                 f,
-                "<line class=\"tick\" x1=\"{at:.2}\" y1=\"{BOTTOM}\" x2=\"{at:.2}\" y2=\"{low}\"/>"
+                r#"<line class="tick" x1="{at:.2}" y1="{BOTTOM}" x2="{at:.2}" y2="{low}"/>"#
             )?;
             next = multiple.checked_add(alignment);
         }
@@ -173,12 +187,12 @@ impl Drawing<'_> {
         let (left, right) = (middle - 6.0, middle + 6.0);
         writeln!(
             f,
-            "<path class=\"arrow\" d=\"M{middle:.2} {tip} L{left:.2} {high} L{right:.2} {high} Z\"/>"
+            r#"<path class="arrow" d="M{middle:.2} {tip} L{left:.2} {high} H{right:.2} Z"/>"#
         )?;
         let text = middle.clamp(LEFT + 140.0, LEFT + WIDTH - 140.0);
         writeln!(
             f,
-            "<text class=\"middle\" x=\"{text:.2}\" y=\"{}\">{} : {start:x}-{end:x}</text>",
+            r#"<text class="middle" x="{text:.2}" y="{}">{} : {start:x}-{end:x}</text>"#,
             TOP - 22.0,
             placed.line
         )
@@ -188,20 +202,22 @@ impl Drawing<'_> {
     fn write_legend(&self, f: &mut fmt::Formatter<'_>) -> fmt::Result {
         let (low, right) = (BOTTOM + 24.0, LEFT + WIDTH);
         let (base, end) = (self.space.base(), self.space.end());
-        writeln!(f, "<text x=\"{LEFT}\" y=\"{low}\">{base:x}</text>")?;
+        writeln!(f, r#"<text x="{LEFT}" y="{low}">{base:x}</text>"#)?;
         writeln!(
             f,
-            "<text class=\"last\" x=\"{right}\" y=\"{low}\">{end:x}</text>"
+            r#"<text class="last" x="{right}" y="{low}">{end:x}</text>"#
         )?;
         let Some(placed) = self.placed else {
             return write_keys(f, &[("held", "held"), ("gap", "gap")]);
         };
-        let middle = LEFT + WIDTH / 2.0;
-        let alignment = Size(placed.alignment);
-        writeln!(
-            f,
-            "<text class=\"middle\" x=\"{middle}\" y=\"{low}\">ticks: multiples of {alignment}</text>"
-        )?;
+        if self.has_ticks(placed.alignment) {
+            let (middle, alignment) = (LEFT + WIDTH / 2.0, Size(placed.alignment));
+            let meaning = format!("ticks: multiples of {alignment}");
+            writeln!(
+                f,
+                r#"<text class="middle" x="{middle}" y="{low}">{meaning}</text>"#
+            )?;
+        }
         let vain = format!("gap of {} or more without such a place", Size(placed.size));
         let place = "place of the last request";
         write_keys(
@@ -223,9 +239,9 @@ fn write_keys(f: &mut fmt::Formatter<'_>, keys: &[(&str, &str)]) -> fmt::Result 
         let (text, low) = (left + 20.0, high + 11.0);
         writeln!(
             f,
-            "<rect class=\"{class}\" x=\"{left}\" y=\"{high}\" width=\"14\" height=\"14\"/>"
+            r#"<rect class="{class}" x="{left}" y="{high}" width="14" height="14"/>"#
         )?;
-        writeln!(f, "<text x=\"{text}\" y=\"{low}\">{meaning}</text>")?;
+        writeln!(f, r#"<text x="{text}" y="{low}">{meaning}</text>"#)?;
         left = text + 7.0 * meaning.len() as f64 + 24.0;
     }
     Ok(())
@@ -243,11 +259,10 @@ impl Display for Drawing<'_> {
         let (base, end) = (self.space.base(), self.space.end());
         writeln!(
             f,
-            "<svg xmlns=\"http://www.w3.org/2000/svg\" viewBox=\"0 0 960 184\" role=\"img\">\n\
-             <title>The space {base:x}-{end:x}</title>\n<style>\n{STYLE}</style>\n\
-             <defs><pattern id=\"stripes\" width=\"6\" height=\"6\" patternUnits=\"userSpaceOnUse\" \
-             patternTransform=\"rotate(45)\"><line class=\"stripe\" y2=\"6\" stroke-width=\"3\"/></pattern></defs>"
+            r#"<svg xmlns="{NAMESPACE}" viewBox="0 0 960 184" role="img">"#
         )?;
+        writeln!(f, "<title>The space {base:x}-{end:x}</title>")?;
+        writeln!(f, "<style>\n{STYLE}</style>\n{STRIPES}")?;
         for block in self.space.layout().blocks() {
             self.write_block(f, &block)?;
         }

@@ -1,7 +1,7 @@
 //! What a virtual machine monitor keeps for its devices: a window below 4 GiB and one above it,
-//! interrupts, and slots for memory. Devices are plugged in and out, by two threads at once too, and
-//! the whole is saved and restored. It compiles unchanged with `vm-allocator` 0.1.4 in the place of
-//! this library, and prints the same.
+//! interrupts, and slots for memory. Devices are plugged in and out, by two threads at once too,
+//! and the whole is saved and restored. It compiles unchanged with `vm-allocator` 0.1.4 in the
+//! place of this library, and prints the same.
 
 use std::sync::{Arc, Mutex, PoisonError};
 use std::thread;

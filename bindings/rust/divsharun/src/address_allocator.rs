@@ -7,9 +7,9 @@ use rattle::Global;
 /// Gives out the ranges of one space of addresses. Two ranges held at one time share no address,
 /// each lies in the space, and none contains `u64::MAX`.
 ///
-/// Two allocators are equal exactly where their spaces and their held ranges are, whatever calls led
-/// to them. They are ordered by space, and then by their blocks, which are the held ranges and the
-/// gaps: by the first that differ, by start, end and state.
+/// Two allocators are equal exactly where their spaces and their held ranges are, whatever calls
+/// led to them. They are ordered by space, and then by their blocks, which are the held ranges and
+/// the gaps: by the first that differ, by start, end and state.
 ///
 /// # Example
 ///
@@ -60,12 +60,12 @@ impl AddressAllocator {
     /// - `InvalidAlignment` where the alignment is no power of two;
     /// - for `ExactMatch`: `UnalignedAddress` where the start is no multiple of the alignment;
     ///   `Overflow` where it is `u64::MAX`; `ResourceNotAvailable` where it is outside the space;
-    ///   `Overflow` where the range would pass `u64::MAX`; `InvalidStateTransition(range, Allocated)`
-    ///   where exactly this range is held;
+    ///   `Overflow` where the range would pass `u64::MAX`; `InvalidStateTransition`, with the range
+    ///   and `Allocated`, where exactly this range is held;
     /// - `ResourceNotAvailable` where there is no place;
-    /// - `Overflow` where the range at the place would end at `u64::MAX`, also where there is another
-    ///   place; and where the place leaves a part of its gap over in a tree of height 48 or more,
-    ///   which takes more than 6 * 10^9 held ranges.
+    /// - `Overflow` where the range at the place would end at `u64::MAX`, also where there is
+    ///   another place; and where the place leaves a part of its gap over in a tree of height 48 or
+    ///   more, which takes more than 6 * 10^9 held ranges.
     ///
     /// A refusal changes nothing.
     pub fn allocate(
@@ -82,9 +82,9 @@ impl AddressAllocator {
     /// # Errors
     ///
     /// `Refused` with `InvalidSize`, `InvalidAlignment`, `UnalignedAddress`, `Overflow`,
-    /// `ResourceNotAvailable` or `InvalidStateTransition` where `allocate` answers so; `OutOfMemory`
-    /// where a request for memory was refused, which can only be where the place leaves a part of its
-    /// gap over. A refusal changes nothing.
+    /// `ResourceNotAvailable` or `InvalidStateTransition` where `allocate` answers so;
+    /// `OutOfMemory` where a request for memory was refused, which can only be where the place
+    /// leaves a part of its gap over. A refusal changes nothing.
     pub fn try_allocate(
         &mut self,
         size: u64,
@@ -94,15 +94,17 @@ impl AddressAllocator {
         tried(self.0.allocate(Global, size, alignment, policy)).map(RangeInclusive)
     }
 
-    /// Does what [`allocate`](Self::allocate) does, and answers besides how many nodes of the tree it
-    /// entered. With the [height](Self::height) h before, these are at most 8h + 8 for `ExactMatch`.
-    /// `FirstMatch` and `LastMatch` enter at most h(v + 1) + 8h + 8, where v gaps are long enough, have
-    /// a multiple of the alignment and hold no place all the same; at alignment 1 there are none such.
+    /// Does what [`allocate`](Self::allocate) does, and answers besides how many nodes of the tree
+    /// it entered. With the [height](Self::height) h before, these are at most 8h + 8 for
+    /// `ExactMatch`. `FirstMatch` and `LastMatch` enter at most h(v + 1) + 8h + 8, where v gaps are
+    /// long enough and hold no place all the same; at alignment 1 there are none such. The same
+    /// holds of w in the place of v, where w gaps have a multiple of the alignment and hold no
+    /// place.
     ///
     /// # Errors
     ///
-    /// Those of `allocate`, in the same cases: `InvalidSize`, `InvalidAlignment`, `UnalignedAddress`,
-    /// `Overflow`, `ResourceNotAvailable` and `InvalidStateTransition`.
+    /// Those of `allocate`, in the same cases: `InvalidSize`, `InvalidAlignment`,
+    /// `UnalignedAddress`, `Overflow`, `ResourceNotAvailable` and `InvalidStateTransition`.
     pub fn allocate_counted(
         &mut self,
         size: u64,
@@ -117,14 +119,14 @@ impl AddressAllocator {
     ///
     /// # Errors
     ///
-    /// `ResourceNotAvailable` for any other range, a part of a held one and a clear one among them. A
-    /// refusal changes nothing.
+    /// `ResourceNotAvailable` for any other range, a part of a held one and a clear one among them.
+    /// A refusal changes nothing.
     pub fn free(&mut self, key: &RangeInclusive) -> Result<()> {
         settled(self.0.free(&key.0))
     }
 
-    /// Does what [`free`](Self::free) does, and answers besides how many nodes of the tree it entered:
-    /// at most 8h + 8 with the [height](Self::height) h before.
+    /// Does what [`free`](Self::free) does, and answers besides how many nodes of the tree it
+    /// entered: at most 8h + 8 with the [height](Self::height) h before.
     ///
     /// # Errors
     ///
@@ -149,8 +151,8 @@ impl AddressAllocator {
         HeldRanges(self.0.held_ranges())
     }
 
-    /// Whether exactly this range is held: a part of a held range is not, and a clear one neither. It
-    /// goes one way down the tree and takes no memory.
+    /// Whether exactly this range is held: a part of a held range is not, and a clear one neither.
+    /// It goes one way down the tree and takes no memory.
     pub fn holds(&self, key: &RangeInclusive) -> bool {
         self.0.holds(&key.0)
     }
@@ -160,9 +162,9 @@ impl AddressAllocator {
         self.0.held_count()
     }
 
-    /// How many nodes the longest way down the tree has. The tree is balanced: with k held ranges its
-    /// height h has F(h + 2) at most 2k + 2, where F is the sequence 1, 1, 2, 3, 5 of Fibonacci, and is
-    /// 49 at most.
+    /// How many nodes the longest way down the tree has. The tree is balanced: with k held ranges
+    /// its height h has F(h + 2) at most 2k + 2, where F is the sequence 1, 1, 2, 3, 5 of
+    /// Fibonacci, and is 49 at most.
     pub fn height(&self) -> u64 {
         self.0.height()
     }

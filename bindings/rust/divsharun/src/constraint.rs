@@ -45,9 +45,9 @@ impl Constraint {
     ///
     /// # Errors
     ///
-    /// In this order: `InvalidSize(0)` for a size of 0; `InvalidAlignment` where the alignment is no
-    /// power of two; `UnalignedAddress` for an `ExactMatch` of a start that is no multiple of the
-    /// alignment.
+    /// In this order: `InvalidSize(0)` for a size of 0; `InvalidAlignment` where the alignment is
+    /// no power of two; `UnalignedAddress` for an `ExactMatch` of a start that is no multiple of
+    /// the alignment.
     pub fn new(size: u64, align: u64, policy: AllocPolicy) -> Result<Self> {
         settled(proved::Constraint::new(size, align, policy)).map(Constraint)
     }

@@ -26,8 +26,8 @@ pub struct DeviceSlot {
 /// Gives each device an id and a range of addresses, both or neither. No two devices share an id or
 /// an address.
 ///
-/// The ids given back and the table of the devices are a set and a map of Rust's, whose want of memory
-/// ends the process: these calls have no form that answers it.
+/// The ids given back and the table of the devices are a set and a map of Rust's, whose want of
+/// memory ends the process: these calls have no form that answers it.
 ///
 /// # Example
 ///
@@ -53,8 +53,8 @@ impl DeviceManager {
     ///
     /// # Errors
     ///
-    /// In this order: `InvalidRange(id_lo, id_hi)` where the last id is below the first; `Underflow`
-    /// for a size of 0; `Overflow` for an end past `u64::MAX`.
+    /// In this order: `InvalidRange(id_lo, id_hi)` where the last id is below the first;
+    /// `Underflow` for a size of 0; `Overflow` for an end past `u64::MAX`.
     pub fn new(id_lo: u32, id_hi: u32, base: u64, size: u64) -> Result<Self> {
         settled(proved_devices::DeviceManager::new(
             Global, id_lo, id_hi, base, size,
@@ -70,8 +70,9 @@ impl DeviceManager {
     /// Where all ids are held, `Overflow` or `ResourceNotAvailable`, as
     /// [`IdAllocator::allocate_id`](crate::IdAllocator::allocate_id) answers; then `InvalidSize`,
     /// `InvalidAlignment`, `UnalignedAddress`, `Overflow`, `ResourceNotAvailable` or
-    /// `InvalidStateTransition`, as [`AddressAllocator::allocate`](crate::AddressAllocator::allocate)
-    /// answers. A refusal leaves ids, ranges and devices as they were.
+    /// `InvalidStateTransition`, as
+    /// [`AddressAllocator::allocate`](crate::AddressAllocator::allocate) answers. A refusal leaves
+    /// ids, ranges and devices as they were.
     pub fn reserve(&mut self, size: u64, align: u64, policy: AllocPolicy) -> Result<DeviceSlot> {
         let slot = settled(self.0.reserve(Global, size, align, policy))?;
         Ok(DeviceSlot {

@@ -64,9 +64,9 @@ impl IdAllocator {
     ///
     /// # Errors
     ///
-    /// In this order: `OutOfRange(id)` where the id is outside the range; `NeverAllocated(id)` where
-    /// it was never handed out; `AlreadyReleased(id)` where it is not held any more. A refusal changes
-    /// nothing.
+    /// In this order: `OutOfRange(id)` where the id is outside the range; `NeverAllocated(id)`
+    /// where it was never handed out; `AlreadyReleased(id)` where it is not held any more. A
+    /// refusal changes nothing.
     pub fn free_id(&mut self, id: u32) -> Result<u32> {
         settled(self.0.free_id(id))
     }

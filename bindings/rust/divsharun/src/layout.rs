@@ -3,8 +3,8 @@ use alloc::collections::BTreeMap;
 use core::fmt;
 use core::iter::{FusedIterator, Peekable};
 
-/// The space of an [`AddressAllocator`] to look at. Its `Display` writes a line for each held range and
-/// each gap, as /proc/iomem does, or, where the space ends below 2^16, as /proc/ioports does.
+/// The space of an [`AddressAllocator`] to look at. Its `Display` writes a line for each held range
+/// and each gap, as /proc/iomem does, or, where the space ends below 2^16, as /proc/ioports does.
 ///
 /// # Example
 ///

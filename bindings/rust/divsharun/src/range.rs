@@ -2,8 +2,9 @@ use crate::error::settled;
 use crate::Result;
 use core::fmt;
 
-/// A closed range of addresses: its start, its end and all between them. It is never empty and never
-/// all of the 2^64 addresses, so its length fits a `u64`. Ranges are ordered by start, then by end.
+/// A closed range of addresses: its start, its end and all between them. It is never empty and
+/// never all of the 2^64 addresses, so its length fits a `u64`. Ranges are ordered by start, then
+/// by end.
 ///
 /// # Example
 ///

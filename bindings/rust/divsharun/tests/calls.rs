@@ -1,5 +1,5 @@
-//! The calls of the library: against a plain model of a small space, and each of those that the Rust
-//! crate has not.
+//! The calls of the library: against a plain model of a small space, and each of those that the
+//! Rust crate has not.
 
 use divsharun::{
     AddressAllocator, AllocPolicy, DeviceManager, DeviceSlot, Error, IdAllocator, NodeState,

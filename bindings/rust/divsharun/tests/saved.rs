@@ -1,5 +1,5 @@
-//! The feature `serde`: the layout of what is saved, in JSON and in a format without names, and what
-//! is read and refused. It runs in the folder `with_serde` beside the library's.
+//! The feature `serde`: the layout of what is saved, in JSON and in a format without names, and
+//! what is read and refused. It runs in the folder `with_serde` beside the library's.
 #![cfg(feature = "serde")]
 
 mod packed;
@@ -60,9 +60,8 @@ fn space_over(root: &str) -> String {
 /// A node in JSON.
 fn node(key: (u64, u64), state: &str, right: &str) -> String {
     let (start, end) = key;
-    format!(
-        r#"{{"key":{{"start":{start},"end":{end}}},"node_state":"{state}","left":null,"right":{right},"height":1}}"#
-    )
+    let head = format!(r#""key":{{"start":{start},"end":{end}}},"node_state":"{state}""#);
+    format!(r#"{{{head},"left":null,"right":{right},"height":1}}"#)
 }
 
 #[test]

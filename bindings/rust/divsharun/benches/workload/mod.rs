@@ -1,6 +1,6 @@
-//! What is measured of a library that gives out ranges and ids: the time of a call while many ranges
-//! or ids are held. The same calls are made of each library, and their answers are kept, so that two
-//! can be held against each other.
+//! What is measured of a library that gives out ranges and ids: the time of a call while many
+//! ranges or ids are held. The same calls are made of each library, and their answers are kept, so
+//! that two can be held against each other.
 
 use std::fmt;
 use std::hint::black_box;

@@ -1,5 +1,5 @@
-//! Which difference of docs/DIFFERENCES.md it is, where the answers to a call differ or what is left
-//! behind it does.
+//! Which difference of docs/DIFFERENCES.md it is, where the answers to a call differ or what is
+//! left behind it does.
 
 use crate::workload::{Answer, Place};
 use divsharun::{AddressAllocator, Block, Error, NodeState, RangeInclusive};
@@ -67,8 +67,8 @@ fn block_of(space: &AddressAllocator, address: u64) -> Option<(RangeInclusive, N
     block
 }
 
-/// The number of the difference between the answers of the Rust crate and of the port to a call on a
-/// space that was as `before`.
+/// The number of the difference between the answers of the Rust crate and of the port to a call on
+/// a space that was as `before`.
 pub fn number_of(
     before: &AddressAllocator,
     request: &Request,

@@ -1,5 +1,6 @@
-//! Histories of calls that are drawn, made of both libraries at once. Where the two differ, the Rust
-//! crate's allocator is read anew from what the port saves, so that each difference stands alone.
+//! Histories of calls that are drawn, made of both libraries at once. Where the two differ, the
+//! Rust crate's allocator is read anew from what the port saves, so that each difference stands
+//! alone.
 
 use crate::difference::{number_of, Request, Tally};
 use crate::saved::{compare_saved, held_and_clear, reread, value_of};

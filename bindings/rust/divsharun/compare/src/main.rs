@@ -1,10 +1,10 @@
-//! Makes the same calls of divsharun and of `vm-allocator` 0.1.4, holds each answer against the other,
-//! and measures both.
+//! Makes the same calls of divsharun and of `vm-allocator` 0.1.4, holds each answer against the
+//! other, and measures both.
 //!
 //!     cargo run --release [-- [SEED] [HISTORIES]]
 //!
-//! Where the two differ, the number of the difference in docs/DIFFERENCES.md is counted; a difference
-//! that has no number there is written out, and the status is 1.
+//! Where the two differ, the number of the difference in docs/DIFFERENCES.md is counted; a
+//! difference that has no number there is written out, and the status is 1.
 
 mod difference;
 mod histories;
@@ -51,8 +51,8 @@ fn seed_of_the_clock() -> u64 {
     now.map_or(1, |time| time.as_nanos() as u64)
 }
 
-/// Measures both on the same calls, and compares the answers: nanoseconds a call of divsharun, and how
-/// many times as long `vm-allocator` takes.
+/// Measures both on the same calls, and compares the answers: nanoseconds a call of divsharun, and
+/// how many times as long `vm-allocator` takes.
 fn measure(tally: &mut Tally) {
     println!("| call | 1000 held | 10000 held | 100000 held |\n|---|---|---|---|");
     let devices = [1_000, 10_000, 100_000].map(Devices::new);

@@ -1,5 +1,5 @@
-//! How saved objects look: the names and the fields of the Rust crate's types, in its order, and those
-//! of the device manager, which that crate has not.
+//! How saved objects look: the names and the fields of the Rust crate's types, in its order, and
+//! those of the device manager, which that crate has not.
 
 /// What stands in a place of a saved object.
 pub(super) enum Form {
@@ -35,7 +35,8 @@ impl Structure {
     }
 }
 
-/// The states of a node, in the order of their declaration, which some formats write in their place.
+/// The states of a node, in the order of their declaration, which some formats write in their
+/// place.
 pub(super) const STATES: &[&str] = &["Free", "Allocated"];
 
 /// The name of the type of states.
@@ -44,8 +45,8 @@ pub(super) const STATE: &str = "NodeState";
 /// No node of a saved tree is nested deeper: no tree of the Rust crate is higher.
 pub(super) const MOST_NESTED: u32 = 50;
 
-/// No list that is read or written is longer. It is the number of ids of 20 bits, which is more than
-/// a monitor has of any kind.
+/// No list that is read or written is longer. It is the number of ids of 20 bits, which is more
+/// than a monitor has of any kind.
 pub(super) const MOST_LISTED: usize = 1 << 20;
 
 pub(super) static RANGE: Form = Form::Structure(Structure {

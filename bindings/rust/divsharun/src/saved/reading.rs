@@ -179,8 +179,8 @@ impl<'de> Visitor<'de> for State {
     }
 }
 
-/// A list of items whose ids rise. It is read into as little memory as it can be, and no further than
-/// to the first item that makes it one of no use.
+/// A list of items whose ids rise. It is read into as little memory as it can be, and no further
+/// than to the first item that makes it one of no use.
 struct RisingList<T>(PhantomData<T>);
 
 impl<'de, T: Item> Visitor<'de> for RisingList<T> {

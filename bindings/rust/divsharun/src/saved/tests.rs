@@ -1,5 +1,5 @@
-//! Saved values are damaged, and read in two ways: by serde, and by the proved reader alone. Both read
-//! the same ones.
+//! Saved values are damaged, and read in two ways: by serde, and by the proved reader alone. Both
+//! read the same ones.
 
 use crate::{AddressAllocator, AllocPolicy, DeviceManager, IdAllocator};
 use alloc::format;

@@ -1,6 +1,6 @@
-//! A format without names, as bincode is one: numbers in little endian, the length of a list and the
-//! place of a variant before it, one byte for whether there is something. Bytes are read from an
-//! iterator, so that they need not exist before they are asked for.
+//! A format without names, as bincode is one: numbers in little endian, the length of a list and
+//! the place of a variant before it, one byte for whether there is something. Bytes are read from
+//! an iterator, so that they need not exist before they are asked for.
 #![allow(dead_code)]
 
 use serde::de::{DeserializeSeed, EnumAccess, IntoDeserializer, SeqAccess, VariantAccess, Visitor};
