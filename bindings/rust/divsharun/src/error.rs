@@ -87,6 +87,19 @@ impl fmt::Display for Error {
 impl core::error::Error for Error {}
 
 /// What a call answers: a value, or why it is refused.
+///
+/// # Example
+///
+/// ```rust
+/// use divsharun::{Error, IdAllocator, Result};
+///
+/// fn first_of(base: u32, end: u32) -> Result<u32> {
+///     IdAllocator::new(base, end)?.allocate_id()
+/// }
+///
+/// assert_eq!(first_of(5, 23), Ok(5));
+/// assert_eq!(first_of(23, 5), Err(Error::InvalidRange(23, 5)));
+/// ```
 pub type Result<T> = core::result::Result<T, Error>;
 
 /// Why a call by a name that begins with `try_` is refused: as the call without `try_` would be, or

@@ -141,15 +141,21 @@ pub use layout::{Block, Blocks, Layout};
 pub use node_state::NodeState;
 pub use range::RangeInclusive;
 
-/// What a monitor shares among its threads may be shared.
+/// Every type may be shared among the threads of a monitor.
 const _: () = {
     const fn is_shared_and_sent<T: Send + Sync>() {}
     is_shared_and_sent::<AddressAllocator>();
     is_shared_and_sent::<IdAllocator>();
     is_shared_and_sent::<DeviceManager>();
+    is_shared_and_sent::<DeviceSlot>();
     is_shared_and_sent::<HeldRanges<'_>>();
     is_shared_and_sent::<Layout<'_>>();
+    is_shared_and_sent::<Blocks<'_>>();
+    is_shared_and_sent::<Block<'_>>();
+    is_shared_and_sent::<RangeInclusive>();
+    is_shared_and_sent::<NodeState>();
     is_shared_and_sent::<Constraint>();
+    is_shared_and_sent::<AllocPolicy>();
     is_shared_and_sent::<Error>();
     is_shared_and_sent::<TryError>();
 };
