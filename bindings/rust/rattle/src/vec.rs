@@ -1,4 +1,4 @@
-use crate::{AllocError, AllocFailed, Global};
+use crate::{AllocFailed, Global};
 use core::fmt;
 use core::ops::{Deref, DerefMut};
 
@@ -10,13 +10,6 @@ impl<T> Vec<T> {
     /// A vector of nothing, which takes no memory.
     pub fn new(_alloc: Global) -> Self {
         Vec(alloc::vec::Vec::new())
-    }
-
-    /// A vector of nothing with room for `room` values.
-    pub fn with_capacity(_alloc: Global, room: usize) -> Result<Self, AllocError> {
-        let mut list = alloc::vec::Vec::new();
-        list.try_reserve_exact(room).map_err(|_| AllocError)?;
-        Ok(Vec(list))
     }
 
     /// Adds a value at the end; it comes back where there is no memory.
