@@ -140,6 +140,11 @@ class Reader:
 
     def skip_item(self):
         """Passes over an item: to its semicolon, or to the end of the braces that no contract has."""
+        if self.accept("pub") and self.is_at("("):
+            self.bracketed()
+        if self.is_at("use"):
+            self.skip_to_semicolon()
+            return
         while not self.accept(";"):
             if self.is_at(*CONTRACTS):
                 self.contract()
@@ -493,7 +498,7 @@ class Reader:
             values.append(self.expression())
             if not self.is_at(")"):
                 self.expect(",")
-            elif len(values) == 1 and self.words[self.next - 1].text != ",":
+            elif len(values) == 1:
                 self.take()
                 return values[0]
         return Several(at, "(", values)

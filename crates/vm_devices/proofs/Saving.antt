@@ -1,17 +1,23 @@
 -- A manager's value: what is found of it is what it states, what is read is that, and what is written states it.
-use Rattle.std.proofs.Common.{◌≡◌, ℕ, ◌==◌, List, Option, Some, None, Result, Ok, Err, inl, inr, ◌⊎◌, option_and_then, MatchOption, codes, refl, sym, ap, ◌∙◌, subst}
-use Rattle.std.proofs.lemmas.Bool.{eqb-true}
+use Rattle.std.proofs.Common.{◌≡◌, ℕ, nat_eq, ◌==◌, Bool, true, false, length, List, Option, Some, None, Result, Ok, Err, inl, inr, ◌⊎◌, option_and_then, MatchOption, codes, refl, sym, ap, ◌∙◌, subst}
+use Rattle.std.proofs.lemmas.Bool.{eqb-true, eqb-false, ne_eqb}
 use Rattle.std.proofs.lemmas.Option.{same_Some}
 use Rattle.std.specs.BTreeMap.{BTreeMap}
 use Rattle.std.specs.List.Sorted.{IsStrictlySortedBy}
 use Rattle.std.specs.Map.{keys_of}
 use Rattle.std.specs.Ordering.{nat_cmp}
 use Rattle.std.specs.FinMap as map
+use Rattle.std.specs.FinSet as set
 use Rattle.serde_json.specs.Data.{Data, Items}
+use Rattle.serde_json.specs.Events.{items_len}
 use Rattle.serde_json.specs.Find.{get, as_array}
+use Rattle.serde_json.specs.View.{items_view}
+use Rattle.serde_json.specs.declared.value.Value.{Value}
+use Rattle.serde_json.proofs.Views.{items_len-items_view}
 use Rattle.vm_allocator.specs.Range.{Range}
+use Rattle.vm_allocator.specs.Cases.{Tells}
 use Rattle.vm_allocator.specs.Address.{AddressState, IsAddressState}
-use Rattle.vm_allocator.specs.Ids.{IdState}
+use Rattle.vm_allocator.specs.Ids.{IdState, held_count}
 use Rattle.vm_allocator.specs.Allocator.{SpaceInTree, state_of}
 use Rattle.vm_allocator.specs.SavedFields.{field_count, number_in}
 use Rattle.vm_allocator.specs.SavedTree.{StatesAllocator, StatesAddresses}
@@ -26,9 +32,9 @@ use Rattle.vm_allocator.proofs.saving.IdStates.{one_stated, stated_state as ids_
 use Rattle.vm_devices.specs.Devices.{DeviceState, IsDeviceState, devices_of}
 use Rattle.vm_devices.specs.Saved.{StatesDevices, StatesList, StatesManager, ReadsInParts}
 use Rattle.vm_devices.specs.Laws.{ManagerIsReadAgain}
-use Rattle.vm_devices.specs.SavedChecks.{rising_devices, FindsDevices, manager_found, AreAllHeld, ManagerParts}
+use Rattle.vm_devices.specs.SavedChecks.{rising_devices, FindsDevices, manager_found, AreAsMany, AreHeldApart, AreAllHeld, ManagerParts}
 use Rattle.vm_devices.proofs.AllHeld.{pairs_all, all_paired}
-use Rattle.vm_devices.proofs.Slots.{mapped, rising-states, states-rising}
+use Rattle.vm_devices.proofs.Slots.{mapped, rising-states, rising-length, states-rising}
 use Rattle.vm_devices.proofs.RisingIds.{rising_sorted}
 
 -- ---- the fields of a value that states a manager
@@ -98,15 +104,58 @@ one_addresses d a b s t = sym s.is ∙ ap state_of (one_allocator d s.allocator 
 addresses_state : (d : Data) (a : AddressState) → StatesAddresses d a → IsAddressState a
 addresses_state d a s = subst IsAddressState s.is (allocator_state d s.allocator s.stated)
 
-pub not_paired : (d ids space : Data) (slots : Items) (i : IdState) (a : AddressState) (table : BTreeMap ℕ Range) → manager_found d ≡ Some (ids, space, slots) → StatesIds ids i → StatesAddresses space a → rising_devices 0 slots ≡ Some table.entries → ¬ AreAllHeld i a table.entries → ¬ ((state : DeviceState) × StatesManager d state)
+-- a manager that is stated pairs the ids and the space that its parts state
+module _ (d ids space : Data) (slots : Items) (i : IdState) (a : AddressState) (found : manager_found d ≡ Some (ids, space, slots)) (is : StatesIds ids i) (held : StatesAddresses space a) (h : (state : DeviceState) × StatesManager d state) where
+  its_list : rising_devices 0 slots ≡ Some h.1.listed
+  its_list = its_slots d ids space slots found h.0 h.1
+
+  all_its_own : AreAllHeld i a h.1.listed
+  all_its_own =
+      let state = h.0 in
+      let s = h.1 in
+      let same_ids : state.ids ≡ i = one_stated ids state.ids i (its_ids d ids space slots found state s) is in
+      let same_space : state.space ≡ a = one_addresses space state.space a (its_space d ids space slots found state s) held in
+      let all = all_paired state s.listed s.devices s.rising (addresses_state space state.space (its_space d ids space slots found state s)) s.pairs in
+      rw (← same_ids, ← same_space) all
+
+pub not_as_many : (d ids space : Data) (slots : Items) (i : IdState) (a : AddressState) → manager_found d ≡ Some (ids, space, slots) → StatesIds ids i → StatesAddresses space a → ¬ AreAsMany i a slots → ¬ ((state : DeviceState) × StatesManager d state)
+not_as_many d ids space slots i a found is held none h =
+    let all = all_its_own d ids space slots i a found is held h in
+    let long = rising-length 0 slots h.1.listed (its_list d ids space slots i a found is held h) in
+    none (record { ids_counted = sym long ∙ all.ids_counted; ranges_counted = sym long ∙ all.ranges_counted })
+
+pub not_paired : (d ids space : Data) (slots : Items) (i : IdState) (a : AddressState) (table : BTreeMap ℕ Range) → manager_found d ≡ Some (ids, space, slots) → StatesIds ids i → StatesAddresses space a → rising_devices 0 slots ≡ Some table.entries → ¬ AreHeldApart i a set.empty table.entries → ¬ ((state : DeviceState) × StatesManager d state)
 not_paired d ids space slots i a table found is held rise none h =
-    let state = h.0 in
-    let s = h.1 in
-    let same_ids : state.ids ≡ i = one_stated ids state.ids i (its_ids d ids space slots found state s) is in
-    let same_space : state.space ≡ a = one_addresses space state.space a (its_space d ids space slots found state s) held in
-    let same_list : s.listed ≡ table.entries = same_Some s.listed table.entries (sym (its_slots d ids space slots found state s) ∙ rise) in
-    let all = all_paired state s.listed s.devices s.rising (addresses_state space state.space (its_space d ids space slots found state s)) s.pairs in
-    none (rw (← same_ids, ← same_space, ← same_list) all)
+    let same : h.1.listed ≡ table.entries = same_Some h.1.listed table.entries (sym (its_list d ids space slots i a found is held h) ∙ rise) in
+    none (subst (AreHeldApart i a set.empty) same (all_its_own d ids space slots i a found is held h).apart)
+
+-- as many items as held ids and as held ranges, each with its own
+all_held : (slots : Items) (i : IdState) (a : AddressState) (es : List (ℕ × Range)) → AreAsMany i a slots → rising_devices 0 slots ≡ Some es → AreHeldApart i a set.empty es → AreAllHeld i a es
+all_held slots i a es many rise apart =
+    let long = rising-length 0 slots es rise in
+    record { ids_counted = long ∙ many.ids_counted; ranges_counted = long ∙ many.ranges_counted; apart = apart }
+
+-- a list has as many values as its view has items
+list_long : (vs : List Value) → length vs ≡ items_len (items_view vs)
+list_long vs = sym (items_len-items_view vs)
+
+as_many : (i : IdState) (a : AddressState) (vs : List Value) → held_count i ≡ length vs → length a.held ≡ length vs → AreAsMany i a (items_view vs)
+as_many i a vs ids ranges = record { ids_counted = sym (list_long vs) ∙ sym ids; ranges_counted = sym (list_long vs) ∙ sym ranges }
+
+more_ids : (i : IdState) (a : AddressState) (vs : List Value) → ¬ (held_count i ≡ length vs) → ¬ AreAsMany i a (items_view vs)
+more_ids i a vs more many = more (sym many.ids_counted ∙ sym (list_long vs))
+
+more_ranges : (i : IdState) (a : AddressState) (vs : List Value) → ¬ (length a.held ≡ length vs) → ¬ AreAsMany i a (items_view vs)
+more_ranges i a vs more many = more (sym many.ranges_counted ∙ sym (list_long vs))
+
+pub other_ids : (i : IdState) (a : AddressState) (vs : List Value) (n : ℕ) → n ≡ held_count i → ¬ (n ≡ length vs) → Tells (nat_eq n (length vs)) (AreAsMany i a (items_view vs))
+other_ids i a vs n is other = let f = ne_eqb n (length vs) other in rw f (more_ids i a vs (λ e. other (is ∙ e)))
+
+pub ranges_told : (i : IdState) (a : AddressState) (vs : List Value) (m n : ℕ) → m ≡ held_count i → m ≡ length vs → n ≡ length a.held → Tells (nat_eq n (length vs)) (AreAsMany i a (items_view vs))
+ranges_told i a vs m n is t counted = told (nat_eq n (length vs)) refl where
+  told : (b : Bool) → nat_eq n (length vs) ≡ b → Tells b (AreAsMany i a (items_view vs))
+  told true e = as_many i a vs (sym is ∙ t) (sym counted ∙ eqb-true n (length vs) e)
+  told false e = more_ranges i a vs (λ s. eqb-false n (length vs) e (counted ∙ s))
 
 -- a refused part refuses the whole
 pub ids_refused : (d ids space : Data) (slots : Items) (e : ValueError) → manager_found d ≡ Some (ids, space, slots) → Reads {X = IdState} (StatesIds ids) (Err e) → ReadsInParts (StatesManager d) (Err e)
@@ -127,7 +176,10 @@ pub ruleset readers = (no_fields, space_refused)
 list_stated : (d : Data) (ds : Items) (es : List (ℕ × Range)) → as_array d ≡ Some ds → StatesDevices ds es → StatesList d es
 list_stated d ds es e s = rw e s
 
-module _ (d ids space : Data) (slots : Items) (i : IdState) (a : AddressState) (table : BTreeMap ℕ Range) (found : manager_found d ≡ Some (ids, space, slots)) (is : StatesIds ids i) (held : StatesAddresses space a) (rise : rising_devices 0 slots ≡ Some table.entries) (all : AreAllHeld i a table.entries) where
+module _ (d ids space : Data) (slots : Items) (i : IdState) (a : AddressState) (table : BTreeMap ℕ Range) (found : manager_found d ≡ Some (ids, space, slots)) (is : StatesIds ids i) (held : StatesAddresses space a) (rise : rising_devices 0 slots ≡ Some table.entries) (many : AreAsMany i a slots) (apart : AreHeldApart i a set.empty table.entries) where
+  all : AreAllHeld i a table.entries
+  all = all_held slots i a table.entries many rise apart
+
   rising : IsStrictlySortedBy nat_cmp (keys_of table.entries)
   rising = rising_sorted slots table.entries rise
 

@@ -1,5 +1,5 @@
 -- The list of devices in a value: what is found of it is what it states.
-use Rattle.std.proofs.Common.{◌≡◌, ℕ, ◌+◌, ◌<◌, ◌≤◌, leb, List, [], ◌∷◌, ◌++◌, length, get_or, drop, map, Option, Some, None, option_map, option_and_then, refl, sym, ap, ◌∙◌, subst, arith, append_assoc, Greater, Less, codes}
+use Rattle.std.proofs.Common.{◌≡◌, ℕ, suc, ◌+◌, ◌<◌, ◌≤◌, leb, List, [], ◌∷◌, ◌++◌, length, get_or, drop, map, Option, Some, None, option_map, option_and_then, refl, sym, ap, ◌∙◌, subst, arith, append_assoc, Greater, Less, codes}
 use Rattle.std.proofs.lemmas.Bool.{le-leb, lt-leb}
 use Rattle.std.specs.Cmp.{nat_cmp_is}
 use Rattle.std.specs.BTreeMap.{insert_entry}
@@ -8,6 +8,7 @@ use Rattle.std.specs.List.Sorted.{IsStrictlySortedBy}
 use Rattle.std.specs.Map.{keys_of}
 use Rattle.std.specs.Ordering.{nat_cmp}
 use Rattle.serde_json.specs.Data.{Data, Items, no_items, item}
+use Rattle.serde_json.specs.Events.{items_len}
 use Rattle.serde_json.specs.Find.{get}
 use Rattle.serde_json.specs.View.{view, items_view}
 use Rattle.serde_json.specs.declared.value.Value.{Value}
@@ -69,6 +70,16 @@ rising-states least (item d ds) es h =
     let b = if_some (leb least a.0.0) _ es a.2 in
     let m = mapped _ (rising_devices (a.0.0 + 1) ds) es b.1 in
     subst (StatesDevices (item d ds)) m.2 (device-states d a.0 a.1, rising-states (a.0.0 + 1) ds m.0 m.1)
+
+-- each item is a device
+pub rising-length : (least : ℕ) (ds : Items) (es : List (ℕ × Range)) → rising_devices least ds ≡ Some es → length es ≡ items_len ds
+rising-length least no_items [] h = refl
+rising-length least no_items (e ∷ es) h = absurd (cc)
+rising-length least (item d ds) es h =
+    let a = and_then_some _ (device_found d) es h in
+    let b = if_some (leb least a.0.0) _ es a.2 in
+    let m = mapped _ (rising_devices (a.0.0 + 1) ds) es b.1 in
+    ap (λ (v : List (ℕ × Range)). length v) (sym m.2) ∙ ap suc (rising-length (a.0.0 + 1) ds m.0 m.1)
 
 -- each id is above the one before it, the first from `least` on
 abbrev pub RiseFrom : ℕ → List (ℕ × Range) → Type 0

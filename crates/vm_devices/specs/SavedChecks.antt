@@ -7,6 +7,7 @@ use Rattle.std.specs.BTreeMap.{BTreeMap}
 use Rattle.std.specs.FinSet as set
 use Rattle.serde_json.specs.Data.{Data, Items, no_items, item}
 use Rattle.serde_json.specs.Find.{get, as_array}
+use Rattle.serde_json.specs.Events.{items_len}
 use Rattle.vm_allocator.specs.Range.{Range}
 use Rattle.vm_allocator.specs.Address.{AddressState}
 use Rattle.vm_allocator.specs.Ids.{IdState, IsHeld, held_count}
@@ -58,6 +59,11 @@ AreHeldApart ids space seen [] = Unit {0}
 AreHeldApart ids space seen (e ∷ es) =
     IsHeld ids e.0 × Contains space.held e.1 × ¬ IsTrue (set.contains seen e.1.start)
     × AreHeldApart ids space (set.insert seen e.1.start) es
+
+-- the items are as many as the held ids and as the held ranges
+pub record AreAsMany (ids : IdState) (space : AddressState) (ds : Items) : Type 0 where
+  pub ids_counted : items_len ds ≡ held_count ids
+  pub ranges_counted : items_len ds ≡ length space.held
 
 -- the devices are as many as the held ids and as the held ranges, and each has its own
 pub record AreAllHeld (ids : IdState) (space : AddressState) (es : List (ℕ × Range)) : Type 0 where

@@ -1,32 +1,26 @@
 //! Whether devices pair the held ids with the held ranges.
 ghost use Rattle.std.specs.Prelude.{IfOk};
 ghost use Rattle.std.specs.FinSet as set;
+ghost use Rattle.serde_json.specs.View.{items_view};
 ghost use Rattle.vm_allocator.specs.Allocator.{state_of};
 ghost use Rattle.vm_allocator.specs.Cases.{Tells};
-ghost use Rattle.vm_devices.specs.SavedChecks.{AreHeldApart, AreAllHeld};
+ghost use Rattle.vm_devices.specs.SavedChecks.{AreAsMany, AreHeldApart};
 
+use serde_json::Value;
 use std::alloc::{AllocError, Global};
 use std::collections::{BTreeMap, BTreeSet};
 use vm_allocator::{AddressAllocator, IdAllocator, RangeInclusive};
 
-/// Whether the devices are as many as the held ids and the held ranges, and each has its own.
-pub(super) fn are_all_held(
-    alloc: Global,
-    ids: &IdAllocator,
-    space: &AddressAllocator,
-    slots: &BTreeMap<u32, RangeInclusive>,
-) -> std::result::Result<bool, AllocError>
-    ensures { IfOk result (λ all. Tells all (AreAllHeld ids.now (state_of space.now) slots.now.entries)) }
+/// Whether the items are as many as the held ids and as the held ranges.
+pub(super) fn are_as_many(ids: &IdAllocator, space: &AddressAllocator, items: &[Value]) -> bool
+    ensures { Tells result (AreAsMany ids.now (state_of space.now) (items_view items.now)) }
 {
-    let count = slots.len() as u64;
-    if ids.held_count() != count || space.held_count() != count {
-        return Ok(false);
-    }
-    are_held_apart(alloc, ids, space, slots)
+    let count = items.len() as u64;
+    ids.held_count() == count && space.held_count() == count
 }
 
 /// Whether the id and the range of each device are held, and no two have one start.
-fn are_held_apart(
+pub(super) fn are_held_apart(
     alloc: Global,
     ids: &IdAllocator,
     space: &AddressAllocator,
