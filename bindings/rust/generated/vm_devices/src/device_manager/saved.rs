@@ -7,7 +7,7 @@ use rattle::Vec;
 mod pairing;
 mod slots;
 
-use self::pairing::are_all_held;
+use self::pairing::{are_as_many, are_held_apart};
 use self::slots::{read_slots, save_slots};
 use super::DeviceManager;
 use rattle::{Value, json};
@@ -40,8 +40,12 @@ impl DeviceManager {
         };
         let id_allocator = IdAllocator::from_value(alloc, fields.ids)?;
         let mmio_allocator = AddressAllocator::from_value(alloc, fields.space)?;
+        // A stranger's list is counted before it costs memory.
+        if !are_as_many(&id_allocator, &mmio_allocator, fields.slots) {
+            return Err(ValueError::NotAState);
+        }
         let slots = read_slots(alloc, fields.slots)?;
-        match are_all_held(alloc, &id_allocator, &mmio_allocator, &slots) {
+        match are_held_apart(alloc, &id_allocator, &mmio_allocator, &slots) {
             Ok(true) => Ok(DeviceManager {
                 id_allocator,
                 mmio_allocator,

@@ -2,26 +2,19 @@
 
 //! Whether devices pair the held ids with the held ranges.
 
+use rattle::Value;
 use rattle::{AllocError, Global};
 use rattle::{BTreeMap, BTreeSet};
 use vm_allocator::{AddressAllocator, IdAllocator, RangeInclusive};
 
-/// Whether the devices are as many as the held ids and the held ranges, and each has its own.
-pub(super) fn are_all_held(
-    alloc: Global,
-    ids: &IdAllocator,
-    space: &AddressAllocator,
-    slots: &BTreeMap<u32, RangeInclusive>,
-) -> core::result::Result<bool, AllocError> {
-    let count = slots.len() as u64;
-    if ids.held_count() != count || space.held_count() != count {
-        return Ok(false);
-    }
-    are_held_apart(alloc, ids, space, slots)
+/// Whether the items are as many as the held ids and as the held ranges.
+pub(super) fn are_as_many(ids: &IdAllocator, space: &AddressAllocator, items: &[Value]) -> bool {
+    let count = items.len() as u64;
+    ids.held_count() == count && space.held_count() == count
 }
 
 /// Whether the id and the range of each device are held, and no two have one start.
-fn are_held_apart(
+pub(super) fn are_held_apart(
     alloc: Global,
     ids: &IdAllocator,
     space: &AddressAllocator,
