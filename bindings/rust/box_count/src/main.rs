@@ -186,6 +186,11 @@ impl Pair {
                 "holds follows {followed} boxes"
             );
         }
+        let (_, followed) = boxes(|| black_box((space.base(), space.end(), space.height())));
+        assert!(
+            followed <= 3 * LOOKS,
+            "base, end and height follow {followed} boxes"
+        );
         let walks: [(&str, &dyn Fn() -> u64); 4] = [
             ("held_count", &|| space.held_count()),
             ("held_ranges", &|| space.held_ranges().count() as u64),
