@@ -42,9 +42,13 @@ impl<T: Ord> BTreeSet<T> {
     }
 
     /// How many values there are.
-    #[allow(clippy::len_without_is_empty)]
     pub fn len(&self) -> usize {
         self.0.len()
+    }
+
+    /// Whether there is no value.
+    pub fn is_empty(&self) -> bool {
+        self.0.is_empty()
     }
 
     /// The values, from the least on.
@@ -95,9 +99,13 @@ impl<K: Ord, V> BTreeMap<K, V> {
     }
 
     /// How many keys there are.
-    #[allow(clippy::len_without_is_empty)]
     pub fn len(&self) -> usize {
         self.0.len()
+    }
+
+    /// Whether there is no key.
+    pub fn is_empty(&self) -> bool {
+        self.0.is_empty()
     }
 
     /// The entries, from the least key on.
