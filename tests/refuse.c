@@ -2,8 +2,8 @@
  * that number, counted from 1, and with REFUSE_AFTER each one after the first request for that many
  * bytes. For each refusal one byte is added to the file named by REFUSED. Ends the program where, from
  * one request for as many bytes as BALANCE says to the next, more blocks or fewer were given back than
- * were given, and where, from one request for COUNT bytes or up to 99 more to the next, more requests or
- * fewer were made than the bytes that this one asks for besides, and none was refused. */
+ * were given. A request for as many bytes as COUNT says begins a count of requests; one for 1 to 99 bytes
+ * more ends the program where one more or fewer were made than that, and none was refused. */
 #define _GNU_SOURCE
 #include <dlfcn.h>
 #include <fcntl.h>
@@ -16,7 +16,7 @@ static int last_was_met;
 static long given, balanced;
 static int is_balancing;
 static unsigned long counted;
-static int is_counting, was_refused;
+static int was_refused;
 
 static int is_the_one(void) {
     const char *number = getenv("REFUSE");
@@ -46,8 +46,7 @@ static void count(size_t size) {
         counted++;
         return;
     }
-    if (is_counting && !was_refused && counted != size - least) abort();
-    is_counting = 1;
+    if (size > least && !was_refused && counted != size - least - 1) abort();
     counted = 0;
 }
 

@@ -12,7 +12,7 @@ const LAST_REQUEST: usize = 1_000_003;
 /// How many bytes `balance` asks for; tests/refused_memory has the same number.
 const BALANCE_REQUEST: usize = 1_000_005;
 
-/// How many bytes `expect_requests` asks for, and as many more as the requests that it expects;
+/// How many bytes `count_requests` asks for, and `expect_requests` one more and one for each request;
 /// tests/refused_memory has the same number.
 const COUNT_REQUEST: usize = 1_000_100;
 
@@ -30,10 +30,16 @@ pub(crate) fn balance(alloc: Global) {
     let _ = Vec::<u8>::with_capacity(alloc, BALANCE_REQUEST);
 }
 
-/// Asks for memory, whether it is there or not. From the last call of this on so many requests were
-/// made, where none was refused: tests/refused_memory counts.
+/// Asks for memory, whether it is there or not: from here on tests/refused_memory counts requests.
+pub(crate) fn count_requests(alloc: Global) {
+    let _ = Vec::<u8>::with_capacity(alloc, COUNT_REQUEST);
+}
+
+/// Asks for memory, whether it is there or not. So many requests were made since they are counted,
+/// where none was refused.
 pub(crate) fn expect_requests(alloc: Global, number: usize) {
-    let _ = Vec::<u8>::with_capacity(alloc, COUNT_REQUEST.saturating_add(number));
+    let size = COUNT_REQUEST.saturating_add(number).saturating_add(1);
+    let _ = Vec::<u8>::with_capacity(alloc, size);
 }
 
 /// The allocator of a space.

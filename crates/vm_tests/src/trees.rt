@@ -1,5 +1,5 @@
 //! Trees by themselves.
-use crate::fixtures::expect_requests;
+use crate::fixtures::{count_requests, expect_requests};
 use std::alloc::Global;
 use std::process::Abort;
 use std::test::Fail;
@@ -37,7 +37,7 @@ fn test_integer_wrapping(rt: HostRuntime) -> std::result::Result<(), Fail> {
 /// A split asks for a box for each part of its gap that is left over, and nothing else asks for any.
 #[test]
 fn requests_of_a_tree(rt: HostRuntime) -> std::result::Result<(), Fail> {
-    expect_requests(rt.alloc(), 0);
+    count_requests(rt.alloc());
     let tree = IntervalTree::new(rt.alloc(), RangeInclusive::new(0, 15)?);
     expect_requests(rt.alloc(), 1);
     let mut tree = match tree {
@@ -52,7 +52,7 @@ fn requests_of_a_tree(rt: HostRuntime) -> std::result::Result<(), Fail> {
         (6, AllocPolicy::LastMatch, 8, 0),
     ] {
         let constraint = Constraint::new(size, 1, policy)?;
-        expect_requests(rt.alloc(), 0);
+        count_requests(rt.alloc());
         let mut answer = tree.allocate(rt.alloc(), constraint);
         expect_requests(rt.alloc(), requests);
         if answer == Err(Error::OutOfMemory) {
@@ -61,7 +61,7 @@ fn requests_of_a_tree(rt: HostRuntime) -> std::result::Result<(), Fail> {
         let want = RangeInclusive::new(start, start + size - 1);
         assert_eq!(rt; answer, want, "{size} by {policy:?}");
     }
-    expect_requests(rt.alloc(), 0);
+    count_requests(rt.alloc());
     tree.free(&RangeInclusive::new(6, 7)?)?;
     expect_requests(rt.alloc(), 0);
     Ok(())

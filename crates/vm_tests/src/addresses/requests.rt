@@ -1,7 +1,7 @@
 //! How often each call asks for memory: once for each part of its gap that is left over, and at no
 //! other time. tests/refused_memory counts.
 use super::*;
-use crate::fixtures::expect_requests;
+use crate::fixtures::{count_requests, expect_requests};
 
 /// Calls with their answers, and how many requests each makes.
 const ROWS: [(Call, Want, usize); 22] = [
@@ -37,7 +37,7 @@ fn requests_of_each_call(rt: HostRuntime) {
     for form in [Plain, Counted] {
         let mut space = made(&rt, 0, 1);
         for (call, want, requests) in &ROWS {
-            expect_requests(rt.alloc(), 0);
+            count_requests(rt.alloc());
             let mut answer = call.ask(&mut space, rt.alloc(), form);
             expect_requests(rt.alloc(), *requests);
             if answer == Err(Error::OutOfMemory) {

@@ -1,5 +1,6 @@
 //! Id allocators.
 use super::*;
+use crate::fixtures::{count_requests, expect_requests};
 
 #[test]
 fn read_ones(rt: HostRuntime) -> std::result::Result<(), Fail> {
@@ -40,6 +41,7 @@ fn refused_ones(rt: HostRuntime) {
         r#"{"range_base":5,"next_id":null,"range_end":23,"freed_ids":[]}"#,
         r#"{"range_base":5,"next_id":25,"range_end":23,"freed_ids":[]}"#,
         r#"{"range_base":5,"next_id":4,"range_end":23,"freed_ids":[]}"#,
+        r#"{"range_base":5,"next_id":25,"range_end":23,"freed_ids":[6,7]}"#,
         // Released ids that fall, stand still, or were not handed out.
         r#"{"range_base":5,"next_id":8,"range_end":23,"freed_ids":[6,5]}"#,
         r#"{"range_base":5,"next_id":8,"range_end":23,"freed_ids":[6,6]}"#,
@@ -50,7 +52,10 @@ fn refused_ones(rt: HostRuntime) {
         r#"{"range_base":5,"next_id":7,"range_end":4294967296,"freed_ids":[]}"#,
         r#"{"range_base":0,"next_id":4294967296,"range_end":4294967295,"freed_ids":[]}"#,
     ] {
-        let answer = read_ids(&rt, &parsed(&rt, text));
+        let value = parsed(&rt, text);
+        count_requests(rt.alloc());
+        let answer = IdAllocator::from_value(rt.alloc(), &value);
+        expect_requests(rt.alloc(), 0);
         assert_eq!(rt; answer.err(), Some(ValueError::NotAState), "{text}");
     }
 }
