@@ -18,7 +18,7 @@ MAX = 2**64 - 1
 LAST_ID = 2**32 - 1
 KINDS = ("space", "first", "last", "exact", "free", "ids", "id", "unid", "has", "manager", "device", "undevice")
 ROUNDS, LINES_OF_A_ROUND = 8, 250
-LEAST_OF_A_KIND = 500
+LEAST_OF_A_KIND = 200
 REFUSALS = (b"error", b"no")
 
 
@@ -55,6 +55,10 @@ class Lines:
         alignment = self.choices.choice([1, 1, 2**self.choices.randrange(8), 2**self.choices.randrange(64), self.number(9)])
         return [size, alignment]
 
+    def place(self):
+        """A size, an alignment and a start that often has room."""
+        return [self.choices.randrange(1, 5), 1, self.base + self.choices.randrange(min(self.size, 4096))]
+
     def pair(self):
         """A range: one that was given, or another."""
         ranges = [numbers[-2:] for numbers in self.given if len(numbers) > 1]
@@ -83,7 +87,7 @@ class Lines:
         if kind in ("first", "last", "device"):
             return self.size_and_alignment()
         if kind == "exact":
-            return self.size_and_alignment() + [self.base + self.number(64)]
+            return self.size_and_alignment() + [self.base + self.number(64)] if self.choices.random() < 0.4 else self.place()
         if kind == "free":
             return self.pair()
         return self.interval() if kind == "ids" else [] if kind == "id" else self.an_id()
