@@ -1,0 +1,699 @@
+#!/usr/bin/env python3
+"""Writes the proved crates of a project as plain Rust crates, by cutting out what is for the prover.
+
+    erase.py PROJECT OUT [--tests]
+
+PROJECT/crates.txt names the crates and what each stands on. Each program, and each library that one
+stands on, is written to OUT/NAME, as a package of a workspace that has OUT and a folder `rattle` beside
+it. With --tests every crate is written, with its tests.
+
+What is cut: clauses, `ghost` items, members and fields, `#[tactic(..)]`, `impl Model`, `Drop` among
+the derives, laws (functions of nothing that do nothing), modules that are empty then, and tests unless
+they are asked for. What is written: the line that says where a file comes from, the attributes of a
+crate, imports of what Rattle's prelude has and Rust's has not. What is changed: the front of a path, by
+the table FOLDERS, and the parameter `rt` of `main` and of tests, which becomes the first statement.
+
+Everything else is kept as it is, and refused where the tables do not name it: forms of items, paths of
+libraries, functions and methods that are not of these crates, macros, attributes, derives, traits. So
+is what would let a caller in plain Rust break what was proved: a `requires` on what such a caller may
+call, and a public field of a type with ghosts. A refusal says file, line and what was met. Tests are
+no part of the crates, and the names that they use are the compiler's to know."""
+import collections
+import os
+import re
+import shutil
+import sys
+import types
+
+# ---- What means the same in Rust ----
+
+# Folders of libraries: the folder that stands for each, and what may be used of it. None: for proofs.
+FOLDERS = {
+    "std::alloc": ("rattle", {"AllocError", "Global"}),
+    "std::cmp": ("core::cmp", {"Ordering"}),
+    "std::collections": ("rattle", {"BTreeMap", "BTreeSet"}),
+    "std::io": ("std::io", {"Read", "Write"}),
+    "std::marker": (None, {"Model"}),
+    "std::process": ("std::process", {"ExitCode"}),
+    "std::result": ("core::result", {"Result"}),
+    "std::simd::prelude": ("rattle::simd", {"*"}),
+    "serde_json": ("rattle", {"Value", "json"}),
+    "thiserror": ("rattle", {"Error"}),
+}
+FOLDERS_OF_TESTS = {
+    "std": ("std", {"io"}),
+    "std::env": ("rattle::testing", {"Env"}),
+    "std::io": ("std::io", {"ErrorKind", "Read", "Write"}),
+    "std::process": ("rattle::testing", {"Abort"}),
+    "std::str": ("core::str", {"from_utf8"}),
+    "std::test": ("rattle::testing", {"Fail"}),
+}
+LIBRARIES = {folder.split("::")[0] for folder in FOLDERS}
+# Names of Rattle's prelude that Rust's has not, or has otherwise: `rattle` has them.
+PRELUDE = {"Box", "HostRuntime", "Vec"}
+# Names of both preludes, and of what else may be used of libraries.
+NAMES = {"Err", "Iterator", "None", "Ok", "Option", "Result", "Some"}
+NUMBERS = {"u8", "u16", "u32", "u64", "u128", "usize"}
+ASSOCIATED = {
+    "BTreeMap::new", "BTreeSet::new", "Box::into_inner", "Box::new", "ExitCode::from", "Ord::cmp",
+    "Ordering::Equal", "Ordering::Greater", "Ordering::Less", "Value::Null", "Value::as_u64", "Value::from",
+    "Value::try_from_str", "Vec::new", "u128::from", "u32::MAX", "u32::from", "u32::try_from", "u64::MAX",
+    "u64::from", "u8x16::from_slice", "u8x16::splat",
+}
+# Methods of types that are not of these crates; each was read beside Rust's.
+METHODS = {
+    "alloc", "and_then", "as_array", "as_object", "as_slice", "as_str", "as_u64", "checked_add", "checked_mul",
+    "clone", "cmp", "contains", "copied", "copy_from_slice", "first", "flush", "get", "ilog2", "insert", "into",
+    "is_ascii_digit", "is_empty", "is_none", "is_null", "is_power_of_two", "is_some", "iter", "len", "max",
+    "min", "next", "ok", "pop_first", "push", "read", "remove", "saturating_add", "simd_eq", "stdin", "stdout",
+    "take", "to_bitmask", "trailing_zeros", "unwrap", "write_all",
+}
+MACROS = {"json", "unreachable"}
+DERIVES = {"Clone", "Copy", "Debug", "Default", "Drop", "Eq", "Error", "Hash", "Ord", "PartialEq", "PartialOrd"}
+# No item of a crate may have one of these names, since the tables mean the libraries' own.
+TAKEN = (PRELUDE | NAMES | NUMBERS | {path.split("::")[0] for path in ASSOCIATED}) - {"Result"}
+TRAITS = {"Eq", "Iterator", "Ord", "PartialEq", "PartialOrd"}
+TRAITS_OF_TESTS = {"Read", "Write"}
+ATTRIBUTES = {"allow", "cold", "default", "derive", "error", "inline"}
+KEYWORDS = set("""_ as bool break const continue crate else enum false fn for if impl in let loop match mod
+    move mut pub ref return self static str struct super true type use while Self""".split()) | NUMBERS
+REFUSED_WORDS = set("""async await become box char decreases dyn extern f32 f64 gen ghost i8 i16 i32 i64
+    i128 invariant isize macro_rules prove prove_eq trait try union unsafe where yield""".split())
+CLAUSES = {"ensures", "requires"}
+
+# ---- What is written ----
+
+ORIGIN = "// Written by bindings/erase from {}: do not edit.\n"
+CRATE_ATTRIBUTES = """#![forbid(unsafe_code)]
+// What only proofs and tests use is kept as it is.
+#![allow(dead_code, unused_assignments, unused_imports, unused_variables)]
+"""
+FOR_TESTS = "use rattle::testing::*;\nuse rattle::testing::{assert, assert_eq};\n"
+RUNTIME = "{\n    let rt = HostRuntime;"
+MANIFEST = """# Written by bindings/erase from crates/{name}: do not edit.
+[package]
+name = "{name}"
+version.workspace = true
+edition.workspace = true
+rust-version.workspace = true
+license.workspace = true
+publish.workspace = true
+
+[dependencies]
+rattle = {{ path = "../../rattle"{features} }}
+"""
+
+# ---- Tokens ----
+
+TOKEN = re.compile(r"""(?P<blank>\s+|//(?![/!])[^\n]*|////[^\n]*)
+ |(?P<doc>//[/!][^\n]*)
+ |(?P<literal>b?"(?:[^"\\]|\\[nrt0\\"'\n]|\\x[0-9a-fA-F]{2}|\\u\{[0-9a-fA-F]+\})*"
+    |r\#"(?:[^"]|"(?!\#))*"\#
+    |b?'(?:[^'\\\n]|\\[nrt0\\"']|\\x[0-9a-fA-F]{2}|\\u\{[0-9a-fA-F]+\})')
+ |(?P<lifetime>'[a-z_]\w*)
+ |(?P<word>[A-Za-z_]\w*)
+ |(?P<number>(?:0x[0-9a-fA-F_]+|0b[01_]+|[0-9][0-9_]*)(?:u8|u16|u32|u64|u128|usize)?(?!\w|\.[0-9]))
+ |(?P<mark>::|->|=>|==|!=|<=|>=|&&|\|\||\.\.=|\.\.|[-+*/%&|^]=|<<|>>|[{}()\[\]<>,;:.=+\-*/%&|^!?\#])""",
+                   re.VERBOSE | re.ASCII)
+CLAUSE_HEAD = re.compile(r"\s+(?:[a-z_]\w*\s*)?(?=\{)")
+GHOST_USE = re.compile(r" use (?:[^;\"\n]|\n(?!\n))*?;")
+GHOST_MEMBER = re.compile(r" [A-Za-z_]\w*(:| =) (?=\{)")
+OPENING, CLOSING = {"(", "[", "{"}, {")", "]", "}"}
+Token = collections.namedtuple("Token", "kind text start end")
+
+
+class Refused(Exception):
+    """What the eraser does not know, with the place where it was met."""
+
+
+class Tokens:
+    """The tokens of a file, without clauses and ghosts, which are cut at once: their text is no Rust."""
+
+    def __init__(self, path, text):
+        self.path, self.text, self.tokens = path, text, []
+        self.cuts = []  # (start, end, what is written there)
+        self.signature, self.depth = None, 0  # the index of the `fn` whose signature is read
+        self.asking = {}  # the index of a `fn` with a `requires`, and where that is
+        position = 0
+        while position < len(text):
+            position = self.read(position)
+        self.tokens.append(Token("end", "", position, position))
+
+    def fail(self, why, start):
+        line = self.text.count("\n", 0, start) + 1
+        raise Refused(f"{self.path}:{line}: {why}")
+
+    def read(self, start):
+        """Reads a token, a clause or a ghost. The answer is where it ends."""
+        found = TOKEN.match(self.text, start)
+        if not found or self.text.startswith("/*", start):
+            self.fail(f"text that begins with {self.text[start:start + 12]!r}", start)
+        kind, word = found.lastgroup, found.group()
+        if kind == "blank":
+            return found.end()
+        if word in CLAUSES:
+            return self.clauses(start)
+        if word == "ghost":
+            return self.ghost(start, found.end())
+        if kind == "word" and self.tokens and self.tokens[-1].text == "fn":
+            self.signature, self.depth = len(self.tokens) - 1, 0
+        elif word in ("{", ";") and self.depth == 0:
+            self.signature = None
+        elif kind == "mark":
+            self.depth += (word in OPENING) - (word in CLOSING)
+        self.tokens.append(Token(kind, word, start, found.end()))
+        return found.end()
+
+    def clauses(self, start):
+        """Cuts all clauses of a function, up to its body."""
+        if self.signature is None or self.depth != 0:
+            self.fail("a clause outside of a signature", start)
+        position = start
+        while not self.text.startswith("{", position):
+            found = TOKEN.match(self.text, position)
+            word = found.group() if found else ""
+            if word in CLAUSES:
+                head = CLAUSE_HEAD.match(self.text, found.end()) or self.fail("a clause of this form", position)
+                if word == "requires":
+                    self.asking.setdefault(self.signature, position)
+                position = self.behind_braces(head.end())
+            elif found and found.lastgroup == "blank":
+                position = found.end()
+            else:
+                self.fail("clauses without a body", position)
+        self.cuts.append((self.tokens[-1].end, position, " "))
+        return position
+
+    def behind_braces(self, start):
+        depth = 0
+        for position, letter in enumerate(self.text[start:], start):
+            if letter in "\"'`" or self.text[position:position + 2] in ("--", "//", "/*", "{-"):
+                self.fail(f"{letter!r} in a clause", position)
+            depth += (letter == "{") - (letter == "}")
+            if depth == 0:
+                return position + 1
+        self.fail("a clause without end", start)
+
+    def ghost(self, start, behind):
+        """Cuts `ghost use ..;`, `ghost member = {..};` or `ghost field: {..},`."""
+        last = self.tokens[-1] if self.tokens else Token("doc", "", 0, 0)
+        at_an_item = last.text in ("{", "}", ";", ",") or last.kind == "doc"
+        if not at_an_item and not (last.text == "]" and self.text[start - 1] == "\n"):
+            self.fail("'ghost' in code", start)
+        imported, member = GHOST_USE.match(self.text, behind), GHOST_MEMBER.match(self.text, behind)
+        if imported and imported.group().count("{") == imported.group().count("}"):
+            end = imported.end()
+        else:
+            end = self.behind_braces(member.end()) + 1 if member else len(self.text)
+            if not member or self.text[end - 1:end] != (";" if member[1] == " =" else ","):
+                self.fail("a ghost of this form", start)
+        self.cuts.append((start, end, ""))
+        return end
+
+
+# ---- Items ----
+
+class File(Tokens):
+    """A source file: what is cut of it, and which names it gives and uses."""
+
+    def __init__(self, crate, path, of_tests):
+        with open(path, encoding="utf-8") as source:
+            super().__init__(os.path.relpath(path, crate.project.folder), source.read())
+        self.crate, self.of_tests, self.is_root = crate, of_tests, path == crate.root
+        self.children = os.path.dirname(path) if self.is_root else path[:-len(".rt")]
+        self.generics, self.imported, self.from_prelude = set(), {}, set()
+        self.uses, self.public_fields = [], []  # (where, kind of name, name), (where, name of the type)
+        self.first_kept = None
+        end = self.items(self.head(), None)
+        if self.tokens[end].kind != "end":
+            self.fail("a brace that closes nothing", self.start_of(end))
+
+    def at(self, index, *texts):
+        """Whether these tokens stand at an index."""
+        return [token.text for token in self.tokens[index:index + len(texts)]] == list(texts)
+
+    def start_of(self, index):
+        return self.tokens[index].start
+
+    def cut(self, first, behind, instead=""):
+        self.cuts.append((self.start_of(first), self.tokens[behind - 1].end, instead))
+
+    def matching(self, index):
+        """Behind the bracket that closes the one at an index."""
+        depth = 0
+        for place, token in enumerate(self.tokens[index:], index):
+            depth += (token.text in OPENING) - (token.text in CLOSING)
+            if depth == 0:
+                return place + 1
+        self.fail("a bracket without end", self.start_of(index))
+
+    def next_of(self, index, *texts):
+        """The first of these marks from an index on, outside of brackets that open before it."""
+        while not any(self.at(index, text) for text in texts):
+            if self.tokens[index].kind == "end":
+                self.fail("an item without end", len(self.text))
+            index = self.matching(index) if self.tokens[index].text in OPENING else index + 1
+        return index
+
+    def head(self):
+        """Behind the documentation and the attributes of the file itself."""
+        index = 0
+        while self.tokens[index].text.startswith("//!"):
+            index += 1
+        while self.at(index, "#", "!", "[", "tactic"):
+            self.cut(index, self.matching(index + 2))
+            index = self.matching(index + 2)
+        return index
+
+    def items(self, index, owner):
+        """Reads items up to the end of the file or of the braces of an impl: of a trait, of "impl" itself."""
+        while self.tokens[index].text not in ("}", ""):
+            item = types.SimpleNamespace(start=index, owner=owner, of_tests=False, is_test=False, public=False)
+            index = self.attributes(item)
+            if item.of_tests and not self.crate.project.with_tests:
+                end = self.next_of(index, ";", "{")
+                behind, kept = end + 1 if self.at(end, ";") else self.matching(end), False
+            else:
+                behind, kept = self.item(item, self.visibility(item, index))
+            if not kept:
+                self.cut(item.start, behind)
+            elif self.first_kept is None:
+                self.first_kept = self.start_of(item.start)
+            index = behind
+        return index
+
+    def item(self, item, index):
+        """Reads an item by its keyword. The answer is where it ends, and whether it is kept."""
+        item.keyword = index
+        words = FORMS if item.owner is None else ("fn", "const") if item.owner == "impl" else ("fn", "type")
+        if self.tokens[index].text not in words:
+            self.fail(f"an item {self.tokens[index].text!r}", self.start_of(index))
+        return FORMS[self.tokens[index].text](self, item)
+
+    def attributes(self, item):
+        """Reads documentation and attributes. The answer is the index behind them."""
+        index = item.start
+        while self.tokens[index].kind == "doc" or self.at(index, "#"):
+            if self.tokens[index].text.startswith("//!"):
+                self.fail("documentation of the file behind an item", self.start_of(index))
+            behind = self.matching(index + 1) if self.at(index, "#") else index + 1
+            if self.at(index, "#"):
+                self.attribute(item, index, behind)
+            index = behind
+        return index
+
+    def attribute(self, item, index, behind):
+        words = [token.text for token in self.tokens[index + 2:behind - 1]]
+        if words[:1] == ["tactic"]:
+            self.cut(index, behind)
+        elif words == ["cfg", "(", "test", ")"]:
+            item.of_tests = True
+        elif words == ["test"] and self.of_tests:
+            item.is_test = True
+        elif not words or words[0] not in ATTRIBUTES:
+            self.fail(f"an attribute {''.join(words[:1])!r}", self.start_of(index))
+        elif words[0] == "derive":
+            self.derive([word for word in words[1:] if word not in "(),"], index, behind)
+
+    def derive(self, names, index, behind):
+        for name in sorted(set(names) - DERIVES):
+            self.fail(f"a derive of {name!r}", self.start_of(index))
+        if "Drop" in names:
+            names.remove("Drop")
+            self.cut(index, behind, f"#[derive({', '.join(names)})]" if names else "")
+
+    def visibility(self, item, index):
+        if not self.at(index, "pub"):
+            return index
+        item.public = not self.at(index + 1, "(")
+        return index + 1 if item.public else self.matching(index + 1)
+
+    def angles(self, index):
+        """Parameters of an item: lifetimes, and names with bounds. The answer is the index behind them."""
+        if not self.at(index, "<"):
+            return index
+        behind = index + 1
+        while not self.at(behind, ">"):
+            token, before = self.tokens[behind], self.tokens[behind - 1].text
+            if token.kind == "mark" and token.text not in (",", ":", "+"):
+                self.fail("parameters of this form", token.start)
+            if before in (":", "+"):
+                self.uses.append((token.start, "a type", token.text))
+            elif token.kind == "word" and token.text not in ("_", "const"):
+                self.define(behind, self.generics)
+            behind += 1
+        return behind + 1
+
+    def define(self, index, names):
+        """Takes the name at an index as one of the crate's own."""
+        name = self.tokens[index].text
+        if self.tokens[index].kind != "word" or name in TAKEN:
+            self.fail(f"a definition of {name!r}", self.start_of(index))
+        names.add(name)
+        return name
+
+    # One function for one form: each answers where its item ends, and whether it is kept.
+    def import_(self, item):
+        first, end = item.keyword + 1, self.next_of(item.keyword, ";")
+        folder, name, rest = self.folder_at(first)
+        leaves = [index for index in range(rest, end)
+                  if self.tokens[index + 1].text in (",", "}", ";") and self.tokens[index].text not in (",", "}")]
+        for index in leaves:
+            if self.at(index - 1, "as") and (folder or not self.of_tests):
+                self.fail("an import under another name", self.start_of(index))
+            if folder:
+                self.allow(folder, name, index)
+                self.imported[self.tokens[index].text] = name
+            else:
+                self.import_of_crate(first, index)
+        if folder and folder[0] and folder[0] != name:
+            self.cut(first, rest - 1, folder[0])
+        return end + 1, not (folder and folder[0] is None)
+
+    def import_of_crate(self, first, index):
+        """An import of one name of this crate, or of one that it stands on."""
+        head = self.tokens[first].text
+        if head in self.crate.stands_on:
+            self.crate.used.add(self.crate.project.crate(head).name)
+        if self.of_tests:
+            return
+        if head not in self.crate.stands_on | self.crate.names | {"crate", "self", "super"}:
+            self.fail(f"an import from {head!r}", self.start_of(first))
+        self.define(index, set())
+        self.imported[self.tokens[index].text] = head
+
+    def folder_at(self, first):
+        """The folder of a library that a path begins with, its name, and the index of what is used of it."""
+        words, behind = [self.tokens[first].text], first + 1
+        if words[0] not in LIBRARIES or not self.at(behind, "::"):
+            return None, None, first
+        while self.at(behind, "::") and self.tokens[behind + 1].kind == "word":
+            words.append(self.tokens[behind + 1].text)
+            behind += 2
+        if not self.at(behind, "::"):
+            words, behind = words[:-1], behind - 2
+        name = "::".join(words)
+        folder = FOLDERS_OF_TESTS.get(name) if self.of_tests else None
+        folder = folder or FOLDERS.get(name) or self.fail(f"{name!r} is in no table", self.start_of(first))
+        return folder, name, behind + 1
+
+    def allow(self, folder, name, index):
+        if self.tokens[index].text not in folder[1]:
+            self.fail(f"'{name}::{self.tokens[index].text}' is in no table", self.start_of(index))
+
+    def module(self, item):
+        if not self.at(item.keyword + 2, ";"):
+            self.fail("a module of this form", self.start_of(item.keyword))
+        name = self.define(item.keyword + 1, self.crate.names)
+        return item.keyword + 3, self.crate.read_module(self, name, item.of_tests or self.of_tests)
+
+    def constant(self, item):
+        """`const`, `static` or `type`."""
+        self.define(item.keyword + 1, self.crate.names)
+        end = self.next_of(self.angles(item.keyword + 2), ";")
+        self.audit(item.keyword + 2, end)
+        return end + 1, True
+
+    def type_(self, item):
+        """`struct` or `enum`."""
+        name = self.define(item.keyword + 1, self.crate.names)
+        index = self.angles(item.keyword + 2)
+        if not self.at(index, "{") and not self.of_tests:
+            self.fail("a type without braces", self.start_of(item.keyword))
+        behind = self.matching(index) if self.at(index, "{") else self.next_of(index, ";") + 1
+        depth = 0
+        for place in range(index, behind):
+            depth += (self.tokens[place].text in OPENING) - (self.tokens[place].text in CLOSING)
+            if depth == 1 and self.at(item.keyword, "enum") and self.tokens[place].kind == "word":
+                self.define(place, self.crate.names)
+            elif self.at(place, "pub") and not self.at(place + 1, "("):
+                self.public_fields.append((self.start_of(place), name))
+        if any(self.start_of(index) < cut[0] < self.start_of(behind - 1) for cut in self.cuts):
+            self.crate.guarded.add(name)
+        self.audit(index, behind, {"pub"})
+        return behind, True
+
+    def function(self, item):
+        index = self.angles(item.keyword + 2)
+        if not self.at(index, "("):
+            self.fail("a function of this form", self.start_of(item.keyword))
+        body = self.next_of(index, "{")
+        behind = self.matching(body)
+        nothing = body == index + 2 and behind == body + 2
+        if nothing and not (item.public or item.is_test or item.owner):
+            return behind, False  # a law: only its clauses say something
+        name = self.define(item.keyword + 1, self.crate.functions)
+        anyone = item.public or item.owner not in (None, "impl")
+        if anyone and item.keyword in self.asking and not self.crate.is_program and not self.of_tests:
+            self.fail(f"a 'requires' of {name!r}, which anyone may call", self.asking[item.keyword])
+        if item.is_test or self.is_root and name == "main":
+            self.take_runtime(index, body)
+        self.audit(index, body, {"impl"})
+        self.audit(body, behind)
+        return behind, True
+
+    def take_runtime(self, index, body):
+        """Makes the parameter `rt` a statement."""
+        if self.at(index, "(", ")"):
+            return
+        if not self.at(index, "(", "rt", ":", "HostRuntime", ")"):
+            self.fail("other parameters than 'rt'", self.start_of(index))
+        self.cut(index + 1, index + 4)
+        self.cut(body, body + 1, RUNTIME)
+
+    def implementation(self, item):
+        index = self.angles(item.keyword + 1)
+        trait = self.tokens[index].text if self.at(index + 1, "for") else None
+        index += 2 if trait else 0
+        name = self.tokens[index].text
+        self.uses.append((self.start_of(index), "a type", name))
+        index = self.angles(index + 1)
+        if not self.at(index, "{"):
+            self.fail("an impl of this form", self.start_of(item.keyword))
+        if trait == "Model":
+            self.crate.guarded.add(name)
+            if not self.at(index + 1, "}"):
+                self.fail("a member of Model that is no ghost", self.start_of(index + 1))
+            return index + 2, False
+        if trait and trait not in TRAITS and not (self.of_tests and trait in TRAITS_OF_TESTS):
+            self.fail(f"an impl of {trait!r}", self.start_of(item.keyword))
+        if self.first_kept is None:
+            self.first_kept = self.start_of(item.start)
+        return self.items(index + 1, trait or "impl") + 1, True
+
+    # ---- Names in code ----
+
+    def audit(self, index, behind, allowed=()):
+        """Looks at every name from an index on. An item is refused there, but for words that are allowed."""
+        while index < behind:
+            token = self.tokens[index]
+            if token.text == "#":
+                if "pub" not in allowed or self.tokens[index + 2].text not in ATTRIBUTES:
+                    self.fail("an attribute in code", token.start)  # it may stand before fields and variants
+                index = self.matching(index + 1)
+            elif token.kind != "word":
+                index += 1
+            elif token.text in ITEM_WORDS and token.text not in allowed and not self.of_tests:
+                self.fail(f"an item {token.text!r} in code", token.start)
+            else:
+                index = self.path_of_names(index)
+
+    def path_of_names(self, first):
+        """Looks at the path that begins at an index. The answer is the index behind it."""
+        word, last = self.tokens[first].text, first
+        while self.at(last + 1, "::") and self.tokens[last + 2].kind == "word":
+            last += 2
+        if word in LIBRARIES and last > first:
+            folder, name, index = self.folder_at(first)
+            self.allow(folder, name, index)
+            if folder[0] != name:
+                self.cut(first, index - 1, folder[0] or self.fail(f"{name!r} in code", self.start_of(first)))
+        elif self.of_tests:
+            self.name_in_tests(first)
+        elif word in REFUSED_WORDS or self.at(last + 1, "::"):
+            self.fail(f"{word!r} in code", self.start_of(first))
+        else:
+            self.name(first, last)
+        return last + 1
+
+    def name_in_tests(self, index):
+        """Only `expect` is another function there: it is given the runtime, to end the test by."""
+        if self.at(index - 1, ".") and self.tokens[index].text in ("expect", "expect_err"):
+            runtime = index + 3 if self.at(index + 2, "&") else index + 2
+            if not self.at(runtime, "rt", ","):
+                self.fail("'expect' without 'rt'", self.start_of(index))
+            self.cuts.append((self.start_of(index + 2), self.start_of(runtime + 2), ""))
+
+    def name(self, first, last):
+        start, head = self.start_of(first), self.tokens[first].text
+        name = "".join(token.text for token in self.tokens[first:last + 1])
+        called = self.at(last + 1, "(")
+        if head in PRELUDE:
+            self.from_prelude.add(head)
+        if self.at(last + 1, "!") and self.tokens[last + 2].text in OPENING:
+            if name not in MACROS or name == "json" and self.imported.get(name) != "serde_json":
+                self.fail(f"a macro {name!r}", start)
+        elif self.at(first - 1, "."):
+            self.uses += [(start, "a method", name)] if called else []
+        elif self.at(first - 1, "as") and name not in NUMBERS:
+            self.fail(f"'as {name}'", start)
+        elif head not in ("crate", "self", "super") and name not in KEYWORDS:
+            kind = "a path" if last > first else "a function" if called else "a type"
+            self.uses += [(start, kind, name)] if kind != "a type" or name[0].isupper() else []
+
+    def check(self):
+        """Refuses what can be seen to be wrong when all files are read."""
+        for start, kind, name in self.uses:
+            if not self.is_known(kind, name):
+                self.fail(f"{kind} {name!r} that is in no table", start)
+        for start, name in self.public_fields:
+            if name in self.crate.guarded and not (self.crate.is_program or self.of_tests):
+                self.fail(f"a public field of {name!r}, which has ghosts", start)
+
+    def is_known(self, kind, name):
+        crate, head = self.crate, name.split("::")[0]
+        if kind == "a method":
+            return name in METHODS or any(name in other.functions for other in crate.and_below())
+        if head in crate.names | self.generics | crate.stands_on | {"Self"}:
+            return True
+        if kind == "a path":
+            return name in ASSOCIATED or self.imported.get(head) in crate.stands_on
+        if kind == "a function":
+            return name in NAMES or name in crate.functions or self.imported.get(head) in crate.stands_on
+        return name in NAMES | PRELUDE | NUMBERS or name in self.imported
+
+    # ---- Output ----
+
+    def plain(self):
+        """The text of the file in Rust."""
+        no_std, names = "" if self.crate.is_program else "#![no_std]\n", ", ".join(sorted(self.from_prelude))
+        inserted = CRATE_ATTRIBUTES + no_std + "\n" if self.is_root else ""
+        if self.of_tests:
+            inserted += FOR_TESTS
+        elif names:
+            inserted += f"use rattle::{{{names}}};\n" if "," in names else f"use rattle::{names};\n"
+        at = self.first_kept if self.first_kept is not None else len(self.text)
+        text, last = "", 0
+        for start, end, instead in sorted(self.outer_cuts() + [(at, at, inserted)]):
+            start, end = self.with_lines(start, end, instead, last)
+            text += self.text[last:start]
+            if not instead and text.endswith(("\n\n", "{\n")) and self.text.startswith("\n", end):
+                end += 1  # of two empty lines one is left
+            text, last = text + instead, max(end, last)
+            if text.endswith("\n\n") and self.text[last:].lstrip(" ").startswith("}"):
+                text = text[:-1]
+        return ORIGIN.format(self.path) + "\n" + (text + self.text[last:]).strip("\n") + "\n"
+
+    def outer_cuts(self):
+        """The cuts that lie in no other."""
+        outer = []
+        for cut in sorted(self.cuts, key=lambda cut: (cut[0], -cut[1])):
+            if not outer or cut[0] >= outer[-1][1]:
+                outer.append(cut)
+            elif cut[1] > outer[-1][1]:
+                self.fail("two pieces to cut that overlap", cut[0])
+        return outer
+
+    def with_lines(self, start, end, instead, last):
+        """The piece with the rest of its lines, where it is all that stands there."""
+        line = self.text.rfind("\n", 0, start) + 1
+        whole = not instead and start < end and line >= last and not self.text[line:start].strip()
+        return (line, end + 1) if whole and self.text.startswith("\n", end) else (start, end)
+
+
+FORMS = {
+    "use": File.import_, "mod": File.module, "const": File.constant, "static": File.constant, "type": File.constant,
+    "struct": File.type_, "enum": File.type_, "fn": File.function, "impl": File.implementation,
+}
+ITEM_WORDS = set(FORMS) | {"pub"}
+
+class Crate:
+    """The files of a crate, and the names that they give."""
+
+    def __init__(self, project, name, of_tests):
+        self.project, self.name, self.of_tests = project, name, of_tests
+        self.stands_on, self.used = project.libraries[name], set()
+        self.folder = os.path.join(project.folder, "crates", name, "src")
+        self.is_program = os.path.exists(os.path.join(self.folder, "main.rt"))
+        self.root = os.path.join(self.folder, "main.rt" if self.is_program else "lib.rt")
+        self.names, self.functions, self.guarded = set(), set(), set()  # guarded: types with ghosts
+        self.files = {}
+        self.files[self.root] = File(self, self.root, of_tests)
+        for file in self.files.values():
+            file.check()
+
+    def read_module(self, parent, name, of_tests):
+        """Reads the file of a module. The answer is whether anything is kept of it."""
+        path = os.path.join(parent.children, name + ".rt")
+        if not os.path.exists(path):
+            raise Refused(f"{parent.path}: no file for the module {name!r}")
+        file = File(self, path, of_tests)
+        kept = file.first_kept is not None
+        self.files.update({path: file} if kept else {})
+        return kept
+
+    def and_below(self):
+        return [self] + [self.project.crate(name) for name in self.used]
+
+    def manifest(self):
+        feature = "testing" if self.project.with_tests else "program" if self.is_program else None
+        text = f', features = ["{feature}"]' if feature else ""
+        lines = [f'{name} = {{ path = "../{name}" }}\n' for name in sorted(self.used)]
+        return MANIFEST.format(name=self.name, features=text) + "".join(lines)
+
+    def write(self, out):
+        shutil.rmtree(os.path.join(out, "src"), ignore_errors=True)
+        write(os.path.join(out, "Cargo.toml"), self.manifest())
+        for path, file in self.files.items():
+            relative = os.path.relpath(path, self.folder)[:-len(".rt")] + ".rs"
+            write(os.path.join(out, "src", relative), file.plain())
+
+
+class Project:
+    """The crates of a project. Those that are written are those that a program stands on, and the programs."""
+
+    def __init__(self, folder, with_tests=False, kept=None):
+        self.folder, self.with_tests = os.path.abspath(folder), with_tests
+        with open(os.path.join(folder, "crates.txt"), encoding="utf-8") as table:
+            lines = [line.split(":") for line in table if line.strip() and not line.startswith("#")]
+        self.libraries = {name.strip(): set(below.split()) - LIBRARIES for name, below in lines}
+        self.kept, self.crates = kept if kept is not None else self.libraries, {}
+        for name in self.libraries:
+            if with_tests or os.path.exists(os.path.join(self.folder, "crates", name, "src", "main.rt")):
+                self.crate(name)
+
+    def crate(self, name):
+        if name not in self.crates:
+            self.crates[name] = Crate(self, name, name not in self.kept)
+        return self.crates[name]
+
+
+def write(path, text):
+    os.makedirs(os.path.dirname(path), exist_ok=True)
+    with open(path, "w", encoding="utf-8") as file:
+        file.write(text)
+
+
+def erase(folder, out, with_tests):
+    """Writes the crates of a project. The answer is which."""
+    project = Project(folder)
+    if with_tests:
+        project = Project(folder, True, set(project.crates))
+    for name, crate in project.crates.items():
+        crate.write(os.path.join(out, name))
+    return project.crates
+
+
+def main():
+    arguments = [word for word in sys.argv[1:] if word != "--tests"]
+    if len(arguments) != 2 or any(word.startswith("-") for word in arguments):
+        sys.exit(__doc__)
+    try:
+        for name, crate in erase(*arguments, "--tests" in sys.argv).items():
+            print(f"{name}: {len(crate.files)} files")
+    except Refused as refused:
+        sys.exit(f"refused: {refused}")
+
+
+if __name__ == "__main__":
+    main()

@@ -1,0 +1,187 @@
+#!/usr/bin/env python3
+"""A second eraser, which shares nothing with the first and says whether that did right.
+
+    erase_by_lines.py PROJECT GENERATED
+
+It goes by lines, on the layout that `rt fmt` gives the sources, where the first goes by tokens: a line
+that begins a clause, a ghost, a test or a model goes up to where its braces close. What is left of each
+source is compared with what the first eraser wrote to GENERATED: each token, and each line that is a
+comment. It ends with status 1 at any difference, and where a file is on one side alone."""
+import os
+import re
+import sys
+
+TOKEN = re.compile(r"""r\#".*?"\#|b?"(?:[^"\\]|\\.)*"|b?'(?:[^'\\]|\\.)'|\w+|[^\w\s]""", re.DOTALL)
+CLAUSE = ("requires ", "ensures ", "ghost ")
+# What is written otherwise, in this order.
+CHANGED = [
+    ("use std::marker::Model;", ""),
+    ("std::alloc::", "rattle::"),
+    ("std::collections::", "rattle::"),
+    ("std::cmp::", "core::cmp::"),
+    ("std::result::", "core::result::"),
+    ("std::simd::prelude::", "rattle::simd::"),
+    ("serde_json::", "rattle::"),
+    ("thiserror::", "rattle::"),
+    ("fn main(rt: HostRuntime) -> ExitCode {", "fn main() -> ExitCode { let rt = HostRuntime;"),
+]
+PRELUDE = ("Box", "HostRuntime", "Vec")
+CRATE_LINES = (
+    "#![forbid(unsafe_code)]", "#![no_std]", "// What only proofs and tests use is kept as it is.",
+    "#![allow(dead_code, unused_assignments, unused_imports, unused_variables)]",
+)
+
+
+def lines_of(path):
+    with open(path, encoding="utf-8") as file:
+        return file.read().split("\n")
+
+
+def block_end(lines, index):
+    """Behind the line at which the braces are closed that the line at an index opens."""
+    depth = 0
+    while True:
+        depth += lines[index].count("{") - lines[index].count("}")
+        index += 1
+        if depth <= 0:
+            return index
+
+
+def item_end(lines, index):
+    """Behind the item whose first attribute stands at an index."""
+    while lines[index].strip().startswith(("#[", "//")):
+        index += 1
+    return index + 1 if lines[index].strip().endswith(";") else block_end(lines, index)
+
+
+def law_end(lines, index):
+    """Behind the law that begins at an index: a function of nothing that does nothing. None: there is none."""
+    if re.match(r"fn \w+\(\) \{\}$", lines[index]):
+        return index + 1
+    if not re.match(r"fn \w+\(\)$", lines[index]):
+        return None
+    index += 1
+    while lines[index].strip().startswith(CLAUSE):
+        index = block_end(lines, index)
+    return index + 1 if lines[index] == "{}" else None
+
+
+def without_drop(line):
+    """A line without the derive of `Drop`."""
+    found = re.match(r"(\s*)#\[derive\((.*)\)\]$", line)
+    names = [name for name in found[2].split(", ") if name != "Drop"] if found else []
+    return line if not found else f"{found[1]}#[derive({', '.join(names)})]" if names else ""
+
+
+def drop_front(kept, beginnings):
+    """Takes what stands before a piece that goes from the end of what is kept, since it is about that."""
+    while kept and kept[-1].strip().startswith(beginnings):
+        kept.pop()
+
+
+def erased(lines):
+    """The lines of a source that are for Rust."""
+    kept, index = [], 0
+    while index < len(lines):
+        line = lines[index].strip()
+        end = law_end(lines, index)
+        if line == "#[cfg(test)]":
+            end = item_end(lines, index)
+        elif re.match(r"impl(<[^>]*>)? Model for ", line):
+            end = block_end(lines, index)
+        if end:
+            drop_front(kept, ("///", "#["))
+        elif line.startswith(CLAUSE):
+            drop_front(kept, ("// ",))
+            end = block_end(lines, index)
+        elif not line.startswith(("#[tactic", "#![tactic")):
+            kept.append(without_drop(lines[index]))
+        index = end or index + 1
+    return kept
+
+
+def tokens(lines):
+    """The tokens of lines; a line that is a comment is one."""
+    found, code = [], []
+    for line in lines + ["//"]:
+        if line.strip().startswith("//"):
+            found += TOKEN.findall("\n".join(code)) + [line.strip()]
+            code = []
+        else:
+            code.append(line)
+    return found[:-1]
+
+
+def modules(folder, name, found):
+    """Erases a module and those in it; `found` gets the lines of each. The answer is whether there is any code."""
+    kept = erased(lines_of(os.path.join(folder, name + ".rt")))
+    inside = folder if name in ("lib", "main") else os.path.join(folder, name)
+    for line in list(kept):
+        module = re.match(r"(?:pub(?:\(\w+\))? )?mod (\w+);$", line)
+        if module and not modules(inside, module[1], found):
+            kept.remove(line)
+    has_code = any(not token.startswith("//") for token in tokens(kept))
+    if has_code:
+        found[os.path.join(folder, name)] = kept
+    return has_code
+
+
+def expected(lines):
+    """The tokens that the first eraser has to have written, and what of Rattle's prelude it has to import."""
+    text = "\n".join(lines)
+    for old, new in CHANGED:
+        text = text.replace(old, new)
+    code = re.sub(r"//.*", "", text).replace("let rt = HostRuntime", "rt: HostRuntime")
+    return tokens(text.split("\n")), [name for name in PRELUDE if re.search(rf"\b{name}\b", code)]
+
+
+def written(path):
+    """The tokens that the first eraser wrote, its own lines aside, and what it imports of Rattle's prelude."""
+    imported, kept = [], []
+    for line in lines_of(path)[1:]:
+        found = re.match(r"use rattle::\{?([\w, ]+)\}?;$", line)
+        if found and not imported and set(found[1].split(", ")) <= set(PRELUDE):
+            imported = found[1].split(", ")
+        elif line not in CRATE_LINES:
+            kept.append(line)
+    return tokens(kept), imported
+
+
+def compare(source, plain):
+    """Compares a crate. The answer is how many files, tokens and differences there are."""
+    found = {}
+    modules(source, "main" if os.path.exists(os.path.join(source, "main.rt")) else "lib", found)
+    want = {os.path.relpath(path, source) + ".rs": expected(lines) for path, lines in found.items()}
+    have = {os.path.relpath(os.path.join(folder, name), plain): written(os.path.join(folder, name))
+            for folder, _, names in os.walk(plain) for name in names}
+    differences = 0
+    for name in sorted(set(want) | set(have)):
+        if want.get(name) != have.get(name):
+            differences += 1
+            show(name, want.get(name), have.get(name))
+    return len(have), sum(len(tokens) for tokens, _ in have.values()), differences
+
+
+def show(name, want, have):
+    if want is None or have is None:
+        print(f"{name}: only {'written' if want is None else 'expected'}")
+        return
+    at = next((place for place, pair in enumerate(zip(want[0], have[0])) if pair[0] != pair[1]), 0)
+    print(f"{name}: expected {want[1]} and {want[0][at:at + 9]}, written {have[1]} and {have[0][at:at + 9]}")
+
+
+def main():
+    if len(sys.argv) != 3:
+        sys.exit(__doc__)
+    project, generated = sys.argv[1:]
+    all_differences = 0
+    for name in sorted(os.listdir(generated)):
+        source = os.path.join(project, "crates", name, "src")
+        files, count, differences = compare(source, os.path.join(generated, name, "src"))
+        all_differences += differences
+        print(f"{name}: {files} files, {count} tokens, {differences} files differ")
+    sys.exit(all_differences > 0)
+
+
+if __name__ == "__main__":
+    main()

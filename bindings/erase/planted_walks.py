@@ -1,0 +1,82 @@
+#!/usr/bin/env python3
+"""Plants the bodies of tests/count_rule_bodies that walk without counting, and runs each.
+
+    planted_walks.py PROJECT SCRATCH
+
+Each is planted in a copy of the sources, which is erased, built and run by bindings/rust/box_count in the
+folder SCRATCH. That has to end with a failure: by running it is seen that boxes are followed which nobody
+counts. A body that the list accepts has to pass. Bodies that are refused for how they write the count
+walk no further than before, and are not run; nor are those that the eraser refuses, and the few below
+that no run can tell. It ends with status 1 where a body is taken otherwise."""
+import collections
+import os
+import re
+import subprocess
+import sys
+
+import erase
+import planting
+import scratch_workspace
+
+LIST = os.path.join("tests", "count_rule_bodies")
+SOURCES = os.path.join("crates", "vm_allocator", "src")
+# What the list says of bodies that walk; those that write the count wrongly have other reasons.
+OF_WALKS = re.compile("takes no counter|call into walks|calls into walks|begins a|calls another one|a loop|a closure|more than"
+                      "|which this rule does not know|named and not called")
+# Bodies that no run can tell from what stood there before.
+UNSEEN = {
+    "closure_behind_a_reference": "it follows no box",
+    "closure_in_an_arm": "it follows no box",
+    "closure_that_moves": "it follows no box",
+    "function_that_counts_by_its_name": "it is the same call",
+    "loop_in_a_range": "it follows no box",
+    "loop_outside_node": "it follows no box",
+    "loop_over_numbers": "it follows no box",
+    "plain_release_of_a_tree_counts_first": "no public call comes there",
+}
+
+
+def passes(program):
+    """Whether the counter of boxes passes, and before long."""
+    try:
+        return subprocess.run([program], capture_output=True, timeout=60, check=False).returncode == 0
+    except subprocess.TimeoutExpired:
+        return False
+
+
+def outcome(body, project, scratch):
+    """What comes of a body: 'refused by the eraser', 'not built', 'seen' or 'not seen'."""
+    copy, workspace, target = (os.path.join(scratch, name) for name in ("project", "rust", "target"))
+    planting.plant(body, project, copy, SOURCES)
+    try:
+        erase.erase(copy, os.path.join(workspace, "generated"), False)
+    except erase.Refused as refused:
+        return f"refused by the eraser, {refused}"
+    built, said = planting.cargo(os.path.join(workspace, "box_count"), target, "build")
+    if not built:
+        return f"not built, {said.strip()[:200]}"
+    return "not seen" if passes(os.path.join(target, "debug", "box_count")) else "seen"
+
+
+def main():
+    if len(sys.argv) != 3:
+        sys.exit(__doc__)
+    project, scratch = map(os.path.abspath, sys.argv[1:])
+    scratch_workspace.make(project, os.path.join(scratch, "rust"))
+    wrong, found = 0, collections.Counter()
+    for body in planting.bodies(os.path.join(project, LIST)):
+        refused = body.rest.get("refused")
+        if body.name in UNSEEN or refused and not OF_WALKS.search(refused):
+            found["not run"] += 1
+            continue
+        came = outcome(body, project, scratch)
+        found[came.split(",")[0]] += 1
+        if not came.startswith(("seen" if refused else "not seen", "refused")):
+            wrong += 1
+            print(f"{body.name}: {came}, which is wrong", flush=True)
+    print(", ".join(f"{count} {came}" for came, count in found.items()))
+    sys.exit(wrong > 0)
+
+
+if __name__ == "__main__":
+    main()

@@ -1,0 +1,29 @@
+//! Nanoseconds a call, with 10^3 to 10^5 ranges or ids held: `cargo bench`. Without `--bench`, as
+//! `cargo test` starts it, it makes one short round to show that it works.
+
+mod workload;
+
+use workload::{library, Call, Devices};
+
+library!(Divsharun, divsharun);
+
+fn main() {
+    let is_short = !std::env::args().any(|argument| argument == "--bench");
+    let (counts, rounds): (&[u64], u64) = match is_short {
+        true => (&[1_000], 1),
+        false => (&[1_000, 10_000, 100_000], 21),
+    };
+    let heads: Vec<String> = counts.iter().map(|count| format!("{count} held")).collect();
+    println!("| call | {} |", heads.join(" | "));
+    println!("|---{}|", "|---".repeat(counts.len()));
+    let devices: Vec<Devices> = counts.iter().map(|count| Devices::new(*count)).collect();
+    for call in Call::ALL {
+        let times: Vec<String> = devices
+            .iter()
+            .map(|devices| devices.measure::<Divsharun>(call, rounds))
+            .inspect(|measured| assert!(measured.answers.iter().all(Result::is_ok)))
+            .map(|measured| format!("{:.0} ns", measured.nanoseconds))
+            .collect();
+        println!("| {call} | {} |", times.join(" | "));
+    }
+}

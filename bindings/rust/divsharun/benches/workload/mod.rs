@@ -1,0 +1,293 @@
+//! What is measured of a library that gives out ranges and ids: the time of a call while many
+//! ranges or ids are held. The same calls are made of each library, and their answers are kept, so
+//! that two can be held against each other.
+
+use std::fmt;
+use std::hint::black_box;
+use std::time::Instant;
+
+/// Where a range is asked for.
+#[derive(Clone, Copy, Debug)]
+pub enum Place {
+    First,
+    Last,
+    Exact(u64),
+}
+
+/// What a call answers: the ends of a range, or the text of an error.
+pub type Answer = Result<(u64, u64), String>;
+
+/// A library that is measured.
+pub trait Library {
+    type Space: Clone;
+    type Ids: Clone;
+
+    fn space(base: u64, size: u64) -> Self::Space;
+    fn allocate(space: &mut Self::Space, size: u64, alignment: u64, place: Place) -> Answer;
+    fn free(space: &mut Self::Space, range: (u64, u64)) -> Answer;
+    fn ids(base: u32, end: u32) -> Self::Ids;
+    fn allocate_id(ids: &mut Self::Ids) -> Answer;
+    fn free_id(ids: &mut Self::Ids, id: u32) -> Answer;
+}
+
+/// A library by the name of its crate, which has the names of `vm-allocator`.
+macro_rules! library {
+    ($name:ident, $library:ident) => {
+        pub struct $name;
+
+        impl $crate::workload::Library for $name {
+            type Space = $library::AddressAllocator;
+            type Ids = $library::IdAllocator;
+
+            fn space(base: u64, size: u64) -> Self::Space {
+                $library::AddressAllocator::new(base, size).expect("a space")
+            }
+
+            fn allocate(
+                space: &mut Self::Space,
+                size: u64,
+                alignment: u64,
+                place: $crate::workload::Place,
+            ) -> $crate::workload::Answer {
+                let policy = match place {
+                    $crate::workload::Place::First => $library::AllocPolicy::FirstMatch,
+                    $crate::workload::Place::Last => $library::AllocPolicy::LastMatch,
+                    $crate::workload::Place::Exact(at) => $library::AllocPolicy::ExactMatch(at),
+                };
+                match space.allocate(size, alignment, policy) {
+                    Ok(range) => Ok((range.start(), range.end())),
+                    Err(error) => Err(error.to_string()),
+                }
+            }
+
+            fn free(space: &mut Self::Space, range: (u64, u64)) -> $crate::workload::Answer {
+                let key = $library::RangeInclusive::new(range.0, range.1).expect("a range");
+                match space.free(&key) {
+                    Ok(()) => Ok(range),
+                    Err(error) => Err(error.to_string()),
+                }
+            }
+
+            fn ids(base: u32, end: u32) -> Self::Ids {
+                $library::IdAllocator::new(base, end).expect("ids")
+            }
+
+            fn allocate_id(ids: &mut Self::Ids) -> $crate::workload::Answer {
+                match ids.allocate_id() {
+                    Ok(id) => Ok((id.into(), id.into())),
+                    Err(error) => Err(error.to_string()),
+                }
+            }
+
+            fn free_id(ids: &mut Self::Ids, id: u32) -> $crate::workload::Answer {
+                match ids.free_id(id) {
+                    Ok(id) => Ok((id.into(), id.into())),
+                    Err(error) => Err(error.to_string()),
+                }
+            }
+        }
+    };
+}
+pub(crate) use library;
+
+/// Numbers that look as if they came by chance, the same ones for the same seed.
+pub struct Draw(u64);
+
+impl Draw {
+    pub fn from_seed(seed: u64) -> Self {
+        Draw(seed.wrapping_mul(0x9e37_79b9_7f4a_7c15) | 1)
+    }
+
+    /// A number below `bound`.
+    pub fn below(&mut self, bound: u64) -> u64 {
+        self.0 ^= self.0 << 13;
+        self.0 ^= self.0 >> 7;
+        self.0 ^= self.0 << 17;
+        (self.0 >> 11) % bound
+    }
+
+    /// The same items in another order.
+    pub fn shuffle<T>(&mut self, items: &mut [T]) {
+        for last in (1..items.len()).rev() {
+            items.swap(last, self.below(last as u64 + 1) as usize);
+        }
+    }
+}
+
+/// A call that is measured.
+#[derive(Clone, Copy, Debug, PartialEq, Eq)]
+pub enum Call {
+    Exact,
+    First,
+    Last,
+    Free,
+    AllocateId,
+    FreeId,
+}
+
+impl Call {
+    pub const ALL: [Call; 6] = [
+        Call::Exact,
+        Call::First,
+        Call::Last,
+        Call::Free,
+        Call::AllocateId,
+        Call::FreeId,
+    ];
+}
+
+impl fmt::Display for Call {
+    fn fmt(&self, f: &mut fmt::Formatter<'_>) -> fmt::Result {
+        f.write_str(match self {
+            Call::Exact => "`allocate`, `ExactMatch`",
+            Call::First => "`allocate`, `FirstMatch`",
+            Call::Last => "`allocate`, `LastMatch`",
+            Call::Free => "`free`",
+            Call::AllocateId => "`allocate_id`",
+            Call::FreeId => "`free_id`",
+        })
+    }
+}
+
+/// What was measured of a call.
+pub struct Measured {
+    /// The middle one of the times of a call, in nanoseconds.
+    pub nanoseconds: f64,
+    /// The answers of all rounds.
+    pub answers: Vec<Answer>,
+}
+
+/// Devices of 4 KiB to 32 KiB, each at the next multiple of its size, in a space that ends with the
+/// last one.
+pub struct Devices {
+    end: u64,
+    ranges: Vec<(u64, u64)>,
+    // Those that are given back and asked for again, each time in another order.
+    moved: Vec<(u64, u64)>,
+}
+
+/// The first address of the space of devices.
+const BASE: u64 = 1 << 40;
+
+impl Devices {
+    /// So many devices, of which the tenth part moves, at most a thousand.
+    pub fn new(count: u64) -> Self {
+        let mut draw = Draw::from_seed(count);
+        let mut next = BASE;
+        let mut ranges: Vec<(u64, u64)> = (0..count)
+            .map(|_| {
+                let size = 4096 << draw.below(4);
+                let start = next.next_multiple_of(size);
+                next = start + size;
+                (start, next - 1)
+            })
+            .collect();
+        draw.shuffle(&mut ranges);
+        let moved = ranges[..(count as usize / 10).min(1000)].to_vec();
+        Devices {
+            end: next,
+            ranges,
+            moved,
+        }
+    }
+
+    /// The space with all devices in it.
+    fn full<L: Library>(&self) -> L::Space {
+        let mut space = L::space(BASE, self.end - BASE);
+        for range in &self.ranges {
+            let size = size_of(range);
+            L::allocate(&mut space, size, size, Place::Exact(range.0)).expect("it is clear");
+        }
+        space
+    }
+
+    /// The time of a call, in so many rounds.
+    pub fn measure<L: Library>(&self, call: Call, rounds: u64) -> Measured {
+        match call {
+            Call::AllocateId | Call::FreeId => self.measure_ids::<L>(call, rounds),
+            _ => self.measure_ranges::<L>(call, rounds),
+        }
+    }
+
+    fn measure_ranges<L: Library>(&self, call: Call, rounds: u64) -> Measured {
+        let full = self.full::<L>();
+        let mut timing = Timing::default();
+        for round in 0..rounds {
+            let mut draw = Draw::from_seed(round);
+            let mut moved = self.moved.clone();
+            let mut space = full.clone();
+            draw.shuffle(&mut moved);
+            timing.of(call == Call::Free, &moved, |range| {
+                L::free(&mut space, *range)
+            });
+            draw.shuffle(&mut moved);
+            // The largest first, so that each has a place.
+            moved.sort_by_key(|range| u64::MAX - size_of(range));
+            timing.of(call != Call::Free, &moved, |range| {
+                let place = match call {
+                    Call::First => Place::First,
+                    Call::Last => Place::Last,
+                    _ => Place::Exact(range.0),
+                };
+                L::allocate(&mut space, size_of(range), size_of(range), place)
+            });
+        }
+        timing.done()
+    }
+
+    fn measure_ids<L: Library>(&self, call: Call, rounds: u64) -> Measured {
+        let count = self.ranges.len() as u32;
+        let mut full = L::ids(0, count);
+        for _ in 0..count {
+            L::allocate_id(&mut full).expect("an id is left");
+        }
+        let mut timing = Timing::default();
+        for round in 0..rounds {
+            let mut draw = Draw::from_seed(round);
+            let mut ids = full.clone();
+            let mut all: Vec<u32> = (0..count).collect();
+            draw.shuffle(&mut all);
+            let moved = &all[..self.moved.len()];
+            timing.of(call == Call::FreeId, moved, |id| L::free_id(&mut ids, *id));
+            timing.of(call == Call::AllocateId, moved, |_| {
+                L::allocate_id(&mut ids)
+            });
+        }
+        timing.done()
+    }
+}
+
+fn size_of(range: &(u64, u64)) -> u64 {
+    range.1 - range.0 + 1
+}
+
+/// The times of the rounds, and the answers.
+#[derive(Default)]
+struct Timing {
+    rounds: Vec<f64>,
+    answers: Vec<Answer>,
+}
+
+impl Timing {
+    /// Makes a call for each item, and keeps the time where it is asked for.
+    fn of<T>(&mut self, is_asked: bool, items: &[T], mut call: impl FnMut(&T) -> Answer) {
+        self.answers.reserve(items.len());
+        let start = Instant::now();
+        for item in items {
+            self.answers.push(call(black_box(item)));
+        }
+        let time = start.elapsed();
+        if is_asked {
+            self.rounds
+                .push(time.as_nanos() as f64 / items.len() as f64);
+        }
+    }
+
+    fn done(mut self) -> Measured {
+        self.rounds.sort_by(f64::total_cmp);
+        Measured {
+            nanoseconds: self.rounds[self.rounds.len() / 2],
+            answers: self.answers,
+        }
+    }
+}

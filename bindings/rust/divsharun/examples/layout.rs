@@ -1,0 +1,22 @@
+//! Writes the address space of a machine as /proc/iomem has it, with the names of its devices.
+
+use divsharun::{AddressAllocator, AllocPolicy, Result};
+
+fn main() -> Result<()> {
+    let mut ports = AddressAllocator::new(0xc000, 0x1000)?;
+    ports.allocate(0x20, 0x20, AllocPolicy::FirstMatch)?;
+    println!("{}\n", ports.layout());
+
+    let mut mmio = AddressAllocator::new(0xd000_0000, 0x1000_0000)?;
+    let disk = mmio.allocate(0x1000, 0x1000, AllocPolicy::FirstMatch)?;
+    let network = mmio.allocate(0x1000, 0x1000, AllocPolicy::FirstMatch)?;
+    let card = mmio.allocate(0x100_0000, 0x100_0000, AllocPolicy::LastMatch)?;
+    mmio.allocate(0x1000, 0x1000, AllocPolicy::ExactMatch(0xd800_0000))?;
+    mmio.free(&disk)?;
+    println!(
+        "{}",
+        mmio.layout()
+            .named([(network, "virtio-net"), (card, "vga")])
+    );
+    Ok(())
+}

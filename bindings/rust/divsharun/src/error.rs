@@ -1,0 +1,185 @@
+use crate::{AddressAllocator, NodeState, RangeInclusive};
+use core::fmt;
+
+/// Why a call is refused. A refused call changes nothing.
+///
+/// # Example
+///
+/// ```rust
+/// use divsharun::{AddressAllocator, AllocPolicy, Error};
+///
+/// let mut ports = AddressAllocator::new(0xc000, 0x1000)?;
+/// assert_eq!(
+///     ports.allocate(0x2000, 1, AllocPolicy::FirstMatch),
+///     Err(Error::ResourceNotAvailable)
+/// );
+/// assert_eq!(Error::OutOfRange(7).to_string(), "Specified id: 7 is not in the range.");
+/// # Ok::<(), Error>(())
+/// ```
+#[derive(Copy, Clone, PartialEq, Eq, PartialOrd, Ord, Debug)]
+pub enum Error {
+    /// A range would end past or at `u64::MAX`, or all ids up to `u32::MAX` are held.
+    Overflow,
+    /// The id to release is outside the range of the allocator.
+    OutOfRange(u32),
+    /// The id to release was handed out and is not held any more.
+    AlreadyReleased(u32),
+    /// The id to release was never handed out.
+    NeverAllocated(u32),
+    /// There is no place for the request, the range to release is not held, or all ids are held.
+    ResourceNotAvailable,
+    /// The start is past the end, or the two are those of all addresses.
+    InvalidRange(u64, u64),
+    /// The alignment is no power of two.
+    InvalidAlignment,
+    /// The first range shares an address with the second. No public call answers it.
+    Overlap(RangeInclusive, RangeInclusive),
+    /// The range asked for by its start is held already.
+    InvalidStateTransition(RangeInclusive, NodeState),
+    /// The start asked for is no multiple of the alignment.
+    UnalignedAddress,
+    /// A space of no address is asked for.
+    Underflow,
+    /// A range of this size, 0, is asked for.
+    InvalidSize(u64),
+}
+
+impl fmt::Display for Error {
+    fn fmt(&self, f: &mut fmt::Formatter<'_>) -> fmt::Result {
+        match self {
+            Error::Overflow => {
+                f.write_str("Management operations on desired resource resulted in overflow.")
+            }
+            Error::OutOfRange(id) => write!(f, "Specified id: {id} is not in the range."),
+            Error::AlreadyReleased(id) => write!(f, "Specified id: {id} is already released."),
+            Error::NeverAllocated(id) => {
+                write!(
+                    f,
+                    "Specified id: {id} was never allocated, can't release it."
+                )
+            }
+            Error::ResourceNotAvailable => f.write_str("The requested resource is not available."),
+            Error::InvalidRange(start, end) => {
+                write!(f, "The range specified: {start}-{end} is not valid.")
+            }
+            Error::InvalidAlignment => f.write_str("Alignment value is invalid."),
+            Error::Overlap(new, old) => {
+                write!(
+                    f,
+                    "Addresses are overlapping.{new:?} intersects with existing {old:?}"
+                )
+            }
+            Error::InvalidStateTransition(range, state) => {
+                write!(
+                    f,
+                    "Invalid state transition for node {range:?} from {state:?} to NodeState::Free"
+                )
+            }
+            Error::UnalignedAddress => f.write_str("The address is not aligned."),
+            Error::Underflow => {
+                f.write_str("Management operations on desired resource resulted in underflow.")
+            }
+            Error::InvalidSize(size) => write!(f, "The specified size: {size} is not valid."),
+        }
+    }
+}
+
+impl core::error::Error for Error {}
+
+/// What a call answers: a value, or why it is refused.
+///
+/// # Example
+///
+/// ```rust
+/// use divsharun::{Error, IdAllocator, Result};
+///
+/// fn first_of(base: u32, end: u32) -> Result<u32> {
+///     IdAllocator::new(base, end)?.allocate_id()
+/// }
+///
+/// assert_eq!(first_of(5, 23), Ok(5));
+/// assert_eq!(first_of(23, 5), Err(Error::InvalidRange(23, 5)));
+/// ```
+pub type Result<T> = core::result::Result<T, Error>;
+
+/// Why a call by a name that begins with `try_` is refused: as the call without `try_` would be, or
+/// because a request for memory was refused, where that one ends the process. Either way nothing is
+/// changed.
+///
+/// # Example
+///
+/// ```rust
+/// use divsharun::{AddressAllocator, AllocPolicy, Error, TryError};
+///
+/// fn window(space: &mut AddressAllocator) -> Result<u64, TryError> {
+///     Ok(space.try_allocate(0x1000, 0x1000, AllocPolicy::LastMatch)?.start())
+/// }
+///
+/// let mut space = AddressAllocator::try_new(0x1000, 0x1000)?;
+/// assert_eq!(window(&mut space)?, 0x1000);
+/// assert_eq!(window(&mut space), Err(TryError::Refused(Error::ResourceNotAvailable)));
+/// # Ok::<(), TryError>(())
+/// ```
+#[derive(Copy, Clone, PartialEq, Eq, PartialOrd, Ord, Debug)]
+pub enum TryError {
+    /// The call without `try_` would be refused so.
+    Refused(Error),
+    /// A request for memory was refused. It comes after every other refusal.
+    OutOfMemory,
+}
+
+impl fmt::Display for TryError {
+    fn fmt(&self, f: &mut fmt::Formatter<'_>) -> fmt::Result {
+        match self {
+            TryError::Refused(error) => error.fmt(f),
+            TryError::OutOfMemory => f.write_str("There is not enough memory."),
+        }
+    }
+}
+
+impl core::error::Error for TryError {}
+
+impl From<Error> for TryError {
+    fn from(error: Error) -> TryError {
+        TryError::Refused(error)
+    }
+}
+
+/// The answer of the proved code, out of memory among its refusals.
+pub(crate) fn tried<T>(answer: proved::Result<T>) -> core::result::Result<T, TryError> {
+    use proved::Error as Proved;
+
+    answer.map_err(|error| match error {
+        Proved::Overflow => Error::Overflow.into(),
+        Proved::OutOfRange(id) => Error::OutOfRange(id).into(),
+        Proved::AlreadyReleased(id) => Error::AlreadyReleased(id).into(),
+        Proved::NeverAllocated(id) => Error::NeverAllocated(id).into(),
+        Proved::ResourceNotAvailable => Error::ResourceNotAvailable.into(),
+        Proved::InvalidRange(start, end) => Error::InvalidRange(start, end).into(),
+        Proved::InvalidAlignment => Error::InvalidAlignment.into(),
+        Proved::Overlap(new, old) => {
+            Error::Overlap(RangeInclusive(new), RangeInclusive(old)).into()
+        }
+        Proved::InvalidStateTransition(range, state) => {
+            Error::InvalidStateTransition(RangeInclusive(range), NodeState::of(state)).into()
+        }
+        Proved::UnalignedAddress => Error::UnalignedAddress.into(),
+        Proved::Underflow => Error::Underflow.into(),
+        Proved::InvalidSize(size) => Error::InvalidSize(size).into(),
+        Proved::OutOfMemory => TryError::OutOfMemory,
+    })
+}
+
+/// The answer of the proved code; where a request for memory was refused, the process ends.
+pub(crate) fn settled<T>(answer: proved::Result<T>) -> Result<T> {
+    tried(answer).map_err(|error| match error {
+        TryError::Refused(error) => error,
+        TryError::OutOfMemory => out_of_memory(),
+    })
+}
+
+/// Ends the process, as Rust's collections do. The proved code does not tell how much it asked for,
+/// so that the size which the message names says nothing.
+pub(crate) fn out_of_memory() -> ! {
+    alloc::alloc::handle_alloc_error(core::alloc::Layout::new::<AddressAllocator>())
+}

@@ -1,0 +1,197 @@
+//! The calls of the library: against a plain model of a small space, and each of those that the
+//! Rust crate has not.
+
+use divsharun::{
+    AddressAllocator, AllocPolicy, DeviceManager, DeviceSlot, Error, IdAllocator, NodeState,
+    RangeInclusive, Result, TryError,
+};
+
+const WIDTH: usize = 48;
+const BASE: u64 = 1000;
+
+/// A space, cell by cell: the start of the range that holds it.
+struct Model([Option<u64>; WIDTH]);
+
+impl Model {
+    fn is_clear(&self, start: u64, size: u64) -> bool {
+        let first = start.checked_sub(BASE);
+        let cells = first.and_then(|first| self.0.get(first as usize..(first + size) as usize));
+        cells.is_some_and(|cells| cells.iter().all(Option::is_none))
+    }
+
+    /// The start of the place for a request.
+    fn place(&self, size: u64, align: u64, policy: AllocPolicy) -> Option<u64> {
+        let starts = BASE..BASE + WIDTH as u64;
+        let mut places = starts.filter(|start| start % align == 0 && self.is_clear(*start, size));
+        match policy {
+            AllocPolicy::FirstMatch => places.next(),
+            AllocPolicy::LastMatch => places.next_back(),
+            AllocPolicy::ExactMatch(start) => places.find(|place| *place == start),
+        }
+    }
+
+    fn set(&mut self, range: &RangeInclusive, holder: Option<u64>) {
+        let first = (range.start() - BASE) as usize;
+        self.0[first..first + range.len() as usize].fill(holder);
+    }
+}
+
+/// Numbers that look as if they came by chance.
+struct Draw(u64);
+
+impl Draw {
+    fn below(&mut self, bound: u64) -> u64 {
+        self.0 = self.0 * 75 % 65_537;
+        self.0 % bound
+    }
+}
+
+#[test]
+fn answers_are_those_of_a_plain_model() {
+    let mut draw = Draw(1);
+    let mut model = Model([None; WIDTH]);
+    let mut space = AddressAllocator::new(BASE, WIDTH as u64).unwrap();
+    let mut held: Vec<RangeInclusive> = Vec::new();
+    for _ in 0..20_000 {
+        let (size, align) = (1 + draw.below(6), 1 << draw.below(3));
+        let at = BASE + draw.below(WIDTH as u64);
+        let policy = match draw.below(8) {
+            0..=2 => AllocPolicy::FirstMatch,
+            3 => AllocPolicy::LastMatch,
+            4 => AllocPolicy::ExactMatch(at - at % align),
+            _ if held.is_empty() => continue,
+            _ => {
+                let range = held.swap_remove(draw.below(held.len() as u64) as usize);
+                assert_eq!(space.free(&range), Ok(()));
+                model.set(&range, None);
+                continue;
+            }
+        };
+        let answer = space.allocate(size, align, policy);
+        let place = model.place(size, align, policy);
+        assert_eq!(
+            answer.ok().map(|range| (range.start(), range.len())),
+            place.map(|at| (at, size))
+        );
+        if let Ok(range) = answer {
+            model.set(&range, Some(range.start()));
+            held.push(range);
+        }
+        assert_eq!(space.held_count(), held.len() as u64);
+    }
+    held.sort();
+    assert!(space.held_ranges().eq(held));
+}
+
+#[test]
+fn plain_counted_and_try_calls_answer_the_same() {
+    let mut plain = AddressAllocator::new(0, 4096).unwrap();
+    let mut counted = AddressAllocator::new(0, 4096).unwrap();
+    let mut tried = AddressAllocator::try_new(0, 4096).unwrap();
+    let requests = [
+        (64, 64, AllocPolicy::FirstMatch),
+        (64, 64, AllocPolicy::LastMatch),
+        (64, 64, AllocPolicy::ExactMatch(0)),
+        (64, 64, AllocPolicy::ExactMatch(32)),
+        (64, 3, AllocPolicy::FirstMatch),
+        (0, 1, AllocPolicy::FirstMatch),
+        (4096, 1, AllocPolicy::FirstMatch),
+    ];
+    for (size, align, policy) in requests {
+        let answer = plain.allocate(size, align, policy);
+        let (same, count) = counted.allocate_counted(size, align, policy);
+        assert_eq!(same, answer);
+        assert!(answer.is_err() || count > 0);
+        let again = tried.try_allocate(size, align, policy);
+        assert_eq!(again, answer.map_err(TryError::Refused));
+    }
+    let range = RangeInclusive::new(0, 63).unwrap();
+    assert_eq!(counted.free_counted(&range).0, plain.free(&range));
+    assert_eq!(
+        counted.free_counted(&range).0,
+        Err(Error::ResourceNotAvailable)
+    );
+    assert_eq!(tried.free(&range), Ok(()));
+    assert!(plain == counted && counted == tried && tried.try_clone() == Ok(plain));
+}
+
+#[test]
+fn held_ranges_can_be_asked_for() {
+    let mut space = AddressAllocator::new(0, 8).unwrap();
+    let first = space.allocate(2, 1, AllocPolicy::FirstMatch).unwrap();
+    let second = space.allocate(2, 1, AllocPolicy::FirstMatch).unwrap();
+    assert_eq!(space.held_ranges().collect::<Vec<_>>(), [first, second]);
+    assert!(space.holds(&first));
+    for (start, end) in [(0, 0), (0, 3), (4, 7)] {
+        assert!(!space.holds(&RangeInclusive::new(start, end).unwrap()));
+    }
+    assert_eq!((space.held_count(), space.height()), (2, 2));
+}
+
+#[test]
+fn ids_can_be_looked_at() {
+    let mut ids = IdAllocator::new(5, 7).unwrap();
+    for id in 5..=7 {
+        assert_eq!((ids.peek_id(), ids.allocate_id()), (Ok(id), Ok(id)));
+    }
+    assert_eq!(ids.peek_id(), Err(Error::ResourceNotAvailable));
+    assert_eq!(ids.free_id(6), Ok(6));
+    assert_eq!((ids.peek_id(), ids.held_count()), (Ok(6), 2));
+    let mut clone = ids.clone();
+    assert_eq!(clone.allocate_id(), Ok(6));
+    assert!(clone.is_allocated(6) && !ids.is_allocated(6));
+}
+
+#[test]
+fn a_device_gets_both_or_neither() {
+    let mut devices = DeviceManager::new(0, 0, 0x1000, 0x1000).unwrap();
+    let slot = devices.reserve(0x800, 1, AllocPolicy::FirstMatch).unwrap();
+    let range = RangeInclusive::new(0x1000, 0x17ff).unwrap();
+    assert_eq!(slot, DeviceSlot { id: 0, range });
+    let refused = devices.reserve(0x800, 1, AllocPolicy::FirstMatch);
+    assert_eq!(refused, Err(Error::ResourceNotAvailable));
+    assert_eq!(devices.slot(0), Some(range));
+    assert_eq!(devices.release(0), Ok(()));
+    let refused = devices.reserve(0, 1, AllocPolicy::FirstMatch);
+    assert_eq!(refused, Err(Error::InvalidSize(0)));
+    assert!(devices.reserve(0x1000, 1, AllocPolicy::FirstMatch).is_ok());
+}
+
+#[test]
+fn a_layout_has_every_address_once() {
+    let mut space = AddressAllocator::new(1, u64::MAX).unwrap();
+    space.allocate(1, 1, AllocPolicy::FirstMatch).unwrap();
+    space
+        .allocate(1, 1, AllocPolicy::ExactMatch(u64::MAX - 1))
+        .unwrap();
+    let layout = space.layout();
+    let mut next = Some(1);
+    for block in layout.blocks() {
+        assert_eq!(Some(block.range.start()), next);
+        assert_eq!(
+            space.holds(&block.range),
+            block.state == NodeState::Allocated
+        );
+        next = block.range.end().checked_add(1);
+    }
+    assert_eq!(next, None);
+    assert_eq!(layout.blocks().count(), 4);
+}
+
+#[test]
+fn a_layout_is_written_as_the_kernel_does() -> Result<()> {
+    let mut ports = AddressAllocator::new(0, 0x100)?;
+    assert_eq!(ports.layout().to_string(), "0000-00ff : gap");
+    let keyboard = ports.allocate(5, 1, AllocPolicy::ExactMatch(0x60))?;
+    let beside = RangeInclusive::new(0x60, 0x61)?;
+    assert_eq!(
+        ports
+            .layout()
+            .named([(keyboard, "keyboard"), (beside, "none")])
+            .to_string(),
+        "0000-005f : gap\n0060-0064 : keyboard\n0065-00ff : gap"
+    );
+    let high = AddressAllocator::new(1 << 40, 1 << 40)?;
+    assert_eq!(high.layout().to_string(), "10000000000-1ffffffffff : gap");
+    Ok(())
+}

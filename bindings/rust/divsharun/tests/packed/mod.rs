@@ -1,0 +1,347 @@
+//! A format without names, as bincode is one: numbers in little endian, the length of a list and
+//! the place of a variant before it, one byte for whether there is something. Bytes are read from
+//! an iterator, so that they need not exist before they are asked for.
+#![allow(dead_code)]
+
+use serde::de::{DeserializeSeed, EnumAccess, IntoDeserializer, SeqAccess, VariantAccess, Visitor};
+use serde::ser::{Impossible, SerializeSeq, SerializeStruct};
+use serde::{de, ser, Deserialize, Deserializer, Serialize, Serializer};
+use std::fmt::{self, Display};
+
+/// The bytes of an object.
+pub fn to_bytes<T: Serialize>(object: &T) -> Result<Vec<u8>, Failure> {
+    let mut bytes = Vec::new();
+    object.serialize(Packer(&mut bytes))?;
+    Ok(bytes)
+}
+
+/// The object that the next bytes say.
+pub fn from_bytes<'de, T: Deserialize<'de>>(
+    bytes: impl IntoIterator<Item = u8>,
+) -> Result<T, Failure> {
+    T::deserialize(&mut Unpacker(bytes.into_iter()))
+}
+
+/// Why something is not written or read.
+#[derive(Debug)]
+pub struct Failure(pub String);
+
+impl Display for Failure {
+    fn fmt(&self, f: &mut fmt::Formatter<'_>) -> fmt::Result {
+        f.write_str(&self.0)
+    }
+}
+
+impl std::error::Error for Failure {}
+
+impl ser::Error for Failure {
+    fn custom<T: Display>(reason: T) -> Self {
+        Failure(reason.to_string())
+    }
+}
+
+impl de::Error for Failure {
+    fn custom<T: Display>(reason: T) -> Self {
+        Failure(reason.to_string())
+    }
+}
+
+struct Packer<'a>(&'a mut Vec<u8>);
+
+impl Packer<'_> {
+    fn put(self, bytes: &[u8]) -> Result<(), Failure> {
+        self.0.extend_from_slice(bytes);
+        Ok(())
+    }
+}
+
+/// The methods of a serializer for what no saved object has.
+macro_rules! not_packed {
+    ($($method:ident($($kind:ty),*) -> $answer:ty;)*) => {$(
+        fn $method(self $(, _: $kind)*) -> Result<$answer, Failure> {
+            Err(Failure(stringify!($method).into()))
+        }
+    )*};
+}
+
+type Never = Impossible<(), Failure>;
+
+impl Serializer for Packer<'_> {
+    type Ok = ();
+    type Error = Failure;
+    type SerializeSeq = Self;
+    type SerializeStruct = Self;
+    type SerializeTuple = Self;
+    type SerializeTupleStruct = Never;
+    type SerializeTupleVariant = Never;
+    type SerializeMap = Never;
+    type SerializeStructVariant = Never;
+
+    fn is_human_readable(&self) -> bool {
+        false
+    }
+
+    fn serialize_u32(self, number: u32) -> Result<(), Failure> {
+        self.put(&number.to_le_bytes())
+    }
+
+    fn serialize_u64(self, number: u64) -> Result<(), Failure> {
+        self.put(&number.to_le_bytes())
+    }
+
+    fn serialize_none(self) -> Result<(), Failure> {
+        self.put(&[0])
+    }
+
+    fn serialize_some<T: Serialize + ?Sized>(self, some: &T) -> Result<(), Failure> {
+        self.0.push(1);
+        some.serialize(self)
+    }
+
+    fn serialize_unit_variant(
+        self,
+        _: &'static str,
+        place: u32,
+        _: &'static str,
+    ) -> Result<(), Failure> {
+        self.put(&place.to_le_bytes())
+    }
+
+    fn serialize_seq(self, length: Option<usize>) -> Result<Self, Failure> {
+        let length = length.ok_or_else(|| Failure("a list without a length".into()))?;
+        self.0.extend_from_slice(&(length as u64).to_le_bytes());
+        Ok(self)
+    }
+
+    fn serialize_tuple(self, _: usize) -> Result<Self, Failure> {
+        Ok(self)
+    }
+
+    fn serialize_struct(self, _: &'static str, _: usize) -> Result<Self, Failure> {
+        Ok(self)
+    }
+
+    fn serialize_newtype_struct<T: Serialize + ?Sized>(
+        self,
+        _: &'static str,
+        _: &T,
+    ) -> Result<(), Failure> {
+        Err(Failure("a wrapper".into()))
+    }
+
+    fn serialize_newtype_variant<T: Serialize + ?Sized>(
+        self,
+        _: &'static str,
+        _: u32,
+        _: &'static str,
+        _: &T,
+    ) -> Result<(), Failure> {
+        Err(Failure("a variant with content".into()))
+    }
+
+    not_packed! {
+        serialize_bool(bool) -> ();
+        serialize_i8(i8) -> ();
+        serialize_i16(i16) -> ();
+        serialize_i32(i32) -> ();
+        serialize_i64(i64) -> ();
+        serialize_u8(u8) -> ();
+        serialize_u16(u16) -> ();
+        serialize_f32(f32) -> ();
+        serialize_f64(f64) -> ();
+        serialize_char(char) -> ();
+        serialize_str(&str) -> ();
+        serialize_bytes(&[u8]) -> ();
+        serialize_unit() -> ();
+        serialize_unit_struct(&'static str) -> ();
+        serialize_tuple_struct(&'static str, usize) -> Never;
+        serialize_tuple_variant(&'static str, u32, &'static str, usize) -> Never;
+        serialize_map(Option<usize>) -> Never;
+        serialize_struct_variant(&'static str, u32, &'static str, usize) -> Never;
+    }
+}
+
+impl SerializeSeq for Packer<'_> {
+    type Ok = ();
+    type Error = Failure;
+
+    fn serialize_element<T: Serialize + ?Sized>(&mut self, item: &T) -> Result<(), Failure> {
+        item.serialize(Packer(self.0))
+    }
+
+    fn end(self) -> Result<(), Failure> {
+        Ok(())
+    }
+}
+
+impl ser::SerializeTuple for Packer<'_> {
+    type Ok = ();
+    type Error = Failure;
+
+    fn serialize_element<T: Serialize + ?Sized>(&mut self, item: &T) -> Result<(), Failure> {
+        item.serialize(Packer(self.0))
+    }
+
+    fn end(self) -> Result<(), Failure> {
+        Ok(())
+    }
+}
+
+impl SerializeStruct for Packer<'_> {
+    type Ok = ();
+    type Error = Failure;
+
+    fn serialize_field<T: Serialize + ?Sized>(
+        &mut self,
+        _: &'static str,
+        field: &T,
+    ) -> Result<(), Failure> {
+        field.serialize(Packer(self.0))
+    }
+
+    fn end(self) -> Result<(), Failure> {
+        Ok(())
+    }
+}
+
+struct Unpacker<I>(I);
+
+impl<I: Iterator<Item = u8>> Unpacker<I> {
+    fn take<const N: usize>(&mut self) -> Result<[u8; N], Failure> {
+        let mut bytes = [0; N];
+        for byte in &mut bytes {
+            *byte = self
+                .0
+                .next()
+                .ok_or_else(|| Failure("no more bytes".into()))?;
+        }
+        Ok(bytes)
+    }
+}
+
+impl<'de, I: Iterator<Item = u8>> Deserializer<'de> for &mut Unpacker<I> {
+    type Error = Failure;
+
+    fn is_human_readable(&self) -> bool {
+        false
+    }
+
+    fn deserialize_any<V: Visitor<'de>>(self, _: V) -> Result<V::Value, Failure> {
+        Err(Failure("bytes do not say what they are".into()))
+    }
+
+    fn deserialize_u32<V: Visitor<'de>>(self, visitor: V) -> Result<V::Value, Failure> {
+        visitor.visit_u32(u32::from_le_bytes(self.take()?))
+    }
+
+    fn deserialize_u64<V: Visitor<'de>>(self, visitor: V) -> Result<V::Value, Failure> {
+        visitor.visit_u64(u64::from_le_bytes(self.take()?))
+    }
+
+    fn deserialize_option<V: Visitor<'de>>(self, visitor: V) -> Result<V::Value, Failure> {
+        match self.take()? {
+            [0] => visitor.visit_none(),
+            [1] => visitor.visit_some(self),
+            _ => Err(Failure("neither something nor nothing".into())),
+        }
+    }
+
+    fn deserialize_seq<V: Visitor<'de>>(self, visitor: V) -> Result<V::Value, Failure> {
+        let left = u64::from_le_bytes(self.take()?);
+        visitor.visit_seq(Items { from: self, left })
+    }
+
+    fn deserialize_tuple<V: Visitor<'de>>(
+        self,
+        length: usize,
+        visitor: V,
+    ) -> Result<V::Value, Failure> {
+        let left = length as u64;
+        visitor.visit_seq(Items { from: self, left })
+    }
+
+    fn deserialize_struct<V: Visitor<'de>>(
+        self,
+        _: &'static str,
+        names: &'static [&'static str],
+        visitor: V,
+    ) -> Result<V::Value, Failure> {
+        self.deserialize_tuple(names.len(), visitor)
+    }
+
+    fn deserialize_enum<V: Visitor<'de>>(
+        self,
+        _: &'static str,
+        _: &'static [&'static str],
+        visitor: V,
+    ) -> Result<V::Value, Failure> {
+        visitor.visit_enum(Place(u32::from_le_bytes(self.take()?)))
+    }
+
+    serde::forward_to_deserialize_any! {
+        bool i8 i16 i32 i64 u8 u16 f32 f64 char str string bytes byte_buf unit unit_struct
+        newtype_struct tuple_struct map identifier ignored_any
+    }
+}
+
+/// The items of a list that are left.
+struct Items<'a, I> {
+    from: &'a mut Unpacker<I>,
+    left: u64,
+}
+
+impl<'de, I: Iterator<Item = u8>> SeqAccess<'de> for Items<'_, I> {
+    type Error = Failure;
+
+    fn next_element_seed<T: DeserializeSeed<'de>>(
+        &mut self,
+        seed: T,
+    ) -> Result<Option<T::Value>, Failure> {
+        let Some(left) = self.left.checked_sub(1) else {
+            return Ok(None);
+        };
+        self.left = left;
+        seed.deserialize(&mut *self.from).map(Some)
+    }
+
+    fn size_hint(&self) -> Option<usize> {
+        usize::try_from(self.left).ok()
+    }
+}
+
+/// The place of a variant without content.
+struct Place(u32);
+
+impl<'de> EnumAccess<'de> for Place {
+    type Error = Failure;
+    type Variant = Self;
+
+    fn variant_seed<V: DeserializeSeed<'de>>(self, seed: V) -> Result<(V::Value, Self), Failure> {
+        let place: de::value::U32Deserializer<Failure> = self.0.into_deserializer();
+        Ok((seed.deserialize(place)?, self))
+    }
+}
+
+impl<'de> VariantAccess<'de> for Place {
+    type Error = Failure;
+
+    fn unit_variant(self) -> Result<(), Failure> {
+        Ok(())
+    }
+
+    fn newtype_variant_seed<T: DeserializeSeed<'de>>(self, _: T) -> Result<T::Value, Failure> {
+        Err(Failure("a variant with content".into()))
+    }
+
+    fn tuple_variant<V: Visitor<'de>>(self, _: usize, _: V) -> Result<V::Value, Failure> {
+        Err(Failure("a variant with content".into()))
+    }
+
+    fn struct_variant<V: Visitor<'de>>(
+        self,
+        _: &'static [&'static str],
+        _: V,
+    ) -> Result<V::Value, Failure> {
+        Err(Failure("a variant with content".into()))
+    }
+}

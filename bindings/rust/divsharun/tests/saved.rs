@@ -1,0 +1,326 @@
+//! The feature `serde`: the layout of what is saved, in JSON and in a format without names, and
+//! what is read and refused. It runs in the folder `with_serde` beside the library's.
+#![cfg(feature = "serde")]
+
+mod packed;
+
+use serde::de::DeserializeOwned;
+use serde::Serialize;
+use std::cell::Cell;
+use vm_allocator::{
+    AddressAllocator, AllocPolicy, DeviceManager, IdAllocator, NodeState, RangeInclusive,
+};
+
+const FRESH: &str = concat!(
+    r#"{"address_space":{"start":16,"end":19},"interval_tree":{"root":"#,
+    r#"{"key":{"start":16,"end":19},"node_state":"Free","left":null,"right":null,"height":1}}}"#
+);
+const IDS: &str = r#"{"range_base":5,"next_id":12,"range_end":23,"freed_ids":[6,9]}"#;
+
+/// Ids from 5 to 23, seven taken, 6 and 9 given back.
+fn seven_ids() -> IdAllocator {
+    let mut ids = IdAllocator::new(5, 23).unwrap();
+    for id in 5..12 {
+        assert_eq!(ids.allocate_id(), Ok(id));
+    }
+    ids.free_id(9).unwrap();
+    ids.free_id(6).unwrap();
+    ids
+}
+
+/// A space from 4096 on in which every third of `count` windows was given back.
+fn windows(count: u64) -> AddressAllocator {
+    let mut space = AddressAllocator::new(4096, 1 << 20).unwrap();
+    let held: Vec<RangeInclusive> = (0..count)
+        .map(|i| {
+            space
+                .allocate(16 << (i % 4), 16, AllocPolicy::FirstMatch)
+                .unwrap()
+        })
+        .collect();
+    held.iter()
+        .step_by(3)
+        .for_each(|range| space.free(range).unwrap());
+    space
+}
+
+fn json<T: Serialize>(object: &T) -> String {
+    serde_json::to_string(object).unwrap()
+}
+
+fn is_read<T: DeserializeOwned>(text: &str) -> bool {
+    serde_json::from_str::<T>(text).is_ok()
+}
+
+/// A space of `[16, 19]` whose tree has this root.
+fn space_over(root: &str) -> String {
+    format!(r#"{{"address_space":{{"start":16,"end":19}},"interval_tree":{{"root":{root}}}}}"#)
+}
+
+/// A node in JSON.
+fn node(key: (u64, u64), state: &str, right: &str) -> String {
+    let (start, end) = key;
+    let head = format!(r#""key":{{"start":{start},"end":{end}}},"node_state":"{state}""#);
+    format!(r#"{{{head},"left":null,"right":{right},"height":1}}"#)
+}
+
+#[test]
+fn json_has_the_fields_in_order() {
+    assert_eq!(json(&AddressAllocator::new(16, 4).unwrap()), FRESH);
+    assert_eq!(json(&seven_ids()), IDS);
+    assert_eq!(
+        json(&RangeInclusive::new(2, 5).unwrap()),
+        r#"{"start":2,"end":5}"#
+    );
+    assert_eq!(
+        json(&[NodeState::Free, NodeState::Allocated]),
+        r#"["Free","Allocated"]"#
+    );
+    let last = IdAllocator::new(u32::MAX, u32::MAX);
+    let last = last
+        .and_then(|mut ids| ids.allocate_id().map(|_| ids))
+        .unwrap();
+    assert!(json(&last).contains(r#""next_id":null"#));
+}
+
+#[test]
+fn bytes_have_the_fields_in_order() {
+    let mut expected = Vec::new();
+    for address in [16u64, 19] {
+        expected.extend(address.to_le_bytes());
+    }
+    expected.push(1);
+    for address in [16u64, 19] {
+        expected.extend(address.to_le_bytes());
+    }
+    expected.extend(0u32.to_le_bytes());
+    expected.extend([0, 0]);
+    expected.extend(1u64.to_le_bytes());
+    let space = AddressAllocator::new(16, 4).unwrap();
+    assert_eq!(packed::to_bytes(&space).unwrap(), expected);
+
+    let mut expected = Vec::new();
+    expected.extend(5u32.to_le_bytes());
+    expected.push(1);
+    expected.extend(12u32.to_le_bytes());
+    expected.extend(23u32.to_le_bytes());
+    expected.extend(2u64.to_le_bytes());
+    expected.extend(6u32.to_le_bytes());
+    expected.extend(9u32.to_le_bytes());
+    assert_eq!(packed::to_bytes(&seven_ids()).unwrap(), expected);
+}
+
+#[test]
+fn what_is_written_is_read() {
+    for count in [0, 1, 2, 10, 300] {
+        let space = windows(count);
+        let text: AddressAllocator = serde_json::from_str(&json(&space)).unwrap();
+        let bytes: AddressAllocator =
+            packed::from_bytes(packed::to_bytes(&space).unwrap()).unwrap();
+        let value: AddressAllocator =
+            serde_json::from_value(serde_json::to_value(&space).unwrap()).unwrap();
+        assert!(text == space && bytes == space && value == space);
+    }
+    let ids: IdAllocator = serde_json::from_str(IDS).unwrap();
+    assert_eq!(json(&ids), IDS);
+    let ids: IdAllocator = packed::from_bytes(packed::to_bytes(&ids).unwrap()).unwrap();
+    assert_eq!(json(&ids), IDS);
+    let pair = (NodeState::Allocated, RangeInclusive::new(1, 2).unwrap());
+    let text: (NodeState, RangeInclusive) = serde_json::from_str(&json(&pair)).unwrap();
+    let bytes: (NodeState, RangeInclusive) =
+        packed::from_bytes(packed::to_bytes(&pair).unwrap()).unwrap();
+    assert!(text == pair && bytes == pair);
+}
+
+/// A manager with two devices, of which the second one was unplugged.
+fn manager() -> DeviceManager {
+    let mut devices = DeviceManager::new(0, 1, 4096, 4096).unwrap();
+    for size in [2048, 1024] {
+        devices
+            .reserve(size, size, AllocPolicy::FirstMatch)
+            .unwrap();
+    }
+    devices.release(1).unwrap();
+    devices
+}
+
+#[test]
+fn managers_are_saved_with_their_devices() {
+    let text = json(&manager());
+    assert!(text.starts_with(r#"{"version":1,"id_allocator":{"range_base":0,"next_id":2,"#));
+    assert!(text.ends_with(r#""slots":[{"id":0,"mmio_range":{"start":4096,"end":6143}}]}"#));
+    let mut from_text: DeviceManager = serde_json::from_str(&text).unwrap();
+    let bytes = packed::to_bytes(&manager()).unwrap();
+    let from_bytes: DeviceManager = packed::from_bytes(bytes).unwrap();
+    assert!(json(&from_text) == text && json(&from_bytes) == text);
+    let slot = from_text.reserve(1, 1, AllocPolicy::FirstMatch).unwrap();
+    assert_eq!((slot.id, slot.range.start()), (1, 6144));
+
+    let changes = [
+        (r#""version":1"#, r#""version":2"#),
+        (r#""id":0"#, r#""id":1"#),
+        (r#""end":6143}}]"#, r#""end":6142}}]"#),
+        (
+            r#""slots":[{"#,
+            r#""slots":[{"id":0,"mmio_range":{"start":1,"end":1}},{"#,
+        ),
+        (r#"]}"#, r#"],"colour":1}"#),
+    ];
+    for (old, new) in changes {
+        assert!(text.contains(old));
+        assert!(!is_read::<DeviceManager>(&text.replace(old, new)), "{new}");
+    }
+}
+
+#[test]
+fn what_the_faults_left_is_repaired() {
+    let fresh = AddressAllocator::new(16, 4).unwrap();
+    let read = |root: &str| serde_json::from_str::<AddressAllocator>(&space_over(root));
+    // The tree was lost.
+    assert_eq!(read("null").unwrap(), fresh);
+    // Free neighbours were not joined.
+    let second = node((18, 19), "Free", "null");
+    assert_eq!(read(&node((16, 17), "Free", &second)).unwrap(), fresh);
+    // What was given back is missing.
+    let held = read(&node((17, 17), "Allocated", "null")).unwrap();
+    assert!(held
+        .held_ranges()
+        .eq([RangeInclusive::new(17, 17).unwrap()]));
+    // A key outside the space, and keys that overlap, stand for nothing.
+    assert!(read(&node((16, 20), "Allocated", "null")).is_err());
+    let second = node((18, 19), "Allocated", "null");
+    assert!(read(&node((16, 18), "Free", &second)).is_err());
+}
+
+#[test]
+fn other_fields_are_refused() {
+    assert!(is_read::<AddressAllocator>(FRESH) && is_read::<IdAllocator>(IDS));
+    let changes = [
+        (r#""height":1"#, r#""height":1,"colour":2"#),
+        (r#","height":1"#, ""),
+        (r#""height":1"#, r#""height":1,"height":1"#),
+        (r#""height":1"#, r#""height":-1"#),
+        (r#""height":1"#, r#""height":1.5"#),
+        (r#""height":1"#, r#""height":"1""#),
+        (r#""left":null,"#, ""),
+        (r#""left":null"#, r#""left":[]"#),
+        (r#""left":null"#, r#""left":{}"#),
+        ("Free", "free"),
+        (r#""Free""#, "0"),
+        (r#""end":19"#, r#""end":15"#),
+        (r#""end":19"#, r#""end":18446744073709551616"#),
+    ];
+    for (old, new) in changes {
+        assert!(
+            !is_read::<AddressAllocator>(&FRESH.replace(old, new)),
+            "{new}"
+        );
+    }
+    let changes = [
+        (r#""next_id":12,"#, ""),
+        ("12", "null"),
+        ("12", "25"),
+        ("[6,9]", "[9,6]"),
+        ("[6,9]", "[6,6]"),
+        ("[6,9]", "[6,12]"),
+        ("[6,9]", "null"),
+        ("23", "4294967296"),
+        (r#""range_base""#, r#""base""#),
+    ];
+    for (old, new) in changes {
+        assert!(!is_read::<IdAllocator>(&IDS.replace(old, new)), "{new}");
+    }
+    assert!(!is_read::<RangeInclusive>(
+        r#"{"start":0,"end":18446744073709551615}"#
+    ));
+}
+
+/// A chain of so many nodes, each the right child of the one before.
+fn chain(length: u64) -> String {
+    let text = (0..length).rev().fold("null".to_string(), |right, at| {
+        node((at, at), "Allocated", &right)
+    });
+    format!(r#"{{"address_space":{{"start":0,"end":60}},"interval_tree":{{"root":{text}}}}}"#)
+}
+
+#[test]
+fn fifty_levels_are_read_and_no_more() {
+    let read: AddressAllocator = serde_json::from_str(&chain(50)).unwrap();
+    assert_eq!(read.held_count(), 50);
+    assert!(!is_read::<AddressAllocator>(&chain(51)));
+}
+
+/// The bytes, and how many of them were asked for.
+fn counted<'a>(
+    bytes: impl Iterator<Item = u8> + 'a,
+    asked: &'a Cell<u64>,
+) -> impl Iterator<Item = u8> + 'a {
+    bytes.inspect(|_| asked.set(asked.get() + 1))
+}
+
+#[test]
+fn nesting_without_end_is_refused_early() {
+    let mut level = vec![1];
+    level.extend([0; 16]);
+    level.extend(1u32.to_le_bytes());
+    let space = [[0; 8], 1000u64.to_le_bytes()].concat();
+    let asked = Cell::new(0);
+    let bytes = space.into_iter().chain(level.into_iter().cycle());
+    assert!(packed::from_bytes::<AddressAllocator>(counted(bytes, &asked)).is_err());
+    assert!(asked.get() < 51 * 21 + 17);
+}
+
+/// The bytes of an id allocator that says it has so many ids given back, and of these ids.
+fn ids_given_back(count: u64, ids: impl Iterator<Item = u32>) -> impl Iterator<Item = u8> {
+    let mut head = [0u32.to_le_bytes().as_slice(), &[1], &[255; 4], &[255; 4]].concat();
+    head.extend(count.to_le_bytes());
+    head.into_iter().chain(ids.flat_map(u32::to_le_bytes))
+}
+
+#[test]
+fn long_lists_are_refused_early() {
+    let count = 100_000_000;
+    let asked = Cell::new(0);
+    let bytes = ids_given_back(count, 0..count as u32);
+    assert!(packed::from_bytes::<IdAllocator>(counted(bytes, &asked)).is_err());
+    assert!(asked.get() <= 4 * ((1 << 20) + 1) + 21);
+
+    asked.set(0);
+    let bytes = ids_given_back(count, std::iter::repeat(7));
+    assert!(packed::from_bytes::<IdAllocator>(counted(bytes, &asked)).is_err());
+    assert_eq!(asked.get(), 21 + 8);
+
+    asked.set(0);
+    let bytes = ids_given_back(u64::MAX, 0..3);
+    assert!(packed::from_bytes::<IdAllocator>(counted(bytes, &asked)).is_err());
+    assert_eq!(asked.get(), 21 + 12);
+}
+
+#[test]
+fn long_lists_of_devices_are_refused_early() {
+    // Without its list of one device, which is the last field.
+    let mut head = packed::to_bytes(&manager()).unwrap();
+    head.truncate(head.len() - 8 - 20);
+    head.extend(100_000_000u64.to_le_bytes());
+    let length = head.len() as u64;
+    let slot = |id: u32| [id.to_le_bytes().as_slice(), &[0; 16]].concat();
+    let asked = Cell::new(0);
+    let bytes = head.into_iter().chain((0..).flat_map(slot));
+    assert!(packed::from_bytes::<DeviceManager>(counted(bytes, &asked)).is_err());
+    assert!(asked.get() > length && asked.get() <= length + 20 * ((1 << 20) + 1));
+}
+
+#[test]
+fn the_longest_list_is_written_and_read() {
+    let mut ids = IdAllocator::new(0, 1 << 20).unwrap();
+    for id in 0..=1 << 20 {
+        assert_eq!(ids.allocate_id(), Ok(id));
+    }
+    for id in 1..=1 << 20 {
+        assert_eq!(ids.free_id(id), Ok(id));
+    }
+    let again: IdAllocator = packed::from_bytes(packed::to_bytes(&ids).unwrap()).unwrap();
+    assert_eq!((again.held_count(), again.is_allocated(0)), (1, true));
+    ids.free_id(0).unwrap();
+    assert!(packed::to_bytes(&ids).is_err());
+}

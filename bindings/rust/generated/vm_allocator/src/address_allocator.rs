@@ -1,0 +1,120 @@
+// Written by bindings/erase from crates/vm_allocator/src/address_allocator.rt: do not edit.
+
+use crate::allocation_engine::IntervalTree;
+use crate::constraint::{AllocPolicy, Constraint};
+use crate::error::{Error, Result};
+use crate::range::RangeInclusive;
+use rattle::Global;
+
+mod comparing;
+pub(crate) mod held_ranges;
+
+/// Gives out the ranges of one space of addresses. Two ranges held at one time share no address,
+/// each lies in the space, and none contains `u64::MAX`.
+#[derive(Debug)]
+pub struct AddressAllocator {
+    pub(crate) address_space: RangeInclusive,
+    pub(crate) interval_tree: IntervalTree,
+}
+
+impl AddressAllocator {
+    /// The allocator of the `size` addresses from `base` on, with none held. In this order: a size
+    /// of 0 is `Underflow`, an end past `u64::MAX` is `Overflow`, and `OutOfMemory` comes last.
+    pub fn new(alloc: Global, base: u64, size: u64) -> Result<Self> {
+        if size == 0 {
+            return Err(Error::Underflow);
+        }
+        let Some(end) = base.checked_add(size - 1) else {
+            return Err(Error::Overflow);
+        };
+        let address_space = RangeInclusive::between(base, end);
+        let interval_tree = IntervalTree::new(alloc, address_space)?;
+        Ok(AddressAllocator {
+            address_space,
+            interval_tree,
+        })
+    }
+
+    /// A copy, whose tree has the same nodes. `OutOfMemory` where there is no memory for one of them;
+    /// the others are given back then.
+    pub fn try_clone(&self, alloc: Global) -> Result<Self> {
+        Ok(AddressAllocator {
+            address_space: self.address_space,
+            interval_tree: self.interval_tree.try_clone(alloc)?,
+        })
+    }
+
+    /// Holds the `size` addresses at the place that the policy chooses, a multiple of `alignment`
+    /// from which on they are clear. In this order: size 0 is `InvalidSize(0)`; an alignment that is
+    /// no power of two is `InvalidAlignment`; for `ExactMatch` a start that is no multiple of the
+    /// alignment is `UnalignedAddress`, `u64::MAX` is `Overflow`, a start outside the space is
+    /// `ResourceNotAvailable`, a range that passes `u64::MAX` is `Overflow`, and a range that is held
+    /// as it is is `InvalidStateTransition`; no place at all is `ResourceNotAvailable`; a range that
+    /// ends at `u64::MAX` is `Overflow`, also where there is another place. Only where the place
+    /// leaves a part of its gap over come `Overflow` for a tree of height 48 or more, which
+    /// takes more than 6 * 10^9 held ranges, and `OutOfMemory`. A refusal changes nothing.
+    pub fn allocate(
+        &mut self,
+        alloc: Global,
+        size: u64,
+        alignment: u64,
+        policy: AllocPolicy,
+    ) -> Result<RangeInclusive> {
+        let answer = self.allocate_counted(alloc, size, alignment, policy).0;
+        let _ = self.base();
+        answer
+    }
+
+    /// Does what `allocate` does, and answers besides how many nodes of the tree it entered. With the
+    /// height h and k held ranges before, these are at most 8h + 8 for `ExactMatch` and at most
+    /// 2k + 1 + 8h + 8 for the other policies, and none where the request makes no sense; a success
+    /// enters one at least, and one that leaves a part of its gap over h / 2 at least. Where v gaps
+    /// are long enough and have no place all the same, the other policies enter at most
+    /// h(v + 1) + 8h + 8, and at most hv where they answer `ResourceNotAvailable`; at alignment 1 no
+    /// gap is such. The same holds of w in the place of v, where w gaps have a multiple of the
+    /// alignment and no place: these are no more than the multiples in the space.
+    pub fn allocate_counted(
+        &mut self,
+        alloc: Global,
+        size: u64,
+        alignment: u64,
+        policy: AllocPolicy,
+    ) -> (Result<RangeInclusive>, u64) {
+        match Constraint::new(size, alignment, policy) {
+            Err(error) => (Err(error), 0),
+            Ok(constraint) => self.interval_tree.allocate_counted(alloc, constraint),
+        }
+    }
+
+    /// Gives a held range back. Any other range is `ResourceNotAvailable`, a part of a held one and
+    /// a clear one among them. Takes no memory, and a refusal changes nothing.
+    pub fn free(&mut self, key: &RangeInclusive) -> Result<()> {
+        let answer = self.free_counted(key).0;
+        let _ = self.base();
+        answer
+    }
+
+    /// Does what `free` does, and answers besides how many nodes of the tree it entered: with the
+    /// height h before at most 8h + 8, and always one at least.
+    pub fn free_counted(&mut self, key: &RangeInclusive) -> (Result<()>, u64) {
+        self.interval_tree.free_counted(key)
+    }
+
+    /// How many nodes the longest way down the tree has. The tree is balanced: with k held ranges its
+    /// height h has F(h + 2) at most 2k + 2, where F is the sequence 1, 1, 2, 3, 5 of Fibonacci, and is
+    /// 49 at most.
+    pub fn height(&self) -> u64 {
+        self.interval_tree.height()
+    }
+
+    /// The first address of the space.
+    pub fn base(&self) -> u64 {
+        let _ = self.interval_tree.height();
+        self.address_space.start()
+    }
+
+    /// The last address of the space.
+    pub fn end(&self) -> u64 {
+        self.address_space.end()
+    }
+}

@@ -1,0 +1,113 @@
+// Written by bindings/erase from crates/vm_allocator/src/allocation_engine/interval_tree.rt: do not edit.
+
+//! The blocks of a space in a balanced tree: which place a request gets (`placing`), how the range
+//! there is held (`holding`), how a held one is given back (`release`), and how two compare (`comparing`).
+
+use rattle::Box;
+use super::NodeState;
+use super::node::walks::Walk;
+use super::node::walks::copying::copy;
+use super::node::{Child, InnerNode};
+use crate::constraint::Constraint;
+use crate::error::{Error, Result};
+use crate::range::RangeInclusive;
+use rattle::Global;
+
+mod comparing;
+mod held;
+mod holding;
+pub(crate) mod placing;
+mod release;
+
+/// The blocks of a space of addresses, in a balanced tree.
+#[derive(Debug)]
+pub struct IntervalTree {
+    pub(crate) root: Child,
+}
+
+impl IntervalTree {
+    /// The tree of the space `key`, with nothing held. `OutOfMemory` where there is no memory for its
+    /// one node.
+    pub fn new(alloc: Global, key: RangeInclusive) -> Result<Self> {
+        let _ = key.end();
+        let Ok(node) = Box::new(alloc, InnerNode::new(key, NodeState::Free)) else {
+            return Err(Error::OutOfMemory);
+        };
+        Ok(IntervalTree { root: Some(node) })
+    }
+
+    /// A copy, node for node.
+    pub(crate) fn try_clone(&self, alloc: Global) -> Result<Self> {
+        Ok(IntervalTree {
+            root: Some(copy(self.root(), alloc)?),
+        })
+    }
+
+    /// The walk over the blocks.
+    pub(crate) fn walk(&self) -> Walk<'_> {
+        Walk::over(&self.root)
+    }
+
+    /// The root, which is always there.
+    pub(crate) fn root(&self) -> &InnerNode {
+        let Some(root) = &self.root else {
+            unreachable!()
+        };
+        root
+    }
+
+    /// How many nodes the longest way down has.
+    pub(crate) fn height(&self) -> u64 {
+        self.root().height()
+    }
+
+    /// `allocate`, which adds the nodes that it enters to a count.
+    fn grant(
+        &mut self,
+        alloc: Global,
+        constraint: Constraint,
+        count: &mut u64,
+    ) -> Result<RangeInclusive> {
+        let _ = self.height();
+        let choice = self.place_for(constraint, count)?;
+        self.hold(alloc, choice, count)
+    }
+
+    /// `allocate`, and how many nodes it entered.
+    pub(crate) fn allocate_counted(
+        &mut self,
+        alloc: Global,
+        constraint: Constraint,
+    ) -> (Result<RangeInclusive>, u64) {
+        let _ = self.height();
+        let mut count = 0;
+        let answer = self.grant(alloc, constraint, &mut count);
+        (answer, count)
+    }
+
+    /// Holds the range at the place that the policy chooses. In this order: where there is no such
+    /// place `ResourceNotAvailable`, or for `ExactMatch` the first of its faults; `Overflow` where the
+    /// range ends at `u64::MAX`; and where a part of its gap is left, `Overflow` for a tree of height
+    /// 48 or more, and `OutOfMemory`. A refusal changes nothing.
+    pub fn allocate(&mut self, alloc: Global, constraint: Constraint) -> Result<RangeInclusive> {
+        let answer = self.allocate_counted(alloc, constraint).0;
+        let _ = self.height();
+        answer
+    }
+
+    /// `free`, and how many nodes it entered.
+    pub(crate) fn free_counted(&mut self, key: &RangeInclusive) -> (Result<()>, u64) {
+        let _ = self.height();
+        let mut count = 0;
+        let answer = self.release(key, &mut count);
+        (answer, count)
+    }
+
+    /// Gives a held range back, and joins its addresses with the clear ones on both sides. Any other
+    /// range is `ResourceNotAvailable`. It takes no memory, and a refusal changes nothing.
+    pub fn free(&mut self, key: &RangeInclusive) -> Result<()> {
+        let answer = self.free_counted(key).0;
+        let _ = self.height();
+        answer
+    }
+}

@@ -1,0 +1,128 @@
+// Written by bindings/erase from crates/vm_allocator/src/allocation_engine/node/balance.rt: do not edit.
+
+//! Rotations, and what comes before them. Nothing here calls itself, and nothing takes memory.
+
+use rattle::Box;
+use super::kept::{kept_of, refresh, room_of};
+use super::{Child, InnerNode, height};
+use crate::allocation_engine::NodeState;
+use crate::range::RangeInclusive;
+
+/// What becomes of a node once one of its children has changed.
+pub(super) enum Settled {
+    /// Its children are close in height; what it keeps changed, or it did not.
+    Stands(bool),
+    /// Its children differ by two, and are taken out of it: the left one and the right one.
+    Leans(Child, Child),
+}
+
+/// Brings what a node keeps up to date, or takes its children out where they are to be balanced.
+#[inline(always)]
+pub(super) fn settle(
+    left: &mut Child,
+    right: &mut Child,
+    key: &RangeInclusive,
+    node_state: NodeState,
+    kept_height: &mut u64,
+    max_free: &mut u64,
+    alignments: &mut u8,
+) -> Settled {
+    let first = kept_of(left);
+    let second = kept_of(right);
+    if first.height > second.height + 1 || second.height > first.height + 1 {
+        let own = room_of(key, node_state);
+        *kept_height = 1;
+        *max_free = own.longest;
+        *alignments = own.alignments;
+        return Settled::Leans(left.take(), right.take());
+    }
+    let own = room_of(key, node_state);
+    let changed = refresh(first, second, own, kept_height, max_free, alignments);
+    Settled::Stands(changed)
+}
+
+impl InnerNode {
+    /// Takes the children out of the node, the left one and the right one.
+    #[inline(always)]
+    pub(super) fn strip(&mut self) -> (Child, Child) {
+        let sides = (self.left.take(), self.right.take());
+        let own = room_of(&self.key, self.node_state);
+        self.height = 1;
+        self.max_free = own.longest;
+        self.alignments = own.alignments;
+        sides
+    }
+}
+
+/// A node's left side, the node without children, and its right side.
+fn part(mut node: Box<InnerNode>) -> (Child, Box<InnerNode>, Child) {
+    let (left, right) = node.strip();
+    (left, node, right)
+}
+
+/// A node with these sides, whose heights differ by at most one.
+pub(super) fn fork(left: Child, mut middle: Box<InnerNode>, right: Child) -> Box<InnerNode> {
+    let open = &mut *middle;
+    open.left = left;
+    open.right = right;
+    let own = room_of(&open.key, open.node_state);
+    let _ = refresh(
+        kept_of(&open.left),
+        kept_of(&open.right),
+        own,
+        &mut open.height,
+        &mut open.max_free,
+        &mut open.alignments,
+    );
+    middle
+}
+
+/// The rotations where the left side is two levels higher: a single one, or a double one where the
+/// inner grandchild is the higher.
+fn lean_left(left: Box<InnerNode>, middle: Box<InnerNode>, right: Child) -> Box<InnerNode> {
+    let (outer, top, inner) = part(left);
+    if height(&outer) >= height(&inner) {
+        return fork(outer, top, Some(fork(inner, middle, right)));
+    }
+    let Some(inner) = inner else { unreachable!() };
+    let (before, inner, after) = part(inner);
+    let low = fork(outer, top, before);
+    fork(Some(low), inner, Some(fork(after, middle, right)))
+}
+
+/// The rotations where the right side is two levels higher, the mirror image.
+fn lean_right(left: Child, middle: Box<InnerNode>, right: Box<InnerNode>) -> Box<InnerNode> {
+    let (inner, top, outer) = part(right);
+    if height(&outer) >= height(&inner) {
+        return fork(Some(fork(left, middle, inner)), top, outer);
+    }
+    let Some(inner) = inner else { unreachable!() };
+    let (before, inner, after) = part(inner);
+    let low = fork(left, middle, before);
+    fork(Some(low), inner, Some(fork(after, top, outer)))
+}
+
+/// A node with these sides, whose heights differ by at most two.
+pub(super) fn balance(left: Child, middle: Box<InnerNode>, right: Child) -> Box<InnerNode> {
+    let left_height = height(&left);
+    let right_height = height(&right);
+    if left_height > right_height + 1 {
+        let Some(left) = left else { unreachable!() };
+        return lean_left(left, middle, right);
+    }
+    if right_height > left_height + 1 {
+        let Some(right) = right else { unreachable!() };
+        return lean_right(left, middle, right);
+    }
+    fork(left, middle, right)
+}
+
+/// Puts a node with these sides, whose heights differ by at most two, in the place of one without
+/// children. The height there may be another one, so it returns true.
+pub(super) fn rebalance(at: &mut Child, left: Child, right: Child) -> bool {
+    let Some(middle) = at.take() else {
+        unreachable!()
+    };
+    *at = Some(balance(left, middle, right));
+    true
+}

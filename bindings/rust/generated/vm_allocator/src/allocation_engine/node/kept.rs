@@ -1,0 +1,110 @@
+// Written by bindings/erase from crates/vm_allocator/src/allocation_engine/node/kept.rt: do not edit.
+
+//! What a node keeps of its tree, brought up to date from its children and its own block.
+
+use super::Child;
+use crate::allocation_engine::NodeState;
+use crate::range::RangeInclusive;
+
+/// What the free blocks of a tree, or one block alone, have room for.
+#[derive(Clone, Copy, Debug)]
+pub(super) struct Room {
+    /// The length of the longest free block, 0 where there is none.
+    pub(super) longest: u64,
+    /// How many of the 64 alignments have a multiple in a free block.
+    pub(super) alignments: u8,
+}
+
+/// What a child keeps.
+#[derive(Clone, Copy, Debug)]
+pub(super) struct Kept {
+    /// How many nodes the longest way down from it has.
+    pub(super) height: u64,
+    /// What the free blocks of its tree have room for.
+    pub(super) room: Room,
+}
+
+/// What a block has room for: its clear addresses are all of a free one, none of a held one.
+#[inline(always)]
+pub(super) fn room_of(key: &RangeInclusive, node_state: NodeState) -> Room {
+    match node_state {
+        NodeState::Free => Room {
+            longest: key.len(),
+            alignments: alignment_count(key),
+        },
+        NodeState::Allocated => Room {
+            longest: 0,
+            alignments: 0,
+        },
+    }
+}
+
+/// How many of the 64 alignments have a multiple in a range: the greatest is that of the highest bit
+/// in which its last address and the one before its first differ.
+#[inline(always)]
+fn alignment_count(key: &RangeInclusive) -> u8 {
+    let start = key.start();
+    if start == 0 {
+        return 64;
+    }
+    ((start - 1) ^ key.end()).ilog2() as u8 + 1
+}
+
+/// What a child keeps, all 0 where it is absent.
+#[inline(always)]
+pub(super) fn kept_of(child: &Child) -> Kept {
+    match child {
+        None => Kept {
+            height: 0,
+            room: Room {
+                longest: 0,
+                alignments: 0,
+            },
+        },
+        Some(node) => Kept {
+            height: node.height,
+            room: Room {
+                longest: node.max_free,
+                alignments: node.alignments,
+            },
+        },
+    }
+}
+
+/// Brings what a node keeps up to date, from what its children keep; says whether a part of it changed.
+#[inline(always)]
+pub(super) fn refresh(
+    left: Kept,
+    right: Kept,
+    own: Room,
+    kept_height: &mut u64,
+    max_free: &mut u64,
+    alignments: &mut u8,
+) -> bool {
+    let height = left.height.max(right.height) + 1;
+    let changed = refresh_room(left.room, right.room, own, max_free, alignments);
+    if height == *kept_height {
+        return changed;
+    }
+    *kept_height = height;
+    true
+}
+
+/// Brings up to date what a node keeps of its tree's room; says whether a part of it changed.
+#[inline(always)]
+pub(super) fn refresh_room(
+    left: Room,
+    right: Room,
+    own: Room,
+    kept_longest: &mut u64,
+    kept_alignments: &mut u8,
+) -> bool {
+    let longest = left.longest.max(right.longest).max(own.longest);
+    let reached = left.alignments.max(right.alignments).max(own.alignments);
+    if longest == *kept_longest && reached == *kept_alignments {
+        return false;
+    }
+    *kept_longest = longest;
+    *kept_alignments = reached;
+    true
+}

@@ -1,0 +1,119 @@
+// Written by bindings/erase from crates/vm_allocator/src/allocation_engine/node/places.rt: do not edit.
+
+//! The searches for the place of a request.
+
+use super::{Child, InnerNode};
+use crate::allocation_engine::{NodeState, align_down, align_up};
+use crate::range::RangeInclusive;
+
+/// A start in a free block.
+#[derive(Clone, Copy, Debug)]
+pub(crate) struct Place {
+    /// The free block.
+    pub(crate) key: RangeInclusive,
+    /// An address of it.
+    pub(crate) start: u64,
+}
+
+/// The least multiple of the alignment from which a block has room for `size` clear addresses.
+fn least_fit(key: &RangeInclusive, state: NodeState, size: u64, alignment: u64) -> Option<u64> {
+    if state == NodeState::Allocated {
+        return None;
+    }
+    let Ok(start) = align_up(key.start(), alignment) else {
+        return None;
+    };
+    let end = key.end();
+    if start <= end && size - 1 <= end - start {
+        Some(start)
+    } else {
+        None
+    }
+}
+
+/// The greatest multiple of the alignment from which a block has room for `size` clear addresses.
+fn greatest_fit(key: &RangeInclusive, state: NodeState, size: u64, alignment: u64) -> Option<u64> {
+    let (start, end) = (key.start(), key.end());
+    if state == NodeState::Allocated || end - start < size - 1 {
+        return None;
+    }
+    let Ok(place) = align_down(end - (size - 1), alignment) else {
+        return None;
+    };
+    if start <= place { Some(place) } else { None }
+}
+
+/// The tree, if one of its free blocks is long enough for `size` addresses, and a multiple of the
+/// alignment lies in one of them.
+#[inline(always)]
+fn roomy(tree: &Child, size: u64, alignment: u64) -> Option<&InnerNode> {
+    let Some(node) = tree else { return None };
+    let node: &InnerNode = node;
+    if node.max_free < size || u32::from(node.alignments) <= alignment.trailing_zeros() {
+        None
+    } else {
+        Some(node)
+    }
+}
+
+/// The least place among the blocks of a tree: the first block with a fit, and its least fit.
+pub(crate) fn first_place(tree: &Child, size: u64, alignment: u64, count: &mut u64) -> Option<Place> {
+    match roomy(tree, size, alignment) {
+        None => None,
+        Some(node) => node.first_place(size, alignment, count),
+    }
+}
+
+/// The greatest place among the blocks of a tree: the last block with a fit, and its greatest fit.
+pub(crate) fn last_place(tree: &Child, size: u64, alignment: u64, count: &mut u64) -> Option<Place> {
+    match roomy(tree, size, alignment) {
+        None => None,
+        Some(node) => node.last_place(size, alignment, count),
+    }
+}
+
+impl InnerNode {
+    /// The least place from this node on.
+    fn first_place(&self, size: u64, alignment: u64, count: &mut u64) -> Option<Place> {
+        self.enter(count);
+        let found = match roomy(&self.left, size, alignment) {
+            None => None,
+            Some(left) => left.first_place(size, alignment, count),
+        };
+        if found.is_some() {
+            return found;
+        }
+        if let Some(start) = least_fit(&self.key, self.node_state, size, alignment) {
+            return Some(Place {
+                key: self.key,
+                start,
+            });
+        }
+        let Some(right) = roomy(&self.right, size, alignment) else {
+            return None
+        };
+        right.first_place(size, alignment, count)
+    }
+
+    /// The greatest place from this node on.
+    fn last_place(&self, size: u64, alignment: u64, count: &mut u64) -> Option<Place> {
+        self.enter(count);
+        let found = match roomy(&self.right, size, alignment) {
+            None => None,
+            Some(right) => right.last_place(size, alignment, count),
+        };
+        if found.is_some() {
+            return found;
+        }
+        if let Some(start) = greatest_fit(&self.key, self.node_state, size, alignment) {
+            return Some(Place {
+                key: self.key,
+                start,
+            });
+        }
+        let Some(left) = roomy(&self.left, size, alignment) else {
+            return None
+        };
+        left.last_place(size, alignment, count)
+    }
+}

@@ -1,0 +1,102 @@
+// Written by bindings/erase from crates/vm_allocator/src/allocation_engine/node/remove.rt: do not edit.
+
+//! A block removed from a tree.
+
+use rattle::Box;
+use super::balance::{Settled, balance, rebalance, settle};
+use super::{Child, InnerNode, height};
+use crate::range::RangeInclusive;
+use core::cmp::Ordering;
+
+/// Takes the node with the least key out from below the node at a place; says whether the height
+/// there changed.
+fn take_least_at(at: &mut Child, count: &mut u64) -> (Box<InnerNode>, bool) {
+    let Some(tree) = at else { unreachable!() };
+    let tree: &mut InnerNode = tree;
+    tree.enter(count);
+    if tree.left.is_none() {
+        let (_, right) = tree.strip();
+        let _ = height(&right);
+        let Some(least) = at.take() else {
+            unreachable!()
+        };
+        *at = right;
+        return (least, true);
+    }
+    let (least, changed) = take_least_at(&mut tree.left, count);
+    if !changed {
+        return (least, false);
+    }
+    match settle(
+        &mut tree.left,
+        &mut tree.right,
+        &tree.key,
+        tree.node_state,
+        &mut tree.height,
+        &mut tree.max_free,
+        &mut tree.alignments,
+    ) {
+        Settled::Stands(changed) => (least, changed),
+        Settled::Leans(left, right) => (least, rebalance(at, left, right)),
+    }
+}
+
+/// What is left of a tree without its root, from the root's children: the other child where one is
+/// absent, and else both below the least node of the right one.
+pub(super) fn join(left: Child, mut right: Child, count: &mut u64) -> Child {
+    let _ = (height(&left), height(&right));
+    if right.is_none() {
+        return left;
+    }
+    if left.is_none() {
+        return right;
+    }
+    let (least, _) = take_least_at(&mut right, count);
+    Some(balance(left, least, right))
+}
+
+impl InnerNode {
+    /// The tree without its root's key: its child where it has one alone, none where it has none,
+    /// and else both children below the least node of the right one. It takes no memory.
+    #[inline(never)]
+    pub(crate) fn delete_root(tree: Box<InnerNode>, count: &mut u64) -> Option<Box<InnerNode>> {
+        let InnerNode { left, right, .. } = Box::into_inner(tree);
+        let joined = join(left, right, count);
+        let _ = height(&joined);
+        joined
+    }
+}
+
+/// Removes the node with a key from below the node at a place, if there is one; says whether the
+/// height there changed.
+pub(crate) fn delete_at(at: &mut Child, key: &RangeInclusive, count: &mut u64) -> bool {
+    let Some(tree) = at else { return false };
+    let tree: &mut InnerNode = tree;
+    tree.enter(count);
+    let changed = match tree.key.order(key) {
+        Ordering::Equal => {
+            let Some(node) = at.take() else {
+                unreachable!()
+            };
+            *at = InnerNode::delete_root(node, count);
+            return true;
+        }
+        Ordering::Greater => delete_at(&mut tree.left, key, count),
+        Ordering::Less => delete_at(&mut tree.right, key, count),
+    };
+    if !changed {
+        return false;
+    }
+    match settle(
+        &mut tree.left,
+        &mut tree.right,
+        &tree.key,
+        tree.node_state,
+        &mut tree.height,
+        &mut tree.max_free,
+        &mut tree.alignments,
+    ) {
+        Settled::Stands(changed) => changed,
+        Settled::Leans(left, right) => rebalance(at, left, right),
+    }
+}

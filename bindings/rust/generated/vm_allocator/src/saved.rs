@@ -1,0 +1,26 @@
+// Written by bindings/erase from crates/vm_allocator/src/saved.rt: do not edit.
+
+//! Saved values: what is written of ranges, states and allocators as a `Value`, and read again. A value
+//! may come from a stranger. It is read only where it states an object: it has exactly the fields that
+//! it should, and all that has to hold of them holds. The order of the fields says nothing. The whole
+//! value is checked before memory is asked for.
+mod allocator;
+mod fields;
+mod ids;
+mod range;
+mod repaired;
+mod state;
+mod tree;
+
+use rattle::Error;
+
+/// Why a saved value is not read.
+#[derive(Debug, PartialEq, Eq, Error)]
+pub enum ValueError {
+    /// The value states no object of the type.
+    #[error("The value states no valid object.")]
+    NotAState,
+    /// The value states an object, and a request for memory was refused.
+    #[error("There is not enough memory.")]
+    OutOfMemory,
+}

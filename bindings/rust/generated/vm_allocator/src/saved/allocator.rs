@@ -1,0 +1,104 @@
+// Written by bindings/erase from crates/vm_allocator/src/saved/allocator.rt: do not edit.
+
+//! The saved form of an address allocator.
+
+use super::ValueError;
+use super::fields::{has_fields, range_in};
+use super::tree::{Front, build, check};
+use crate::address_allocator::AddressAllocator;
+use crate::allocation_engine::node::walks::saving::save;
+use crate::allocation_engine::{IntervalTree, NodeState};
+use crate::error::{Error, Result};
+use crate::range::RangeInclusive;
+use rattle::{Value, json};
+use rattle::{AllocError, Global};
+
+/// No node of a saved tree is nested deeper, since no tree of an allocator is higher.
+const MOST_NESTED: u64 = 49;
+
+impl AddressAllocator {
+    /// The value that states the allocator: its space, and its tree node for node. `OutOfMemory` where
+    /// there is no memory for it.
+    pub fn to_value(&self, alloc: Global) -> Result<Value> {
+        let _ = self.interval_tree.height();
+        let root = save(self.interval_tree.root(), alloc)?;
+        let space = self.address_space.to_value(alloc)?;
+        match save_allocator(alloc, space, root) {
+            Ok(value) => Ok(value),
+            Err(_) => Err(Error::OutOfMemory),
+        }
+    }
+
+    /// The allocator that a value states: its space and held ranges, in a tree of the same nodes.
+    /// `NotAState` where the value states none, and else `OutOfMemory` where there is no memory for the
+    /// tree. To find out which takes no memory and goes down at most 50 levels of the value.
+    pub fn from_value(alloc: Global, value: &Value) -> core::result::Result<Self, ValueError> {
+        let Some(checked) = check_allocator(value) else {
+            return Err(ValueError::NotAState);
+        };
+        let Ok(root) = build(checked.root, MOST_NESTED, alloc) else {
+            return Err(ValueError::OutOfMemory);
+        };
+        Ok(AddressAllocator {
+            address_space: checked.space,
+            interval_tree: IntervalTree { root },
+        })
+    }
+}
+
+/// The object of an allocator's fields.
+fn save_allocator(
+    alloc: Global,
+    space: Value,
+    root: Value,
+) -> core::result::Result<Value, AllocError> {
+    json!(in alloc; {"address_space": space, "interval_tree": {"root": root}})
+}
+
+/// The space that an allocator's value states, and the root of its tree.
+#[derive(Clone, Copy)]
+pub(super) struct SavedAllocator<'a> {
+    pub(super) space: RangeInclusive,
+    pub(super) root: &'a Value,
+}
+
+/// The fields of an allocator's value, where it has these and no others.
+pub(super) fn parts_of(value: &Value) -> Option<SavedAllocator<'_>> {
+    if !has_fields(value, 2) {
+        return None;
+    }
+    let space = range_in(value, "address_space")?;
+    let root = root_of(value.get("interval_tree")?)?;
+    Some(SavedAllocator { space, root })
+}
+
+/// The space that a value states, and the root of its tree; both are checked.
+fn check_allocator(value: &Value) -> Option<SavedAllocator<'_>> {
+    let Some(parts) = parts_of(value) else {
+        return None;
+    };
+    if !fits(&parts.space, parts.root) {
+        return None;
+    }
+    Some(parts)
+}
+
+/// The root of a tree's value.
+fn root_of(tree: &Value) -> Option<&Value> {
+    if !has_fields(tree, 1) {
+        return None;
+    }
+    tree.get("root")
+}
+
+/// Whether the tree of this root is one, with blocks from the start to the end of the space.
+fn fits(space: &RangeInclusive, root: &Value) -> bool {
+    let before = Front {
+        next: space.start().into(),
+        before: NodeState::Allocated,
+    };
+    let Some(found) = check(root, MOST_NESTED, before) else {
+        return false;
+    };
+    found.front.next == u128::from(space.end()) + 1
+}

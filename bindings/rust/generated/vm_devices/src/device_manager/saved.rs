@@ -1,0 +1,94 @@
+// Written by bindings/erase from crates/vm_devices/src/device_manager/saved.rt: do not edit.
+
+//! The saved form of a manager: its version, both allocators, and the list of its devices. A value may
+//! come from a stranger; it is read only where all of this fits together.
+
+use rattle::Vec;
+mod pairing;
+mod slots;
+
+use self::pairing::{are_as_many, are_held_apart};
+use self::slots::{read_slots, save_slots};
+use super::DeviceManager;
+use rattle::{Value, json};
+use rattle::{AllocError, Global};
+use vm_allocator::{AddressAllocator, Error, IdAllocator, Result, ValueError};
+
+/// The version of the saved form.
+const VERSION: u64 = 1;
+
+impl DeviceManager {
+    /// The value that states the manager: its version, its ids, its space and its devices, by rising
+    /// ids. `OutOfMemory` where there is no memory for it.
+    pub fn to_value(&self, alloc: Global) -> Result<Value> {
+        let ids = self.id_allocator.to_value(alloc)?;
+        let space = self.mmio_allocator.to_value(alloc)?;
+        let slots = save_slots(alloc, &self.slots)?;
+        match put_manager(alloc, ids, space, slots) {
+            Ok(value) => Ok(value),
+            Err(_) => Err(Error::OutOfMemory),
+        }
+    }
+
+    /// The manager that a value states: its ids, its space and its devices. `NotAState` where the value
+    /// states none: the version is another, a part states nothing, ids do not rise, a device has an id
+    /// or a range that is not held, or a held one has no device. Its parts are read in turn, so
+    /// `OutOfMemory` may come for any value.
+    pub fn from_value(alloc: Global, value: &Value) -> core::result::Result<Self, ValueError> {
+        let Some(fields) = fields_of(value) else {
+            return Err(ValueError::NotAState);
+        };
+        let id_allocator = IdAllocator::from_value(alloc, fields.ids)?;
+        let mmio_allocator = AddressAllocator::from_value(alloc, fields.space)?;
+        // A stranger's list is counted before it costs memory.
+        if !are_as_many(&id_allocator, &mmio_allocator, fields.slots) {
+            return Err(ValueError::NotAState);
+        }
+        let slots = read_slots(alloc, fields.slots)?;
+        match are_held_apart(alloc, &id_allocator, &mmio_allocator, &slots) {
+            Ok(true) => Ok(DeviceManager {
+                id_allocator,
+                mmio_allocator,
+                slots,
+            }),
+            Ok(false) => Err(ValueError::NotAState),
+            Err(_) => Err(ValueError::OutOfMemory),
+        }
+    }
+}
+
+/// The object of a manager's fields.
+fn put_manager(
+    alloc: Global,
+    ids: Value,
+    space: Value,
+    slots: Value,
+) -> core::result::Result<Value, AllocError> {
+    json!(in alloc; {"version": VERSION, "id_allocator": ids, "mmio_allocator": space, "slots": slots})
+}
+
+/// What stands in the fields of a manager's value.
+struct Fields<'a> {
+    ids: &'a Value,
+    space: &'a Value,
+    slots: &'a Vec<Value>,
+}
+
+/// What stands in the fields of a value, where they are those of a manager, of this version.
+fn fields_of(value: &Value) -> Option<Fields<'_>> {
+    if !has_fields(value, 4) || value.get("version")?.as_u64()? != VERSION {
+        return None;
+    }
+    let ids = value.get("id_allocator")?;
+    let space = value.get("mmio_allocator")?;
+    let slots = value.get("slots")?.as_array()?;
+    Some(Fields { ids, space, slots })
+}
+
+/// Whether a value is an object with that many fields.
+fn has_fields(value: &Value, count: usize) -> bool {
+    match value.as_object() {
+        Some(fields) => fields.len() == count,
+        None => false,
+    }
+}

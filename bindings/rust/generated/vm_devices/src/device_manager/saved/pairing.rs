@@ -1,0 +1,33 @@
+// Written by bindings/erase from crates/vm_devices/src/device_manager/saved/pairing.rt: do not edit.
+
+//! Whether devices pair the held ids with the held ranges.
+
+use rattle::Value;
+use rattle::{AllocError, Global};
+use rattle::{BTreeMap, BTreeSet};
+use vm_allocator::{AddressAllocator, IdAllocator, RangeInclusive};
+
+/// Whether the items are as many as the held ids and as the held ranges.
+pub(super) fn are_as_many(ids: &IdAllocator, space: &AddressAllocator, items: &[Value]) -> bool {
+    let count = items.len() as u64;
+    ids.held_count() == count && space.held_count() == count
+}
+
+/// Whether the id and the range of each device are held, and no two have one start.
+pub(super) fn are_held_apart(
+    alloc: Global,
+    ids: &IdAllocator,
+    space: &AddressAllocator,
+    slots: &BTreeMap<u32, RangeInclusive>,
+) -> core::result::Result<bool, AllocError> {
+    let mut starts = BTreeSet::new(alloc);
+    for (id, range) in slots.iter() {
+        if !ids.is_allocated(*id) || !space.holds(range) {
+            return Ok(false);
+        }
+        if !starts.insert(range.start())? {
+            return Ok(false);
+        }
+    }
+    Ok(true)
+}

@@ -1,0 +1,79 @@
+// Written by bindings/erase from crates/vm_devices/src/device_manager/saved/slots.rt: do not edit.
+
+//! The list of devices in a manager's value.
+
+use rattle::Vec;
+use super::has_fields;
+use crate::device_slot::DeviceSlot;
+use rattle::{Value, json};
+use rattle::{AllocError, Global};
+use rattle::BTreeMap;
+use vm_allocator::{Error, RangeInclusive, Result, ValueError};
+
+/// The list of devices, by rising ids.
+pub(super) fn save_slots(alloc: Global, slots: &BTreeMap<u32, RangeInclusive>) -> Result<Value> {
+    let mut list = Vec::new(alloc);
+    for (id, range) in slots.iter() {
+        let slot = save_slot(alloc, *id, range)?;
+        let Ok(()) = list.push(slot) else {
+            return Err(Error::OutOfMemory);
+        };
+    }
+    Ok(Value::from(list))
+}
+
+/// The value of one device.
+fn save_slot(alloc: Global, id: u32, range: &RangeInclusive) -> Result<Value> {
+    let range = range.to_value(alloc)?;
+    match put_slot(alloc, id, range) {
+        Ok(value) => Ok(value),
+        Err(_) => Err(Error::OutOfMemory),
+    }
+}
+
+/// The object of a device's fields.
+fn put_slot(alloc: Global, id: u32, range: Value) -> core::result::Result<Value, AllocError> {
+    json!(in alloc; {"id": id, "mmio_range": range})
+}
+
+/// The table of the devices that a list states, where their ids rise.
+pub(super) fn read_slots(
+    alloc: Global,
+    list: &[Value],
+) -> core::result::Result<BTreeMap<u32, RangeInclusive>, ValueError> {
+    let mut slots = BTreeMap::new(alloc);
+    let mut least = 0u64;
+    for item in list {
+        let Some(slot) = slot_of(alloc, item) else {
+            return Err(ValueError::NotAState);
+        };
+        if u64::from(slot.id) < least {
+            return Err(ValueError::NotAState);
+        }
+        let Ok(_) = slots.insert(slot.id, slot.range) else {
+            return Err(ValueError::OutOfMemory);
+        };
+        least = u64::from(slot.id) + 1;
+    }
+    Ok(slots)
+}
+
+/// The device that a value states.
+fn slot_of(alloc: Global, value: &Value) -> Option<DeviceSlot> {
+    if !has_fields(value, 2) {
+        return None;
+    }
+    let id = id_of(value.get("id")?.as_u64()?)?;
+    let range = range_of(alloc, value.get("mmio_range")?)?;
+    Some(DeviceSlot { id, range })
+}
+
+/// The number as an id.
+fn id_of(number: u64) -> Option<u32> {
+    u32::try_from(number).ok()
+}
+
+/// The range that a value states.
+fn range_of(alloc: Global, value: &Value) -> Option<RangeInclusive> {
+    RangeInclusive::from_value(alloc, value).ok()
+}

@@ -1,0 +1,47 @@
+// Written by bindings/erase from crates/vm_replay/src/number.rt: do not edit.
+
+/// No number of the language has more digits, and none of 64 bits needs more.
+pub const MOST_DIGITS: usize = 20;
+
+/// So many digits say a number of 64 bits, whichever they are.
+const SAFE_DIGITS: usize = 19;
+
+const BASE: u64 = 10;
+
+/// The number that the digits at the front of a text say, and how many digits they are.
+#[inline(always)]
+pub fn number_ahead(text: &[u8]) -> Option<(u64, usize)> {
+    let (value, count) = safe_value(text);
+    if count == 0 {
+        return None;
+    }
+    if count == SAFE_DIGITS {
+        return with_last_digit(value, text);
+    }
+    Some((value, count))
+}
+
+/// The value of the digits at the front of a text, of the first `SAFE_DIGITS` if they are more, and
+/// how many digits that are.
+#[inline(always)]
+fn safe_value(text: &[u8]) -> (u64, usize) {
+    let most = text.len().min(SAFE_DIGITS);
+    let mut value = 0u64;
+    let mut count = 0;
+    while count < most && text[count].is_ascii_digit() {
+        value = value * BASE + u64::from(text[count] - b'0');
+        count += 1;
+    }
+    (value, count)
+}
+
+/// The number of a text whose first `SAFE_DIGITS` digits have this value, if it has one more or none.
+#[inline(always)]
+fn with_last_digit(value: u64, text: &[u8]) -> Option<(u64, usize)> {
+    let (last, more) = safe_value(&text[SAFE_DIGITS..]);
+    match more {
+        0 => Some((value, SAFE_DIGITS)),
+        1 => Some((value.checked_mul(BASE)?.checked_add(last)?, MOST_DIGITS)),
+        _ => None,
+    }
+}

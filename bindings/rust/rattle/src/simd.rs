@@ -1,0 +1,49 @@
+//! A vector of bytes, since `std::simd` is not stable.
+#![allow(non_camel_case_types)]
+
+/// Sixteen bytes.
+#[derive(Clone, Copy)]
+pub struct u8x16(u128);
+
+/// Which of sixteen lanes hold: the top bit of each says it.
+#[derive(Clone, Copy)]
+pub struct Mask(u128);
+
+const LOW_BITS: u128 = u128::from_ne_bytes([0x7F; 16]);
+
+impl u8x16 {
+    /// The first sixteen bytes of the slice.
+    #[inline(always)]
+    pub fn from_slice(bytes: &[u8]) -> u8x16 {
+        let mut lanes = [0; 16];
+        lanes.copy_from_slice(&bytes[..16]);
+        u8x16(u128::from_le_bytes(lanes))
+    }
+
+    /// The byte in every lane.
+    #[inline(always)]
+    pub fn splat(byte: u8) -> u8x16 {
+        u8x16(u128::from_ne_bytes([byte; 16]))
+    }
+
+    /// The lanes in which both have the same byte.
+    #[inline(always)]
+    pub fn simd_eq(self, other: u8x16) -> Mask {
+        let apart = self.0 ^ other.0;
+        Mask(!(((apart & LOW_BITS) + LOW_BITS) | apart | LOW_BITS))
+    }
+}
+
+impl Mask {
+    /// Bit i says whether lane i holds.
+    #[inline(always)]
+    pub fn to_bitmask(self) -> u64 {
+        top_bits(self.0 as u64) | top_bits((self.0 >> 64) as u64) << 8
+    }
+}
+
+/// The top bits of eight bytes, of which no other bit is set: the product gathers them in one byte.
+#[inline(always)]
+fn top_bits(word: u64) -> u64 {
+    (word >> 7).wrapping_mul(0x0102_0408_1020_4080) >> 56
+}

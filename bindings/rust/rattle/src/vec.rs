@@ -1,0 +1,49 @@
+use crate::{AllocFailed, Global};
+use core::fmt;
+use core::ops::{Deref, DerefMut};
+
+/// A vector whose growth may be refused.
+#[derive(PartialEq, Eq)]
+pub struct Vec<T>(alloc::vec::Vec<T>);
+
+impl<T> Vec<T> {
+    /// A vector of nothing, which takes no memory.
+    pub fn new(_alloc: Global) -> Self {
+        Vec(alloc::vec::Vec::new())
+    }
+
+    /// Adds a value at the end; it comes back where there is no memory.
+    pub fn push(&mut self, value: T) -> Result<(), AllocFailed<T>> {
+        if self.0.try_reserve(1).is_err() {
+            return Err(AllocFailed(value));
+        }
+        self.0.push(value);
+        Ok(())
+    }
+}
+
+impl<T> From<alloc::vec::Vec<T>> for Vec<T> {
+    fn from(list: alloc::vec::Vec<T>) -> Self {
+        Vec(list)
+    }
+}
+
+impl<T> Deref for Vec<T> {
+    type Target = [T];
+
+    fn deref(&self) -> &[T] {
+        &self.0
+    }
+}
+
+impl<T> DerefMut for Vec<T> {
+    fn deref_mut(&mut self) -> &mut [T] {
+        &mut self.0
+    }
+}
+
+impl<T: fmt::Debug> fmt::Debug for Vec<T> {
+    fn fmt(&self, f: &mut fmt::Formatter<'_>) -> fmt::Result {
+        self.0.fmt(f)
+    }
+}
