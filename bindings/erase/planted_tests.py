@@ -69,11 +69,11 @@ def main():
     if len(sys.argv) != 3:
         sys.exit(__doc__)
     runner = Runner(*map(os.path.abspath, sys.argv[1:]))
-    bodies = list(planting.bodies(os.path.join(runner.project, LIST)))
+    bodies = planting.bodies(os.path.join(runner.project, LIST))
     tests = {body.name: (*body.rest["test"].split("::", 1), body.rest.get("run")) for body in bodies}
     wrong, seconds = 0, {}
 
-    clean = runner.programs(planting.Body("nothing", [], {}), sorted({crate for crate, _, _ in tests.values()}))
+    clean = runner.programs(planting.NOTHING, sorted({crate for crate, _, _ in tests.values()}))
     for crate, test, how in sorted(set(tests.values()), key=str):
         begun = time.monotonic()
         if not runner.passes(clean[crate], test, how):

@@ -1,36 +1,22 @@
-"""Reads lists of bodies, and plants one in a copy of a project: what the programs beside this share.
-
-A list has an entry for each body, of lines KEY: TEXT with empty lines between entries. A line `old` is a
-text that stands once in the `file` named before it, and the line `new` behind it is what takes its place."""
-import collections
+"""Plants bodies in a copy of a project: what the programs beside this share. The lists of bodies are
+tests/count_rule_bodies and tests/test_bodies, whose heads say how they are written."""
 import os
-import re
 import shutil
 import subprocess
 import sys
 
 import erase
 
-Body = collections.namedtuple("Body", "name changes rest")  # rest: the other keys
+sys.path.append(os.path.join(os.path.dirname(os.path.abspath(__file__)), "..", "..", "tests"))
+from reading.planted import Planted, planted_in, with_edits
+
+NOTHING = Planted("nothing", [], {})
 
 
 def bodies(path):
     """The bodies of a list."""
     with open(path, encoding="utf-8") as file:
-        text = re.sub(r"^#.*\n", "", file.read(), flags=re.MULTILINE)
-    for entry in filter(None, re.split(r"\n\s*\n", text.strip())):
-        place, old, changes, rest = None, None, [], {}
-        for line in entry.split("\n"):
-            key, _, value = line.partition(": ")
-            if key == "file":
-                place = value
-            elif key == "old":
-                old = value
-            elif key == "new":
-                changes.append((place, old, value))
-            else:
-                rest[key] = value
-        yield Body(rest.pop("name"), changes, rest)
+        return list(planted_in(file.read()))
 
 
 def plant(body, project, copy, folder):
@@ -41,13 +27,16 @@ def plant(body, project, copy, folder):
         if os.path.isdir(os.path.join(project, source)):
             shutil.copytree(os.path.join(project, source), os.path.join(copy, source))
     shutil.copy(os.path.join(project, "crates.txt"), copy)
-    for place, old, new in body.changes:
-        path = os.path.join(copy, folder, place)
-        with open(path, encoding="utf-8") as file:
-            text = file.read()
-        if text.count(old) != 1:
-            sys.exit(f"{body.name}: the text {old!r} does not stand once in {place}")
-        erase.write(path, text.replace(old, new))
+    texts = {}
+    for place, _, _ in body.edits:
+        with open(os.path.join(copy, folder, place), encoding="utf-8") as file:
+            texts[place] = file.read()
+    try:
+        changed = with_edits(texts, body.edits)
+    except ValueError as error:
+        sys.exit(f"{body.name}: {error}")
+    for place, text in changed.items():
+        erase.write(os.path.join(copy, folder, place), text)
 
 
 def cargo(folder, target, *words):

@@ -1,12 +1,12 @@
-"""Reads tests/count_rule_bodies: bodies to plant in the sources of the library."""
+"""Reads lists of bodies to plant in the sources: tests/count_rule_bodies and tests/test_bodies."""
 from collections import namedtuple
 
-# What `is_refused` says with `why`: the reason of the refusal, or why there must be none.
-Planted = namedtuple("Planted", "name edits is_refused why")
+# The edits are (file, old, new) each. The rest has the other keys: why the body is refused, for one.
+Planted = namedtuple("Planted", "name edits rest")
 
 
 def planted_in(text):
-    """The bodies of a table, whose edits are (file, old, new) each."""
+    """The bodies of a list, which stand apart by empty lines."""
     for entry in text.split("\n\n"):
         lines = [line for line in entry.split("\n") if line and not line.startswith("#")]
         if lines:
@@ -14,16 +14,19 @@ def planted_in(text):
 
 
 def read_entry(pairs):
-    said, edits = {}, []
+    file, old, edits, rest = None, None, [], {}
     for key, value in pairs:
-        if key == "new":
-            edits.append((said["file"], said["old"], value))
-        elif key not in ("name", "file", "old", "refused", "accepted"):
-            raise ValueError(f"no entry has a line '{key}'")
-        said[key] = value
-    if "name" not in said or not edits or ("refused" in said) == ("accepted" in said):
-        raise ValueError(f"not a whole entry: {said}")
-    return Planted(said["name"], edits, "refused" in said, said.get("refused") or said.get("accepted"))
+        if key == "file":
+            file = value
+        elif key == "old":
+            old = value
+        elif key == "new":
+            edits.append((file, old, value))
+        else:
+            rest[key] = value
+    if "name" not in rest or not edits:
+        raise ValueError(f"not a whole entry: {rest}")
+    return Planted(rest.pop("name"), edits, rest)
 
 
 def with_edits(texts, edits):
