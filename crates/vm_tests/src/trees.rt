@@ -34,7 +34,8 @@ fn test_integer_wrapping(rt: HostRuntime) -> std::result::Result<(), Fail> {
     Ok(())
 }
 
-/// A split asks for a box for each part of its gap that is left over, and nothing else asks for any.
+/// A split asks for a box for each part of its gap that is left over; what fills its gap, and a
+/// release, ask for none.
 #[test]
 fn requests_of_a_tree(rt: HostRuntime) -> std::result::Result<(), Fail> {
     count_requests(rt.alloc());

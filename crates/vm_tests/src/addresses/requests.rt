@@ -1,5 +1,5 @@
-//! How often each call asks for memory: once for each part of its gap that is left over, and at no
-//! other time. tests/refused_memory counts.
+//! How often each call asks for memory: making an allocator once, a split once for each part of its gap
+//! that is left over, and any other of these never. tests/refused_memory counts.
 use super::*;
 use crate::fixtures::{count_requests, expect_requests};
 
