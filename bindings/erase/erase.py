@@ -63,8 +63,8 @@ ASSOCIATED = {
 # Methods of types that are not of these crates; each was read beside Rust's.
 METHODS = {
     "alloc", "and_then", "as_array", "as_object", "as_slice", "as_str", "as_u64", "checked_add", "checked_mul",
-    "clone", "cmp", "contains", "copied", "copy_from_slice", "first", "flush", "get", "ilog2", "insert", "into",
-    "is_ascii_digit", "is_empty", "is_none", "is_null", "is_power_of_two", "is_some", "iter", "len", "max",
+    "clone", "cmp", "contains", "copied", "copy_from_slice", "first", "first_chunk", "flush", "get", "ilog2", "insert",
+    "into", "is_ascii_digit", "is_empty", "is_none", "is_null", "is_power_of_two", "is_some", "iter", "len", "max",
     "min", "next", "ok", "pop_first", "push", "read", "remove", "saturating_add", "simd_eq", "stdin", "stdout",
     "take", "to_bitmask", "trailing_zeros", "unwrap", "write_all",
 }

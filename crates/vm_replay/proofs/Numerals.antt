@@ -4,7 +4,8 @@ use Rattle.std.specs.List.{list_all}
 use Rattle.std.proofs.lemmas.Bool.Decides.{nat_tests}
 use Rattle.std.proofs.lemmas.Grind.{pow_more}
 use Rattle.std.proofs.lemmas.List.{take_more, take_all, get_or-drop}
-use Rattle.std.proofs.lemmas.List.Sums.{prefix_len-le-length}
+use Rattle.std.proofs.lemmas.List.Elements.{All-get_or}
+use Rattle.std.proofs.lemmas.List.Sums.{prefix_len-le-length, AllPass-from_list_all}
 use Rattle.std.proofs.Math.Nat.{pow-le-pow_right}
 use Rattle.vm_replay.specs.Numbers.{value_from, is_digit, digit_zero, number_of}
 use Rattle.vm_replay.specs.Reading.{digits_ahead}
@@ -47,6 +48,11 @@ all_digits (x ∷ xs) (suc n) h = step (is_digit x) refl (all_digits xs n)
         → list_all is_digit (take (suc n) (x ∷ xs)) ≡ true
     step true e all = let rest : n ≤ digits_ahead xs = omega (arith, rw e at h) in rw (e, all rest)
     step false e all = absurd (omega (arith, rw e at h))
+
+-- each of some digits is one
+pub digit_at : (digits : List ℕ) (i : ℕ) → i < length digits → list_all is_digit digits ≡ true
+    → is_digit (get_or digits i 0) ≡ true
+digit_at digits i h all = All-get_or (λ x. is_digit x ≡ true) digits i 0 h (AllPass-from_list_all is_digit digits all)
 
 -- the digits behind some of them
 pub ahead_drop : (text : List ℕ) (n : ℕ) → n ≤ digits_ahead text → digits_ahead text ≡ n + digits_ahead (drop n text)

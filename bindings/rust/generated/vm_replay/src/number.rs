@@ -6,6 +6,9 @@ pub const MOST_DIGITS: usize = 20;
 /// So many digits say a number of 64 bits, whichever they are.
 const SAFE_DIGITS: usize = 19;
 
+/// So many bytes are looked at together, where there are as many.
+const CHUNK: usize = 8;
+
 const BASE: u64 = 10;
 
 /// The number that the digits at the front of a text say, and how many digits they are.
@@ -25,14 +28,42 @@ pub fn number_ahead(text: &[u8]) -> Option<(u64, usize)> {
 /// how many digits that are.
 #[inline(always)]
 fn safe_value(text: &[u8]) -> (u64, usize) {
+    let (mut value, mut count) = chunk_value(text);
     let most = text.len().min(SAFE_DIGITS);
-    let mut value = 0u64;
-    let mut count = 0;
     while count < most && text[count].is_ascii_digit() {
         value = value * BASE + u64::from(text[count] - b'0');
         count += 1;
     }
     (value, count)
+}
+
+/// The value of the first `CHUNK` bytes of a text, where all are digits, and how many digits that is.
+#[inline(always)]
+fn chunk_value(text: &[u8]) -> (u64, usize) {
+    match text.first_chunk() {
+        Some(front) if are_digits(front) => (value_of(front), CHUNK),
+        _ => (0, 0),
+    }
+}
+
+/// Whether all of these bytes are digits. It looks at each, so that they can be compared together.
+#[inline(always)]
+fn are_digits(front: &[u8; CHUNK]) -> bool {
+    let mut all = true;
+    for i in 0..CHUNK {
+        all &= front[i].is_ascii_digit();
+    }
+    all
+}
+
+/// The value of these digits.
+#[inline(always)]
+fn value_of(digits: &[u8; CHUNK]) -> u64 {
+    let mut value = 0u64;
+    for i in 0..CHUNK {
+        value = value * BASE + u64::from(digits[i] - b'0');
+    }
+    value
 }
 
 /// The number of a text whose first `SAFE_DIGITS` digits have this value, if it has one more or none.

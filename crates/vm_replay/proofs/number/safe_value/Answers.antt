@@ -2,8 +2,19 @@ use Rattle.std.proofs.Common.{◌≡◌, ◌≤◌, arith, get_or, true}
 use Rattle.std.proofs.lemmas.Bool.Decides.{nat_tests}
 use Rattle.std.proofs.lemmas.List.Sums.{prefix_len-drop_yes}
 use Rattle.vm_replay.specs.Numbers.{is_digit}
-use Rattle.vm_replay.proofs.Numerals.{value_more, next_below, next_fits}
+use Rattle.vm_replay.proofs.Numerals.{value_more, next_below, next_fits, ahead_drop, ahead_within}
 use Rattle.vm_replay.proofs.number.safe_value.Goals as goal
+
+pub loop-count-init : goal.loop-count-init
+loop-count-init c =
+    let front = c.chunk_value-value in
+    let text = c.args.text.now in
+    record {
+      within = omega (arith, front.ensures.within, front.ensures.few, ahead_within text, c.min-most.ensures);
+      ahead = ahead_drop text front.result.1 front.ensures.within;
+      value = front.ensures.value;
+      below = front.ensures.below;
+    }
 
 pub overflow_mul-value : goal.overflow_mul-value
 overflow_mul-value c =
