@@ -69,6 +69,7 @@ pub(crate) struct Cut {
 /// Gives the topmost node a range, which is held, and links what is left beside it; says what
 /// changed there.
 #[tactic(auto, using(crate::proofs::splitting::Carving::carvings, crate::proofs::counts::Carving::ways_to_carve, crate::proofs::counts::Carving::link_bounds))]
+#[inline(never)]
 fn carve_here(at: &mut Child, range: RangeInclusive, rest: Rest, count: &mut u64) -> Change
     requires some { IsSome at.old }
     requires leaves { AreLeaves rest }

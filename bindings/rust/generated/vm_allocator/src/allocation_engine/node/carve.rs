@@ -50,6 +50,7 @@ pub(crate) struct Cut {
 
 /// Gives the topmost node a range, which is held, and links what is left beside it; says what
 /// changed there.
+#[inline(never)]
 fn carve_here(at: &mut Child, range: RangeInclusive, rest: Rest, count: &mut u64) -> Change {
     let Some(tree) = at else { unreachable!() };
     let tree: &mut InnerNode = tree;
