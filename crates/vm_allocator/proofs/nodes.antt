@@ -5,3 +5,4 @@ pub mod Meetings
 pub mod TreeEdits
 pub mod FewestNodes
 pub mod Spaces
+pub mod Settling

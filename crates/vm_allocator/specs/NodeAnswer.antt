@@ -1,9 +1,10 @@
 -- What a change of a tree answers where it may be refused.
-use Rattle.std.specs.Prelude.{◌≡◌, ◌⊎◌, true, Option, Some, None, List, Result, Ok, Err, [], ◌∷◌}
+use Rattle.std.specs.Prelude.{◌≡◌, ◌⊎◌, Option, Some, None, List, Result, Ok, Err, [], ◌∷◌}
 use Rattle.vm_allocator.specs.Range.{Range, Overlaps}
 use Rattle.vm_allocator.specs.BlockList.{IsClearOf, insert_block, replace_block}
 use Rattle.vm_allocator.specs.Block.{Block}
 use Rattle.vm_allocator.specs.Shape.{Shape, blocks, Grows, first_met}
+use Rattle.vm_allocator.specs.declared.allocation_engine.node.kept.Change.TheVariants.{Height}
 use Rattle.vm_allocator.specs.declared.error.Error.{Error}
 use Rattle.vm_allocator.specs.declared.error.Error.TheVariants.{ResourceNotAvailable, InvalidStateTransition, Overlap, OutOfMemory}
 use Rattle.vm_allocator.specs.declared.allocation_engine.NodeState.{NodeState}
@@ -13,7 +14,7 @@ use Rattle.vm_allocator.specs.declared.allocation_engine.NodeState.TheVariants.{
 pub record Inserts (old : Shape) (key : Range) (state : NodeState) (new : Shape) : Type 0 where
   pub clear : IsClearOf key (blocks old)
   pub blocks : blocks new ≡ insert_block (record { key = key; state = state }) (blocks old)
-  pub grows : Grows old new true
+  pub grows : Grows old new Height
 
 -- the range overlaps the key that it met, or none of the blocks' keys where it met none
 unfoldable pub TellsOverlap : Range → Option Range → List Block → Type 0

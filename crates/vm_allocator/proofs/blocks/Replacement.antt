@@ -6,6 +6,8 @@ use Rattle.vm_allocator.specs.RangeOrder.{Before, same_range}
 use Rattle.vm_allocator.specs.Block.{Block}
 use Rattle.vm_allocator.specs.BlockList.{IsOrderedFrom, replace_block, find_key}
 use Rattle.vm_allocator.specs.Shape.{Shape, Fork, blocks, IsTree, LeavesIfAbsent}
+use Rattle.vm_allocator.specs.declared.allocation_engine.node.kept.Change.{Change}
+use Rattle.vm_allocator.specs.declared.allocation_engine.node.kept.Change.TheVariants.{Nothing}
 use Rattle.vm_allocator.proofs.blocks.Order.{ordered_middle, ordered_weaken, ordered_drop}
 
 pub same_range_start : (a b : Range) → (a.start ≡ b.start → ⊥) → same_range a b ≡ false
@@ -104,37 +106,37 @@ find_in_middle s l x r k e p t =
     ap (λ (v : Shape). find_key k (blocks v)) e ∙ find_middle 0 k (blocks l) x (blocks r) (sym p) o
 
 -- what a key that is absent leaves
-pub leaves_same : (s : Shape) (k : Range) → LeavesIfAbsent k false s s
+pub leaves_same : (s : Shape) (k : Range) → LeavesIfAbsent k Nothing s s
 unfolding LeavesIfAbsent
 leaves_same s k e = (refl, refl)
 
-pub leaves_in_middle : (s l : Shape) (x : Block) (r n : Shape) (k : Range) (changed : Bool) → s ≡ Fork l x r → k ≡ x.key → IsTree s → LeavesIfAbsent k changed s n
+pub leaves_in_middle : (s l : Shape) (x : Block) (r n : Shape) (k : Range) (change : Change) → s ≡ Fork l x r → k ≡ x.key → IsTree s → LeavesIfAbsent k change s n
 unfolding LeavesIfAbsent
-leaves_in_middle s l x r n k changed e p t f = let g = find_in_middle s l x r k e p t in absurd (cc)
+leaves_in_middle s l x r n k change e p t f = let g = find_in_middle s l x r k e p t in absurd (cc)
 
-pub leaves_in_left : (s l m : Shape) (x : Block) (r : Shape) (k : Range) → s ≡ Fork l x r → Before k x.key → IsTree s → LeavesIfAbsent k false l m → LeavesIfAbsent k false s (Fork m x r)
+pub leaves_in_left : (s l m : Shape) (x : Block) (r : Shape) (k : Range) → s ≡ Fork l x r → Before k x.key → IsTree s → LeavesIfAbsent k Nothing l m → LeavesIfAbsent k Nothing s (Fork m x r)
 unfolding LeavesIfAbsent
 leaves_in_left s l m x r k e p t h f =
     let g : find_key k (blocks l) ≡ None = sym (find_in_left s l x r k e p t) ∙ f in
     (refl, ap (λ (v : Shape). Fork v x r) (h g).1 ∙ sym e)
 
-pub leaves_in_right : (s l m : Shape) (x : Block) (r : Shape) (k : Range) → s ≡ Fork l x r → Before x.key k → IsTree s → LeavesIfAbsent k false r m → LeavesIfAbsent k false s (Fork l x m)
+pub leaves_in_right : (s l m : Shape) (x : Block) (r : Shape) (k : Range) → s ≡ Fork l x r → Before x.key k → IsTree s → LeavesIfAbsent k Nothing r m → LeavesIfAbsent k Nothing s (Fork l x m)
 unfolding LeavesIfAbsent
 leaves_in_right s l m x r k e p t h f =
     let g : find_key k (blocks r) ≡ None = sym (find_in_right s l x r k e p t) ∙ f in
     (refl, ap (λ (v : Shape). Fork l x v) (h g).1 ∙ sym e)
 
-pub changes_in_left : (s l m : Shape) (x : Block) (r n : Shape) (k : Range) (changed : Bool) → s ≡ Fork l x r → Before k x.key → IsTree s → LeavesIfAbsent k true l m → LeavesIfAbsent k changed s n
+pub changes_in_left : (s l m : Shape) (x : Block) (r n : Shape) (k : Range) (below change : Change) → s ≡ Fork l x r → Before k x.key → IsTree s → LeavesIfAbsent k below l m → ¬ (below ≡ Nothing) → LeavesIfAbsent k change s n
 unfolding LeavesIfAbsent
-changes_in_left s l m x r n k changed e p t h f =
+changes_in_left s l m x r n k below change e p t h some f =
     let g : find_key k (blocks l) ≡ None = sym (find_in_left s l x r k e p t) ∙ f in
-    let d : true ≡ false = (h g).0 in absurd (cc)
+    absurd (some (h g).0)
 
-pub changes_in_right : (s l m : Shape) (x : Block) (r n : Shape) (k : Range) (changed : Bool) → s ≡ Fork l x r → Before x.key k → IsTree s → LeavesIfAbsent k true r m → LeavesIfAbsent k changed s n
+pub changes_in_right : (s l m : Shape) (x : Block) (r n : Shape) (k : Range) (below change : Change) → s ≡ Fork l x r → Before x.key k → IsTree s → LeavesIfAbsent k below r m → ¬ (below ≡ Nothing) → LeavesIfAbsent k change s n
 unfolding LeavesIfAbsent
-changes_in_right s l m x r n k changed e p t h f =
+changes_in_right s l m x r n k below change e p t h some f =
     let g : find_key k (blocks r) ≡ None = sym (find_in_right s l x r k e p t) ∙ f in
-    let d : true ≡ false = (h g).0 in absurd (cc)
+    absurd (some (h g).0)
 
 pub ruleset leavings = (leaves_same, leaves_in_middle, leaves_in_left, leaves_in_right, changes_in_left, changes_in_right)
 

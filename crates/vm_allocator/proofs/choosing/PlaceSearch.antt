@@ -96,6 +96,10 @@ pub nothing_found : {X : Type 0} (found : Option X) (P : Type 0) (Q : X → Type
 nothing_found None P Q h e = h
 nothing_found (Some x) P Q h e = absurd (cc e)
 
+pub still_nothing : {X : Type 0} (found : Option X) (P : Type 0) (Q : X → Type 0) → P → is_some found ≡ false → MatchOption found P Q
+still_nothing None P Q p e = p
+still_nothing (Some x) P Q p e = absurd (cc e)
+
 -- where the left side and the root have no fit, the search goes on in the right side
 pub first_through_right : (n a : ℕ) (s l : Shape) (b : Block) (r : Shape) (found : Option Place) → s ≡ Fork l b r → All (HasNoFit n a) (blocks l) → HasNoFit n a b → FindsFirst n a (blocks r) found → FindsFirst n a (blocks s) found
 first_through_right n a s l b r None e h k m = none_of n a s l b r e h k m
@@ -105,14 +109,6 @@ first_through_right n a s l b r (Some place) e h k m = first_in_right n a s l b 
 pub last_through_left : (n a : ℕ) (s l : Shape) (b : Block) (r : Shape) (found : Option Place) → s ≡ Fork l b r → All (HasNoFit n a) (blocks r) → HasNoFit n a b → FindsLast n a (blocks l) found → FindsLast n a (blocks s) found
 last_through_left n a s l b r None e h k m = none_of n a s l b r e m k h
 last_through_left n a s l b r (Some place) e h k m = last_in_left n a s l b r place e h k m
-
-pub some_is_not_none : (found : Option Place) → found ≡ None → is_some found ≡ true → ⊥
-some_is_not_none found e i = absurd (cc (ap is_some e, i))
-
--- what is found in the right side is the last of the whole tree
-pub last_if_found : (n a : ℕ) (s l : Shape) (b : Block) (r : Shape) (found : Option Place) → s ≡ Fork l b r → is_some found ≡ true → FindsLast n a (blocks r) found → FindsLast n a (blocks s) found
-last_if_found n a s l b r None e i m = absurd (cc i)
-last_if_found n a s l b r (Some place) e i m = last_in_right n a s l b r place e m
 
 pub ruleset firsts = (first_in_left, first_here, first_through_right)
 

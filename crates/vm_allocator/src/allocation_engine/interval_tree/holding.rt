@@ -15,7 +15,7 @@ ghost use Rattle.vm_allocator.specs.Ways.{leaf_of, way_if_held};
 use super::IntervalTree;
 use super::placing::Choice;
 use crate::allocation_engine::NodeState;
-use crate::allocation_engine::node::carve::{Rest, carve_at};
+use crate::allocation_engine::node::carve::{Cut, Rest, carve_at};
 use crate::allocation_engine::node::rewrite::rewrite_at;
 use crate::allocation_engine::node::{Child, InnerNode};
 use crate::error::{Error, Result};
@@ -57,7 +57,12 @@ impl IntervalTree {
             return Err(Error::Overflow);
         }
         let rest = rest_of(alloc, &choice)?;
-        carve_at(&mut self.root, &choice.key, choice.range, rest, count);
+        let mut cut = Cut {
+            key: choice.key,
+            range: choice.range,
+            rest,
+        };
+        carve_at(&mut self.root, &mut cut, count);
         Ok(choice.range)
     }
 }

@@ -1,11 +1,11 @@
 //! Rotations, and what comes before them. Nothing here calls itself, and nothing takes memory.
-ghost use Rattle.std.specs.Prelude.{◌≡◌, ◌+◌, ◌<◌, ◌≤◌, ◌^◌, ◌++◌, ◌∷◌, max, true, None, IsSome, ◌↔◌, IsNone};
+ghost use Rattle.std.specs.Prelude.{◌≡◌, ◌+◌, ◌<◌, ◌≤◌, ◌^◌, ◌++◌, ◌∷◌, max, None, IsSome, ◌↔◌, IsNone};
 ghost use Rattle.vm_allocator.specs.BlockList.{IsOrderedFrom};
 ghost use Rattle.vm_allocator.specs.Shape.{Fork, blocks, height_of, single, root_block, IsTree, DifferByAtMost, IsLeaf, CanBalance, Balances};
 ghost use Rattle.vm_allocator.specs.NodeFields.{side};
 ghost use Rattle.vm_allocator.specs.Settling.{IsSettled};
 
-use super::kept::{kept_of, refresh, room_of};
+use super::kept::{Change, kept_of, refresh, renew_room, room_of};
 use super::{Child, InnerNode, height};
 use crate::allocation_engine::NodeState;
 use crate::range::RangeInclusive;
@@ -13,14 +13,15 @@ use crate::range::RangeInclusive;
 /// What becomes of a node once one of its children has changed.
 #[derive(Drop)]
 pub(super) enum Settled {
-    /// Its children are close in height; what it keeps changed, or it did not.
-    Stands(bool),
+    /// Its children are close in height; this changed of what it keeps.
+    Stands(Change),
     /// Its children differ by two, and are taken out of it: the left one and the right one.
     Leans(Child, Child),
 }
 
 /// Brings what a node keeps up to date, or takes its children out where they are to be balanced.
 #[inline(always)]
+#[tactic(auto, using(crate::proofs::nodes::Settling::keeping))]
 pub(super) fn settle(
     left: &mut Child,
     right: &mut Child,
@@ -31,9 +32,22 @@ pub(super) fn settle(
     alignments: &mut u8,
 ) -> Settled
     requires { max (height_of (side left.old)) (height_of (side right.old)) + 1 < 2 ^ 64 }
-    ensures settled { IsSettled left.old right.old (record { key = key.now; state = node_state })
-        kept_height.old max_free.old alignments.old
-        result left.new right.new kept_height.new max_free.new alignments.new }
+    ensures settled { IsSettled (record { key = key.now; state = node_state })
+        (record {
+          left = left.old;
+          right = right.old;
+          height = kept_height.old;
+          longest = max_free.old;
+          alignments = alignments.old;
+        })
+        result
+        (record {
+          left = left.new;
+          right = right.new;
+          height = kept_height.new;
+          longest = max_free.new;
+          alignments = alignments.new;
+        }) }
     ensures left { IsTree (side left.old) }
     ensures right { IsTree (side right.old) }
 {
@@ -47,8 +61,13 @@ pub(super) fn settle(
         return Settled::Leans(left.take(), right.take());
     }
     let own = room_of(key, node_state);
-    let changed = refresh(first, second, own, kept_height, max_free, alignments);
-    Settled::Stands(changed)
+    let change = renew_room(first.room, second.room, own, max_free, alignments);
+    let height = first.height.max(second.height) + 1;
+    if height == *kept_height {
+        return Settled::Stands(change);
+    }
+    *kept_height = height;
+    Settled::Stands(Change::Height)
 }
 
 impl InnerNode {
@@ -169,18 +188,18 @@ pub(super) fn balance(left: Child, middle: Box<InnerNode>, right: Child) -> Box<
 }
 
 /// Puts a node with these sides, whose heights differ by at most two, in the place of one without
-/// children. The height there may be another one, so it returns true.
-pub(super) fn rebalance(at: &mut Child, left: Child, right: Child) -> bool
+/// children. The height there may be another one, which it tells.
+pub(super) fn rebalance(at: &mut Child, left: Child, right: Child) -> Change
     requires some { IsSome at.old }
     requires leaf { IsLeaf (side at.old) }
     requires sides { CanBalance (side left) (root_block (side at.old)) (side right) }
     ensures some { IsSome at.new }
     ensures balanced { Balances (side left) (root_block (side at.old)) (side right) (side at.new) }
-    ensures told { result ≡ true }
+    ensures told { result ≡ Change.Height }
 {
     let Some(middle) = at.take() else {
         unreachable!()
     };
     *at = Some(balance(left, middle, right));
-    true
+    Change::Height
 }

@@ -1,5 +1,5 @@
 //! A range taken from a free block, in one descent.
-ghost use Rattle.std.specs.Prelude.{◌≡◌, ◌+◌, ◌*◌, ◌<◌, ◌≤◌, true, IfSome, IsSome};
+ghost use Rattle.std.specs.Prelude.{◌≡◌, ◌+◌, ◌*◌, ◌<◌, ◌≤◌, IfSome, IsSome};
 ghost use Rattle.vm_allocator.specs.Range.{MAX};
 ghost use Rattle.vm_allocator.specs.BlockList.{insert_all, AreClearOf};
 ghost use Rattle.vm_allocator.specs.Carving.{with_split, AreLeaves, CanCarve};
@@ -8,6 +8,7 @@ ghost use Rattle.vm_allocator.specs.Ways.{way_to_link, way_here, way_to_carve};
 ghost use Rattle.vm_allocator.specs.NodeFields.{side};
 
 use super::balance::{Settled, rebalance, settle};
+use super::kept::{Change, kept_of, renew_room, room_of};
 use super::link::link_at;
 use super::{Child, InnerNode, height};
 use crate::allocation_engine::NodeState;
@@ -23,6 +24,19 @@ pub(crate) struct Rest {
     pub(crate) after: Child,
 }
 
+impl Rest {
+    /// What is left, taken out.
+    #[inline(always)]
+    fn take(&mut self) -> Rest
+        ensures { result ≡ self.old }
+    {
+        Rest {
+            before: self.before.take(),
+            after: self.after.take(),
+        }
+    }
+}
+
 /// Links a leaf, if there is one, below a side.
 #[tactic(auto, using(crate::proofs::splitting::Carving::leaves))]
 fn link_if(child: &mut Child, leaf: Child, count: &mut u64)
@@ -31,7 +45,7 @@ fn link_if(child: &mut Child, leaf: Child, count: &mut u64)
     requires height { height_of (side child.old) < MAX_HEIGHT }
     requires count_fits { count.old + height_of (side child.old) ≤ MAX }
     ensures blocks { blocks (side child.new) ≡ insert_all (blocks (side leaf)) (blocks (side child.old)) }
-    ensures grows { Grows (side child.old) (side child.new) true }
+    ensures grows { Grows (side child.old) (side child.new) Change.Height }
     ensures count { count.new ≡ count.old + way_to_link (side leaf) (side child.old) }
 {
     let _ = height(child);
@@ -40,10 +54,23 @@ fn link_if(child: &mut Child, leaf: Child, count: &mut u64)
     }
 }
 
-/// Gives the topmost node a range, which is held, and links what is left beside it; says whether
-/// the height there changed.
+/// A split: the key of a free block, the range that is taken from it, and what is left of it, which
+/// is handed on where it hangs.
+#[derive(Drop)]
+pub(crate) struct Cut {
+    /// The free block.
+    pub(crate) key: RangeInclusive,
+    /// The range, within that block.
+    pub(crate) range: RangeInclusive,
+    /// What is left of it.
+    pub(crate) rest: Rest,
+}
+
+/// Gives the topmost node a range, which is held, and links what is left beside it; says what
+/// changed there.
 #[tactic(auto, using(crate::proofs::splitting::Carving::carvings, crate::proofs::counts::Carving::ways_to_carve, crate::proofs::counts::Carving::link_bounds))]
-fn carve_here(at: &mut Child, range: RangeInclusive, rest: Rest, count: &mut u64) -> bool
+#[inline(never)]
+fn carve_here(at: &mut Child, range: RangeInclusive, rest: Rest, count: &mut u64) -> Change
     requires some { IsSome at.old }
     requires leaves { AreLeaves rest }
     requires carving { CanCarve (blocks (side at.old)) (root_block (side at.old)).key range rest }
@@ -70,50 +97,53 @@ fn carve_here(at: &mut Child, range: RangeInclusive, rest: Rest, count: &mut u64
         &mut tree.max_free,
         &mut tree.alignments,
     ) {
-        Settled::Stands(changed) => changed,
+        Settled::Stands(change) => change,
         Settled::Leans(left, right) => rebalance(at, left, right),
     }
 }
 
 /// Gives the node with a key below the node at a place a range, which is held, and links what is
-/// left beside it; says whether the height there changed.
+/// left beside it; says what changed there.
 #[tactic(auto, using(crate::proofs::splitting::Carving::carvings, crate::proofs::counts::Carving::ways_to_carve))]
-pub(crate) fn carve_at(
-    at: &mut Child,
-    key: &RangeInclusive,
-    range: RangeInclusive,
-    rest: Rest,
-    count: &mut u64,
-) -> bool
-    requires leaves { AreLeaves rest }
-    requires carving { CanCarve (blocks (side at.old)) key.now range rest }
+pub(crate) fn carve_at(at: &mut Child, cut: &mut Cut, count: &mut u64) -> Change
+    requires leaves { AreLeaves cut.old.rest }
+    requires carving { CanCarve (blocks (side at.old)) cut.old.key cut.old.range cut.old.rest }
     requires height { height_of (side at.old) < MAX_HEIGHT }
     requires count_fits { count.old + 2 * height_of (side at.old) ≤ MAX }
-    ensures blocks { blocks (side at.new) ≡ with_split key.now range rest (blocks (side at.old)) }
+    ensures blocks { blocks (side at.new)
+        ≡ with_split cut.old.key cut.old.range cut.old.rest (blocks (side at.old)) }
     ensures grows { Grows (side at.old) (side at.new) result }
-    ensures count { count.new ≡ count.old + way_to_carve key.now (side rest.before) (side rest.after) (side at.old) }
+    ensures count { count.new ≡ count.old
+        + way_to_carve cut.old.key (side cut.old.rest.before) (side cut.old.rest.after) (side at.old) }
 {
     let Some(tree) = at else { unreachable!() };
     let tree: &mut InnerNode = tree;
     tree.enter(count);
-    let changed = match tree.key.order(key) {
-        Ordering::Equal => return carve_here(at, range, rest, count),
-        Ordering::Greater => carve_at(&mut tree.left, key, range, rest, count),
-        Ordering::Less => carve_at(&mut tree.right, key, range, rest, count),
+    let change = match tree.key.order(&cut.key) {
+        Ordering::Equal => return carve_here(at, cut.range, cut.rest.take(), count),
+        Ordering::Greater => carve_at(&mut tree.left, cut, count),
+        Ordering::Less => carve_at(&mut tree.right, cut, count),
     };
-    if !changed {
-        return false;
-    }
-    match settle(
-        &mut tree.left,
-        &mut tree.right,
-        &tree.key,
-        tree.node_state,
-        &mut tree.height,
-        &mut tree.max_free,
-        &mut tree.alignments,
-    ) {
-        Settled::Stands(changed) => changed,
-        Settled::Leans(left, right) => rebalance(at, left, right),
+    match change {
+        Change::Nothing => Change::Nothing,
+        Change::RoomAlone => renew_room(
+            kept_of(&tree.left).room,
+            kept_of(&tree.right).room,
+            room_of(&tree.key, tree.node_state),
+            &mut tree.max_free,
+            &mut tree.alignments,
+        ),
+        Change::Height => match settle(
+            &mut tree.left,
+            &mut tree.right,
+            &tree.key,
+            tree.node_state,
+            &mut tree.height,
+            &mut tree.max_free,
+            &mut tree.alignments,
+        ) {
+            Settled::Stands(change) => change,
+            Settled::Leans(left, right) => rebalance(at, left, right),
+        },
     }
 }

@@ -2,7 +2,7 @@
 ghost use Rattle.std.specs.Prelude.{◌≡◌, ◌+◌, ◌<◌, ◌^◌, max};
 ghost use Rattle.vm_allocator.specs.Block.{free_length};
 ghost use Rattle.vm_allocator.specs.Multiples.{alignment_count, free_alignments};
-ghost use Rattle.vm_allocator.specs.Shape.{IsTree, IsSameIfNot};
+ghost use Rattle.vm_allocator.specs.Shape.{IsTree, IsSameIfNot, KeepsRoom};
 ghost use Rattle.vm_allocator.specs.NodeFields.{side};
 ghost use Rattle.vm_allocator.specs.Settling.{IsKeptOf, IsRoomOver};
 
@@ -17,6 +17,17 @@ pub(super) struct Room {
     pub(super) longest: u64,
     /// How many of the 64 alignments have a multiple in a free block.
     pub(super) alignments: u8,
+}
+
+/// What changed of what a node keeps.
+#[derive(Clone, Copy, Debug)]
+pub(crate) enum Change {
+    /// Nothing.
+    Nothing,
+    /// What its tree has room for, and not the height.
+    RoomAlone,
+    /// Anything, the height among it.
+    Height,
 }
 
 /// What a child keeps.
@@ -131,4 +142,24 @@ pub(super) fn refresh_room(
     *kept_longest = longest;
     *kept_alignments = reached;
     true
+}
+
+/// Brings up to date what a node keeps of its tree's room; says what changed of it.
+#[inline(always)]
+pub(super) fn renew_room(
+    left: Room,
+    right: Room,
+    own: Room,
+    kept_longest: &mut u64,
+    kept_alignments: &mut u8,
+) -> Change
+    ensures room { IsRoomOver left right own kept_longest.new kept_alignments.new }
+    ensures same_longest { KeepsRoom result kept_longest.old kept_longest.new }
+    ensures same_alignments { KeepsRoom result kept_alignments.old kept_alignments.new }
+{
+    if refresh_room(left, right, own, kept_longest, kept_alignments) {
+        Change::RoomAlone
+    } else {
+        Change::Nothing
+    }
 }

@@ -7,11 +7,12 @@ ghost use Rattle.vm_allocator.specs.Ways.{way_down};
 ghost use Rattle.vm_allocator.specs.NodeFields.{side};
 
 use super::balance::{Settled, rebalance, settle};
+use super::kept::Change;
 use super::{Child, InnerNode};
 
-/// Adds a leaf at a place, below the node there if there is one; says whether the height changed.
+/// Adds a leaf at a place, below the node there if there is one; says what changed there.
 #[tactic(auto, using(crate::proofs::blocks::Order::links, crate::proofs::nodes::SideChange::places, crate::proofs::counts::Ways::ways_down))]
-pub(super) fn link_at(at: &mut Child, leaf: Box<InnerNode>, count: &mut u64) -> bool
+pub(super) fn link_at(at: &mut Child, leaf: Box<InnerNode>, count: &mut u64) -> Change
     requires leaf { IsLeaf leaf.value }
     requires clear { IsClearOf (root_block leaf.value).key (blocks (side at.old)) }
     requires height { height_of (side at.old) < MAX_HEIGHT }
@@ -24,17 +25,17 @@ pub(super) fn link_at(at: &mut Child, leaf: Box<InnerNode>, count: &mut u64) -> 
     let key = leaf.key();
     let Some(tree) = at else {
         *at = Some(leaf);
-        return true;
+        return Change::Height;
     };
     let tree: &mut InnerNode = tree;
     tree.enter(count);
-    let changed = if key.starts_before(&tree.key) {
+    let change = if key.starts_before(&tree.key) {
         link_at(&mut tree.left, leaf, count)
     } else {
         link_at(&mut tree.right, leaf, count)
     };
-    if !changed {
-        return false;
+    if let Change::Nothing = change {
+        return change;
     }
     match settle(
         &mut tree.left,
@@ -45,7 +46,7 @@ pub(super) fn link_at(at: &mut Child, leaf: Box<InnerNode>, count: &mut u64) -> 
         &mut tree.max_free,
         &mut tree.alignments,
     ) {
-        Settled::Stands(changed) => changed,
+        Settled::Stands(change) => change,
         Settled::Leans(left, right) => rebalance(at, left, right),
     }
 }

@@ -1,5 +1,5 @@
 //! The searches for the place of a request.
-ghost use Rattle.std.specs.Prelude.{◌≡◌, ◌+◌, ◌<◌, ◌≤◌, true, false, MatchOption};
+ghost use Rattle.std.specs.Prelude.{◌≡◌, ◌+◌, ◌<◌, ◌≤◌, true, false, None, MatchOption};
 ghost use Rattle.vm_allocator.specs.Range.{MAX};
 ghost use Rattle.vm_allocator.specs.Alignment.{IsAlignment};
 ghost use Rattle.vm_allocator.specs.Fit.{FindsLeastFit, FindsGreatestFit};
@@ -88,10 +88,11 @@ pub(crate) fn first_place(tree: &Child, size: u64, alignment: u64, count: &mut u
     ensures place { FindsFirst size alignment (blocks (side tree.now)) result }
     ensures count { count.new ≡ count.old + way_of_first size alignment (side tree.now) }
 {
-    match roomy(tree, size, alignment) {
-        None => None,
-        Some(node) => node.first_place(size, alignment, count),
+    let mut found = None;
+    if let Some(node) = roomy(tree, size, alignment) {
+        node.first_place(size, alignment, &mut found, count);
     }
+    found
 }
 
 /// The greatest place among the blocks of a tree: the last block with a fit, and its greatest fit.
@@ -103,70 +104,71 @@ pub(crate) fn last_place(tree: &Child, size: u64, alignment: u64, count: &mut u6
     ensures place { FindsLast size alignment (blocks (side tree.now)) result }
     ensures count { count.new ≡ count.old + way_of_last size alignment (side tree.now) }
 {
-    match roomy(tree, size, alignment) {
-        None => None,
-        Some(node) => node.last_place(size, alignment, count),
+    let mut found = None;
+    if let Some(node) = roomy(tree, size, alignment) {
+        node.last_place(size, alignment, &mut found, count);
     }
+    found
 }
 
 impl InnerNode {
-    /// The least place from this node on.
+    /// Writes the least place from this node on, if there is one.
     #[tactic(auto, using(crate::proofs::choosing::PlaceSearch::firsts, crate::proofs::counts::Searching::firsts))]
-    fn first_place(&self, size: u64, alignment: u64, count: &mut u64) -> Option<Place>
+    fn first_place(&self, size: u64, alignment: u64, found: &mut Option<Place>, count: &mut u64)
         requires sized { 0 < size }
         requires aligned { IsAlignment alignment }
         requires roomy { is_searched size alignment self.now ≡ true }
+        requires none_yet { found.old ≡ None }
         requires count_fits { count.old + node_count self.now ≤ MAX }
-        ensures place { FindsFirst size alignment (blocks self.now) result }
+        ensures place { FindsFirst size alignment (blocks self.now) found.new }
         ensures count { count.new ≡ count.old + way_of_first size alignment self.now }
     {
         self.enter(count);
-        let found = match roomy(&self.left, size, alignment) {
-            None => None,
-            Some(left) => left.first_place(size, alignment, count),
-        };
+        if let Some(left) = roomy(&self.left, size, alignment) {
+            left.first_place(size, alignment, found, count);
+        }
         if found.is_some() {
-            return found;
+            return;
         }
         if let Some(start) = least_fit(&self.key, self.node_state, size, alignment) {
-            return Some(Place {
+            *found = Some(Place {
                 key: self.key,
                 start,
             });
+            return;
         }
-        let Some(right) = roomy(&self.right, size, alignment) else {
-            return None
-        };
-        right.first_place(size, alignment, count)
+        if let Some(right) = roomy(&self.right, size, alignment) {
+            right.first_place(size, alignment, found, count);
+        }
     }
 
-    /// The greatest place from this node on.
+    /// Writes the greatest place from this node on, if there is one.
     #[tactic(auto, using(crate::proofs::choosing::PlaceSearch::lasts, crate::proofs::counts::Searching::lasts))]
-    fn last_place(&self, size: u64, alignment: u64, count: &mut u64) -> Option<Place>
+    fn last_place(&self, size: u64, alignment: u64, found: &mut Option<Place>, count: &mut u64)
         requires sized { 0 < size }
         requires aligned { IsAlignment alignment }
         requires roomy { is_searched size alignment self.now ≡ true }
+        requires none_yet { found.old ≡ None }
         requires count_fits { count.old + node_count self.now ≤ MAX }
-        ensures place { FindsLast size alignment (blocks self.now) result }
+        ensures place { FindsLast size alignment (blocks self.now) found.new }
         ensures count { count.new ≡ count.old + way_of_last size alignment self.now }
     {
         self.enter(count);
-        let found = match roomy(&self.right, size, alignment) {
-            None => None,
-            Some(right) => right.last_place(size, alignment, count),
-        };
+        if let Some(right) = roomy(&self.right, size, alignment) {
+            right.last_place(size, alignment, found, count);
+        }
         if found.is_some() {
-            return found;
+            return;
         }
         if let Some(start) = greatest_fit(&self.key, self.node_state, size, alignment) {
-            return Some(Place {
+            *found = Some(Place {
                 key: self.key,
                 start,
             });
+            return;
         }
-        let Some(left) = roomy(&self.left, size, alignment) else {
-            return None
-        };
-        left.last_place(size, alignment, count)
+        if let Some(left) = roomy(&self.left, size, alignment) {
+            left.last_place(size, alignment, found, count);
+        }
     }
 }

@@ -7,14 +7,15 @@ ghost use Rattle.vm_allocator.specs.Ways.{way_to_first, way_to_join, way_to_remo
 ghost use Rattle.vm_allocator.specs.NodeFields.{side};
 
 use super::balance::{Settled, balance, rebalance, settle};
+use super::kept::Change;
 use super::{Child, InnerNode, height};
 use crate::range::RangeInclusive;
 use std::cmp::Ordering;
 
-/// Takes the node with the least key out from below the node at a place; says whether the height
-/// there changed.
+/// Takes the node with the least key out from below the node at a place; says what changed
+/// there.
 #[tactic(auto, using(crate::proofs::blocks::Replacement::leasts, crate::proofs::nodes::SideChange::takes, crate::proofs::counts::Ways::ways_to_first))]
-fn take_least_at(at: &mut Child, count: &mut u64) -> (Box<InnerNode>, bool)
+fn take_least_at(at: &mut Child, count: &mut u64) -> (Box<InnerNode>, Change)
     requires some { IsSome at.old }
     requires count_fits { count.old + height_of (side at.old) ≤ MAX }
     ensures blocks { blocks (side at.old) ≡ root_block result.0.value ∷ blocks (side at.new) }
@@ -32,11 +33,11 @@ fn take_least_at(at: &mut Child, count: &mut u64) -> (Box<InnerNode>, bool)
             unreachable!()
         };
         *at = right;
-        return (least, true);
+        return (least, Change::Height);
     }
-    let (least, changed) = take_least_at(&mut tree.left, count);
-    if !changed {
-        return (least, false);
+    let (least, change) = take_least_at(&mut tree.left, count);
+    if let Change::Nothing = change {
+        return (least, change);
     }
     match settle(
         &mut tree.left,
@@ -47,7 +48,7 @@ fn take_least_at(at: &mut Child, count: &mut u64) -> (Box<InnerNode>, bool)
         &mut tree.max_free,
         &mut tree.alignments,
     ) {
-        Settled::Stands(changed) => (least, changed),
+        Settled::Stands(change) => (least, change),
         Settled::Leans(left, right) => (least, rebalance(at, left, right)),
     }
 }
@@ -85,7 +86,7 @@ impl InnerNode {
         ensures none { IsNone result ↔ (side result ≡ Tip) }
         ensures no_right { (left : Shape) → tree.value ≡ Fork left (root_block tree.value) Tip → side result ≡ left }
         ensures no_left { (right : Shape) → tree.value ≡ Fork Tip (root_block tree.value) right → side result ≡ right }
-        ensures shrinks { Shrinks tree.value (side result) true }
+        ensures shrinks { Shrinks tree.value (side result) Change.Height }
         ensures count { count.new + 1 ≡ count.old + way_to_remove (root_block tree.value).key tree.value }
     {
         let InnerNode { left, right, .. } = Box::into_inner(tree);
@@ -95,32 +96,34 @@ impl InnerNode {
     }
 }
 
-/// Removes the node with a key from below the node at a place, if there is one; says whether the
-/// height there changed.
+/// Removes the node with a key from below the node at a place, if there is one; says what
+/// changed there.
 #[tactic(auto, using(crate::proofs::blocks::Replacement::removals, crate::proofs::blocks::Replacement::leavings, crate::proofs::nodes::SideChange::takes, crate::proofs::counts::Ways::ways_to_remove))]
-pub(crate) fn delete_at(at: &mut Child, key: &RangeInclusive, count: &mut u64) -> bool
+pub(crate) fn delete_at(at: &mut Child, key: &RangeInclusive, count: &mut u64) -> Change
     requires { count.old + height_of (side at.old) ≤ MAX }
     ensures blocks { blocks (side at.new) ≡ replace_block key.now [] (blocks (side at.old)) }
     ensures absent { LeavesIfAbsent key.now result (side at.old) (side at.new) }
     ensures shrinks { Shrinks (side at.old) (side at.new) result }
     ensures count { count.new ≡ count.old + way_to_remove key.now (side at.old) }
 {
-    let Some(tree) = at else { return false };
+    let Some(tree) = at else {
+        return Change::Nothing
+    };
     let tree: &mut InnerNode = tree;
     tree.enter(count);
-    let changed = match tree.key.order(key) {
+    let change = match tree.key.order(key) {
         Ordering::Equal => {
             let Some(node) = at.take() else {
                 unreachable!()
             };
             *at = InnerNode::delete_root(node, count);
-            return true;
+            return Change::Height;
         }
         Ordering::Greater => delete_at(&mut tree.left, key, count),
         Ordering::Less => delete_at(&mut tree.right, key, count),
     };
-    if !changed {
-        return false;
+    if let Change::Nothing = change {
+        return change;
     }
     match settle(
         &mut tree.left,
@@ -131,7 +134,7 @@ pub(crate) fn delete_at(at: &mut Child, key: &RangeInclusive, count: &mut u64) -
         &mut tree.max_free,
         &mut tree.alignments,
     ) {
-        Settled::Stands(changed) => changed,
+        Settled::Stands(change) => change,
         Settled::Leans(left, right) => rebalance(at, left, right),
     }
 }

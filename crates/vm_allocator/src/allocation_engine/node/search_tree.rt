@@ -9,7 +9,7 @@ ghost use Rattle.vm_allocator.specs.Ways.{way_down, way_to, way_across, way_to_r
 ghost use Rattle.vm_allocator.specs.NodeFields.{side};
 ghost use Rattle.vm_allocator.specs.NodeAnswer.{Inserts, TellsOverlap, RefusesKey, Marks, MarksBlock};
 
-use super::kept::{kept_of, refresh_room, room_of};
+use super::kept::{Change, kept_of, refresh_room, room_of};
 use super::link::link_at;
 use super::remove::{delete_at, join};
 use super::{InnerNode, height};
@@ -31,7 +31,7 @@ impl InnerNode {
         requires height { height_of tree.value < MAX_HEIGHT }
         requires count_fits { count.old + height_of tree.value ≤ MAX }
         ensures blocks { blocks result.value ≡ insert_block (root_block leaf.value) (blocks tree.value) }
-        ensures grows { Grows tree.value result.value true }
+        ensures grows { Grows tree.value result.value Change.Height }
         ensures count { count.new ≡ count.old + way_down (root_block leaf.value).key tree.value }
     {
         let mut at = Some(tree);
@@ -80,7 +80,7 @@ impl InnerNode {
         ensures blocks { blocks (side result) ≡ replace_block key.now [] (blocks tree.value) }
         ensures unchanged { find_key key.now (blocks tree.value) ≡ None → side result ≡ tree.value }
         ensures none { IsNone result ↔ (side result ≡ Tip) }
-        ensures shrinks { Shrinks tree.value (side result) true }
+        ensures shrinks { Shrinks tree.value (side result) Change.Height }
         ensures count { count.new ≡ count.old + way_to_remove key.now tree.value }
     {
         let mut at = Some(tree);

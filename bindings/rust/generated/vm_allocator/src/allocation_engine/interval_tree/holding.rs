@@ -7,7 +7,7 @@ use rattle::Box;
 use super::IntervalTree;
 use super::placing::Choice;
 use crate::allocation_engine::NodeState;
-use crate::allocation_engine::node::carve::{Rest, carve_at};
+use crate::allocation_engine::node::carve::{Cut, Rest, carve_at};
 use crate::allocation_engine::node::rewrite::rewrite_at;
 use crate::allocation_engine::node::{Child, InnerNode};
 use crate::error::{Error, Result};
@@ -40,7 +40,12 @@ impl IntervalTree {
             return Err(Error::Overflow);
         }
         let rest = rest_of(alloc, &choice)?;
-        carve_at(&mut self.root, &choice.key, choice.range, rest, count);
+        let mut cut = Cut {
+            key: choice.key,
+            range: choice.range,
+            rest,
+        };
+        carve_at(&mut self.root, &mut cut, count);
         Ok(choice.range)
     }
 }

@@ -3,15 +3,15 @@
 //! Rotations, and what comes before them. Nothing here calls itself, and nothing takes memory.
 
 use rattle::Box;
-use super::kept::{kept_of, refresh, room_of};
+use super::kept::{Change, kept_of, refresh, renew_room, room_of};
 use super::{Child, InnerNode, height};
 use crate::allocation_engine::NodeState;
 use crate::range::RangeInclusive;
 
 /// What becomes of a node once one of its children has changed.
 pub(super) enum Settled {
-    /// Its children are close in height; what it keeps changed, or it did not.
-    Stands(bool),
+    /// Its children are close in height; this changed of what it keeps.
+    Stands(Change),
     /// Its children differ by two, and are taken out of it: the left one and the right one.
     Leans(Child, Child),
 }
@@ -37,8 +37,13 @@ pub(super) fn settle(
         return Settled::Leans(left.take(), right.take());
     }
     let own = room_of(key, node_state);
-    let changed = refresh(first, second, own, kept_height, max_free, alignments);
-    Settled::Stands(changed)
+    let change = renew_room(first.room, second.room, own, max_free, alignments);
+    let height = first.height.max(second.height) + 1;
+    if height == *kept_height {
+        return Settled::Stands(change);
+    }
+    *kept_height = height;
+    Settled::Stands(Change::Height)
 }
 
 impl InnerNode {
@@ -118,11 +123,11 @@ pub(super) fn balance(left: Child, middle: Box<InnerNode>, right: Child) -> Box<
 }
 
 /// Puts a node with these sides, whose heights differ by at most two, in the place of one without
-/// children. The height there may be another one, so it returns true.
-pub(super) fn rebalance(at: &mut Child, left: Child, right: Child) -> bool {
+/// children. The height there may be another one, which it tells.
+pub(super) fn rebalance(at: &mut Child, left: Child, right: Child) -> Change {
     let Some(middle) = at.take() else {
         unreachable!()
     };
     *at = Some(balance(left, middle, right));
-    true
+    Change::Height
 }

@@ -3,6 +3,7 @@
 //! A range taken from a free block, in one descent.
 
 use super::balance::{Settled, rebalance, settle};
+use super::kept::{Change, kept_of, renew_room, room_of};
 use super::link::link_at;
 use super::{Child, InnerNode, height};
 use crate::allocation_engine::NodeState;
@@ -17,6 +18,17 @@ pub(crate) struct Rest {
     pub(crate) after: Child,
 }
 
+impl Rest {
+    /// What is left, taken out.
+    #[inline(always)]
+    fn take(&mut self) -> Rest {
+        Rest {
+            before: self.before.take(),
+            after: self.after.take(),
+        }
+    }
+}
+
 /// Links a leaf, if there is one, below a side.
 fn link_if(child: &mut Child, leaf: Child, count: &mut u64) {
     let _ = height(child);
@@ -25,9 +37,21 @@ fn link_if(child: &mut Child, leaf: Child, count: &mut u64) {
     }
 }
 
-/// Gives the topmost node a range, which is held, and links what is left beside it; says whether
-/// the height there changed.
-fn carve_here(at: &mut Child, range: RangeInclusive, rest: Rest, count: &mut u64) -> bool {
+/// A split: the key of a free block, the range that is taken from it, and what is left of it, which
+/// is handed on where it hangs.
+pub(crate) struct Cut {
+    /// The free block.
+    pub(crate) key: RangeInclusive,
+    /// The range, within that block.
+    pub(crate) range: RangeInclusive,
+    /// What is left of it.
+    pub(crate) rest: Rest,
+}
+
+/// Gives the topmost node a range, which is held, and links what is left beside it; says what
+/// changed there.
+#[inline(never)]
+fn carve_here(at: &mut Child, range: RangeInclusive, rest: Rest, count: &mut u64) -> Change {
     let Some(tree) = at else { unreachable!() };
     let tree: &mut InnerNode = tree;
     let _ = &tree.height;
@@ -44,41 +68,42 @@ fn carve_here(at: &mut Child, range: RangeInclusive, rest: Rest, count: &mut u64
         &mut tree.max_free,
         &mut tree.alignments,
     ) {
-        Settled::Stands(changed) => changed,
+        Settled::Stands(change) => change,
         Settled::Leans(left, right) => rebalance(at, left, right),
     }
 }
 
 /// Gives the node with a key below the node at a place a range, which is held, and links what is
-/// left beside it; says whether the height there changed.
-pub(crate) fn carve_at(
-    at: &mut Child,
-    key: &RangeInclusive,
-    range: RangeInclusive,
-    rest: Rest,
-    count: &mut u64,
-) -> bool {
+/// left beside it; says what changed there.
+pub(crate) fn carve_at(at: &mut Child, cut: &mut Cut, count: &mut u64) -> Change {
     let Some(tree) = at else { unreachable!() };
     let tree: &mut InnerNode = tree;
     tree.enter(count);
-    let changed = match tree.key.order(key) {
-        Ordering::Equal => return carve_here(at, range, rest, count),
-        Ordering::Greater => carve_at(&mut tree.left, key, range, rest, count),
-        Ordering::Less => carve_at(&mut tree.right, key, range, rest, count),
+    let change = match tree.key.order(&cut.key) {
+        Ordering::Equal => return carve_here(at, cut.range, cut.rest.take(), count),
+        Ordering::Greater => carve_at(&mut tree.left, cut, count),
+        Ordering::Less => carve_at(&mut tree.right, cut, count),
     };
-    if !changed {
-        return false;
-    }
-    match settle(
-        &mut tree.left,
-        &mut tree.right,
-        &tree.key,
-        tree.node_state,
-        &mut tree.height,
-        &mut tree.max_free,
-        &mut tree.alignments,
-    ) {
-        Settled::Stands(changed) => changed,
-        Settled::Leans(left, right) => rebalance(at, left, right),
+    match change {
+        Change::Nothing => Change::Nothing,
+        Change::RoomAlone => renew_room(
+            kept_of(&tree.left).room,
+            kept_of(&tree.right).room,
+            room_of(&tree.key, tree.node_state),
+            &mut tree.max_free,
+            &mut tree.alignments,
+        ),
+        Change::Height => match settle(
+            &mut tree.left,
+            &mut tree.right,
+            &tree.key,
+            tree.node_state,
+            &mut tree.height,
+            &mut tree.max_free,
+            &mut tree.alignments,
+        ) {
+            Settled::Stands(change) => change,
+            Settled::Leans(left, right) => rebalance(at, left, right),
+        },
     }
 }

@@ -15,6 +15,17 @@ pub(super) struct Room {
     pub(super) alignments: u8,
 }
 
+/// What changed of what a node keeps.
+#[derive(Clone, Copy, Debug)]
+pub(crate) enum Change {
+    /// Nothing.
+    Nothing,
+    /// What its tree has room for, and not the height.
+    RoomAlone,
+    /// Anything, the height among it.
+    Height,
+}
+
 /// What a child keeps.
 #[derive(Clone, Copy, Debug)]
 pub(super) struct Kept {
@@ -107,4 +118,20 @@ pub(super) fn refresh_room(
     *kept_longest = longest;
     *kept_alignments = reached;
     true
+}
+
+/// Brings up to date what a node keeps of its tree's room; says what changed of it.
+#[inline(always)]
+pub(super) fn renew_room(
+    left: Room,
+    right: Room,
+    own: Room,
+    kept_longest: &mut u64,
+    kept_alignments: &mut u8,
+) -> Change {
+    if refresh_room(left, right, own, kept_longest, kept_alignments) {
+        Change::RoomAlone
+    } else {
+        Change::Nothing
+    }
 }

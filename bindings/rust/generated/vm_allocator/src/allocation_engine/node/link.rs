@@ -4,24 +4,25 @@
 
 use rattle::Box;
 use super::balance::{Settled, rebalance, settle};
+use super::kept::Change;
 use super::{Child, InnerNode};
 
-/// Adds a leaf at a place, below the node there if there is one; says whether the height changed.
-pub(super) fn link_at(at: &mut Child, leaf: Box<InnerNode>, count: &mut u64) -> bool {
+/// Adds a leaf at a place, below the node there if there is one; says what changed there.
+pub(super) fn link_at(at: &mut Child, leaf: Box<InnerNode>, count: &mut u64) -> Change {
     let key = leaf.key();
     let Some(tree) = at else {
         *at = Some(leaf);
-        return true;
+        return Change::Height;
     };
     let tree: &mut InnerNode = tree;
     tree.enter(count);
-    let changed = if key.starts_before(&tree.key) {
+    let change = if key.starts_before(&tree.key) {
         link_at(&mut tree.left, leaf, count)
     } else {
         link_at(&mut tree.right, leaf, count)
     };
-    if !changed {
-        return false;
+    if let Change::Nothing = change {
+        return change;
     }
     match settle(
         &mut tree.left,
@@ -32,7 +33,7 @@ pub(super) fn link_at(at: &mut Child, leaf: Box<InnerNode>, count: &mut u64) -> 
         &mut tree.max_free,
         &mut tree.alignments,
     ) {
-        Settled::Stands(changed) => changed,
+        Settled::Stands(change) => change,
         Settled::Leans(left, right) => rebalance(at, left, right),
     }
 }

@@ -58,62 +58,62 @@ fn roomy(tree: &Child, size: u64, alignment: u64) -> Option<&InnerNode> {
 
 /// The least place among the blocks of a tree: the first block with a fit, and its least fit.
 pub(crate) fn first_place(tree: &Child, size: u64, alignment: u64, count: &mut u64) -> Option<Place> {
-    match roomy(tree, size, alignment) {
-        None => None,
-        Some(node) => node.first_place(size, alignment, count),
+    let mut found = None;
+    if let Some(node) = roomy(tree, size, alignment) {
+        node.first_place(size, alignment, &mut found, count);
     }
+    found
 }
 
 /// The greatest place among the blocks of a tree: the last block with a fit, and its greatest fit.
 pub(crate) fn last_place(tree: &Child, size: u64, alignment: u64, count: &mut u64) -> Option<Place> {
-    match roomy(tree, size, alignment) {
-        None => None,
-        Some(node) => node.last_place(size, alignment, count),
+    let mut found = None;
+    if let Some(node) = roomy(tree, size, alignment) {
+        node.last_place(size, alignment, &mut found, count);
     }
+    found
 }
 
 impl InnerNode {
-    /// The least place from this node on.
-    fn first_place(&self, size: u64, alignment: u64, count: &mut u64) -> Option<Place> {
+    /// Writes the least place from this node on, if there is one.
+    fn first_place(&self, size: u64, alignment: u64, found: &mut Option<Place>, count: &mut u64) {
         self.enter(count);
-        let found = match roomy(&self.left, size, alignment) {
-            None => None,
-            Some(left) => left.first_place(size, alignment, count),
-        };
+        if let Some(left) = roomy(&self.left, size, alignment) {
+            left.first_place(size, alignment, found, count);
+        }
         if found.is_some() {
-            return found;
+            return;
         }
         if let Some(start) = least_fit(&self.key, self.node_state, size, alignment) {
-            return Some(Place {
+            *found = Some(Place {
                 key: self.key,
                 start,
             });
+            return;
         }
-        let Some(right) = roomy(&self.right, size, alignment) else {
-            return None
-        };
-        right.first_place(size, alignment, count)
+        if let Some(right) = roomy(&self.right, size, alignment) {
+            right.first_place(size, alignment, found, count);
+        }
     }
 
-    /// The greatest place from this node on.
-    fn last_place(&self, size: u64, alignment: u64, count: &mut u64) -> Option<Place> {
+    /// Writes the greatest place from this node on, if there is one.
+    fn last_place(&self, size: u64, alignment: u64, found: &mut Option<Place>, count: &mut u64) {
         self.enter(count);
-        let found = match roomy(&self.right, size, alignment) {
-            None => None,
-            Some(right) => right.last_place(size, alignment, count),
-        };
+        if let Some(right) = roomy(&self.right, size, alignment) {
+            right.last_place(size, alignment, found, count);
+        }
         if found.is_some() {
-            return found;
+            return;
         }
         if let Some(start) = greatest_fit(&self.key, self.node_state, size, alignment) {
-            return Some(Place {
+            *found = Some(Place {
                 key: self.key,
                 start,
             });
+            return;
         }
-        let Some(left) = roomy(&self.left, size, alignment) else {
-            return None
-        };
-        left.last_place(size, alignment, count)
+        if let Some(left) = roomy(&self.left, size, alignment) {
+            left.last_place(size, alignment, found, count);
+        }
     }
 }

@@ -4,13 +4,14 @@
 
 use rattle::Box;
 use super::balance::{Settled, balance, rebalance, settle};
+use super::kept::Change;
 use super::{Child, InnerNode, height};
 use crate::range::RangeInclusive;
 use core::cmp::Ordering;
 
-/// Takes the node with the least key out from below the node at a place; says whether the height
-/// there changed.
-fn take_least_at(at: &mut Child, count: &mut u64) -> (Box<InnerNode>, bool) {
+/// Takes the node with the least key out from below the node at a place; says what changed
+/// there.
+fn take_least_at(at: &mut Child, count: &mut u64) -> (Box<InnerNode>, Change) {
     let Some(tree) = at else { unreachable!() };
     let tree: &mut InnerNode = tree;
     tree.enter(count);
@@ -21,11 +22,11 @@ fn take_least_at(at: &mut Child, count: &mut u64) -> (Box<InnerNode>, bool) {
             unreachable!()
         };
         *at = right;
-        return (least, true);
+        return (least, Change::Height);
     }
-    let (least, changed) = take_least_at(&mut tree.left, count);
-    if !changed {
-        return (least, false);
+    let (least, change) = take_least_at(&mut tree.left, count);
+    if let Change::Nothing = change {
+        return (least, change);
     }
     match settle(
         &mut tree.left,
@@ -36,7 +37,7 @@ fn take_least_at(at: &mut Child, count: &mut u64) -> (Box<InnerNode>, bool) {
         &mut tree.max_free,
         &mut tree.alignments,
     ) {
-        Settled::Stands(changed) => (least, changed),
+        Settled::Stands(change) => (least, change),
         Settled::Leans(left, right) => (least, rebalance(at, left, right)),
     }
 }
@@ -67,25 +68,27 @@ impl InnerNode {
     }
 }
 
-/// Removes the node with a key from below the node at a place, if there is one; says whether the
-/// height there changed.
-pub(crate) fn delete_at(at: &mut Child, key: &RangeInclusive, count: &mut u64) -> bool {
-    let Some(tree) = at else { return false };
+/// Removes the node with a key from below the node at a place, if there is one; says what
+/// changed there.
+pub(crate) fn delete_at(at: &mut Child, key: &RangeInclusive, count: &mut u64) -> Change {
+    let Some(tree) = at else {
+        return Change::Nothing
+    };
     let tree: &mut InnerNode = tree;
     tree.enter(count);
-    let changed = match tree.key.order(key) {
+    let change = match tree.key.order(key) {
         Ordering::Equal => {
             let Some(node) = at.take() else {
                 unreachable!()
             };
             *at = InnerNode::delete_root(node, count);
-            return true;
+            return Change::Height;
         }
         Ordering::Greater => delete_at(&mut tree.left, key, count),
         Ordering::Less => delete_at(&mut tree.right, key, count),
     };
-    if !changed {
-        return false;
+    if let Change::Nothing = change {
+        return change;
     }
     match settle(
         &mut tree.left,
@@ -96,7 +99,7 @@ pub(crate) fn delete_at(at: &mut Child, key: &RangeInclusive, count: &mut u64) -
         &mut tree.max_free,
         &mut tree.alignments,
     ) {
-        Settled::Stands(changed) => changed,
+        Settled::Stands(change) => change,
         Settled::Leans(left, right) => rebalance(at, left, right),
     }
 }

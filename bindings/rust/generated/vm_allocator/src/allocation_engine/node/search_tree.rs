@@ -4,7 +4,7 @@
 //! allocator makes none of them, and the tests that every search tree has to pass make them all.
 
 use rattle::Box;
-use super::kept::{kept_of, refresh_room, room_of};
+use super::kept::{Change, kept_of, refresh_room, room_of};
 use super::link::link_at;
 use super::remove::{delete_at, join};
 use super::{InnerNode, height};

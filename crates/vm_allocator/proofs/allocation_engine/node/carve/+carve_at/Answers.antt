@@ -4,20 +4,20 @@ use Rattle.vm_allocator.specs.NodeFields.{side, shape_of}
 use Rattle.vm_allocator.proofs.nodes.Rewriting.{known_left, known_right, rewritten_left, rewritten_right}
 use Rattle.vm_allocator.proofs.allocation_engine.node.carve.+carve_at.Goals as goal
 
-pub carve_at-changed-requires : goal.carve_at-changed-requires
-carve_at-changed-requires t c =
+pub carve_at-change-requires : goal.carve_at-change-requires
+carve_at-change-requires t c =
     let i = c.tree.inside in
     let e : side c.args.at.now ≡ shape_of i = cc in
     let tree : IsTree (side c.args.at.now) = rw e c.tree.invariant.tree in
-    let known = known_left (side c.args.at.now) (side i.left) _ (side i.right) c.args.key.now e c.in-Greater.ensures tree c.requires.carving.known in
-    let ordered = rewritten_left (side c.args.at.now) (side i.left) _ (side i.right) c.args.key.now _ e c.in-Greater.ensures tree c.requires.carving.ordered in
+    let known = known_left (side c.args.at.now) (side i.left) _ (side i.right) c.args.cut.now.key e c.in-Greater.ensures tree c.requires.carving.known in
+    let ordered = rewritten_left (side c.args.at.now) (side i.left) _ (side i.right) c.args.cut.now.key _ e c.in-Greater.ensures tree c.requires.carving.ordered in
     (search rules, (c.requires.leaves, (record { known = known; ordered = ordered }, (grind arith, grind arith))))
 
-pub carve_at-changed-requires-in-Less : goal.carve_at-changed-requires-in-Less
-carve_at-changed-requires-in-Less t c =
+pub carve_at-change-requires-in-Less : goal.carve_at-change-requires-in-Less
+carve_at-change-requires-in-Less t c =
     let i = c.tree.inside in
     let e : side c.args.at.now ≡ shape_of i = cc in
     let tree : IsTree (side c.args.at.now) = rw e c.tree.invariant.tree in
-    let known = known_right (side c.args.at.now) (side i.left) _ (side i.right) c.args.key.now e c.in-Less.ensures tree c.requires.carving.known in
-    let ordered = rewritten_right (side c.args.at.now) (side i.left) _ (side i.right) c.args.key.now _ e c.in-Less.ensures tree c.requires.carving.ordered in
+    let known = known_right (side c.args.at.now) (side i.left) _ (side i.right) c.args.cut.now.key e c.in-Less.ensures tree c.requires.carving.known in
+    let ordered = rewritten_right (side c.args.at.now) (side i.left) _ (side i.right) c.args.cut.now.key _ e c.in-Less.ensures tree c.requires.carving.ordered in
     (search rules, (c.requires.leaves, (record { known = known; ordered = ordered }, (grind arith, grind arith))))

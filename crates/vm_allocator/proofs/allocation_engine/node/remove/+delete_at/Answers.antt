@@ -1,4 +1,4 @@
-use Rattle.std.proofs.Common.{◌≡◌, true}
+use Rattle.std.proofs.Common.{◌≡◌, ◌∙◌, sym}
 use Rattle.vm_allocator.specs.NodeFields.{side, shape_of}
 use Rattle.vm_allocator.specs.Shape.{IsTree}
 use Rattle.vm_allocator.proofs.blocks.Replacement.{changes_in_left, changes_in_right}
@@ -11,11 +11,9 @@ returns-in-Stands-clause-absent t c =
     let tree : IsTree (side c.args.at.now) = rw e c.tree.invariant.tree in
     elim c.match-order.branch [
       | in-Greater w ↦
-          let told : w.delete_at-changed.result ≡ true = cc in
-          changes_in_left _ _ _ _ _ _ _ _ e w.in-Greater.ensures tree (rw told at w.delete_at-changed.ensures.absent)
+          changes_in_left _ _ _ _ _ _ _ _ _ e w.in-Greater.ensures tree w.delete_at-change.ensures.absent (λ none. c.in_default-change.not-Nothing (w.change-is ∙ none))
       | in-Less w ↦
-          let told : w.delete_at-changed-in-Less.result ≡ true = cc in
-          changes_in_right _ _ _ _ _ _ _ _ e w.in-Less.ensures tree (rw told at w.delete_at-changed-in-Less.ensures.absent)
+          changes_in_right _ _ _ _ _ _ _ _ _ e w.in-Less.ensures tree w.delete_at-change-in-Less.ensures.absent (λ none. c.in_default-change.not-Nothing (w.change-is ∙ none))
     ]
 
 pub returns-in-Leans-clause-absent : goal.returns-in-Leans-clause-absent
@@ -24,9 +22,7 @@ returns-in-Leans-clause-absent t c =
     let tree : IsTree (side c.args.at.now) = rw e c.tree.invariant.tree in
     elim c.match-order.branch [
       | in-Greater w ↦
-          let told : w.delete_at-changed.result ≡ true = cc in
-          changes_in_left _ _ _ _ _ _ _ _ e w.in-Greater.ensures tree (rw told at w.delete_at-changed.ensures.absent)
+          changes_in_left _ _ _ _ _ _ _ _ _ e w.in-Greater.ensures tree w.delete_at-change.ensures.absent (λ none. c.in_default-change.not-Nothing (w.change-is ∙ none))
       | in-Less w ↦
-          let told : w.delete_at-changed-in-Less.result ≡ true = cc in
-          changes_in_right _ _ _ _ _ _ _ _ e w.in-Less.ensures tree (rw told at w.delete_at-changed-in-Less.ensures.absent)
+          changes_in_right _ _ _ _ _ _ _ _ _ e w.in-Less.ensures tree w.delete_at-change-in-Less.ensures.absent (λ none. c.in_default-change.not-Nothing (w.change-is ∙ none))
     ]
