@@ -2,7 +2,7 @@
 ghost use Rattle.std.specs.Prelude.{◌≡◌, ◌+◌, ◌<◌, ◌^◌, max};
 ghost use Rattle.vm_allocator.specs.Block.{free_length};
 ghost use Rattle.vm_allocator.specs.Multiples.{alignment_count, free_alignments};
-ghost use Rattle.vm_allocator.specs.Shape.{IsTree, IsSameIfNot};
+ghost use Rattle.vm_allocator.specs.Shape.{height_of, max_free_of, alignments_of, IsTree, IsSameIfNot};
 ghost use Rattle.vm_allocator.specs.NodeFields.{side};
 ghost use Rattle.vm_allocator.specs.Settling.{IsKeptOf, IsRoomOver};
 
@@ -80,6 +80,33 @@ pub(super) fn kept_of(child: &Child) -> Kept
                 longest: node.max_free,
                 alignments: node.alignments,
             },
+        },
+    }
+}
+
+/// What a node keeps over these children, with its own block's room.
+#[inline(always)]
+pub(super) fn kept_over(left: &Child, right: &Child, own: Room) -> Kept
+    requires { max (height_of (side left.now)) (height_of (side right.now)) + 1 < 2 ^ 64 }
+    ensures height { result.height ≡ max (height_of (side left.now)) (height_of (side right.now)) + 1 }
+    ensures longest { result.room.longest
+        ≡ max (max (max_free_of (side left.now)) (max_free_of (side right.now))) own.longest }
+    ensures alignments { result.room.alignments
+        ≡ max (max (alignments_of (side left.now)) (alignments_of (side right.now))) own.alignments }
+    ensures left { IsTree (side left.now) }
+    ensures right { IsTree (side right.now) }
+{
+    let first = kept_of(left);
+    let second = kept_of(right);
+    Kept {
+        height: first.height.max(second.height) + 1,
+        room: Room {
+            longest: first.room.longest.max(second.room.longest).max(own.longest),
+            alignments: first
+                .room
+                .alignments
+                .max(second.room.alignments)
+                .max(own.alignments),
         },
     }
 }

@@ -71,6 +71,24 @@ pub(super) fn kept_of(child: &Child) -> Kept {
     }
 }
 
+/// What a node keeps over these children, with its own block's room.
+#[inline(always)]
+pub(super) fn kept_over(left: &Child, right: &Child, own: Room) -> Kept {
+    let first = kept_of(left);
+    let second = kept_of(right);
+    Kept {
+        height: first.height.max(second.height) + 1,
+        room: Room {
+            longest: first.room.longest.max(second.room.longest).max(own.longest),
+            alignments: first
+                .room
+                .alignments
+                .max(second.room.alignments)
+                .max(own.alignments),
+        },
+    }
+}
+
 /// Brings what a node keeps up to date, from what its children keep; says whether a part of it changed.
 #[inline(always)]
 pub(super) fn refresh(
