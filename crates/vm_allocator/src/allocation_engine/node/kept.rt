@@ -159,3 +159,17 @@ pub(super) fn refresh_room(
     *kept_alignments = reached;
     true
 }
+
+/// Raises what a node keeps of its tree's room to that of a block which becomes free below.
+#[inline(always)]
+pub(super) fn raise_room(max_free: &mut u64, alignments: &mut u8, freed: &Room)
+    ensures longest { max_free.new ≡ max max_free.old freed.now.longest }
+    ensures alignments { alignments.new ≡ max alignments.old freed.now.alignments }
+{
+    if *max_free < freed.longest {
+        *max_free = freed.longest;
+    }
+    if *alignments < freed.alignments {
+        *alignments = freed.alignments;
+    }
+}

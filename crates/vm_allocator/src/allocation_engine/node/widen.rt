@@ -10,7 +10,7 @@ ghost use Rattle.vm_allocator.specs.Ways.{way_to};
 ghost use Rattle.vm_allocator.specs.Widening.{CanWiden, Widens};
 ghost use Rattle.vm_allocator.specs.NodeFields.{side};
 
-use super::kept::{Room, room_of};
+use super::kept::{Room, raise_room, room_of};
 use super::{Child, InnerNode};
 use crate::allocation_engine::NodeState;
 use crate::range::RangeInclusive;
@@ -36,8 +36,7 @@ fn widen_at(
     let Some(tree) = at else { unreachable!() };
     let tree: &mut InnerNode = tree;
     tree.enter(count);
-    tree.max_free = tree.max_free.max(room.longest);
-    tree.alignments = tree.alignments.max(room.alignments);
+    raise_room(&mut tree.max_free, &mut tree.alignments, room);
     match tree.key.order(held) {
         Ordering::Equal => {
             tree.key = *range;

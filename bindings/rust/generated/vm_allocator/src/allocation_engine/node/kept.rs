@@ -126,3 +126,14 @@ pub(super) fn refresh_room(
     *kept_alignments = reached;
     true
 }
+
+/// Raises what a node keeps of its tree's room to that of a block which becomes free below.
+#[inline(always)]
+pub(super) fn raise_room(max_free: &mut u64, alignments: &mut u8, freed: &Room) {
+    if *max_free < freed.longest {
+        *max_free = freed.longest;
+    }
+    if *alignments < freed.alignments {
+        *alignments = freed.alignments;
+    }
+}

@@ -3,7 +3,7 @@
 //! A held block made free and wider, in one way down: what the nodes on the way keep of their
 //! trees' room can only rise, so that nothing is left to be done on the way back.
 
-use super::kept::{Room, room_of};
+use super::kept::{Room, raise_room, room_of};
 use super::{Child, InnerNode};
 use crate::allocation_engine::NodeState;
 use crate::range::RangeInclusive;
@@ -21,8 +21,7 @@ fn widen_at(
     let Some(tree) = at else { unreachable!() };
     let tree: &mut InnerNode = tree;
     tree.enter(count);
-    tree.max_free = tree.max_free.max(room.longest);
-    tree.alignments = tree.alignments.max(room.alignments);
+    raise_room(&mut tree.max_free, &mut tree.alignments, room);
     match tree.key.order(held) {
         Ordering::Equal => {
             tree.key = *range;
