@@ -29,23 +29,31 @@ held_without_room : (b : Block) (k : Range) → b ≡ held_block k → (free_len
 held_without_room b k e = (rw e refl, rw e refl)
 
 -- the tree with that side widened
-pub widened_left : (l n : Shape) (x : Block) (r : Shape) (k range : Range) → Before k x.key → IsTree (Fork l x r) → CanWiden (blocks (Fork l x r)) k range → Widens l k range n → Widens (Fork l x r) k range (Fork n x r)
-widened_left l n x r k range p t c w = record {
-  tree = tree_rewritten_left l n x r k (free_block range ∷ []) p t c.ordered w.blocks w.height w.tree;
-  blocks = rw (replace_in_left (Fork l x r) l x r k (free_block range ∷ []) refl p t, w.blocks) refl;
-  height = rw w.height refl;
-  longest = omega (arith, w.longest);
-  alignments = omega (arith, w.alignments);
-}
+pub widened_left : (s l n : Shape) (x : Block) (r : Shape) (k range : Range) → s ≡ Fork l x r → Before k x.key → IsTree s → CanWiden (blocks s) k range → Widens l k range n → Widens s k range (Fork n x r)
+widened_left s l n x r k range e p t c w =
+    let tree : IsTree (Fork l x r) = rw e at t in
+    let can : CanWiden (blocks (Fork l x r)) k range = rw e at c in
+    rw e (
+    record {
+      tree = tree_rewritten_left l n x r k (free_block range ∷ []) p tree can.ordered w.blocks w.height w.tree;
+      blocks = rw (replace_in_left (Fork l x r) l x r k (free_block range ∷ []) refl p tree, w.blocks) refl;
+      height = rw w.height refl;
+      longest = omega (arith, w.longest);
+      alignments = omega (arith, w.alignments);
+    })
 
-pub widened_right : (l n : Shape) (x : Block) (r : Shape) (k range : Range) → Before x.key k → IsTree (Fork l x r) → CanWiden (blocks (Fork l x r)) k range → Widens r k range n → Widens (Fork l x r) k range (Fork l x n)
-widened_right l n x r k range p t c w = record {
-  tree = tree_rewritten_right l n x r k (free_block range ∷ []) p t c.ordered w.blocks w.height w.tree;
-  blocks = rw (replace_in_right (Fork l x r) l x r k (free_block range ∷ []) refl p t, w.blocks) refl;
-  height = rw w.height refl;
-  longest = omega (arith, w.longest);
-  alignments = omega (arith, w.alignments);
-}
+pub widened_right : (s l n : Shape) (x : Block) (r : Shape) (k range : Range) → s ≡ Fork l x r → Before x.key k → IsTree s → CanWiden (blocks s) k range → Widens r k range n → Widens s k range (Fork l x n)
+widened_right s l n x r k range e p t c w =
+    let tree : IsTree (Fork l x r) = rw e at t in
+    let can : CanWiden (blocks (Fork l x r)) k range = rw e at c in
+    rw e (
+    record {
+      tree = tree_rewritten_right l n x r k (free_block range ∷ []) p tree can.ordered w.blocks w.height w.tree;
+      blocks = rw (replace_in_right (Fork l x r) l x r k (free_block range ∷ []) refl p tree, w.blocks) refl;
+      height = rw w.height refl;
+      longest = omega (arith, w.longest);
+      alignments = omega (arith, w.alignments);
+    })
 
 pub widened_here : (l : Shape) (x : Block) (r : Shape) (k range : Range) → k ≡ x.key → IsTree (Fork l x r) → CanWiden (blocks (Fork l x r)) k range → Widens (Fork l x r) k range (Fork l (free_block range) r)
 widened_here l x r k range p t c =
@@ -59,4 +67,4 @@ widened_here l x r k range p t c =
       alignments = omega (arith, none.1);
     }
 
-pub ruleset widenings = (no_held_in_tip, can_widen_left, can_widen_right, widened_left, widened_right, widened_here)
+pub ruleset widenings = (no_held_in_tip, widened_here)
