@@ -3,3 +3,4 @@ pub mod Neighbours
 pub mod Finding
 pub mod Apart
 pub mod Rejoining
+pub mod Widening

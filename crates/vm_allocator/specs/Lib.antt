@@ -31,6 +31,7 @@ pub mod IdHistoryLaws
 pub mod Steps
 pub mod GapSearch
 pub mod Ways
+pub mod Widening
 pub mod Carving
 pub mod Walks
 pub mod Comparison

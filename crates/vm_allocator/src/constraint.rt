@@ -1,4 +1,5 @@
-ghost use Rattle.std.specs.Prelude.{◌≡◌, ◌<◌};
+ghost use Rattle.std.specs.Prelude.{◌≡◌};
+ghost use Rattle.vm_allocator.specs.Alignment.{IsAlignment};
 ghost use Rattle.vm_allocator.specs.Cases.{Tells};
 ghost use Rattle.vm_allocator.specs.Request.{request_for, MakesConstraint, IsStartAligned, IsRequest};
 
@@ -21,13 +22,13 @@ pub enum AllocPolicy {
 }
 
 /// Whether the alignment divides the start, where the policy names one.
-#[tactic(auto, unfolding(crate::specs::Request::IsStartAligned))]
+#[tactic(auto, unfolding(crate::specs::Request::IsStartAligned), using(crate::proofs::numbers::Power::low_bits, crate::proofs::numbers::Power::alignment_pos))]
 fn is_start_aligned(align: u64, policy: AllocPolicy) -> bool
-    requires { 0 < align }
+    requires { IsAlignment align }
     ensures { Tells result (IsStartAligned align policy) }
 {
     match policy {
-        AllocPolicy::ExactMatch(start) => start % align == 0,
+        AllocPolicy::ExactMatch(start) => start & (align - 1) == 0,
         AllocPolicy::FirstMatch => true,
         AllocPolicy::LastMatch => true,
     }
@@ -58,7 +59,7 @@ impl Constraint {
     /// The request for `size` addresses from a multiple of `align` on. In this order: size 0 is
     /// `InvalidSize(0)`, an alignment that is no power of two `InvalidAlignment`, and an
     /// `ExactMatch` of a start that is no multiple of the alignment `UnalignedAddress`.
-    #[tactic(auto, using(crate::proofs::answers::Requests::constrains))]
+    #[tactic(auto, using(crate::proofs::answers::Requests::constrains, crate::proofs::numbers::Power::alignment_if_true))]
     pub fn new(size: u64, align: u64, policy: AllocPolicy) -> Result<Self>
         ensures { MakesConstraint (request_for size align policy) result }
     {

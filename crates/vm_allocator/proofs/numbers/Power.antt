@@ -62,11 +62,16 @@ pub alignment_below : (a : ℕ) → IsAlignment a → a < 2 ^ 64
 unfolding IsAlignment
 alignment_below a h = omega (arith, h.2, pow_below h.0 64 h.1)
 
+-- the bits below an alignment are the remainder
+pub low_bits : (x a : ℕ) → IsAlignment a → bit_and x (a - 1) ≡ x % a
+unfolding IsAlignment
+low_bits x a h = subst (λ (v : ℕ). bit_and x (v - 1) ≡ x % v) (sym h.2) (and_mask x h.0)
+
 -- the mask takes the remainder away
 pub masked : (x a : ℕ) → x < 2 ^ 64 → IsAlignment a → bit_and x (18446744073709551615 - (a - 1)) ≡ x - x % a
 unfolding IsAlignment
 masked x a p h =
-    let low : bit_and x (a - 1) ≡ x % a = subst (λ (v : ℕ). bit_and x (v - 1) ≡ x % v) (sym h.2) (and_mask x h.0) in
+    let low = low_bits x a h in
     let both : bit_and (18446744073709551615 - (a - 1)) x + bit_and (a - 1) x ≡ x = and-not 64 (a - 1) x (omega (arith, alignment_below a h)) p in
     and_comm x (18446744073709551615 - (a - 1)) ∙ omega (arith, both, low, and_comm (a - 1) x)
 

@@ -1,5 +1,5 @@
 -- What giving a range back makes of a tree's blocks.
-use Rattle.std.proofs.Common.{◌≡◌, ◌≤◌, List, [], ◌∷◌, ◌++◌, Option, Some, None, IsSome, refl, sym, ap, ◌∙◌, arith, inl, inr, ⊎_elim, subst, append_assoc, Ok, Err}
+use Rattle.std.proofs.Common.{◌≡◌, ◌≤◌, List, [], ◌∷◌, ◌++◌, Option, Some, None, refl, sym, ap, ◌∙◌, arith, inl, inr, ⊎_elim, subst, append_assoc, Ok, Err}
 use Rattle.std.specs.List.{Contains}
 use Rattle.vm_allocator.specs.Range.{Range}
 use Rattle.vm_allocator.specs.Block.{Block}
@@ -7,10 +7,11 @@ use Rattle.vm_allocator.specs.Address.{releasing}
 use Rattle.vm_allocator.specs.Answer.{Frees}
 use Rattle.vm_allocator.specs.Blocks.{TilesSpace, IsBlocksOf, held_of, blocks_state, AreBelowMax}
 use Rattle.vm_allocator.specs.BlockEdits.{free_block}
-use Rattle.vm_allocator.specs.BlockList.{IsOrderedFrom, replace_block, find_key}
+use Rattle.vm_allocator.specs.BlockList.{IsOrderedFrom, replace_block}
 use Rattle.vm_allocator.specs.Shape.{Shape, blocks, height_of}
 use Rattle.vm_allocator.specs.SpaceTree.{space_of, tree_state, IsSpaceTree}
 use Rattle.vm_allocator.specs.Release.{held_block, HasSlot, neighbours, free_if, joined, IsAround, without_if, rejoined}
+use Rattle.vm_allocator.specs.Widening.{CanWiden}
 use Rattle.vm_allocator.specs.declared.allocation_engine.node.neighbours.Neighbours.{Neighbours}
 use Rattle.vm_allocator.specs.declared.error.Error.TheVariants.{ResourceNotAvailable}
 use Rattle.vm_allocator.specs.declared.allocation_engine.NodeState.TheVariants.{Free, Allocated}
@@ -57,11 +58,13 @@ module _ (bs : List Block) (k : Range) (n : Neighbours) (a : IsAround bs k n) wh
   pub rejoined_is : rejoined k n bs ≡ a.front ++ free_block (joined k n) ∷ a.back
   rejoined_is = ap (replace_block k (free_block (joined k n) ∷ [])) last_is ∙ replace_middle 0 k (free_block (joined k n) ∷ []) a.front (held_block k) a.back refl last_ordered
 
-  pub slot_known : (news : List Block) → news ≡ without_if n.after (without_if n.before bs) → IsSome (find_key k news)
-  slot_known news e = subst (λ (v : List Block). IsSome (find_key k v)) (sym (e ∙ last_is)) (rw (find_middle 0 k a.front (held_block k) a.back refl last_ordered) refl)
-
-  pub rejoin_ordered : (news : List Block) → news ≡ without_if n.after (without_if n.before bs) → IsOrderedFrom 0 (replace_block k (free_block (joined k n) ∷ []) news)
-  rejoin_ordered news e = subst (λ (v : List Block). IsOrderedFrom 0 (replace_block k (free_block (joined k n) ∷ []) v)) (sym e) (subst (IsOrderedFrom 0) (sym rejoined_is) a.new)
+  pub slot_held : (news : List Block) → news ≡ without_if n.after (without_if n.before bs) → CanWiden news k (joined k n)
+  slot_held news e =
+      subst (λ (v : List Block). CanWiden v k (joined k n)) (sym (e ∙ last_is)) (
+      record {
+        held = find_middle 0 k a.front (held_block k) a.back refl last_ordered;
+        ordered = subst (IsOrderedFrom 0) (ap (replace_block k (free_block (joined k n) ∷ [])) last_is) (subst (IsOrderedFrom 0) (sym rejoined_is) a.new);
+      })
 
   pub not_empty : bs ≡ [] → ⊥
   not_empty e = no_middle (a.front ++ free_if n.before) (held_block k) (free_if n.after ++ a.back) (append_assoc a.front (free_if n.before) (held_block k ∷ (free_if n.after ++ a.back)) ∙ sym a.cut ∙ e)
@@ -101,4 +104,4 @@ frees_none s k h f =
 
 pub ruleset releases = (slot_found, slot_given, space_given, frees_slot, frees_none)
 
-pub ruleset rejoins = (rejoined_is, slot_known, rejoin_ordered, not_empty, not_empty_mid)
+pub ruleset rejoins = (rejoined_is, slot_held, not_empty, not_empty_mid)

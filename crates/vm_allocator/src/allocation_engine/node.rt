@@ -19,6 +19,7 @@ mod search_tree;
 #[cfg(test)]
 mod tests;
 pub(crate) mod walks;
+pub(crate) mod widen;
 
 use self::balance::fork;
 use self::kept::room_of;

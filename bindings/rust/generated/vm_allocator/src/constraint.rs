@@ -20,7 +20,7 @@ pub enum AllocPolicy {
 /// Whether the alignment divides the start, where the policy names one.
 fn is_start_aligned(align: u64, policy: AllocPolicy) -> bool {
     match policy {
-        AllocPolicy::ExactMatch(start) => start % align == 0,
+        AllocPolicy::ExactMatch(start) => start & (align - 1) == 0,
         AllocPolicy::FirstMatch => true,
         AllocPolicy::LastMatch => true,
     }

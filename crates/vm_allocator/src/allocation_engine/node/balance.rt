@@ -5,7 +5,7 @@ ghost use Rattle.vm_allocator.specs.Shape.{Fork, blocks, height_of, single, root
 ghost use Rattle.vm_allocator.specs.NodeFields.{side};
 ghost use Rattle.vm_allocator.specs.Settling.{IsSettled};
 
-use super::kept::{Change, kept_of, refresh, renew_room, room_of};
+use super::kept::{Change, kept_of, kept_over, renew_room, room_of};
 use super::{Child, InnerNode, height};
 use crate::allocation_engine::NodeState;
 use crate::range::RangeInclusive;
@@ -88,17 +88,6 @@ impl InnerNode {
     }
 }
 
-/// A node's left side, the node without children, and its right side.
-fn part(mut node: Box<InnerNode>) -> (Child, Box<InnerNode>, Child)
-    ensures shape { node.value ≡ Fork (side result.0) (root_block node.value) (side result.2) }
-    ensures middle { result.1.value ≡ single (root_block node.value) }
-    ensures tree { IsTree node.value }
-    ensures height_fits { height_of node.value < 2 ^ 64 }
-{
-    let (left, right) = node.strip();
-    (left, node, right)
-}
-
 /// A node with these sides, whose heights differ by at most one.
 pub(super) fn fork(left: Child, mut middle: Box<InnerNode>, right: Child) -> Box<InnerNode>
     requires leaf { IsLeaf middle.value }
@@ -111,22 +100,17 @@ pub(super) fn fork(left: Child, mut middle: Box<InnerNode>, right: Child) -> Box
     let open = &mut *middle;
     open.left = left;
     open.right = right;
-    let own = room_of(&open.key, open.node_state);
-    let _ = refresh(
-        kept_of(&open.left),
-        kept_of(&open.right),
-        own,
-        &mut open.height,
-        &mut open.max_free,
-        &mut open.alignments,
-    );
+    let kept = kept_over(&open.left, &open.right, room_of(&open.key, open.node_state));
+    open.height = kept.height;
+    open.max_free = kept.room.longest;
+    open.alignments = kept.room.alignments;
     middle
 }
 
 /// The rotations where the left side is two levels higher: a single one, or a double one where the
 /// inner grandchild is the higher.
 #[tactic(auto, using(crate::proofs::blocks::Order::rotations))]
-fn lean_left(left: Box<InnerNode>, middle: Box<InnerNode>, right: Child) -> Box<InnerNode>
+fn lean_left(mut left: Box<InnerNode>, middle: Box<InnerNode>, right: Child) -> Box<InnerNode>
     requires leaf { IsLeaf middle.value }
     requires ordered { IsOrderedFrom 0 (blocks left.value ++ root_block middle.value ∷ blocks (side right)) }
     requires two_higher { height_of left.value ≡ height_of (side right) + 2 }
@@ -136,19 +120,46 @@ fn lean_left(left: Box<InnerNode>, middle: Box<InnerNode>, right: Child) -> Box<
     ensures not_lower { height_of left.value ≤ height_of result.value }
     ensures at_most_one_higher { height_of result.value ≤ height_of left.value + 1 }
 {
-    let (outer, top, inner) = part(left);
-    if height(&outer) >= height(&inner) {
-        return fork(outer, top, Some(fork(inner, middle, right)));
+    let higher = &mut *left;
+    let inner = higher.right.take();
+    if height(&higher.left) >= height(&inner) {
+        higher.right = Some(fork(inner, middle, right));
+        let kept = kept_over(
+            &higher.left,
+            &higher.right,
+            room_of(&higher.key, higher.node_state),
+        );
+        higher.height = kept.height;
+        higher.max_free = kept.room.longest;
+        higher.alignments = kept.room.alignments;
+        return left;
     }
-    let Some(inner) = inner else { unreachable!() };
-    let (before, inner, after) = part(inner);
-    let low = fork(outer, top, before);
-    fork(Some(low), inner, Some(fork(after, middle, right)))
+    let Some(mut inner) = inner else {
+        unreachable!()
+    };
+    let top = &mut *inner;
+    higher.right = top.left.take();
+    let kept = kept_over(
+        &higher.left,
+        &higher.right,
+        room_of(&higher.key, higher.node_state),
+    );
+    higher.height = kept.height;
+    higher.max_free = kept.room.longest;
+    higher.alignments = kept.room.alignments;
+    let after = top.right.take();
+    top.left = Some(left);
+    top.right = Some(fork(after, middle, right));
+    let kept = kept_over(&top.left, &top.right, room_of(&top.key, top.node_state));
+    top.height = kept.height;
+    top.max_free = kept.room.longest;
+    top.alignments = kept.room.alignments;
+    inner
 }
 
 /// The rotations where the right side is two levels higher, the mirror image.
 #[tactic(auto, using(crate::proofs::blocks::Order::rotations))]
-fn lean_right(left: Child, middle: Box<InnerNode>, right: Box<InnerNode>) -> Box<InnerNode>
+fn lean_right(left: Child, middle: Box<InnerNode>, mut right: Box<InnerNode>) -> Box<InnerNode>
     requires leaf { IsLeaf middle.value }
     requires ordered { IsOrderedFrom 0 (blocks (side left) ++ root_block middle.value ∷ blocks right.value) }
     requires two_higher { height_of right.value ≡ height_of (side left) + 2 }
@@ -158,14 +169,41 @@ fn lean_right(left: Child, middle: Box<InnerNode>, right: Box<InnerNode>) -> Box
     ensures not_lower { height_of right.value ≤ height_of result.value }
     ensures at_most_one_higher { height_of result.value ≤ height_of right.value + 1 }
 {
-    let (inner, top, outer) = part(right);
-    if height(&outer) >= height(&inner) {
-        return fork(Some(fork(left, middle, inner)), top, outer);
+    let higher = &mut *right;
+    let inner = higher.left.take();
+    if height(&higher.right) >= height(&inner) {
+        higher.left = Some(fork(left, middle, inner));
+        let kept = kept_over(
+            &higher.left,
+            &higher.right,
+            room_of(&higher.key, higher.node_state),
+        );
+        higher.height = kept.height;
+        higher.max_free = kept.room.longest;
+        higher.alignments = kept.room.alignments;
+        return right;
     }
-    let Some(inner) = inner else { unreachable!() };
-    let (before, inner, after) = part(inner);
-    let low = fork(left, middle, before);
-    fork(Some(low), inner, Some(fork(after, top, outer)))
+    let Some(mut inner) = inner else {
+        unreachable!()
+    };
+    let top = &mut *inner;
+    higher.left = top.right.take();
+    let kept = kept_over(
+        &higher.left,
+        &higher.right,
+        room_of(&higher.key, higher.node_state),
+    );
+    higher.height = kept.height;
+    higher.max_free = kept.room.longest;
+    higher.alignments = kept.room.alignments;
+    let before = top.left.take();
+    top.right = Some(right);
+    top.left = Some(fork(left, middle, before));
+    let kept = kept_over(&top.left, &top.right, room_of(&top.key, top.node_state));
+    top.height = kept.height;
+    top.max_free = kept.room.longest;
+    top.alignments = kept.room.alignments;
+    inner
 }
 
 /// A node with these sides, whose heights differ by at most two.

@@ -2,7 +2,7 @@
 ghost use Rattle.std.specs.Prelude.{◌≡◌, ◌+◌, ◌<◌, ◌^◌, max};
 ghost use Rattle.vm_allocator.specs.Block.{free_length};
 ghost use Rattle.vm_allocator.specs.Multiples.{alignment_count, free_alignments};
-ghost use Rattle.vm_allocator.specs.Shape.{IsTree, IsSameIfNot, KeepsRoom};
+ghost use Rattle.vm_allocator.specs.Shape.{height_of, max_free_of, alignments_of, IsTree, IsSameIfNot, KeepsRoom};
 ghost use Rattle.vm_allocator.specs.NodeFields.{side};
 ghost use Rattle.vm_allocator.specs.Settling.{IsKeptOf, IsRoomOver};
 
@@ -95,30 +95,31 @@ pub(super) fn kept_of(child: &Child) -> Kept
     }
 }
 
-/// Brings what a node keeps up to date, from what its children keep; says whether a part of it changed.
+/// What a node keeps over these children, with its own block's room.
 #[inline(always)]
-pub(super) fn refresh(
-    left: Kept,
-    right: Kept,
-    own: Room,
-    kept_height: &mut u64,
-    max_free: &mut u64,
-    alignments: &mut u8,
-) -> bool
-    requires { max left.height right.height + 1 < 2 ^ 64 }
-    ensures height { kept_height.new ≡ max left.height right.height + 1 }
-    ensures room { IsRoomOver left.room right.room own max_free.new alignments.new }
-    ensures same { IsSameIfNot result kept_height.old kept_height.new }
-    ensures same_longest { IsSameIfNot result max_free.old max_free.new }
-    ensures same_alignments { IsSameIfNot result alignments.old alignments.new }
+pub(super) fn kept_over(left: &Child, right: &Child, own: Room) -> Kept
+    requires { max (height_of (side left.now)) (height_of (side right.now)) + 1 < 2 ^ 64 }
+    ensures height { result.height ≡ max (height_of (side left.now)) (height_of (side right.now)) + 1 }
+    ensures longest { result.room.longest
+        ≡ max (max (max_free_of (side left.now)) (max_free_of (side right.now))) own.longest }
+    ensures alignments { result.room.alignments
+        ≡ max (max (alignments_of (side left.now)) (alignments_of (side right.now))) own.alignments }
+    ensures left { IsTree (side left.now) }
+    ensures right { IsTree (side right.now) }
 {
-    let height = left.height.max(right.height) + 1;
-    let changed = refresh_room(left.room, right.room, own, max_free, alignments);
-    if height == *kept_height {
-        return changed;
+    let first = kept_of(left);
+    let second = kept_of(right);
+    Kept {
+        height: first.height.max(second.height) + 1,
+        room: Room {
+            longest: first.room.longest.max(second.room.longest).max(own.longest),
+            alignments: first
+                .room
+                .alignments
+                .max(second.room.alignments)
+                .max(own.alignments),
+        },
     }
-    *kept_height = height;
-    true
 }
 
 /// Brings up to date what a node keeps of its tree's room; says whether a part of it changed.
@@ -161,5 +162,19 @@ pub(super) fn renew_room(
         Change::RoomAlone
     } else {
         Change::Nothing
+    }
+}
+
+/// Raises what a node keeps of its tree's room to that of a block which becomes free below.
+#[inline(always)]
+pub(super) fn raise_room(max_free: &mut u64, alignments: &mut u8, freed: &Room)
+    ensures longest { max_free.new ≡ max max_free.old freed.now.longest }
+    ensures alignments { alignments.new ≡ max alignments.old freed.now.alignments }
+{
+    if *max_free < freed.longest {
+        *max_free = freed.longest;
+    }
+    if *alignments < freed.alignments {
+        *alignments = freed.alignments;
     }
 }

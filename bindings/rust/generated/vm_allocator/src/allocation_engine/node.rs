@@ -15,6 +15,7 @@ pub(crate) mod remove;
 pub(crate) mod rewrite;
 mod search_tree;
 pub(crate) mod walks;
+pub(crate) mod widen;
 
 use self::balance::fork;
 use self::kept::room_of;

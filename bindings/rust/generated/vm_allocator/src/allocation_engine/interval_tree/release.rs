@@ -4,11 +4,10 @@
 //! addresses, free again.
 
 use super::IntervalTree;
-use crate::allocation_engine::NodeState;
 use crate::allocation_engine::node::Child;
 use crate::allocation_engine::node::neighbours::Neighbours;
 use crate::allocation_engine::node::remove::delete_at;
-use crate::allocation_engine::node::rewrite::rewrite_at;
+use crate::allocation_engine::node::widen::widen;
 use crate::error::{Error, Result};
 use crate::range::RangeInclusive;
 
@@ -28,7 +27,7 @@ fn rejoin(root: &mut Child, key: &RangeInclusive, beside: &Neighbours, count: &m
     let range = joined(key, beside);
     drop_if(root, &beside.before, count);
     drop_if(root, &beside.after, count);
-    rewrite_at(root, key, range, NodeState::Free, count);
+    widen(root, key, &range, count);
 }
 
 /// A range with the free ones beside it.

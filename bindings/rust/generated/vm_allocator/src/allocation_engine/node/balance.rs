@@ -3,7 +3,7 @@
 //! Rotations, and what comes before them. Nothing here calls itself, and nothing takes memory.
 
 use rattle::Box;
-use super::kept::{Change, kept_of, refresh, renew_room, room_of};
+use super::kept::{Change, kept_of, kept_over, renew_room, room_of};
 use super::{Child, InnerNode, height};
 use crate::allocation_engine::NodeState;
 use crate::range::RangeInclusive;
@@ -59,52 +59,95 @@ impl InnerNode {
     }
 }
 
-/// A node's left side, the node without children, and its right side.
-fn part(mut node: Box<InnerNode>) -> (Child, Box<InnerNode>, Child) {
-    let (left, right) = node.strip();
-    (left, node, right)
-}
-
 /// A node with these sides, whose heights differ by at most one.
 pub(super) fn fork(left: Child, mut middle: Box<InnerNode>, right: Child) -> Box<InnerNode> {
     let open = &mut *middle;
     open.left = left;
     open.right = right;
-    let own = room_of(&open.key, open.node_state);
-    let _ = refresh(
-        kept_of(&open.left),
-        kept_of(&open.right),
-        own,
-        &mut open.height,
-        &mut open.max_free,
-        &mut open.alignments,
-    );
+    let kept = kept_over(&open.left, &open.right, room_of(&open.key, open.node_state));
+    open.height = kept.height;
+    open.max_free = kept.room.longest;
+    open.alignments = kept.room.alignments;
     middle
 }
 
 /// The rotations where the left side is two levels higher: a single one, or a double one where the
 /// inner grandchild is the higher.
-fn lean_left(left: Box<InnerNode>, middle: Box<InnerNode>, right: Child) -> Box<InnerNode> {
-    let (outer, top, inner) = part(left);
-    if height(&outer) >= height(&inner) {
-        return fork(outer, top, Some(fork(inner, middle, right)));
+fn lean_left(mut left: Box<InnerNode>, middle: Box<InnerNode>, right: Child) -> Box<InnerNode> {
+    let higher = &mut *left;
+    let inner = higher.right.take();
+    if height(&higher.left) >= height(&inner) {
+        higher.right = Some(fork(inner, middle, right));
+        let kept = kept_over(
+            &higher.left,
+            &higher.right,
+            room_of(&higher.key, higher.node_state),
+        );
+        higher.height = kept.height;
+        higher.max_free = kept.room.longest;
+        higher.alignments = kept.room.alignments;
+        return left;
     }
-    let Some(inner) = inner else { unreachable!() };
-    let (before, inner, after) = part(inner);
-    let low = fork(outer, top, before);
-    fork(Some(low), inner, Some(fork(after, middle, right)))
+    let Some(mut inner) = inner else {
+        unreachable!()
+    };
+    let top = &mut *inner;
+    higher.right = top.left.take();
+    let kept = kept_over(
+        &higher.left,
+        &higher.right,
+        room_of(&higher.key, higher.node_state),
+    );
+    higher.height = kept.height;
+    higher.max_free = kept.room.longest;
+    higher.alignments = kept.room.alignments;
+    let after = top.right.take();
+    top.left = Some(left);
+    top.right = Some(fork(after, middle, right));
+    let kept = kept_over(&top.left, &top.right, room_of(&top.key, top.node_state));
+    top.height = kept.height;
+    top.max_free = kept.room.longest;
+    top.alignments = kept.room.alignments;
+    inner
 }
 
 /// The rotations where the right side is two levels higher, the mirror image.
-fn lean_right(left: Child, middle: Box<InnerNode>, right: Box<InnerNode>) -> Box<InnerNode> {
-    let (inner, top, outer) = part(right);
-    if height(&outer) >= height(&inner) {
-        return fork(Some(fork(left, middle, inner)), top, outer);
+fn lean_right(left: Child, middle: Box<InnerNode>, mut right: Box<InnerNode>) -> Box<InnerNode> {
+    let higher = &mut *right;
+    let inner = higher.left.take();
+    if height(&higher.right) >= height(&inner) {
+        higher.left = Some(fork(left, middle, inner));
+        let kept = kept_over(
+            &higher.left,
+            &higher.right,
+            room_of(&higher.key, higher.node_state),
+        );
+        higher.height = kept.height;
+        higher.max_free = kept.room.longest;
+        higher.alignments = kept.room.alignments;
+        return right;
     }
-    let Some(inner) = inner else { unreachable!() };
-    let (before, inner, after) = part(inner);
-    let low = fork(left, middle, before);
-    fork(Some(low), inner, Some(fork(after, top, outer)))
+    let Some(mut inner) = inner else {
+        unreachable!()
+    };
+    let top = &mut *inner;
+    higher.left = top.right.take();
+    let kept = kept_over(
+        &higher.left,
+        &higher.right,
+        room_of(&higher.key, higher.node_state),
+    );
+    higher.height = kept.height;
+    higher.max_free = kept.room.longest;
+    higher.alignments = kept.room.alignments;
+    let before = top.left.take();
+    top.right = Some(right);
+    top.left = Some(fork(left, middle, before));
+    let kept = kept_over(&top.left, &top.right, room_of(&top.key, top.node_state));
+    top.height = kept.height;
+    top.max_free = kept.room.longest;
+    top.alignments = kept.room.alignments;
+    inner
 }
 
 /// A node with these sides, whose heights differ by at most two.

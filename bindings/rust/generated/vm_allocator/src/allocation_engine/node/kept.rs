@@ -82,23 +82,22 @@ pub(super) fn kept_of(child: &Child) -> Kept {
     }
 }
 
-/// Brings what a node keeps up to date, from what its children keep; says whether a part of it changed.
+/// What a node keeps over these children, with its own block's room.
 #[inline(always)]
-pub(super) fn refresh(
-    left: Kept,
-    right: Kept,
-    own: Room,
-    kept_height: &mut u64,
-    max_free: &mut u64,
-    alignments: &mut u8,
-) -> bool {
-    let height = left.height.max(right.height) + 1;
-    let changed = refresh_room(left.room, right.room, own, max_free, alignments);
-    if height == *kept_height {
-        return changed;
+pub(super) fn kept_over(left: &Child, right: &Child, own: Room) -> Kept {
+    let first = kept_of(left);
+    let second = kept_of(right);
+    Kept {
+        height: first.height.max(second.height) + 1,
+        room: Room {
+            longest: first.room.longest.max(second.room.longest).max(own.longest),
+            alignments: first
+                .room
+                .alignments
+                .max(second.room.alignments)
+                .max(own.alignments),
+        },
     }
-    *kept_height = height;
-    true
 }
 
 /// Brings up to date what a node keeps of its tree's room; says whether a part of it changed.
@@ -133,5 +132,16 @@ pub(super) fn renew_room(
         Change::RoomAlone
     } else {
         Change::Nothing
+    }
+}
+
+/// Raises what a node keeps of its tree's room to that of a block which becomes free below.
+#[inline(always)]
+pub(super) fn raise_room(max_free: &mut u64, alignments: &mut u8, freed: &Room) {
+    if *max_free < freed.longest {
+        *max_free = freed.longest;
+    }
+    if *alignments < freed.alignments {
+        *alignments = freed.alignments;
     }
 }

@@ -1,7 +1,13 @@
+use Rattle.std.proofs.Common.{sym}
+use Rattle.vm_allocator.specs.NodeFields.{side}
+use Rattle.vm_allocator.specs.Shape.{blocks, root_block}
 use Rattle.vm_allocator.proofs.blocks.Order.{ordered_right_sides}
 use Rattle.vm_allocator.proofs.allocation_engine.node.balance.lean_right.Goals as goal
 
-pub fork-low-requires-clause-ordered : goal.fork-low-requires-clause-ordered
-fork-low-requires-clause-ordered c =
-    let o = (ordered_right_sides _ _ _ _ _ _ c.part-inner.ensures.shape c.requires.ordered).0 in
-    (ordered_right_sides _ _ _ _ _ _ c.part-before.ensures.shape (rw c.in-Some.is at o)).0
+pub fork-requires-2-clause-ordered : goal.fork-requires-2-clause-ordered
+fork-requires-2-clause-ordered c =
+    let k = root_block c.args.middle.value in
+    let x = blocks (side c.args.left) in
+    let o = (ordered_right_sides _ _ _ _ k x (sym c.higher.view_is) (rw c.deref_mut-higher.ensures.value c.requires.ordered)).0 in
+    let inner = rw (← c.take-inner.ensures.value, c.in-Some.is) at o in
+    rw c.take-before.ensures.value (ordered_right_sides _ _ _ _ k x (sym c.top.view_is) (rw c.deref_mut-top.ensures.value inner)).0
