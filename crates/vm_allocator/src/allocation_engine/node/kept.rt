@@ -95,20 +95,28 @@ pub(super) fn kept_of(child: &Child) -> Kept
     }
 }
 
-/// What a node keeps over these children, with its own block's room.
+/// What a node keeps over these children, with its own block.
 #[inline(always)]
-pub(super) fn kept_over(left: &Child, right: &Child, own: Room) -> Kept
+pub(super) fn kept_over(
+    left: &Child,
+    right: &Child,
+    key: &RangeInclusive,
+    node_state: NodeState,
+) -> Kept
     requires { max (height_of (side left.now)) (height_of (side right.now)) + 1 < 2 ^ 64 }
     ensures height { result.height ≡ max (height_of (side left.now)) (height_of (side right.now)) + 1 }
     ensures longest { result.room.longest
-        ≡ max (max (max_free_of (side left.now)) (max_free_of (side right.now))) own.longest }
+        ≡ max (max (max_free_of (side left.now)) (max_free_of (side right.now)))
+        (free_length (record { key = key.now; state = node_state })) }
     ensures alignments { result.room.alignments
-        ≡ max (max (alignments_of (side left.now)) (alignments_of (side right.now))) own.alignments }
+        ≡ max (max (alignments_of (side left.now)) (alignments_of (side right.now)))
+        (free_alignments (record { key = key.now; state = node_state })) }
     ensures left { IsTree (side left.now) }
     ensures right { IsTree (side right.now) }
 {
     let first = kept_of(left);
     let second = kept_of(right);
+    let own = room_of(key, node_state);
     Kept {
         height: first.height.max(second.height) + 1,
         room: Room {

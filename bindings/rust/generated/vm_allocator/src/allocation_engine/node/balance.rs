@@ -64,7 +64,7 @@ pub(super) fn fork(left: Child, mut middle: Box<InnerNode>, right: Child) -> Box
     let open = &mut *middle;
     open.left = left;
     open.right = right;
-    let kept = kept_over(&open.left, &open.right, room_of(&open.key, open.node_state));
+    let kept = kept_over(&open.left, &open.right, &open.key, open.node_state);
     open.height = kept.height;
     open.max_free = kept.room.longest;
     open.alignments = kept.room.alignments;
@@ -78,11 +78,7 @@ fn lean_left(mut left: Box<InnerNode>, middle: Box<InnerNode>, right: Child) -> 
     let inner = higher.right.take();
     if height(&higher.left) >= height(&inner) {
         higher.right = Some(fork(inner, middle, right));
-        let kept = kept_over(
-            &higher.left,
-            &higher.right,
-            room_of(&higher.key, higher.node_state),
-        );
+        let kept = kept_over(&higher.left, &higher.right, &higher.key, higher.node_state);
         higher.height = kept.height;
         higher.max_free = kept.room.longest;
         higher.alignments = kept.room.alignments;
@@ -93,18 +89,14 @@ fn lean_left(mut left: Box<InnerNode>, middle: Box<InnerNode>, right: Child) -> 
     };
     let top = &mut *inner;
     higher.right = top.left.take();
-    let kept = kept_over(
-        &higher.left,
-        &higher.right,
-        room_of(&higher.key, higher.node_state),
-    );
+    let kept = kept_over(&higher.left, &higher.right, &higher.key, higher.node_state);
     higher.height = kept.height;
     higher.max_free = kept.room.longest;
     higher.alignments = kept.room.alignments;
     let after = top.right.take();
     top.left = Some(left);
     top.right = Some(fork(after, middle, right));
-    let kept = kept_over(&top.left, &top.right, room_of(&top.key, top.node_state));
+    let kept = kept_over(&top.left, &top.right, &top.key, top.node_state);
     top.height = kept.height;
     top.max_free = kept.room.longest;
     top.alignments = kept.room.alignments;
@@ -117,11 +109,7 @@ fn lean_right(left: Child, middle: Box<InnerNode>, mut right: Box<InnerNode>) ->
     let inner = higher.left.take();
     if height(&higher.right) >= height(&inner) {
         higher.left = Some(fork(left, middle, inner));
-        let kept = kept_over(
-            &higher.left,
-            &higher.right,
-            room_of(&higher.key, higher.node_state),
-        );
+        let kept = kept_over(&higher.left, &higher.right, &higher.key, higher.node_state);
         higher.height = kept.height;
         higher.max_free = kept.room.longest;
         higher.alignments = kept.room.alignments;
@@ -132,18 +120,14 @@ fn lean_right(left: Child, middle: Box<InnerNode>, mut right: Box<InnerNode>) ->
     };
     let top = &mut *inner;
     higher.left = top.right.take();
-    let kept = kept_over(
-        &higher.left,
-        &higher.right,
-        room_of(&higher.key, higher.node_state),
-    );
+    let kept = kept_over(&higher.left, &higher.right, &higher.key, higher.node_state);
     higher.height = kept.height;
     higher.max_free = kept.room.longest;
     higher.alignments = kept.room.alignments;
     let before = top.left.take();
     top.right = Some(right);
     top.left = Some(fork(left, middle, before));
-    let kept = kept_over(&top.left, &top.right, room_of(&top.key, top.node_state));
+    let kept = kept_over(&top.left, &top.right, &top.key, top.node_state);
     top.height = kept.height;
     top.max_free = kept.room.longest;
     top.alignments = kept.room.alignments;

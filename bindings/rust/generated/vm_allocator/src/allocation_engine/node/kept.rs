@@ -82,11 +82,17 @@ pub(super) fn kept_of(child: &Child) -> Kept {
     }
 }
 
-/// What a node keeps over these children, with its own block's room.
+/// What a node keeps over these children, with its own block.
 #[inline(always)]
-pub(super) fn kept_over(left: &Child, right: &Child, own: Room) -> Kept {
+pub(super) fn kept_over(
+    left: &Child,
+    right: &Child,
+    key: &RangeInclusive,
+    node_state: NodeState,
+) -> Kept {
     let first = kept_of(left);
     let second = kept_of(right);
+    let own = room_of(key, node_state);
     Kept {
         height: first.height.max(second.height) + 1,
         room: Room {
