@@ -1,4 +1,4 @@
-//! The README's example, word for word below this line.
+//! The example of CALLING.md of vm_devices, word for word below this line.
 ghost use Rattle.std.specs.Prelude.{◌≡◌, IfOk};
 
 use std::alloc::Global;
