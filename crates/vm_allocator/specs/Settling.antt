@@ -1,11 +1,13 @@
 -- What becomes of a node once one of its children has changed.
-use Rattle.std.specs.Prelude.{◌≡◌, ℕ, ◌+◌, max, Option, None}
+use Rattle.std.specs.Prelude.{◌≡◌, ℕ, ◌+◌, max, Option, None, IsSome}
 use Rattle.std.specs.Global.{Box}
 use Rattle.vm_allocator.specs.Block.{Block, free_length}
 use Rattle.vm_allocator.specs.Multiples.{free_alignments}
-use Rattle.vm_allocator.specs.Shape.{Shape, height_of, max_free_of, alignments_of, DifferByAtMost, KeepsHeight, KeepsRoom}
+use Rattle.vm_allocator.specs.Shape.{Shape, height_of, max_free_of, alignments_of, DifferByAtMost, KeepsHeight, KeepsRoom, root_block, IsLeaf, CanBalance, Balances}
 use Rattle.vm_allocator.specs.NodeFields.{side}
 use Rattle.vm_allocator.specs.declared.allocation_engine.node.InnerNode.{InnerNode}
+use Rattle.vm_allocator.specs.declared.allocation_engine.node.kept.Change.{Change}
+use Rattle.vm_allocator.specs.declared.allocation_engine.node.kept.Change.TheVariants.{Height}
 use Rattle.vm_allocator.specs.declared.allocation_engine.node.kept.Kept.{Kept}
 use Rattle.vm_allocator.specs.declared.allocation_engine.node.kept.Room.{Room}
 use Rattle.vm_allocator.specs.declared.allocation_engine.node.balance.Settled.{Settled}
@@ -46,3 +48,14 @@ IsSettled own old (Leans first second) new =
     (first ≡ old.left) × (second ≡ old.right) × (new.left ≡ None) × (new.right ≡ None) × (new.height ≡ 1)
     × (new.longest ≡ free_length own)
     × (new.alignments ≡ free_alignments own)
+
+-- a node that leans is there without children, and can be balanced over them
+abbrev pub CanFinish : Settled → Option (Box InnerNode) → Type 0
+CanFinish (Stands told) at = Unit {0}
+CanFinish (Leans left right) at = IsSome at × IsLeaf (side at) × CanBalance (side left) (root_block (side at)) (side right)
+
+-- one that stands stays, and one that leans is balanced
+abbrev pub Finishes : Settled → Option (Box InnerNode) → Option (Box InnerNode) → Change → Type 0
+Finishes (Stands told) old new change = (new ≡ old) × (change ≡ told)
+Finishes (Leans left right) old new change =
+    IsSome new × Balances (side left) (root_block (side old)) (side right) (side new) × (change ≡ Height)

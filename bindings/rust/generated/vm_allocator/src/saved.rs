@@ -2,8 +2,8 @@
 
 //! Saved values: what is written of ranges, states and allocators as a `Value`, and read again. A value
 //! may come from a stranger. It is read only where it states an object: it has exactly the fields that
-//! it should, and all that has to hold of them holds. The order of the fields says nothing. The whole
-//! value is checked before memory is asked for.
+//! it should, and all that has to hold of them holds. The order of the fields says nothing. No request
+//! for memory comes before the last of the value has been looked at.
 mod allocator;
 mod fields;
 mod ids;

@@ -3,7 +3,7 @@ ghost use Rattle.std.specs.Prelude.{◌≡◌, ◌+◌, ◌<◌, ◌≤◌, ◌^
 ghost use Rattle.vm_allocator.specs.BlockList.{IsOrderedFrom};
 ghost use Rattle.vm_allocator.specs.Shape.{Fork, blocks, height_of, single, root_block, IsTree, DifferByAtMost, IsLeaf, CanBalance, Balances};
 ghost use Rattle.vm_allocator.specs.NodeFields.{side};
-ghost use Rattle.vm_allocator.specs.Settling.{IsSettled};
+ghost use Rattle.vm_allocator.specs.Settling.{IsSettled, CanFinish, Finishes};
 
 use super::kept::{Change, kept_of, kept_over, renew_room, room_of};
 use super::{Child, InnerNode, height};
@@ -17,6 +17,20 @@ pub(super) enum Settled {
     Stands(Change),
     /// Its children differ by two, and are taken out of it: the left one and the right one.
     Leans(Child, Child),
+}
+
+impl Settled {
+    /// Balances the node at a place where it leans; says what changed there.
+    #[inline(always)]
+    pub(super) fn finish(self, at: &mut Child) -> Change
+        requires { CanFinish self at.old }
+        ensures { Finishes self at.old at.new result }
+    {
+        match self {
+            Settled::Stands(change) => change,
+            Settled::Leans(left, right) => rebalance(at, left, right),
+        }
+    }
 }
 
 /// Brings what a node keeps up to date, or takes its children out where they are to be balanced.
@@ -211,7 +225,7 @@ pub(super) fn balance(left: Child, middle: Box<InnerNode>, right: Child) -> Box<
 
 /// Puts a node with these sides, whose heights differ by at most two, in the place of one without
 /// children. The height there may be another one, which it tells.
-pub(super) fn rebalance(at: &mut Child, left: Child, right: Child) -> Change
+fn rebalance(at: &mut Child, left: Child, right: Child) -> Change
     requires some { IsSome at.old }
     requires leaf { IsLeaf (side at.old) }
     requires sides { CanBalance (side left) (root_block (side at.old)) (side right) }

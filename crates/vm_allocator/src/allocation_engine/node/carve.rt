@@ -7,7 +7,7 @@ ghost use Rattle.vm_allocator.specs.Shape.{MAX_HEIGHT, blocks, height_of, root_b
 ghost use Rattle.vm_allocator.specs.Ways.{way_to_link, way_here, way_to_carve};
 ghost use Rattle.vm_allocator.specs.NodeFields.{side};
 
-use super::balance::{Settled, rebalance, settle};
+use super::balance::settle;
 use super::kept::{Change, kept_of, renew_room, room_of};
 use super::link::link_at;
 use super::{Child, InnerNode, height};
@@ -88,7 +88,7 @@ fn carve_here(at: &mut Child, range: RangeInclusive, rest: Rest, count: &mut u64
     tree.node_state = NodeState::Allocated;
     link_if(&mut tree.left, rest.before, count);
     link_if(&mut tree.right, rest.after, count);
-    match settle(
+    let settled = settle(
         &mut tree.left,
         &mut tree.right,
         &tree.key,
@@ -96,10 +96,8 @@ fn carve_here(at: &mut Child, range: RangeInclusive, rest: Rest, count: &mut u64
         &mut tree.height,
         &mut tree.max_free,
         &mut tree.alignments,
-    ) {
-        Settled::Stands(change) => change,
-        Settled::Leans(left, right) => rebalance(at, left, right),
-    }
+    );
+    settled.finish(at)
 }
 
 /// Gives the node with a key below the node at a place a range, which is held, and links what is
@@ -133,17 +131,17 @@ pub(crate) fn carve_at(at: &mut Child, cut: &mut Cut, count: &mut u64) -> Change
             &mut tree.max_free,
             &mut tree.alignments,
         ),
-        Change::Height => match settle(
-            &mut tree.left,
-            &mut tree.right,
-            &tree.key,
-            tree.node_state,
-            &mut tree.height,
-            &mut tree.max_free,
-            &mut tree.alignments,
-        ) {
-            Settled::Stands(change) => change,
-            Settled::Leans(left, right) => rebalance(at, left, right),
-        },
+        Change::Height => {
+            let settled = settle(
+                &mut tree.left,
+                &mut tree.right,
+                &tree.key,
+                tree.node_state,
+                &mut tree.height,
+                &mut tree.max_free,
+                &mut tree.alignments,
+            );
+            settled.finish(at)
+        }
     }
 }

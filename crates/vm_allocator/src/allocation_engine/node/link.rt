@@ -6,7 +6,7 @@ ghost use Rattle.vm_allocator.specs.Shape.{MAX_HEIGHT, blocks, height_of, root_b
 ghost use Rattle.vm_allocator.specs.Ways.{way_down};
 ghost use Rattle.vm_allocator.specs.NodeFields.{side};
 
-use super::balance::{Settled, rebalance, settle};
+use super::balance::settle;
 use super::kept::Change;
 use super::{Child, InnerNode};
 
@@ -37,7 +37,7 @@ pub(super) fn link_at(at: &mut Child, leaf: Box<InnerNode>, count: &mut u64) -> 
     if let Change::Nothing = change {
         return change;
     }
-    match settle(
+    let settled = settle(
         &mut tree.left,
         &mut tree.right,
         &tree.key,
@@ -45,8 +45,6 @@ pub(super) fn link_at(at: &mut Child, leaf: Box<InnerNode>, count: &mut u64) -> 
         &mut tree.height,
         &mut tree.max_free,
         &mut tree.alignments,
-    ) {
-        Settled::Stands(change) => change,
-        Settled::Leans(left, right) => rebalance(at, left, right),
-    }
+    );
+    settled.finish(at)
 }

@@ -6,7 +6,7 @@ ghost use Rattle.vm_allocator.specs.Shape.{Shape, Tip, Fork, blocks, height_of, 
 ghost use Rattle.vm_allocator.specs.Ways.{way_to_first, way_to_join, way_to_remove};
 ghost use Rattle.vm_allocator.specs.NodeFields.{side};
 
-use super::balance::{Settled, balance, rebalance, settle};
+use super::balance::{balance, settle};
 use super::kept::Change;
 use super::{Child, InnerNode, height};
 use crate::range::RangeInclusive;
@@ -39,7 +39,7 @@ fn take_least_at(at: &mut Child, count: &mut u64) -> (Box<InnerNode>, Change)
     if let Change::Nothing = change {
         return (least, change);
     }
-    match settle(
+    let settled = settle(
         &mut tree.left,
         &mut tree.right,
         &tree.key,
@@ -47,10 +47,8 @@ fn take_least_at(at: &mut Child, count: &mut u64) -> (Box<InnerNode>, Change)
         &mut tree.height,
         &mut tree.max_free,
         &mut tree.alignments,
-    ) {
-        Settled::Stands(change) => (least, change),
-        Settled::Leans(left, right) => (least, rebalance(at, left, right)),
-    }
+    );
+    (least, settled.finish(at))
 }
 
 /// What is left of a tree without its root, from the root's children: the other child where one is
@@ -125,7 +123,7 @@ pub(crate) fn delete_at(at: &mut Child, key: &RangeInclusive, count: &mut u64) -
     if let Change::Nothing = change {
         return change;
     }
-    match settle(
+    let settled = settle(
         &mut tree.left,
         &mut tree.right,
         &tree.key,
@@ -133,8 +131,6 @@ pub(crate) fn delete_at(at: &mut Child, key: &RangeInclusive, count: &mut u64) -
         &mut tree.height,
         &mut tree.max_free,
         &mut tree.alignments,
-    ) {
-        Settled::Stands(change) => change,
-        Settled::Leans(left, right) => rebalance(at, left, right),
-    }
+    );
+    settled.finish(at)
 }

@@ -16,6 +16,17 @@ pub(super) enum Settled {
     Leans(Child, Child),
 }
 
+impl Settled {
+    /// Balances the node at a place where it leans; says what changed there.
+    #[inline(always)]
+    pub(super) fn finish(self, at: &mut Child) -> Change {
+        match self {
+            Settled::Stands(change) => change,
+            Settled::Leans(left, right) => rebalance(at, left, right),
+        }
+    }
+}
+
 /// Brings what a node keeps up to date, or takes its children out where they are to be balanced.
 #[inline(always)]
 pub(super) fn settle(
@@ -151,7 +162,7 @@ pub(super) fn balance(left: Child, middle: Box<InnerNode>, right: Child) -> Box<
 
 /// Puts a node with these sides, whose heights differ by at most two, in the place of one without
 /// children. The height there may be another one, which it tells.
-pub(super) fn rebalance(at: &mut Child, left: Child, right: Child) -> Change {
+fn rebalance(at: &mut Child, left: Child, right: Child) -> Change {
     let Some(middle) = at.take() else {
         unreachable!()
     };

@@ -3,7 +3,7 @@
 //! A leaf added to a tree.
 
 use rattle::Box;
-use super::balance::{Settled, rebalance, settle};
+use super::balance::settle;
 use super::kept::Change;
 use super::{Child, InnerNode};
 
@@ -24,7 +24,7 @@ pub(super) fn link_at(at: &mut Child, leaf: Box<InnerNode>, count: &mut u64) -> 
     if let Change::Nothing = change {
         return change;
     }
-    match settle(
+    let settled = settle(
         &mut tree.left,
         &mut tree.right,
         &tree.key,
@@ -32,8 +32,6 @@ pub(super) fn link_at(at: &mut Child, leaf: Box<InnerNode>, count: &mut u64) -> 
         &mut tree.height,
         &mut tree.max_free,
         &mut tree.alignments,
-    ) {
-        Settled::Stands(change) => change,
-        Settled::Leans(left, right) => rebalance(at, left, right),
-    }
+    );
+    settled.finish(at)
 }

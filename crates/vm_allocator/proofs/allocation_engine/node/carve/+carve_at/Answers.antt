@@ -1,4 +1,8 @@
-use Rattle.std.proofs.Common.{◌≡◌, rules, arith}
+use Rattle.std.proofs.Common.{arith, refl, ◌≡◌, rules}
+use Rattle.std.proofs.lemmas.Grind.{common_steps}
+use Rattle.vm_allocator.proofs.nodes.Settling.{finished}
+use Rattle.vm_allocator.proofs.splitting.Carving.{carvings}
+use Rattle.vm_allocator.proofs.counts.Carving.{ways_to_carve}
 use Rattle.vm_allocator.specs.Shape.{IsTree}
 use Rattle.vm_allocator.specs.NodeFields.{side, shape_of}
 use Rattle.vm_allocator.proofs.nodes.Rewriting.{known_left, known_right, rewritten_left, rewritten_right}
@@ -21,3 +25,8 @@ carve_at-change-requires-in-Less t c =
     let known = known_right (side c.args.at.now) (side i.left) _ (side i.right) c.args.cut.now.key e c.in-Less.ensures tree c.requires.carving.known in
     let ordered = rewritten_right (side c.args.at.now) (side i.left) _ (side i.right) c.args.cut.now.key _ e c.in-Less.ensures tree c.requires.carving.ordered in
     (search rules, (c.requires.leaves, (record { known = known; ordered = ordered }, (grind arith, grind arith))))
+
+pub returns-in-Height : goal.returns-in-Height
+returns-in-Height t c =
+    let f = finished _ _ c.settle-settled.result _ _ c.finish.new.at c.finish.result (grind (arith, common_steps, carvings, ways_to_carve)) c.settle-settled.ensures.left c.settle-settled.ensures.right c.settle-settled.ensures.settled refl c.finish.ensures in
+    grind (arith, common_steps, carvings, ways_to_carve)

@@ -1,4 +1,9 @@
-use Rattle.std.proofs.Common.{◌≡◌, refl}
+use Rattle.std.proofs.Common.{arith, refl, ◌≡◌}
+use Rattle.std.proofs.lemmas.Grind.{common_steps}
+use Rattle.vm_allocator.proofs.nodes.Settling.{finished}
+use Rattle.vm_allocator.proofs.splitting.Carving.{carvings}
+use Rattle.vm_allocator.proofs.counts.Carving.{ways_to_carve, link_bounds}
+use Rattle.vm_allocator.specs.declared.allocation_engine.NodeState.TheVariants.{Allocated}
 use Rattle.vm_allocator.specs.Shape.{blocks}
 use Rattle.vm_allocator.specs.Release.{held_block}
 use Rattle.vm_allocator.specs.NodeFields.{side, shape_of}
@@ -16,3 +21,8 @@ link_if-requires-2-clause-clear c =
     let i = c.tree.inside in
     let e : side c.args.at.now ≡ shape_of i = cc in
     after_clear (shape_of i) (side i.left) _ (side i.right) (blocks (side c.args.rest.before)) (blocks (side c.args.rest.after)) (held_block c.args.range) refl c.tree.invariant.tree (rw e at c.requires.carving.ordered)
+
+pub returns : goal.returns
+returns c =
+    let f = finished (record { key = c.args.range; state = Allocated }) _ c.settle-settled.result _ _ c.finish.new.at c.finish.result (grind (arith, common_steps, carvings, ways_to_carve, link_bounds)) c.settle-settled.ensures.left c.settle-settled.ensures.right c.settle-settled.ensures.settled refl c.finish.ensures in
+    grind (arith, common_steps, carvings, ways_to_carve, link_bounds)
