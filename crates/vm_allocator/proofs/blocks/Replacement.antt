@@ -1,5 +1,5 @@
 -- A block that goes, or that others replace.
-use Rattle.std.proofs.Common.{◌≡◌, ℕ, ◌+◌, ◌<◌, ◌≤◌, Bool, true, false, cond, eqb, List, [], ◌∷◌, ◌++◌, refl, ap, ◌∙◌, subst, sym, append_assoc, arith, inl, inr, ◌⊎◌, Some, None}
+use Rattle.std.proofs.Common.{◌≡◌, ℕ, ◌+◌, ◌<◌, ◌≤◌, true, false, cond, eqb, List, [], ◌∷◌, ◌++◌, refl, ap, ◌∙◌, subst, sym, append_assoc, arith, inl, inr, ◌⊎◌, Some, None}
 use Rattle.std.proofs.lemmas.Bool.{eq-eqb, ne_eqb, eqb-true, and_parts}
 use Rattle.vm_allocator.specs.Range.{Range}
 use Rattle.vm_allocator.specs.RangeOrder.{Before, same_range}

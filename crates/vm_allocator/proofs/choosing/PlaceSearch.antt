@@ -1,7 +1,7 @@
 -- The first and the last fit of a tree, from those of its sides.
 use Rattle.std.specs.Option.{is_some}
 use Rattle.std.specs.Prelude.{MatchOption}
-use Rattle.std.proofs.Common.{true, false, ◌≡◌, ℕ, Option, Some, None, List, [], ◌∷◌, ◌++◌, refl, sym, ap, ◌∙◌, subst, append_assoc}
+use Rattle.std.proofs.Common.{false, ◌≡◌, ℕ, Option, Some, None, List, [], ◌∷◌, ◌++◌, refl, sym, ap, ◌∙◌, subst, append_assoc}
 use Rattle.std.specs.List.{All}
 use Rattle.std.proofs.lemmas.List.Elements.{All-head, All-tail, All-cons}
 use Rattle.vm_allocator.specs.Block.{Block}
