@@ -1,0 +1,155 @@
+/*
+ * What a call through C costs more than the same call through Rust, in one
+ * process: rounds of both in turn, of each the time that nine in ten exceed,
+ * since other work on the machine only adds to it. Fails where they are more than
+ * MOST_APART nanoseconds a call apart, several times over.
+ */
+#define _POSIX_C_SOURCE 200809L
+#include <divsharun.h>
+
+#include <stdio.h>
+#include <stdlib.h>
+#include <time.h>
+
+#define COUNT 1000
+#define ROUNDS 1001
+#define TRIES 3
+#define MOST_APART 5.0
+
+uint64_t rust_exact(const uint64_t *held, const uint64_t *freed, size_t count);
+uint64_t rust_first(size_t count);
+
+static uint64_t held[COUNT], freed[COUNT];
+
+static void check(bool holds) {
+    if (!holds) {
+        fputs("speed: a call is refused, or answers something else\n", stderr);
+        exit(1);
+    }
+}
+
+static vm_address_allocator *new_space(void) {
+    vm_address_allocator *space;
+
+    check(vm_address_allocator_new(0, (uint64_t)1 << 40, &space) == VM_OK);
+    return space;
+}
+
+static uint64_t c_exact(void) {
+    vm_address_allocator *space = new_space();
+    vm_range range;
+    uint64_t sum = 0;
+    size_t i;
+
+    for (i = 0; i < COUNT; i++) {
+        check(vm_range_allocate_exact(space, 1, 1, held[i], &range, NULL) == VM_OK);
+        sum += range.end;
+    }
+    for (i = 0; i < COUNT; i++) {
+        range.start = range.end = freed[i];
+        check(vm_range_free(space, range, NULL) == VM_OK);
+    }
+    check(vm_address_allocator_destroy(space) == VM_OK);
+    return sum;
+}
+
+static uint64_t through_rust_exact(void) {
+    return rust_exact(held, freed, COUNT);
+}
+
+static uint64_t c_first(void) {
+    vm_address_allocator *space = new_space();
+    vm_range range;
+    uint64_t sum = 0;
+    size_t i;
+
+    for (i = 0; i < COUNT; i++) {
+        check(vm_range_allocate_first(space, 1, 1, &range, NULL) == VM_OK);
+        sum += range.end;
+    }
+    check(vm_address_allocator_destroy(space) == VM_OK);
+    return sum;
+}
+
+static uint64_t through_rust_first(void) {
+    return rust_first(COUNT);
+}
+
+static double nanoseconds(uint64_t (*round)(void), uint64_t sum) {
+    struct timespec before, after;
+
+    clock_gettime(CLOCK_MONOTONIC, &before);
+    check(round() == sum);
+    clock_gettime(CLOCK_MONOTONIC, &after);
+    return (double)(after.tv_sec - before.tv_sec) * 1e9 + (double)(after.tv_nsec - before.tv_nsec);
+}
+
+static int compare(const void *one, const void *other) {
+    double a = *(const double *)one, b = *(const double *)other;
+
+    return (a > b) - (a < b);
+}
+
+static double undisturbed(double *times) {
+    qsort(times, ROUNDS, sizeof times[0], compare);
+    return times[ROUNDS / 10];
+}
+
+/* Prints both times of a call; says whether they are close. */
+static bool are_close(const char *name, uint64_t (*c)(void), uint64_t (*rust)(void), int calls) {
+    static double through_c[ROUNDS], through_rust[ROUNDS];
+    uint64_t sum = rust();
+    double more;
+    size_t i;
+
+    for (i = 0; i < ROUNDS; i++) {
+        bool c_goes_first = i % 2 == 0;
+
+        if (c_goes_first)
+            through_c[i] = nanoseconds(c, sum) / calls;
+        through_rust[i] = nanoseconds(rust, sum) / calls;
+        if (!c_goes_first)
+            through_c[i] = nanoseconds(c, sum) / calls;
+    }
+    more = undisturbed(through_c) - undisturbed(through_rust);
+    printf("%s: %.1f ns a call through C, %.1f through Rust, %.1f more\n", name,
+           undisturbed(through_c), undisturbed(through_rust), more);
+    return more <= MOST_APART;
+}
+
+static bool are_soon_close(const char *name, uint64_t (*c)(void), uint64_t (*rust)(void),
+                           int calls) {
+    int tries;
+
+    for (tries = 0; tries < TRIES; tries++)
+        if (are_close(name, c, rust, calls))
+            return true;
+    return false;
+}
+
+/* Starts that are apart, in an order that looks random. */
+static void draw(uint64_t *starts, uint64_t seed) {
+    size_t i;
+
+    for (i = 0; i < COUNT; i++)
+        starts[i] = 2 * i;
+    for (i = COUNT - 1; i > 0; i--) {
+        size_t other;
+        uint64_t start = starts[i];
+
+        seed = seed * 6364136223846793005u + 1442695040888963407u;
+        other = (size_t)((seed >> 33) % (i + 1));
+        starts[i] = starts[other];
+        starts[other] = start;
+    }
+}
+
+int main(void) {
+    bool exact, first;
+
+    draw(held, 1);
+    draw(freed, 2);
+    exact = are_soon_close("exact and free", c_exact, through_rust_exact, 2 * COUNT);
+    first = are_soon_close("first", c_first, through_rust_first, COUNT);
+    return exact && first ? 0 : 1;
+}
