@@ -33,11 +33,12 @@
  *
  * Memory. Where a request for memory is refused, VM_OUT_OF_MEMORY is returned,
  * after all other refusals but those of a text that is read, and what the call
- * got is given back. This holds of every call but vm_id_free, vm_id_allocator_read,
- * vm_device_reserve_first, _last and _exact, vm_device_release and
- * vm_device_manager_read: these also keep ids and devices in sets and maps of
- * Rust's, which end the process by abort() where they get no memory. What gives
- * a range back, takes an id, or asks what is held takes no memory.
+ * got is given back. This holds of every call but vm_id_free,
+ * vm_id_allocator_read, vm_device_reserve_first, _last and _exact,
+ * vm_device_release and vm_device_manager_read: these also keep ids and devices
+ * in sets and maps of Rust's, which end the process by abort() where they get no
+ * memory. What gives a range back, takes an id, or asks what is held takes no
+ * memory. To read a text may take 60 times its length, whoever wrote it.
  *
  * Stack. 64 KiB suffice for every call.
  *

@@ -1,8 +1,8 @@
 /*
  * What a call through C costs more than the same call through Rust, in one
- * process: rounds of both in turn, of each the time that nine in ten exceed,
- * since other work on the machine only adds to it. Fails where they are more than
- * MOST_APART nanoseconds a call apart, several times over.
+ * process: rounds of both in turn, of each the fastest, since other work on the
+ * machine only adds to it. Fails where they stay more than MOST_APART nanoseconds
+ * a call apart.
  */
 #define _POSIX_C_SOURCE 200809L
 #include <divsharun.h>
@@ -12,8 +12,8 @@
 #include <time.h>
 
 #define COUNT 1000
-#define ROUNDS 1001
-#define TRIES 3
+#define ROUNDS 1000
+#define TRIES 10
 #define MOST_APART 5.0
 
 uint64_t rust_exact(const uint64_t *held, const uint64_t *freed, size_t count);
@@ -84,47 +84,29 @@ static double nanoseconds(uint64_t (*round)(void), uint64_t sum) {
     return (double)(after.tv_sec - before.tv_sec) * 1e9 + (double)(after.tv_nsec - before.tv_nsec);
 }
 
-static int compare(const void *one, const void *other) {
-    double a = *(const double *)one, b = *(const double *)other;
-
-    return (a > b) - (a < b);
-}
-
-static double undisturbed(double *times) {
-    qsort(times, ROUNDS, sizeof times[0], compare);
-    return times[ROUNDS / 10];
+static double lesser(double one, double other) {
+    return one < other ? one : other;
 }
 
 /* Prints both times of a call; says whether they are close. */
 static bool are_close(const char *name, uint64_t (*c)(void), uint64_t (*rust)(void), int calls) {
-    static double through_c[ROUNDS], through_rust[ROUNDS];
     uint64_t sum = rust();
-    double more;
-    size_t i;
+    double through_rust = nanoseconds(rust, sum), through_c = nanoseconds(c, sum);
+    double more = 0;
+    int tries, i;
 
-    for (i = 0; i < ROUNDS; i++) {
-        bool c_goes_first = i % 2 == 0;
-
-        if (c_goes_first)
-            through_c[i] = nanoseconds(c, sum) / calls;
-        through_rust[i] = nanoseconds(rust, sum) / calls;
-        if (!c_goes_first)
-            through_c[i] = nanoseconds(c, sum) / calls;
+    for (tries = 0; tries < TRIES; tries++) {
+        for (i = 0; i < ROUNDS; i++) {
+            through_rust = lesser(through_rust, nanoseconds(rust, sum));
+            through_c = lesser(through_c, nanoseconds(c, sum));
+        }
+        more = (through_c - through_rust) / calls;
+        if (more <= MOST_APART)
+            break;
     }
-    more = undisturbed(through_c) - undisturbed(through_rust);
-    printf("%s: %.1f ns a call through C, %.1f through Rust, %.1f more\n", name,
-           undisturbed(through_c), undisturbed(through_rust), more);
+    printf("%s: %.1f ns a call through C, %.1f through Rust, %.1f more\n", name, through_c / calls,
+           through_rust / calls, more);
     return more <= MOST_APART;
-}
-
-static bool are_soon_close(const char *name, uint64_t (*c)(void), uint64_t (*rust)(void),
-                           int calls) {
-    int tries;
-
-    for (tries = 0; tries < TRIES; tries++)
-        if (are_close(name, c, rust, calls))
-            return true;
-    return false;
 }
 
 /* Starts that are apart, in an order that looks random. */
@@ -149,7 +131,7 @@ int main(void) {
 
     draw(held, 1);
     draw(freed, 2);
-    exact = are_soon_close("exact and free", c_exact, through_rust_exact, 2 * COUNT);
-    first = are_soon_close("first", c_first, through_rust_first, COUNT);
+    exact = are_close("exact and free", c_exact, through_rust_exact, 2 * COUNT);
+    first = are_close("first", c_first, through_rust_first, COUNT);
     return exact && first ? 0 : 1;
 }

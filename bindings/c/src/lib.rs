@@ -14,6 +14,9 @@ mod ids;
 mod ranges;
 mod status;
 mod texts;
+#[cfg(feature = "measured")]
+#[path = "../speed/through_rust.rs"]
+mod through_rust;
 
 use status::{status_of, vm_refusal, vm_status, Refused};
 use std::mem::MaybeUninit;

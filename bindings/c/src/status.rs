@@ -75,6 +75,10 @@ pub(crate) enum Refused {
 }
 
 impl From<Error> for Refused {
+    // Out of the way of the calls that succeed: they would move the error about before they look
+    // whether there is one.
+    #[cold]
+    #[inline(never)]
     fn from(error: Error) -> Self {
         Refused::Call(error)
     }
