@@ -13,13 +13,20 @@
 
 #define COUNT 1000
 #define ROUNDS 1000
-#define TRIES 10
+#define TRIES 30
 #define MOST_APART 5.0
 
-uint64_t rust_exact(const uint64_t *held, const uint64_t *freed, size_t count);
-uint64_t rust_first(size_t count);
+struct request {
+    uint64_t size;
+    uint64_t alignment;
+    uint64_t start;
+};
 
-static uint64_t held[COUNT], freed[COUNT];
+uint64_t rust_exact(const struct request *held, const uint64_t *freed, size_t count);
+uint64_t rust_first(const struct request *held, size_t count);
+
+static struct request held[COUNT];
+static uint64_t freed[COUNT];
 
 static void check(bool holds) {
     if (!holds) {
@@ -42,7 +49,8 @@ static uint64_t c_exact(void) {
     size_t i;
 
     for (i = 0; i < COUNT; i++) {
-        check(vm_range_allocate_exact(space, 1, 1, held[i], &range, NULL) == VM_OK);
+        check(vm_range_allocate_exact(space, held[i].size, held[i].alignment, held[i].start, &range,
+                                      NULL) == VM_OK);
         sum += range.end;
     }
     for (i = 0; i < COUNT; i++) {
@@ -64,7 +72,8 @@ static uint64_t c_first(void) {
     size_t i;
 
     for (i = 0; i < COUNT; i++) {
-        check(vm_range_allocate_first(space, 1, 1, &range, NULL) == VM_OK);
+        check(vm_range_allocate_first(space, held[i].size, held[i].alignment, &range, NULL) ==
+              VM_OK);
         sum += range.end;
     }
     check(vm_address_allocator_destroy(space) == VM_OK);
@@ -72,7 +81,7 @@ static uint64_t c_first(void) {
 }
 
 static uint64_t through_rust_first(void) {
-    return rust_first(COUNT);
+    return rust_first(held, COUNT);
 }
 
 static double nanoseconds(uint64_t (*round)(void), uint64_t sum) {
@@ -127,10 +136,16 @@ static void draw(uint64_t *starts, uint64_t seed) {
 }
 
 int main(void) {
+    static uint64_t starts[COUNT];
     bool exact, first;
+    size_t i;
 
-    draw(held, 1);
+    draw(starts, 1);
     draw(freed, 2);
+    for (i = 0; i < COUNT; i++) {
+        held[i].size = held[i].alignment = 1;
+        held[i].start = starts[i];
+    }
     exact = are_close("exact and free", c_exact, through_rust_exact, 2 * COUNT);
     first = are_close("first", c_first, through_rust_first, COUNT);
     return exact && first ? 0 : 1;

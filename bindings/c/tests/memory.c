@@ -310,6 +310,7 @@ static void read_manager(void) {
     text = saved_devices(manager, &length);
     until_refused = number;
     vm_device_manager_read(text, length, &made);
+    vm_text_destroy(text);
 }
 
 /* Refuses the requests of a call in turn, each in a process of its own, until one ends it. */
