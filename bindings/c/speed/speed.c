@@ -13,7 +13,7 @@
 
 #define COUNT 1000
 #define ROUNDS 1000
-#define TRIES 30
+#define TRIES 5
 #define MOST_APART 5.0
 
 struct request {
