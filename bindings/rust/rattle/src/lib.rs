@@ -1,6 +1,6 @@
 //! What stands for the names of Rattle's library that Rust has not, or has otherwise. Where a call of
-//! Rattle's answers that memory was refused, `Box::new` and `Vec::push` here do so too; a set, a map
-//! and a `Value` end the process then, as everywhere in Rust.
+//! Rattle's answers that memory was refused, boxes, vectors and values here do so too; a set and a map
+//! end the process then, as everywhere in Rust.
 #![no_std]
 #![forbid(unsafe_code)]
 #![deny(missing_docs)]
@@ -10,8 +10,8 @@ extern crate std;
 
 mod boxed;
 mod collections;
-#[cfg(feature = "testing")]
-mod parse;
+#[cfg(feature = "json")]
+mod json;
 #[cfg(feature = "program")]
 mod program;
 pub mod simd;
@@ -24,10 +24,12 @@ mod vec;
 pub use boxed::boxes_followed;
 pub use boxed::Box;
 pub use collections::{BTreeMap, BTreeSet};
+#[cfg(feature = "json")]
+pub use json::TextError;
 #[cfg(feature = "program")]
 pub use program::HostRuntime;
 pub use rattle_derive::Error;
-pub use value::{Fields, Number, Value};
+pub use value::{Field, Fields, Number, Value};
 pub use vec::Vec;
 
 use core::fmt;

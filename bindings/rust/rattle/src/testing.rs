@@ -141,7 +141,12 @@ impl Value {
         let mut steps = path.split('/');
         match steps.next() {
             Some("") => steps.try_fold(self, |value, step| match value {
-                Value::Object(fields) => fields.get_mut(step),
+                Value::Object(fields) => {
+                    let mut fields = fields.iter_mut();
+                    fields
+                        .find(|field| field.0 == step)
+                        .map(|field| &mut field.1)
+                }
                 Value::Array(items) => items.get_mut(step.parse::<usize>().ok()?),
                 _ => None,
             }),

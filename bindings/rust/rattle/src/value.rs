@@ -1,9 +1,9 @@
 use crate::{AllocError, Global, Vec};
-use alloc::collections::BTreeMap;
 use alloc::string::String;
 use core::fmt;
+use core::slice::{Iter, IterMut};
 
-/// A value as JSON has them. Where there is no memory for one, the process ends.
+/// A value as JSON has them.
 #[derive(Debug, PartialEq)]
 pub enum Value {
     /// `null`
@@ -20,8 +20,59 @@ pub enum Value {
     Object(Fields),
 }
 
-/// The fields of an object by their names.
-pub type Fields = BTreeMap<String, Value>;
+/// A field of an object: its name, and what stands in it.
+pub type Field = (String, Value);
+
+/// The fields of an object, by their names in order. It is a list, whose growth may be refused, where
+/// one of Rust's maps ends the process. A name that stands twice in a text stands twice in it, so that
+/// who counts the fields notices.
+#[derive(Debug, PartialEq)]
+pub struct Fields(alloc::vec::Vec<Field>);
+
+impl Fields {
+    /// What stands in the field of this name.
+    pub fn get(&self, name: &str) -> Option<&Value> {
+        self.iter()
+            .find(|field| field.0 == name)
+            .map(|field| &field.1)
+    }
+
+    /// How many fields there are.
+    pub fn len(&self) -> usize {
+        self.0.len()
+    }
+
+    /// Whether there is no field.
+    pub fn is_empty(&self) -> bool {
+        self.0.is_empty()
+    }
+
+    /// The fields, by their names in order.
+    pub fn iter(&self) -> Iter<'_, Field> {
+        self.0.iter()
+    }
+
+    /// The same, to be changed.
+    pub fn iter_mut(&mut self) -> IterMut<'_, Field> {
+        self.0.iter_mut()
+    }
+}
+
+impl From<alloc::vec::Vec<Field>> for Fields {
+    /// It takes no memory.
+    fn from(mut fields: alloc::vec::Vec<Field>) -> Fields {
+        fields.sort_unstable_by(|one, other| one.0.cmp(&other.0));
+        Fields(fields)
+    }
+}
+
+impl FromIterator<Field> for Fields {
+    /// Where there is no memory, the process ends: the crates that are written from proved ones have
+    /// other ways.
+    fn from_iter<I: IntoIterator<Item = Field>>(fields: I) -> Fields {
+        Fields::from(fields.into_iter().collect::<alloc::vec::Vec<Field>>())
+    }
+}
 
 /// A number of a value.
 #[derive(Clone, Copy, Debug, PartialEq)]
@@ -35,7 +86,20 @@ pub enum Number {
 impl Value {
     /// A text as a value.
     pub fn try_from_str(_alloc: Global, text: &str) -> Result<Value, AllocError> {
-        Ok(Value::String(text.into()))
+        copy_of(text).map(Value::String)
+    }
+
+    /// The object of these fields, each of which there was memory for.
+    #[doc(hidden)]
+    pub fn object<const N: usize>(
+        fields: [(&str, Result<Value, AllocError>); N],
+    ) -> Result<Value, AllocError> {
+        let mut list = alloc::vec::Vec::new();
+        list.try_reserve_exact(N).map_err(|_| AllocError)?;
+        for (name, value) in fields {
+            list.push((copy_of(name)?, value?));
+        }
+        Ok(Value::Object(list.into()))
     }
 
     /// Whether the value is `null`.
@@ -81,6 +145,20 @@ impl Value {
     }
 }
 
+/// A copy of a text.
+fn copy_of(text: &str) -> Result<String, AllocError> {
+    let mut copy = String::new();
+    add_to(&mut copy, text)?;
+    Ok(copy)
+}
+
+/// Adds a piece at the end of a text.
+pub(crate) fn add_to(text: &mut String, piece: &str) -> Result<(), AllocError> {
+    text.try_reserve(piece.len()).map_err(|_| AllocError)?;
+    text.push_str(piece);
+    Ok(())
+}
+
 impl From<u64> for Value {
     fn from(number: u64) -> Value {
         Value::Number(Number::Whole(number))
@@ -94,6 +172,7 @@ impl From<u32> for Value {
 }
 
 impl From<&str> for Value {
+    /// Where there is no memory, the process ends. Only tests call it.
     fn from(text: &str) -> Value {
         Value::String(text.into())
     }
@@ -124,7 +203,7 @@ impl fmt::Display for Value {
                 write_listed('[', ']', items.iter(), f, |item, f| write!(f, "{item}"))
             }
             Value::Object(fields) => write_listed('{', '}', fields.iter(), f, |field, f| {
-                write_text(field.0, f)?;
+                write_text(&field.0, f)?;
                 write!(f, ":{}", field.1)
             }),
         }
@@ -168,7 +247,7 @@ fn write_text(text: &str, f: &mut fmt::Formatter<'_>) -> fmt::Result {
 macro_rules! json {
     (in $alloc:expr; {$($fields:tt)*}) => {{
         let _: $crate::Global = $alloc;
-        Ok::<$crate::Value, $crate::AllocError>($crate::json!(@object {$($fields)*}))
+        $crate::json!(@object [] $($fields)*)
     }};
     (in $alloc:expr; [$($item:expr),*]) => {{
         let mut items = $crate::Vec::new($alloc);
@@ -179,22 +258,14 @@ macro_rules! json {
             Err(refused) => Err($crate::AllocError::from(refused)),
         }
     }};
-    (@object {$($fields:tt)*}) => {{
-        let mut fields = $crate::Fields::new();
-        $crate::json!(@field fields $($fields)*);
-        $crate::Value::Object(fields)
-    }};
-    (@field $all:ident) => {};
-    (@field $all:ident $name:literal: {$($fields:tt)*} $(, $($rest:tt)*)?) => {
-        $all.insert($name.into(), $crate::json!(@object {$($fields)*}));
-        $crate::json!(@field $all $($($rest)*)?);
+    (@object [$($done:tt)*]) => { $crate::Value::object([$($done)*]) };
+    (@object [$($done:tt)*] $name:literal: {$($fields:tt)*} $(, $($rest:tt)*)?) => {
+        $crate::json!(@object [$($done)* ($name, $crate::json!(@object [] $($fields)*)),] $($($rest)*)?)
     };
-    (@field $all:ident $name:literal: null $(, $($rest:tt)*)?) => {
-        $all.insert($name.into(), $crate::Value::Null);
-        $crate::json!(@field $all $($($rest)*)?);
+    (@object [$($done:tt)*] $name:literal: null $(, $($rest:tt)*)?) => {
+        $crate::json!(@object [$($done)* ($name, Ok($crate::Value::Null)),] $($($rest)*)?)
     };
-    (@field $all:ident $name:literal: $value:expr $(, $($rest:tt)*)?) => {
-        $all.insert($name.into(), $crate::Value::from($value));
-        $crate::json!(@field $all $($($rest)*)?);
+    (@object [$($done:tt)*] $name:literal: $value:expr $(, $($rest:tt)*)?) => {
+        $crate::json!(@object [$($done)* ($name, Ok($crate::Value::from($value))),] $($($rest)*)?)
     };
 }

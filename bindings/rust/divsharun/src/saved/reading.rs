@@ -4,7 +4,7 @@ use super::form::{Form, Structure, MOST_LISTED, MOST_NESTED, NODE, SLOT, STATE, 
 use alloc::vec::Vec;
 use core::fmt;
 use core::marker::PhantomData;
-use rattle::{Fields, Value};
+use rattle::{Field, Fields, Value};
 use serde::de::{
     DeserializeSeed, EnumAccess, Error, MapAccess, SeqAccess, Unexpected, VariantAccess, Visitor,
 };
@@ -101,28 +101,28 @@ impl<'de> Visitor<'de> for FieldsOf {
     }
 
     fn visit_seq<A: SeqAccess<'de>>(self, mut from: A) -> Result<Value, A::Error> {
-        let mut fields = Fields::new();
+        let mut fields = Vec::new();
         for (name, form) in self.structure.fields() {
             let Some(value) = from.next_element_seed(self.reading.part(form))? else {
                 return Err(A::Error::invalid_length(fields.len(), &self));
             };
-            fields.insert(name.into(), value);
+            fields.push((name.into(), value));
         }
-        Ok(Value::from(fields))
+        Ok(Value::from(Fields::from(fields)))
     }
 
     fn visit_map<A: MapAccess<'de>>(self, mut from: A) -> Result<Value, A::Error> {
-        let mut fields = Fields::new();
+        let mut fields: Vec<Field> = Vec::new();
         while let Some(place) = from.next_key_seed(Name(self.structure.names))? {
             let (name, form) = (self.structure.names[place], self.structure.forms[place]);
-            if fields.contains_key(name) {
+            if fields.iter().any(|field| field.0 == name) {
                 return Err(A::Error::duplicate_field(name));
             }
             let value = from.next_value_seed(self.reading.part(form))?;
-            fields.insert(name.into(), value);
+            fields.push((name.into(), value));
         }
         // A field that is missing is the proved reader's to refuse.
-        Ok(Value::from(fields))
+        Ok(Value::from(Fields::from(fields)))
     }
 }
 

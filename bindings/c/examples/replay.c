@@ -1,0 +1,361 @@
+/*
+ * Answers lines of calls, as the replay program of this repository does: README
+ * has the language. The status is 0 at the end of the input, 1 where a read
+ * failed, and 2 where a write failed.
+ */
+#include <divsharun.h>
+
+#include <inttypes.h>
+#include <stdio.h>
+#include <string.h>
+
+enum { MOST_BYTES = 120, MOST_NUMBERS = 4, MOST_DIGITS = 20 };
+
+/* What the lines so far have made; null where there is none yet. */
+struct session {
+    vm_address_allocator *space;
+    vm_id_allocator *ids;
+    vm_device_manager *manager;
+};
+
+/* Bytes that no zero ends. */
+struct text {
+    const char *bytes;
+    size_t length;
+};
+
+static void refuse(vm_status status, const vm_refusal *refusal) {
+    switch (status) {
+    case VM_OVERFLOW:
+        puts("error overflow");
+        break;
+    case VM_OUT_OF_RANGE:
+        printf("error out-of-range %" PRIu32 "\n", refusal->id);
+        break;
+    case VM_ALREADY_RELEASED:
+        printf("error already-released %" PRIu32 "\n", refusal->id);
+        break;
+    case VM_NEVER_ALLOCATED:
+        printf("error never-allocated %" PRIu32 "\n", refusal->id);
+        break;
+    case VM_RESOURCE_NOT_AVAILABLE:
+        puts("error not-available");
+        break;
+    case VM_INVALID_RANGE:
+        printf("error invalid-range %" PRIu64 " %" PRIu64 "\n", refusal->range.start,
+               refusal->range.end);
+        break;
+    case VM_INVALID_ALIGNMENT:
+        puts("error invalid-alignment");
+        break;
+    case VM_INVALID_STATE_TRANSITION:
+        printf("error state %" PRIu64 " %" PRIu64 "\n", refusal->range.start, refusal->range.end);
+        break;
+    case VM_UNALIGNED_ADDRESS:
+        puts("error unaligned");
+        break;
+    case VM_UNDERFLOW:
+        puts("error underflow");
+        break;
+    case VM_INVALID_SIZE:
+        printf("error invalid-size %" PRIu64 "\n", refusal->size);
+        break;
+    case VM_OUT_OF_MEMORY:
+        puts("error memory");
+        break;
+    default:
+        printf("error %s\n", vm_status_text(status));
+    }
+}
+
+static void tell_done(vm_status status, const vm_refusal *refusal) {
+    if (status == VM_OK)
+        puts("done");
+    else
+        refuse(status, refusal);
+}
+
+static void tell_range(vm_status status, vm_range range, const vm_refusal *refusal) {
+    if (status == VM_OK)
+        printf("range %" PRIu64 " %" PRIu64 "\n", range.start, range.end);
+    else
+        refuse(status, refusal);
+}
+
+static void tell_id(vm_status status, uint32_t id, const vm_refusal *refusal) {
+    if (status == VM_OK)
+        printf("id %" PRIu32 "\n", id);
+    else
+        refuse(status, refusal);
+}
+
+/* ---- The calls, one for each kind of line ---- */
+
+static void make_space(struct session *session, const uint64_t *number) {
+    vm_address_allocator *space;
+    vm_refusal none = {0};
+    vm_status status = vm_address_allocator_new(number[0], number[1], &space);
+
+    if (status == VM_OK) {
+        vm_address_allocator_destroy(session->space);
+        session->space = space;
+    }
+    tell_done(status, &none);
+}
+
+static void allocate_first(struct session *session, const uint64_t *number) {
+    vm_range range = {0};
+    vm_refusal refusal;
+    vm_status status =
+        vm_range_allocate_first(session->space, number[0], number[1], &range, &refusal);
+
+    tell_range(status, range, &refusal);
+}
+
+static void allocate_last(struct session *session, const uint64_t *number) {
+    vm_range range = {0};
+    vm_refusal refusal;
+    vm_status status =
+        vm_range_allocate_last(session->space, number[0], number[1], &range, &refusal);
+
+    tell_range(status, range, &refusal);
+}
+
+static void allocate_exact(struct session *session, const uint64_t *number) {
+    vm_range range = {0};
+    vm_refusal refusal;
+    vm_status status =
+        vm_range_allocate_exact(session->space, number[0], number[1], number[2], &range, &refusal);
+
+    tell_range(status, range, &refusal);
+}
+
+static void free_range(struct session *session, const uint64_t *number) {
+    vm_range range;
+    vm_refusal refusal;
+
+    range.start = number[0];
+    range.end = number[1];
+    tell_done(vm_range_free(session->space, range, &refusal), &refusal);
+}
+
+static void make_ids(struct session *session, const uint64_t *number) {
+    vm_id_allocator *ids;
+    vm_refusal refusal;
+    vm_status status =
+        vm_id_allocator_new((uint32_t)number[0], (uint32_t)number[1], &ids, &refusal);
+
+    if (status == VM_OK) {
+        vm_id_allocator_destroy(session->ids);
+        session->ids = ids;
+    }
+    tell_done(status, &refusal);
+}
+
+static void allocate_id(struct session *session, const uint64_t *number) {
+    uint32_t id = 0;
+    vm_refusal none = {0};
+    vm_status status = vm_id_allocate(session->ids, &id);
+
+    (void)number;
+    tell_id(status, id, &none);
+}
+
+static void free_id(struct session *session, const uint64_t *number) {
+    uint32_t id = (uint32_t)number[0];
+    vm_refusal refusal;
+    vm_status status = vm_id_free(session->ids, id, &refusal);
+
+    tell_id(status, id, &refusal);
+}
+
+static void has_id(struct session *session, const uint64_t *number) {
+    bool has = false;
+
+    vm_id_is_allocated(session->ids, (uint32_t)number[0], &has);
+    puts(has ? "yes" : "no");
+}
+
+static void make_manager(struct session *session, const uint64_t *number) {
+    vm_device_manager *manager;
+    vm_refusal refusal;
+    vm_status status = vm_device_manager_new((uint32_t)number[0], (uint32_t)number[1], number[2],
+                                             number[3], &manager, &refusal);
+
+    if (status == VM_OK) {
+        vm_device_manager_destroy(session->manager);
+        session->manager = manager;
+    }
+    tell_done(status, &refusal);
+}
+
+static void reserve_device(struct session *session, const uint64_t *number) {
+    vm_device device;
+    vm_refusal refusal;
+    vm_status status =
+        vm_device_reserve_first(session->manager, number[0], number[1], &device, &refusal);
+
+    if (status == VM_OK)
+        printf("device %" PRIu32 " %" PRIu64 " %" PRIu64 "\n", device.id, device.range.start,
+               device.range.end);
+    else
+        refuse(status, &refusal);
+}
+
+static void release_device(struct session *session, const uint64_t *number) {
+    vm_refusal refusal;
+
+    tell_done(vm_device_release(session->manager, (uint32_t)number[0], &refusal), &refusal);
+}
+
+/* ---- The lines ---- */
+
+/* What has to be there before a line is a call. */
+enum object { NOTHING, SPACE, IDS, MANAGER };
+
+static const struct kind {
+    const char *word;
+    void (*call)(struct session *session, const uint64_t *number);
+    enum object on;
+    size_t numbers;
+    /* So many numbers at the front are ids, of 32 bits. */
+    size_t ids;
+} kinds[] = {
+    {"space", make_space, NOTHING, 2, 0},
+    {"first", allocate_first, SPACE, 2, 0},
+    {"last", allocate_last, SPACE, 2, 0},
+    {"exact", allocate_exact, SPACE, 3, 0},
+    {"free", free_range, SPACE, 2, 0},
+    {"ids", make_ids, NOTHING, 2, 2},
+    {"id", allocate_id, IDS, 0, 0},
+    {"unid", free_id, IDS, 1, 1},
+    {"has", has_id, IDS, 1, 1},
+    {"manager", make_manager, NOTHING, 4, 2},
+    {"device", reserve_device, MANAGER, 2, 0},
+    {"undevice", release_device, MANAGER, 1, 1},
+};
+
+/* Takes the first word of a line, and the one space behind it. */
+static struct text take_word(struct text *line) {
+    struct text word = *line;
+    const char *space = memchr(line->bytes, ' ', line->length);
+
+    if (space != NULL)
+        word.length = (size_t)(space - line->bytes);
+    line->bytes += word.length + (space != NULL);
+    line->length -= word.length + (space != NULL);
+    return word;
+}
+
+static const struct kind *kind_of(struct text word) {
+    size_t i;
+
+    for (i = 0; i < sizeof kinds / sizeof kinds[0]; i++)
+        if (strlen(kinds[i].word) == word.length &&
+            memcmp(kinds[i].word, word.bytes, word.length) == 0)
+            return &kinds[i];
+    return NULL;
+}
+
+/* Reads a number of up to `most`; a word that is none is refused. */
+static bool read_number(struct text word, uint64_t most, uint64_t *number) {
+    uint64_t value = 0;
+    size_t i;
+
+    if (word.length == 0 || word.length > MOST_DIGITS)
+        return false;
+    for (i = 0; i < word.length; i++) {
+        uint64_t digit = (uint64_t)(unsigned char)word.bytes[i] - '0';
+
+        if (digit > 9 || value > (most - digit) / 10)
+            return false;
+        value = value * 10 + digit;
+    }
+    *number = value;
+    return true;
+}
+
+/* Reads what stands behind the word of a line; anything else than its numbers is refused. */
+static bool read_numbers(const struct kind *kind, struct text rest, bool is_last,
+                         uint64_t *number) {
+    size_t i;
+
+    for (i = 0; i < kind->numbers; i++) {
+        struct text word;
+
+        if (is_last)
+            return false;
+        is_last = memchr(rest.bytes, ' ', rest.length) == NULL;
+        word = take_word(&rest);
+        if (!read_number(word, i < kind->ids ? UINT32_MAX : UINT64_MAX, &number[i]))
+            return false;
+    }
+    return is_last;
+}
+
+/* What is missing for a call, in words. */
+static const char *missing(const struct session *session, enum object on) {
+    if (on == SPACE && session->space == NULL)
+        return "space";
+    if (on == IDS && session->ids == NULL)
+        return "ids";
+    if (on == MANAGER && session->manager == NULL)
+        return "manager";
+    return NULL;
+}
+
+static void answer(struct session *session, struct text line) {
+    uint64_t number[MOST_NUMBERS];
+    bool is_last = memchr(line.bytes, ' ', line.length) == NULL;
+    const struct kind *kind = kind_of(take_word(&line));
+
+    if (kind == NULL || !read_numbers(kind, line, is_last, number))
+        puts("error line");
+    else if (missing(session, kind->on) != NULL)
+        printf("error no-%s\n", missing(session, kind->on));
+    else
+        kind->call(session, number);
+}
+
+/* Answers a line of so many bytes, of which the first are there. */
+static void answer_line(struct session *session, const char *bytes, size_t length) {
+    struct text line;
+
+    line.bytes = bytes;
+    line.length = length;
+    if (length > MOST_BYTES)
+        puts("error line");
+    else
+        answer(session, line);
+}
+
+static void answer_lines(struct session *session) {
+    char bytes[MOST_BYTES];
+    size_t length = 0;
+    int byte;
+
+    while ((byte = getchar()) != EOF) {
+        if (byte == '\n') {
+            answer_line(session, bytes, length);
+            length = 0;
+            continue;
+        }
+        if (length < MOST_BYTES)
+            bytes[length] = (char)byte;
+        length++;
+    }
+    if (length > 0)
+        answer_line(session, bytes, length);
+}
+
+int main(void) {
+    struct session session = {NULL, NULL, NULL};
+
+    answer_lines(&session);
+    vm_address_allocator_destroy(session.space);
+    vm_id_allocator_destroy(session.ids);
+    vm_device_manager_destroy(session.manager);
+    if (ferror(stdin))
+        return 1;
+    return fflush(stdout) == 0 && !ferror(stdout) ? 0 : 2;
+}

@@ -1,0 +1,71 @@
+/*
+ * The windows and interrupts of a small machine: devices are plugged in and out,
+ * and the machine is saved and restored.
+ */
+#include <divsharun.h>
+
+#include <inttypes.h>
+#include <stdio.h>
+#include <stdlib.h>
+
+/* Ends the program where a call is refused that should not be. */
+static void check(vm_status status, const char *what) {
+    if (status != VM_OK) {
+        fprintf(stderr, "%s: %s\n", what, vm_status_text(status));
+        exit(1);
+    }
+}
+
+static int print_window(void *context, vm_range window) {
+    printf("%s %#" PRIx64 " to %#" PRIx64 "\n", (const char *)context, window.start, window.end);
+    return 0;
+}
+
+/* A saved copy of the allocator, as after a migration. */
+static vm_address_allocator *restored(const vm_address_allocator *mmio) {
+    vm_address_allocator *copy;
+    char *text;
+    size_t length;
+
+    check(vm_address_allocator_save(mmio, &text, &length), "saving");
+    check(vm_address_allocator_read(text, length, &copy), "reading");
+    vm_text_destroy(text);
+    return copy;
+}
+
+static void plug_devices(void) {
+    vm_device_manager *bus;
+    vm_device disk, network;
+
+    check(vm_device_manager_new(5, 23, 0xe0000000, 0x100000, &bus, NULL), "the bus");
+    check(vm_device_reserve_first(bus, 0x1000, 0x1000, &disk, NULL), "the disk");
+    check(vm_device_reserve_first(bus, 0x2000, 0x2000, &network, NULL), "the network");
+    printf("network: interrupt %" PRIu32 ", window at %#" PRIx64 "\n", network.id,
+           network.range.start);
+    check(vm_device_release(bus, disk.id, NULL), "plugging the disk out");
+    vm_device_manager_destroy(bus);
+}
+
+int main(void) {
+    vm_address_allocator *mmio, *copy;
+    vm_range bar, rom;
+    vm_refusal refusal;
+    vm_status status;
+
+    check(vm_address_allocator_new(0xd0000000, 0x30000000, &mmio), "the gap below 4 GiB");
+    check(vm_range_allocate_first(mmio, 0x4000, 0x4000, &bar, NULL), "a bar");
+    check(vm_range_allocate_exact(mmio, 0x1000, 1, 0xd0010000, &rom, NULL), "a rom");
+
+    status = vm_range_allocate_exact(mmio, 0x4000, 1, bar.start, &bar, &refusal);
+    if (status == VM_INVALID_STATE_TRANSITION)
+        printf("held already, up to %#" PRIx64 "\n", refusal.range.end);
+
+    copy = restored(mmio);
+    vm_address_allocator_destroy(mmio);
+    check(vm_range_visit(copy, print_window, "window"), "the windows");
+    check(vm_range_free(copy, bar, NULL), "giving the bar back");
+    vm_address_allocator_destroy(copy);
+
+    plug_devices();
+    return 0;
+}

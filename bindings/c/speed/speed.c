@@ -1,0 +1,152 @@
+/*
+ * What a call through C costs more than the same call through Rust, in one
+ * process: rounds of both in turn, of each the fastest, since other work on the
+ * machine only adds to it. Fails where they stay more than MOST_APART nanoseconds
+ * a call apart.
+ */
+#define _POSIX_C_SOURCE 200809L
+#include <divsharun.h>
+
+#include <stdio.h>
+#include <stdlib.h>
+#include <time.h>
+
+#define COUNT 1000
+#define ROUNDS 1000
+#define TRIES 5
+#define MOST_APART 5.0
+
+struct request {
+    uint64_t size;
+    uint64_t alignment;
+    uint64_t start;
+};
+
+uint64_t rust_exact(const struct request *held, const uint64_t *freed, size_t count);
+uint64_t rust_first(const struct request *held, size_t count);
+
+static struct request held[COUNT];
+static uint64_t freed[COUNT];
+
+static void check(bool holds) {
+    if (!holds) {
+        fputs("speed: a call is refused, or answers something else\n", stderr);
+        exit(1);
+    }
+}
+
+static vm_address_allocator *new_space(void) {
+    vm_address_allocator *space;
+
+    check(vm_address_allocator_new(0, (uint64_t)1 << 40, &space) == VM_OK);
+    return space;
+}
+
+static uint64_t c_exact(void) {
+    vm_address_allocator *space = new_space();
+    vm_range range;
+    uint64_t sum = 0;
+    size_t i;
+
+    for (i = 0; i < COUNT; i++) {
+        check(vm_range_allocate_exact(space, held[i].size, held[i].alignment, held[i].start, &range,
+                                      NULL) == VM_OK);
+        sum += range.end;
+    }
+    for (i = 0; i < COUNT; i++) {
+        range.start = range.end = freed[i];
+        check(vm_range_free(space, range, NULL) == VM_OK);
+    }
+    check(vm_address_allocator_destroy(space) == VM_OK);
+    return sum;
+}
+
+static uint64_t through_rust_exact(void) {
+    return rust_exact(held, freed, COUNT);
+}
+
+static uint64_t c_first(void) {
+    vm_address_allocator *space = new_space();
+    vm_range range;
+    uint64_t sum = 0;
+    size_t i;
+
+    for (i = 0; i < COUNT; i++) {
+        check(vm_range_allocate_first(space, held[i].size, held[i].alignment, &range, NULL) ==
+              VM_OK);
+        sum += range.end;
+    }
+    check(vm_address_allocator_destroy(space) == VM_OK);
+    return sum;
+}
+
+static uint64_t through_rust_first(void) {
+    return rust_first(held, COUNT);
+}
+
+static double nanoseconds(uint64_t (*round)(void), uint64_t sum) {
+    struct timespec before, after;
+
+    clock_gettime(CLOCK_MONOTONIC, &before);
+    check(round() == sum);
+    clock_gettime(CLOCK_MONOTONIC, &after);
+    return (double)(after.tv_sec - before.tv_sec) * 1e9 + (double)(after.tv_nsec - before.tv_nsec);
+}
+
+static double lesser(double one, double other) {
+    return one < other ? one : other;
+}
+
+/* Prints both times of a call; says whether they are close. */
+static bool are_close(const char *name, uint64_t (*c)(void), uint64_t (*rust)(void), int calls) {
+    uint64_t sum = rust();
+    double through_rust = nanoseconds(rust, sum), through_c = nanoseconds(c, sum);
+    double more = 0;
+    int tries, i;
+
+    for (tries = 0; tries < TRIES; tries++) {
+        for (i = 0; i < ROUNDS; i++) {
+            through_rust = lesser(through_rust, nanoseconds(rust, sum));
+            through_c = lesser(through_c, nanoseconds(c, sum));
+        }
+        more = (through_c - through_rust) / calls;
+        if (more <= MOST_APART)
+            break;
+    }
+    printf("%s: %.1f ns a call through C, %.1f through Rust, %.1f more\n", name, through_c / calls,
+           through_rust / calls, more);
+    return more <= MOST_APART;
+}
+
+/* Starts that are apart, in an order that looks random. */
+static void draw(uint64_t *starts, uint64_t seed) {
+    size_t i;
+
+    for (i = 0; i < COUNT; i++)
+        starts[i] = 2 * i;
+    for (i = COUNT - 1; i > 0; i--) {
+        size_t other;
+        uint64_t start = starts[i];
+
+        seed = seed * 6364136223846793005u + 1442695040888963407u;
+        other = (size_t)((seed >> 33) % (i + 1));
+        starts[i] = starts[other];
+        starts[other] = start;
+    }
+}
+
+int main(void) {
+    static uint64_t starts[COUNT];
+    bool exact, first;
+    size_t i;
+
+    draw(starts, 1);
+    draw(freed, 2);
+    for (i = 0; i < COUNT; i++) {
+        held[i].size = held[i].alignment = 1;
+        held[i].start = starts[i];
+    }
+    exact = are_close("exact and free", c_exact, through_rust_exact, 2 * COUNT);
+    first = are_close("first", c_first, through_rust_first, COUNT);
+    return exact && first ? 0 : 1;
+}

@@ -1,0 +1,95 @@
+//! Ids.
+
+use crate::handle::{ask, give_back, make, take, Handle};
+use crate::texts::{read, save};
+use crate::{status_of, vm_refusal, vm_status, Out};
+use rattle::Global;
+use std::ffi::c_char;
+use vm_allocator::IdAllocator;
+
+/// An id allocator of C's.
+pub type vm_id_allocator = Handle<IdAllocator>;
+
+#[unsafe(no_mangle)]
+pub extern "C" fn vm_id_allocator_new(
+    first: u32,
+    last: u32,
+    allocator: Out<*mut vm_id_allocator>,
+    refusal: Out<vm_refusal>,
+) -> vm_status {
+    let made = make(allocator, || IdAllocator::new(Global, first, last));
+    status_of(made, refusal)
+}
+
+/// # Safety
+///
+/// The allocator is null or from a call that makes one, and nothing uses it any more.
+#[unsafe(no_mangle)]
+pub unsafe extern "C" fn vm_id_allocator_destroy(allocator: *mut vm_id_allocator) -> vm_status {
+    // SAFETY: as the caller promises.
+    status_of(unsafe { Handle::destroy(allocator) }, None)
+}
+
+#[unsafe(no_mangle)]
+pub extern "C" fn vm_id_allocate(allocator: Option<&vm_id_allocator>, id: Out<u32>) -> vm_status {
+    let taken = take(allocator, id, |allocator| allocator.allocate_id());
+    status_of(taken, None)
+}
+
+#[unsafe(no_mangle)]
+pub extern "C" fn vm_id_peek(allocator: Option<&vm_id_allocator>, id: Out<u32>) -> vm_status {
+    let asked = ask(allocator, id, |allocator| allocator.peek_id());
+    status_of(asked, None)
+}
+
+#[unsafe(no_mangle)]
+pub extern "C" fn vm_id_free(
+    allocator: Option<&vm_id_allocator>,
+    id: u32,
+    refusal: Out<vm_refusal>,
+) -> vm_status {
+    let freed = give_back(allocator, |allocator| allocator.free_id(id).map(|_| ()));
+    status_of(freed, refusal)
+}
+
+#[unsafe(no_mangle)]
+pub extern "C" fn vm_id_is_allocated(
+    allocator: Option<&vm_id_allocator>,
+    id: u32,
+    is_allocated: Out<bool>,
+) -> vm_status {
+    let asked = ask(allocator, is_allocated, |allocator| {
+        Ok(allocator.is_allocated(id))
+    });
+    status_of(asked, None)
+}
+
+#[unsafe(no_mangle)]
+pub extern "C" fn vm_id_count(allocator: Option<&vm_id_allocator>, count: Out<u64>) -> vm_status {
+    let asked = ask(allocator, count, |allocator| Ok(allocator.held_count()));
+    status_of(asked, None)
+}
+
+#[unsafe(no_mangle)]
+pub extern "C" fn vm_id_allocator_save(
+    allocator: Option<&vm_id_allocator>,
+    text: Out<*mut c_char>,
+    length: Out<usize>,
+) -> vm_status {
+    let saved = save(allocator, text, length, IdAllocator::to_value);
+    status_of(saved, None)
+}
+
+/// # Safety
+///
+/// The text is null, or `length` bytes are there to be read.
+#[unsafe(no_mangle)]
+pub unsafe extern "C" fn vm_id_allocator_read(
+    text: *const c_char,
+    length: usize,
+    allocator: Out<*mut vm_id_allocator>,
+) -> vm_status {
+    // SAFETY: as the caller promises.
+    let read = unsafe { read(text, length, allocator, IdAllocator::from_value) };
+    status_of(read, None)
+}

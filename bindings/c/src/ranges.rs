@@ -1,0 +1,197 @@
+//! Ranges of addresses.
+
+use crate::handle::{ask, give_back, given, make, take, Handle};
+use crate::texts::{read, save};
+use crate::{status_of, vm_range, vm_refusal, vm_status, Out, Refused};
+use rattle::Global;
+use std::ffi::{c_char, c_int, c_void};
+use vm_allocator::{AddressAllocator, AllocPolicy};
+
+/// An address allocator of C's.
+pub type vm_address_allocator = Handle<AddressAllocator>;
+
+/// What C is called by for each held range. Where it throws in place of returning, the process ends.
+pub type vm_range_visitor = extern "C-unwind" fn(context: *mut c_void, range: vm_range) -> c_int;
+
+#[unsafe(no_mangle)]
+pub extern "C" fn vm_address_allocator_new(
+    base: u64,
+    size: u64,
+    allocator: Out<*mut vm_address_allocator>,
+) -> vm_status {
+    let made = make(allocator, || AddressAllocator::new(Global, base, size));
+    status_of(made, None)
+}
+
+/// # Safety
+///
+/// The allocator is null or from a call that makes one, and nothing uses it any more.
+#[unsafe(no_mangle)]
+pub unsafe extern "C" fn vm_address_allocator_destroy(
+    allocator: *mut vm_address_allocator,
+) -> vm_status {
+    // SAFETY: as the caller promises.
+    status_of(unsafe { Handle::destroy(allocator) }, None)
+}
+
+#[unsafe(no_mangle)]
+pub extern "C" fn vm_address_allocator_space(
+    allocator: Option<&vm_address_allocator>,
+    space: Out<vm_range>,
+) -> vm_status {
+    let asked = ask(allocator, space, |allocator| {
+        Ok(vm_range {
+            start: allocator.base(),
+            end: allocator.end(),
+        })
+    });
+    status_of(asked, None)
+}
+
+#[unsafe(no_mangle)]
+pub extern "C" fn vm_range_allocate_first(
+    allocator: Option<&vm_address_allocator>,
+    size: u64,
+    alignment: u64,
+    range: Out<vm_range>,
+    refusal: Out<vm_refusal>,
+) -> vm_status {
+    let taken = allocate(allocator, size, alignment, AllocPolicy::FirstMatch, range);
+    status_of(taken, refusal)
+}
+
+#[unsafe(no_mangle)]
+pub extern "C" fn vm_range_allocate_last(
+    allocator: Option<&vm_address_allocator>,
+    size: u64,
+    alignment: u64,
+    range: Out<vm_range>,
+    refusal: Out<vm_refusal>,
+) -> vm_status {
+    let taken = allocate(allocator, size, alignment, AllocPolicy::LastMatch, range);
+    status_of(taken, refusal)
+}
+
+#[unsafe(no_mangle)]
+pub extern "C" fn vm_range_allocate_exact(
+    allocator: Option<&vm_address_allocator>,
+    size: u64,
+    alignment: u64,
+    start: u64,
+    range: Out<vm_range>,
+    refusal: Out<vm_refusal>,
+) -> vm_status {
+    let policy = AllocPolicy::ExactMatch(start);
+    let taken = allocate(allocator, size, alignment, policy, range);
+    status_of(taken, refusal)
+}
+
+#[inline(always)]
+fn allocate(
+    allocator: Option<&vm_address_allocator>,
+    size: u64,
+    alignment: u64,
+    policy: AllocPolicy,
+    range: Out<vm_range>,
+) -> Result<(), Refused> {
+    take(allocator, range, |allocator| {
+        let range = allocator.allocate(Global, size, alignment, policy)?;
+        Ok(range.into())
+    })
+}
+
+#[unsafe(no_mangle)]
+pub extern "C" fn vm_range_free(
+    allocator: Option<&vm_address_allocator>,
+    range: vm_range,
+    refusal: Out<vm_refusal>,
+) -> vm_status {
+    let freed = give_back(allocator, |allocator| allocator.free(&range.try_into()?));
+    status_of(freed, refusal)
+}
+
+#[unsafe(no_mangle)]
+pub extern "C" fn vm_range_is_held(
+    allocator: Option<&vm_address_allocator>,
+    range: vm_range,
+    is_held: Out<bool>,
+    refusal: Out<vm_refusal>,
+) -> vm_status {
+    let asked = ask(allocator, is_held, |allocator| {
+        Ok(allocator.holds(&range.try_into()?))
+    });
+    status_of(asked, refusal)
+}
+
+#[unsafe(no_mangle)]
+pub extern "C" fn vm_range_count(
+    allocator: Option<&vm_address_allocator>,
+    count: Out<u64>,
+) -> vm_status {
+    let asked = ask(allocator, count, |allocator| Ok(allocator.held_count()));
+    status_of(asked, None)
+}
+
+#[unsafe(no_mangle)]
+pub extern "C" fn vm_range_visit(
+    allocator: Option<&vm_address_allocator>,
+    visitor: Option<vm_range_visitor>,
+    context: *mut c_void,
+) -> vm_status {
+    status_of(visit(allocator, visitor, context), None)
+}
+
+fn visit(
+    allocator: Option<&vm_address_allocator>,
+    visitor: Option<vm_range_visitor>,
+    context: *mut c_void,
+) -> Result<(), Refused> {
+    let (allocator, visitor) = (given(allocator)?, given(visitor)?);
+    allocator.visited(|allocator| {
+        for range in allocator.held_ranges() {
+            if visitor(context, range.into()) != 0 {
+                break;
+            }
+        }
+    });
+    Ok(())
+}
+
+#[unsafe(no_mangle)]
+pub extern "C" fn vm_address_allocator_save(
+    allocator: Option<&vm_address_allocator>,
+    text: Out<*mut c_char>,
+    length: Out<usize>,
+) -> vm_status {
+    let saved = save(allocator, text, length, AddressAllocator::to_value);
+    status_of(saved, None)
+}
+
+/// # Safety
+///
+/// The text is null, or `length` bytes are there to be read.
+#[unsafe(no_mangle)]
+pub unsafe extern "C" fn vm_address_allocator_read(
+    text: *const c_char,
+    length: usize,
+    allocator: Out<*mut vm_address_allocator>,
+) -> vm_status {
+    // SAFETY: as the caller promises.
+    let read = unsafe { read(text, length, allocator, AddressAllocator::from_value) };
+    status_of(read, None)
+}
+
+/// # Safety
+///
+/// The text is null, or `length` bytes are there to be read.
+#[unsafe(no_mangle)]
+pub unsafe extern "C" fn vm_address_allocator_read_repaired(
+    text: *const c_char,
+    length: usize,
+    allocator: Out<*mut vm_address_allocator>,
+) -> vm_status {
+    let from_value = AddressAllocator::from_value_repaired;
+    // SAFETY: as the caller promises.
+    let read = unsafe { read(text, length, allocator, from_value) };
+    status_of(read, None)
+}

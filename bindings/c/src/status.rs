@@ -1,0 +1,197 @@
+//! Why a call is refused, as C is told.
+
+use crate::{vm_range, Out};
+use rattle::TextError;
+use std::ffi::{c_char, CStr};
+use vm_allocator::{Error, ValueError};
+
+/// What a call returns.
+#[repr(C)]
+#[derive(Clone, Copy)]
+#[allow(missing_docs)]
+pub enum vm_status {
+    VM_OK = 0,
+    VM_OVERFLOW = 1,
+    VM_OUT_OF_RANGE = 2,
+    VM_ALREADY_RELEASED = 3,
+    VM_NEVER_ALLOCATED = 4,
+    VM_RESOURCE_NOT_AVAILABLE = 5,
+    VM_INVALID_RANGE = 6,
+    VM_INVALID_ALIGNMENT = 7,
+    VM_OVERLAP = 8,
+    VM_INVALID_STATE_TRANSITION = 9,
+    VM_UNALIGNED_ADDRESS = 10,
+    VM_UNDERFLOW = 11,
+    VM_INVALID_SIZE = 12,
+    VM_OUT_OF_MEMORY = 13,
+    VM_NULL = 14,
+    VM_BUSY = 15,
+    VM_NOT_JSON = 16,
+    VM_NOT_A_STATE = 17,
+}
+
+use vm_status::*;
+
+/// The words for each status, at its number.
+const TEXTS: [&CStr; 18] = [
+    c"The call succeeded.",
+    c"Management operations on desired resource resulted in overflow.",
+    c"The id is not in the range.",
+    c"The id is already released.",
+    c"The id was never allocated, can't release it.",
+    c"The requested resource is not available.",
+    c"The range is not valid.",
+    c"Alignment value is invalid.",
+    c"Addresses are overlapping.",
+    c"The range is held already.",
+    c"The address is not aligned.",
+    c"Management operations on desired resource resulted in underflow.",
+    c"The size is not valid.",
+    c"There is not enough memory.",
+    c"A pointer is null.",
+    c"The object is being visited, and can't be changed meanwhile.",
+    c"The text is no JSON.",
+    c"The value states no valid object.",
+];
+
+/// The numbers of a refusal.
+#[repr(C)]
+#[derive(Default)]
+pub struct vm_refusal {
+    range: vm_range,
+    other: vm_range,
+    size: u64,
+    id: u32,
+}
+
+/// Why a call is refused.
+pub(crate) enum Refused {
+    Null,
+    Busy,
+    OutOfMemory,
+    NotJson,
+    NotAState,
+    Call(Error),
+}
+
+impl From<Error> for Refused {
+    // Out of the way of the calls that succeed: they would move the error about before they look
+    // whether there is one.
+    #[cold]
+    #[inline(never)]
+    fn from(error: Error) -> Self {
+        Refused::Call(error)
+    }
+}
+
+impl From<ValueError> for Refused {
+    fn from(error: ValueError) -> Self {
+        match error {
+            ValueError::NotAState => Refused::NotAState,
+            ValueError::OutOfMemory => Refused::OutOfMemory,
+        }
+    }
+}
+
+impl From<TextError> for Refused {
+    fn from(error: TextError) -> Self {
+        match error {
+            TextError::NotJson => Refused::NotJson,
+            TextError::OutOfMemory => Refused::OutOfMemory,
+        }
+    }
+}
+
+impl Refused {
+    fn status(&self) -> vm_status {
+        match self {
+            Refused::Null => VM_NULL,
+            Refused::Busy => VM_BUSY,
+            Refused::OutOfMemory => VM_OUT_OF_MEMORY,
+            Refused::NotJson => VM_NOT_JSON,
+            Refused::NotAState => VM_NOT_A_STATE,
+            Refused::Call(error) => status_of_error(error),
+        }
+    }
+
+    /// What stands in the refusal beside its status.
+    fn numbers(&self) -> vm_refusal {
+        let none = vm_refusal::default();
+        match self {
+            Refused::Call(error) => numbers_of_error(error),
+            _ => none,
+        }
+    }
+}
+
+fn status_of_error(error: &Error) -> vm_status {
+    match error {
+        Error::Overflow => VM_OVERFLOW,
+        Error::OutOfRange(_) => VM_OUT_OF_RANGE,
+        Error::AlreadyReleased(_) => VM_ALREADY_RELEASED,
+        Error::NeverAllocated(_) => VM_NEVER_ALLOCATED,
+        Error::ResourceNotAvailable => VM_RESOURCE_NOT_AVAILABLE,
+        Error::InvalidRange(_, _) => VM_INVALID_RANGE,
+        Error::InvalidAlignment => VM_INVALID_ALIGNMENT,
+        Error::Overlap(_, _) => VM_OVERLAP,
+        Error::InvalidStateTransition(_, _) => VM_INVALID_STATE_TRANSITION,
+        Error::UnalignedAddress => VM_UNALIGNED_ADDRESS,
+        Error::Underflow => VM_UNDERFLOW,
+        Error::InvalidSize(_) => VM_INVALID_SIZE,
+        Error::OutOfMemory => VM_OUT_OF_MEMORY,
+    }
+}
+
+fn numbers_of_error(error: &Error) -> vm_refusal {
+    let mut numbers = vm_refusal::default();
+    match error {
+        Error::OutOfRange(id) | Error::AlreadyReleased(id) | Error::NeverAllocated(id) => {
+            numbers.id = *id;
+        }
+        Error::InvalidRange(start, end) => {
+            numbers.range = vm_range {
+                start: *start,
+                end: *end,
+            };
+        }
+        Error::Overlap(range, other) => {
+            numbers.range = (*range).into();
+            numbers.other = (*other).into();
+        }
+        Error::InvalidStateTransition(range, _) => numbers.range = (*range).into(),
+        Error::InvalidSize(size) => numbers.size = *size,
+        _ => {}
+    }
+    numbers
+}
+
+/// What a call returns; a refusal tells its numbers where somebody asked for them.
+#[inline(always)]
+pub(crate) fn status_of(answer: Result<(), Refused>, refusal: Out<vm_refusal>) -> vm_status {
+    match answer {
+        Ok(()) => VM_OK,
+        Err(refused) => tell(&refused, refusal),
+    }
+}
+
+#[cold]
+fn tell(refused: &Refused, refusal: Out<vm_refusal>) -> vm_status {
+    if let Some(refusal) = refusal {
+        refusal.write(refused.numbers());
+    }
+    refused.status()
+}
+
+/// The number is C's, and may be that of no status.
+#[unsafe(no_mangle)]
+pub extern "C" fn vm_status_text(status: u32) -> *const c_char {
+    let text = usize::try_from(status).ok().and_then(|at| TEXTS.get(at));
+    text.copied()
+        .unwrap_or(c"There is no such status.")
+        .as_ptr()
+}
+
+#[unsafe(no_mangle)]
+pub extern "C" fn vm_version_text() -> *const c_char {
+    concat!(env!("CARGO_PKG_VERSION"), "\0").as_ptr().cast()
+}

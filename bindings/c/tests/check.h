@@ -1,0 +1,42 @@
+/* What the tests share. */
+#ifndef CHECK_H
+#define CHECK_H
+
+#include <divsharun.h>
+
+#include <stdio.h>
+#include <stdlib.h>
+#include <string.h>
+
+/* Ends the program where something does not hold. */
+#define CHECK(holds)                                                                               \
+    do {                                                                                           \
+        if (!(holds)) {                                                                            \
+            fprintf(stderr, "%s:%d: %s\n", __FILE__, __LINE__, #holds);                            \
+            exit(1);                                                                               \
+        }                                                                                          \
+    } while (0)
+
+static inline vm_range range_of(uint64_t start, uint64_t end) {
+    vm_range range;
+
+    range.start = start;
+    range.end = end;
+    return range;
+}
+
+static inline bool is_range(vm_range range, uint64_t start, uint64_t end) {
+    return range.start == start && range.end == end;
+}
+
+/* The text of what a type saves, for who gives it back. */
+#define SAVED(name, type)                                                                          \
+    static inline char *name(const type *object, size_t *length) {                                 \
+        char *text;                                                                                \
+                                                                                                   \
+        CHECK(type##_save(object, &text, length) == VM_OK);                                        \
+        CHECK(strlen(text) == *length);                                                            \
+        return text;                                                                               \
+    }
+
+#endif

@@ -1,0 +1,234 @@
+/*
+ * Threads, each with its own objects; objects that are handed on; one that all
+ * look at together; and calls that go deep on a small stack.
+ */
+#define _POSIX_C_SOURCE 200809L
+#include "check.h"
+
+#include <pthread.h>
+
+enum { THREADS = 8, ROUNDS = 40, HELD = 64, SMALL_STACK = 64 * 1024, LEVELS = 50 };
+
+SAVED(saved_space, vm_address_allocator)
+
+static void run(pthread_t *thread, const pthread_attr_t *how, void *(*work)(void *), void *on) {
+    CHECK(pthread_create(thread, how, work, on) == 0);
+}
+
+static void join_all(pthread_t *threads, size_t count) {
+    size_t i;
+
+    for (i = 0; i < count; i++)
+        CHECK(pthread_join(threads[i], NULL) == 0);
+}
+
+/* ---- Each its own ---- */
+
+/* Holds and gives back; the answers are those of a space that nobody else uses. */
+static void fill_and_empty(vm_address_allocator *space, uint64_t base) {
+    vm_range range;
+    uint64_t i;
+
+    for (i = 0; i < HELD; i++) {
+        CHECK(vm_range_allocate_first(space, 16, 16, &range, NULL) == VM_OK);
+        CHECK(is_range(range, base + 16 * i, base + 16 * i + 15));
+    }
+    for (i = 0; i < HELD; i++) {
+        uint64_t start = base + 16 * (i * 13 % HELD);
+
+        CHECK(vm_range_free(space, range_of(start, start + 15), NULL) == VM_OK);
+    }
+}
+
+static void fill_ids(vm_id_allocator *ids) {
+    uint32_t i, id;
+
+    for (i = 0; i < HELD; i++)
+        CHECK(vm_id_allocate(ids, &id) == VM_OK && id == i);
+    for (i = 0; i < HELD; i++)
+        CHECK(vm_id_free(ids, i * 13 % HELD, NULL) == VM_OK);
+}
+
+static void plug_devices(vm_device_manager *manager) {
+    vm_device device;
+    uint32_t i;
+
+    for (i = 0; i < HELD; i++)
+        CHECK(vm_device_reserve_last(manager, 1, 1, &device, NULL) == VM_OK && device.id == i);
+    for (i = 0; i < HELD; i++)
+        CHECK(vm_device_release(manager, i, NULL) == VM_OK);
+}
+
+static void *use_own(void *context) {
+    uint64_t base = *(const uint64_t *)context;
+    vm_address_allocator *space;
+    vm_id_allocator *ids;
+    vm_device_manager *manager;
+    int i;
+
+    CHECK(vm_address_allocator_new(base, 16 * HELD, &space) == VM_OK);
+    CHECK(vm_id_allocator_new(0, HELD, &ids, NULL) == VM_OK);
+    CHECK(vm_device_manager_new(0, HELD, base, HELD, &manager, NULL) == VM_OK);
+    for (i = 0; i < ROUNDS; i++) {
+        fill_and_empty(space, base);
+        fill_ids(ids);
+        plug_devices(manager);
+    }
+    CHECK(vm_address_allocator_destroy(space) == VM_OK);
+    CHECK(vm_id_allocator_destroy(ids) == VM_OK);
+    CHECK(vm_device_manager_destroy(manager) == VM_OK);
+    return NULL;
+}
+
+static void use_own_objects(void) {
+    pthread_t threads[THREADS];
+    uint64_t bases[THREADS];
+    size_t i;
+
+    for (i = 0; i < THREADS; i++) {
+        bases[i] = 4096 * i;
+        run(&threads[i], NULL, use_own, &bases[i]);
+    }
+    join_all(threads, THREADS);
+}
+
+/* ---- Handed on ---- */
+
+static void *make_one(void *context) {
+    vm_range range;
+    vm_address_allocator **space = (vm_address_allocator **)context;
+
+    CHECK(vm_address_allocator_new(0, 100, space) == VM_OK);
+    CHECK(vm_range_allocate_first(*space, 10, 1, &range, NULL) == VM_OK);
+    return NULL;
+}
+
+static void *destroy_one(void *context) {
+    vm_address_allocator **space = (vm_address_allocator **)context;
+
+    CHECK(vm_range_free(*space, range_of(0, 9), NULL) == VM_OK);
+    CHECK(vm_address_allocator_destroy(*space) == VM_OK);
+    return NULL;
+}
+
+static void hand_on(void) {
+    pthread_t thread;
+    vm_address_allocator *space;
+
+    run(&thread, NULL, make_one, &space);
+    join_all(&thread, 1);
+    run(&thread, NULL, destroy_one, &space);
+    join_all(&thread, 1);
+}
+
+/* ---- Looked at together ---- */
+
+static int count_range(void *context, vm_range range) {
+    *(uint64_t *)context += range.end - range.start + 1;
+    return 0;
+}
+
+static void *look(void *context) {
+    const vm_address_allocator *space = (const vm_address_allocator *)context;
+    int i;
+
+    for (i = 0; i < ROUNDS; i++) {
+        uint64_t count, sum = 0;
+        bool is_held = false;
+        size_t length;
+
+        CHECK(vm_range_count(space, &count) == VM_OK && count == HELD);
+        CHECK(vm_range_visit(space, count_range, &sum) == VM_OK && sum == 3 * HELD);
+        CHECK(vm_range_is_held(space, range_of(0, 2), &is_held, NULL) == VM_OK && is_held);
+        CHECK(vm_text_destroy(saved_space(space, &length)) == VM_OK);
+    }
+    return NULL;
+}
+
+static void look_together(void) {
+    pthread_t threads[THREADS];
+    vm_address_allocator *space;
+    vm_range range;
+    size_t i;
+
+    CHECK(vm_address_allocator_new(0, 4 * HELD, &space) == VM_OK);
+    for (i = 0; i < HELD; i++)
+        CHECK(vm_range_allocate_first(space, 3, 4, &range, NULL) == VM_OK);
+    for (i = 0; i < THREADS; i++)
+        run(&threads[i], NULL, look, space);
+    join_all(threads, THREADS);
+    CHECK(vm_range_free(space, range, NULL) == VM_OK);
+    CHECK(vm_address_allocator_destroy(space) == VM_OK);
+}
+
+/* ---- On a small stack ---- */
+
+/* Adds to the end of a text. */
+static void add(char **end, const char *piece) {
+    strcpy(*end, piece);
+    *end += strlen(piece);
+}
+
+/* The text of nodes, each the right child of the one before. */
+static char *chain_of_nodes(void) {
+    char *text = (char *)malloc(200 * LEVELS), *end = text;
+    int i;
+
+    CHECK(text != NULL);
+    add(&end, "{\"address_space\":{\"start\":0,\"end\":99},\"interval_tree\":{\"root\":");
+    for (i = 0; i < LEVELS; i++)
+        end += sprintf(end,
+                       "{\"key\":{\"start\":%d,\"end\":%d},\"node_state\":\"Allocated\","
+                       "\"left\":null,\"height\":1,\"right\":",
+                       2 * i, 2 * i);
+    add(&end, "null");
+    for (i = 0; i < LEVELS + 2; i++)
+        add(&end, "}");
+    return text;
+}
+
+static void *go_deep(void *context) {
+    static char brackets[100000];
+    vm_address_allocator *space;
+    char *text = chain_of_nodes();
+    uint64_t count;
+    size_t length;
+    int levels;
+
+    (void)context;
+    memset(brackets, '[', sizeof brackets);
+    CHECK(vm_address_allocator_read(brackets, sizeof brackets, &space) == VM_NOT_JSON);
+    for (levels = 128; levels <= 129; levels++) {
+        memset(brackets + levels, ']', (size_t)levels);
+        CHECK(vm_address_allocator_read(brackets, 2 * (size_t)levels, &space) ==
+              (levels == 128 ? VM_NOT_A_STATE : VM_NOT_JSON));
+        memset(brackets, '[', sizeof brackets);
+    }
+    CHECK(vm_address_allocator_read(text, strlen(text), &space) == VM_NOT_A_STATE);
+    CHECK(vm_address_allocator_read_repaired(text, strlen(text), &space) == VM_OK);
+    free(text);
+    CHECK(vm_range_count(space, &count) == VM_OK && count == LEVELS);
+    CHECK(vm_text_destroy(saved_space(space, &length)) == VM_OK);
+    CHECK(vm_address_allocator_destroy(space) == VM_OK);
+    return NULL;
+}
+
+static void run_on_small_stack(void) {
+    pthread_t thread;
+    pthread_attr_t small;
+
+    CHECK(pthread_attr_init(&small) == 0);
+    CHECK(pthread_attr_setstacksize(&small, SMALL_STACK) == 0);
+    run(&thread, &small, go_deep, NULL);
+    join_all(&thread, 1);
+    CHECK(pthread_attr_destroy(&small) == 0);
+}
+
+int main(void) {
+    use_own_objects();
+    hand_on();
+    look_together();
+    run_on_small_stack();
+    puts("threads: each with its own objects, objects handed on, one looked at together");
+    return 0;
+}

@@ -1,0 +1,242 @@
+//! Reads a value from JSON, as RFC 8259 has it. A name that stands twice in an object is read twice.
+use crate::value::add_to;
+use crate::{AllocError, AllocFailed, Field, Global, Number, Value, Vec};
+use alloc::string::String;
+use core::fmt;
+use core::str::FromStr;
+
+/// Deeper than that no text is read.
+const MOST_NESTED: u32 = 128;
+
+/// Why a text is not read.
+#[derive(Clone, Copy, Debug, PartialEq, Eq)]
+pub enum TextError {
+    /// The text is no JSON, is nested too deep, or has a number that no float is close to.
+    NotJson,
+    /// A request for memory was refused.
+    OutOfMemory,
+}
+
+use TextError::NotJson;
+
+impl fmt::Display for TextError {
+    fn fmt(&self, f: &mut fmt::Formatter<'_>) -> fmt::Result {
+        match self {
+            NotJson => f.write_str("the text is no JSON"),
+            TextError::OutOfMemory => AllocError.fmt(f),
+        }
+    }
+}
+
+impl core::error::Error for TextError {}
+
+impl From<AllocError> for TextError {
+    fn from(_: AllocError) -> TextError {
+        TextError::OutOfMemory
+    }
+}
+
+impl<T> From<AllocFailed<T>> for TextError {
+    fn from(_: AllocFailed<T>) -> TextError {
+        TextError::OutOfMemory
+    }
+}
+
+impl Value {
+    /// The value that a text states.
+    pub fn from_str(_alloc: Global, text: &str) -> Result<Value, TextError> {
+        let mut reader = Reader { rest: text };
+        let value = reader.value(MOST_NESTED)?;
+        reader.blanks();
+        match reader.rest {
+            "" => Ok(value),
+            _ => Err(NotJson),
+        }
+    }
+}
+
+/// What is left of a text.
+struct Reader<'a> {
+    rest: &'a str,
+}
+
+impl Reader<'_> {
+    fn blanks(&mut self) {
+        self.rest = self.rest.trim_start_matches([' ', '\t', '\n', '\r']);
+    }
+
+    /// Takes a mark, where it stands next.
+    fn takes(&mut self, mark: &str) -> bool {
+        self.blanks();
+        match self.rest.strip_prefix(mark) {
+            Some(rest) => self.rest = rest,
+            None => return false,
+        }
+        true
+    }
+
+    /// Takes a mark, which has to stand next.
+    fn expects(&mut self, mark: &str) -> Result<(), TextError> {
+        match self.takes(mark) {
+            true => Ok(()),
+            false => Err(NotJson),
+        }
+    }
+
+    fn value(&mut self, levels: u32) -> Result<Value, TextError> {
+        let levels = levels.checked_sub(1).ok_or(NotJson)?;
+        if self.takes("{") {
+            return self.object(levels);
+        }
+        if self.takes("[") {
+            return self.array(levels);
+        }
+        if self.takes("\"") {
+            return Ok(Value::String(self.text()?));
+        }
+        for (word, value) in [
+            ("null", Value::Null),
+            ("true", Value::Bool(true)),
+            ("false", Value::Bool(false)),
+        ] {
+            if self.takes(word) {
+                return Ok(value);
+            }
+        }
+        self.number().map(Value::Number)
+    }
+
+    fn object(&mut self, levels: u32) -> Result<Value, TextError> {
+        let mut fields: alloc::vec::Vec<Field> = alloc::vec::Vec::new();
+        if self.takes("}") {
+            return Ok(Value::Object(fields.into()));
+        }
+        loop {
+            self.expects("\"")?;
+            let name = self.text()?;
+            self.expects(":")?;
+            let value = self.value(levels)?;
+            fields.try_reserve(1).map_err(|_| AllocError)?;
+            fields.push((name, value));
+            if !self.takes(",") {
+                break;
+            }
+        }
+        self.expects("}")?;
+        Ok(Value::Object(fields.into()))
+    }
+
+    fn array(&mut self, levels: u32) -> Result<Value, TextError> {
+        let mut items = Vec::new(Global);
+        if self.takes("]") {
+            return Ok(Value::Array(items));
+        }
+        loop {
+            items.push(self.value(levels)?)?;
+            if !self.takes(",") {
+                break;
+            }
+        }
+        self.expects("]")?;
+        Ok(Value::Array(items))
+    }
+
+    /// A text up to its end, behind its first quote.
+    fn text(&mut self) -> Result<String, TextError> {
+        let mut text = String::new();
+        loop {
+            let ends = |letter| matches!(letter, '"' | '\\' | '\0'..='\x1f');
+            let end = self.rest.find(ends).ok_or(NotJson)?;
+            add_to(&mut text, &self.rest[..end])?;
+            self.rest = &self.rest[end..];
+            match self.letter()? {
+                '"' => return Ok(text),
+                '\\' => add_to(&mut text, self.escaped()?.encode_utf8(&mut [0; 4]))?,
+                _ => return Err(NotJson),
+            }
+        }
+    }
+
+    fn letter(&mut self) -> Result<char, TextError> {
+        let mut letters = self.rest.chars();
+        let letter = letters.next().ok_or(NotJson)?;
+        self.rest = letters.as_str();
+        Ok(letter)
+    }
+
+    /// The letter that an escape stands for, behind its backslash.
+    fn escaped(&mut self) -> Result<char, TextError> {
+        match self.letter()? {
+            same @ ('"' | '\\' | '/') => Ok(same),
+            'b' => Ok('\x08'),
+            'f' => Ok('\x0c'),
+            'n' => Ok('\n'),
+            'r' => Ok('\r'),
+            't' => Ok('\t'),
+            'u' => self.by_number(),
+            _ => Err(NotJson),
+        }
+    }
+
+    /// The letter of one unit of UTF-16, or of two where the first is the front of a pair.
+    fn by_number(&mut self) -> Result<char, TextError> {
+        let first = self.unit()?;
+        let second = match first {
+            0xd800..=0xdbff => {
+                self.rest = self.rest.strip_prefix("\\u").ok_or(NotJson)?;
+                Some(self.unit()?)
+            }
+            _ => None,
+        };
+        let mut letters = char::decode_utf16([first].into_iter().chain(second));
+        match letters.next() {
+            Some(Ok(letter)) => Ok(letter),
+            _ => Err(NotJson),
+        }
+    }
+
+    /// The number of four hexadecimal digits.
+    fn unit(&mut self) -> Result<u16, TextError> {
+        let (digits, rest) = self.rest.split_at_checked(4).ok_or(NotJson)?;
+        if !digits.bytes().all(|digit| digit.is_ascii_hexdigit()) {
+            return Err(NotJson);
+        }
+        self.rest = rest;
+        u16::from_str_radix(digits, 16).map_err(|_| NotJson)
+    }
+
+    fn number(&mut self) -> Result<Number, TextError> {
+        let rest = behind_number(self.rest).ok_or(NotJson)?;
+        let number = &self.rest[..self.rest.len() - rest.len()];
+        self.rest = rest;
+        if let Ok(whole) = u64::from_str(number) {
+            return Ok(Number::Whole(whole));
+        }
+        match f64::from_str(number) {
+            Ok(other) if other.is_finite() => Ok(Number::Other(other)),
+            _ => Err(NotJson),
+        }
+    }
+}
+
+/// What stands behind the number that a text begins with.
+fn behind_number(text: &str) -> Option<&str> {
+    let unsigned = text.strip_prefix('-').unwrap_or(text);
+    let mut rest = match unsigned.strip_prefix('0') {
+        Some(rest) => rest,
+        None => behind_digits(unsigned)?,
+    };
+    if let Some(fraction) = rest.strip_prefix('.') {
+        rest = behind_digits(fraction)?;
+    }
+    if let Some(power) = rest.strip_prefix(['e', 'E']) {
+        rest = behind_digits(power.strip_prefix(['+', '-']).unwrap_or(power))?;
+    }
+    Some(rest)
+}
+
+/// What stands behind the digits that a text begins with, of which there is one at least.
+fn behind_digits(text: &str) -> Option<&str> {
+    let rest = text.trim_start_matches(|letter: char| letter.is_ascii_digit());
+    (rest.len() < text.len()).then_some(rest)
+}
