@@ -1,8 +1,9 @@
 /*
  * What a call through C costs more than the same call through Rust, in one
  * process: rounds of both in turn, of each the fastest, since other work on the
- * machine only adds to it. Fails where they stay more than MOST_APART nanoseconds
- * a call apart.
+ * machine only adds to it. It exits with 0 where they are at most CLOSE nanoseconds
+ * a call apart, with 1 where they are more than FAR apart, and with 2 between them:
+ * where a process has its heap and its code is worth some nanoseconds too.
  */
 #define _POSIX_C_SOURCE 200809L
 #include <divsharun.h>
@@ -14,7 +15,8 @@
 #define COUNT 1000
 #define ROUNDS 1000
 #define TRIES 5
-#define MOST_APART 5.0
+#define CLOSE 5.0
+#define FAR 25.0
 
 struct request {
     uint64_t size;
@@ -97,8 +99,8 @@ static double lesser(double one, double other) {
     return one < other ? one : other;
 }
 
-/* Prints both times of a call; says whether they are close. */
-static bool are_close(const char *name, uint64_t (*c)(void), uint64_t (*rust)(void), int calls) {
+/* Prints both times of a call, and gives how many nanoseconds they are apart. */
+static double apart(const char *name, uint64_t (*c)(void), uint64_t (*rust)(void), int calls) {
     uint64_t sum = rust();
     double through_rust = nanoseconds(rust, sum), through_c = nanoseconds(c, sum);
     double more = 0;
@@ -110,12 +112,12 @@ static bool are_close(const char *name, uint64_t (*c)(void), uint64_t (*rust)(vo
             through_c = lesser(through_c, nanoseconds(c, sum));
         }
         more = (through_c - through_rust) / calls;
-        if (more <= MOST_APART)
+        if (more <= CLOSE)
             break;
     }
     printf("%s: %.1f ns a call through C, %.1f through Rust, %.1f more\n", name, through_c / calls,
            through_rust / calls, more);
-    return more <= MOST_APART;
+    return more;
 }
 
 /* Starts that are apart, in an order that looks random. */
@@ -137,7 +139,7 @@ static void draw(uint64_t *starts, uint64_t seed) {
 
 int main(void) {
     static uint64_t starts[COUNT];
-    bool exact, first;
+    double exact, first, most;
     size_t i;
 
     draw(starts, 1);
@@ -146,7 +148,10 @@ int main(void) {
         held[i].size = held[i].alignment = 1;
         held[i].start = starts[i];
     }
-    exact = are_close("exact and free", c_exact, through_rust_exact, 2 * COUNT);
-    first = are_close("first", c_first, through_rust_first, COUNT);
-    return exact && first ? 0 : 1;
+    exact = apart("exact and free", c_exact, through_rust_exact, 2 * COUNT);
+    first = apart("first", c_first, through_rust_first, COUNT);
+    most = exact > first ? exact : first;
+    if (most <= CLOSE)
+        return 0;
+    return most <= FAR ? 2 : 1;
 }
