@@ -9,24 +9,24 @@ use Rattle.vm_allocator.specs.Request.{Request, request_for, IsRequest, IsStartA
 use Rattle.vm_allocator.specs.Answer.{IsChosen, IsSplitRefusal, Takes, Allocates, Frees}
 use Rattle.vm_allocator.specs.Ids.{IdState, IsHeld, IsLeastNotHeld, holding_id, ByLeastNotHeld, AllocatesId}
 use Rattle.vm_allocator.specs.Allocator.{SpaceInTree}
-use Rattle.vm_allocator.specs.SavedTree.{StatesAllocator}
-use Rattle.vm_allocator.specs.SavedIds.{StatesIds}
+use Rattle.vm_allocator.specs.Values.TreeValues.{StatesAllocator}
+use Rattle.vm_allocator.specs.Values.IdValues.{StatesIds}
 use Rattle.vm_allocator.specs.declared.error.Error.{Error}
 use Rattle.vm_allocator.specs.declared.error.Error.TheVariants.{Overflow, OutOfMemory}
 use Rattle.vm_allocator.specs.declared.constraint.AllocPolicy.{AllocPolicy}
 use Rattle.vm_allocator.specs.declared.constraint.AllocPolicy.TheVariants.{ExactMatch}
-use Rattle.vm_allocator.proofs.blocks.Words.{IsHeldAddress, IsHeld as IsHeldRange, contains_held, held_contains, all_miss, none_holds, held_address}
-use Rattle.vm_allocator.proofs.blocks.HeldSets.{held_lies, one_held}
-use Rattle.vm_allocator.proofs.blocks.HeldChanges.{held_now, held_without, not_held_without}
-use Rattle.vm_allocator.proofs.answers.Once.{chosen_place}
-use Rattle.vm_allocator.proofs.answers.Filling.{allocates_chosen}
-use Rattle.vm_allocator.proofs.answers.Outcomes.{allocates_outcome}
-use Rattle.vm_allocator.proofs.ids.Sets.{inserted_here}
-use Rattle.vm_allocator.proofs.saving.Allocators.{one_allocator}
-use Rattle.vm_allocator.proofs.saving.IdStates.{one_stated}
+use Rattle.vm_allocator.proofs.Blocks.PlainWords.{IsHeldAddress, IsHeld as IsHeldRange, contains_held, held_contains, all_miss, none_holds, held_address}
+use Rattle.vm_allocator.proofs.Blocks.HeldSets.{held_lies, one_held}
+use Rattle.vm_allocator.proofs.Blocks.HeldChanges.{held_now, held_without, not_held_without}
+use Rattle.vm_allocator.proofs.Answers.Once.{chosen_place}
+use Rattle.vm_allocator.proofs.Answers.Filling.{allocates_chosen}
+use Rattle.vm_allocator.proofs.Answers.Outcomes.{allocates_outcome}
+use Rattle.vm_allocator.proofs.Ids.IdSets.{inserted_here}
+use Rattle.vm_allocator.proofs.Reading.ReadAllocators.{one_allocator}
+use Rattle.vm_allocator.proofs.Reading.ReadIdStates.{one_stated}
 -- a list of held ranges or ids, no two the same, has all of them exactly if it has as many as are held
-pub use Rattle.vm_allocator.proofs.blocks.HeldLists.{slots_listed}
-pub use Rattle.vm_allocator.proofs.ids.Counting.{ids_listed}
+pub use Rattle.vm_allocator.proofs.Blocks.HeldLists.{slots_listed}
+pub use Rattle.vm_allocator.proofs.Ids.IdCounts.{ids_listed}
 
 -- a range that was given: as long as was asked, from a multiple of the alignment on, clear before and held after
 pub record IsGiven (old : AddressState) (request : Request) (r : Range) (new : AddressState) : Type 0 where

@@ -6,9 +6,10 @@ use Rattle.std.specs.Ordering.{nat_cmp, on, then_cmp, ordering_reverse}
 use Rattle.std.specs.Cmp.{IsTotalOrder}
 use Rattle.std.specs.Cmp.Lexicographic.{slice_cmp}
 use Rattle.std.proofs.lemmas.Cmp.{lists_total, then_total, on_total, nat_cmp_total}
-use Rattle.vm_allocator.specs.Range.{Range, range_cmp}
-use Rattle.vm_allocator.specs.Block.{Block}
-use Rattle.vm_allocator.specs.Blocks.{blocks_of}
+use Rattle.vm_allocator.specs.Range.{Range}
+use Rattle.vm_allocator.specs.RangeOrder.{range_cmp}
+use Rattle.vm_allocator.specs.Tree.Block.{Block}
+use Rattle.vm_allocator.specs.Tree.Blocks.{blocks_of}
 use Rattle.vm_allocator.specs.Address.{AddressState}
 use Rattle.vm_allocator.specs.declared.allocation_engine.NodeState.{NodeState}
 use Rattle.vm_allocator.specs.declared.allocation_engine.NodeState.TheVariants.{Free, Allocated}

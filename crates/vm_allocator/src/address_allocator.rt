@@ -5,9 +5,9 @@ ghost use Rattle.vm_allocator.specs.Request.{request_for};
 ghost use Rattle.vm_allocator.specs.Answer.{Allocates, FillsGap, Frees, Makes};
 ghost use Rattle.vm_allocator.specs.Allocator.{state_of, made_state};
 ghost use Rattle.vm_allocator.specs.Cloning.{Clones};
-ghost use Rattle.vm_allocator.specs.Shape.{height_of};
-ghost use Rattle.vm_allocator.specs.GapSearch.{SearchesGaps, SearchesAligned};
-ghost use Rattle.vm_allocator.specs.Steps.{EntersToAllocate, EntersToFree, IsAllocationCount, IsReleaseCount, IsBalancedTreeOf, SplitsIfLow};
+ghost use Rattle.vm_allocator.specs.Tree.Shape.{height_of};
+ghost use Rattle.vm_allocator.specs.Counts.GapSearch.{SearchesGaps, SearchesAligned};
+ghost use Rattle.vm_allocator.specs.Counts.Steps.{EntersToAllocate, EntersToFree, IsAllocationCount, IsReleaseCount, IsBalancedTreeOf, SplitsIfLow};
 
 use crate::allocation_engine::IntervalTree;
 use crate::constraint::{AllocPolicy, Constraint};
@@ -37,8 +37,8 @@ impl Model for AddressAllocator {
     ghost view = { λ a. record { space = a.address_space; tree = a.interval_tree } };
 
     ghost use Rattle.std.specs.Prelude.{◌≡◌};
-    ghost use Rattle.vm_allocator.specs.Shape.{blocks};
-    ghost use Rattle.vm_allocator.specs.SpaceTree.{space_of};
+    ghost use Rattle.vm_allocator.specs.Tree.Shape.{blocks};
+    ghost use Rattle.vm_allocator.specs.Tree.SpaceTree.{space_of};
 
     ghost invariant = { λ a. space_of (blocks a.interval_tree) ≡ a.address_space };
 }
@@ -46,7 +46,7 @@ impl Model for AddressAllocator {
 impl AddressAllocator {
     /// The allocator of the `size` addresses from `base` on, with none held. In this order: a size
     /// of 0 is `Underflow`, an end past `u64::MAX` is `Overflow`, and `OutOfMemory` comes last.
-    #[tactic(auto, using(crate::proofs::answers::Making::making, crate::proofs::nodes::Spaces::spaces))]
+    #[tactic(auto, using(crate::proofs::Answers::Making::making, crate::proofs::Nodes::Spaces::spaces))]
     pub fn new(alloc: Global, base: u64, size: u64) -> Result<Self>
         ensures { Makes base size (made_state result) }
     {
@@ -115,7 +115,7 @@ impl AddressAllocator {
     /// h(v + 1) + 8h + 8, and at most hv where they answer `ResourceNotAvailable`; at alignment 1 no
     /// gap is such. The same holds of w in the place of v, where w gaps have a multiple of the
     /// alignment and no place: these are no more than the multiples in the space.
-    #[tactic(auto, using(crate::proofs::answers::Requests::allocating, crate::proofs::nodes::Spaces::spaces, crate::proofs::answers::Filling::succeeding, crate::proofs::counts::Allocating::allocations, crate::proofs::counts::GapBounds::searches))]
+    #[tactic(auto, using(crate::proofs::Answers::Requests::allocating, crate::proofs::Nodes::Spaces::spaces, crate::proofs::Answers::Filling::succeeding, crate::proofs::Counts::Allocating::allocations, crate::proofs::Counts::GapBounds::searches))]
     pub fn allocate_counted(
         &mut self,
         alloc: Global,
@@ -163,7 +163,7 @@ impl AddressAllocator {
 
     /// Does what `free` does, and answers besides how many nodes of the tree it entered: with the
     /// height h before at most 8h + 8, and always one at least.
-    #[tactic(auto, using(crate::proofs::nodes::Spaces::spaces, crate::proofs::answers::Filling::succeeding))]
+    #[tactic(auto, using(crate::proofs::Nodes::Spaces::spaces, crate::proofs::Answers::Filling::succeeding))]
     pub fn free_counted(&mut self, key: &RangeInclusive) -> (Result<()>, u64)
         ensures answer { Frees (state_of self.old) key.now result.0 (state_of self.new) }
         ensures unchanged { OnErr result.0 (self.new ≡ self.old) }
@@ -187,7 +187,7 @@ impl AddressAllocator {
     }
 
     /// The first address of the space.
-    #[tactic(auto, using(crate::proofs::blocks::States::is_state))]
+    #[tactic(auto, using(crate::proofs::Blocks::BlockStates::is_state))]
     pub fn base(&self) -> u64
         ensures value { result ≡ (state_of self.now).space.start }
         ensures state { IsAddressState (state_of self.now) }

@@ -29,7 +29,7 @@ impl NodeState {
 
 /// The greatest multiple of the alignment that is the address or less. `InvalidAlignment` where the
 /// alignment is no power of two.
-#[tactic(auto, using(crate::proofs::numbers::Alignments::aligns))]
+#[tactic(auto, using(crate::proofs::Numbers::Alignments::aligns))]
 pub fn align_down(address: u64, alignment: u64) -> Result<u64>
     ensures { AlignsDown address alignment result }
 {
@@ -42,7 +42,7 @@ pub fn align_down(address: u64, alignment: u64) -> Result<u64>
 /// The least multiple of the alignment that is the address or more. In this order: an alignment of 0
 /// is `InvalidAlignment`, an address + alignment - 1 past `u64::MAX` is `Overflow`, and an alignment
 /// that is no power of two is `InvalidAlignment`.
-#[tactic(auto, using(crate::proofs::numbers::Alignments::aligns))]
+#[tactic(auto, using(crate::proofs::Numbers::Alignments::aligns))]
 pub fn align_up(address: u64, alignment: u64) -> Result<u64>
     ensures { AlignsUp address alignment result }
 {

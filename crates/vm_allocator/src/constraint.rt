@@ -22,7 +22,7 @@ pub enum AllocPolicy {
 }
 
 /// Whether the alignment divides the start, where the policy names one.
-#[tactic(auto, unfolding(crate::specs::Request::IsStartAligned), using(crate::proofs::numbers::Power::low_bits, crate::proofs::numbers::Power::alignment_pos))]
+#[tactic(auto, unfolding(crate::specs::Request::IsStartAligned), using(crate::proofs::Numbers::Power::low_bits, crate::proofs::Numbers::Power::alignment_pos))]
 fn is_start_aligned(align: u64, policy: AllocPolicy) -> bool
     requires { IsAlignment align }
     ensures { Tells result (IsStartAligned align policy) }
@@ -59,7 +59,7 @@ impl Constraint {
     /// The request for `size` addresses from a multiple of `align` on. In this order: size 0 is
     /// `InvalidSize(0)`, an alignment that is no power of two `InvalidAlignment`, and an
     /// `ExactMatch` of a start that is no multiple of the alignment `UnalignedAddress`.
-    #[tactic(auto, using(crate::proofs::answers::Requests::constrains, crate::proofs::numbers::Power::alignment_if_true))]
+    #[tactic(auto, using(crate::proofs::Answers::Requests::constrains, crate::proofs::Numbers::Power::alignment_if_true))]
     pub fn new(size: u64, align: u64, policy: AllocPolicy) -> Result<Self>
         ensures { MakesConstraint (request_for size align policy) result }
     {

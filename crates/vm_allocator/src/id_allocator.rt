@@ -55,7 +55,7 @@ impl IdAllocator {
     /// An allocator of the ids from `range_base` to `range_end`, both included, none of them handed
     /// out yet. `InvalidRange(range_base, range_end)` where the end is below the base. It takes no
     /// memory.
-    #[tactic(auto, using(crate::proofs::ids::States::makes))]
+    #[tactic(auto, using(crate::proofs::Ids::IdFields::makes))]
     pub fn new(alloc: Global, range_base: u32, range_end: u32) -> Result<Self>
         ensures answer { MakesIds range_base range_end result }
         ensures succeeds { range_base ≤ range_end → IsOk result }
@@ -73,7 +73,7 @@ impl IdAllocator {
 
     /// A copy: the same range, held ids and ids ever handed out. `OutOfMemory` where there is no memory
     /// for it. The ids given back ask the allocator that they came with.
-    #[tactic(auto, using(crate::proofs::ids::States::clones))]
+    #[tactic(auto, using(crate::proofs::Ids::IdFields::clones))]
     pub fn try_clone(&self, _alloc: Global) -> Result<Self>
         ensures { Clones self.now result }
     {
@@ -90,7 +90,7 @@ impl IdAllocator {
 
     /// Takes the least id of the range that is not held. Where all are held, `Overflow` in a range up
     /// to `u32::MAX`, and else `ResourceNotAvailable`. It takes no memory.
-    #[tactic(auto, using(crate::proofs::ids::Taking::allocates))]
+    #[tactic(auto, using(crate::proofs::Ids::TakingIds::allocates))]
     pub fn allocate_id(&mut self) -> Result<u32>
         ensures answer { AllocatesId self.old result self.new }
         ensures succeeds { (id : ℕ) → IsNotHeld self.old id → IsOk result }
@@ -105,7 +105,7 @@ impl IdAllocator {
     }
 
     /// What `allocate_id` would answer, its refusals included; nothing is taken.
-    #[tactic(auto, using(crate::proofs::ids::Taking::peeks, crate::proofs::ids::States::states))]
+    #[tactic(auto, using(crate::proofs::Ids::TakingIds::peeks, crate::proofs::Ids::IdFields::states))]
     pub fn peek_id(&self) -> Result<u32>
         ensures answer { PeeksId self.now result }
         ensures succeeds { (id : ℕ) → IsNotHeld self.now id → IsOk result }
@@ -118,7 +118,7 @@ impl IdAllocator {
     }
 
     /// Whether the id is held. No id outside the range is.
-    #[tactic(auto, using(crate::proofs::ids::States::holdings))]
+    #[tactic(auto, using(crate::proofs::Ids::IdFields::holdings))]
     pub fn is_allocated(&self, id: u32) -> bool
         ensures value { IsTrue result ↔ IsHeld self.now id }
         ensures state { IsIdState self.now }
@@ -127,7 +127,7 @@ impl IdAllocator {
     }
 
     /// How many ids are held. It takes no memory, and looks at none of them.
-    #[tactic(auto, using(crate::proofs::ids::Counting::counts))]
+    #[tactic(auto, using(crate::proofs::Ids::IdCounts::counts))]
     pub fn held_count(&self) -> u64
         ensures { result ≡ held_count self.now }
     {
@@ -139,7 +139,7 @@ impl IdAllocator {
     /// outside the range, `NeverAllocated(id)` where it was never handed out, `AlreadyReleased(id)`
     /// where it is not held any more, and `OutOfMemory` where a request for memory was refused. A
     /// refusal changes nothing.
-    #[tactic(auto, using(crate::proofs::ids::GivingBack::frees))]
+    #[tactic(auto, using(crate::proofs::Ids::GivingBack::frees))]
     pub fn free_id(&mut self, id: u32) -> Result<u32>
         ensures answer { FreesId self.old id result self.new }
         ensures held { IsHeld self.old id → (result ≡ Ok id) ⊎ (result ≡ Err Error.OutOfMemory) }
@@ -163,7 +163,7 @@ impl IdAllocator {
     }
 
     /// Whether the id is one of the range.
-    #[tactic(auto, using(crate::proofs::ids::States::states), unfolding(crate::specs::Ids::ids_of))]
+    #[tactic(auto, using(crate::proofs::Ids::IdFields::states), unfolding(crate::specs::Ids::ids_of))]
     fn id_in_range(&self, id: u32) -> bool
         ensures value { IsTrue result ↔ IsOfRange self.now id }
         ensures state { IsIdState self.now }
@@ -172,7 +172,7 @@ impl IdAllocator {
     }
 
     /// Whether the id was handed out at some time.
-    #[tactic(auto, using(crate::proofs::ids::States::states), unfolding(crate::specs::Ids::ids_of))]
+    #[tactic(auto, using(crate::proofs::Ids::IdFields::states), unfolding(crate::specs::Ids::ids_of))]
     fn was_handed_out(&self, id: u32) -> bool
         ensures value { IsTrue result ↔ IsHandedOut self.now id }
         ensures state { IsIdState self.now }

@@ -4,8 +4,8 @@ ghost use Rattle.std.specs.Cmp.{partial_order_from_own_ties};
 ghost use Rattle.std.specs.Cmp.Rules.{comparing};
 ghost use Rattle.std.specs.Ordering.{as_partial_cmp, MatchOrdering};
 ghost use Rattle.vm_allocator.specs.Answer.{MakesRange};
-ghost use Rattle.vm_allocator.specs.Range.{IsRange, address_count, Overlaps, Covers, range_cmp};
-ghost use Rattle.vm_allocator.specs.RangeOrder.{Before, StartsBefore, StartsAtOrAfter, EndsBefore, ReachesStartOf, IsInOrder};
+ghost use Rattle.vm_allocator.specs.Range.{IsRange, address_count, Overlaps, Covers};
+ghost use Rattle.vm_allocator.specs.RangeOrder.{range_cmp, Before, StartsBefore, StartsAtOrAfter, EndsBefore, ReachesStartOf, IsInOrder};
 
 use crate::error::{Error, Result};
 use std::cmp::Ordering;
@@ -63,7 +63,7 @@ impl RangeInclusive {
     }
 
     /// Whether some address lies in both ranges.
-    #[tactic(auto, using(crate::proofs::numbers::Ranges::meetings))]
+    #[tactic(auto, using(crate::proofs::Numbers::RangeCalls::meetings))]
     pub fn overlaps(&self, other: &RangeInclusive) -> bool
         ensures { IsTrue result ↔ Overlaps self.now other.now }
     {
@@ -71,7 +71,7 @@ impl RangeInclusive {
     }
 
     /// Whether every address of `other` lies in the range.
-    #[tactic(auto, using(crate::proofs::numbers::Ranges::coverings))]
+    #[tactic(auto, using(crate::proofs::Numbers::RangeCalls::coverings))]
     pub fn contains(&self, other: &RangeInclusive) -> bool
         ensures { IsTrue result ↔ Covers self.now other.now }
     {

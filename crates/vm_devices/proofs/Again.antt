@@ -9,12 +9,12 @@ use Rattle.vm_allocator.specs.Ids.{IdState, IsHeld, IsLeastNotHeld, AreAllHeld, 
 use Rattle.vm_allocator.specs.declared.error.Error.{Error}
 use Rattle.vm_allocator.specs.declared.error.Error.TheVariants.{NeverAllocated, OutOfMemory}
 use Rattle.vm_allocator.specs.declared.constraint.AllocPolicy.TheVariants.{ExactMatch}
-use Rattle.vm_allocator.proofs.blocks.Words.{held_contains}
+use Rattle.vm_allocator.proofs.Blocks.PlainWords.{held_contains}
 use Rattle.vm_allocator.proofs.Callers.{given_held, given_again}
-use Rattle.vm_allocator.proofs.answers.Once.{allocates_once}
-use Rattle.vm_allocator.proofs.answers.AddressAnswers.{freeing_undoes, releases_held}
-use Rattle.vm_allocator.proofs.ids.Sets.{inserted_other, removed_other, from_removed}
-use Rattle.vm_allocator.proofs.ids.Answers.{one_least}
+use Rattle.vm_allocator.proofs.Answers.Once.{allocates_once}
+use Rattle.vm_allocator.proofs.Answers.AddressAnswers.{freeing_undoes, releases_held}
+use Rattle.vm_allocator.proofs.Ids.IdSets.{inserted_other, removed_other, from_removed}
+use Rattle.vm_allocator.proofs.Ids.IdAnswers.{one_least}
 use Rattle.vm_devices.specs.declared.device_slot.DeviceSlot.{DeviceSlot}
 use Rattle.vm_devices.specs.Devices.{DeviceState, IsDevice, with_device, without_device, Pairs, Reserves, Releases}
 use Rattle.vm_devices.specs.Laws.{IsExcused, ReservedAgain, RangeComesBack}

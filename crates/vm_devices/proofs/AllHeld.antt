@@ -13,8 +13,8 @@ use Rattle.std.specs.FinSet as set
 use Rattle.vm_allocator.specs.Range.{Range, Overlaps}
 use Rattle.vm_allocator.specs.Address.{AddressState, IsAddressState}
 use Rattle.vm_allocator.specs.Ids.{IdState, IsHeld}
-use Rattle.vm_allocator.proofs.answers.AddressAnswers.{lie_apart}
-use Rattle.vm_allocator.proofs.ids.Sets.{inserted_here, inserted_other, from_inserted}
+use Rattle.vm_allocator.proofs.Answers.AddressAnswers.{lie_apart}
+use Rattle.vm_allocator.proofs.Ids.IdSets.{inserted_here, inserted_other, from_inserted}
 use Rattle.vm_allocator.proofs.Callers.{slots_listed, ids_listed}
 use Rattle.vm_devices.specs.Devices.{DeviceState, IsDevice, ArePaired}
 use Rattle.vm_devices.specs.SavedChecks.{AreHeldApart, AreAllHeld}

@@ -9,7 +9,7 @@ use Rattle.std.specs.List.{Contains}
 use Rattle.vm_allocator.specs.Range.{Range}
 use Rattle.vm_allocator.specs.Address.{AddressState}
 use Rattle.vm_allocator.specs.Ids.{IdState, IsHeld}
-use Rattle.vm_allocator.proofs.ids.Sets.{same_members, inserted_here, inserted_other, from_inserted, changed_here, changed_other}
+use Rattle.vm_allocator.proofs.Ids.IdSets.{same_members, inserted_here, inserted_other, from_inserted, changed_here, changed_other}
 use Rattle.vm_devices.specs.SavedChecks.{AreHeldApart}
 
 -- the starts in a set, as a finite set

@@ -11,10 +11,10 @@ use Rattle.vm_allocator.specs.Answer.{Allocates, Frees, Makes}
 use Rattle.vm_allocator.specs.Ids.{MAX_ID, IdState, IsHeld, MakesIds, ByLeastNotHeld, PeeksId, AllocatesId, FreesId, releasing_id}
 use Rattle.vm_allocator.specs.declared.error.Error.{Error}
 use Rattle.vm_allocator.specs.declared.error.Error.TheVariants.{Overflow, ResourceNotAvailable, NeverAllocated, OutOfMemory}
-use Rattle.vm_allocator.proofs.answers.AddressAnswers.{freeing_undoes}
-use Rattle.vm_allocator.proofs.answers.EveryCall.{every_call}
+use Rattle.vm_allocator.proofs.Answers.AddressAnswers.{freeing_undoes}
+use Rattle.vm_allocator.proofs.Answers.EveryAddressCall.{every_call}
 use Rattle.vm_allocator.proofs.Callers.{given}
-use Rattle.vm_allocator.proofs.ids.Answers.{peeking_foretells}
+use Rattle.vm_allocator.proofs.Ids.IdAnswers.{peeking_foretells}
 use Rattle.vm_devices.specs.Devices.{DeviceState, IsDeviceState, IsDevice, devices_of, MakesManager, Reserves, Releases}
 use Rattle.vm_devices.proofs.Tables.{table_with, table_without, no_entries}
 use Rattle.vm_devices.proofs.Pairs.{id_held}

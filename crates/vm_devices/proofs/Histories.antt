@@ -7,7 +7,7 @@ use Rattle.vm_allocator.specs.Range.{Range, MAX, Overlaps, Covers}
 use Rattle.vm_allocator.specs.Address.{holding}
 use Rattle.vm_allocator.specs.Answer.{Allocates}
 use Rattle.vm_allocator.specs.Ids.{IsOfRange}
-use Rattle.vm_allocator.proofs.answers.AddressAnswers.{lie_apart}
+use Rattle.vm_allocator.proofs.Answers.AddressAnswers.{lie_apart}
 use Rattle.vm_allocator.proofs.Callers.{given, given_aligned}
 use Rattle.vm_devices.specs.declared.device_slot.DeviceSlot.{DeviceSlot}
 use Rattle.vm_devices.specs.Devices.{DeviceState, IsDevice, IsDeviceState}

@@ -10,9 +10,9 @@ use Rattle.vm_allocator.specs.Address.{AddressState}
 use Rattle.vm_allocator.specs.Answer.{Makes}
 use Rattle.vm_allocator.specs.Ids.{MAX_ID, IdState, IsHeld, MakesIds, fresh_ids}
 use Rattle.vm_allocator.specs.declared.error.Error.{Error}
-use Rattle.vm_allocator.proofs.blocks.Words.{held_contains}
-use Rattle.vm_allocator.proofs.answers.AddressAnswers.{made_is, state_is_kept}
-use Rattle.vm_allocator.proofs.ids.Answers.{front_is_kept}
+use Rattle.vm_allocator.proofs.Blocks.PlainWords.{held_contains}
+use Rattle.vm_allocator.proofs.Answers.AddressAnswers.{made_is, state_is_kept}
+use Rattle.vm_allocator.proofs.Ids.IdAnswers.{front_is_kept}
 use Rattle.vm_devices.proofs.Pairs.{none_there}
 use Rattle.vm_devices.specs.Devices.{DeviceState, IsDeviceState, made_devices, MakesManager}
 

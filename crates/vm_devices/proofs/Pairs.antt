@@ -7,12 +7,12 @@ use Rattle.vm_allocator.specs.Range.{Range}
 use Rattle.vm_allocator.specs.Address.{holding, releasing}
 use Rattle.vm_allocator.specs.Request.{Request}
 use Rattle.vm_allocator.specs.Answer.{Allocates, Frees}
-use Rattle.vm_allocator.specs.Laws.{AddsRange, TakesRange}
+use Rattle.vm_allocator.specs.Laws.AddressLaws.{AddsRange, TakesRange}
 use Rattle.vm_allocator.specs.Ids.{IsHeld, AllocatesId, FreesId, holding_id, releasing_id}
-use Rattle.vm_allocator.specs.IdLaws.{AddsId, TakesId}
-use Rattle.vm_allocator.proofs.blocks.Words.{none_holds, held_address, held_contains}
-use Rattle.vm_allocator.proofs.answers.AddressAnswers.{adds_range, takes_range, state_is_kept, lie_apart, releases_held}
-use Rattle.vm_allocator.proofs.ids.Answers.{front_is_kept, allocating_adds, freeing_takes}
+use Rattle.vm_allocator.specs.Laws.IdLaws.{AddsId, TakesId}
+use Rattle.vm_allocator.proofs.Blocks.PlainWords.{none_holds, held_address, held_contains}
+use Rattle.vm_allocator.proofs.Answers.AddressAnswers.{adds_range, takes_range, state_is_kept, lie_apart, releases_held}
+use Rattle.vm_allocator.proofs.Ids.IdAnswers.{front_is_kept, allocating_adds, freeing_takes}
 use Rattle.vm_allocator.proofs.Callers.{id_was_free}
 use Rattle.vm_devices.specs.Devices.{DeviceState, IsDevice, ArePaired, IsDeviceState, with_device, without_device}
 use Rattle.vm_devices.proofs.Tables.{with_here, with_other, without_here, without_other}

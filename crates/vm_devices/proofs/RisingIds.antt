@@ -7,8 +7,8 @@ use Rattle.std.specs.Map.{keys_of}
 use Rattle.std.specs.Ordering.{nat_cmp}
 use Rattle.serde_json.specs.Data.{Items, no_items, item}
 use Rattle.vm_allocator.specs.Range.{Range}
-use Rattle.vm_allocator.proofs.saving.Fields.{and_then_some, if_some}
-use Rattle.vm_allocator.proofs.saving.Rising.{less}
+use Rattle.vm_allocator.proofs.Reading.FieldSteps.{and_then_some, if_some}
+use Rattle.vm_allocator.proofs.Reading.RisingBounds.{less}
 use Rattle.vm_devices.specs.SavedChecks.{device_found, rising_devices}
 use Rattle.vm_devices.proofs.Slots.{RiseFrom, mapped}
 

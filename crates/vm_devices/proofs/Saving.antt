@@ -19,16 +19,16 @@ use Rattle.vm_allocator.specs.Cases.{Tells}
 use Rattle.vm_allocator.specs.Address.{AddressState, IsAddressState}
 use Rattle.vm_allocator.specs.Ids.{IdState, held_count}
 use Rattle.vm_allocator.specs.Allocator.{SpaceInTree, state_of}
-use Rattle.vm_allocator.specs.SavedFields.{field_count, number_in}
-use Rattle.vm_allocator.specs.SavedTree.{StatesAllocator, StatesAddresses}
-use Rattle.vm_allocator.specs.SavedIds.{StatesIds}
+use Rattle.vm_allocator.specs.Values.ValueFields.{field_count, number_in}
+use Rattle.vm_allocator.specs.Values.TreeValues.{StatesAllocator, StatesAddresses}
+use Rattle.vm_allocator.specs.Values.IdValues.{StatesIds}
 use Rattle.vm_allocator.specs.Saving.{Reads}
-use Rattle.vm_allocator.specs.SavedChecks.{is_count}
+use Rattle.vm_allocator.specs.Checks.ValueChecks.{is_count}
 use Rattle.vm_allocator.specs.declared.saved.ValueError.{ValueError}
 use Rattle.vm_allocator.specs.declared.saved.ValueError.TheVariants.{NotAState, OutOfMemory}
-use Rattle.vm_allocator.proofs.saving.Fields.{and_then_some, if_some, count-true, true-count, in_field, field_is}
-use Rattle.vm_allocator.proofs.saving.Allocators.{one_allocator, stated_state as allocator_state}
-use Rattle.vm_allocator.proofs.saving.IdStates.{one_stated, stated_state as ids_state}
+use Rattle.vm_allocator.proofs.Reading.FieldSteps.{and_then_some, if_some, count-true, true-count, in_field, field_is}
+use Rattle.vm_allocator.proofs.Reading.ReadAllocators.{one_allocator, stated_state as allocator_state}
+use Rattle.vm_allocator.proofs.Reading.ReadIdStates.{one_stated, stated_state as ids_state}
 use Rattle.vm_devices.specs.Devices.{DeviceState, IsDeviceState, devices_of}
 use Rattle.vm_devices.specs.Saved.{StatesDevices, StatesList, StatesManager, ReadsInParts}
 use Rattle.vm_devices.specs.Laws.{ManagerIsReadAgain}

@@ -13,15 +13,15 @@ use Rattle.serde_json.specs.Find.{get}
 use Rattle.serde_json.specs.View.{view, items_view}
 use Rattle.serde_json.specs.declared.value.Value.{Value}
 use Rattle.vm_allocator.specs.Range.{Range}
-use Rattle.vm_allocator.specs.SavedFields.{field_count}
-use Rattle.vm_allocator.specs.SavedRange.{StatesRange}
-use Rattle.vm_allocator.specs.SavedChecks.{is_count, range_found}
-use Rattle.vm_allocator.specs.SavedIdChecks.{id_in}
-use Rattle.vm_allocator.proofs.saving.Fields.{and_then_some, if_some, count-true, true-count, in_field, field_is}
-use Rattle.vm_allocator.proofs.saving.Ranges.{found-states, states-found}
-use Rattle.vm_allocator.proofs.saving.Ids.{id_in-some, some-id}
-use Rattle.vm_allocator.proofs.saving.Numbers.{items_from}
-use Rattle.vm_allocator.proofs.saving.Rising.{less_is}
+use Rattle.vm_allocator.specs.Values.ValueFields.{field_count}
+use Rattle.vm_allocator.specs.Values.RangeValues.{StatesRange}
+use Rattle.vm_allocator.specs.Checks.ValueChecks.{is_count, range_found}
+use Rattle.vm_allocator.specs.Checks.IdChecks.{id_in}
+use Rattle.vm_allocator.proofs.Reading.FieldSteps.{and_then_some, if_some, count-true, true-count, in_field, field_is}
+use Rattle.vm_allocator.proofs.Reading.ReadRanges.{found-states, states-found}
+use Rattle.vm_allocator.proofs.Reading.ReadIds.{id_in-some, some-id}
+use Rattle.vm_allocator.proofs.Reading.RisingNumbers.{items_from}
+use Rattle.vm_allocator.proofs.Reading.RisingBounds.{less_is}
 use Rattle.vm_devices.specs.Saved.{StatesDevice, StatesDevices}
 use Rattle.vm_devices.specs.SavedChecks.{device_found, rising_devices}
 

@@ -8,10 +8,10 @@ use Rattle.serde_json.specs.Data.{Data, Items, no_items, item}
 use Rattle.serde_json.specs.Find.{as_array}
 use Rattle.vm_allocator.specs.Range.{Range}
 use Rattle.vm_allocator.specs.Ids.{MAX_ID}
-use Rattle.vm_allocator.specs.SavedFields.{field_count, FieldIs, number_in}
-use Rattle.vm_allocator.specs.SavedRange.{StatesRange}
-use Rattle.vm_allocator.specs.SavedTree.{StatesAddresses}
-use Rattle.vm_allocator.specs.SavedIds.{StatesIds}
+use Rattle.vm_allocator.specs.Values.ValueFields.{field_count, FieldIs, number_in}
+use Rattle.vm_allocator.specs.Values.RangeValues.{StatesRange}
+use Rattle.vm_allocator.specs.Values.TreeValues.{StatesAddresses}
+use Rattle.vm_allocator.specs.Values.IdValues.{StatesIds}
 use Rattle.vm_allocator.specs.declared.saved.ValueError.{ValueError}
 use Rattle.vm_allocator.specs.declared.saved.ValueError.TheVariants.{NotAState, OutOfMemory}
 use Rattle.vm_devices.specs.Devices.{DeviceState, ArePaired}

@@ -11,9 +11,9 @@ use Rattle.serde_json.specs.Events.{items_len}
 use Rattle.vm_allocator.specs.Range.{Range}
 use Rattle.vm_allocator.specs.Address.{AddressState}
 use Rattle.vm_allocator.specs.Ids.{IdState, IsHeld, held_count}
-use Rattle.vm_allocator.specs.SavedFields.{field_count, number_in}
-use Rattle.vm_allocator.specs.SavedChecks.{is_count, range_found}
-use Rattle.vm_allocator.specs.SavedIdChecks.{id_in}
+use Rattle.vm_allocator.specs.Values.ValueFields.{field_count, number_in}
+use Rattle.vm_allocator.specs.Checks.ValueChecks.{is_count, range_found}
+use Rattle.vm_allocator.specs.Checks.IdChecks.{id_in}
 use Rattle.vm_allocator.specs.declared.saved.ValueError.{ValueError}
 use Rattle.vm_allocator.specs.declared.saved.ValueError.TheVariants.{NotAState, OutOfMemory}
 

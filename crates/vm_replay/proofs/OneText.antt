@@ -8,10 +8,10 @@ use Rattle.vm_allocator.specs.Ids.{IdState, IsHeld}
 use Rattle.vm_allocator.specs.declared.constraint.AllocPolicy.TheVariants.{FirstMatch, LastMatch, ExactMatch}
 use Rattle.vm_allocator.specs.declared.error.Error.{Error}
 use Rattle.vm_allocator.specs.declared.error.Error.TheVariants.{OutOfMemory}
-use Rattle.vm_allocator.proofs.answers.Cases.{unless_same}
-use Rattle.vm_allocator.proofs.answers.Once.{frees_once}
-use Rattle.vm_allocator.proofs.answers.Amply.{placed_once, made_once}
-use Rattle.vm_allocator.proofs.ids.Answers.{making_is_determined, allocating_is_determined, freeing_is_determined}
+use Rattle.vm_allocator.proofs.Answers.TwoFacts.{unless_same}
+use Rattle.vm_allocator.proofs.Answers.Once.{frees_once}
+use Rattle.vm_allocator.proofs.Answers.Amply.{placed_once, made_once}
+use Rattle.vm_allocator.proofs.Ids.IdAnswers.{making_is_determined, allocating_is_determined, freeing_is_determined}
 use Rattle.vm_replay.specs.Commands.{command_of}
 use Rattle.vm_replay.specs.Lines.{newline}
 use Rattle.vm_devices.specs.Devices.{DeviceState}

@@ -8,10 +8,10 @@ use Rattle.vm_allocator.specs.Answer.{Allocates, Makes}
 use Rattle.vm_allocator.specs.Ids.{IdState, AllocatesId, FreesId, MakesIds}
 use Rattle.vm_allocator.specs.declared.error.Error.{Error}
 use Rattle.vm_allocator.specs.declared.error.Error.TheVariants.{InvalidRange, OutOfMemory}
-use Rattle.vm_allocator.proofs.numbers.Decisions.{Decided, decided_both, decided_below, decided_up_to}
-use Rattle.vm_allocator.proofs.answers.Amply.{frees_no_memory, makes_ids_no_memory, allocates_id_no_memory}
-use Rattle.vm_allocator.proofs.answers.EveryCall.{every_call}
-use Rattle.vm_allocator.proofs.ids.EveryCall.{every_call as every_id_call}
+use Rattle.vm_allocator.proofs.Numbers.Decisions.{Decided, decided_both, decided_below, decided_up_to}
+use Rattle.vm_allocator.proofs.Answers.Amply.{frees_no_memory, makes_ids_no_memory, allocates_id_no_memory}
+use Rattle.vm_allocator.proofs.Answers.EveryAddressCall.{every_call}
+use Rattle.vm_allocator.proofs.Ids.EveryIdCall.{every_call as every_id_call}
 use Rattle.vm_replay.specs.Machines.{Releases}
 
 -- some answer, not that memory ran out, and some next state are allowed

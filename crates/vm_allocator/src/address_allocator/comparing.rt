@@ -18,7 +18,7 @@ impl PartialEq for AddressAllocator {
 
     /// Whether the spaces and the held ranges are the same. It takes no memory and stops at the first
     /// difference.
-    #[tactic(auto, using(crate::proofs::comparing::States::allocators_compared))]
+    #[tactic(auto, using(crate::proofs::Comparing::StateOrders::allocators_compared))]
     fn eq(&self, other: &AddressAllocator) -> bool
         ensures equal { IsTrue result ↔ AreEqual (state_of self.now) (state_of other.now) }
         ensures order { result ≡ eq_by_cmp state_cmp (state_of self.now) (state_of other.now) }
@@ -56,7 +56,7 @@ impl Ord for AddressAllocator {
     /// By the space, then by the first blocks that differ: by start, then by end, then by state, where
     /// clear is less. An allocator whose blocks are a beginning of the other's is less. It takes no
     /// memory and stops at the first difference.
-    #[tactic(auto, using(crate::proofs::comparing::States::allocators_compared))]
+    #[tactic(auto, using(crate::proofs::Comparing::StateOrders::allocators_compared))]
     fn cmp(&self, other: &AddressAllocator) -> Ordering
         ensures order { result ≡ state_cmp (state_of self.now) (state_of other.now) }
         ensures equal { (result ≡ Equal) ↔ AreEqual (state_of self.now) (state_of other.now) }

@@ -20,7 +20,7 @@ pub struct HeldRanges<'a> {
 impl<'a> Model for HeldRanges<'a> {
     ghost use Rattle.std.specs.Prelude.{List};
     ghost use Rattle.vm_allocator.specs.Range.{Range};
-    ghost use Rattle.vm_allocator.specs.Blocks.{held_of};
+    ghost use Rattle.vm_allocator.specs.Tree.Blocks.{held_of};
 
     ghost Value = { List Range };
 
@@ -35,7 +35,7 @@ impl<'a> Iterator for HeldRanges<'a> {
     ghost remaining = { item_count (λ h. h) };
 
     /// The next held range.
-    #[tactic(auto, using(crate::proofs::blocks::Unique::held_of_first))]
+    #[tactic(auto, using(crate::proofs::Blocks::OneList::held_of_first))]
     fn next(&mut self) -> Option<RangeInclusive> {
         while let Some(block) = self.walk.next() {
             if block.state == NodeState::Allocated {

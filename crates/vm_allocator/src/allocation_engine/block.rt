@@ -20,7 +20,7 @@ pub(crate) struct Block {
 }
 
 impl Model for Block {
-    ghost use Rattle.vm_allocator.specs.Block.{Block, block_code};
+    ghost use Rattle.vm_allocator.specs.Tree.Block.{Block, block_code};
 
     ghost Value = { Block };
 

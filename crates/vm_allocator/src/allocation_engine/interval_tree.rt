@@ -5,10 +5,10 @@ ghost use Rattle.vm_allocator.specs.Range.{MAX};
 ghost use Rattle.vm_allocator.specs.Address.{IsAddressState};
 ghost use Rattle.vm_allocator.specs.Answer.{Settles, Frees};
 ghost use Rattle.vm_allocator.specs.Cloning.{Clones};
-ghost use Rattle.vm_allocator.specs.Shape.{blocks, height_of, node_count, IsTree};
-ghost use Rattle.vm_allocator.specs.GapSearch.{SearchesGaps, SearchesAligned};
-ghost use Rattle.vm_allocator.specs.Steps.{Enters, EntersToFree, IsBalancedTreeOf, IsSettlingCount, IsReleaseCount, SplitsIfLow};
-ghost use Rattle.vm_allocator.specs.SpaceTree.{tree_state, IsSpaceTree, MakesTree};
+ghost use Rattle.vm_allocator.specs.Tree.Shape.{blocks, height_of, node_count, IsTree};
+ghost use Rattle.vm_allocator.specs.Counts.GapSearch.{SearchesGaps, SearchesAligned};
+ghost use Rattle.vm_allocator.specs.Counts.Steps.{Enters, EntersToFree, IsBalancedTreeOf, IsSettlingCount, IsReleaseCount, SplitsIfLow};
+ghost use Rattle.vm_allocator.specs.Tree.SpaceTree.{tree_state, IsSpaceTree, MakesTree};
 
 use super::NodeState;
 use super::node::walks::Walk;
@@ -33,17 +33,18 @@ pub struct IntervalTree {
 }
 
 impl Model for IntervalTree {
-    ghost use Rattle.vm_allocator.specs.Shape.{Shape, shape_code};
+    ghost use Rattle.vm_allocator.specs.Tree.Shape.{Shape};
+    ghost use Rattle.vm_allocator.specs.Tree.ShapeCode.{shape_code};
 
     ghost Value = { Shape };
 
     ghost coded = { shape_code };
 
-    ghost use Rattle.vm_allocator.specs.NodeFields.{side};
+    ghost use Rattle.vm_allocator.specs.Engine.NodeFields.{side};
 
     ghost view = { λ a. side a.root };
 
-    ghost use Rattle.vm_allocator.specs.SpaceTree.{IsSpaceTree};
+    ghost use Rattle.vm_allocator.specs.Tree.SpaceTree.{IsSpaceTree};
 
     ghost invariant = { λ a. IsSpaceTree (side a.root) };
 }
@@ -51,7 +52,7 @@ impl Model for IntervalTree {
 impl IntervalTree {
     /// The tree of the space `key`, with nothing held. `OutOfMemory` where there is no memory for its
     /// one node.
-    #[tactic(auto, using(crate::proofs::nodes::Spaces::making))]
+    #[tactic(auto, using(crate::proofs::Nodes::Spaces::making))]
     pub fn new(alloc: Global, key: RangeInclusive) -> Result<Self>
         ensures answer { MakesTree key result }
         ensures state { IfOk result (λ tree. IsAddressState (tree_state tree)) }
@@ -80,7 +81,7 @@ impl IntervalTree {
     }
 
     /// The root, which is always there.
-    #[tactic(auto, using(crate::proofs::nodes::Spaces::rooted))]
+    #[tactic(auto, using(crate::proofs::Nodes::Spaces::rooted))]
     pub(crate) fn root(&self) -> &InnerNode
         ensures value { result.now ≡ self.now }
         ensures space { IsSpaceTree self.now }
@@ -102,7 +103,7 @@ impl IntervalTree {
     }
 
     /// `allocate`, which adds the nodes that it enters to a count.
-    #[tactic(auto, using(crate::proofs::choosing::Searched::settling, crate::proofs::counts::Granting::settlings))]
+    #[tactic(auto, using(crate::proofs::Choosing::Searched::settling, crate::proofs::Counts::Granting::settlings))]
     fn grant(
         &mut self,
         alloc: Global,
@@ -121,7 +122,7 @@ impl IntervalTree {
     }
 
     /// `allocate`, and how many nodes it entered.
-    #[tactic(auto, using(crate::proofs::counts::Granting::settlings, crate::proofs::counts::GapBounds::of_trees))]
+    #[tactic(auto, using(crate::proofs::Counts::Granting::settlings, crate::proofs::Counts::GapBounds::of_trees))]
     pub(crate) fn allocate_counted(
         &mut self,
         alloc: Global,
@@ -146,7 +147,7 @@ impl IntervalTree {
     /// place `ResourceNotAvailable`, or for `ExactMatch` the first of its faults; `Overflow` where the
     /// range ends at `u64::MAX`; and where a part of its gap is left, `Overflow` for a tree of height
     /// 48 or more, and `OutOfMemory`. A refusal changes nothing.
-    #[tactic(auto, using(crate::proofs::nodes::Spaces::states))]
+    #[tactic(auto, using(crate::proofs::Nodes::Spaces::states))]
     pub fn allocate(&mut self, alloc: Global, constraint: Constraint) -> Result<RangeInclusive>
         ensures answer { Settles (tree_state self.old) constraint result (tree_state self.new) }
         ensures unchanged { OnErr result (self.new ≡ self.old) }
@@ -159,7 +160,7 @@ impl IntervalTree {
     }
 
     /// `free`, and how many nodes it entered.
-    #[tactic(auto, using(crate::proofs::counts::Releasing::releasings))]
+    #[tactic(auto, using(crate::proofs::Counts::ReleaseWays::releasings))]
     pub(crate) fn free_counted(&mut self, key: &RangeInclusive) -> (Result<()>, u64)
         ensures answer { Frees (tree_state self.old) key.now result.0 (tree_state self.new) }
         ensures unchanged { OnErr result.0 (self.new ≡ self.old) }
@@ -174,7 +175,7 @@ impl IntervalTree {
 
     /// Gives a held range back, and joins its addresses with the clear ones on both sides. Any other
     /// range is `ResourceNotAvailable`. It takes no memory, and a refusal changes nothing.
-    #[tactic(auto, using(crate::proofs::nodes::Spaces::states))]
+    #[tactic(auto, using(crate::proofs::Nodes::Spaces::states))]
     pub fn free(&mut self, key: &RangeInclusive) -> Result<()>
         ensures answer { Frees (tree_state self.old) key.now result (tree_state self.new) }
         ensures unchanged { OnErr result (self.new ≡ self.old) }

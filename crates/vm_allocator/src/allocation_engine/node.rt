@@ -2,8 +2,8 @@
 //! it enters: `count` rises by one for each, in `enter` alone.
 ghost use Rattle.std.specs.Prelude.{◌≡◌, ◌+◌, ◌<◌, ◌≤◌, ◌^◌, ◌↔◌, max, IsNone, MatchResult};
 ghost use Rattle.vm_allocator.specs.Range.{MAX};
-ghost use Rattle.vm_allocator.specs.Shape.{Tip, Fork, height_of, single, root_block, IsTree};
-ghost use Rattle.vm_allocator.specs.NodeFields.{side};
+ghost use Rattle.vm_allocator.specs.Tree.Shape.{Tip, Fork, height_of, single, root_block, IsTree};
+ghost use Rattle.vm_allocator.specs.Engine.NodeFields.{side};
 
 mod balance;
 pub(crate) mod carve;
@@ -48,13 +48,14 @@ pub(crate) struct InnerNode {
 pub(crate) type Child = Option<Box<InnerNode>>;
 
 impl Model for InnerNode {
-    ghost use Rattle.vm_allocator.specs.Shape.{Shape, shape_code, node_count};
+    ghost use Rattle.vm_allocator.specs.Tree.Shape.{Shape, node_count};
+    ghost use Rattle.vm_allocator.specs.Tree.ShapeCode.{shape_code};
 
     ghost Value = { Shape };
 
     ghost coded = { shape_code };
 
-    ghost use Rattle.vm_allocator.specs.NodeFields.{shape_of, IsNode};
+    ghost use Rattle.vm_allocator.specs.Engine.NodeFields.{shape_of, IsNode};
 
     ghost view = { shape_of };
 

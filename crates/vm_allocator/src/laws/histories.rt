@@ -1,8 +1,8 @@
 //! Laws of whole histories: every list of calls of an address allocator, from one on that was made or
 //! read, clones made on the way among them.
-ghost use Rattle.vm_allocator.specs.SavedTree.{StatesAddresses};
-ghost use Rattle.vm_allocator.specs.SavedRepaired.{StatesRepaired};
-ghost use Rattle.vm_allocator.specs.HistoryLaws.{FirstIsLeast, LastIsGreatest, ExactIsNamed, PlacesAnswer, RefusalsChangeNothing, SlotsAreGood, StateDecides, ReleaseUndoes, OrderOfReleasesIsFree, EveryCallIsAnswered, EveryListHasHistory, CloneIsReached, ReadIsReached, OneEndIsEqual, ReleaseMakesEqual, OrderOfReleasesMakesEqual};
+ghost use Rattle.vm_allocator.specs.Values.TreeValues.{StatesAddresses};
+ghost use Rattle.vm_allocator.specs.Values.RepairedValues.{StatesRepaired};
+ghost use Rattle.vm_allocator.specs.Laws.HistoryLaws.{FirstIsLeast, LastIsGreatest, ExactIsNamed, PlacesAnswer, RefusalsChangeNothing, SlotsAreGood, StateDecides, ReleaseUndoes, OrderOfReleasesIsFree, EveryCallIsAnswered, EveryListHasHistory, CloneIsReached, ReadIsReached, OneEndIsEqual, ReleaseMakesEqual, OrderOfReleasesMakesEqual};
 
 /// In every history `FirstMatch` gives the least place, `LastMatch` the greatest and `ExactMatch` the
 /// named one.
@@ -20,13 +20,13 @@ fn places_answer()
 
 /// The held ranges have no address in common, lie in the space and do not contain `u64::MAX`; each is
 /// aligned and as long as was asked, or was stated by the value that was read.
-#[tactic(auto, using(crate::proofs::histories::Histories::slots_good))]
+#[tactic(auto, using(crate::proofs::Histories::AlongHistories::slots_good))]
 fn slots_are_good()
     ensures { SlotsAreGood }
 {}
 
 /// The space and the held ranges alone decide what a call answers.
-#[tactic(auto, using(crate::proofs::histories::Histories::decided))]
+#[tactic(auto, using(crate::proofs::Histories::AlongHistories::decided))]
 fn state_decides()
     ensures { StateDecides }
 {}
@@ -38,7 +38,7 @@ fn releases_leave_no_trace()
 {}
 
 /// Every call has an answer in every state, and so every list of calls a history.
-#[tactic(auto, using(crate::proofs::answers::EveryCall::answers))]
+#[tactic(auto, using(crate::proofs::Answers::EveryAddressCall::answers))]
 fn every_call_is_answered()
     ensures call { EveryCallIsAnswered }
     ensures list { EveryListHasHistory }

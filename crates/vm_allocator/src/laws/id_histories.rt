@@ -1,9 +1,9 @@
 //! Laws of whole histories: every list of calls of an id allocator, from one on that was made or read,
 //! clones made on the way among them.
-ghost use Rattle.vm_allocator.specs.IdHistoryLaws.{EachIsLeastNotHeld, NoIdIsHeldTwice, HeldIsOut, StatesAreOfIds, EveryIdCallIsAnswered, EveryIdListHasHistory, IdCloneIsReached, IdReadIsReached};
+ghost use Rattle.vm_allocator.specs.Laws.IdHistoryLaws.{EachIsLeastNotHeld, NoIdIsHeldTwice, HeldIsOut, StatesAreOfIds, EveryIdCallIsAnswered, EveryIdListHasHistory, IdCloneIsReached, IdReadIsReached};
 
 /// In every history each id given is the least that is not held, and none is held twice.
-#[tactic(auto, using(crate::proofs::ids::Histories::least_ids))]
+#[tactic(auto, using(crate::proofs::Ids::AlongIdHistories::least_ids))]
 fn least_ids_are_given()
     ensures least { EachIsLeastNotHeld }
     ensures twice { NoIdIsHeldTwice }
@@ -11,14 +11,14 @@ fn least_ids_are_given()
 
 /// An id is held exactly if it was given out, or held in the value that was read, and not given back
 /// since.
-#[tactic(auto, using(crate::proofs::ids::Histories::held_ids))]
+#[tactic(auto, using(crate::proofs::Ids::AlongIdHistories::held_ids))]
 fn held_ids_are_out()
     ensures held { HeldIsOut }
     ensures states { StatesAreOfIds }
 {}
 
 /// Every call has an answer in every state, and so every list of calls a history.
-#[tactic(auto, using(crate::proofs::ids::EveryCall::answers))]
+#[tactic(auto, using(crate::proofs::Ids::EveryIdCall::answers))]
 fn every_id_call_is_answered()
     ensures call { EveryIdCallIsAnswered }
     ensures list { EveryIdListHasHistory }

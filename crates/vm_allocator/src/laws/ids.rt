@@ -1,8 +1,8 @@
 //! Laws of ids.
-ghost use Rattle.vm_allocator.specs.IdLaws.{MakingIsDetermined, AllocatingIsDetermined, PeekingForetells, FreeingIsDetermined, FrontIsKept, AllocatingAdds, FreeingTakes, IdCountTellsAll};
+ghost use Rattle.vm_allocator.specs.Laws.IdLaws.{MakingIsDetermined, AllocatingIsDetermined, PeekingForetells, FreeingIsDetermined, FrontIsKept, AllocatingAdds, FreeingTakes, IdCountTellsAll};
 
 /// From one state a call has one answer and one next state, out of memory aside.
-#[tactic(auto, using(crate::proofs::ids::Answers::determined))]
+#[tactic(auto, using(crate::proofs::Ids::IdAnswers::determined))]
 fn calls_are_determined()
     ensures makes { MakingIsDetermined }
     ensures allocates { AllocatingIsDetermined }
@@ -11,20 +11,20 @@ fn calls_are_determined()
 {}
 
 /// The ids handed out are a front of the range, and the held ones are among them.
-#[tactic(auto, using(crate::proofs::ids::Answers::front))]
+#[tactic(auto, using(crate::proofs::Ids::IdAnswers::front))]
 fn front_is_kept()
     ensures { FrontIsKept }
 {}
 
 /// What an id that is taken or given back changes.
-#[tactic(auto, using(crate::proofs::ids::Answers::changes))]
+#[tactic(auto, using(crate::proofs::Ids::IdAnswers::changes))]
 fn one_id_changes()
     ensures takes { AllocatingAdds }
     ensures gives_back { FreeingTakes }
 {}
 
 /// As many different held ids as are held are all of them.
-#[tactic(auto, using(crate::proofs::ids::Counting::listings))]
+#[tactic(auto, using(crate::proofs::Ids::IdCounts::listings))]
 fn id_counts_tell_all()
     ensures { IdCountTellsAll }
 {}

@@ -1,12 +1,12 @@
 //! Laws of saved values.
-ghost use Rattle.vm_allocator.specs.SavedRange.{StatesRange, StatesState};
-ghost use Rattle.vm_allocator.specs.SavedTree.{StatesAllocator};
-ghost use Rattle.vm_allocator.specs.SavedRepaired.{StatesRepaired};
-ghost use Rattle.vm_allocator.specs.SavedIds.{StatesIds};
-ghost use Rattle.vm_allocator.specs.SavedLaws.{StatesOne, ReadsWritten, ReadsAlike};
+ghost use Rattle.vm_allocator.specs.Values.RangeValues.{StatesRange, StatesState};
+ghost use Rattle.vm_allocator.specs.Values.TreeValues.{StatesAllocator};
+ghost use Rattle.vm_allocator.specs.Values.RepairedValues.{StatesRepaired};
+ghost use Rattle.vm_allocator.specs.Values.IdValues.{StatesIds};
+ghost use Rattle.vm_allocator.specs.Laws.ValueLaws.{StatesOne, ReadsWritten, ReadsAlike};
 
 /// A value states one object of a type at most.
-#[tactic(auto, using(crate::proofs::saving::Again::one_object))]
+#[tactic(auto, using(crate::proofs::Reading::ReadAgain::one_object))]
 fn values_state_one()
     ensures ranges { StatesOne StatesRange }
     ensures node_states { StatesOne StatesState }
@@ -17,7 +17,7 @@ fn values_state_one()
 
 /// What `to_value` writes of an object `from_value` reads as this object, node for node, unless it is
 /// refused memory.
-#[tactic(auto, using(crate::proofs::saving::Again::read_again))]
+#[tactic(auto, using(crate::proofs::Reading::ReadAgain::read_again))]
 fn written_is_read()
     ensures ranges { ReadsWritten StatesRange }
     ensures node_states { ReadsWritten StatesState }

@@ -3,9 +3,9 @@ ghost use Rattle.std.specs.Prelude.{◌≡◌, IfOk, is_some, option_map};
 ghost use Rattle.serde_json.specs.View.{view};
 ghost use Rattle.vm_allocator.specs.Address.{IsAddressState};
 ghost use Rattle.vm_allocator.specs.Allocator.{state_of, made_state};
-ghost use Rattle.vm_allocator.specs.SavedTree.{StatesAllocator, StatesAddresses};
-ghost use Rattle.vm_allocator.specs.SavedParts.{AllocatorParts};
-ghost use Rattle.vm_allocator.specs.SavedChecks.{allocator_found, parts_found, root_found, root_fitting};
+ghost use Rattle.vm_allocator.specs.Values.TreeValues.{StatesAllocator, StatesAddresses};
+ghost use Rattle.vm_allocator.specs.Checks.ValueParts.{AllocatorParts};
+ghost use Rattle.vm_allocator.specs.Checks.ValueChecks.{allocator_found, parts_found, root_found, root_fitting};
 ghost use Rattle.vm_allocator.specs.Saving.{Saves, Reads};
 
 use super::ValueError;
@@ -25,7 +25,7 @@ const MOST_NESTED: u64 = 49;
 impl AddressAllocator {
     /// The value that states the allocator: its space, and its tree node for node. `OutOfMemory` where
     /// there is no memory for it.
-    #[tactic(auto, using(crate::proofs::saving::Writing::allocators))]
+    #[tactic(auto, using(crate::proofs::Reading::Writing::allocators))]
     pub fn to_value(&self, alloc: Global) -> Result<Value>
         ensures { Saves (λ d. StatesAllocator d self.now) result }
     {

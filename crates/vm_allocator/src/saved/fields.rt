@@ -2,15 +2,15 @@
 ghost use Rattle.std.specs.Prelude.{◌≡◌, option_map, option_and_then};
 ghost use Rattle.serde_json.specs.View.{view};
 ghost use Rattle.serde_json.specs.Find.{get};
-ghost use Rattle.vm_allocator.specs.SavedFields.{field_count, number_in};
-ghost use Rattle.vm_allocator.specs.SavedChecks.{is_count, range_found, state_found, node_data};
+ghost use Rattle.vm_allocator.specs.Values.ValueFields.{field_count, number_in};
+ghost use Rattle.vm_allocator.specs.Checks.ValueChecks.{is_count, range_found, state_found, node_data};
 
 use crate::allocation_engine::NodeState;
 use crate::range::RangeInclusive;
 use serde_json::Value;
 
 /// How many fields an object has.
-#[tactic(auto, using(crate::proofs::saving::Fields::counts))]
+#[tactic(auto, using(crate::proofs::Reading::FieldSteps::counts))]
 fn field_count(value: &Value) -> Option<usize>
     ensures { result ≡ field_count (view value.now) }
 {

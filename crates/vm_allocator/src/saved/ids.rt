@@ -3,9 +3,9 @@ ghost use Rattle.std.specs.Prelude.{◌≡◌, ◌≤◌, ◌<◌, ◌+◌, ◌^
 ghost use Rattle.serde_json.specs.View.{view, items_view};
 ghost use Rattle.serde_json.specs.Find.{get, as_array};
 ghost use Rattle.vm_allocator.specs.Ids.{IsIdState, bound_of};
-ghost use Rattle.vm_allocator.specs.SavedIds.{StatesNext, StatesList, StatesIds};
-ghost use Rattle.vm_allocator.specs.SavedParts.{IdParts};
-ghost use Rattle.vm_allocator.specs.SavedIdChecks.{rising, id_from, id_in, next_found, is_next, ids_found};
+ghost use Rattle.vm_allocator.specs.Values.IdValues.{StatesNext, StatesList, StatesIds};
+ghost use Rattle.vm_allocator.specs.Checks.ValueParts.{IdParts};
+ghost use Rattle.vm_allocator.specs.Checks.IdChecks.{rising, id_from, id_in, next_found, is_next, ids_found};
 ghost use Rattle.vm_allocator.specs.Saving.{Saves, Reads};
 
 use super::ValueError;
@@ -19,7 +19,7 @@ use std::collections::BTreeSet;
 impl IdAllocator {
     /// The value that states the allocator: its range, the next id and the ids given back.
     /// `OutOfMemory` where there is no memory for it.
-    #[tactic(auto, using(crate::proofs::saving::IdStates::written))]
+    #[tactic(auto, using(crate::proofs::Reading::ReadIdStates::written))]
     pub fn to_value(&self, alloc: Global) -> Result<Value>
         ensures { Saves (λ d. StatesIds d self.now) result }
     {
@@ -173,7 +173,7 @@ fn is_next(next: Option<u32>, base: u32, end: u32) -> bool
 }
 
 /// Whether the items are whole numbers that rise from `least` on and stay below `bound`.
-#[tactic(auto, using(crate::proofs::saving::Numbers::risings))]
+#[tactic(auto, using(crate::proofs::Reading::RisingNumbers::risings))]
 fn rise(list: &[Value], least: u64, bound: u64) -> bool
     requires { bound < 2 ^ 64 }
     ensures { result ≡ is_some (rising least bound (items_view list.now)) }

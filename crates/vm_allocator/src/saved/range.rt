@@ -1,8 +1,8 @@
 //! The saved form of a range.
 ghost use Rattle.std.specs.Prelude.{◌≡◌, ◌≢◌, IfErr};
 ghost use Rattle.serde_json.specs.View.{view};
-ghost use Rattle.vm_allocator.specs.SavedRange.{StatesRange};
-ghost use Rattle.vm_allocator.specs.SavedChecks.{range_found};
+ghost use Rattle.vm_allocator.specs.Values.RangeValues.{StatesRange};
+ghost use Rattle.vm_allocator.specs.Checks.ValueChecks.{range_found};
 ghost use Rattle.vm_allocator.specs.Saving.{Saves, Reads};
 
 use super::ValueError;
@@ -26,7 +26,7 @@ impl RangeInclusive {
     }
 
     /// The range that a value states. `NotAState` where it states none. It takes no memory.
-    #[tactic(auto, using(crate::proofs::saving::Ranges::read))]
+    #[tactic(auto, using(crate::proofs::Reading::ReadRanges::read))]
     pub fn from_value(_alloc: Global, value: &Value) -> std::result::Result<Self, ValueError>
         ensures answer { Reads (StatesRange (view value.now)) result }
         ensures no_memory { IfErr result (λ error. error ≢ ValueError.OutOfMemory) }
@@ -38,7 +38,7 @@ impl RangeInclusive {
     }
 
     /// The range that a value states.
-    #[tactic(auto, using(crate::proofs::saving::Ranges::made))]
+    #[tactic(auto, using(crate::proofs::Reading::ReadRanges::made))]
     pub(super) fn stated_by(value: &Value) -> Option<RangeInclusive>
         ensures { result ≡ range_found (view value.now) }
     {

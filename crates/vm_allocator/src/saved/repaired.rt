@@ -4,10 +4,10 @@ ghost use Rattle.std.specs.Prelude.{◌≡◌, ◌+◌, ◌≤◌, IfOk, IfErr, 
 ghost use Rattle.serde_json.specs.View.{view};
 ghost use Rattle.vm_allocator.specs.Address.{IsAddressState};
 ghost use Rattle.vm_allocator.specs.Allocator.{state_of, made_state};
-ghost use Rattle.vm_allocator.specs.Blocks.{range_if_held};
+ghost use Rattle.vm_allocator.specs.Tree.Blocks.{range_if_held};
 ghost use Rattle.vm_allocator.specs.Saving.{Reads};
-ghost use Rattle.vm_allocator.specs.SavedRepaired.{StatesRepaired};
-ghost use Rattle.vm_allocator.specs.SavedRepairs.{extended, row_found, repaired_found, adding, CanAdd, CanAddNodes, AddsNodes};
+ghost use Rattle.vm_allocator.specs.Values.RepairedValues.{StatesRepaired};
+ghost use Rattle.vm_allocator.specs.Checks.RepairChecks.{extended, row_found, repaired_found, adding, CanAdd, CanAddNodes, AddsNodes};
 
 use super::ValueError;
 use super::allocator::{SavedAllocator, parts_of};
@@ -144,7 +144,7 @@ fn hold_keys(
 
 /// Holds the key, where it is a held one, above what is held already. `OutOfMemory` where there is no
 /// memory for a split.
-#[tactic(auto, using(crate::proofs::repairing::Adding::holdings))]
+#[tactic(auto, using(crate::proofs::Repairing::AddedKeys::holdings))]
 fn hold_key(
     key: &RangeInclusive,
     state: NodeState,

@@ -1,8 +1,8 @@
 //! The saved form of a state.
 ghost use Rattle.std.specs.Prelude.{◌≡◌, ◌≢◌, IfErr};
 ghost use Rattle.serde_json.specs.View.{view};
-ghost use Rattle.vm_allocator.specs.SavedRange.{StatesState};
-ghost use Rattle.vm_allocator.specs.SavedChecks.{state_found};
+ghost use Rattle.vm_allocator.specs.Values.RangeValues.{StatesState};
+ghost use Rattle.vm_allocator.specs.Checks.ValueChecks.{state_found};
 ghost use Rattle.vm_allocator.specs.Saving.{Saves, Reads};
 
 use super::ValueError;
@@ -28,7 +28,7 @@ impl NodeState {
     }
 
     /// The state that a value states. `NotAState` where it states none. It takes no memory.
-    #[tactic(auto, using(crate::proofs::saving::States::read))]
+    #[tactic(auto, using(crate::proofs::Reading::ReadStates::read))]
     pub fn from_value(_alloc: Global, value: &Value) -> std::result::Result<Self, ValueError>
         ensures answer { Reads (StatesState (view value.now)) result }
         ensures no_memory { IfErr result (λ error. error ≢ ValueError.OutOfMemory) }

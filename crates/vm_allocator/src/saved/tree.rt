@@ -1,10 +1,10 @@
 //! The check of a saved tree, which takes no memory, and the building of the tree.
 ghost use Rattle.std.specs.Prelude.{◌≡◌, ◌≤◌, ◌+◌, ◌<◌, ◌^◌, IfOk, IfSome};
 ghost use Rattle.serde_json.specs.View.{view};
-ghost use Rattle.vm_allocator.specs.NodeFields.{side};
-ghost use Rattle.vm_allocator.specs.SavedTree.{StatesShape};
-ghost use Rattle.vm_allocator.specs.SavedParts.{HasShapeWithin};
-ghost use Rattle.vm_allocator.specs.SavedChecks.{behind, is_true_height, tree_found};
+ghost use Rattle.vm_allocator.specs.Engine.NodeFields.{side};
+ghost use Rattle.vm_allocator.specs.Values.TreeValues.{StatesShape};
+ghost use Rattle.vm_allocator.specs.Checks.ValueParts.{HasShapeWithin};
+ghost use Rattle.vm_allocator.specs.Checks.ValueChecks.{behind, is_true_height, tree_found};
 
 use super::fields::node_of;
 use crate::allocation_engine::NodeState;

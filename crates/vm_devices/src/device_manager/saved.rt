@@ -4,8 +4,8 @@ ghost use Rattle.std.specs.Prelude.{◌≡◌, IfOk, option_map};
 ghost use Rattle.serde_json.specs.View.{view, items_view};
 ghost use Rattle.vm_allocator.specs.Saving.{Saves};
 ghost use Rattle.vm_devices.specs.Devices.{IsDeviceState};
-ghost use Rattle.vm_allocator.specs.SavedFields.{field_count};
-ghost use Rattle.vm_allocator.specs.SavedChecks.{is_count};
+ghost use Rattle.vm_allocator.specs.Values.ValueFields.{field_count};
+ghost use Rattle.vm_allocator.specs.Checks.ValueChecks.{is_count};
 ghost use Rattle.vm_devices.specs.Saved.{StatesManager, ReadsInParts};
 ghost use Rattle.vm_devices.specs.SavedChecks.{manager_found, ManagerParts};
 
@@ -103,7 +103,7 @@ fn fields_of(value: &Value) -> Option<Fields<'_>>
 }
 
 /// Whether a value is an object with that many fields.
-#[tactic(auto, using(vm_allocator::proofs::saving::Fields::counts))]
+#[tactic(auto, using(vm_allocator::proofs::Reading::FieldSteps::counts))]
 fn has_fields(value: &Value, count: usize) -> bool
     ensures { result ≡ is_count count (field_count (view value.now)) }
 {

@@ -5,8 +5,8 @@ ghost use Rattle.std.specs.Cmp.Rules.{comparing};
 ghost use Rattle.std.specs.Ordering.{on, eq_by_cmp, as_partial_cmp};
 ghost use Rattle.std.specs.declared.cmp.Ordering.TheVariants.{Equal};
 ghost use Rattle.std.proofs.lemmas.Cmp.{on_total};
-ghost use Rattle.vm_allocator.specs.Shape.{blocks};
-ghost use Rattle.vm_allocator.specs.SpaceTree.{tree_state};
+ghost use Rattle.vm_allocator.specs.Tree.Shape.{blocks};
+ghost use Rattle.vm_allocator.specs.Tree.SpaceTree.{tree_state};
 ghost use Rattle.vm_allocator.specs.Comparison.{layout_cmp, layout_cmp-total, AreEqual};
 
 use super::IntervalTree;
@@ -19,7 +19,7 @@ impl PartialEq for IntervalTree {
     ghost laws = { Prim.search (comparing, layout_cmp-total, rules) };
 
     /// Whether the blocks are the same. It stops at the first difference.
-    #[tactic(auto, using(crate::proofs::comparing::States::trees_compared))]
+    #[tactic(auto, using(crate::proofs::Comparing::StateOrders::trees_compared))]
     fn eq(&self, other: &IntervalTree) -> bool
         ensures blocks { IsTrue result ↔ (blocks self.now ≡ blocks other.now) }
         ensures equal { IsTrue result ↔ AreEqual (tree_state self.now) (tree_state other.now) }
@@ -57,7 +57,7 @@ impl Ord for IntervalTree {
 
     /// By the first blocks that differ, by start, then by end, then by state; where none do, the
     /// tree with fewer blocks is less.
-    #[tactic(auto, using(crate::proofs::comparing::States::trees_compared))]
+    #[tactic(auto, using(crate::proofs::Comparing::StateOrders::trees_compared))]
     fn cmp(&self, other: &IntervalTree) -> Ordering
         ensures order { result ≡ layout_cmp (tree_state self.now) (tree_state other.now) }
         ensures equal { (result ≡ Equal) ↔ AreEqual (tree_state self.now) (tree_state other.now) }

@@ -1,7 +1,7 @@
 //! What is held in a tree.
 ghost use Rattle.std.specs.Prelude.{◌≡◌, ◌↔◌, IsTrue, length};
 ghost use Rattle.std.specs.List.{Contains};
-ghost use Rattle.vm_allocator.specs.SpaceTree.{tree_state};
+ghost use Rattle.vm_allocator.specs.Tree.SpaceTree.{tree_state};
 
 use super::IntervalTree;
 use crate::allocation_engine::node::walks::held::{count_held, has_held};
@@ -9,7 +9,7 @@ use crate::range::RangeInclusive;
 
 impl IntervalTree {
     /// Whether exactly this range is held.
-    #[tactic(auto, using(crate::proofs::releasing::Finding::held_by_key))]
+    #[tactic(auto, using(crate::proofs::Releasing::Finding::held_by_key))]
     pub(crate) fn holds(&self, key: &RangeInclusive) -> bool
         ensures { IsTrue result ↔ Contains (tree_state self.now).held key.now }
     {

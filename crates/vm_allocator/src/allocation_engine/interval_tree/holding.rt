@@ -3,14 +3,16 @@
 ghost use Rattle.std.specs.Prelude.{◌≡◌, ◌+◌, ◌*◌, ◌<◌, ◌≤◌, Err, IfOk, IfErr, IfSome, OnErr, OnOk};
 ghost use Rattle.vm_allocator.specs.Range.{MAX};
 ghost use Rattle.vm_allocator.specs.Answer.{Takes};
-ghost use Rattle.vm_allocator.specs.BlockEdits.{free_block, IsTakenFrom, LeavesPart, before_part, after_part};
+ghost use Rattle.vm_allocator.specs.Tree.Block.{free_block};
+ghost use Rattle.vm_allocator.specs.Engine.BlockEdits.{IsTakenFrom, LeavesPart, before_part, after_part};
 ghost use Rattle.vm_allocator.specs.Cases.{Tells};
-ghost use Rattle.vm_allocator.specs.Carving.{IsRest};
-ghost use Rattle.vm_allocator.specs.Shape.{blocks, height_of, single, IsLeaf};
-ghost use Rattle.vm_allocator.specs.NodeFields.{side};
-ghost use Rattle.vm_allocator.specs.SpaceTree.{tree_state, IsChoice};
-ghost use Rattle.vm_allocator.specs.Steps.{TOO_HIGH};
-ghost use Rattle.vm_allocator.specs.Ways.{leaf_of, way_if_held};
+ghost use Rattle.vm_allocator.specs.Engine.Carving.{IsRest};
+ghost use Rattle.vm_allocator.specs.Tree.Shape.{blocks, height_of, single, leaf_of};
+ghost use Rattle.vm_allocator.specs.Engine.Changes.{IsLeaf};
+ghost use Rattle.vm_allocator.specs.Engine.NodeFields.{side};
+ghost use Rattle.vm_allocator.specs.Tree.SpaceTree.{tree_state, IsChoice};
+ghost use Rattle.vm_allocator.specs.Counts.Steps.{TOO_HIGH};
+ghost use Rattle.vm_allocator.specs.Counts.Ways.{way_if_held};
 
 use super::IntervalTree;
 use super::placing::Choice;
@@ -28,7 +30,7 @@ const TOO_HIGH: u64 = 48;
 impl IntervalTree {
     /// Holds a range within a free block. Where a part of the block is left, a tree that is too high
     /// is `Overflow`, and then comes `OutOfMemory`: all memory is asked for before the first change.
-    #[tactic(auto, using(crate::proofs::splitting::Holding::takings, crate::proofs::splitting::Holding::carves, crate::proofs::nodes::Spaces::rooted, crate::proofs::counts::Carving::holdings))]
+    #[tactic(auto, using(crate::proofs::Splitting::SplitStates::takings, crate::proofs::Splitting::SplitStates::carves, crate::proofs::Nodes::Spaces::rooted, crate::proofs::Counts::CarvingWays::holdings))]
     pub(super) fn hold(
         &mut self,
         alloc: Global,

@@ -2,10 +2,11 @@
 //! has it.
 ghost use Rattle.std.specs.Prelude.{◌≡◌, ◌≢◌, ◌+◌, ◌<◌, ◌≤◌, IfErr, IfSome};
 ghost use Rattle.vm_allocator.specs.Range.{MAX};
-ghost use Rattle.vm_allocator.specs.BlockEdits.{free_block, HasRoom};
-ghost use Rattle.vm_allocator.specs.Shape.{height_of, node_count};
-ghost use Rattle.vm_allocator.specs.SpaceTree.{Chooses, ChoosesAt, ExactIn};
-ghost use Rattle.vm_allocator.specs.Ways.{way_of_search};
+ghost use Rattle.vm_allocator.specs.Tree.Block.{free_block};
+ghost use Rattle.vm_allocator.specs.Engine.BlockEdits.{HasRoom};
+ghost use Rattle.vm_allocator.specs.Tree.Shape.{height_of, node_count};
+ghost use Rattle.vm_allocator.specs.Tree.SpaceTree.{Chooses, ChoosesAt, ExactIn};
+ghost use Rattle.vm_allocator.specs.Counts.Ways.{way_of_search};
 ghost use Rattle.vm_allocator.specs.declared.constraint.AllocPolicy.TheVariants.{ExactMatch};
 
 use super::IntervalTree;
@@ -26,7 +27,7 @@ pub(crate) struct Choice {
 
 impl IntervalTree {
     /// The range to hold for a request, and the free block that has it, or the refusal.
-    #[tactic(auto, using(crate::proofs::choosing::Searched::choices))]
+    #[tactic(auto, using(crate::proofs::Choosing::Searched::choices))]
     pub(super) fn place_for(&self, constraint: Constraint, count: &mut u64) -> Result<Choice>
         requires { count.old + node_count self.now + height_of self.now ≤ MAX }
         ensures answer { Chooses self.now constraint result }
@@ -51,7 +52,7 @@ impl IntervalTree {
     /// The named start, where it is a place. In this order: `Overflow` for `u64::MAX`,
     /// `ResourceNotAvailable` for a start outside the space, `Overflow` for a range that passes
     /// `u64::MAX`, and then what the block with the start says.
-    #[tactic(auto, using(crate::proofs::choosing::Named::exact_choices, crate::proofs::counts::WayBounds::named_ways))]
+    #[tactic(auto, using(crate::proofs::Choosing::Named::exact_choices, crate::proofs::Counts::WayBounds::named_ways))]
     fn named_place(&self, constraint: Constraint, start: u64, count: &mut u64) -> Result<Choice>
         requires policy { constraint.policy ≡ ExactMatch start }
         requires count_fits { count.old + height_of self.now ≤ MAX }
@@ -100,7 +101,7 @@ fn choice_at(found: Option<Place>, size: u64) -> Result<Choice>
 /// What the block with a start says to a request from there to `last`. A held block of exactly this
 /// range is `InvalidStateTransition`, any other and a free one that is too short
 /// `ResourceNotAvailable`, and a range that ends at `u64::MAX` is `Overflow`.
-#[tactic(auto, using(crate::proofs::choosing::Named::blocks_of_starts))]
+#[tactic(auto, using(crate::proofs::Choosing::Named::blocks_of_starts))]
 fn exact_in(key: RangeInclusive, state: NodeState, start: u64, last: u64) -> Result<Choice>
     requires ordered { start ≤ last }
     requires below { start < MAX }

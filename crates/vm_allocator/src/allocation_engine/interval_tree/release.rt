@@ -3,12 +3,12 @@
 ghost use Rattle.std.specs.Prelude.{◌≡◌, ◌+◌, ◌*◌, ◌≤◌, OnErr, IsSome};
 ghost use Rattle.vm_allocator.specs.Range.{MAX, IsRange};
 ghost use Rattle.vm_allocator.specs.Answer.{Frees};
-ghost use Rattle.vm_allocator.specs.Release.{IsAround, joined, rejoined, without_if, start_with, end_with};
-ghost use Rattle.vm_allocator.specs.Shape.{blocks, height_of};
-ghost use Rattle.vm_allocator.specs.NodeFields.{side};
-ghost use Rattle.vm_allocator.specs.SpaceTree.{tree_state};
-ghost use Rattle.vm_allocator.specs.Steps.{EntersToFree, IsWayBack};
-ghost use Rattle.vm_allocator.specs.Ways.{way_if};
+ghost use Rattle.vm_allocator.specs.Engine.Release.{IsAround, joined, rejoined, without_if, start_with, end_with};
+ghost use Rattle.vm_allocator.specs.Tree.Shape.{blocks, height_of};
+ghost use Rattle.vm_allocator.specs.Engine.NodeFields.{side};
+ghost use Rattle.vm_allocator.specs.Tree.SpaceTree.{tree_state};
+ghost use Rattle.vm_allocator.specs.Counts.Steps.{EntersToFree, IsWayBack};
+ghost use Rattle.vm_allocator.specs.Counts.Ways.{way_if};
 
 use super::IntervalTree;
 use crate::allocation_engine::node::Child;
@@ -20,7 +20,7 @@ use crate::range::RangeInclusive;
 
 impl IntervalTree {
     /// `free`, which adds the nodes that it enters to a count.
-    #[tactic(auto, using(crate::proofs::releasing::Rejoining::releases, crate::proofs::counts::Releasing::ways_back))]
+    #[tactic(auto, using(crate::proofs::Releasing::Rejoining::releases, crate::proofs::Counts::ReleaseWays::ways_back))]
     pub(super) fn release(&mut self, key: &RangeInclusive, count: &mut u64) -> Result<()>
         requires { count.old + 5 * height_of self.old ≤ MAX }
         ensures answer { Frees (tree_state self.old) key.now result (tree_state self.new) }
@@ -36,7 +36,7 @@ impl IntervalTree {
 }
 
 /// Removes the free blocks beside a held one, and gives the held one all their addresses, free again.
-#[tactic(auto, using(crate::proofs::releasing::Rejoining::rejoins, crate::proofs::counts::Releasing::removals))]
+#[tactic(auto, using(crate::proofs::Releasing::Rejoining::rejoins, crate::proofs::Counts::ReleaseWays::removals))]
 fn rejoin(root: &mut Child, key: &RangeInclusive, beside: &Neighbours, count: &mut u64)
     requires around { IsAround (blocks (side root.old)) key.now beside.now }
     requires count_fits { count.old + 3 * height_of (side root.old) ≤ MAX }
@@ -67,7 +67,7 @@ fn joined(key: &RangeInclusive, beside: &Neighbours) -> RangeInclusive
 }
 
 /// Removes the node with a key, if there is such a key.
-#[tactic(auto, using(crate::proofs::counts::WayBounds::removal_bounds))]
+#[tactic(auto, using(crate::proofs::Counts::WayBounds::removal_bounds))]
 fn drop_if(root: &mut Child, key: &Option<RangeInclusive>, count: &mut u64)
     requires { count.old + height_of (side root.old) ≤ MAX }
     ensures blocks { blocks (side root.new) ≡ without_if key.now (blocks (side root.old)) }

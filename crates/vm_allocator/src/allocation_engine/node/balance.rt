@@ -1,9 +1,10 @@
 //! Rotations, and what comes before them. Nothing here calls itself, and nothing takes memory.
 ghost use Rattle.std.specs.Prelude.{◌≡◌, ◌+◌, ◌<◌, ◌≤◌, ◌^◌, ◌++◌, ◌∷◌, max, None, IsSome, ◌↔◌, IsNone};
-ghost use Rattle.vm_allocator.specs.BlockList.{IsOrderedFrom};
-ghost use Rattle.vm_allocator.specs.Shape.{Fork, blocks, height_of, single, root_block, IsTree, DifferByAtMost, IsLeaf, CanBalance, Balances};
-ghost use Rattle.vm_allocator.specs.NodeFields.{side};
-ghost use Rattle.vm_allocator.specs.Settling.{IsSettled, CanFinish, Finishes};
+ghost use Rattle.vm_allocator.specs.Tree.BlockList.{IsOrderedFrom};
+ghost use Rattle.vm_allocator.specs.Tree.Shape.{Fork, blocks, height_of, single, root_block, IsTree, DifferByAtMost};
+ghost use Rattle.vm_allocator.specs.Engine.Changes.{IsLeaf, CanBalance, Balances};
+ghost use Rattle.vm_allocator.specs.Engine.NodeFields.{side};
+ghost use Rattle.vm_allocator.specs.Engine.Settling.{IsSettled, CanFinish, Finishes};
 
 use super::kept::{Change, kept_of, kept_over, renew_room, room_of};
 use super::{Child, InnerNode, height};
@@ -35,7 +36,7 @@ impl Settled {
 
 /// Brings what a node keeps up to date, or takes its children out where they are to be balanced.
 #[inline(always)]
-#[tactic(auto, using(crate::proofs::nodes::Settling::keeping))]
+#[tactic(auto, using(crate::proofs::Nodes::SettledNodes::keeping))]
 pub(super) fn settle(
     left: &mut Child,
     right: &mut Child,
@@ -123,7 +124,7 @@ pub(super) fn fork(left: Child, mut middle: Box<InnerNode>, right: Child) -> Box
 
 /// The rotations where the left side is two levels higher: a single one, or a double one where the
 /// inner grandchild is the higher.
-#[tactic(auto, using(crate::proofs::blocks::Order::rotations))]
+#[tactic(auto, using(crate::proofs::Blocks::BlockOrder::rotations))]
 fn lean_left(mut left: Box<InnerNode>, middle: Box<InnerNode>, right: Child) -> Box<InnerNode>
     requires leaf { IsLeaf middle.value }
     requires ordered { IsOrderedFrom 0 (blocks left.value ++ root_block middle.value ∷ blocks (side right)) }
@@ -164,7 +165,7 @@ fn lean_left(mut left: Box<InnerNode>, middle: Box<InnerNode>, right: Child) -> 
 }
 
 /// The rotations where the right side is two levels higher, the mirror image.
-#[tactic(auto, using(crate::proofs::blocks::Order::rotations))]
+#[tactic(auto, using(crate::proofs::Blocks::BlockOrder::rotations))]
 fn lean_right(left: Child, middle: Box<InnerNode>, mut right: Box<InnerNode>) -> Box<InnerNode>
     requires leaf { IsLeaf middle.value }
     requires ordered { IsOrderedFrom 0 (blocks (side left) ++ root_block middle.value ∷ blocks right.value) }

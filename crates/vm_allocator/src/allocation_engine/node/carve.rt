@@ -1,11 +1,12 @@
 //! A range taken from a free block, in one descent.
 ghost use Rattle.std.specs.Prelude.{◌≡◌, ◌+◌, ◌*◌, ◌<◌, ◌≤◌, IfSome, IsSome};
 ghost use Rattle.vm_allocator.specs.Range.{MAX};
-ghost use Rattle.vm_allocator.specs.BlockList.{insert_all, AreClearOf};
-ghost use Rattle.vm_allocator.specs.Carving.{with_split, AreLeaves, CanCarve};
-ghost use Rattle.vm_allocator.specs.Shape.{MAX_HEIGHT, blocks, height_of, root_block, IsLeaf, Grows};
-ghost use Rattle.vm_allocator.specs.Ways.{way_to_link, way_here, way_to_carve};
-ghost use Rattle.vm_allocator.specs.NodeFields.{side};
+ghost use Rattle.vm_allocator.specs.Tree.BlockList.{insert_all, AreClearOf};
+ghost use Rattle.vm_allocator.specs.Engine.Carving.{with_split, AreLeaves, CanCarve};
+ghost use Rattle.vm_allocator.specs.Tree.Shape.{MAX_HEIGHT, blocks, height_of, root_block};
+ghost use Rattle.vm_allocator.specs.Engine.Changes.{IsLeaf, Grows};
+ghost use Rattle.vm_allocator.specs.Counts.Ways.{way_to_link, way_here, way_to_carve};
+ghost use Rattle.vm_allocator.specs.Engine.NodeFields.{side};
 
 use super::balance::settle;
 use super::kept::{Change, kept_of, renew_room, room_of};
@@ -38,7 +39,7 @@ impl Rest {
 }
 
 /// Links a leaf, if there is one, below a side.
-#[tactic(auto, using(crate::proofs::splitting::Carving::leaves))]
+#[tactic(auto, using(crate::proofs::Splitting::CarvedTrees::leaves))]
 fn link_if(child: &mut Child, leaf: Child, count: &mut u64)
     requires leaf { IfSome leaf (λ n. IsLeaf n.value) }
     requires clear { AreClearOf (blocks (side leaf)) (blocks (side child.old)) }
@@ -68,7 +69,7 @@ pub(crate) struct Cut {
 
 /// Gives the topmost node a range, which is held, and links what is left beside it; says what
 /// changed there.
-#[tactic(auto, using(crate::proofs::splitting::Carving::carvings, crate::proofs::counts::Carving::ways_to_carve, crate::proofs::counts::Carving::link_bounds))]
+#[tactic(auto, using(crate::proofs::Splitting::CarvedTrees::carvings, crate::proofs::Counts::CarvingWays::ways_to_carve, crate::proofs::Counts::CarvingWays::link_bounds))]
 #[inline(never)]
 fn carve_here(at: &mut Child, range: RangeInclusive, rest: Rest, count: &mut u64) -> Change
     requires some { IsSome at.old }
@@ -102,7 +103,7 @@ fn carve_here(at: &mut Child, range: RangeInclusive, rest: Rest, count: &mut u64
 
 /// Gives the node with a key below the node at a place a range, which is held, and links what is
 /// left beside it; says what changed there.
-#[tactic(auto, using(crate::proofs::splitting::Carving::carvings, crate::proofs::counts::Carving::ways_to_carve))]
+#[tactic(auto, using(crate::proofs::Splitting::CarvedTrees::carvings, crate::proofs::Counts::CarvingWays::ways_to_carve))]
 pub(crate) fn carve_at(at: &mut Child, cut: &mut Cut, count: &mut u64) -> Change
     requires leaves { AreLeaves cut.old.rest }
     requires carving { CanCarve (blocks (side at.old)) cut.old.key cut.old.range cut.old.rest }

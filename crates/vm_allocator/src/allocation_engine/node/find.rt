@@ -2,16 +2,16 @@
 ghost use Rattle.std.specs.Prelude.{◌≡◌, ◌+◌, ◌≤◌};
 ghost use Rattle.std.specs.Option.{option_map};
 ghost use Rattle.vm_allocator.specs.Range.{MAX};
-ghost use Rattle.vm_allocator.specs.BlockList.{find_superset};
-ghost use Rattle.vm_allocator.specs.Shape.{blocks, height_of, root_block};
-ghost use Rattle.vm_allocator.specs.Ways.{way_across};
+ghost use Rattle.vm_allocator.specs.Tree.BlockList.{find_superset};
+ghost use Rattle.vm_allocator.specs.Tree.Shape.{blocks, height_of, root_block};
+ghost use Rattle.vm_allocator.specs.Counts.Ways.{way_across};
 
 use super::InnerNode;
 use crate::range::RangeInclusive;
 
 impl InnerNode {
     /// The node whose key contains this one.
-    #[tactic(auto, using(crate::proofs::nodes::Supersets::supersets, crate::proofs::counts::Ways::ways_across))]
+    #[tactic(auto, using(crate::proofs::Nodes::Supersets::supersets, crate::proofs::Counts::WayCases::ways_across))]
     pub(crate) fn search_superset(
         &self,
         key: &RangeInclusive,

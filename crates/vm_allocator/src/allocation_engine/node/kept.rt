@@ -1,10 +1,11 @@
 //! What a node keeps of its tree, brought up to date from its children and its own block.
 ghost use Rattle.std.specs.Prelude.{◌≡◌, ◌+◌, ◌<◌, ◌^◌, max};
-ghost use Rattle.vm_allocator.specs.Block.{free_length};
-ghost use Rattle.vm_allocator.specs.Multiples.{alignment_count, free_alignments};
-ghost use Rattle.vm_allocator.specs.Shape.{height_of, max_free_of, alignments_of, IsTree, IsSameIfNot, KeepsRoom};
-ghost use Rattle.vm_allocator.specs.NodeFields.{side};
-ghost use Rattle.vm_allocator.specs.Settling.{IsKeptOf, IsRoomOver};
+ghost use Rattle.vm_allocator.specs.Tree.Block.{free_length};
+ghost use Rattle.vm_allocator.specs.Tree.Multiples.{alignment_count, free_alignments};
+ghost use Rattle.vm_allocator.specs.Tree.Shape.{height_of, max_free_of, alignments_of, IsTree};
+ghost use Rattle.vm_allocator.specs.Engine.Changes.{IsSameIfNot, KeepsRoom};
+ghost use Rattle.vm_allocator.specs.Engine.NodeFields.{side};
+ghost use Rattle.vm_allocator.specs.Engine.Settling.{IsKeptOf, IsRoomOver};
 
 use super::Child;
 use crate::allocation_engine::NodeState;
@@ -60,7 +61,7 @@ pub(super) fn room_of(key: &RangeInclusive, node_state: NodeState) -> Room
 /// How many of the 64 alignments have a multiple in a range: the greatest is that of the highest bit
 /// in which its last address and the one before its first differ.
 #[inline(always)]
-#[tactic(auto, using(crate::proofs::numbers::Multiples::counts))]
+#[tactic(auto, using(crate::proofs::Numbers::MultiplesBetween::counts))]
 fn alignment_count(key: &RangeInclusive) -> u8
     ensures { result ≡ alignment_count key.now }
 {

@@ -1,17 +1,18 @@
 //! A leaf added to a tree.
 ghost use Rattle.std.specs.Prelude.{◌≡◌, ◌+◌, ◌<◌, ◌≤◌, IsSome};
 ghost use Rattle.vm_allocator.specs.Range.{MAX};
-ghost use Rattle.vm_allocator.specs.BlockList.{IsClearOf, insert_block};
-ghost use Rattle.vm_allocator.specs.Shape.{MAX_HEIGHT, blocks, height_of, root_block, IsLeaf, Grows};
-ghost use Rattle.vm_allocator.specs.Ways.{way_down};
-ghost use Rattle.vm_allocator.specs.NodeFields.{side};
+ghost use Rattle.vm_allocator.specs.Tree.BlockList.{IsClearOf, insert_block};
+ghost use Rattle.vm_allocator.specs.Tree.Shape.{MAX_HEIGHT, blocks, height_of, root_block};
+ghost use Rattle.vm_allocator.specs.Engine.Changes.{IsLeaf, Grows};
+ghost use Rattle.vm_allocator.specs.Counts.Ways.{way_down};
+ghost use Rattle.vm_allocator.specs.Engine.NodeFields.{side};
 
 use super::balance::settle;
 use super::kept::Change;
 use super::{Child, InnerNode};
 
 /// Adds a leaf at a place, below the node there if there is one; says what changed there.
-#[tactic(auto, using(crate::proofs::blocks::Order::links, crate::proofs::nodes::SideChange::places, crate::proofs::counts::Ways::ways_down))]
+#[tactic(auto, using(crate::proofs::Blocks::BlockOrder::links, crate::proofs::Nodes::SideChange::places, crate::proofs::Counts::WayCases::ways_down))]
 pub(super) fn link_at(at: &mut Child, leaf: Box<InnerNode>, count: &mut u64) -> Change
     requires leaf { IsLeaf leaf.value }
     requires clear { IsClearOf (root_block leaf.value).key (blocks (side at.old)) }

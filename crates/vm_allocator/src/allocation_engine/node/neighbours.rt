@@ -1,11 +1,11 @@
 //! The search for a held block and the free ones beside it, in one descent.
 ghost use Rattle.std.specs.Prelude.{◌≡◌, ◌+◌, ◌*◌, ◌≤◌, Option, Some, None};
 ghost use Rattle.vm_allocator.specs.Range.{MAX, Range};
-ghost use Rattle.vm_allocator.specs.Shape.{blocks, height_of, root_block};
-ghost use Rattle.vm_allocator.specs.Ways.{way_to_first, way_to_last, way_around};
-ghost use Rattle.vm_allocator.specs.NodeFields.{side};
-ghost use Rattle.vm_allocator.specs.Beside.{free_key_of, free_keys, if_found};
-ghost use Rattle.vm_allocator.specs.Release.{last_free, first_free, neighbours};
+ghost use Rattle.vm_allocator.specs.Tree.Shape.{blocks, height_of, root_block};
+ghost use Rattle.vm_allocator.specs.Counts.Ways.{way_to_first, way_to_last, way_around};
+ghost use Rattle.vm_allocator.specs.Engine.NodeFields.{side};
+ghost use Rattle.vm_allocator.specs.Engine.Beside.{free_key_of, free_keys, if_found};
+ghost use Rattle.vm_allocator.specs.Engine.Release.{last_free, first_free, neighbours};
 
 use super::{Child, InnerNode};
 use crate::allocation_engine::NodeState;
@@ -40,7 +40,7 @@ fn free_key(node: Option<&InnerNode>) -> Option<RangeInclusive>
 }
 
 /// The node with the last block below a side, and `before` where the side is absent.
-#[tactic(auto, using(crate::proofs::counts::Ways::ways_to_ends))]
+#[tactic(auto, using(crate::proofs::Counts::WayCases::ways_to_ends))]
 fn last_below<'a>(
     child: &'a Child,
     before: Option<&'a InnerNode>,
@@ -57,7 +57,7 @@ fn last_below<'a>(
 }
 
 /// The node with the first block below a side, and `after` where the side is absent.
-#[tactic(auto, using(crate::proofs::counts::Ways::ways_to_ends))]
+#[tactic(auto, using(crate::proofs::Counts::WayCases::ways_to_ends))]
 fn first_below<'a>(
     child: &'a Child,
     after: Option<&'a InnerNode>,
@@ -75,7 +75,7 @@ fn first_below<'a>(
 
 impl InnerNode {
     /// The node with the last block.
-    #[tactic(auto, using(crate::proofs::releasing::Neighbours::ends, crate::proofs::counts::Ways::ways_to_ends))]
+    #[tactic(auto, using(crate::proofs::Releasing::Neighbours::ends, crate::proofs::Counts::WayCases::ways_to_ends))]
     fn last_node(&self, count: &mut u64) -> &InnerNode
         requires { count.old + height_of self.now ≤ MAX }
         ensures value { (d : Option Range) → free_key_of (Some result) ≡ last_free d (blocks self.now) }
@@ -89,7 +89,7 @@ impl InnerNode {
     }
 
     /// The node with the first block.
-    #[tactic(auto, using(crate::proofs::releasing::Neighbours::ends, crate::proofs::counts::Ways::ways_to_ends))]
+    #[tactic(auto, using(crate::proofs::Releasing::Neighbours::ends, crate::proofs::Counts::WayCases::ways_to_ends))]
     fn first_node(&self, count: &mut u64) -> &InnerNode
         requires { count.old + height_of self.now ≤ MAX }
         ensures value { (d : Option Range) → free_key_of (Some result) ≡ first_free (blocks self.now) d }
@@ -104,7 +104,7 @@ impl InnerNode {
 
     /// Whether a held block has this key. `beside` comes with the nodes right before and right after
     /// the whole tree, and has then those beside the block.
-    #[tactic(auto, using(crate::proofs::releasing::Neighbours::searches, crate::proofs::counts::Ways::ways_around, crate::proofs::counts::WayBounds::bounds_around))]
+    #[tactic(auto, using(crate::proofs::Releasing::Neighbours::searches, crate::proofs::Counts::WayCases::ways_around, crate::proofs::Counts::WayBounds::bounds_around))]
     fn find_held<'a>(
         &'a self,
         key: &RangeInclusive,
@@ -135,7 +135,7 @@ impl InnerNode {
     }
 
     /// Whether this node's block is held. `beside` has then the nodes beside it.
-    #[tactic(auto, using(crate::proofs::releasing::Neighbours::searches, crate::proofs::counts::Ways::ways_around, crate::proofs::counts::WayBounds::bounds_around))]
+    #[tactic(auto, using(crate::proofs::Releasing::Neighbours::searches, crate::proofs::Counts::WayCases::ways_around, crate::proofs::Counts::WayBounds::bounds_around))]
     fn look_beside<'a>(&'a self, beside: &mut Beside<'a>, count: &mut u64) -> bool
         requires { count.old + 2 * height_of self.now ≤ MAX + 1 }
         ensures value { if_found result (free_keys beside.new)

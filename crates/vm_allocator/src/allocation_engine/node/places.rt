@@ -2,11 +2,11 @@
 ghost use Rattle.std.specs.Prelude.{◌≡◌, ◌+◌, ◌<◌, ◌≤◌, true, false, None, MatchOption};
 ghost use Rattle.vm_allocator.specs.Range.{MAX};
 ghost use Rattle.vm_allocator.specs.Alignment.{IsAlignment};
-ghost use Rattle.vm_allocator.specs.Fit.{FindsLeastFit, FindsGreatestFit};
-ghost use Rattle.vm_allocator.specs.Place.{FindsFirst, FindsLast};
-ghost use Rattle.vm_allocator.specs.Shape.{blocks, node_count};
-ghost use Rattle.vm_allocator.specs.Ways.{is_searched, way_of_first, way_of_last};
-ghost use Rattle.vm_allocator.specs.NodeFields.{side};
+ghost use Rattle.vm_allocator.specs.Engine.Fit.{FindsLeastFit, FindsGreatestFit};
+ghost use Rattle.vm_allocator.specs.Engine.Place.{FindsFirst, FindsLast};
+ghost use Rattle.vm_allocator.specs.Tree.Shape.{blocks, node_count};
+ghost use Rattle.vm_allocator.specs.Counts.Ways.{is_searched, way_of_first, way_of_last};
+ghost use Rattle.vm_allocator.specs.Engine.NodeFields.{side};
 
 use super::{Child, InnerNode};
 use crate::allocation_engine::{NodeState, align_down, align_up};
@@ -22,7 +22,7 @@ pub(crate) struct Place {
 }
 
 /// The least multiple of the alignment from which a block has room for `size` clear addresses.
-#[tactic(auto, using(crate::proofs::choosing::Fits::least_fits_by_key))]
+#[tactic(auto, using(crate::proofs::Choosing::Fits::least_fits_by_key))]
 fn least_fit(key: &RangeInclusive, state: NodeState, size: u64, alignment: u64) -> Option<u64>
     requires sized { 0 < size }
     requires aligned { IsAlignment alignment }
@@ -43,7 +43,7 @@ fn least_fit(key: &RangeInclusive, state: NodeState, size: u64, alignment: u64) 
 }
 
 /// The greatest multiple of the alignment from which a block has room for `size` clear addresses.
-#[tactic(auto, using(crate::proofs::choosing::Fits::greatest_fits))]
+#[tactic(auto, using(crate::proofs::Choosing::Fits::greatest_fits))]
 fn greatest_fit(key: &RangeInclusive, state: NodeState, size: u64, alignment: u64) -> Option<u64>
     requires sized { 0 < size }
     requires aligned { IsAlignment alignment }
@@ -62,7 +62,7 @@ fn greatest_fit(key: &RangeInclusive, state: NodeState, size: u64, alignment: u6
 /// The tree, if one of its free blocks is long enough for `size` addresses, and a multiple of the
 /// alignment lies in one of them.
 #[inline(always)]
-#[tactic(auto, using(crate::proofs::counts::Entering::searched))]
+#[tactic(auto, using(crate::proofs::Counts::Entering::searched))]
 fn roomy(tree: &Child, size: u64, alignment: u64) -> Option<&InnerNode>
     requires sized { 0 < size }
     requires aligned { IsAlignment alignment }
@@ -80,7 +80,7 @@ fn roomy(tree: &Child, size: u64, alignment: u64) -> Option<&InnerNode>
 }
 
 /// The least place among the blocks of a tree: the first block with a fit, and its least fit.
-#[tactic(auto, using(crate::proofs::counts::Searching::firsts))]
+#[tactic(auto, using(crate::proofs::Counts::Searching::firsts))]
 pub(crate) fn first_place(tree: &Child, size: u64, alignment: u64, count: &mut u64) -> Option<Place>
     requires sized { 0 < size }
     requires aligned { IsAlignment alignment }
@@ -96,7 +96,7 @@ pub(crate) fn first_place(tree: &Child, size: u64, alignment: u64, count: &mut u
 }
 
 /// The greatest place among the blocks of a tree: the last block with a fit, and its greatest fit.
-#[tactic(auto, using(crate::proofs::counts::Searching::lasts))]
+#[tactic(auto, using(crate::proofs::Counts::Searching::lasts))]
 pub(crate) fn last_place(tree: &Child, size: u64, alignment: u64, count: &mut u64) -> Option<Place>
     requires sized { 0 < size }
     requires aligned { IsAlignment alignment }
@@ -113,7 +113,7 @@ pub(crate) fn last_place(tree: &Child, size: u64, alignment: u64, count: &mut u6
 
 impl InnerNode {
     /// Writes the least place from this node on, if there is one.
-    #[tactic(auto, using(crate::proofs::choosing::PlaceSearch::firsts, crate::proofs::counts::Searching::firsts))]
+    #[tactic(auto, using(crate::proofs::Choosing::PlaceSearch::firsts, crate::proofs::Counts::Searching::firsts))]
     fn first_place(&self, size: u64, alignment: u64, found: &mut Option<Place>, count: &mut u64)
         requires sized { 0 < size }
         requires aligned { IsAlignment alignment }
@@ -143,7 +143,7 @@ impl InnerNode {
     }
 
     /// Writes the greatest place from this node on, if there is one.
-    #[tactic(auto, using(crate::proofs::choosing::PlaceSearch::lasts, crate::proofs::counts::Searching::lasts))]
+    #[tactic(auto, using(crate::proofs::Choosing::PlaceSearch::lasts, crate::proofs::Counts::Searching::lasts))]
     fn last_place(&self, size: u64, alignment: u64, found: &mut Option<Place>, count: &mut u64)
         requires sized { 0 < size }
         requires aligned { IsAlignment alignment }

@@ -1,10 +1,11 @@
 //! A block removed from a tree.
 ghost use Rattle.std.specs.Prelude.{◌≡◌, ◌+◌, ◌<◌, ◌≤◌, ◌^◌, ◌++◌, [], ◌∷◌, ◌↔◌, max, true, IsNone, IsSome};
 ghost use Rattle.vm_allocator.specs.Range.{MAX};
-ghost use Rattle.vm_allocator.specs.BlockList.{IsOrderedFrom, replace_block};
-ghost use Rattle.vm_allocator.specs.Shape.{Shape, Tip, Fork, blocks, height_of, root_block, IsLeaf, Joins, Shrinks, DifferByAtMost, LeavesIfAbsent};
-ghost use Rattle.vm_allocator.specs.Ways.{way_to_first, way_to_join, way_to_remove};
-ghost use Rattle.vm_allocator.specs.NodeFields.{side};
+ghost use Rattle.vm_allocator.specs.Tree.BlockList.{IsOrderedFrom, replace_block};
+ghost use Rattle.vm_allocator.specs.Tree.Shape.{Shape, Tip, Fork, blocks, height_of, root_block, DifferByAtMost};
+ghost use Rattle.vm_allocator.specs.Engine.Changes.{IsLeaf, Joins, Shrinks, LeavesIfAbsent};
+ghost use Rattle.vm_allocator.specs.Counts.Ways.{way_to_first, way_to_join, way_to_remove};
+ghost use Rattle.vm_allocator.specs.Engine.NodeFields.{side};
 
 use super::balance::{balance, settle};
 use super::kept::Change;
@@ -14,7 +15,7 @@ use std::cmp::Ordering;
 
 /// Takes the node with the least key out from below the node at a place; says what changed
 /// there.
-#[tactic(auto, using(crate::proofs::blocks::Replacement::leasts, crate::proofs::nodes::SideChange::takes, crate::proofs::counts::Ways::ways_to_first))]
+#[tactic(auto, using(crate::proofs::Blocks::Replacement::leasts, crate::proofs::Nodes::SideChange::takes, crate::proofs::Counts::WayCases::ways_to_first))]
 fn take_least_at(at: &mut Child, count: &mut u64) -> (Box<InnerNode>, Change)
     requires some { IsSome at.old }
     requires count_fits { count.old + height_of (side at.old) ≤ MAX }
@@ -53,7 +54,7 @@ fn take_least_at(at: &mut Child, count: &mut u64) -> (Box<InnerNode>, Change)
 
 /// What is left of a tree without its root, from the root's children: the other child where one is
 /// absent, and else both below the least node of the right one.
-#[tactic(auto, using(crate::proofs::blocks::Replacement::leasts, crate::proofs::nodes::SideChange::takes, crate::proofs::counts::Ways::ways_to_join))]
+#[tactic(auto, using(crate::proofs::Blocks::Replacement::leasts, crate::proofs::Nodes::SideChange::takes, crate::proofs::Counts::WayCases::ways_to_join))]
 pub(super) fn join(left: Child, mut right: Child, count: &mut u64) -> Child
     requires ordered { IsOrderedFrom 0 (blocks (side left) ++ blocks (side right)) }
     requires close { DifferByAtMost 1 (height_of (side left)) (height_of (side right)) }
@@ -76,7 +77,7 @@ pub(super) fn join(left: Child, mut right: Child, count: &mut u64) -> Child
 impl InnerNode {
     /// The tree without its root's key: its child where it has one alone, none where it has none,
     /// and else both children below the least node of the right one. It takes no memory.
-    #[tactic(auto, using(crate::proofs::counts::WayBounds::removal_bounds, crate::proofs::counts::Ways::ways_to_remove))]
+    #[tactic(auto, using(crate::proofs::Counts::WayBounds::removal_bounds, crate::proofs::Counts::WayCases::ways_to_remove))]
     #[inline(never)]
     pub(crate) fn delete_root(tree: Box<InnerNode>, count: &mut u64) -> Option<Box<InnerNode>>
         requires { count.old + height_of tree.value ≤ MAX + 1 }
@@ -96,7 +97,7 @@ impl InnerNode {
 
 /// Removes the node with a key from below the node at a place, if there is one; says what
 /// changed there.
-#[tactic(auto, using(crate::proofs::blocks::Replacement::removals, crate::proofs::blocks::Replacement::leavings, crate::proofs::nodes::SideChange::takes, crate::proofs::counts::Ways::ways_to_remove))]
+#[tactic(auto, using(crate::proofs::Blocks::Replacement::removals, crate::proofs::Blocks::Replacement::leavings, crate::proofs::Nodes::SideChange::takes, crate::proofs::Counts::WayCases::ways_to_remove))]
 pub(crate) fn delete_at(at: &mut Child, key: &RangeInclusive, count: &mut u64) -> Change
     requires { count.old + height_of (side at.old) ≤ MAX }
     ensures blocks { blocks (side at.new) ≡ replace_block key.now [] (blocks (side at.old)) }

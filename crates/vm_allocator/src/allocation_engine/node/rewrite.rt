@@ -1,10 +1,11 @@
 //! A block changed in place.
 ghost use Rattle.std.specs.Prelude.{◌≡◌, ◌+◌, ◌≤◌, IsSome};
 ghost use Rattle.vm_allocator.specs.Range.{MAX};
-ghost use Rattle.vm_allocator.specs.BlockList.{IsOrderedFrom, with_block, find_key};
-ghost use Rattle.vm_allocator.specs.Shape.{blocks, height_of, root_block, KeepsShape};
-ghost use Rattle.vm_allocator.specs.Ways.{way_to};
-ghost use Rattle.vm_allocator.specs.NodeFields.{side};
+ghost use Rattle.vm_allocator.specs.Tree.BlockList.{IsOrderedFrom, with_block, find_key};
+ghost use Rattle.vm_allocator.specs.Tree.Shape.{blocks, height_of, root_block};
+ghost use Rattle.vm_allocator.specs.Engine.Changes.{KeepsShape};
+ghost use Rattle.vm_allocator.specs.Counts.Ways.{way_to};
+ghost use Rattle.vm_allocator.specs.Engine.NodeFields.{side};
 
 use super::kept::{kept_of, refresh_room, room_of};
 use super::{Child, InnerNode};
@@ -15,7 +16,7 @@ use std::cmp::Ordering;
 impl InnerNode {
     /// Gives this node another key, which keeps its place in the order, and another state; says
     /// whether what is kept here changed.
-    #[tactic(auto, using(crate::proofs::nodes::Rewriting::rewritings))]
+    #[tactic(auto, using(crate::proofs::Nodes::Rewriting::rewritings))]
     pub(super) fn rewrite_here(&mut self, key: RangeInclusive, node_state: NodeState) -> bool
         requires { IsOrderedFrom 0 (with_block (root_block self.old).key key node_state (blocks self.old)) }
         ensures blocks { blocks self.new ≡ with_block (root_block self.old).key key node_state (blocks self.old) }
@@ -36,7 +37,7 @@ impl InnerNode {
 
     /// Gives the node with key `at` another key, which keeps its place in the order, and another
     /// state; says whether what is kept here changed. It takes no memory.
-    #[tactic(auto, using(crate::proofs::nodes::Rewriting::rewritings, crate::proofs::counts::Ways::ways_to))]
+    #[tactic(auto, using(crate::proofs::Nodes::Rewriting::rewritings, crate::proofs::Counts::WayCases::ways_to))]
     fn rewrite(
         &mut self,
         at: &RangeInclusive,

@@ -3,11 +3,12 @@
 ghost use Rattle.std.specs.Prelude.{◌≡◌, ◌+◌, ◌*◌, ◌<◌, ◌≤◌, [], ◌↔◌, None, true, IsNone, IfOk, IfErr, OnOk, OnErr};
 ghost use Rattle.std.specs.Option.{option_map};
 ghost use Rattle.vm_allocator.specs.Range.{MAX};
-ghost use Rattle.vm_allocator.specs.BlockList.{IsClearOf, insert_block, replace_block, find_key};
-ghost use Rattle.vm_allocator.specs.Shape.{Shape, MAX_HEIGHT, Tip, Fork, blocks, height_of, root_block, IsTree, IsLeaf, Grows, Shrinks, first_met};
-ghost use Rattle.vm_allocator.specs.Ways.{way_down, way_to, way_across, way_to_remove};
-ghost use Rattle.vm_allocator.specs.NodeFields.{side};
-ghost use Rattle.vm_allocator.specs.NodeAnswer.{Inserts, TellsOverlap, RefusesKey, Marks, MarksBlock};
+ghost use Rattle.vm_allocator.specs.Tree.BlockList.{IsClearOf, insert_block, replace_block, find_key};
+ghost use Rattle.vm_allocator.specs.Tree.Shape.{Shape, MAX_HEIGHT, Tip, Fork, blocks, height_of, root_block, IsTree};
+ghost use Rattle.vm_allocator.specs.Engine.Changes.{IsLeaf, Grows, Shrinks};
+ghost use Rattle.vm_allocator.specs.Engine.NodeAnswer.{first_met, Inserts, TellsOverlap, RefusesKey, Marks, MarksBlock};
+ghost use Rattle.vm_allocator.specs.Counts.Ways.{way_down, way_to, way_across, way_to_remove};
+ghost use Rattle.vm_allocator.specs.Engine.NodeFields.{side};
 
 use super::kept::{Change, kept_of, refresh_room, room_of};
 use super::link::link_at;
@@ -43,7 +44,7 @@ impl InnerNode {
     /// The tree with one more key. A key that overlaps is refused by `Overlap` of it with the first
     /// key met on the way down, and only then may memory run out, `OutOfMemory`. A refusal hands the
     /// same tree back.
-    #[tactic(auto, using(crate::proofs::counts::WayBounds::way_bounds), unfolding(crate::specs::NodeAnswer::TellsOverlap, crate::specs::NodeAnswer::RefusesKey))]
+    #[tactic(auto, using(crate::proofs::Counts::WayBounds::way_bounds), unfolding(crate::specs::NodeAnswer::TellsOverlap, crate::specs::NodeAnswer::RefusesKey))]
     pub(crate) fn insert(
         tree: Box<InnerNode>,
         alloc: Global,
@@ -90,7 +91,7 @@ impl InnerNode {
     }
 
     /// The node with exactly this key.
-    #[tactic(auto, using(crate::proofs::blocks::Replacement::findings, crate::proofs::counts::Ways::ways_to))]
+    #[tactic(auto, using(crate::proofs::Blocks::Replacement::findings, crate::proofs::Counts::WayCases::ways_to))]
     pub(crate) fn search(&self, key: &RangeInclusive, count: &mut u64) -> Option<&InnerNode>
         requires { count.old + height_of self.now ≤ MAX }
         ensures found { find_key key.now (blocks self.now) ≡ option_map (λ n. root_block n.now) result }
@@ -113,7 +114,7 @@ impl InnerNode {
     }
 
     /// The first key that a new one overlaps on the way down.
-    #[tactic(auto, using(crate::proofs::nodes::Meetings::first_meetings, crate::proofs::counts::Ways::ways_across))]
+    #[tactic(auto, using(crate::proofs::Nodes::Meetings::first_meetings, crate::proofs::Counts::WayCases::ways_across))]
     fn first_met(&self, new: &RangeInclusive, count: &mut u64) -> Option<RangeInclusive>
         requires { count.old + height_of self.now ≤ MAX }
         ensures met { result ≡ first_met new.now self.now }
@@ -136,7 +137,7 @@ impl InnerNode {
 
     /// Marks the free block with this key as held. A held one is `InvalidStateTransition` of the key
     /// and `Allocated`, an absent one `ResourceNotAvailable`; both change nothing.
-    #[tactic(auto, using(crate::proofs::nodes::Rewriting::markings, crate::proofs::counts::Ways::ways_to))]
+    #[tactic(auto, using(crate::proofs::Nodes::Rewriting::markings, crate::proofs::Counts::WayCases::ways_to))]
     pub(crate) fn mark_as_allocated(&mut self, key: &RangeInclusive, count: &mut u64) -> Result<()>
         requires { count.old + height_of self.old ≤ MAX }
         ensures marks { Marks (find_key key.now (blocks self.old)) key.now result self.old self.new }
@@ -172,7 +173,7 @@ impl InnerNode {
     }
 
     /// Marks this node's block as held, unless it is.
-    #[tactic(auto, using(crate::proofs::nodes::Rewriting::ordered_marked), unfolding(crate::specs::NodeAnswer::MarksBlock))]
+    #[tactic(auto, using(crate::proofs::Nodes::Rewriting::ordered_marked), unfolding(crate::specs::NodeAnswer::MarksBlock))]
     fn mark_here(&mut self) -> Result<()>
         ensures marks { MarksBlock (root_block self.old).state (root_block self.old).key result self.old self.new }
         ensures height { height_of self.new ≡ height_of self.old }

@@ -1,9 +1,9 @@
 //! Walks over the blocks of a tree, and recursions over nodes, that no counted function calls.
 ghost use Rattle.std.specs.Prelude.{◌≡◌, ◌≤◌, ◌++◌, drop};
 ghost use Rattle.std.specs.Iterator.{YieldsFirst, item_count};
-ghost use Rattle.vm_allocator.specs.Shape.{MAX_HEIGHT, blocks, height_of};
-ghost use Rattle.vm_allocator.specs.NodeFields.{side};
-ghost use Rattle.vm_allocator.specs.Walks.{blocks_ahead, Fits};
+ghost use Rattle.vm_allocator.specs.Tree.Shape.{MAX_HEIGHT, blocks, height_of};
+ghost use Rattle.vm_allocator.specs.Engine.NodeFields.{side};
+ghost use Rattle.vm_allocator.specs.Engine.Walks.{blocks_ahead, Fits};
 
 pub(crate) mod comparing;
 pub(crate) mod copying;
@@ -21,7 +21,7 @@ const MOST: usize = 49;
 
 /// Puts the nodes on the way from the root of a tree to its least block before those from `at` on;
 /// says where the last of them lies.
-#[tactic(auto, using(crate::proofs::walks::Ways::entering))]
+#[tactic(auto, using(crate::proofs::Walking::WalkWays::entering))]
 fn descend<'a>(way: &mut [&'a Child; MOST], mut at: usize, mut tree: &'a Child) -> usize
     requires within { at ≤ MAX_HEIGHT }
     requires height { height_of (side tree.now) ≤ at }
@@ -50,8 +50,8 @@ pub(crate) struct Walk<'a> {
 
 impl<'a> Model for Walk<'a> {
     ghost use Rattle.std.specs.Prelude.{List, drop};
-    ghost use Rattle.vm_allocator.specs.Block.{Block};
-    ghost use Rattle.vm_allocator.specs.Walks.{blocks_ahead, IsWay};
+    ghost use Rattle.vm_allocator.specs.Tree.Block.{Block};
+    ghost use Rattle.vm_allocator.specs.Engine.Walks.{blocks_ahead, IsWay};
 
     ghost Value = { List Block };
 

@@ -2,13 +2,12 @@
 //! trees' room can only rise, so that nothing is left to be done on the way back.
 ghost use Rattle.std.specs.Prelude.{◌≡◌, ◌+◌, ◌≤◌};
 ghost use Rattle.vm_allocator.specs.Range.{MAX};
-ghost use Rattle.vm_allocator.specs.Block.{free_length};
-ghost use Rattle.vm_allocator.specs.BlockEdits.{free_block};
-ghost use Rattle.vm_allocator.specs.Multiples.{free_alignments};
-ghost use Rattle.vm_allocator.specs.Shape.{blocks, height_of};
-ghost use Rattle.vm_allocator.specs.Ways.{way_to};
-ghost use Rattle.vm_allocator.specs.Widening.{CanWiden, Widens};
-ghost use Rattle.vm_allocator.specs.NodeFields.{side};
+ghost use Rattle.vm_allocator.specs.Tree.Block.{free_length, free_block};
+ghost use Rattle.vm_allocator.specs.Tree.Multiples.{free_alignments};
+ghost use Rattle.vm_allocator.specs.Tree.Shape.{blocks, height_of};
+ghost use Rattle.vm_allocator.specs.Counts.Ways.{way_to};
+ghost use Rattle.vm_allocator.specs.Engine.Widening.{CanWiden, Widens};
+ghost use Rattle.vm_allocator.specs.Engine.NodeFields.{side};
 
 use super::kept::{Room, raise_room, room_of};
 use super::{Child, InnerNode};
@@ -18,7 +17,7 @@ use std::cmp::Ordering;
 
 /// Makes the held block of a key free and gives it a range, which keeps its place in the order, below
 /// the node at a place. `room` is what the range has room for once it is free.
-#[tactic(auto, using(crate::proofs::releasing::Widening::widenings, crate::proofs::counts::Ways::ways_to))]
+#[tactic(auto, using(crate::proofs::Releasing::WidenedTrees::widenings, crate::proofs::Counts::WayCases::ways_to))]
 fn widen_at(
     at: &mut Child,
     held: &RangeInclusive,

@@ -5,8 +5,8 @@ ghost use Rattle.std.specs.Map.{keys_of};
 ghost use Rattle.std.specs.Ordering.{nat_cmp};
 ghost use Rattle.serde_json.specs.View.{view, items_view};
 ghost use Rattle.vm_allocator.specs.Saving.{Saves};
-ghost use Rattle.vm_allocator.specs.SavedChecks.{range_found};
-ghost use Rattle.vm_allocator.specs.SavedIdChecks.{id_from};
+ghost use Rattle.vm_allocator.specs.Checks.ValueChecks.{range_found};
+ghost use Rattle.vm_allocator.specs.Checks.IdChecks.{id_from};
 ghost use Rattle.vm_devices.specs.Saved.{StatesDevice, StatesList};
 ghost use Rattle.vm_devices.specs.SavedChecks.{device_found, FindsDevices, DeviceParts};
 

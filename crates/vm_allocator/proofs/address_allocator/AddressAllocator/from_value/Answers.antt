@@ -1,7 +1,7 @@
 use Rattle.std.proofs.Common.{sym, refl}
 use Rattle.serde_json.specs.View.{view}
-use Rattle.vm_allocator.specs.NodeFields.{side}
-use Rattle.vm_allocator.proofs.saving.Allocators.{over, none_stated, no_addresses, root_has, some_stated, some_addresses, built_states, stated_tree, stated_ends, stated_state}
+use Rattle.vm_allocator.specs.Engine.NodeFields.{side}
+use Rattle.vm_allocator.proofs.Reading.ReadAllocators.{over, none_stated, no_addresses, root_has, some_stated, some_addresses, built_states, stated_tree, stated_ends, stated_state}
 use Rattle.vm_allocator.proofs.address_allocator.AddressAllocator.from_value.Goals as goal
 
 pub returns-in_default-clause-answer : goal.returns-in_default-clause-answer

@@ -1,7 +1,7 @@
 use Rattle.std.proofs.Common.{sym}
 use Rattle.serde_json.specs.View.{view}
 use Rattle.vm_allocator.specs.Allocator.{state_of}
-use Rattle.vm_allocator.proofs.repairing.Values.{none_stated, some_stated, can_add, added_stated}
+use Rattle.vm_allocator.proofs.Repairing.RepairedReading.{none_stated, some_stated, can_add, added_stated}
 use Rattle.vm_allocator.proofs.address_allocator.AddressAllocator.from_value_repaired.Goals as goal
 
 pub returns-in_default-clause-answer : goal.returns-in_default-clause-answer

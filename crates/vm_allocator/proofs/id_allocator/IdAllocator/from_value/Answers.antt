@@ -1,6 +1,6 @@
 use Rattle.std.proofs.Common.{sym}
 use Rattle.serde_json.specs.View.{view, items_view}
-use Rattle.vm_allocator.proofs.saving.IdStates.{none_stated, some_stated, built_ids, built_states, stated_state}
+use Rattle.vm_allocator.proofs.Reading.ReadIdStates.{none_stated, some_stated, built_ids, built_states, stated_state}
 use Rattle.vm_allocator.proofs.id_allocator.IdAllocator.from_value.Goals as goal
 
 pub returns-in_default-clause-answer : goal.returns-in_default-clause-answer

@@ -1,4 +1,4 @@
-use Rattle.vm_allocator.proofs.histories.Answers.{first_is_least, last_is_greatest, exact_is_named}
+use Rattle.vm_allocator.proofs.Histories.HistoryAnswers.{first_is_least, last_is_greatest, exact_is_named}
 use Rattle.vm_allocator.proofs.laws.histories.chosen_places_are_given.Goals as goal
 
 pub returns-clause-first : goal.returns-clause-first

@@ -1,4 +1,4 @@
-use Rattle.vm_allocator.proofs.histories.Ends.{clone_is_reached}
+use Rattle.vm_allocator.proofs.Histories.AddressEnds.{clone_is_reached}
 use Rattle.vm_allocator.proofs.laws.histories.clones_are_reached.Goals as goal
 
 pub returns : goal.returns

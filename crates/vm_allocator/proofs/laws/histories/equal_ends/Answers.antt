@@ -1,4 +1,4 @@
-use Rattle.vm_allocator.proofs.histories.Ends.{one_end_is_equal, release_makes_equal, order_makes_equal}
+use Rattle.vm_allocator.proofs.Histories.AddressEnds.{one_end_is_equal, release_makes_equal, order_makes_equal}
 use Rattle.vm_allocator.proofs.laws.histories.equal_ends.Goals as goal
 
 pub returns-clause-any : goal.returns-clause-any

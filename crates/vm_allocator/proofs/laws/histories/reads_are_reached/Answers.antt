@@ -1,4 +1,4 @@
-use Rattle.vm_allocator.proofs.histories.Ends.{read_is_reached, repaired_is_reached}
+use Rattle.vm_allocator.proofs.Histories.AddressEnds.{read_is_reached, repaired_is_reached}
 use Rattle.vm_allocator.proofs.laws.histories.reads_are_reached.Goals as goal
 
 pub returns-clause-read : goal.returns-clause-read

@@ -1,5 +1,5 @@
-use Rattle.vm_allocator.proofs.histories.Histories.{release_undoes}
-use Rattle.vm_allocator.proofs.histories.Releases.{order_is_free}
+use Rattle.vm_allocator.proofs.Histories.AlongHistories.{release_undoes}
+use Rattle.vm_allocator.proofs.Histories.Releases.{order_is_free}
 use Rattle.vm_allocator.proofs.laws.histories.releases_leave_no_trace.Goals as goal
 
 pub returns-clause-undone : goal.returns-clause-undone

@@ -1,4 +1,4 @@
-use Rattle.vm_allocator.proofs.ids.Ends.{read_is_reached}
+use Rattle.vm_allocator.proofs.Ids.IdEnds.{read_is_reached}
 use Rattle.vm_allocator.proofs.laws.id_histories.id_reads_are_reached.Goals as goal
 
 pub returns : goal.returns

@@ -1,4 +1,4 @@
-use Rattle.vm_allocator.proofs.comparing.States.{state_order, layout_order, state_cmp-Equal}
+use Rattle.vm_allocator.proofs.Comparing.StateOrders.{state_order, layout_order, state_cmp-Equal}
 use Rattle.vm_allocator.proofs.laws.orders.orders_are_orders.Goals as goal
 
 pub returns-clause-allocators : goal.returns-clause-allocators

@@ -1,4 +1,4 @@
-use Rattle.vm_allocator.proofs.saving.Again.{one_ids_stated, one_repaired_stated}
+use Rattle.vm_allocator.proofs.Reading.ReadAgain.{one_ids_stated, one_repaired_stated}
 use Rattle.vm_allocator.proofs.laws.saved.values_state_one.Goals as goal
 
 pub returns-clause-id_allocators : goal.returns-clause-id_allocators

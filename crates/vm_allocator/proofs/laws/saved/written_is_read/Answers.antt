@@ -1,4 +1,4 @@
-use Rattle.vm_allocator.proofs.saving.Again.{ids_again}
+use Rattle.vm_allocator.proofs.Reading.ReadAgain.{ids_again}
 use Rattle.vm_allocator.proofs.laws.saved.written_is_read.Goals as goal
 
 pub returns-clause-id_allocators : goal.returns-clause-id_allocators

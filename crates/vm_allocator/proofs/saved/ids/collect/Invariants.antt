@@ -1,7 +1,7 @@
 use Rattle.std.proofs.Common.{◌≡◌, option_map, drop, ◌++◌, IsSome}
 use Rattle.serde_json.specs.View.{items_view}
-use Rattle.vm_allocator.specs.SavedIdChecks.{rising}
-use Rattle.vm_allocator.proofs.saving.Numbers.{AreBelow}
+use Rattle.vm_allocator.specs.Checks.IdChecks.{rising}
+use Rattle.vm_allocator.proofs.Reading.RisingNumbers.{AreBelow}
 use Rattle.vm_allocator.proofs.saved.ids.collect.Given as goal
 
 -- the numbers so far are in the set, and those that are left go on from them

@@ -1,6 +1,6 @@
 use Rattle.std.proofs.Common.{◌≡◌, is_some, drop}
 use Rattle.serde_json.specs.View.{items_view}
-use Rattle.vm_allocator.specs.SavedIdChecks.{rising}
+use Rattle.vm_allocator.specs.Checks.IdChecks.{rising}
 use Rattle.vm_allocator.proofs.saved.ids.rise.Given as goal
 
 -- the items rise as they should if those that are left do

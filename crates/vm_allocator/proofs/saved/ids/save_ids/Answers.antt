@@ -1,7 +1,7 @@
 use Rattle.std.proofs.Common.{ap}
 use Rattle.std.specs.Map.Iter.{deref}
-use Rattle.vm_allocator.specs.SavedFields.{whole_number}
-use Rattle.vm_allocator.proofs.saving.Numbers.{states_more}
+use Rattle.vm_allocator.specs.Values.ValueFields.{whole_number}
+use Rattle.vm_allocator.proofs.Reading.RisingNumbers.{states_more}
 use Rattle.vm_allocator.proofs.saved.ids.save_ids.Goals as goal
 
 pub loop-id-preserved : goal.loop-id-preserved

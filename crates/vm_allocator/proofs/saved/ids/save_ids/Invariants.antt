@@ -1,7 +1,7 @@
 use Rattle.std.proofs.Common.{map}
 use Rattle.std.specs.Map.Iter.{deref}
 use Rattle.serde_json.specs.View.{items_view}
-use Rattle.vm_allocator.specs.SavedIds.{StatesNumbers}
+use Rattle.vm_allocator.specs.Values.IdValues.{StatesNumbers}
 use Rattle.vm_allocator.proofs.saved.ids.save_ids.Given as goal
 
 abbrev pub invariant-loop-id : goal.invariant-loop-id

@@ -2,7 +2,7 @@ use Rattle.std.proofs.Common.{sym, arith}
 use Rattle.std.proofs.lemmas.Result.{on_ok_weaker}
 use Rattle.serde_json.specs.View.{view}
 use Rattle.vm_allocator.specs.Allocator.{state_of}
-use Rattle.vm_allocator.proofs.repairing.Holding.{to_add, none_added, left_can, key_can, right_can, all_added}
+use Rattle.vm_allocator.proofs.Repairing.HeldKeys.{to_add, none_added, left_can, key_can, right_can, all_added}
 use Rattle.vm_allocator.proofs.saved.repaired.+hold_keys.Goals as goal
 
 pub returns-in_default-clause-held : goal.returns-in_default-clause-held

@@ -1,6 +1,6 @@
 use Rattle.std.proofs.Common.{rules, refl}
 use Rattle.vm_allocator.specs.Allocator.{state_of}
-use Rattle.vm_allocator.proofs.repairing.Adding.{held_key}
+use Rattle.vm_allocator.proofs.Repairing.AddedKeys.{held_key}
 use Rattle.vm_allocator.proofs.saved.repaired.hold_key.Goals as goal
 
 pub returns-in-Ok-clause-held : goal.returns-in-Ok-clause-held

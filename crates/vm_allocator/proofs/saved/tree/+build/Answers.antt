@@ -1,8 +1,8 @@
 use Rattle.std.proofs.Common.{sym, arith, subst}
 use Rattle.serde_json.specs.View.{view}
-use Rattle.vm_allocator.specs.NodeFields.{side}
-use Rattle.vm_allocator.specs.SavedTree.{StatesShape}
-use Rattle.vm_allocator.proofs.saving.OneTree.{parts, built, built_none, left_has, right_has}
+use Rattle.vm_allocator.specs.Engine.NodeFields.{side}
+use Rattle.vm_allocator.specs.Values.TreeValues.{StatesShape}
+use Rattle.vm_allocator.proofs.Reading.OneTree.{parts, built, built_none, left_has, right_has}
 use Rattle.vm_allocator.proofs.saved.tree.+build.Goals as goal
 
 pub returns-in_default : goal.returns-in_default

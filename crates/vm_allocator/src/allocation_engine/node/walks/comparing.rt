@@ -1,7 +1,7 @@
 //! How two trees compare, by their blocks and not by their shape.
 ghost use Rattle.std.specs.Prelude.{◌≡◌, ◌≤◌, ◌↔◌, IsTrue};
-ghost use Rattle.vm_allocator.specs.Shape.{MAX_HEIGHT, blocks, height_of};
-ghost use Rattle.vm_allocator.specs.NodeFields.{side};
+ghost use Rattle.vm_allocator.specs.Tree.Shape.{MAX_HEIGHT, blocks, height_of};
+ghost use Rattle.vm_allocator.specs.Engine.NodeFields.{side};
 ghost use Rattle.vm_allocator.specs.Comparison.{blocks_cmp};
 
 use super::Walk;

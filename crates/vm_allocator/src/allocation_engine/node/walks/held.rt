@@ -1,10 +1,10 @@
 //! What is held in a tree: whether a range is, and how many are.
 ghost use Rattle.std.specs.Prelude.{◌≡◌, ◌≤◌, ◌↔◌, IsTrue, Some, length};
-ghost use Rattle.vm_allocator.specs.Blocks.{held_of};
-ghost use Rattle.vm_allocator.specs.BlockList.{find_key};
-ghost use Rattle.vm_allocator.specs.Release.{held_block};
-ghost use Rattle.vm_allocator.specs.Shape.{MAX_HEIGHT, blocks, height_of};
-ghost use Rattle.vm_allocator.specs.NodeFields.{side};
+ghost use Rattle.vm_allocator.specs.Tree.Blocks.{held_of};
+ghost use Rattle.vm_allocator.specs.Tree.BlockList.{find_key};
+ghost use Rattle.vm_allocator.specs.Tree.Block.{held_block};
+ghost use Rattle.vm_allocator.specs.Tree.Shape.{MAX_HEIGHT, blocks, height_of};
+ghost use Rattle.vm_allocator.specs.Engine.NodeFields.{side};
 
 use crate::allocation_engine::NodeState;
 use crate::allocation_engine::node::{Child, InnerNode};
@@ -25,7 +25,7 @@ pub(crate) fn has_held(tree: &Child, key: &RangeInclusive) -> bool
 }
 
 /// How many blocks are held.
-#[tactic(auto, using(crate::proofs::walks::Held::held_numbers))]
+#[tactic(auto, using(crate::proofs::Walking::HeldInTrees::held_numbers))]
 pub(crate) fn count_held(tree: &Child) -> u64
     requires { height_of (side tree.now) ≤ MAX_HEIGHT }
     ensures { result ≡ length (held_of (blocks (side tree.now))) }

@@ -1,8 +1,8 @@
 //! The saved form of trees.
 ghost use Rattle.std.specs.Prelude.{IfOk};
 ghost use Rattle.serde_json.specs.View.{view};
-ghost use Rattle.vm_allocator.specs.SavedTree.{StatesShape};
-ghost use Rattle.vm_allocator.specs.SavedParts.{NodeParts};
+ghost use Rattle.vm_allocator.specs.Values.TreeValues.{StatesShape};
+ghost use Rattle.vm_allocator.specs.Checks.ValueParts.{NodeParts};
 ghost use Rattle.vm_allocator.specs.Saving.{Saves};
 
 use crate::allocation_engine::node::InnerNode;
@@ -11,7 +11,7 @@ use serde_json::{Value, json};
 use std::alloc::{AllocError, Global};
 
 /// The value that has the tree, node for node. `OutOfMemory` where there is no memory for it.
-#[tactic(auto, using(crate::proofs::saving::Writing::nodes))]
+#[tactic(auto, using(crate::proofs::Reading::Writing::nodes))]
 pub(crate) fn save(tree: &InnerNode, alloc: Global) -> Result<Value>
     ensures { Saves (λ d. StatesShape d tree.now) result }
 {

@@ -1,6 +1,6 @@
 //! What tests ask of the shape of a tree.
 ghost use Rattle.std.specs.Prelude.{◌≡◌, ◌↔◌, IsTrue};
-ghost use Rattle.vm_allocator.specs.NodeFields.{side};
+ghost use Rattle.vm_allocator.specs.Engine.NodeFields.{side};
 
 use crate::allocation_engine::node::{Child, InnerNode};
 

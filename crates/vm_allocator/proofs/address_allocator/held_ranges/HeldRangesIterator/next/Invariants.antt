@@ -1,5 +1,5 @@
 use Rattle.std.proofs.Common.{◌≡◌, length}
-use Rattle.vm_allocator.specs.Blocks.{held_of}
+use Rattle.vm_allocator.specs.Tree.Blocks.{held_of}
 use Rattle.vm_allocator.proofs.address_allocator.held_ranges.HeldRangesIterator.next.Given as goal
 
 abbrev pub invariant-loop-block : goal.invariant-loop-block

@@ -1,5 +1,5 @@
-use Rattle.vm_allocator.proofs.choosing.Searched.{is_choice}
-use Rattle.vm_allocator.proofs.counts.Granting.{enters_held, split_low}
+use Rattle.vm_allocator.proofs.Choosing.Searched.{is_choice}
+use Rattle.vm_allocator.proofs.Counts.Granting.{enters_held, split_low}
 use Rattle.vm_allocator.proofs.allocation_engine.interval_tree.IntervalTree.grant.Goals as goal
 
 pub hold-requires-clause-choice : goal.hold-requires-clause-choice

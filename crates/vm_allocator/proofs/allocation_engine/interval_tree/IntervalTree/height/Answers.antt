@@ -1,4 +1,4 @@
-use Rattle.vm_allocator.proofs.counts.Balanced.{balanced_tree}
+use Rattle.vm_allocator.proofs.Counts.Balanced.{balanced_tree}
 use Rattle.vm_allocator.proofs.allocation_engine.interval_tree.IntervalTree.height.Goals as goal
 
 pub returns-clause-balanced : goal.returns-clause-balanced

@@ -1,6 +1,6 @@
 use Rattle.std.proofs.Common.{arith, refl}
-use Rattle.vm_allocator.specs.NodeFields.{side}
-use Rattle.vm_allocator.proofs.splitting.Holding.{cut_of, known, can_carve, whole_carved, rest_carved, space_taken, taken_in}
+use Rattle.vm_allocator.specs.Engine.NodeFields.{side}
+use Rattle.vm_allocator.proofs.Splitting.SplitStates.{cut_of, known, can_carve, whole_carved, rest_carved, space_taken, taken_in}
 use Rattle.vm_allocator.proofs.allocation_engine.interval_tree.IntervalTree.hold.Goals as goal
 
 pub rewrite_at-requires-clause-known : goal.rewrite_at-requires-clause-known

@@ -1,6 +1,6 @@
 use Rattle.std.proofs.Common.{arith}
-use Rattle.vm_allocator.specs.Shape.{root_block}
-use Rattle.vm_allocator.proofs.choosing.Named.{outside, over}
+use Rattle.vm_allocator.specs.Tree.Shape.{root_block}
+use Rattle.vm_allocator.proofs.Choosing.Named.{outside, over}
 use Rattle.vm_allocator.proofs.allocation_engine.interval_tree.IntervalTree.named_place.Goals as goal
 
 pub returns-in_default-clause-answer : goal.returns-in_default-clause-answer

@@ -1,8 +1,8 @@
 use Rattle.std.proofs.Common.{sym}
-use Rattle.vm_allocator.specs.NodeFields.{side}
-use Rattle.vm_allocator.proofs.releasing.Finding.{slot_found}
-use Rattle.vm_allocator.proofs.releasing.Apart.{slot_given}
-use Rattle.vm_allocator.proofs.releasing.Rejoining.{space_given, frees_slot}
+use Rattle.vm_allocator.specs.Engine.NodeFields.{side}
+use Rattle.vm_allocator.proofs.Releasing.Finding.{slot_found}
+use Rattle.vm_allocator.proofs.Releasing.Apart.{slot_given}
+use Rattle.vm_allocator.proofs.Releasing.Rejoining.{space_given, frees_slot}
 use Rattle.vm_allocator.proofs.allocation_engine.interval_tree.IntervalTree.release.Goals as goal
 
 pub rejoin-requires-clause-around : goal.rejoin-requires-clause-around

@@ -1,6 +1,6 @@
 use Rattle.std.proofs.Common.{◌∙◌, ap}
-use Rattle.vm_allocator.specs.Release.{without_if}
-use Rattle.vm_allocator.proofs.releasing.Rejoining.{slot_held}
+use Rattle.vm_allocator.specs.Engine.Release.{without_if}
+use Rattle.vm_allocator.proofs.Releasing.Rejoining.{slot_held}
 use Rattle.vm_allocator.proofs.allocation_engine.interval_tree.release.rejoin.Goals as goal
 
 pub widen-requires-clause-can : goal.widen-requires-clause-can

@@ -1,7 +1,7 @@
 use Rattle.std.proofs.Common.{refl}
-use Rattle.vm_allocator.specs.Beside.{free_key_of}
-use Rattle.vm_allocator.specs.NodeFields.{side, shape_of}
-use Rattle.vm_allocator.proofs.releasing.Neighbours.{neighbours_in_left, neighbours_in_right}
+use Rattle.vm_allocator.specs.Engine.Beside.{free_key_of}
+use Rattle.vm_allocator.specs.Engine.NodeFields.{side, shape_of}
+use Rattle.vm_allocator.proofs.Releasing.Neighbours.{neighbours_in_left, neighbours_in_right}
 use Rattle.vm_allocator.proofs.allocation_engine.node.InnerNode.+find_held.Goals as goal
 
 pub returns-in_default-clause-value : goal.returns-in_default-clause-value

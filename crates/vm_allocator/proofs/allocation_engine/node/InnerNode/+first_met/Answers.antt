@@ -1,8 +1,8 @@
 use Rattle.std.proofs.Common.{refl, sym, None}
-use Rattle.vm_allocator.specs.Shape.{blocks}
-use Rattle.vm_allocator.specs.NodeAnswer.{TellsOverlap}
-use Rattle.vm_allocator.specs.NodeFields.{side, shape_of}
-use Rattle.vm_allocator.proofs.nodes.Meetings.{met_in_left, met_in_right, met_here, overlap_by_left, overlap_by_right, overlaps_none}
+use Rattle.vm_allocator.specs.Tree.Shape.{blocks}
+use Rattle.vm_allocator.specs.Engine.NodeAnswer.{TellsOverlap}
+use Rattle.vm_allocator.specs.Engine.NodeFields.{side, shape_of}
+use Rattle.vm_allocator.proofs.Nodes.Meetings.{met_in_left, met_in_right, met_here, overlap_by_left, overlap_by_right, overlaps_none}
 use Rattle.vm_allocator.proofs.allocation_engine.node.InnerNode.+first_met.Goals as goal
 
 pub returns-in_default-clause-met : goal.returns-in_default-clause-met

@@ -1,6 +1,6 @@
 use Rattle.std.proofs.Common.{refl}
-use Rattle.vm_allocator.specs.NodeFields.{side, shape_of}
-use Rattle.vm_allocator.proofs.releasing.Neighbours.{first_in_left}
+use Rattle.vm_allocator.specs.Engine.NodeFields.{side, shape_of}
+use Rattle.vm_allocator.proofs.Releasing.Neighbours.{first_in_left}
 use Rattle.vm_allocator.proofs.allocation_engine.node.InnerNode.+first_node.Goals as goal
 
 pub returns-in-Some-clause-value : goal.returns-in-Some-clause-value

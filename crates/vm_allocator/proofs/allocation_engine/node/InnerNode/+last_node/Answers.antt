@@ -1,6 +1,6 @@
 use Rattle.std.proofs.Common.{refl}
-use Rattle.vm_allocator.specs.NodeFields.{side, shape_of}
-use Rattle.vm_allocator.proofs.releasing.Neighbours.{last_in_right}
+use Rattle.vm_allocator.specs.Engine.NodeFields.{side, shape_of}
+use Rattle.vm_allocator.proofs.Releasing.Neighbours.{last_in_right}
 use Rattle.vm_allocator.proofs.allocation_engine.node.InnerNode.+last_node.Goals as goal
 
 pub returns-in-None-clause-value : goal.returns-in-None-clause-value

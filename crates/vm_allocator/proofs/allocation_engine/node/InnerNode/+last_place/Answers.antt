@@ -1,10 +1,10 @@
 use Rattle.std.proofs.Common.{sym}
 use Rattle.std.specs.List.{All}
-use Rattle.vm_allocator.specs.Fit.{HasNoFit}
-use Rattle.vm_allocator.specs.Shape.{blocks}
-use Rattle.vm_allocator.specs.NodeFields.{side}
-use Rattle.vm_allocator.proofs.choosing.PlaceSearch.{nothing_found, still_nothing, none_of, last_here, last_through_left}
-use Rattle.vm_allocator.proofs.counts.Entering.{none_unless_searched}
+use Rattle.vm_allocator.specs.Engine.Fit.{HasNoFit}
+use Rattle.vm_allocator.specs.Tree.Shape.{blocks}
+use Rattle.vm_allocator.specs.Engine.NodeFields.{side}
+use Rattle.vm_allocator.proofs.Choosing.PlaceSearch.{nothing_found, still_nothing, none_of, last_here, last_through_left}
+use Rattle.vm_allocator.proofs.Counts.Entering.{none_unless_searched}
 use Rattle.vm_allocator.proofs.allocation_engine.node.InnerNode.+last_place.Goals.{in-Some, in_default}
 use Rattle.vm_allocator.proofs.allocation_engine.node.InnerNode.+last_place.Goals as goal
 

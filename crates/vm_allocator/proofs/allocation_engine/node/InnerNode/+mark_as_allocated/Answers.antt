@@ -1,6 +1,6 @@
 use Rattle.std.proofs.Common.{refl, ap}
-use Rattle.vm_allocator.specs.NodeFields.{side, shape_of}
-use Rattle.vm_allocator.proofs.nodes.Rewriting.{marks_none_left, marks_none_right}
+use Rattle.vm_allocator.specs.Engine.NodeFields.{side, shape_of}
+use Rattle.vm_allocator.proofs.Nodes.Rewriting.{marks_none_left, marks_none_right}
 use Rattle.vm_allocator.proofs.allocation_engine.node.InnerNode.+mark_as_allocated.Goals as goal
 
 pub returns-in_default-clause-marks : goal.returns-in_default-clause-marks

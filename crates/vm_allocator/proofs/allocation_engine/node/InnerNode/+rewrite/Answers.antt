@@ -1,10 +1,10 @@
 use Rattle.std.proofs.Common.{◌≡◌, refl, sym, rules, arith, None, IsSome, [], ◌∷◌}
-use Rattle.vm_allocator.specs.Block.{Block}
-use Rattle.vm_allocator.specs.BlockList.{IsOrderedFrom, find_key, replace_block}
-use Rattle.vm_allocator.specs.Shape.{blocks, IsTree}
-use Rattle.vm_allocator.specs.NodeFields.{side, shape_of}
-use Rattle.vm_allocator.proofs.blocks.Replacement.{find_in_left, find_in_right}
-use Rattle.vm_allocator.proofs.nodes.Rewriting.{known_left, known_right, rewritten_left, rewritten_right}
+use Rattle.vm_allocator.specs.Tree.Block.{Block}
+use Rattle.vm_allocator.specs.Tree.BlockList.{IsOrderedFrom, find_key, replace_block}
+use Rattle.vm_allocator.specs.Tree.Shape.{blocks, IsTree}
+use Rattle.vm_allocator.specs.Engine.NodeFields.{side, shape_of}
+use Rattle.vm_allocator.proofs.Blocks.Replacement.{find_in_left, find_in_right}
+use Rattle.vm_allocator.proofs.Nodes.Rewriting.{known_left, known_right, rewritten_left, rewritten_right}
 use Rattle.vm_allocator.proofs.allocation_engine.node.InnerNode.+rewrite.Goals as goal
 
 pub unreachable-requires : goal.unreachable-requires

@@ -1,8 +1,8 @@
 use Rattle.std.proofs.Common.{◌≡◌, refl}
-use Rattle.vm_allocator.specs.BlockList.{find_key}
-use Rattle.vm_allocator.specs.Shape.{blocks}
-use Rattle.vm_allocator.specs.NodeFields.{side, shape_of}
-use Rattle.vm_allocator.proofs.blocks.Replacement.{find_in_left, find_in_right}
+use Rattle.vm_allocator.specs.Tree.BlockList.{find_key}
+use Rattle.vm_allocator.specs.Tree.Shape.{blocks}
+use Rattle.vm_allocator.specs.Engine.NodeFields.{side, shape_of}
+use Rattle.vm_allocator.proofs.Blocks.Replacement.{find_in_left, find_in_right}
 use Rattle.vm_allocator.proofs.allocation_engine.node.InnerNode.+search.Goals as goal
 
 pub returns-in_default-clause-found : goal.returns-in_default-clause-found

@@ -1,9 +1,9 @@
 use Rattle.std.proofs.Common.{◌≡◌, refl, rules}
 use Rattle.vm_allocator.specs.Range.{Covers}
-use Rattle.vm_allocator.specs.BlockList.{find_superset}
-use Rattle.vm_allocator.specs.Shape.{blocks}
-use Rattle.vm_allocator.specs.NodeFields.{side, shape_of}
-use Rattle.vm_allocator.proofs.nodes.Supersets.{superset_in_left, superset_in_right, superset_here, superset_nowhere}
+use Rattle.vm_allocator.specs.Tree.BlockList.{find_superset}
+use Rattle.vm_allocator.specs.Tree.Shape.{blocks}
+use Rattle.vm_allocator.specs.Engine.NodeFields.{side, shape_of}
+use Rattle.vm_allocator.proofs.Nodes.Supersets.{superset_in_left, superset_in_right, superset_here, superset_nowhere}
 use Rattle.vm_allocator.proofs.allocation_engine.node.InnerNode.+search_superset.Goals as goal
 
 pub returns-in_default-clause-found : goal.returns-in_default-clause-found

@@ -1,6 +1,6 @@
 use Rattle.std.proofs.Common.{◌≡◌, refl, sym, ◌∙◌}
-use Rattle.vm_allocator.specs.NodeFields.{side, shape_of}
-use Rattle.vm_allocator.proofs.blocks.Replacement.{ordered_without, remove_in_middle}
+use Rattle.vm_allocator.specs.Engine.NodeFields.{side, shape_of}
+use Rattle.vm_allocator.proofs.Blocks.Replacement.{ordered_without, remove_in_middle}
 use Rattle.vm_allocator.proofs.allocation_engine.node.InnerNode.delete_root.Goals as goal
 
 pub join-joined-requires-clause-ordered : goal.join-joined-requires-clause-ordered

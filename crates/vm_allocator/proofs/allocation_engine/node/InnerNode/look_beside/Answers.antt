@@ -1,7 +1,7 @@
 use Rattle.std.proofs.Common.{refl}
-use Rattle.vm_allocator.specs.Beside.{free_key_of}
-use Rattle.vm_allocator.specs.NodeFields.{side, shape_of}
-use Rattle.vm_allocator.proofs.releasing.Neighbours.{neighbours_in_middle}
+use Rattle.vm_allocator.specs.Engine.Beside.{free_key_of}
+use Rattle.vm_allocator.specs.Engine.NodeFields.{side, shape_of}
+use Rattle.vm_allocator.proofs.Releasing.Neighbours.{neighbours_in_middle}
 use Rattle.vm_allocator.proofs.allocation_engine.node.InnerNode.look_beside.Goals as goal
 
 pub returns-in-Free-clause-value : goal.returns-in-Free-clause-value

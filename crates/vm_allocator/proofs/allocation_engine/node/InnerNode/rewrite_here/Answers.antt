@@ -1,6 +1,6 @@
 use Rattle.std.proofs.Common.{refl, sym}
-use Rattle.vm_allocator.specs.NodeFields.{side, shape_of}
-use Rattle.vm_allocator.proofs.nodes.Rewriting.{rewrite_here}
+use Rattle.vm_allocator.specs.Engine.NodeFields.{side, shape_of}
+use Rattle.vm_allocator.proofs.Nodes.Rewriting.{rewrite_here}
 use Rattle.vm_allocator.proofs.allocation_engine.node.InnerNode.rewrite_here.Goals as goal
 
 pub returns-clause-blocks : goal.returns-clause-blocks

@@ -1,7 +1,7 @@
 use Rattle.std.proofs.Common.{sym}
-use Rattle.vm_allocator.specs.NodeFields.{side}
-use Rattle.vm_allocator.specs.Shape.{blocks, root_block}
-use Rattle.vm_allocator.proofs.blocks.Order.{ordered_right_sides}
+use Rattle.vm_allocator.specs.Engine.NodeFields.{side}
+use Rattle.vm_allocator.specs.Tree.Shape.{blocks, root_block}
+use Rattle.vm_allocator.proofs.Blocks.BlockOrder.{ordered_right_sides}
 use Rattle.vm_allocator.proofs.allocation_engine.node.balance.lean_right.Goals as goal
 
 pub fork-requires-2-clause-ordered : goal.fork-requires-2-clause-ordered

@@ -1,11 +1,11 @@
 use Rattle.std.proofs.Common.{arith, refl, ◌≡◌, rules}
 use Rattle.std.proofs.lemmas.Grind.{common_steps}
-use Rattle.vm_allocator.proofs.nodes.Settling.{finished}
-use Rattle.vm_allocator.proofs.splitting.Carving.{carvings}
-use Rattle.vm_allocator.proofs.counts.Carving.{ways_to_carve}
-use Rattle.vm_allocator.specs.Shape.{IsTree}
-use Rattle.vm_allocator.specs.NodeFields.{side, shape_of}
-use Rattle.vm_allocator.proofs.nodes.Rewriting.{known_left, known_right, rewritten_left, rewritten_right}
+use Rattle.vm_allocator.proofs.Nodes.SettledNodes.{finished}
+use Rattle.vm_allocator.proofs.Splitting.CarvedTrees.{carvings}
+use Rattle.vm_allocator.proofs.Counts.CarvingWays.{ways_to_carve}
+use Rattle.vm_allocator.specs.Tree.Shape.{IsTree}
+use Rattle.vm_allocator.specs.Engine.NodeFields.{side, shape_of}
+use Rattle.vm_allocator.proofs.Nodes.Rewriting.{known_left, known_right, rewritten_left, rewritten_right}
 use Rattle.vm_allocator.proofs.allocation_engine.node.carve.+carve_at.Goals as goal
 
 pub carve_at-change-requires : goal.carve_at-change-requires

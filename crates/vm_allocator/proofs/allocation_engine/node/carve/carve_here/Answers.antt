@@ -1,13 +1,13 @@
 use Rattle.std.proofs.Common.{arith, refl, ◌≡◌}
 use Rattle.std.proofs.lemmas.Grind.{common_steps}
-use Rattle.vm_allocator.proofs.nodes.Settling.{finished}
-use Rattle.vm_allocator.proofs.splitting.Carving.{carvings}
-use Rattle.vm_allocator.proofs.counts.Carving.{ways_to_carve, link_bounds}
+use Rattle.vm_allocator.proofs.Nodes.SettledNodes.{finished}
+use Rattle.vm_allocator.proofs.Splitting.CarvedTrees.{carvings}
+use Rattle.vm_allocator.proofs.Counts.CarvingWays.{ways_to_carve, link_bounds}
 use Rattle.vm_allocator.specs.declared.allocation_engine.NodeState.TheVariants.{Allocated}
-use Rattle.vm_allocator.specs.Shape.{blocks}
-use Rattle.vm_allocator.specs.Release.{held_block}
-use Rattle.vm_allocator.specs.NodeFields.{side, shape_of}
-use Rattle.vm_allocator.proofs.splitting.Carving.{before_clear, after_clear}
+use Rattle.vm_allocator.specs.Tree.Shape.{blocks}
+use Rattle.vm_allocator.specs.Tree.Block.{held_block}
+use Rattle.vm_allocator.specs.Engine.NodeFields.{side, shape_of}
+use Rattle.vm_allocator.proofs.Splitting.CarvedTrees.{before_clear, after_clear}
 use Rattle.vm_allocator.proofs.allocation_engine.node.carve.carve_here.Goals as goal
 
 pub link_if-requires-clause-clear : goal.link_if-requires-clause-clear

@@ -1,9 +1,9 @@
 use Rattle.std.proofs.Common.{arith, refl}
 use Rattle.std.proofs.lemmas.Grind.{common_steps}
-use Rattle.vm_allocator.proofs.blocks.Order.{links}
-use Rattle.vm_allocator.proofs.nodes.SideChange.{places}
-use Rattle.vm_allocator.proofs.counts.Ways.{ways_down}
-use Rattle.vm_allocator.proofs.nodes.Settling.{finished}
+use Rattle.vm_allocator.proofs.Blocks.BlockOrder.{links}
+use Rattle.vm_allocator.proofs.Nodes.SideChange.{places}
+use Rattle.vm_allocator.proofs.Counts.WayCases.{ways_down}
+use Rattle.vm_allocator.proofs.Nodes.SettledNodes.{finished}
 use Rattle.vm_allocator.proofs.allocation_engine.node.link.+link_at.Goals as goal
 
 pub returns : goal.returns

@@ -1,10 +1,10 @@
 use Rattle.std.proofs.Common.{◌≡◌, ◌∙◌, arith, refl}
 use Rattle.std.proofs.lemmas.Grind.{common_steps}
-use Rattle.vm_allocator.specs.NodeFields.{side, shape_of}
-use Rattle.vm_allocator.specs.Shape.{IsTree}
-use Rattle.vm_allocator.proofs.blocks.Replacement.{changes_in_left, changes_in_right, removals}
-use Rattle.vm_allocator.proofs.nodes.SideChange.{takes}
-use Rattle.vm_allocator.proofs.nodes.Settling.{finished}
+use Rattle.vm_allocator.specs.Engine.NodeFields.{side, shape_of}
+use Rattle.vm_allocator.specs.Tree.Shape.{IsTree}
+use Rattle.vm_allocator.proofs.Blocks.Replacement.{changes_in_left, changes_in_right, removals}
+use Rattle.vm_allocator.proofs.Nodes.SideChange.{takes}
+use Rattle.vm_allocator.proofs.Nodes.SettledNodes.{finished}
 use Rattle.vm_allocator.proofs.allocation_engine.node.remove.+delete_at.Goals as goal
 use Rattle.vm_allocator.proofs.allocation_engine.node.remove.+delete_at.Goals.{in-Greater, in-Less}
 

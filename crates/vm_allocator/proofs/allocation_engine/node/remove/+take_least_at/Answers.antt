@@ -1,9 +1,9 @@
 use Rattle.std.proofs.Common.{arith, refl}
 use Rattle.std.proofs.lemmas.Grind.{common_steps}
-use Rattle.vm_allocator.proofs.nodes.Settling.{finished}
-use Rattle.vm_allocator.proofs.blocks.Replacement.{leasts}
-use Rattle.vm_allocator.proofs.nodes.SideChange.{takes}
-use Rattle.vm_allocator.proofs.counts.Ways.{ways_to_first}
+use Rattle.vm_allocator.proofs.Nodes.SettledNodes.{finished}
+use Rattle.vm_allocator.proofs.Blocks.Replacement.{leasts}
+use Rattle.vm_allocator.proofs.Nodes.SideChange.{takes}
+use Rattle.vm_allocator.proofs.Counts.WayCases.{ways_to_first}
 use Rattle.vm_allocator.proofs.allocation_engine.node.remove.+take_least_at.Goals as goal
 
 pub returns : goal.returns

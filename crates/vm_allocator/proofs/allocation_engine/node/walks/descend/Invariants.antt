@@ -1,7 +1,7 @@
 use Rattle.std.proofs.Common.{◌≡◌, ◌≤◌, ◌++◌, drop}
-use Rattle.vm_allocator.specs.Shape.{MAX_HEIGHT, blocks, height_of}
-use Rattle.vm_allocator.specs.NodeFields.{side}
-use Rattle.vm_allocator.specs.Walks.{blocks_ahead, Fits}
+use Rattle.vm_allocator.specs.Tree.Shape.{MAX_HEIGHT, blocks, height_of}
+use Rattle.vm_allocator.specs.Engine.NodeFields.{side}
+use Rattle.vm_allocator.specs.Engine.Walks.{blocks_ahead, Fits}
 use Rattle.vm_allocator.proofs.allocation_engine.node.walks.descend.Given as goal
 
 abbrev pub invariant-loop-tree : goal.invariant-loop-tree

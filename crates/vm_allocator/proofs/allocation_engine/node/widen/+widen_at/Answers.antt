@@ -1,7 +1,7 @@
 use Rattle.std.proofs.Common.{◌≡◌, rules, arith}
-use Rattle.vm_allocator.specs.Shape.{IsTree}
-use Rattle.vm_allocator.specs.NodeFields.{side, shape_of}
-use Rattle.vm_allocator.proofs.releasing.Widening.{can_widen_left, can_widen_right, widened_left, widened_right}
+use Rattle.vm_allocator.specs.Tree.Shape.{IsTree}
+use Rattle.vm_allocator.specs.Engine.NodeFields.{side, shape_of}
+use Rattle.vm_allocator.proofs.Releasing.WidenedTrees.{can_widen_left, can_widen_right, widened_left, widened_right}
 use Rattle.vm_allocator.proofs.allocation_engine.node.widen.+widen_at.Goals as goal
 
 pub widen_at-requires : goal.widen_at-requires

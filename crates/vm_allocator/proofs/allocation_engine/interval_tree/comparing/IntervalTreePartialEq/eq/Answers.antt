@@ -1,4 +1,4 @@
-use Rattle.vm_allocator.proofs.comparing.States.{tested_state, tested_by_layout}
+use Rattle.vm_allocator.proofs.Comparing.StateOrders.{tested_state, tested_by_layout}
 use Rattle.vm_allocator.proofs.allocation_engine.interval_tree.comparing.IntervalTreePartialEq.eq.Goals as goal
 
 pub returns-clause-equal : goal.returns-clause-equal

@@ -1,11 +1,11 @@
 use Rattle.std.proofs.Common.{◌≡◌, ◌↔◌, IsTrue, Some, refl, rules}
-use Rattle.vm_allocator.specs.Block.{Block}
-use Rattle.vm_allocator.specs.BlockList.{find_key}
-use Rattle.vm_allocator.specs.Shape.{blocks}
-use Rattle.vm_allocator.specs.NodeFields.{side, shape_of}
+use Rattle.vm_allocator.specs.Tree.Block.{Block}
+use Rattle.vm_allocator.specs.Tree.BlockList.{find_key}
+use Rattle.vm_allocator.specs.Tree.Shape.{blocks}
+use Rattle.vm_allocator.specs.Engine.NodeFields.{side, shape_of}
 use Rattle.vm_allocator.specs.declared.allocation_engine.NodeState.TheVariants.{Allocated}
-use Rattle.vm_allocator.proofs.blocks.Replacement.{find_in_left, find_in_right, find_in_middle}
-use Rattle.vm_allocator.proofs.walks.Held.{held_here}
+use Rattle.vm_allocator.proofs.Blocks.Replacement.{find_in_left, find_in_right, find_in_middle}
+use Rattle.vm_allocator.proofs.Walking.HeldInTrees.{held_here}
 use Rattle.vm_allocator.proofs.allocation_engine.node.walks.held.+has_held.Goals as goal
 
 pub returns-in-Less : goal.returns-in-Less

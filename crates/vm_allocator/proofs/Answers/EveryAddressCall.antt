@@ -1,0 +1,167 @@
+-- Every call has an answer, and so every list of calls a history.
+use Rattle.std.proofs.Common.{◌≡◌, ◌≢◌, ℕ, ◌+◌, ◌-◌, ◌<◌, ◌⊎◌, List, [], ◌∷◌, refl, ap, arith, inl, inr, ⊎_elim, Result, Ok, Err}
+use Rattle.std.proofs.lemmas.Bool.{cases_eq}
+use Rattle.std.specs.List.{Contains}
+use Rattle.vm_allocator.specs.Cases.{IfElse, Unless}
+use Rattle.vm_allocator.specs.Range.{Range, MAX, span}
+use Rattle.vm_allocator.specs.Address.{AddressState, AreClear, IsPlace, IsLeastPlace, IsGreatestPlace, holding, releasing}
+use Rattle.vm_allocator.specs.Request.{Request, request_for, IsStartAligned, ByConstraint}
+use Rattle.vm_allocator.specs.Answer.{IsChosen, ByStart, ByExactStart, ByPlace, Takes, Settles, Allocates, Frees, Makes}
+use Rattle.vm_allocator.specs.Cloning.{Clones}
+use Rattle.vm_allocator.specs.Histories.AddressHistories.{Allocation, Release, Cloning, Asked, Allocate, Free, Clone, RunsOutOfMemory}
+use Rattle.vm_allocator.specs.Laws.HistoryLaws.{EveryCallIsAnswered, EveryListHasHistory}
+use Rattle.vm_allocator.specs.declared.error.Error.{Error}
+use Rattle.vm_allocator.specs.declared.error.Error.TheVariants.{OutOfMemory, Overflow, ResourceNotAvailable, Underflow, InvalidStateTransition, InvalidSize, InvalidAlignment, UnalignedAddress}
+use Rattle.vm_allocator.specs.declared.allocation_engine.NodeState.TheVariants.{Allocated}
+use Rattle.vm_allocator.specs.declared.constraint.AllocPolicy.{AllocPolicy}
+use Rattle.vm_allocator.specs.declared.constraint.AllocPolicy.TheVariants.{FirstMatch, LastMatch, ExactMatch}
+use Rattle.std.proofs.lemmas.List.Elements.{All-nil, All-cons}
+use Rattle.vm_allocator.proofs.Numbers.Decisions.{Decided, decided_below, decided_all_clear, decided_place, decided_inside, decided_held, decided_alignment, decided_start, least_or_none, greatest_or_none}
+
+-- ---- an answer by the tests of a relation
+-- some answer and next state, not out of memory, fit the relation
+abbrev IsTotal : (Result Range Error → AddressState → Type 0) → Type 0
+IsTotal relation = (answer : Result Range Error) × (new : AddressState) × relation answer new × (answer ≢ Err OutOfMemory)
+
+abbrev Refuses : AddressState → Error → Result Range Error → AddressState → Type 0
+Refuses old e answer new = (answer ≡ Err e) × (new ≡ old)
+
+-- a refusal for another reason
+refusal : (old : AddressState) (e : Error) → e ≢ OutOfMemory → IsTotal (Refuses old e)
+refusal old e other = (Err e, old, (refl, refl), λ h. other (cc h))
+
+total_if : (old : AddressState) (C : Type 0) (P Q : Result Range Error → AddressState → Type 0) → Decided C → IsTotal P → (¬ C → IsTotal Q) → IsTotal (λ answer new. IfElse C (P answer new) (Q answer new))
+total_if old C P Q (inl y) p q = (p.0, p.1, inl (y, p.2), p.3)
+total_if old C P Q (inr n) p q = let k = q n in (k.0, k.1, inr (n, k.2), k.3)
+
+total_unless : (old : AddressState) (C : Type 0) (P Q : Result Range Error → AddressState → Type 0) → Decided C → IsTotal P → (C → IsTotal Q) → IsTotal (λ answer new. Unless C (P answer new) (Q answer new))
+total_unless old C P Q (inl y) p q = let k = q y in (k.0, k.1, inr (y, k.2), k.3)
+total_unless old C P Q (inr n) p q = (p.0, p.1, inl (n, p.2), p.3)
+
+-- ---- a request is answered
+taken : (old : AddressState) (r : Range) → IsTotal (Takes old r)
+unfolding Takes
+taken old r = (Ok r, holding r old, inl (refl, refl), λ h. absurd (cc h))
+
+-- a place is chosen or there is none
+abbrev HasChoice : Request → AddressState → Type 0
+HasChoice request old = ((s : ℕ) → ¬ IsPlace request.size request.align old s) ⊎ ((s : ℕ) × IsChosen request old s)
+
+-- a place lies in the space
+place_inside : (n a s : ℕ) (old : AddressState) → 0 < n → IsPlace n a old s → s < old.space.end + 1
+unfolding IsPlace
+place_inside n a s old some p = let first = p.1 s (omega arith) (omega arith) in omega (arith, first.0.1)
+
+least_choice : (n a : ℕ) (old : AddressState) → 0 < n → HasChoice (request_for n a FirstMatch) old
+unfolding IsChosen IsLeastPlace
+least_choice n a old some =
+    ⊎_elim
+    (λ none. inl (λ s p. none s (place_inside n a s old some p) p))
+    (λ found. inr (found.0, (found.1, found.2)))
+    (least_or_none (IsPlace n a old) (decided_place n a old) (old.space.end + 1))
+
+greatest_choice : (n a : ℕ) (old : AddressState) → 0 < n → HasChoice (request_for n a LastMatch) old
+unfolding IsChosen IsGreatestPlace
+greatest_choice n a old some =
+    ⊎_elim
+    (λ none. inl (λ s p. none s (place_inside n a s old some p) p))
+    (λ found. inr (found.0, (found.1, λ t p. found.2 t (place_inside n a t old some p) p)))
+    (greatest_or_none (IsPlace n a old) (decided_place n a old) (old.space.end + 1))
+
+named_choice : (n a t : ℕ) (old : AddressState) → IsPlace n a old t → HasChoice (request_for n a (ExactMatch t)) old
+unfolding IsChosen
+named_choice n a t old p = inr (t, (refl, p))
+
+total_place : (request : Request) (old : AddressState) → HasChoice request old → IsTotal (λ answer new. ByPlace request old (λ e. Refuses old e answer new) (λ r. Takes old r answer new))
+unfolding ByPlace
+total_place request old (inl none) = (Err ResourceNotAvailable, old, inl (none, (refl, refl)), λ h. absurd (cc h))
+total_place request old (inr (s, chosen)) =
+    let last = total_if old (s + request.size - 1 ≡ MAX) (Refuses old Overflow) (Takes old (span s request.size)) (cases_eq (s + request.size - 1) MAX) (refusal old Overflow (λ e. cc e)) (λ n. taken old (span s request.size)) in
+    (last.0, last.1, inr (s, chosen, last.2), last.3)
+
+total_start : (t n : ℕ) (old : AddressState) (Rest : Result Range Error → AddressState → Type 0) → (AreClear n old t → IsTotal Rest) → IsTotal (λ answer new. ByStart t n old (λ e. Refuses old e answer new) (Rest answer new))
+unfolding ByStart
+total_start t n old Rest rest =
+    let held = InvalidStateTransition (span t n) Allocated in
+    total_if old _ (Refuses old Overflow) _ (cases_eq t MAX) (refusal old Overflow (λ e. cc e)) (λ _.
+    total_unless old _ (Refuses old ResourceNotAvailable) _ (decided_inside old t) (refusal old ResourceNotAvailable (λ e. cc e)) (λ _.
+    total_if old _ (Refuses old Overflow) _ (decided_below MAX (t + n - 1)) (refusal old Overflow (λ e. cc e)) (λ _.
+    total_if old _ (Refuses old held) _ (decided_held old.held (span t n)) (refusal old held (λ e. cc e)) (λ _.
+    total_unless old _ (Refuses old ResourceNotAvailable) _ (decided_all_clear n old t) (refusal old ResourceNotAvailable (λ e. cc e)) (λ clear.
+    total_if old _ (Refuses old Overflow) Rest (cases_eq (t + n - 1) MAX) (refusal old Overflow (λ e. cc e)) (λ _. rest clear))))))
+
+total_settles : (policy : AllocPolicy) (n a : ℕ) (old : AddressState) → 0 < n → IsStartAligned a policy → IsTotal (Settles old (request_for n a policy))
+unfolding Settles ByExactStart IsStartAligned IsPlace
+total_settles FirstMatch n a old some aligned = total_place (request_for n a FirstMatch) old (least_choice n a old some)
+total_settles LastMatch n a old some aligned = total_place (request_for n a LastMatch) old (greatest_choice n a old some)
+total_settles (ExactMatch t) n a old some aligned =
+    total_start t n old _ (λ clear. total_place (request_for n a (ExactMatch t)) old (named_choice n a t old (aligned, clear)))
+
+total_allocates : (old : AddressState) (request : Request) → IsTotal (Allocates old request)
+unfolding Allocates ByConstraint
+total_allocates old request =
+    total_if old _ (Refuses old (InvalidSize 0)) _ (cases_eq request.size 0) (refusal old (InvalidSize 0) (λ e. cc e)) (λ some.
+    total_unless old _ (Refuses old InvalidAlignment) _ (decided_alignment request.align) (refusal old InvalidAlignment (λ e. cc e)) (λ _.
+    total_unless old _ (Refuses old UnalignedAddress) _ (decided_start request.align request.policy) (refusal old UnalignedAddress (λ e. cc e)) (λ aligned.
+    total_settles request.policy request.size request.align old (omega (arith, some)) aligned)))
+
+-- ---- a range given back is answered, and so is an allocator that is made
+total_frees : (old : AddressState) (r : Range) → (answer : Result (Unit {0}) Error) × (new : AddressState) × Frees old r answer new
+unfolding Frees
+total_frees old r =
+    ⊎_elim
+    (λ (held : Contains old.held r). (Ok tt, releasing r old, inl (held, (refl, refl))))
+    (λ (not_held : Contains old.held r → ⊥). (Err ResourceNotAvailable, old, inr (not_held, (refl, refl))))
+    (decided_held old.held r)
+
+total_makes : (base size : ℕ) → (answer : Result AddressState Error) × Makes base size answer × (answer ≢ Err OutOfMemory)
+unfolding Makes
+total_makes base size =
+    ⊎_elim
+    (λ (none : size ≡ 0). (Err Underflow, inl (none, refl), λ h. absurd (cc h)))
+    (λ (some : size ≡ 0 → ⊥).
+    ⊎_elim
+    (λ (over : MAX < base + size - 1). (Err Overflow, inr (some, inl (over, refl)), λ h. absurd (cc h)))
+    (λ (fits : MAX < base + size - 1 → ⊥). (Ok (record { space = span base size; held = [] }), inr (some, inr (fits, inl refl)), λ h. absurd (cc h)))
+    (decided_below MAX (base + size - 1)))
+    (cases_eq size 0)
+
+total_clones : (old : AddressState) → (answer : Result AddressState Error) × Clones old answer × (answer ≢ Err OutOfMemory)
+total_clones old = (Ok old, inl refl, λ h. absurd (cc h))
+
+pub every_call : EveryCallIsAnswered
+every_call = record { made = total_makes; allocated = total_allocates; freed = total_frees; cloned = total_clones }
+
+-- ---- and so is each list of what is asked
+pub every_list : EveryListHasHistory
+unfolding total_clones
+every_list old [] = ([], old, refl, refl, All-nil _)
+every_list old (Allocate request ∷ asked) =
+    let a = total_allocates old request in
+    let rest = every_list a.1 asked in (
+      Allocation request a.0 ∷ rest.0,
+      rest.1,
+      (a.1, a.2, rest.2),
+      ap (λ (v : List Asked). Allocate request ∷ v) rest.3,
+      All-cons (λ call. ¬ RunsOutOfMemory call) (Allocation request a.0) rest.0 a.3 rest.4,
+    )
+every_list old (Free r ∷ asked) =
+    let f = total_frees old r in
+    let rest = every_list f.1 asked in (
+      Release r f.0 ∷ rest.0,
+      rest.1,
+      (f.1, f.2, rest.2),
+      ap (λ (v : List Asked). Free r ∷ v) rest.3,
+      All-cons (λ call. ¬ RunsOutOfMemory call) (Release r f.0) rest.0 (λ h. h) rest.4,
+    )
+every_list old (Clone ∷ asked) =
+    let c = total_clones old in
+    let rest = every_list old asked in (
+      Cloning c.0 ∷ rest.0,
+      rest.1,
+      (old, (c.1, refl), rest.2),
+      ap (λ (v : List Asked). Clone ∷ v) rest.3,
+      All-cons (λ call. ¬ RunsOutOfMemory call) (Cloning c.0) rest.0 c.2 rest.4,
+    )
+
+pub ruleset answers = (every_call, every_list)

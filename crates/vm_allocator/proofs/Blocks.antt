@@ -1,0 +1,9 @@
+pub mod PlainWords
+pub mod BlockOrder
+pub mod Replacement
+pub mod Gaps
+pub mod OneList
+pub mod BlockStates
+pub mod HeldSets
+pub mod HeldChanges
+pub mod HeldLists

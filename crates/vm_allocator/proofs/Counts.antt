@@ -1,0 +1,14 @@
+pub mod WayCases
+pub mod WayBounds
+pub mod CarvingWays
+pub mod Entering
+pub mod Searching
+pub mod SearchedGaps
+pub mod GapBounds
+pub mod Futile
+pub mod Cramped
+pub mod LeftClear
+pub mod Granting
+pub mod ReleaseWays
+pub mod Balanced
+pub mod Allocating

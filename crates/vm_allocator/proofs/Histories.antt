@@ -1,0 +1,4 @@
+pub mod AlongHistories
+pub mod HistoryAnswers
+pub mod Releases
+pub mod AddressEnds

@@ -1,0 +1,41 @@
+-- Where a history ends: in a clone, or in a state that others end in.
+use Rattle.std.proofs.Common.{List, [], ◌∷◌, ◌++◌, refl, subst, inl, inr, Ok}
+use Rattle.vm_allocator.specs.Address.{AddressState}
+use Rattle.vm_allocator.specs.Values.TreeValues.{StatesAddresses}
+use Rattle.vm_allocator.specs.Values.RepairedValues.{StatesRepaired}
+use Rattle.vm_allocator.specs.Histories.AddressHistories.{Call, Cloning, IsHistoryFrom}
+use Rattle.vm_allocator.specs.Laws.HistoryLaws.{CloneIsReached, ReadIsReached, OneEndIsEqual, ReleaseMakesEqual, OrderOfReleasesMakesEqual}
+use Rattle.vm_allocator.proofs.Answers.CloneAnswers.{clone_is}
+use Rattle.vm_allocator.proofs.Comparing.StateOrders.{equal_states}
+use Rattle.vm_allocator.proofs.Histories.AlongHistories.{alike_state, release_undoes}
+use Rattle.vm_allocator.proofs.Histories.Releases.{order_is_free}
+
+history_append : (xs ys : List Call) (first mid last : AddressState) → IsHistoryFrom first xs mid → IsHistoryFrom mid ys last → IsHistoryFrom first (xs ++ ys) last
+history_append [] ys first mid last h k = subst (λ (v : AddressState). IsHistoryFrom v ys last) h k
+history_append (x ∷ xs) ys first mid last h k = (h.0, h.1, history_append xs ys h.0 mid last h.2 k)
+
+pub clone_is_reached : CloneIsReached
+clone_is_reached old clone c =
+    let r = old.reached in (
+      clone_is old.state clone c,
+      record {
+        first = r.first;
+        begins = r.begins;
+        history = history_append old.calls (Cloning (Ok clone) ∷ []) r.first old.state clone r.history (clone, (c, refl), refl);
+      },
+    )
+
+pub read_is_reached : ReadIsReached StatesAddresses
+read_is_reached value state s = record { first = state; begins = inr (record { value = value; stated = inl s }); history = refl }
+
+pub repaired_is_reached : ReadIsReached StatesRepaired
+repaired_is_reached value state s = record { first = state; begins = inr (record { value = value; stated = inr s }); history = refl }
+
+pub one_end_is_equal : OneEndIsEqual
+one_end_is_equal first second h = equal_states first.state second.state (alike_state first second h)
+
+pub release_makes_equal : ReleaseMakesEqual
+release_makes_equal old mid new request r answer s f = equal_states new old.state (release_undoes old mid new request r answer s f).1
+
+pub order_makes_equal : OrderOfReleasesMakesEqual
+order_makes_equal old first second rs qs e s t = equal_states first second (order_is_free.same old first second rs qs e s t)

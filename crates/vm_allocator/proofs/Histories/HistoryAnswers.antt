@@ -1,0 +1,168 @@
+-- What every call of a history returns.
+use Rattle.std.proofs.Common.{◌≡◌, ◌≢◌, ℕ, ◌+◌, ◌-◌, ◌<◌, arith, sym, ap, ◌∙◌, ◌⊎◌, ⊎_elim, subst, Result, Ok, Err}
+use Rattle.std.proofs.lemmas.Bool.{cases_eq}
+use Rattle.vm_allocator.specs.Range.{Range, MAX, IsIn, span}
+use Rattle.vm_allocator.specs.Address.{AddressState, IsPlace, IsAddressState}
+use Rattle.vm_allocator.specs.Request.{Request, request_for, IsRequest, ByConstraint, MakesConstraint}
+use Rattle.vm_allocator.specs.Answer.{IsChosen, ByStart, ByExactStart, ByPlace, Takes, Settles, Allocates, Frees}
+use Rattle.vm_allocator.specs.Laws.HistoryLaws.{FirstIsLeast, LastIsGreatest, ExactIsNamed, IsRefusedInOrder, IsAnswered, PlacesAnswer, RefusalsChangeNothing}
+use Rattle.vm_allocator.specs.declared.error.Error.{Error}
+use Rattle.vm_allocator.specs.declared.error.Error.TheVariants.{Overflow, ResourceNotAvailable}
+use Rattle.vm_allocator.specs.declared.constraint.AllocPolicy.{AllocPolicy}
+use Rattle.vm_allocator.specs.declared.constraint.AllocPolicy.TheVariants.{FirstMatch, LastMatch, ExactMatch}
+use Rattle.vm_allocator.proofs.Answers.TwoFacts.{if_same, unless_same}
+use Rattle.vm_allocator.proofs.Blocks.PlainWords.{held_contains}
+use Rattle.vm_allocator.proofs.Blocks.HeldSets.{held_lies}
+use Rattle.vm_allocator.proofs.Answers.Once.{chosen_place}
+use Rattle.vm_allocator.proofs.Answers.Filling.{otherwise, given, faulty, lacking, clear_not_held, request_settles, allocates_chosen}
+use Rattle.vm_allocator.proofs.Answers.Outcomes.{allocates_outcome}
+use Rattle.vm_allocator.proofs.Histories.AlongHistories.{reached_state}
+
+-- ---- a range that was given starts at the chosen place
+takes_given : (old new : AddressState) (r p : Range) → Takes old r (Ok p) new → p ≡ r
+unfolding Takes
+takes_given old new r p h = ⊎_elim (λ l. cc (l.0)) (λ k. ⊎_elim (λ o. absurd (cc o)) (λ o. absurd (cc (o.1))) k.2) h
+
+given_chosen : (request : Request) (old new : AddressState) (r : Range) → Allocates old request (Ok r) new → IsChosen request old r.start × (r ≡ span r.start request.size)
+given_chosen request old new r h =
+    ⊎_elim
+    (λ l. absurd (cc (l.1)))
+    (λ k.
+    let s = k.1.0 in
+    let e : r ≡ span s request.size = takes_given old new (span s request.size) r k.1.3 in
+    let start : s ≡ r.start = ap (λ (v : Range). v.start) (sym e) in
+    (subst (IsChosen request old) start k.1.1, e ∙ ap (λ (s : ℕ). span s request.size) start))
+    (allocates_outcome old new (Ok r) request h)
+
+pub first_is_least : FirstIsLeast
+unfolding IsChosen
+first_is_least old new size align r h = given_chosen (request_for size align FirstMatch) old.state new r h
+
+pub last_is_greatest : LastIsGreatest
+unfolding IsChosen
+last_is_greatest old new size align r h = given_chosen (request_for size align LastMatch) old.state new r h
+
+pub exact_is_named : ExactIsNamed
+unfolding IsChosen
+exact_is_named old new size align start r h =
+    let g = given_chosen (request_for size align (ExactMatch start)) old.state new r h in
+    (subst (IsPlace size align old.state) g.0.0 g.0.1, g.1 ∙ ap (λ (s : ℕ). span s size) g.0.0)
+
+-- ---- each request is answered by the places
+-- what makes no constraint is refused alike
+senseless : (request : Request) (old new : AddressState) (answer : Result Range Error) (e : Error) → Allocates old request answer new → MakesConstraint request (Err e) → answer ≡ Err e
+unfolding MakesConstraint Allocates ByConstraint
+senseless request old new answer e h m =
+    if_same _ _ _ _ _ m h (same _)
+    (λ m h. unless_same _ _ _ _ _ m h (same _)
+    (λ m h. unless_same _ _ _ _ _ m h (same _) (λ m h. absurd (cc m))))
+  where
+    made : Result Request Error
+    made = Err e
+
+    same : (x : Error) → made ≡ Err x → (answer ≡ Err x) × (new ≡ old) → answer ≡ Err e
+    same x m h = let s : x ≡ e = cc in h.0 ∙ ap (λ (v : Error). Err v) s
+
+-- the answer to a request that makes sense, with the state that it leaves
+module _ (request : Request) (old new : AddressState) (answer : Result Range Error) (sense : IsRequest request) (h : Allocates old request answer new) where
+  chosen_taken : (s : ℕ) → IsChosen request old s → s + request.size - 1 < MAX → Takes old (span s request.size) answer new
+  chosen_taken s c l = otherwise _ _ _ (λ k. omega arith) (allocates_chosen request s old new answer sense (omega arith) c h)
+
+  chosen_at_max : (s : ℕ) → IsChosen request old s → s + request.size - 1 ≡ MAX → answer ≡ Err Overflow
+  chosen_at_max s c e = ⊎_elim (λ k. k.1.0) (λ k. absurd (k.0 e)) (allocates_chosen request s old new answer sense (omega arith) c h)
+
+none_by_place : (request : Request) (old new : AddressState) (answer : Result Range Error) → ((s : ℕ) → ¬ IsPlace request.size request.align old s) → ByPlace request old (λ e. (answer ≡ Err e) × (new ≡ old)) (λ r. Takes old r answer new) → answer ≡ Err ResourceNotAvailable
+unfolding ByPlace
+none_by_place request old new answer none h = ⊎_elim (λ l. l.1.0) (λ k. absurd (none k.0 (chosen_place request k.0 old k.1))) h
+
+none_settles : (policy : AllocPolicy) (n a : ℕ) (old new : AddressState) (answer : Result Range Error) → (policy ≡ FirstMatch) ⊎ (policy ≡ LastMatch) → ((s : ℕ) → ¬ IsPlace n a old s) → Settles old (request_for n a policy) answer new → answer ≡ Err ResourceNotAvailable
+unfolding Settles ByExactStart
+none_settles FirstMatch n a old new answer p none h = none_by_place (request_for n a FirstMatch) old new answer none h
+none_settles LastMatch n a old new answer p none h = none_by_place (request_for n a LastMatch) old new answer none h
+none_settles (ExactMatch t) n a old new answer p none h = ⊎_elim (λ e. absurd (cc e)) (λ e. absurd (cc e)) p
+
+-- where there is a place, what is refused is refused for memory, for depth or for its end
+taken_not_lacking : (old new : AddressState) (r : Range) (answer : Result Range Error) → Takes old r answer new → answer ≢ Err ResourceNotAvailable
+unfolding Takes
+taken_not_lacking old new r answer h e = ⊎_elim (λ l. cc (l.0, e)) (λ k. ⊎_elim (λ o. cc (o, e)) (λ o. cc (o.1, e)) k.2) h
+
+some_by_place : (request : Request) (old new : AddressState) (answer : Result Range Error) (s : ℕ) → IsPlace request.size request.align old s → ByPlace request old (λ e. (answer ≡ Err e) × (new ≡ old)) (λ r. Takes old r answer new) → answer ≢ Err ResourceNotAvailable
+unfolding ByPlace
+some_by_place request old new answer s place h e =
+    ⊎_elim
+    (λ l. absurd (l.0 s place))
+    (λ k. ⊎_elim (λ o. cc (o.1.0, e)) (λ o. taken_not_lacking old new (span k.0 request.size) answer o.1 e) k.2)
+    h
+
+some_settles : (policy : AllocPolicy) (n a : ℕ) (old new : AddressState) (answer : Result Range Error) → (policy ≡ FirstMatch) ⊎ (policy ≡ LastMatch) → (s : ℕ) → IsPlace n a old s → Settles old (request_for n a policy) answer new → answer ≢ Err ResourceNotAvailable
+unfolding Settles ByExactStart
+some_settles FirstMatch n a old new answer p s place h = some_by_place (request_for n a FirstMatch) old new answer s place h
+some_settles LastMatch n a old new answer p s place h = some_by_place (request_for n a LastMatch) old new answer s place h
+some_settles (ExactMatch t) n a old new answer p s place h = ⊎_elim (λ e. absurd (cc e)) (λ e. absurd (cc e)) p
+
+-- the faults of a request for the n addresses from t on, in order
+named_faults : (old new : AddressState) (answer : Result Range Error) (t n : ℕ) (Rest : Type 0) → IsAddressState old → 0 < n → ByStart t n old (λ e. (answer ≡ Err e) × (new ≡ old)) Rest → IsRefusedInOrder old t n answer
+unfolding ByStart
+named_faults old new answer t n Rest state some h =
+    record {
+      start_is_max = λ is. faulty _ _ _ is (λ p. p.0) h;
+      start_is_outside = λ below outside. lacking _ _ _ outside (λ p. p.0) (otherwise _ _ _ below h);
+      passes_max = λ below inside over. faulty _ _ _ over (λ p. p.0) (given _ _ _ inside (otherwise _ _ _ below h));
+      is_held = λ held.
+          let lies = held_lies old.space.start old.space.end old.held (span t n) state.slots (held_contains old.held (span t n) held) in
+          let inside : IsIn old.space t = (lies.0, omega (arith, lies.1, lies.2)) in
+          faulty _ _ _ held (λ p. p.0) (otherwise _ _ _ (λ over. omega (arith, lies.3)) (given _ _ _ inside (otherwise _ _ _ (λ is. omega (arith, lies.1, lies.3)) h)));
+      is_not_clear = λ below inside fits free unclear.
+          lacking _ _ _ unclear (λ p. p.0) (otherwise _ _ _ free (otherwise _ _ _ (λ over. omega arith) (given _ _ _ inside (otherwise _ _ _ below h))));
+      ends_at_max = λ clear ends.
+          let inside : IsIn old.space t = (clear t (omega arith) (omega arith)).0 in
+          ⊎_elim
+          (λ (is : t ≡ MAX). faulty _ _ _ is (λ p. p.0) h)
+          (λ (below : t ≡ MAX → ⊥).
+          faulty _ _ _ ends (λ p. p.0) (given _ _ _ clear (otherwise _ _ _ (clear_not_held n t old some clear) (otherwise _ _ _ (λ over. omega arith) (given _ _ _ inside (otherwise _ _ _ below h))))))
+          (cases_eq t MAX);
+    }
+
+named_settles : (policy : AllocPolicy) (n a t : ℕ) (old new : AddressState) (answer : Result Range Error) → IsAddressState old → 0 < n → policy ≡ ExactMatch t → Settles old (request_for n a policy) answer new → IsRefusedInOrder old t n answer
+unfolding Settles ByExactStart
+named_settles policy n a t old new answer state some p h =
+    let g : Settles old (request_for n a (ExactMatch t)) answer new = subst (λ (v : AllocPolicy). Settles old (request_for n a v) answer new) p h in
+    named_faults old new answer t n _ state some g
+
+answered : (request : Request) (old new : AddressState) (answer : Result Range Error) → IsAddressState old → Allocates old request answer new → IsAnswered old request answer new
+answered request old new answer state h =
+    record {
+      senseless = λ e m. senseless request old new answer e h m;
+      sensible = λ sense.
+          let settles = request_settles request old new answer sense h in
+          record {
+            taken = chosen_taken request old new answer sense h;
+            at_max = chosen_at_max request old new answer sense h;
+            no_place = λ p none. none_settles request.policy request.size request.align old new answer p none settles;
+            only_there = λ p s place. some_settles request.policy request.size request.align old new answer p s place settles;
+            named = λ t p. named_settles request.policy request.size request.align t old new answer state sense.some p settles;
+          };
+      given = λ r e. given_chosen request old new r (subst (λ (v : Result Range Error). Allocates old request v new) e h);
+    }
+
+pub places_answer : PlacesAnswer
+places_answer old new request answer h = answered request old.state new answer (reached_state old) h
+
+-- ---- a refusal changes nothing
+takes_refused : (old new : AddressState) (r : Range) (e : Error) → Takes old r (Err e) new → new ≡ old
+unfolding Takes
+takes_refused old new r e h = ⊎_elim (λ l. absurd (cc (l.0))) (λ k. k.1) h
+
+allocation_refused : (request : Request) (old new : AddressState) (e : Error) → Allocates old request (Err e) new → new ≡ old
+allocation_refused request old new e h =
+    ⊎_elim (λ l. l.2) (λ k. takes_refused old new (span k.1.0 request.size) e k.1.3) (allocates_outcome old new (Err e) request h)
+
+release_refused : (old new : AddressState) (r : Range) (e : Error) → Frees old r (Err e) new → new ≡ old
+unfolding Frees
+release_refused old new r e h = ⊎_elim (λ l. absurd (cc (l.1.0))) (λ k. k.1.1) h
+
+pub refusals_change_nothing : RefusalsChangeNothing
+refusals_change_nothing = record {
+  allocation = λ old new request e h. allocation_refused request old.state new e h;
+  release = λ old new r e h. release_refused old.state new r e h;
+}

@@ -1,0 +1,5 @@
+pub mod Rows
+pub mod KeyNodes
+pub mod AddedKeys
+pub mod HeldKeys
+pub mod RepairedReading

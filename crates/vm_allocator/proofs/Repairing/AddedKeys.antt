@@ -1,0 +1,134 @@
+-- Ranges held above all others: an `ExactMatch` holds each, unless memory runs out.
+use Rattle.std.proofs.Common.{◌≡◌, ◌≢◌, ◌⊎◌, ℕ, ◌+◌, ◌-◌, ◌<◌, ◌≤◌, List, [], ◌∷◌, ◌++◌, length, refl, sym, ap, ◌∙◌, subst, arith, inl, inr, ⊎_elim, Result, Ok, Err}
+use Rattle.std.proofs.lemmas.Bool.{le-ltb}
+use Rattle.std.proofs.lemmas.List.{append_assoc, append-nil, length-append}
+use Rattle.vm_allocator.specs.Range.{Range, MAX, IsIn, span, address_count}
+use Rattle.vm_allocator.specs.Alignment.{IsAlignment}
+use Rattle.vm_allocator.specs.Address.{AddressState, IsPlace, AreClear, AreSlots, IsAddressState, with_range}
+use Rattle.vm_allocator.specs.Request.{Request, request_for, IsRequest, IsStartAligned}
+use Rattle.vm_allocator.specs.Answer.{FEWEST_TOO_DEEP, IsChosen, Takes, Allocates}
+use Rattle.vm_allocator.specs.Tree.Blocks.{range_if_held}
+use Rattle.vm_allocator.specs.Checks.RepairChecks.{adding, CanAdd}
+use Rattle.vm_allocator.specs.declared.allocation_engine.NodeState.{NodeState}
+use Rattle.vm_allocator.specs.declared.allocation_engine.NodeState.TheVariants.{Free, Allocated}
+use Rattle.vm_allocator.specs.declared.error.Error.{Error}
+use Rattle.vm_allocator.specs.declared.error.Error.TheVariants.{OutOfMemory}
+use Rattle.vm_allocator.specs.declared.constraint.AllocPolicy.TheVariants.{ExactMatch}
+use Rattle.vm_allocator.proofs.Blocks.PlainWords.{IsHeld, IsHeldAddress, all_miss}
+use Rattle.vm_allocator.proofs.Blocks.HeldSets.{held_lies, later_above}
+use Rattle.vm_allocator.proofs.Answers.Filling.{otherwise, allocates_chosen}
+
+-- ---- some ranges, and then others
+slots_front : (xs ys : List Range) (lo hi : ℕ) → AreSlots lo (xs ++ ys) hi → AreSlots lo xs hi
+slots_front [] ys lo hi s = tt
+slots_front (x ∷ xs) ys lo hi s = (s.0, s.1, s.2, s.3, slots_front xs ys (x.end + 1) hi s.4)
+
+pub adding_both : (xs ys : List Range) (state : AddressState) → adding ys (adding xs state) ≡ adding (xs ++ ys) state
+adding_both xs ys state = ap (λ (v : List Range). record state { held = v }) (append_assoc state.held xs ys)
+
+pub can_front : (xs ys : List Range) (state : AddressState) → CanAdd (xs ++ ys) state → CanAdd xs state
+can_front xs ys state c =
+    let same : state.held ++ (xs ++ ys) ≡ (state.held ++ xs) ++ ys = sym (append_assoc state.held xs ys) in
+    let slots = subst (λ (v : List Range). AreSlots state.space.start v state.space.end) same c.reached.slots in
+    let few : length ((state.held ++ xs) ++ ys) ≤ FEWEST_TOO_DEEP = subst (λ (v : List Range). length v ≤ FEWEST_TOO_DEEP) same c.few in
+    record {
+      reached = record { space = c.reached.space; slots = slots_front (state.held ++ xs) ys state.space.start state.space.end slots };
+      few = omega (arith, length-append (state.held ++ xs) ys);
+    }
+
+pub can_back : (xs ys : List Range) (state : AddressState) → CanAdd (xs ++ ys) state → CanAdd ys (adding xs state)
+can_back xs ys state c = record {
+  reached = subst IsAddressState (sym (adding_both xs ys state)) c.reached;
+  few = subst (λ (v : AddressState). length v.held ≤ FEWEST_TOO_DEEP) (sym (adding_both xs ys state)) c.few;
+}
+
+-- ---- one range above all others
+last_held : (xs : List Range) (r : Range) → IsHeld (xs ++ r ∷ []) r
+last_held [] r = inl refl
+last_held (x ∷ xs) r = inr (last_held xs r)
+
+-- no other range has an address from its start on
+misses : (xs : List Range) (r : Range) (lo hi x : ℕ) → AreSlots lo (xs ++ r ∷ []) hi → r.start ≤ x → ¬ IsHeldAddress xs x
+misses [] r lo hi x s l h = h
+misses (y ∷ ys) r lo hi x s l h =
+    ⊎_elim
+    (λ (i : IsIn y x). absurd (omega (arith, i.1, later_above lo hi y (ys ++ r ∷ []) r s (last_held ys r))))
+    (λ (k : IsHeldAddress ys x). misses ys r (y.end + 1) hi x s.4 l k)
+    h
+
+-- so it comes last
+goes_last : (xs : List Range) (r : Range) (lo hi : ℕ) → AreSlots lo (xs ++ r ∷ []) hi → with_range r xs ≡ xs ++ r ∷ []
+goes_last [] r lo hi s = refl
+goes_last (y ∷ ys) r lo hi s =
+    rw (le-ltb r.start y.start (omega (arith, s.1, later_above lo hi y (ys ++ r ∷ []) r s (last_held ys r))))
+    (ap (λ (v : List Range). y ∷ v) (goes_last ys r (y.end + 1) hi s.4))
+
+one_aligned : IsAlignment 1
+unfolding IsAlignment
+one_aligned = (0, omega arith, refl)
+
+module _ (r : Range) (old : AddressState) (can : CanAdd (r ∷ []) old) where
+  abbrev request : Request
+  request = request_for (address_count r) 1 (ExactMatch r.start)
+
+  lies : (old.space.start ≤ r.start) × (r.start ≤ r.end) × (r.end ≤ old.space.end) × (r.end < MAX)
+  lies = held_lies old.space.start old.space.end (old.held ++ r ∷ []) r can.reached.slots (last_held old.held r)
+
+  sensible : IsRequest request
+  unfolding IsStartAligned
+  sensible = record { some = omega arith; aligned = one_aligned; start = omega arith }
+
+  clear : AreClear (address_count r) old r.start
+  clear x low high =
+      let l = lies in (
+        (omega (arith, l.0), omega (arith, l.1, l.2)),
+        all_miss old.held x (misses old.held r old.space.start old.space.end x can.reached.slots low),
+      )
+
+  chosen : IsChosen request old r.start
+  unfolding IsChosen IsPlace
+  chosen = (refl, (omega arith, clear))
+
+  is_span : span r.start (address_count r) ≡ r
+  is_span = let l = lies in let e : r.start + address_count r - 1 ≡ r.end = omega (arith, l.1) in ap (λ (v : ℕ). record r { end = v }) e
+
+  -- the range is held, or memory ran out
+  takes : (new : AddressState) (answer : Result Range Error) → Takes old (span r.start (address_count r)) answer new → ((answer ≡ Ok r) × (new ≡ adding (r ∷ []) old)) ⊎ (answer ≡ Err OutOfMemory)
+  unfolding Takes
+  takes new answer t =
+      ⊎_elim
+      (λ g. inl (
+        g.0 ∙ ap (λ (v : Range). Ok v) is_span,
+        g.1 ∙ ap (λ (v : Range). record old { held = with_range v old.held }) is_span ∙ ap (λ (v : List Range). record old { held = v }) (goes_last old.held r old.space.start old.space.end can.reached.slots),
+      ))
+      (λ g. ⊎_elim (λ m. inr m) (λ m. absurd (omega (arith, m.0, can.few, length-append old.held (r ∷ [])))) g.2)
+      t
+
+  pub taken : (new : AddressState) (answer : Result Range Error) → Allocates old request answer new → ((answer ≡ Ok r) × (new ≡ adding (r ∷ []) old)) ⊎ (answer ≡ Err OutOfMemory)
+  taken new answer h =
+      let l = lies in
+      takes new answer (otherwise _ _ _ (λ m. omega (arith, l.1, l.3)) (allocates_chosen request r.start old new answer sensible (omega (arith, l.1, l.3)) chosen h))
+
+-- ---- what the code's clauses say
+not_free : (s : NodeState) → s ≢ Free → s ≡ Allocated
+not_free Free n = absurd (n refl)
+not_free Allocated n = refl
+
+-- the key of a block that is a held one
+module _ (s : NodeState) (k : Range) (old new : AddressState) (answer : Result Range Error) (held : s ≢ Free) (can : CanAdd (range_if_held s k) old) (h : Allocates old (request_for (address_count k) 1 (ExactMatch k.start)) answer new) where
+  key_taken : ((answer ≡ Ok k) × (new ≡ adding (range_if_held s k) old)) ⊎ (answer ≡ Err OutOfMemory)
+  key_taken =
+      let e = not_free s held in
+      let t = taken k old (subst (λ (v : NodeState). CanAdd (range_if_held v k) old) e can) new answer h in
+      subst (λ (v : NodeState). ((answer ≡ Ok k) × (new ≡ adding (range_if_held v k) old)) ⊎ (answer ≡ Err OutOfMemory)) (sym e) t
+
+  pub held_key : (r : Range) → answer ≡ Ok r → new ≡ adding (range_if_held s k) old
+  held_key r e = ⊎_elim (λ g. g.1) (λ m. absurd (cc (m, e))) key_taken
+
+  pub refused_key : (x : Error) → answer ≡ Err x → x ≡ OutOfMemory
+  refused_key x e = ⊎_elim (λ g. absurd (cc (g.0, e))) (λ m. cc (m, e)) key_taken
+
+pub free_key : (k : Range) (s : NodeState) (old : AddressState) → s ≡ Free → old ≡ adding (range_if_held s k) old
+free_key k s old e = ap (λ (v : List Range). record old { held = v }) (sym (append-nil old.held)) ∙ ap (λ (v : NodeState). adding (range_if_held v k) old) (sym e)
+
+pub ruleset holdings = (held_key, refused_key, free_key)

@@ -1,0 +1,69 @@
+-- Blocks that may stand in a row are those of keys in order, few of them held.
+use Rattle.std.proofs.Common.{◌≡◌, ℕ, ◌+◌, ◌≤◌, true, cond, ◌&&◌, ◌||◌, leb, ltb, List, [], ◌∷◌, ◌++◌, length, Some, refl, sym, ap, ◌∙◌, subst, arith}
+use Rattle.std.proofs.lemmas.Bool.{and_parts, and_from, leb-true, ltb-true, le-leb, lt-ltb}
+use Rattle.std.proofs.lemmas.Option.{same_Some}
+use Rattle.vm_allocator.specs.Range.{Range, MAX}
+use Rattle.vm_allocator.specs.Answer.{FEWEST_TOO_DEEP}
+use Rattle.vm_allocator.specs.Tree.Block.{Block, is_free}
+use Rattle.vm_allocator.specs.Tree.Blocks.{range_if_held, held_of, AreKeysIn, AreBelowMax}
+use Rattle.vm_allocator.specs.Checks.ValueChecks.{after_all}
+use Rattle.vm_allocator.specs.Checks.RepairChecks.{may_extend, extended}
+use Rattle.vm_allocator.specs.declared.allocation_engine.NodeState.{NodeState}
+use Rattle.vm_allocator.specs.declared.allocation_engine.NodeState.TheVariants.{Free, Allocated}
+use Rattle.vm_allocator.specs.declared.saved.repaired.Row.{Row}
+use Rattle.vm_allocator.proofs.Reading.FieldSteps.{and_then_some, if_some}
+use Rattle.vm_allocator.proofs.Reading.Fronts.{AreKeys}
+
+-- how many are held with one more block
+abbrev count_with : NodeState → ℕ → ℕ
+count_with s n = cond (is_free s) n (n + 1)
+
+abbrev with_block : Row → Block → Row
+with_block row b = record { next = b.key.end + 1; held = count_with b.state row.held }
+
+-- the held ranges of one block and of those behind it
+may_hold : (s : NodeState) (k : Range) (rs : List Range) (n : ℕ) → (is_free s || (ltb k.end MAX && ltb n FEWEST_TOO_DEEP)) ≡ true → n ≤ FEWEST_TOO_DEEP → AreBelowMax rs → AreBelowMax (range_if_held s k ++ rs) × (count_with s n ≤ FEWEST_TOO_DEEP) × (n + length (range_if_held s k ++ rs) ≡ count_with s n + length rs)
+may_hold Free k rs n h f b = (b, f, refl)
+may_hold Allocated k rs n h f b =
+    let p = and_parts (ltb k.end MAX) (ltb n FEWEST_TOO_DEEP) h in
+    let l = ltb-true n FEWEST_TOO_DEEP p.1 in
+    ((ltb-true k.end MAX p.0, b), omega arith, omega arith)
+
+held_may : (s : NodeState) (k : Range) (rs : List Range) (n : ℕ) → AreBelowMax (range_if_held s k ++ rs) → n + length (range_if_held s k ++ rs) ≤ FEWEST_TOO_DEEP → ((is_free s || (ltb k.end MAX && ltb n FEWEST_TOO_DEEP)) ≡ true) × AreBelowMax rs × (count_with s n + length rs ≤ FEWEST_TOO_DEEP)
+held_may Free k rs n b f = (refl, b, f)
+held_may Allocated k rs n b f = (and_from _ _ (lt-ltb k.end MAX b.0) (lt-ltb n FEWEST_TOO_DEEP (omega arith)), b.1, omega arith)
+
+-- what is in a row behind another
+pub record IsInRow (end : ℕ) (bs : List Block) (row last : Row) : Type 0 where
+  pub keys : AreKeysIn row.next bs end
+  pub below : AreBelowMax (held_of bs)
+  pub count : row.held + length (held_of bs) ≡ last.held
+  pub few : last.held ≤ FEWEST_TOO_DEEP
+
+pub in_row : (end : ℕ) (bs : List Block) (row last : Row) → AreKeys bs → row.held ≤ FEWEST_TOO_DEEP → after_all (extended end) bs row ≡ Some last → IsInRow end bs row last
+in_row end [] row last k f e =
+    let same = ap (λ (r : Row). r.held) (same_Some row last e) in
+    record { keys = tt; below = tt; count = omega (arith, same); few = omega (arith, same) }
+in_row end (b ∷ bs) row last k f e =
+    let t = and_then_some (after_all (extended end) bs) (extended end row b) last e in
+    let u = if_some (may_extend end row b) (Some (with_block row b)) t.0 t.1 in
+    let v = and_parts (leb row.next b.key.start && leb b.key.end end) (is_free b.state || (ltb b.key.end MAX && ltb row.held FEWEST_TOO_DEEP)) u.0 in
+    let w = and_parts (leb row.next b.key.start) (leb b.key.end end) v.0 in
+    let next : after_all (extended end) bs (with_block row b) ≡ Some last = subst (λ (x : Row). after_all (extended end) bs x ≡ Some last) (sym (same_Some (with_block row b) t.0 u.1)) t.2 in
+    let some = may_hold b.state b.key [] row.held v.1 f tt in
+    let rest = in_row end bs (with_block row b) last k.1 some.1 next in
+    let all = may_hold b.state b.key (held_of bs) row.held v.1 f rest.below in
+    record {
+      keys = (leb-true row.next b.key.start w.0, k.0, leb-true b.key.end end w.1, rest.keys);
+      below = all.0;
+      count = all.2 ∙ rest.count;
+      few = rest.few;
+    }
+
+pub row_in : (end : ℕ) (bs : List Block) (row : Row) → AreKeysIn row.next bs end → AreBelowMax (held_of bs) → row.held + length (held_of bs) ≤ FEWEST_TOO_DEEP → (last : Row) × (after_all (extended end) bs row ≡ Some last)
+row_in end [] row k b f = (row, refl)
+row_in end (x ∷ xs) row k b f =
+    let h = held_may x.state x.key (held_of xs) row.held b f in
+    let may : may_extend end row x ≡ true = and_from _ _ (and_from _ _ (le-leb row.next x.key.start k.0) (le-leb x.key.end end k.2)) h.0 in
+    let rest = row_in end xs (with_block row x) k.3 h.1 h.2 in
+    (rest.0, rw may rest.1)

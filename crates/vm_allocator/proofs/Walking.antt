@@ -1,0 +1,2 @@
+pub mod WalkWays
+pub mod HeldInTrees

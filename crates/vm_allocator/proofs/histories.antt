@@ -1,4 +1,0 @@
-pub mod Histories
-pub mod Answers
-pub mod Releases
-pub mod Ends

@@ -1,5 +1,0 @@
-pub mod Rows
-pub mod Nodes
-pub mod Adding
-pub mod Holding
-pub mod Values

@@ -1,0 +1,4 @@
+pub mod ValueChecks
+pub mod IdChecks
+pub mod RepairChecks
+pub mod ValueParts

@@ -1,0 +1,41 @@
+-- The saved values of trees, part by part: objects put together field by field, and trees below a depth.
+use Rattle.std.specs.Prelude.{◌≡◌, ℕ, ◌≤◌, Some, option_and_then, codes}
+use Rattle.serde_json.specs.Data.{Data}
+use Rattle.serde_json.specs.Find.{get}
+use Rattle.vm_allocator.specs.Tree.Shape.{Shape, height_of, IsTree}
+use Rattle.vm_allocator.specs.Values.ValueFields.{field_count, number_in}
+use Rattle.vm_allocator.specs.Values.TreeValues.{StatesShape}
+
+-- a node's five fields, and no other
+pub record NodeParts (d key state left right : Data) (height : ℕ) : Type 0 where
+  pub five_fields : field_count d ≡ Some 5
+  pub key_is : get (codes "key") d ≡ Some key
+  pub state_is : get (codes "node_state") d ≡ Some state
+  pub left_is : get (codes "left") d ≡ Some left
+  pub right_is : get (codes "right") d ≡ Some right
+  pub height_is : number_in (codes "height") d ≡ Some height
+
+-- an allocator's two fields, and no other
+pub record AllocatorParts (d space root : Data) : Type 0 where
+  pub two_fields : field_count d ≡ Some 2
+  pub space_is : get (codes "address_space") d ≡ Some space
+  pub one_field : option_and_then field_count (get (codes "interval_tree") d) ≡ Some 1
+  pub root_is : option_and_then (get (codes "root")) (get (codes "interval_tree") d) ≡ Some root
+
+-- an id allocator's four fields, and no other
+pub record IdParts (d : Data) (base : ℕ) (next : Data) (end : ℕ) (freed : Data) : Type 0 where
+  pub four_fields : field_count d ≡ Some 4
+  pub base_is : number_in (codes "range_base") d ≡ Some base
+  pub next_is : get (codes "next_id") d ≡ Some next
+  pub end_is : number_in (codes "range_end") d ≡ Some end
+  pub freed_is : get (codes "freed_ids") d ≡ Some freed
+
+-- the value has the tree, which is a search tree nested at most that deep
+pub record IsShapeWithin (depth : ℕ) (d : Data) (s : Shape) : Type 0 where
+  pub stated : StatesShape d s
+  pub tree : IsTree s
+  pub height : height_of s ≤ depth
+
+-- the value has some such tree
+abbrev pub HasShapeWithin : ℕ → Data → Type 0
+HasShapeWithin depth d = (s : Shape) × IsShapeWithin depth d s

@@ -1,0 +1,12 @@
+pub mod Changes
+pub mod Fit
+pub mod BlockEdits
+pub mod Place
+pub mod Release
+pub mod Beside
+pub mod NodeFields
+pub mod Settling
+pub mod NodeAnswer
+pub mod Widening
+pub mod Carving
+pub mod Walks

@@ -1,0 +1,32 @@
+-- What follows from the definitions of saved values alone.
+use Rattle.std.specs.Prelude.{◌≡◌, ◌≤◌, ◌⊎◌, length, Result, Ok, Err}
+use Rattle.serde_json.specs.Data.{Data}
+use Rattle.serde_json.specs.View.{view}
+use Rattle.serde_json.specs.declared.value.Value.{Value}
+use Rattle.vm_allocator.specs.Address.{AddressState}
+use Rattle.vm_allocator.specs.Answer.{FEWEST_TOO_DEEP}
+use Rattle.vm_allocator.specs.Values.TreeValues.{StatesAddresses}
+use Rattle.vm_allocator.specs.Values.RepairedValues.{StatesRepaired}
+use Rattle.vm_allocator.specs.Saving.{Saves, Reads}
+use Rattle.vm_allocator.specs.declared.saved.ValueError.{ValueError}
+use Rattle.vm_allocator.specs.declared.saved.ValueError.TheVariants.{OutOfMemory}
+
+-- a value states one object at most
+abbrev pub StatesOne : {X : Type 0} → (Data → X → Type 0) → Type 0
+StatesOne {X} States = (d : Data) (first second : X) → States d first → States d second → first ≡ second
+
+-- what is written of an object is read as this object, unless there is no memory for reading it
+abbrev pub ReadsWritten : {X : Type 0} → (Data → X → Type 0) → Type 0
+ReadsWritten {X} States =
+    (old : X) (value : Value) (answer : Result X ValueError) →
+    Saves (λ d. States d old) (Ok value) → Reads (States (view value)) answer →
+    (answer ≡ Ok old) ⊎ (answer ≡ Err OutOfMemory)
+
+-- a value that is read without repairs is read to the same state with them, unless there is no memory, where so few
+-- ranges are held that no split of them can be refused for depth
+abbrev pub ReadsAlike : Type 0
+ReadsAlike =
+    (value : Value) (state : AddressState) (answer : Result AddressState ValueError) →
+    Reads (StatesAddresses (view value)) (Ok state) → length state.held ≤ FEWEST_TOO_DEEP →
+    Reads (StatesRepaired (view value)) answer →
+    (answer ≡ Ok state) ⊎ (answer ≡ Err OutOfMemory)

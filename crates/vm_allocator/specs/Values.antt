@@ -1,0 +1,5 @@
+pub mod ValueFields
+pub mod RangeValues
+pub mod TreeValues
+pub mod IdValues
+pub mod RepairedValues
