@@ -52,7 +52,6 @@ impl AddressAllocator {
         let Ok(()) = hold_keys(checked.root, MOST_NESTED, alloc, &mut allocator) else {
             return Err(ValueError::OutOfMemory);
         };
-        let _ = allocator.base();
         Ok(allocator)
     }
 }
@@ -89,7 +88,7 @@ impl Row {
 
 /// The row with the blocks of the nodes of a value, in order. None where it is no tree of nodes, has
 /// them nested deeper than `depth`, or has a block that may not stand where it does.
-#[tactic(auto, unfolding(crate::specs::SavedRepairs::row_found))]
+#[tactic(auto, unfolding(crate::specs::Checks::RepairChecks::row_found))]
 fn check_keys(value: &Value, end: u64, depth: u64, row: Row) -> Option<Row>
     ensures { result ≡ row_found end depth (view value.now) row }
 {
@@ -160,8 +159,6 @@ fn hold_key(
         return Ok(());
     }
     let policy = AllocPolicy::ExactMatch(key.start());
-    match allocator.allocate(alloc, key.len(), 1, policy) {
-        Ok(_) => Ok(()),
-        Err(error) => Err(error),
-    }
+    allocator.allocate(alloc, key.len(), 1, policy)?;
+    Ok(())
 }
