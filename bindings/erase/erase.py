@@ -65,14 +65,15 @@ METHODS = {
     "alloc", "and_then", "as_array", "as_object", "as_slice", "as_str", "as_u64", "checked_add", "checked_mul",
     "clone", "cmp", "contains", "copied", "copy_from_slice", "first", "first_chunk", "flush", "get", "ilog2", "insert",
     "into", "is_ascii_digit", "is_empty", "is_none", "is_null", "is_power_of_two", "is_some", "iter", "len", "max",
-    "min", "next", "ok", "pop_first", "push", "read", "remove", "saturating_add", "simd_eq", "stdin", "stdout",
+    "min", "next", "ok", "ok_or", "pop_first", "push", "read", "remove", "saturating_add", "simd_eq", "stdin", "stdout",
     "take", "to_bitmask", "trailing_zeros", "unwrap", "write_all",
 }
 MACROS = {"json", "unreachable"}
 DERIVES = {"Clone", "Copy", "Debug", "Default", "Drop", "Eq", "Error", "Hash", "Ord", "PartialEq", "PartialOrd"}
 # No item of a crate may have one of these names, since the tables mean the libraries' own.
 TAKEN = (PRELUDE | NAMES | NUMBERS | {path.split("::")[0] for path in ASSOCIATED}) - {"Result"}
-TRAITS = {"Eq", "Iterator", "Ord", "PartialEq", "PartialOrd"}
+TRAITS_OF_A_TYPE = {"From"}
+TRAITS = {"Eq", "Iterator", "Ord", "PartialEq", "PartialOrd"} | TRAITS_OF_A_TYPE
 TRAITS_OF_TESTS = {"Read", "Write"}
 ATTRIBUTES = {"allow", "cold", "default", "derive", "error", "inline"}
 KEYWORDS = set("""_ as bool break const continue crate else enum false fn for if impl in let loop match mod
@@ -463,8 +464,12 @@ class File(Tokens):
 
     def implementation(self, item):
         index = self.angles(item.keyword + 1)
-        trait = self.tokens[index].text if self.at(index + 1, "for") else None
-        index += 2 if trait else 0
+        of_type = self.at(index + 1, "<") and self.tokens[index].text in TRAITS_OF_A_TYPE
+        behind = index + (4 if of_type else 1)
+        trait = self.tokens[index].text if self.at(behind, "for") else None
+        if trait and of_type:
+            self.uses.append((self.start_of(index + 2), "a type", self.tokens[index + 2].text))
+        index = behind + 1 if trait else index
         name = self.tokens[index].text
         self.uses.append((self.start_of(index), "a type", name))
         index = self.angles(index + 1)

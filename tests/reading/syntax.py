@@ -11,7 +11,7 @@ from reading.forms import (
 from reading.words import Word, words_of
 
 ATTRIBUTES = {"allow", "cfg", "default", "derive", "error", "inline", "tactic"}
-TRAITS = {"Eq", "Iterator", "Model", "Ord", "PartialEq", "PartialOrd"}
+TRAITS = {"Eq", "From", "Iterator", "Model", "Ord", "PartialEq", "PartialOrd"}
 CONTRACTS = {"requires", "ensures"}
 CLOSING = {"(": ")", "[": "]", "{": "}"}
 ASSIGNMENTS = {"=", "+=", "-=", "*=", "/=", "%=", "^=", "&=", "|=", "<<=", ">>="}
@@ -227,8 +227,8 @@ class Reader:
         self.expect(":")
         self.module.constants[name] = self.type()
         self.expect("=")
-        if not (self.word.kind == "number" and self.ahead(1) == ";"):
-            raise self.word.refused("a constant that is no number")
+        if not (self.word.kind in ("number", "text") and self.ahead(1) == ";"):
+            raise self.word.refused("a constant that is no number and no text")
         self.take()
         self.expect(";")
 

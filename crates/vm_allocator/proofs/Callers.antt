@@ -2,14 +2,15 @@
 use Rattle.std.proofs.Common.{◌≡◌, ℕ, ◌+◌, ◌-◌, ◌%◌, List, [], ◌∷◌, ◌<◌, ◌≤◌, ◌⊎◌, arith, refl, sym, ap, ◌∙◌, inl, inr, ⊎_elim, subst, Result, Ok, Err, IfOk, IfErr}
 use Rattle.std.specs.List.{Contains}
 use Rattle.serde_json.specs.Data.{Data}
+use Rattle.vm_values.proofs.NumberSets.{inserted_here}
 use Rattle.vm_allocator.specs.Range.{Range, IsIn, Overlaps, address_count, span}
 use Rattle.vm_allocator.specs.Address.{AddressState, AreClear, IsPlace, IsAddressState, holding, releasing, without_range}
 use Rattle.vm_allocator.specs.Alignment.{IsAlignment}
 use Rattle.vm_allocator.specs.Request.{Request, request_for, IsRequest, IsStartAligned}
 use Rattle.vm_allocator.specs.Answer.{IsChosen, IsSplitRefusal, Takes, Allocates, Frees}
-use Rattle.vm_allocator.specs.Ids.{IdState, IsHeld, IsLeastNotHeld, holding_id, ByLeastNotHeld, AllocatesId}
-use Rattle.vm_allocator.specs.Allocator.{SpaceInTree}
-use Rattle.vm_allocator.specs.Values.TreeValues.{StatesAllocator}
+use Rattle.vm_allocator.specs.Ids.{IdState, IsIdState, IsHeld, IsLeastNotHeld, holding_id, ByLeastNotHeld, AllocatesId}
+use Rattle.vm_allocator.specs.Allocator.{SpaceInTree, state_of}
+use Rattle.vm_allocator.specs.Values.TreeValues.{StatesAllocator, StatesAddresses}
 use Rattle.vm_allocator.specs.Values.IdValues.{StatesIds}
 use Rattle.vm_allocator.specs.declared.error.Error.{Error}
 use Rattle.vm_allocator.specs.declared.error.Error.TheVariants.{Overflow, OutOfMemory}
@@ -18,15 +19,17 @@ use Rattle.vm_allocator.specs.declared.constraint.AllocPolicy.TheVariants.{Exact
 use Rattle.vm_allocator.proofs.Blocks.PlainWords.{IsHeldAddress, IsHeld as IsHeldRange, contains_held, held_contains, all_miss, none_holds, held_address}
 use Rattle.vm_allocator.proofs.Blocks.HeldSets.{held_lies, one_held}
 use Rattle.vm_allocator.proofs.Blocks.HeldChanges.{held_now, held_without, not_held_without}
+use Rattle.vm_allocator.proofs.Answers.AddressAnswers.{releases_held}
 use Rattle.vm_allocator.proofs.Answers.Once.{chosen_place}
 use Rattle.vm_allocator.proofs.Answers.Filling.{allocates_chosen}
 use Rattle.vm_allocator.proofs.Answers.Outcomes.{allocates_outcome}
-use Rattle.vm_allocator.proofs.Ids.IdSets.{inserted_here}
-use Rattle.vm_allocator.proofs.Reading.ReadAllocators.{one_allocator}
-use Rattle.vm_allocator.proofs.Reading.ReadIdStates.{one_stated}
+use Rattle.vm_allocator.proofs.Reading.ReadAllocators.{one_allocator, stated_state as stated_addresses}
+use Rattle.vm_allocator.proofs.Reading.ReadIdStates.{one_stated, stated_state as stated_ids}
 -- a list of held ranges or ids, no two the same, has all of them exactly if it has as many as are held
 pub use Rattle.vm_allocator.proofs.Blocks.HeldLists.{slots_listed}
 pub use Rattle.vm_allocator.proofs.Ids.IdCounts.{ids_listed}
+-- the range that a value states is what is found of it
+pub use Rattle.vm_allocator.proofs.Reading.ReadRanges.{found-states, states-found}
 
 -- a range that was given: as long as was asked, from a multiple of the alignment on, clear before and held after
 pub record IsGiven (old : AddressState) (request : Request) (r : Range) (new : AddressState) : Type 0 where
@@ -173,6 +176,20 @@ id_is_held old new (Ok id) h =
     h
 id_is_held old new (Err e) h = tt
 
+-- a range that was given was held by no one
+pub range_was_free : (old new : AddressState) (request : Request) (r : Range) → Allocates old request (Ok r) new → ¬ Contains old.held r
+unfolding IsPlace
+range_was_free old new request r h c =
+    let g = given old new request r h in
+    let some = g.some in
+    let end : r.end ≡ r.start + request.size - 1 = ap (λ (v : Range). v.end) g.long in
+    let inside : IsIn r r.start = (omega arith, omega arith) in
+    none_holds old.held r.start (g.place.1 r.start (omega arith) (omega arith)).1 (held_address old.held r r.start (held_contains old.held r c) inside)
+
+-- a held range can be given back
+pub frees_held : (old : AddressState) (r : Range) → Contains old.held r → Frees old r (Ok tt) (releasing r old)
+frees_held old r c = releases_held old r (held_contains old.held r c)
+
 -- ---- saved values
 -- what is read of a written value is what was written
 pub allocator_again : (d : Data) (old new : SpaceInTree) → StatesAllocator d old → StatesAllocator d new → new ≡ old
@@ -180,5 +197,15 @@ allocator_again d old new s t = one_allocator d new old t s
 
 pub ids_again : (d : Data) (old new : IdState) → StatesIds d old → StatesIds d new → new ≡ old
 ids_again d old new s t = one_stated d new old t s
+
+pub addresses_again : (d : Data) (old new : AddressState) → StatesAddresses d old → StatesAddresses d new → new ≡ old
+addresses_again d old new s t = sym t.is ∙ ap state_of (one_allocator d t.allocator s.allocator t.stated s.stated) ∙ s.is
+
+-- and is the state of an allocator
+pub ids_stated : (d : Data) (state : IdState) → StatesIds d state → IsIdState state
+ids_stated d state s = stated_ids d state s
+
+pub addresses_stated : (d : Data) (state : AddressState) → StatesAddresses d state → IsAddressState state
+addresses_stated d state s = subst IsAddressState s.is (stated_addresses d s.allocator s.stated)
 
 pub ruleset callers = (given_aligned, given_long, given_held, given_apart, taken_again, refused_again, id_was_free, id_is_held, allocator_again, ids_again)

@@ -1,4 +1,3 @@
-pub mod FieldSteps
 pub mod ReadRanges
 pub mod ReadStates
 pub mod Fronts

@@ -1,4 +1,3 @@
-pub mod ValueFields
 pub mod RangeValues
 pub mod TreeValues
 pub mod IdValues

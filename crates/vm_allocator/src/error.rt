@@ -1,5 +1,9 @@
+ghost use Rattle.std.specs.Prelude.{◌≡◌};
+ghost use Rattle.vm_allocator.specs.declared.error.Error.TheVariants as errors;
+
 use crate::allocation_engine::NodeState;
 use crate::range::RangeInclusive;
+use std::alloc::AllocError;
 use thiserror::Error;
 
 /// Why a call is refused. A refused call changes nothing. Errors are ordered by variant, then by
@@ -45,6 +49,14 @@ pub enum Error {
     /// A request for memory was refused.
     #[error("There is not enough memory.")]
     OutOfMemory,
+}
+
+impl From<AllocError> for Error {
+    ghost from_gives = { λ _ e. e ≡ errors.OutOfMemory };
+
+    fn from(_error: AllocError) -> Error {
+        Error::OutOfMemory
+    }
 }
 
 /// What a call answers: a value, or why it is refused.

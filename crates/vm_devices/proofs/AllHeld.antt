@@ -10,11 +10,11 @@ use Rattle.std.specs.Map.{keys_of, values_of}
 use Rattle.std.specs.Ordering.{nat_cmp}
 use Rattle.std.specs.FinMap as map
 use Rattle.std.specs.FinSet as set
+use Rattle.vm_values.proofs.NumberSets.{inserted_here, inserted_other, from_inserted}
 use Rattle.vm_allocator.specs.Range.{Range, Overlaps}
 use Rattle.vm_allocator.specs.Address.{AddressState, IsAddressState}
 use Rattle.vm_allocator.specs.Ids.{IdState, IsHeld}
 use Rattle.vm_allocator.proofs.Answers.AddressAnswers.{lie_apart}
-use Rattle.vm_allocator.proofs.Ids.IdSets.{inserted_here, inserted_other, from_inserted}
 use Rattle.vm_allocator.proofs.Callers.{slots_listed, ids_listed}
 use Rattle.vm_devices.specs.Devices.{DeviceState, IsDevice, ArePaired}
 use Rattle.vm_devices.specs.SavedChecks.{AreHeldApart, AreAllHeld}
@@ -22,7 +22,8 @@ use Rattle.vm_devices.proofs.Entries.{IsEntry, Rise, head_below, rest_rises, fou
 
 -- ---- each has its own
 module _ (ids : IdState) (space : AddressState) where
-  each_held : (seen : set.FinSet nat_cmp) (es : List (ℕ × Range)) (id : ℕ) (r : Range) → AreHeldApart ids space seen es → IsEntry es id r → IsHeld ids id × Contains space.held r × ¬ IsTrue (set.contains seen r.start)
+  each_held : (seen : set.FinSet nat_cmp) (es : List (ℕ × Range)) (id : ℕ) (r : Range) → AreHeldApart ids space seen es → IsEntry es id r →
+      IsHeld ids id × Contains space.held r × ¬ IsTrue (set.contains seen r.start)
   each_held seen [] id r a h = absurd h
   each_held seen (e ∷ es) id r a (inl k) = (
     subst (λ (v : ℕ × Range). IsHeld ids v.0) k a.0,
@@ -108,7 +109,9 @@ module _ (state : DeviceState) (es : List (ℕ × Range)) (is : state.devices �
       p.once j k r (subst (IsDevice state j) one (entry_device j q d)) (entry_device k r e)
 
   -- so some of the devices, which do not start where those seen before them do, have each its own
-  apart_from : IsAddressState state.space → ArePaired state → (seen : set.FinSet nat_cmp) (fs : List (ℕ × Range)) → Rise fs → ((id : ℕ) (r : Range) → IsEntry fs id r → IsEntry es id r) → ((id : ℕ) (r : Range) → IsEntry fs id r → ¬ IsTrue (set.contains seen r.start)) → AreHeldApart state.ids state.space seen fs
+  apart_from : IsAddressState state.space → ArePaired state → (seen : set.FinSet nat_cmp) (fs : List (ℕ × Range)) → Rise fs →
+      ((id : ℕ) (r : Range) → IsEntry fs id r → IsEntry es id r) → ((id : ℕ) (r : Range) → IsEntry fs id r → ¬ IsTrue (set.contains seen r.start)) →
+      AreHeldApart state.ids state.space seen fs
   apart_from i p seen [] t among new = tt
   apart_from i p seen (f ∷ fs) t among new =
       let d = entry_device f.0 f.1 (among f.0 f.1 (inl refl)) in (

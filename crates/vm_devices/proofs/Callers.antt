@@ -9,19 +9,21 @@ use Rattle.vm_allocator.specs.declared.constraint.AllocPolicy.{AllocPolicy}
 use Rattle.vm_allocator.proofs.Callers.{given_aligned, given_long, given_apart}
 use Rattle.vm_devices.specs.declared.device_slot.DeviceSlot.{DeviceSlot}
 use Rattle.vm_devices.specs.Devices.{DeviceState, IsDevice, IsDeviceState, Reserves, Releases}
-use Rattle.vm_devices.proofs.Again.{reserved_again}
+use Rattle.vm_devices.proofs.DevicesAgain.{reserved_again}
 use Rattle.vm_devices.proofs.Reserving.{reserved_device}
 use Rattle.vm_devices.proofs.Tables.{with_here}
 
 -- the range of a device starts at a multiple of the alignment
-pub device_aligned : (old new : DeviceState) (size align : ℕ) (policy : AllocPolicy) (answer : Result DeviceSlot Error) → Reserves old (request_for size align policy) answer new → IfOk answer (λ slot. slot.range.start % align ≡ 0)
+pub device_aligned : (old new : DeviceState) (size align : ℕ) (policy : AllocPolicy) (answer : Result DeviceSlot Error) →
+    Reserves old (request_for size align policy) answer new → IfOk answer (λ slot. slot.range.start % align ≡ 0)
 device_aligned old new size align policy (Ok slot) h =
     let d = reserved_device old new (request_for size align policy) slot h in
     given_aligned old.space (holding slot.range old.space) size align policy (Ok slot.range) d.given
 device_aligned old new size align policy (Err e) h = tt
 
 -- and has as many addresses as were asked for
-pub device_long : (old new : DeviceState) (size align : ℕ) (policy : AllocPolicy) (answer : Result DeviceSlot Error) → Reserves old (request_for size align policy) answer new → IfOk answer (λ slot. address_count slot.range ≡ size)
+pub device_long : (old new : DeviceState) (size align : ℕ) (policy : AllocPolicy) (answer : Result DeviceSlot Error) →
+    Reserves old (request_for size align policy) answer new → IfOk answer (λ slot. address_count slot.range ≡ size)
 device_long old new size align policy (Ok slot) h =
     let d = reserved_device old new (request_for size align policy) slot h in
     given_long old.space (holding slot.range old.space) size align policy (Ok slot.range) d.given
@@ -35,7 +37,8 @@ device_there old new request (Ok slot) h =
 device_there old new request (Err e) h = tt
 
 -- two that were reserved one after the other have no address in common
-pub devices_share_none : (old mid new : DeviceState) (first second : Request) (slot other : DeviceSlot) → Reserves old first (Ok slot) mid → Reserves mid second (Ok other) new → ¬ Overlaps slot.range other.range
+pub devices_share_none : (old mid new : DeviceState) (first second : Request) (slot other : DeviceSlot) → Reserves old first (Ok slot) mid →
+    Reserves mid second (Ok other) new → ¬ Overlaps slot.range other.range
 devices_share_none old mid new first second slot other h k =
     let d = reserved_device old mid first slot h in
     let e = reserved_device mid new second other k in
@@ -43,7 +46,8 @@ devices_share_none old mid new first second slot other h k =
     given_apart old.space mid.space (holding other.range mid.space) first second slot.range other.range (subst (Allocates old.space first (Ok slot.range)) (sym space) d.given) e.given
 
 -- a device that is released at once is reserved again by the same request
-pub device_again : (old mid new later : DeviceState) (request : Request) (slot : DeviceSlot) (answer : Result DeviceSlot Error) → IsDeviceState old → Reserves old request (Ok slot) mid → Releases mid slot.id (Ok tt) new → Reserves new request answer later → IfOk answer (λ again. again ≡ slot)
+pub device_again : (old mid new later : DeviceState) (request : Request) (slot : DeviceSlot) (answer : Result DeviceSlot Error) → IsDeviceState old →
+    Reserves old request (Ok slot) mid → Releases mid slot.id (Ok tt) new → Reserves new request answer later → IfOk answer (λ again. again ≡ slot)
 device_again old mid new later request slot (Ok again) i s f t =
     ⊎_elim
     (λ e. cc (e))

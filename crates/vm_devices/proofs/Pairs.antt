@@ -1,5 +1,5 @@
 -- A device that comes and one that goes leave ids and ranges in pairs.
-use Rattle.std.proofs.Common.{◌≡◌, ℕ, ◌≤◌, ◌↔◌, refl, sym, ap, ◌∙◌, arith, inl, inr, ⊎_elim, subst, Option, Some, None, IsSome, Ok}
+use Rattle.std.proofs.Common.{◌≡◌, ℕ, ◌↔◌, refl, sym, ap, ◌∙◌, arith, inl, inr, ⊎_elim, subst, Option, Some, None, IsSome, Ok}
 use Rattle.std.proofs.lemmas.Bool.{cases_eq}
 use Rattle.std.specs.List.{Contains}
 use Rattle.std.specs.FinMap as map
@@ -10,10 +10,9 @@ use Rattle.vm_allocator.specs.Answer.{Allocates, Frees}
 use Rattle.vm_allocator.specs.Laws.AddressLaws.{AddsRange, TakesRange}
 use Rattle.vm_allocator.specs.Ids.{IsHeld, AllocatesId, FreesId, holding_id, releasing_id}
 use Rattle.vm_allocator.specs.Laws.IdLaws.{AddsId, TakesId}
-use Rattle.vm_allocator.proofs.Blocks.PlainWords.{none_holds, held_address, held_contains}
-use Rattle.vm_allocator.proofs.Answers.AddressAnswers.{adds_range, takes_range, state_is_kept, lie_apart, releases_held}
+use Rattle.vm_allocator.proofs.Answers.AddressAnswers.{adds_range, takes_range, state_is_kept}
 use Rattle.vm_allocator.proofs.Ids.IdAnswers.{front_is_kept, allocating_adds, freeing_takes}
-use Rattle.vm_allocator.proofs.Callers.{id_was_free}
+use Rattle.vm_allocator.proofs.Callers.{range_was_free, frees_held, id_was_free}
 use Rattle.vm_devices.specs.Devices.{DeviceState, IsDevice, ArePaired, IsDeviceState, with_device, without_device}
 use Rattle.vm_devices.proofs.Tables.{with_here, with_other, without_here, without_other}
 
@@ -33,13 +32,9 @@ module _ (old : DeviceState) (id : ℕ) (r : Range) where
   other : (q : ℕ) → ¬ (q ≡ id) → map.get (with_device id r old).devices q ≡ map.get old.devices q
   other q ne = with_other old.devices id r q ne
 
-  -- of an id that was not held, and a range that no held one meets
-  module _ (i : IsDeviceState old) (free : ¬ IsHeld old.ids id) (a : AddsId old.ids (holding_id id old.ids) id) (s : AddsRange old.space (holding r old.space) r) (some : r.start ≤ r.end) where
-    was_clear : ¬ Contains old.space.held r
-    was_clear c =
-        none_holds old.space.held r.start (s.clear r.start (omega arith) some).1
-        (held_address old.space.held r r.start (held_contains old.space.held r c) (omega arith, some))
-
+  -- of an id and a range that were not held
+  module _ (i : IsDeviceState old) (free : ¬ IsHeld old.ids id) (a : AddsId old.ids (holding_id id old.ids) id)
+      (was_clear : ¬ Contains old.space.held r) (s : AddsRange old.space (holding r old.space) r) where
     ids_with : (q : ℕ) → IsHeld (with_device id r old).ids q ↔ IsSome (map.get (with_device id r old).devices q)
     ids_with q =
         ⊎_elim
@@ -97,15 +92,17 @@ module _ (old : DeviceState) (id : ℕ) (r : Range) where
     pairs_with : ArePaired (with_device id r old)
     pairs_with = record { ids = ids_with; held = held_with_it; owned = owned_with; once = once_with }
 
-pub state_with : (old : DeviceState) (id : ℕ) (r : Range) (request : Request) → IsDeviceState old → AllocatesId old.ids (Ok id) (holding_id id old.ids) → Allocates old.space request (Ok r) (holding r old.space) → IsDeviceState (with_device id r old)
+pub state_with : (old : DeviceState) (id : ℕ) (r : Range) (request : Request) → IsDeviceState old →
+    AllocatesId old.ids (Ok id) (holding_id id old.ids) → Allocates old.space request (Ok r) (holding r old.space) → IsDeviceState (with_device id r old)
 state_with old id r request i a s =
     let added = adds_range old.space (holding r old.space) request r i.space s in
     let space = state_is_kept.allocated old.space (holding r old.space) request (Ok r) i.space s in
-    let some = (((lie_apart (holding r old.space) space).inside) r ((added.held r).1 (inr refl))).0 in
+    let free = id_was_free old.ids (holding_id id old.ids) (Ok id) a in
+    let clear = range_was_free old.space (holding r old.space) request r s in
     record {
       ids = front_is_kept.allocated old.ids (holding_id id old.ids) (Ok id) i.ids a;
       space = space;
-      pairs = pairs_with old id r i (id_was_free old.ids (holding_id id old.ids) (Ok id) a) (allocating_adds old.ids (holding_id id old.ids) id i.ids a) added some;
+      pairs = pairs_with old id r i free (allocating_adds old.ids (holding_id id old.ids) id i.ids a) clear added;
     }
 
 -- ---- a device that goes
@@ -166,7 +163,7 @@ module _ (old : DeviceState) (id : ℕ) (r : Range) (i : IsDeviceState old) (d :
       inr ((out.0, omega (arith, out.1, i.ids.front.1)), inr (out, inr (id_held, inl (refl, refl))))
 
   frees_range : Frees old.space r (Ok tt) (releasing r old.space)
-  frees_range = releases_held old.space r (held_contains old.space.held r (i.pairs.held id r d))
+  frees_range = frees_held old.space r (i.pairs.held id r d)
 
   pub state_without : IsDeviceState (without_device id r old)
   state_without = record {

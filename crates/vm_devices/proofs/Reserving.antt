@@ -35,7 +35,8 @@ IsRefusedOrReserved old request answer new =
     ((e : Error) × (answer ≡ Err e) × (new ≡ old))
     ⊎ ((slot : DeviceSlot) × (answer ≡ Ok slot) × IsReserved old request slot new)
 
-paired_outcome : (old new : DeviceState) (space : AddressState) (request : Request) (id : ℕ) (given : Result Range Error) (answer : Result DeviceSlot Error) → IsLeastNotHeld old.ids id → Allocates old.space request given space → Pairs old id given answer new → IsRefusedOrReserved old request answer new
+paired_outcome : (old new : DeviceState) (space : AddressState) (request : Request) (id : ℕ) (given : Result Range Error) (answer : Result DeviceSlot Error) →
+    IsLeastNotHeld old.ids id → Allocates old.space request given space → Pairs old id given answer new → IsRefusedOrReserved old request answer new
 paired_outcome old new space request id (Err e) answer least a p = inl (e, p.0, p.1)
 paired_outcome old new space request id (Ok r) answer least a p =
     ⊎_elim
@@ -69,7 +70,9 @@ IsRefusedOrReleased old id answer new =
     ((e : Error) × (answer ≡ Err e) × (new ≡ old))
     ⊎ ((r : Range) × IsDevice old id r × (answer ≡ Ok tt) × (new ≡ without_device id r old))
 
-released_outcome : (old new : DeviceState) (id : ℕ) (answer : Result (Unit {0}) Error) (at : Option Range) → map.get old.devices id ≡ at → MatchOption at ((answer ≡ Err (NeverAllocated id)) × (new ≡ old)) (λ r. ((answer ≡ Ok tt) × (new ≡ without_device id r old)) ⊎ ((answer ≡ Err OutOfMemory) × (new ≡ old))) → IsRefusedOrReleased old id answer new
+released_outcome : (old new : DeviceState) (id : ℕ) (answer : Result (Unit {0}) Error) (at : Option Range) → map.get old.devices id ≡ at →
+    MatchOption at ((answer ≡ Err (NeverAllocated id)) × (new ≡ old)) (λ r. ((answer ≡ Ok tt) × (new ≡ without_device id r old)) ⊎ ((answer ≡ Err OutOfMemory) × (new ≡ old))) →
+    IsRefusedOrReleased old id answer new
 released_outcome old new id answer None e h = inl (NeverAllocated id, h.0, h.1)
 released_outcome old new id answer (Some r) e h =
     ⊎_elim (λ t. inr (r, e, t.0, t.1)) (λ m. inl (OutOfMemory, m.0, m.1)) h

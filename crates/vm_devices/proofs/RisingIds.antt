@@ -6,11 +6,11 @@ use Rattle.std.specs.List.Sorted.{IsStrictlySortedBy}
 use Rattle.std.specs.Map.{keys_of}
 use Rattle.std.specs.Ordering.{nat_cmp}
 use Rattle.serde_json.specs.Data.{Items, no_items, item}
+use Rattle.vm_values.proofs.Items.{less}
+use Rattle.vm_values.proofs.Steps.{and_then_some, map_some, if_some}
 use Rattle.vm_allocator.specs.Range.{Range}
-use Rattle.vm_allocator.proofs.Reading.FieldSteps.{and_then_some, if_some}
-use Rattle.vm_allocator.proofs.Reading.RisingBounds.{less}
 use Rattle.vm_devices.specs.SavedChecks.{device_found, rising_devices}
-use Rattle.vm_devices.proofs.Slots.{RiseFrom, mapped}
+use Rattle.vm_devices.proofs.SavedDevices.{RiseFrom}
 
 rises : (least : ℕ) (ds : Items) (es : List (ℕ × Range)) → rising_devices least ds ≡ Some es → RiseFrom least es
 rises least no_items [] h = tt
@@ -18,7 +18,7 @@ rises least no_items (e ∷ es) h = absurd (cc)
 rises least (item d ds) es h =
     let a = and_then_some _ (device_found d) es h in
     let b = if_some (leb least a.0.0) _ es a.2 in
-    let m = mapped _ (rising_devices (a.0.0 + 1) ds) es b.1 in
+    let m = map_some _ (rising_devices (a.0.0 + 1) ds) es b.1 in
     subst (RiseFrom least) m.2 (leb-true least a.0.0 b.0, rises (a.0.0 + 1) ds m.0 m.1)
 
 above : (n least : ℕ) (es : List (ℕ × Range)) → n + 1 ≤ least → RiseFrom least es → AllByRecursion (λ k. nat_cmp n k ≡ Less) (keys_of es)

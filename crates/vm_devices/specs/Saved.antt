@@ -6,9 +6,10 @@ use Rattle.std.specs.Ordering.{nat_cmp}
 use Rattle.std.specs.FinMap as map
 use Rattle.serde_json.specs.Data.{Data, Items, no_items, item}
 use Rattle.serde_json.specs.Find.{as_array}
+use Rattle.vm_values.specs.Fields.{field_count, FieldIs}
+use Rattle.vm_values.specs.Numbers.{number_in}
 use Rattle.vm_allocator.specs.Range.{Range}
 use Rattle.vm_allocator.specs.Ids.{MAX_ID}
-use Rattle.vm_allocator.specs.Values.ValueFields.{field_count, FieldIs, number_in}
 use Rattle.vm_allocator.specs.Values.RangeValues.{StatesRange}
 use Rattle.vm_allocator.specs.Values.TreeValues.{StatesAddresses}
 use Rattle.vm_allocator.specs.Values.IdValues.{StatesIds}

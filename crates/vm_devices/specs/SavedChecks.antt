@@ -8,21 +8,21 @@ use Rattle.std.specs.FinSet as set
 use Rattle.serde_json.specs.Data.{Data, Items, no_items, item}
 use Rattle.serde_json.specs.Find.{get, as_array}
 use Rattle.serde_json.specs.Events.{items_len}
+use Rattle.vm_values.specs.Fields.{field_count, is_count}
+use Rattle.vm_values.specs.Numbers.{number_in, u32_in}
 use Rattle.vm_allocator.specs.Range.{Range}
 use Rattle.vm_allocator.specs.Address.{AddressState}
 use Rattle.vm_allocator.specs.Ids.{IdState, IsHeld, held_count}
-use Rattle.vm_allocator.specs.Values.ValueFields.{field_count, number_in}
-use Rattle.vm_allocator.specs.Checks.ValueChecks.{is_count, range_found}
-use Rattle.vm_allocator.specs.Checks.IdChecks.{id_in}
 use Rattle.vm_allocator.specs.declared.saved.ValueError.{ValueError}
 use Rattle.vm_allocator.specs.declared.saved.ValueError.TheVariants.{NotAState, OutOfMemory}
+use Rattle.vm_allocator.specs.Values.RangeValues.{range_found}
 
 -- the device that a value states
 abbrev pub device_found : Data → Option (ℕ × Range)
 device_found d =
     if is_count 2 (field_count d) then
     option_and_then (λ id. option_map (λ r. (id, r)) (option_and_then range_found (get (codes "mmio_range") d)))
-    (id_in (codes "id") d)
+    (u32_in (codes "id") d)
     else None
 
 -- the devices of the items, where their ids rise from `least` on

@@ -1,3 +1,5 @@
+//! The manager of devices. Ids, ranges and the table that pairs them change together or not at all:
+//! what may be refused comes first, and what follows it is always done.
 ghost use Rattle.std.specs.Prelude.{◌≡◌, OnErr, IfOk};
 ghost use Rattle.std.specs.FinMap as map;
 ghost use Rattle.vm_allocator.specs.Request.{request_for};
@@ -39,7 +41,7 @@ impl DeviceManager {
     /// `size` addresses from `base` on. In this order: `InvalidRange(id_lo, id_hi)` where the last id
     /// is below the first, `Underflow` for a size of 0, `Overflow` for an end past `u64::MAX`, and
     /// `OutOfMemory`.
-    #[tactic(auto, using(crate::proofs::Calls::makes_managers))]
+    #[tactic(auto, using(crate::proofs::DeviceCalls::makes_managers))]
     pub fn new(alloc: Global, id_lo: u32, id_hi: u32, base: u64, size: u64) -> Result<Self>
         ensures answer { MakesManager id_lo id_hi base size result }
         ensures state { IfOk result IsDeviceState }
@@ -57,7 +59,7 @@ impl DeviceManager {
     /// the policy chooses, a multiple of `align`. In this order: `Overflow` or `ResourceNotAvailable`
     /// where all ids are held, as `IdAllocator::allocate_id` says; what `AddressAllocator::allocate`
     /// refuses; and `OutOfMemory`. A refusal leaves ids, ranges and devices as they were.
-    #[tactic(auto, using(crate::proofs::Calls::reserves_devices))]
+    #[tactic(auto, using(crate::proofs::DeviceCalls::id_refused))]
     pub fn reserve(
         &mut self,
         alloc: Global,
@@ -83,7 +85,7 @@ impl DeviceManager {
 
     /// Gives back the id and the range of a device. `NeverAllocated(id)` where no device has the id,
     /// and then `OutOfMemory`. A refusal leaves ids, ranges and devices as they were.
-    #[tactic(auto, using(crate::proofs::Calls::releases_devices))]
+    #[tactic(auto, using(crate::proofs::DeviceCalls::no_device))]
     pub fn release(&mut self, id: u32) -> Result<()>
         ensures answer { Releases self.old id result self.new }
         ensures unchanged { OnErr result (self.new ≡ self.old) }

@@ -1,3 +1,4 @@
+//! What a device is known by.
 use vm_allocator::RangeInclusive;
 
 /// What a device holds: an id, and a range of addresses.

@@ -15,7 +15,7 @@ use Rattle.vm_allocator.proofs.Ids.IdAnswers.{making_is_determined, allocating_i
 use Rattle.vm_replay.specs.Commands.{command_of}
 use Rattle.vm_replay.specs.Lines.{newline}
 use Rattle.vm_devices.specs.Devices.{DeviceState}
-use Rattle.vm_devices.proofs.Once.{devices_decide}
+use Rattle.vm_devices.proofs.DevicesOnce.{devices_decide}
 use Rattle.vm_replay.specs.Machines.{Machine, start, with_space, with_ids, with_devices, OnPart, OnSpace, OnIds, OnDevices, Places, Releases, Does}
 use Rattle.vm_replay.specs.Replies.{text_of, done_or_refused, given_or_refused, id_or_refused, device_or_refused}
 use Rattle.vm_replay.specs.Laws.{HoldsFew, AreAnsweredInMemory, AreAnsweredAmply, OneText}

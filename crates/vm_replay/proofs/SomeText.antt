@@ -13,7 +13,7 @@ use Rattle.vm_replay.specs.Laws.{HasReply, HasText, AreAnsweredInMemory}
 use Rattle.vm_replay.specs.Lines.{newline}
 use Rattle.vm_devices.specs.declared.device_slot.DeviceSlot.{DeviceSlot}
 use Rattle.vm_devices.specs.Devices.{DeviceState}
-use Rattle.vm_devices.proofs.EveryCall.{every_device_call}
+use Rattle.vm_devices.proofs.EveryDeviceCall.{every_device_call}
 use Rattle.vm_replay.specs.Machines.{Machine, start, with_space, with_ids, with_devices, OnPart, OnSpace, OnIds, OnDevices, Places, Does}
 use Rattle.vm_replay.specs.Replies.{text_of, done_or_refused, given_or_refused, id_or_refused, device_or_refused}
 use Rattle.vm_replay.specs.Runs.{AreAnswered}

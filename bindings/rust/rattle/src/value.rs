@@ -259,13 +259,13 @@ macro_rules! json {
         }
     }};
     (@object [$($done:tt)*]) => { $crate::Value::object([$($done)*]) };
-    (@object [$($done:tt)*] $name:literal: {$($fields:tt)*} $(, $($rest:tt)*)?) => {
+    (@object [$($done:tt)*] $name:tt: {$($fields:tt)*} $(, $($rest:tt)*)?) => {
         $crate::json!(@object [$($done)* ($name, $crate::json!(@object [] $($fields)*)),] $($($rest)*)?)
     };
-    (@object [$($done:tt)*] $name:literal: null $(, $($rest:tt)*)?) => {
+    (@object [$($done:tt)*] $name:tt: null $(, $($rest:tt)*)?) => {
         $crate::json!(@object [$($done)* ($name, Ok($crate::Value::Null)),] $($($rest)*)?)
     };
-    (@object [$($done:tt)*] $name:literal: $value:expr $(, $($rest:tt)*)?) => {
+    (@object [$($done:tt)*] $name:tt: $value:expr $(, $($rest:tt)*)?) => {
         $crate::json!(@object [$($done)* ($name, Ok($crate::Value::from($value))),] $($($rest)*)?)
     };
 }

@@ -5,12 +5,12 @@ use Rattle.std.proofs.lemmas.List.Elements.{Contains-append_right}
 use Rattle.std.specs.List.{Contains}
 use Rattle.std.specs.Ordering.{nat_cmp}
 use Rattle.std.specs.FinSet as set
+use Rattle.vm_values.proofs.NumberSets.{same_test}
 use Rattle.vm_allocator.specs.Ids.{IdState, IsHeld, IsLeastNotHeld, IsIdState, fresh_ids, MakesIds, ByLeastNotHeld, AllocatesId, FreesId}
 use Rattle.vm_allocator.specs.Histories.IdHistories.{IdCall, Allocation, Release, Cloning, IsIdCallFrom, IsIdHistoryFrom, AreIdsMade, AreIdsRead, is_held_after, is_out_after}
 use Rattle.vm_allocator.specs.Laws.IdHistoryLaws.{EachIsLeastNotHeld, NoIdIsHeldTwice, HeldIsOut, StatesAreOfIds}
 use Rattle.vm_allocator.specs.declared.error.Error.{Error}
 use Rattle.vm_allocator.proofs.Answers.CloneAnswers.{cloning_keeps}
-use Rattle.vm_allocator.proofs.Ids.IdSets.{same_test}
 use Rattle.vm_allocator.proofs.Reading.ReadIdStates.{stated_state}
 use Rattle.vm_allocator.proofs.Ids.IdAnswers.{front_is_kept, allocating_adds, freeing_takes}
 

@@ -5,9 +5,10 @@ use Rattle.std.specs.List.{list_any}
 use Rattle.std.specs.Ordering.{nat_cmp, eq_by_cmp}
 use Rattle.std.specs.BTreeSet.{BTreeSet, contains, Updates, IsUnchanged}
 use Rattle.std.specs.FinSet as set
+use Rattle.vm_values.proofs.NumberSets.{same_members, removed_other, from_removed, changed_here, changed_other}
 use Rattle.vm_allocator.specs.Ids.{IdState, IsOfRange, IsHandedOut, releasing_id, FreesId, bound_of, held_of, ids_of, AreIds}
 use Rattle.vm_allocator.specs.declared.error.Error.TheVariants.{OutOfRange, AlreadyReleased, NeverAllocated, OutOfMemory}
-use Rattle.vm_allocator.proofs.Ids.IdSets.{same_members, removed_other, from_removed, held_from, from_held, changed_here, changed_other}
+use Rattle.vm_allocator.proofs.Ids.IdSets.{held_from, from_held}
 use Rattle.vm_allocator.proofs.Ids.IdFields.{holds, holds_not}
 use Rattle.vm_allocator.proofs.Ids.TakingIds.{takes_same, same_ids}
 

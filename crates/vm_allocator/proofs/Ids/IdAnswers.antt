@@ -3,12 +3,12 @@ use Rattle.std.proofs.Common.{◌≡◌, ◌≢◌, ℕ, ◌<◌, ◌≤◌, ◌
 use Rattle.std.proofs.lemmas.Bool.{cases_lt, cases_eq, both_ways}
 use Rattle.std.specs.Ordering.{nat_cmp}
 use Rattle.std.specs.FinSet as set
+use Rattle.vm_values.proofs.NumberSets.{inserted_here, inserted_other, from_inserted, removed_other, from_removed}
 use Rattle.vm_allocator.specs.Ids.{MAX_ID, IdState, IsHandedOut, IsHeld, IsLeastNotHeld, AreAllHeld, IsIdState, fresh_ids, holding_id, releasing_id, MakesIds, ByLeastNotHeld, AllocatesId, PeeksId, FreesId}
 use Rattle.vm_allocator.specs.Laws.IdLaws.{MakingIsDetermined, AllocatingIsDetermined, PeekingForetells, FreeingIsDetermined, FrontIsKept, AddsId, TakesId, AllocatingAdds, FreeingTakes}
 use Rattle.vm_allocator.specs.declared.error.Error.{Error}
 use Rattle.vm_allocator.specs.declared.error.Error.TheVariants.{Overflow, ResourceNotAvailable, OutOfMemory}
 use Rattle.vm_allocator.proofs.Answers.TwoFacts.{if_same, unless_same}
-use Rattle.vm_allocator.proofs.Ids.IdSets.{inserted_here, inserted_other, from_inserted, removed_other, from_removed}
 
 -- One answer.
 

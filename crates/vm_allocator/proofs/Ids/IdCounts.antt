@@ -11,10 +11,11 @@ use Rattle.std.specs.Ordering.{nat_cmp, eq_by_cmp}
 use Rattle.std.specs.Cmp.{nat_cmp_total}
 use Rattle.std.specs.BTreeSet.{BTreeSet, btree_set_len, IsOrdered}
 use Rattle.std.specs.FinSet as set
+use Rattle.vm_values.proofs.NumberSets.{tied_here, tied_is, apart_not_tied, same_members, removed_other}
 use Rattle.vm_allocator.specs.Ids.{IdState, IsHeld, held_count, bound_of, held_of, ids_of, AreIds}
 use Rattle.vm_allocator.specs.Laws.IdLaws.{IdCountTellsAll}
 use Rattle.vm_allocator.proofs.Numbers.Listed.{Differ, listed_is, each_listed}
-use Rattle.vm_allocator.proofs.Ids.IdSets.{tied_here, tied_is, apart_not_tied, same_members, removed_other, in_row, bound_above}
+use Rattle.vm_allocator.proofs.Ids.IdSets.{in_row, bound_above}
 
 -- ---- a set of numbers that differ
 abbrev same : ℕ → ℕ → Bool

@@ -6,9 +6,10 @@ use Rattle.std.specs.BTreeSet.{BTreeSet, contains, IsEmpty}
 use Rattle.std.specs.FinSet as set
 use Rattle.std.specs.List.{AllZip}
 use Rattle.std.proofs.lemmas.List.Elements.{same_from_all_zip}
+use Rattle.vm_values.proofs.NumberSets.{same_members}
 use Rattle.vm_allocator.specs.Ids.{IdState, IsHandedOut, IsHeld, fresh_ids, MakesIds, bound_of, held_of, ids_of, AreIds, IsIdState}
 use Rattle.vm_allocator.specs.declared.error.Error.TheVariants.{InvalidRange}
-use Rattle.vm_allocator.proofs.Ids.IdSets.{same_members, from_held, from_holds, holds_of, bound_fits, bound_above}
+use Rattle.vm_allocator.proofs.Ids.IdSets.{from_held, from_holds, holds_of, bound_fits, bound_above}
 
 -- Making.
 

@@ -6,48 +6,8 @@ use Rattle.std.specs.Ordering.{nat_cmp, eq_by_cmp}
 use Rattle.std.specs.Cmp.{nat_cmp_total, unsigned_tied}
 use Rattle.std.specs.BTreeSet.{BTreeSet, contains, Updates}
 use Rattle.std.specs.FinSet as set
+use Rattle.vm_values.proofs.NumberSets.{tied_here, tied_is}
 use Rattle.vm_allocator.specs.Ids.{IsHandedOut, IsHeld, bound_of, held_of, ids_of, IsNext}
-
--- Members of sets of numbers.
-
-pub tied_here : (i : ℕ) → eq_by_cmp nat_cmp i i ≡ true
-tied_here i = unsigned_tied i i ∙ eq-eqb i i refl
-
-pub tied_is : (i j : ℕ) → eq_by_cmp nat_cmp i j ≡ true → i ≡ j
-tied_is i j e = eqb-true i j (sym (unsigned_tied i j) ∙ e)
-
-pub apart_not_tied : (i j : ℕ) → (i ≡ j → ⊥) → eq_by_cmp nat_cmp i j ≡ false
-apart_not_tied i j ne = unsigned_tied i j ∙ ne_eqb i j ne
-
-pub same_test : (a b : Bool) → (a ≡ true → b ≡ true) → (b ≡ true → a ≡ true) → a ≡ b
-same_test true b f g = sym (f refl)
-same_test false true f g = g refl
-same_test false false f g = refl
-
-pub same_members : (s t : set.FinSet nat_cmp) → ((q : ℕ) → IsTrue (set.contains s q) → IsTrue (set.contains t q)) → ((q : ℕ) → IsTrue (set.contains t q) → IsTrue (set.contains s q)) → s ≡ t
-same_members s t there back =
-    set.same_set nat_cmp_total set.nat_cmp-IsAntisymmetric s t (λ q. same_test (set.contains s q) (set.contains t q) (there q) (back q))
-
-pub inserted_here : (s : set.FinSet nat_cmp) (k : ℕ) → IsTrue (set.contains (set.insert s k) k)
-inserted_here s k = set.contains-insert nat_cmp_total s k k ∙ or_left _ _ (tied_here k)
-
-pub inserted_other : (s : set.FinSet nat_cmp) (k q : ℕ) → IsTrue (set.contains s q) → IsTrue (set.contains (set.insert s k) q)
-inserted_other s k q h = set.contains-insert nat_cmp_total s k q ∙ or_right _ _ h
-
-pub from_inserted : (s : set.FinSet nat_cmp) (k q : ℕ) → IsTrue (set.contains (set.insert s k) q) → (q ≡ k) ⊎ IsTrue (set.contains s q)
-from_inserted s k q h =
-    ⊎_elim (λ e. inl (tied_is q k e)) (λ m. inr m) (or_cases _ _ (sym (set.contains-insert nat_cmp_total s k q) ∙ h))
-
-pub removed_other : (s : set.FinSet nat_cmp) (k q : ℕ) → (q ≡ k → ⊥) → IsTrue (set.contains s q) → IsTrue (set.contains (set.remove s k) q)
-removed_other s k q ne h =
-    set.contains-remove nat_cmp_total s k q ∙ and_from _ _ (ap not (apart_not_tied q k ne)) h
-
-pub from_removed : (s : set.FinSet nat_cmp) (k q : ℕ) → IsTrue (set.contains (set.remove s k) q) → (q ≡ k → ⊥) × IsTrue (set.contains s q)
-from_removed s k q h =
-    let parts = and_parts _ _ (sym (set.contains-remove nat_cmp_total s k q) ∙ h) in (
-      λ e. both_ways (eq_by_cmp nat_cmp q k) (not-true _ parts.0) (ap (λ (x : ℕ). eq_by_cmp nat_cmp q x) (sym e) ∙ tied_here q),
-      parts.1,
-    )
 
 -- The numbers of a row.
 
@@ -99,11 +59,3 @@ bound_fits lo hi (Some n) h = h.1
 pub bound_above : (lo hi : ℕ) (next : Option ℕ) → lo ≤ hi → IsNext lo hi next → lo ≤ bound_of next hi
 bound_above lo hi None l h = omega arith
 bound_above lo hi (Some n) l h = h.0
-
--- Sets after a change.
-
-pub changed_here : (old new : BTreeSet ℕ) (k : ℕ) (b : Bool) → Updates nat_cmp old new k b → contains nat_cmp new k ≡ b
-changed_here old new k b u = u.0 k ∙ ap (λ (t : Bool). cond t b (contains nat_cmp old k)) (tied_here k)
-
-pub changed_other : (old new : BTreeSet ℕ) (k q : ℕ) (b : Bool) → Updates nat_cmp old new k b → (k ≡ q → ⊥) → contains nat_cmp new q ≡ contains nat_cmp old q
-changed_other old new k q b u ne = u.0 q ∙ ap (λ (t : Bool). cond t b (contains nat_cmp old q)) (apart_not_tied k q ne)

@@ -7,10 +7,11 @@ use Rattle.std.specs.List.{range_with_len, list_any}
 use Rattle.std.specs.Ordering.{nat_cmp, eq_by_cmp}
 use Rattle.std.specs.BTreeSet.{BTreeSet, btree_set_len, contains, Updates, IsLowerBound, IsUnchanged}
 use Rattle.std.specs.FinSet as set
+use Rattle.vm_values.proofs.NumberSets.{same_members, inserted_here, inserted_other, from_inserted, changed_here, changed_other}
 use Rattle.vm_allocator.specs.Ids.{MAX_ID, IdState, IsHeld, IsNotHeld, IsLeastNotHeld, AreAllHeld, holding_id, ByLeastNotHeld, AllocatesId, PeeksId, bound_of, held_of, ids_of, NextId, AreIds}
 use Rattle.vm_allocator.specs.declared.error.Error.{Error}
 use Rattle.vm_allocator.specs.declared.error.Error.TheVariants.{Overflow, ResourceNotAvailable}
-use Rattle.vm_allocator.proofs.Ids.IdSets.{same_members, inserted_here, inserted_other, from_inserted, held_from, from_held, holds_from, from_holds, bound_fits, changed_here, changed_other}
+use Rattle.vm_allocator.proofs.Ids.IdSets.{held_from, from_held, holds_from, from_holds, bound_fits}
 
 -- The least id that is not held.
 

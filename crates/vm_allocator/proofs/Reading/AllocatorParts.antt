@@ -3,12 +3,13 @@ use Rattle.std.proofs.Common.{◌≡◌, Some, option_map, option_and_then, code
 use Rattle.std.proofs.lemmas.Option.{same_Some}
 use Rattle.serde_json.specs.Data.{Data}
 use Rattle.serde_json.specs.Find.{get}
+use Rattle.vm_values.proofs.FieldSteps.{count-true, true-count, in_field, field_is}
+use Rattle.vm_values.proofs.Steps.{and_then_some, map_some, if_some}
+use Rattle.vm_values.specs.Fields.{field_count, FieldIs, is_count}
 use Rattle.vm_allocator.specs.Range.{Range, IsRange}
-use Rattle.vm_allocator.specs.Values.ValueFields.{field_count, FieldIs}
-use Rattle.vm_allocator.specs.Values.RangeValues.{StatesRange}
+use Rattle.vm_allocator.specs.Values.RangeValues.{StatesRange, range_found}
 use Rattle.vm_allocator.specs.Values.TreeValues.{StatesTree}
-use Rattle.vm_allocator.specs.Checks.ValueChecks.{is_count, range_found, root_found, parts_found}
-use Rattle.vm_allocator.proofs.Reading.FieldSteps.{and_then_some, map_some, if_some, count-true, true-count, in_field, field_is}
+use Rattle.vm_allocator.specs.Checks.ValueChecks.{root_found, parts_found}
 use Rattle.vm_allocator.proofs.Reading.ReadRanges as ranges
 
 -- the value is an object of this space and a tree alone: what stands for the root

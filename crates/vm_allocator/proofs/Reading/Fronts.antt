@@ -2,6 +2,7 @@
 use Rattle.std.proofs.Common.{◌≡◌, ℕ, ◌+◌, ◌≤◌, true, not, ◌&&◌, ◌||◌, eqb, ltb, List, [], ◌∷◌, ◌++◌, Option, Some, None, option_and_then, refl, sym, ap, ◌∙◌, subst, arith}
 use Rattle.std.proofs.lemmas.Bool.{and_parts, and_from, eqb-true, eq-eqb, ltb-true, lt-ltb}
 use Rattle.std.proofs.lemmas.Option.{same_Some}
+use Rattle.vm_values.proofs.Steps.{and_then_some, if_some}
 use Rattle.vm_allocator.specs.Range.{Range, MAX}
 use Rattle.vm_allocator.specs.Tree.Block.{Block, is_free}
 use Rattle.vm_allocator.specs.Tree.Blocks.{NotBothFree, Tiles, range_if_held, held_of, AreBelowMax}
@@ -9,7 +10,6 @@ use Rattle.vm_allocator.specs.Checks.ValueChecks.{follows, behind, after_all}
 use Rattle.vm_allocator.specs.declared.allocation_engine.NodeState.{NodeState}
 use Rattle.vm_allocator.specs.declared.allocation_engine.NodeState.TheVariants.{Free, Allocated}
 use Rattle.vm_allocator.specs.declared.saved.tree.Front.{Front}
-use Rattle.vm_allocator.proofs.Reading.FieldSteps.{and_then_some, if_some}
 
 -- each key has its ends in order
 abbrev pub AreKeys : List Block → Type 0

@@ -3,6 +3,7 @@ use Rattle.std.proofs.Common.{◌≡◌, ◌+◌, true, eqb, Some, None, is_some
 use Rattle.std.proofs.lemmas.Bool.{eqb-true, eq-eqb}
 use Rattle.std.proofs.lemmas.Option.{same_Some}
 use Rattle.serde_json.specs.Data.{Data}
+use Rattle.vm_values.proofs.Steps.{and_then_some, if_some}
 use Rattle.vm_allocator.specs.Range.{Range, IsRange}
 use Rattle.vm_allocator.specs.Address.{AddressState, IsAddressState}
 use Rattle.vm_allocator.specs.Tree.Blocks.{TilesSpace}
@@ -17,7 +18,6 @@ use Rattle.vm_allocator.specs.declared.saved.tree.Checked.{Checked}
 use Rattle.vm_allocator.proofs.Blocks.BlockOrder.{ordered_weaken}
 use Rattle.vm_allocator.proofs.Nodes.Spaces.{space_tiled, space_tree, state_of_tree}
 use Rattle.vm_allocator.proofs.Nodes.TreeEdits.{tiles_ordered}
-use Rattle.vm_allocator.proofs.Reading.FieldSteps.{and_then_some, if_some}
 use Rattle.vm_allocator.proofs.Reading.ReadNodes.{shape_nodes, keys_stated}
 use Rattle.vm_allocator.proofs.Reading.AllocatorParts.{HasParts, parts_stated, parts_are, one_root}
 use Rattle.vm_allocator.proofs.Reading.Fronts.{tiled, all_behind}

@@ -11,13 +11,14 @@ use Rattle.std.specs.Cmp.{nat_cmp_total, eq_by_cmp_equiv}
 use Rattle.std.specs.BTreeSet.{BTreeSet, contains}
 use Rattle.std.specs.FinSet as set
 use Rattle.serde_json.specs.Data.{Data}
+use Rattle.vm_values.proofs.FieldSteps.{field_is}
+use Rattle.vm_values.proofs.NumberSets.{same_members, tied_is}
 use Rattle.vm_allocator.specs.Ids.{IdState, IsIdState, AreIds, bound_of, ids_of}
 use Rattle.vm_allocator.specs.Values.IdValues.{IdFields, HasIdFields, AreIdFields, AreIdsOf, StatesNext, StatesList, StatesIds}
 use Rattle.vm_allocator.specs.Checks.ValueParts.{IdParts}
 use Rattle.vm_allocator.specs.Checks.IdChecks.{rising, ids_found}
-use Rattle.vm_allocator.proofs.Ids.IdSets.{same_members, holds_from, from_holds, tied_is}
+use Rattle.vm_allocator.proofs.Ids.IdSets.{holds_from, from_holds}
 use Rattle.vm_allocator.proofs.Ids.IdFields.{is_state}
-use Rattle.vm_allocator.proofs.Reading.FieldSteps.{field_is}
 use Rattle.vm_allocator.proofs.Reading.ReadIds.{Found, fields_of, checks, passes, one_fields}
 
 among : (freed : BTreeSet ℕ) (i : ℕ) → Contains freed.keys i → contains nat_cmp freed i ≡ true

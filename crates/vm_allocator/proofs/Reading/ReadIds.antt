@@ -4,36 +4,17 @@ use Rattle.std.proofs.lemmas.Bool.{le-leb, leb-true, le-ltb, ltb-false, eq-eqb, 
 use Rattle.std.proofs.lemmas.Option.{same_Some}
 use Rattle.serde_json.specs.Data.{Data, null, boolean, number, string, array, object, Items}
 use Rattle.serde_json.specs.Find.{get, as_array, as_null}
+use Rattle.vm_values.proofs.NumberSteps.{u32-some, some-u32, u32_in-some}
+use Rattle.vm_values.proofs.FieldSteps.{count-true, true-count, in_field, field_is, same_field}
+use Rattle.vm_values.proofs.Steps.{and_then_some, if_some}
+use Rattle.vm_values.specs.Fields.{field_count, is_count}
+use Rattle.vm_values.specs.Numbers.{whole_number, number_in, u32_from, u32_in}
 use Rattle.vm_allocator.specs.Ids.{MAX_ID, bound_of, IsNext}
-use Rattle.vm_allocator.specs.Values.ValueFields.{field_count, whole_number, number_in}
 use Rattle.vm_allocator.specs.Values.IdValues.{IdFields, StatesNext, StatesNumbers, StatesList, HasIdFields, AreIdFields}
-use Rattle.vm_allocator.specs.Checks.ValueChecks.{is_count}
-use Rattle.vm_allocator.specs.Checks.IdChecks.{rising, id_from, id_in, next_found, is_next, ids_found}
-use Rattle.vm_allocator.proofs.Reading.FieldSteps.{and_then_some, if_some, count-true, true-count, in_field, field_is, same_field}
+use Rattle.vm_allocator.specs.Checks.IdChecks.{rising, next_found, is_next, ids_found}
 use Rattle.vm_allocator.proofs.Reading.ReadTrees.{null_of}
 use Rattle.vm_allocator.proofs.Reading.RisingNumbers.{some_of, one_list}
 use Rattle.vm_allocator.proofs.Reading.RisingBounds.{rising-states, states-rising, sorted, within, rise}
-
--- Ids.
-
-if_none : {A : Type 0} (t : Bool) (o : Option A) (b : A) → cond t None o ≡ Some b → (t ≡ false) × (o ≡ Some b)
-if_none true o b e = absurd (cc)
-if_none false o b e = (refl, e)
-
-id-some : (n m : ℕ) → id_from n ≡ Some m → (n ≡ m) × (m ≤ MAX_ID)
-id-some n m e =
-    let p = if_none (ltb MAX_ID n) (Some n) m e in
-    let same : n ≡ m = same_Some n m p.1 in
-    (same, subst (λ (x : ℕ). x ≤ MAX_ID) same (ltb-false MAX_ID n p.0))
-
-pub some-id : (n : ℕ) → n ≤ MAX_ID → id_from n ≡ Some n
-some-id n p = rw (le-ltb MAX_ID n p) refl
-
-pub id_in-some : (k : List ℕ) (d : Data) (n : ℕ) → id_in k d ≡ Some n → (number_in k d ≡ Some n) × (n ≤ MAX_ID)
-id_in-some k d n e =
-    let p = and_then_some id_from (number_in k d) n e in
-    let q = id-some p.0 n p.2 in
-    (p.1 ∙ ap Some q.0, q.1)
 
 -- The next id.
 
@@ -42,20 +23,20 @@ IsIdIf : Option ℕ → Type 0
 IsIdIf None = Unit {0}
 IsIdIf (Some n) = n ≤ MAX_ID
 
-some_next : (d : Data) (n : Option ℕ) (o : Option ℕ) → option_map (λ (x : ℕ). Some x) o ≡ Some n → o ≡ option_and_then id_from (whole_number d) → StatesNext d n × IsIdIf n
+some_next : (d : Data) (n : Option ℕ) (o : Option ℕ) → option_map (λ (x : ℕ). Some x) o ≡ Some n → o ≡ option_and_then u32_from (whole_number d) → StatesNext d n × IsIdIf n
 unfolding IsIdIf
 some_next d n None q r = absurd (cc)
 some_next d n (Some x) q r =
-    let p = and_then_some id_from (whole_number d) x (sym r) in
-    let t = id-some p.0 x p.2 in
+    let p = and_then_some u32_from (whole_number d) x (sym r) in
+    let t = u32-some p.0 x p.2 in
     subst (λ (y : Option ℕ). StatesNext d y × IsIdIf y) (same_Some (Some x) n q) (p.1 ∙ ap Some t.0, t.1)
 
 next-some : (d : Data) (n : Option ℕ) → next_found d ≡ Some n → StatesNext d n × IsIdIf n
 unfolding IsIdIf
 next-some d n e =
-    elim (is_some (as_null d)) as (λ v. is_some (as_null d) ≡ v → cond v (Some None) (option_map (λ (x : ℕ). Some x) (option_and_then id_from (whole_number d))) ≡ Some n → StatesNext d n × IsIdIf n) [
+    elim (is_some (as_null d)) as (λ v. is_some (as_null d) ≡ v → cond v (Some None) (option_map (λ (x : ℕ). Some x) (option_and_then u32_from (whole_number d))) ≡ Some n → StatesNext d n × IsIdIf n) [
       | true ↦ λ z q. subst (λ (x : Option ℕ). StatesNext d x × IsIdIf x) (same_Some None n q) (null_of d z, tt)
-      | false ↦ λ z q. some_next d n (option_and_then id_from (whole_number d)) q refl
+      | false ↦ λ z q. some_next d n (option_and_then u32_from (whole_number d)) q refl
     ] refl e
 
 no_null : (d : Data) (n : ℕ) → whole_number d ≡ Some n → is_some (as_null d) ≡ false
@@ -69,7 +50,7 @@ no_null (object ms) n e = refl
 some-next : (d : Data) (n : Option ℕ) → StatesNext d n → IsIdIf n → next_found d ≡ Some n
 unfolding IsIdIf
 some-next d None s t = rw s refl
-some-next d (Some n) s t = rw (no_null d n s, s, some-id n t) refl
+some-next d (Some n) s t = rw (no_null d n s, s, some-u32 n t) refl
 
 next_is_id : (n : Option ℕ) (lo hi : ℕ) → IsNext lo hi n → IsIdIf n
 unfolding IsIdIf
@@ -114,8 +95,8 @@ pub record IsChecked (d : Data) (p : Found) : Type 0 where
 pub checks : (d : Data) (p : Found) → ids_found d ≡ Some p → IsChecked d p
 checks d p h =
     let four = if_some (is_count 4 (field_count d)) _ p h in
-    let lo = and_then_some _ (id_in (codes "range_base") d) p four.1 in
-    let hi = and_then_some _ (id_in (codes "range_end") d) p lo.2 in
+    let lo = and_then_some _ (u32_in (codes "range_base") d) p four.1 in
+    let hi = and_then_some _ (u32_in (codes "range_end") d) p lo.2 in
     let next = and_then_some _ (option_and_then next_found (get (codes "next_id") d)) p hi.2 in
     let list = and_then_some _ (option_and_then as_array (get (codes "freed_ids") d)) p next.2 in
     let test = if_some (leb lo.0 hi.0 && (is_next next.0 lo.0 hi.0 && is_some (rising lo.0 (bound_of next.0 hi.0) list.0))) _ p list.2 in
@@ -125,8 +106,8 @@ checks d p h =
     let list_at = and_then_some as_array (get (codes "freed_ids") d) list.0 list.1 in
     let ns = some_of (rising lo.0 (bound_of next.0 hi.0) list.0) u.1 in
     let r = rising-states lo.0 (bound_of next.0 hi.0) list.0 ns.0 ns.1 in
-    let b = id_in-some (codes "range_base") d lo.0 lo.1 in
-    let e = id_in-some (codes "range_end") d hi.0 hi.1 in
+    let b = u32_in-some (codes "range_base") d lo.0 lo.1 in
+    let e = u32_in-some (codes "range_end") d hi.0 hi.1 in
     let n = next-some next_at.0 next.0 next_at.2 in
     let q : Found = (lo.0, next.0, hi.0, list.0) in
     let found : IsChecked d q = record {
@@ -153,9 +134,9 @@ passes d f w s =
     rw (
       true-count 4 (field_count d) w.four_fields,
       w.range_base,
-      some-id f.range_base (omega arith),
+      some-u32 f.range_base (omega arith),
       w.range_end,
-      some-id f.range_end ids,
+      some-u32 f.range_end ids,
       next.1,
       some-next next.0 f.next_id next.2 (next_is_id f.next_id f.range_base f.range_end s.next_id),
       freed.1,

@@ -3,14 +3,16 @@ use Rattle.std.proofs.Common.{◌≡◌, ℕ, ◌+◌, max, Some, None, codes, o
 use Rattle.std.proofs.lemmas.Option.{same_Some}
 use Rattle.serde_json.specs.Data.{Data, null}
 use Rattle.serde_json.specs.Find.{get}
+use Rattle.vm_values.proofs.FieldSteps.{count-true, true-count, in_field, field_is, field_map}
+use Rattle.vm_values.proofs.Steps.{and_then_some, map_some, if_some}
+use Rattle.vm_values.specs.Fields.{field_count, is_count}
+use Rattle.vm_values.specs.Numbers.{number_in}
 use Rattle.vm_allocator.specs.Tree.Block.{Block}
 use Rattle.vm_allocator.specs.Tree.Shape.{Shape, Tip, Fork, blocks, height_of}
-use Rattle.vm_allocator.specs.Values.ValueFields.{field_count, number_in}
-use Rattle.vm_allocator.specs.Values.RangeValues.{StatesRange, StatesState}
+use Rattle.vm_allocator.specs.Values.RangeValues.{StatesRange, StatesState, range_found}
 use Rattle.vm_allocator.specs.Values.TreeValues.{StatesNode, StatesShape}
 use Rattle.vm_allocator.specs.Values.RepairedValues.{HasNodes}
-use Rattle.vm_allocator.specs.Checks.ValueChecks.{NodeData, is_count, range_found, state_found, node_data}
-use Rattle.vm_allocator.proofs.Reading.FieldSteps.{and_then_some, map_some, if_some, count-true, true-count, in_field, field_is, field_map}
+use Rattle.vm_allocator.specs.Checks.ValueChecks.{NodeData, state_found, node_data}
 use Rattle.vm_allocator.proofs.Reading.Fronts.{AreKeys, keys-append}
 use Rattle.vm_allocator.proofs.Reading.ReadRanges as ranges
 use Rattle.vm_allocator.proofs.Reading.ReadStates as states

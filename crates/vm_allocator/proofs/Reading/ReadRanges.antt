@@ -3,13 +3,14 @@ use Rattle.std.proofs.Common.{◌≡◌, ℕ, zero, suc, ◌<◌, Bool, true, fa
 use Rattle.std.proofs.lemmas.Bool.{and_parts, and_from, eq-eqb, ne_eqb, leb-true, ltb-true, le-leb, lt-ltb, or_cases, not-true}
 use Rattle.std.proofs.lemmas.Option.{same_Some}
 use Rattle.serde_json.specs.Data.{Data}
+use Rattle.vm_values.proofs.FieldSteps.{count-true, true-count}
+use Rattle.vm_values.proofs.Steps.{and_then_some, if_some}
+use Rattle.vm_values.specs.Fields.{field_count, is_count}
+use Rattle.vm_values.specs.Numbers.{number_in}
 use Rattle.vm_allocator.specs.Range.{Range, MAX, IsRange}
 use Rattle.vm_allocator.specs.Answer.{MakesRange}
-use Rattle.vm_allocator.specs.Values.ValueFields.{field_count, number_in}
-use Rattle.vm_allocator.specs.Values.RangeValues.{StatesRange}
-use Rattle.vm_allocator.specs.Checks.ValueChecks.{is_count, are_ends, range_between, range_found}
+use Rattle.vm_allocator.specs.Values.RangeValues.{StatesRange, are_ends, range_between, range_found}
 use Rattle.vm_allocator.specs.declared.error.Error.{Error}
-use Rattle.vm_allocator.proofs.Reading.FieldSteps.{and_then_some, if_some, count-true, true-count}
 
 ends_of : (s e : ℕ) → are_ends s e ≡ true → IsRange s e
 ends_of s e h =

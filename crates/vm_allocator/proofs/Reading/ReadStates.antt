@@ -4,11 +4,11 @@ use Rattle.std.proofs.lemmas.Option.{same_Some}
 use Rattle.std.proofs.lemmas.Slice.Eq.{bytes_eq-Decides}
 use Rattle.serde_json.specs.Data.{Data, null, boolean, number, string, array, object}
 use Rattle.serde_json.specs.Find.{as_str}
+use Rattle.vm_values.proofs.Steps.{if_some}
 use Rattle.vm_allocator.specs.Values.RangeValues.{StatesState, state_name}
 use Rattle.vm_allocator.specs.Checks.ValueChecks.{state_named, state_found}
 use Rattle.vm_allocator.specs.declared.allocation_engine.NodeState.{NodeState}
 use Rattle.vm_allocator.specs.declared.allocation_engine.NodeState.TheVariants.{Free, Allocated}
-use Rattle.vm_allocator.proofs.Reading.FieldSteps.{if_some}
 
 spelled : (o : Option (List ℕ)) (s : NodeState) → state_named o ≡ Some s → o ≡ Some (state_name s)
 spelled None s h = absurd (cc)

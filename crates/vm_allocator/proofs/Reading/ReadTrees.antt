@@ -4,13 +4,13 @@ use Rattle.std.proofs.lemmas.Bool.{and_parts, eqb-true, eq-eqb, leb-true, le-leb
 use Rattle.std.proofs.lemmas.Option.{same_Some}
 use Rattle.serde_json.specs.Data.{Data, null, boolean, number, string, array, object}
 use Rattle.serde_json.specs.Find.{as_null}
+use Rattle.vm_values.proofs.Steps.{and_then_some, if_some}
+use Rattle.vm_values.specs.Fields.{field_count}
 use Rattle.vm_allocator.specs.Tree.Shape.{Shape, Tip, Fork, blocks, height_of, IsBalanced}
-use Rattle.vm_allocator.specs.Values.ValueFields.{field_count}
 use Rattle.vm_allocator.specs.Values.TreeValues.{StatesShape}
 use Rattle.vm_allocator.specs.Checks.ValueChecks.{NodeData, node_data, after_all, behind, is_true_height, node_found, tree_found}
 use Rattle.vm_allocator.specs.declared.saved.tree.Front.{Front}
 use Rattle.vm_allocator.specs.declared.saved.tree.Checked.{Checked}
-use Rattle.vm_allocator.proofs.Reading.FieldSteps.{and_then_some, if_some}
 use Rattle.vm_allocator.proofs.Reading.Fronts.{after_three, cut_in_three}
 use Rattle.vm_allocator.proofs.Reading.ReadNodes.{over_sides, node_is}
 

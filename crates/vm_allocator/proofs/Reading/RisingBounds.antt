@@ -7,10 +7,11 @@ use Rattle.std.specs.List.{All, AllByRecursion}
 use Rattle.std.specs.List.Sorted.{IsStrictlySortedBy}
 use Rattle.std.specs.Ordering.{MatchOrdering}
 use Rattle.serde_json.specs.Data.{Items, no_items, item}
-use Rattle.vm_allocator.specs.Values.ValueFields.{whole_number}
+use Rattle.vm_values.proofs.Steps.{and_then_some, if_some}
+use Rattle.vm_values.specs.Numbers.{whole_number}
+use Rattle.vm_values.proofs.Items.{less, less_is}
 use Rattle.vm_allocator.specs.Values.IdValues.{StatesNumbers}
 use Rattle.vm_allocator.specs.Checks.IdChecks.{rising}
-use Rattle.vm_allocator.proofs.Reading.FieldSteps.{and_then_some, if_some}
 
 -- each number is above the one before it, the first from `least` on, and all are below `bound`
 abbrev pub RiseWithin : ℕ → ℕ → List ℕ → Type 0
@@ -41,12 +42,6 @@ states-rising (n ∷ ns) least bound (item d ds) s r = rw (s.0, le-leb least n r
 
 abbrev IsWithin : ℕ → ℕ → ℕ → Type 0
 IsWithin least bound n = (least ≤ n) × (n < bound)
-
-pub less : (n m : ℕ) → n < m → nat_cmp n m ≡ Less
-less n m p = sym (nat_cmp_is n m Less p)
-
-pub less_is : (n m : ℕ) → nat_cmp n m ≡ Less → n < m
-less_is n m e = subst (λ (o : Ordering). MatchOrdering o (n < m) (n ≡ m) (m < n)) e (ranks n m)
 
 above : (n least bound : ℕ) (ns : List ℕ) → n < least → RiseWithin least bound ns → AllByRecursion (λ m. nat_cmp n m ≡ Less) ns
 above n least bound [] p r = tt

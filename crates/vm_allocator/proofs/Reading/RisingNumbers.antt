@@ -7,15 +7,13 @@ use Rattle.std.specs.BTreeSet.{insert_key}
 use Rattle.serde_json.specs.Data.{Items, no_items, item}
 use Rattle.serde_json.specs.View.{view, items_view}
 use Rattle.serde_json.specs.declared.value.Value.{Value}
-use Rattle.vm_allocator.specs.Values.ValueFields.{whole_number}
+use Rattle.vm_values.proofs.Steps.{and_then_some, if_some}
+use Rattle.vm_values.specs.Numbers.{whole_number}
+use Rattle.vm_values.proofs.Items.{items_from}
 use Rattle.vm_allocator.specs.Values.IdValues.{StatesNumbers}
 use Rattle.vm_allocator.specs.Checks.IdChecks.{rising}
-use Rattle.vm_allocator.proofs.Reading.FieldSteps.{and_then_some, if_some}
 
 -- Items one by one.
-
-pub items_from : (vs : List Value) (i : ℕ) (v : Value) → i < length vs → v ≡ get_or vs i v → items_view (drop i vs) ≡ item (view v) (items_view (drop (i + 1) vs))
-items_from vs i v h e = ap items_view (drop_more vs i v h ∙ ap (λ (x : Value). x ∷ drop (i + 1) vs) (sym e))
 
 pub no_number : (least bound i : ℕ) (vs : List Value) (v : Value) → i < length vs → v ≡ get_or vs i v → whole_number (view v) ≡ None → rising least bound (items_view (drop i vs)) ≡ None
 no_number least bound i vs v h e w = rw (items_from vs i v h e, w) refl

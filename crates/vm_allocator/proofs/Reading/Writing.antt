@@ -2,18 +2,19 @@
 use Rattle.std.proofs.Common.{◌≡◌, ℕ, ◌+◌, max, codes, Option, Some, sym, ap, ◌∙◌, subst}
 use Rattle.serde_json.specs.Data.{Data}
 use Rattle.serde_json.specs.Find.{get}
+use Rattle.vm_values.proofs.FieldSteps.{field_is}
+use Rattle.vm_values.proofs.Steps.{and_then_some}
+use Rattle.vm_values.specs.Fields.{field_count}
 use Rattle.vm_allocator.specs.Range.{Range}
 use Rattle.vm_allocator.specs.Tree.Blocks.{IsTiling}
 use Rattle.vm_allocator.specs.Tree.Shape.{Shape, Tip, Fork, blocks, height_of, IsTree}
 use Rattle.vm_allocator.specs.Tree.SpaceTree.{space_of, IsSpaceTree}
 use Rattle.vm_allocator.specs.Allocator.{SpaceInTree}
-use Rattle.vm_allocator.specs.Values.ValueFields.{field_count}
 use Rattle.vm_allocator.specs.Values.RangeValues.{StatesRange, StatesState}
 use Rattle.vm_allocator.specs.Values.TreeValues.{StatesShape, StatesTree, StatesAllocator}
 use Rattle.vm_allocator.specs.Checks.ValueParts.{NodeParts, AllocatorParts}
 use Rattle.vm_allocator.specs.declared.allocation_engine.NodeState.{NodeState}
 use Rattle.vm_allocator.proofs.Nodes.Spaces.{no_empty_tree}
-use Rattle.vm_allocator.proofs.Reading.FieldSteps.{and_then_some, field_is}
 
 pub states_fork : (d key state left right : Data) (h : ℕ) (k : Range) (s : NodeState) (l r : Shape) → NodeParts d key state left right h → StatesRange key k → StatesState state s → StatesShape left l → StatesShape right r → h ≡ max (height_of l) (height_of r) + 1 →
     StatesShape d (Fork l (record { key = k; state = s }) r)

@@ -2,6 +2,8 @@
 use Rattle.std.proofs.Common.{◌≡◌, ℕ, ◌+◌, ◌-◌, ◌≤◌, true, cond, List, [], length, Option, Some, None, is_some, codes, refl, sym, ap, ◌∙◌, subst, arith, true≢false, Ok}
 use Rattle.std.proofs.lemmas.Option.{same_Some}
 use Rattle.serde_json.specs.Data.{Data}
+use Rattle.vm_values.proofs.FieldSteps.{field_map}
+use Rattle.vm_values.proofs.Steps.{and_then_some, if_some}
 use Rattle.vm_allocator.specs.Range.{Range, IsRange, address_count}
 use Rattle.vm_allocator.specs.Address.{AddressState, AreSlots, IsAddressState}
 use Rattle.vm_allocator.specs.Answer.{FEWEST_TOO_DEEP, Makes}
@@ -16,7 +18,6 @@ use Rattle.vm_allocator.specs.declared.allocation_engine.NodeState.TheVariants.{
 use Rattle.vm_allocator.specs.declared.saved.repaired.Row.{Row}
 use Rattle.vm_allocator.proofs.Answers.AddressAnswers.{made_is}
 use Rattle.vm_allocator.proofs.Blocks.BlockStates.{tiles_keys, keys_slots}
-use Rattle.vm_allocator.proofs.Reading.FieldSteps.{and_then_some, if_some, field_map}
 use Rattle.vm_allocator.proofs.Reading.ReadNodes.{shape_nodes, one_tree, keys_stated}
 use Rattle.vm_allocator.proofs.Reading.AllocatorParts.{HasParts, parts_stated, parts_are, one_root}
 use Rattle.vm_allocator.proofs.Reading.ReadAllocators.{stated_ends}

@@ -3,9 +3,9 @@
 use Rattle.std.specs.Prelude.{ℕ, ◌+◌, ◌&&◌, ◌==◌, nat_lt, nat_le, if◌then◌else◌, Bool, List, [], ◌∷◌, Option, Some, None, is_some, option_map, option_and_then, codes}
 use Rattle.serde_json.specs.Data.{Data, Items, no_items, item}
 use Rattle.serde_json.specs.Find.{get, as_array, as_null}
+use Rattle.vm_values.specs.Fields.{field_count, is_count}
+use Rattle.vm_values.specs.Numbers.{whole_number, u32_from, u32_in}
 use Rattle.vm_allocator.specs.Ids.{MAX_ID, bound_of}
-use Rattle.vm_allocator.specs.Values.ValueFields.{field_count, whole_number, number_in}
-use Rattle.vm_allocator.specs.Checks.ValueChecks.{is_count}
 
 -- the whole numbers of the items, where they rise from `least` on and stay below `bound`
 abbrev pub rising : ℕ → ℕ → Items → Option (List ℕ)
@@ -15,18 +15,10 @@ rising least bound (item d ds) =
     if nat_le least n && nat_lt n bound then option_map (λ ns. n ∷ ns) (rising (n + 1) bound ds) else None)
     (whole_number d)
 
--- the number as an id
-abbrev pub id_from : ℕ → Option ℕ
-id_from n = if nat_lt MAX_ID n then None else Some n
-
--- the id in a field
-abbrev pub id_in : List ℕ → Data → Option ℕ
-id_in name d = option_and_then id_from (number_in name d)
-
 -- the next id that a value states
 abbrev pub next_found : Data → Option (Option ℕ)
 next_found d =
-    if is_some (as_null d) then Some None else option_map (λ n. Some n) (option_and_then id_from (whole_number d))
+    if is_some (as_null d) then Some None else option_map (λ n. Some n) (option_and_then u32_from (whole_number d))
 
 -- the next id may be that of the range
 abbrev pub is_next : Option ℕ → ℕ → ℕ → Bool
@@ -42,6 +34,6 @@ ids_found d =
     then Some (lo, next, hi, freed) else None)
     (option_and_then as_array (get (codes "freed_ids") d)))
     (option_and_then next_found (get (codes "next_id") d)))
-    (id_in (codes "range_end") d))
-    (id_in (codes "range_base") d)
+    (u32_in (codes "range_end") d))
+    (u32_in (codes "range_base") d)
     else None

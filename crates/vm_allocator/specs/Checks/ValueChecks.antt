@@ -3,35 +3,16 @@
 use Rattle.std.specs.Prelude.{ℕ, zero, suc, ◌+◌, max, Bool, false, not, ◌&&◌, ◌||◌, ◌==◌, nat_lt, nat_le, if◌then◌else◌, List, [], ◌∷◌, Option, Some, None, is_some, option_map, option_and_then, codes, bytes_eq}
 use Rattle.serde_json.specs.Data.{Data}
 use Rattle.serde_json.specs.Find.{get, as_null, as_str}
+use Rattle.vm_values.specs.Fields.{field_count, is_count}
+use Rattle.vm_values.specs.Numbers.{number_in}
 use Rattle.vm_allocator.specs.Range.{Range, MAX}
 use Rattle.vm_allocator.specs.Tree.Block.{Block, is_free}
 use Rattle.vm_allocator.specs.Tree.Shape.{MAX_HEIGHT}
-use Rattle.vm_allocator.specs.Values.ValueFields.{field_count, number_in}
+use Rattle.vm_allocator.specs.Values.RangeValues.{range_found}
 use Rattle.vm_allocator.specs.declared.allocation_engine.NodeState.{NodeState}
 use Rattle.vm_allocator.specs.declared.allocation_engine.NodeState.TheVariants.{Free, Allocated}
 use Rattle.vm_allocator.specs.declared.saved.tree.Front.{Front}
 use Rattle.vm_allocator.specs.declared.saved.tree.Checked.{Checked}
-
--- whether there are that many fields
-abbrev pub is_count : ℕ → Option ℕ → Bool
-is_count n None = false
-is_count n (Some c) = c == n
-
--- whether a range has these ends
-abbrev pub are_ends : ℕ → ℕ → Bool
-are_ends s e = nat_le s e && (nat_le e MAX && (not (s == 0) || nat_lt e MAX))
-
--- the range with these ends
-abbrev pub range_between : ℕ → ℕ → Option Range
-range_between s e = if are_ends s e then Some (record { start = s; end = e }) else None
-
--- the range that a value states
-abbrev pub range_found : Data → Option Range
-range_found d =
-    if is_count 2 (field_count d) then
-    option_and_then (λ s. option_and_then (λ e. range_between s e) (number_in (codes "end") d))
-    (number_in (codes "start") d)
-    else None
 
 -- the state of this name
 abbrev pub state_named : Option (List ℕ) → Option NodeState

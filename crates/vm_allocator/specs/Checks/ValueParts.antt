@@ -2,8 +2,9 @@
 use Rattle.std.specs.Prelude.{◌≡◌, ℕ, ◌≤◌, Some, option_and_then, codes}
 use Rattle.serde_json.specs.Data.{Data}
 use Rattle.serde_json.specs.Find.{get}
+use Rattle.vm_values.specs.Fields.{field_count}
+use Rattle.vm_values.specs.Numbers.{number_in}
 use Rattle.vm_allocator.specs.Tree.Shape.{Shape, height_of, IsTree}
-use Rattle.vm_allocator.specs.Values.ValueFields.{field_count, number_in}
 use Rattle.vm_allocator.specs.Values.TreeValues.{StatesShape}
 
 -- a node's five fields, and no other

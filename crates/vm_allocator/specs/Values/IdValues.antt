@@ -5,8 +5,9 @@ use Rattle.std.specs.List.Sorted.{IsStrictlySortedBy}
 use Rattle.std.specs.Ordering.{nat_cmp}
 use Rattle.serde_json.specs.Data.{Data, null, Items, no_items, item}
 use Rattle.serde_json.specs.Find.{as_array}
+use Rattle.vm_values.specs.Fields.{field_count, FieldIs}
+use Rattle.vm_values.specs.Numbers.{whole_number, number_in}
 use Rattle.vm_allocator.specs.Ids.{MAX_ID, IdState, IsHandedOut, IsHeld, IsNext, bound_of}
-use Rattle.vm_allocator.specs.Values.ValueFields.{field_count, FieldIs, whole_number, number_in}
 
 -- what the fields say: the range, the next id, and the ids given back
 pub record IdFields : Type 0 where

@@ -1,8 +1,9 @@
 -- The saved values of ranges and of states.
-use Rattle.std.specs.Prelude.{◌≡◌, ℕ, List, Some, codes}
+use Rattle.std.specs.Prelude.{◌≡◌, ℕ, Bool, not, ◌&&◌, ◌||◌, ◌==◌, nat_lt, nat_le, if◌then◌else◌, List, Option, Some, None, option_and_then, codes}
 use Rattle.serde_json.specs.Data.{Data, string}
-use Rattle.vm_allocator.specs.Range.{Range, IsRange}
-use Rattle.vm_allocator.specs.Values.ValueFields.{field_count, number_in}
+use Rattle.vm_values.specs.Fields.{field_count, is_count}
+use Rattle.vm_values.specs.Numbers.{number_in}
+use Rattle.vm_allocator.specs.Range.{Range, MAX, IsRange}
 use Rattle.vm_allocator.specs.declared.allocation_engine.NodeState.{NodeState}
 use Rattle.vm_allocator.specs.declared.allocation_engine.NodeState.TheVariants.{Free, Allocated}
 
@@ -12,6 +13,22 @@ pub record StatesRange (d : Data) (r : Range) : Type 0 where
   pub start : number_in (codes "start") d ≡ Some r.start
   pub end : number_in (codes "end") d ≡ Some r.end
   pub range : IsRange r.start r.end
+
+-- whether a range has these ends
+abbrev pub are_ends : ℕ → ℕ → Bool
+are_ends s e = nat_le s e && (nat_le e MAX && (not (s == 0) || nat_lt e MAX))
+
+-- the range with these ends
+abbrev pub range_between : ℕ → ℕ → Option Range
+range_between s e = if are_ends s e then Some (record { start = s; end = e }) else None
+
+-- the range that a value states
+abbrev pub range_found : Data → Option Range
+range_found d =
+    if is_count 2 (field_count d) then
+    option_and_then (λ s. option_and_then (λ e. range_between s e) (number_in (codes "end") d))
+    (number_in (codes "start") d)
+    else None
 
 -- how a state is spelled
 abbrev pub state_name : NodeState → List ℕ

@@ -2,11 +2,11 @@
 -- may have lost a tree, left free neighbours apart or kept gaps between the keys.
 use Rattle.std.specs.Prelude.{◌≡◌, ℕ, ◌≤◌, length, codes, Some}
 use Rattle.serde_json.specs.Data.{Data, null}
+use Rattle.vm_values.specs.Fields.{field_count, FieldIs}
 use Rattle.vm_allocator.specs.Address.{AddressState}
 use Rattle.vm_allocator.specs.Answer.{FEWEST_TOO_DEEP}
 use Rattle.vm_allocator.specs.Tree.Blocks.{held_of, AreKeysIn, AreBelowMax}
 use Rattle.vm_allocator.specs.Tree.Shape.{Shape, Tip, Fork, blocks, height_of}
-use Rattle.vm_allocator.specs.Values.ValueFields.{field_count, FieldIs}
 use Rattle.vm_allocator.specs.Values.RangeValues.{StatesRange}
 use Rattle.vm_allocator.specs.Values.TreeValues.{StatesNode, StatesTree}
 

@@ -1,13 +1,14 @@
 -- The saved values of trees and of address allocators.
 use Rattle.std.specs.Prelude.{◌≡◌, ◌≢◌, ℕ, ◌+◌, ◌≤◌, max, Some, codes}
 use Rattle.serde_json.specs.Data.{Data, null}
+use Rattle.vm_values.specs.Fields.{field_count, FieldIs}
+use Rattle.vm_values.specs.Numbers.{number_in}
 use Rattle.vm_allocator.specs.Address.{AddressState}
 use Rattle.vm_allocator.specs.Tree.Block.{Block}
 use Rattle.vm_allocator.specs.Tree.Blocks.{IsTiling}
 use Rattle.vm_allocator.specs.Tree.BlockList.{IsOrderedFrom}
 use Rattle.vm_allocator.specs.Tree.Shape.{Shape, Tip, Fork, MAX_HEIGHT, blocks, height_of, IsBalanced}
 use Rattle.vm_allocator.specs.Allocator.{SpaceInTree, state_of}
-use Rattle.vm_allocator.specs.Values.ValueFields.{field_count, FieldIs, number_in}
 use Rattle.vm_allocator.specs.Values.RangeValues.{StatesRange, StatesState}
 
 -- the value is an object of a node's five fields alone: the block, what stands for each child, and the height

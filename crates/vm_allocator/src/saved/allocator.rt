@@ -9,15 +9,16 @@ ghost use Rattle.vm_allocator.specs.Checks.ValueChecks.{allocator_found, parts_f
 ghost use Rattle.vm_allocator.specs.Saving.{Saves, Reads};
 
 use super::ValueError;
-use super::fields::{has_fields, range_in};
+use super::fields::range_in;
 use super::tree::{Front, build, check};
 use crate::address_allocator::AddressAllocator;
 use crate::allocation_engine::node::walks::saving::save;
 use crate::allocation_engine::{IntervalTree, NodeState};
-use crate::error::{Error, Result};
+use crate::error::Result;
 use crate::range::RangeInclusive;
 use serde_json::{Value, json};
 use std::alloc::{AllocError, Global};
+use vm_values::has_fields;
 
 /// No node of a saved tree is nested deeper, since no tree of an allocator is higher.
 const MOST_NESTED: u64 = 49;
@@ -29,13 +30,9 @@ impl AddressAllocator {
     pub fn to_value(&self, alloc: Global) -> Result<Value>
         ensures { Saves (λ d. StatesAllocator d self.now) result }
     {
-        let _ = self.interval_tree.height();
         let root = save(self.interval_tree.root(), alloc)?;
         let space = self.address_space.to_value(alloc)?;
-        match save_allocator(alloc, space, root) {
-            Ok(value) => Ok(value),
-            Err(_) => Err(Error::OutOfMemory),
-        }
+        Ok(save_allocator(alloc, space, root)?)
     }
 
     /// The allocator that a value states: its space and held ranges, in a tree of the same nodes.

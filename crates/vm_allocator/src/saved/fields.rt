@@ -1,60 +1,40 @@
-//! The fields of saved objects. Nothing here takes memory.
-ghost use Rattle.std.specs.Prelude.{◌≡◌, option_map, option_and_then};
+//! The fields of a node's value, read and written: their names stand here alone. Reading takes no
+//! memory.
+ghost use Rattle.std.specs.Prelude.{◌≡◌, IfOk, option_map, option_and_then};
 ghost use Rattle.serde_json.specs.View.{view};
 ghost use Rattle.serde_json.specs.Find.{get};
-ghost use Rattle.vm_allocator.specs.Values.ValueFields.{field_count, number_in};
-ghost use Rattle.vm_allocator.specs.Checks.ValueChecks.{is_count, range_found, state_found, node_data};
+ghost use Rattle.vm_allocator.specs.Values.RangeValues.{range_found};
+ghost use Rattle.vm_allocator.specs.Checks.ValueParts.{NodeParts};
+ghost use Rattle.vm_allocator.specs.Checks.ValueChecks.{state_found, node_data};
 
 use crate::allocation_engine::NodeState;
 use crate::range::RangeInclusive;
-use serde_json::Value;
+use serde_json::{Value, json};
+use std::alloc::{AllocError, Global};
+use vm_values::{has_fields, number_in};
 
-/// How many fields an object has.
-#[tactic(auto, using(crate::proofs::Reading::FieldSteps::counts))]
-fn field_count(value: &Value) -> Option<usize>
-    ensures { result ≡ field_count (view value.now) }
-{
-    match value.as_object() {
-        Some(fields) => Some(fields.len()),
-        None => None,
-    }
-}
+const KEY: &str = "key";
 
-/// Whether the value is an object with that many fields.
-pub(super) fn has_fields(value: &Value, count: usize) -> bool
-    ensures { result ≡ is_count count (field_count (view value.now)) }
-{
-    match field_count(value) {
-        Some(found) => found == count,
-        None => false,
-    }
-}
+const STATE: &str = "node_state";
 
-/// The whole number in a field.
-pub(super) fn number_in(value: &Value, name: &str) -> Option<u64>
-    ensures { result ≡ number_in name.now (view value.now) }
-{
-    value.get(name).and_then(Value::as_u64)
-}
+const LEFT: &str = "left";
+
+const RIGHT: &str = "right";
+
+const HEIGHT: &str = "height";
 
 /// The range in a field.
 pub(super) fn range_in(value: &Value, name: &str) -> Option<RangeInclusive>
     ensures { result ≡ option_and_then range_found (get name.now (view value.now)) }
 {
-    match value.get(name) {
-        Some(range) => RangeInclusive::stated_by(range),
-        None => None,
-    }
+    RangeInclusive::stated_by(value.get(name)?)
 }
 
 /// The state in a field.
-pub(super) fn state_in(value: &Value, name: &str) -> Option<NodeState>
+fn state_in(value: &Value, name: &str) -> Option<NodeState>
     ensures { result ≡ option_and_then state_found (get name.now (view value.now)) }
 {
-    match value.get(name) {
-        Some(state) => NodeState::stated_by(state),
-        None => None,
-    }
+    NodeState::stated_by(value.get(name)?)
 }
 
 /// What stands in the fields of a node's value.
@@ -80,10 +60,24 @@ pub(super) fn node_of(value: &Value) -> Option<SavedNode<'_>>
         return None;
     }
     Some(SavedNode {
-        key: range_in(value, "key")?,
-        state: state_in(value, "node_state")?,
-        height: number_in(value, "height")?,
-        left: value.get("left")?,
-        right: value.get("right")?,
+        key: range_in(value, KEY)?,
+        state: state_in(value, STATE)?,
+        height: number_in(value, HEIGHT)?,
+        left: value.get(LEFT)?,
+        right: value.get(RIGHT)?,
     })
+}
+
+/// The object of a node's fields.
+pub(crate) fn save_node(
+    alloc: Global,
+    key: Value,
+    state: Value,
+    left: Value,
+    right: Value,
+    height: u64,
+) -> Result<Value, AllocError>
+    ensures { IfOk result (λ node. NodeParts (view node) (view key) (view state) (view left) (view right) height) }
+{
+    json!(in alloc; {KEY: key, STATE: state, LEFT: left, RIGHT: right, HEIGHT: height})
 }

@@ -1,20 +1,23 @@
 //! The saved form of an id allocator.
 ghost use Rattle.std.specs.Prelude.{◌≡◌, ◌≤◌, ◌<◌, ◌+◌, ◌^◌, IfOk, IsSome, Some, is_some, option_map, option_and_then};
+ghost use Rattle.std.specs.List.Sorted.{IsStrictlySortedBy};
+ghost use Rattle.std.specs.Ordering.{nat_cmp};
 ghost use Rattle.serde_json.specs.View.{view, items_view};
 ghost use Rattle.serde_json.specs.Find.{get, as_array};
+ghost use Rattle.vm_values.specs.Numbers.{u32_from, u32_in};
 ghost use Rattle.vm_allocator.specs.Ids.{IsIdState, bound_of};
 ghost use Rattle.vm_allocator.specs.Values.IdValues.{StatesNext, StatesList, StatesIds};
 ghost use Rattle.vm_allocator.specs.Checks.ValueParts.{IdParts};
-ghost use Rattle.vm_allocator.specs.Checks.IdChecks.{rising, id_from, id_in, next_found, is_next, ids_found};
+ghost use Rattle.vm_allocator.specs.Checks.IdChecks.{rising, next_found, is_next, ids_found};
 ghost use Rattle.vm_allocator.specs.Saving.{Saves, Reads};
 
 use super::ValueError;
-use super::fields::{has_fields, number_in};
-use crate::error::{Error, Result};
+use crate::error::Result;
 use crate::id_allocator::{IdAllocator, bound_of};
 use serde_json::{Value, json};
 use std::alloc::{AllocError, Global};
 use std::collections::BTreeSet;
+use vm_values::{has_fields, list_in, u32_from, u32_in};
 
 impl IdAllocator {
     /// The value that states the allocator: its range, the next id and the ids given back.
@@ -24,14 +27,8 @@ impl IdAllocator {
         ensures { Saves (λ d. StatesIds d self.now) result }
     {
         let next = save_next(self.next_id);
-        let _ = self.freed_ids.len();
-        let Ok(freed) = save_ids(alloc, &self.freed_ids) else {
-            return Err(Error::OutOfMemory);
-        };
-        match save_parts(alloc, self.range_base, next, self.range_end, freed) {
-            Ok(value) => Ok(value),
-            Err(_) => Err(Error::OutOfMemory),
-        }
+        let freed = save_ids(alloc, &self.freed_ids)?;
+        Ok(save_parts(alloc, self.range_base, next, self.range_end, freed)?)
     }
 
     /// The allocator that a value states: its range, the ids ever handed out and those held.
@@ -45,9 +42,7 @@ impl IdAllocator {
             return Err(ValueError::NotAState);
         };
         let bound = bound_of(ids.next, ids.end);
-        let Ok(freed_ids) = collect(alloc, ids.freed, ids.base.into(), bound) else {
-            return Err(ValueError::OutOfMemory);
-        };
+        let freed_ids = collect(alloc, ids.freed, ids.base.into(), bound)?;
         Ok(IdAllocator {
             range_base: ids.base,
             next_id: ids.next,
@@ -69,7 +64,8 @@ fn save_next(next: Option<u32>) -> Value
 
 /// The list of ids given back.
 fn save_ids(alloc: Global, ids: &BTreeSet<u32>) -> std::result::Result<Value, AllocError>
-    ensures { IfOk result (λ list. StatesList (view list) ids.now.keys) }
+    ensures answer { IfOk result (λ list. StatesList (view list) ids.now.keys) }
+    ensures rising { IsStrictlySortedBy nat_cmp ids.now.keys }
 {
     let mut list = Vec::new(alloc);
     for id in ids.iter() {
@@ -108,8 +104,8 @@ fn check_ids(value: &Value) -> Option<CheckedIds<'_>>
     if !has_fields(value, 4) {
         return None;
     }
-    let base = id_in(value, "range_base")?;
-    let end = id_in(value, "range_end")?;
+    let base = u32_in(value, "range_base")?;
+    let end = u32_in(value, "range_end")?;
     let next = next_in(value, "next_id")?;
     let freed = list_in(value, "freed_ids")?;
     if base <= end && is_next(next, base, end) && rise(freed, base.into(), bound_of(next, end)) {
@@ -123,20 +119,6 @@ fn check_ids(value: &Value) -> Option<CheckedIds<'_>>
     None
 }
 
-/// The number as an id.
-fn id_from(number: u64) -> Option<u32>
-    ensures { result ≡ id_from number }
-{
-    u32::try_from(number).ok()
-}
-
-/// The id in a field.
-fn id_in(value: &Value, name: &str) -> Option<u32>
-    ensures { result ≡ id_in name.now (view value.now) }
-{
-    id_from(number_in(value, name)?)
-}
-
 /// The next id that a value states.
 fn next_of(value: &Value) -> Option<Option<u32>>
     ensures { result ≡ next_found (view value.now) }
@@ -144,7 +126,7 @@ fn next_of(value: &Value) -> Option<Option<u32>>
     if value.is_null() {
         return Some(None);
     }
-    Some(Some(id_from(value.as_u64()?)?))
+    Some(Some(u32_from(value.as_u64()?)?))
 }
 
 /// The next id in a field.
@@ -152,14 +134,6 @@ fn next_in(value: &Value, name: &str) -> Option<Option<u32>>
     ensures { result ≡ option_and_then next_found (get name.now (view value.now)) }
 {
     next_of(value.get(name)?)
-}
-
-/// The list in a field.
-fn list_in<'v>(value: &'v Value, name: &str) -> Option<&'v Vec<Value>>
-    ensures { option_map (λ list. items_view list.now.items) result
-        ≡ option_and_then as_array (get name.now (view value.now)) }
-{
-    value.get(name)?.as_array()
 }
 
 /// Whether this may be the next id of a range.

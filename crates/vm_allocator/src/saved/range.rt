@@ -1,16 +1,15 @@
 //! The saved form of a range.
 ghost use Rattle.std.specs.Prelude.{◌≡◌, ◌≢◌, IfErr};
 ghost use Rattle.serde_json.specs.View.{view};
-ghost use Rattle.vm_allocator.specs.Values.RangeValues.{StatesRange};
-ghost use Rattle.vm_allocator.specs.Checks.ValueChecks.{range_found};
+ghost use Rattle.vm_allocator.specs.Values.RangeValues.{StatesRange, range_found};
 ghost use Rattle.vm_allocator.specs.Saving.{Saves, Reads};
 
 use super::ValueError;
-use super::fields::{has_fields, number_in};
-use crate::error::{Error, Result};
+use crate::error::Result;
 use crate::range::RangeInclusive;
 use serde_json::{Value, json};
 use std::alloc::Global;
+use vm_values::{has_fields, number_in};
 
 impl RangeInclusive {
     /// The value that states the range: an object of `start` and `end`. `OutOfMemory` where there is no
@@ -19,10 +18,7 @@ impl RangeInclusive {
     pub fn to_value(&self, alloc: Global) -> Result<Value>
         ensures { Saves (λ d. StatesRange d self.now) result }
     {
-        match json!(in alloc; {"start": self.start(), "end": self.end()}) {
-            Ok(value) => Ok(value),
-            Err(_) => Err(Error::OutOfMemory),
-        }
+        Ok(json!(in alloc; {"start": self.start(), "end": self.end()})?)
     }
 
     /// The range that a value states. `NotAState` where it states none. It takes no memory.
@@ -31,10 +27,7 @@ impl RangeInclusive {
         ensures answer { Reads (StatesRange (view value.now)) result }
         ensures no_memory { IfErr result (λ error. error ≢ ValueError.OutOfMemory) }
     {
-        match RangeInclusive::stated_by(value) {
-            Some(range) => Ok(range),
-            None => Err(ValueError::NotAState),
-        }
+        RangeInclusive::stated_by(value).ok_or(ValueError::NotAState)
     }
 
     /// The range that a value states.
@@ -47,9 +40,6 @@ impl RangeInclusive {
         }
         let start = number_in(value, "start")?;
         let end = number_in(value, "end")?;
-        match RangeInclusive::new(start, end) {
-            Ok(range) => Some(range),
-            Err(_) => None,
-        }
+        RangeInclusive::new(start, end).ok()
     }
 }

@@ -52,7 +52,6 @@ impl AddressAllocator {
         let Ok(()) = hold_keys(checked.root, MOST_NESTED, alloc, &mut allocator) else {
             return Err(ValueError::OutOfMemory);
         };
-        let _ = allocator.base();
         Ok(allocator)
     }
 }
@@ -160,8 +159,6 @@ fn hold_key(
         return Ok(());
     }
     let policy = AllocPolicy::ExactMatch(key.start());
-    match allocator.allocate(alloc, key.len(), 1, policy) {
-        Ok(_) => Ok(()),
-        Err(error) => Err(error),
-    }
+    allocator.allocate(alloc, key.len(), 1, policy)?;
+    Ok(())
 }

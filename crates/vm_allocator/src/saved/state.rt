@@ -7,7 +7,7 @@ ghost use Rattle.vm_allocator.specs.Saving.{Saves, Reads};
 
 use super::ValueError;
 use crate::allocation_engine::NodeState;
-use crate::error::{Error, Result};
+use crate::error::Result;
 use serde_json::Value;
 use std::alloc::Global;
 
@@ -21,10 +21,7 @@ impl NodeState {
             NodeState::Free => "Free",
             NodeState::Allocated => "Allocated",
         };
-        match Value::try_from_str(alloc, name) {
-            Ok(value) => Ok(value),
-            Err(_) => Err(Error::OutOfMemory),
-        }
+        Ok(Value::try_from_str(alloc, name)?)
     }
 
     /// The state that a value states. `NotAState` where it states none. It takes no memory.
@@ -33,10 +30,7 @@ impl NodeState {
         ensures answer { Reads (StatesState (view value.now)) result }
         ensures no_memory { IfErr result (λ error. error ≢ ValueError.OutOfMemory) }
     {
-        match NodeState::stated_by(value) {
-            Some(state) => Ok(state),
-            None => Err(ValueError::NotAState),
-        }
+        NodeState::stated_by(value).ok_or(ValueError::NotAState)
     }
 
     /// The state that a value states.

@@ -4,8 +4,6 @@ ghost use Rattle.std.specs.Prelude.{◌≡◌, IfOk, option_map};
 ghost use Rattle.serde_json.specs.View.{view, items_view};
 ghost use Rattle.vm_allocator.specs.Saving.{Saves};
 ghost use Rattle.vm_devices.specs.Devices.{IsDeviceState};
-ghost use Rattle.vm_allocator.specs.Values.ValueFields.{field_count};
-ghost use Rattle.vm_allocator.specs.Checks.ValueChecks.{is_count};
 ghost use Rattle.vm_devices.specs.Saved.{StatesManager, ReadsInParts};
 ghost use Rattle.vm_devices.specs.SavedChecks.{manager_found, ManagerParts};
 
@@ -17,7 +15,8 @@ use self::slots::{read_slots, save_slots};
 use super::DeviceManager;
 use serde_json::{Value, json};
 use std::alloc::{AllocError, Global};
-use vm_allocator::{AddressAllocator, Error, IdAllocator, Result, ValueError};
+use vm_allocator::{AddressAllocator, IdAllocator, Result, ValueError};
+use vm_values::{has_fields, list_in, number_in};
 
 /// The version of the saved form.
 const VERSION: u64 = 1;
@@ -31,17 +30,14 @@ impl DeviceManager {
         let ids = self.id_allocator.to_value(alloc)?;
         let space = self.mmio_allocator.to_value(alloc)?;
         let slots = save_slots(alloc, &self.slots)?;
-        match put_manager(alloc, ids, space, slots) {
-            Ok(value) => Ok(value),
-            Err(_) => Err(Error::OutOfMemory),
-        }
+        Ok(put_manager(alloc, ids, space, slots)?)
     }
 
     /// The manager that a value states: its ids, its space and its devices. `NotAState` where the value
     /// states none: the version is another, a part states nothing, ids do not rise, a device has an id
     /// or a range that is not held, or a held one has no device. Its parts are read in turn, so
     /// `OutOfMemory` may come for any value.
-    #[tactic(auto, using(crate::proofs::Saving::readers))]
+    #[tactic(auto, using(crate::proofs::SavedManagers::no_fields))]
     pub fn from_value(alloc: Global, value: &Value) -> std::result::Result<Self, ValueError>
         ensures answer { ReadsInParts (StatesManager (view value.now)) result }
         ensures state { IfOk result IsDeviceState }
@@ -56,15 +52,14 @@ impl DeviceManager {
             return Err(ValueError::NotAState);
         }
         let slots = read_slots(alloc, fields.slots)?;
-        match are_held_apart(alloc, &id_allocator, &mmio_allocator, &slots) {
-            Ok(true) => Ok(DeviceManager {
-                id_allocator,
-                mmio_allocator,
-                slots,
-            }),
-            Ok(false) => Err(ValueError::NotAState),
-            Err(_) => Err(ValueError::OutOfMemory),
+        if !are_held_apart(alloc, &id_allocator, &mmio_allocator, &slots)? {
+            return Err(ValueError::NotAState);
         }
+        Ok(DeviceManager {
+            id_allocator,
+            mmio_allocator,
+            slots,
+        })
     }
 }
 
@@ -93,22 +88,11 @@ fn fields_of(value: &Value) -> Option<Fields<'_>>
     ensures { option_map (λ f. (view f.ids.now, view f.space.now, items_view f.slots.now.items)) result
         ≡ manager_found (view value.now) }
 {
-    if !has_fields(value, 4) || value.get("version")?.as_u64()? != VERSION {
+    if !has_fields(value, 4) || number_in(value, "version")? != VERSION {
         return None;
     }
     let ids = value.get("id_allocator")?;
     let space = value.get("mmio_allocator")?;
-    let slots = value.get("slots")?.as_array()?;
+    let slots = list_in(value, "slots")?;
     Some(Fields { ids, space, slots })
-}
-
-/// Whether a value is an object with that many fields.
-#[tactic(auto, using(vm_allocator::proofs::Reading::FieldSteps::counts))]
-fn has_fields(value: &Value, count: usize) -> bool
-    ensures { result ≡ is_count count (field_count (view value.now)) }
-{
-    match value.as_object() {
-        Some(fields) => fields.len() == count,
-        None => false,
-    }
 }

@@ -2,6 +2,7 @@
 
 use crate::allocation_engine::NodeState;
 use crate::range::RangeInclusive;
+use rattle::AllocError;
 use rattle::Error;
 
 /// Why a call is refused. A refused call changes nothing. Errors are ordered by variant, then by
@@ -47,6 +48,12 @@ pub enum Error {
     /// A request for memory was refused.
     #[error("There is not enough memory.")]
     OutOfMemory,
+}
+
+impl From<AllocError> for Error {
+    fn from(_error: AllocError) -> Error {
+        Error::OutOfMemory
+    }
 }
 
 /// What a call answers: a value, or why it is refused.

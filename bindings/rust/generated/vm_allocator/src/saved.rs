@@ -4,14 +4,16 @@
 //! may come from a stranger. It is read only where it states an object: it has exactly the fields that
 //! it should, and all that has to hold of them holds. The order of the fields says nothing. No request
 //! for memory comes before the last of the value has been looked at.
+
 mod allocator;
-mod fields;
+pub(crate) mod fields;
 mod ids;
 mod range;
 mod repaired;
 mod state;
 mod tree;
 
+use rattle::AllocError;
 use rattle::Error;
 
 /// Why a saved value is not read.
@@ -23,4 +25,10 @@ pub enum ValueError {
     /// The value states an object, and a request for memory was refused.
     #[error("There is not enough memory.")]
     OutOfMemory,
+}
+
+impl From<AllocError> for ValueError {
+    fn from(_error: AllocError) -> ValueError {
+        ValueError::OutOfMemory
+    }
 }

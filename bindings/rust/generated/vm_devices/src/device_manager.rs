@@ -1,5 +1,8 @@
 // Written by bindings/erase from crates/vm_devices/src/device_manager.rt: do not edit.
 
+//! The manager of devices. Ids, ranges and the table that pairs them change together or not at all:
+//! what may be refused comes first, and what follows it is always done.
+
 use crate::device_slot::DeviceSlot;
 use rattle::Global;
 use rattle::BTreeMap;

@@ -5,17 +5,16 @@ ghost use Rattle.std.specs.Map.{keys_of};
 ghost use Rattle.std.specs.Ordering.{nat_cmp};
 ghost use Rattle.serde_json.specs.View.{view, items_view};
 ghost use Rattle.vm_allocator.specs.Saving.{Saves};
-ghost use Rattle.vm_allocator.specs.Checks.ValueChecks.{range_found};
-ghost use Rattle.vm_allocator.specs.Checks.IdChecks.{id_from};
+ghost use Rattle.vm_allocator.specs.Values.RangeValues.{range_found};
 ghost use Rattle.vm_devices.specs.Saved.{StatesDevice, StatesList};
 ghost use Rattle.vm_devices.specs.SavedChecks.{device_found, FindsDevices, DeviceParts};
 
-use super::has_fields;
 use crate::device_slot::DeviceSlot;
 use serde_json::{Value, json};
 use std::alloc::{AllocError, Global};
 use std::collections::BTreeMap;
 use vm_allocator::{Error, RangeInclusive, Result, ValueError};
+use vm_values::{has_fields, u32_in};
 
 /// The list of devices, by rising ids.
 pub(super) fn save_slots(alloc: Global, slots: &BTreeMap<u32, RangeInclusive>) -> Result<Value>
@@ -37,10 +36,7 @@ fn save_slot(alloc: Global, id: u32, range: &RangeInclusive) -> Result<Value>
     ensures { Saves (λ d. StatesDevice d (id, range.now)) result }
 {
     let range = range.to_value(alloc)?;
-    match put_slot(alloc, id, range) {
-        Ok(value) => Ok(value),
-        Err(_) => Err(Error::OutOfMemory),
-    }
+    Ok(put_slot(alloc, id, range)?)
 }
 
 /// The object of a device's fields.
@@ -51,7 +47,7 @@ fn put_slot(alloc: Global, id: u32, range: Value) -> std::result::Result<Value, 
 }
 
 /// The table of the devices that a list states, where their ids rise.
-#[tactic(auto, using(crate::proofs::Slots::tables))]
+#[tactic(auto, using(crate::proofs::SavedDevices::tables))]
 pub(super) fn read_slots(
     alloc: Global,
     list: &[Value],
@@ -82,20 +78,13 @@ fn slot_of(alloc: Global, value: &Value) -> Option<DeviceSlot>
     if !has_fields(value, 2) {
         return None;
     }
-    let id = id_of(value.get("id")?.as_u64()?)?;
+    let id = u32_in(value, "id")?;
     let range = range_of(alloc, value.get("mmio_range")?)?;
     Some(DeviceSlot { id, range })
 }
 
-/// The number as an id.
-fn id_of(number: u64) -> Option<u32>
-    ensures { result ≡ id_from number }
-{
-    u32::try_from(number).ok()
-}
-
 /// The range that a value states.
-#[tactic(auto, using(crate::proofs::Slots::ranges))]
+#[tactic(auto, using(crate::proofs::SavedDevices::ranges))]
 fn range_of(alloc: Global, value: &Value) -> Option<RangeInclusive>
     ensures { result ≡ range_found (view value.now) }
 {

@@ -3,15 +3,16 @@
 //! The saved form of an address allocator.
 
 use super::ValueError;
-use super::fields::{has_fields, range_in};
+use super::fields::range_in;
 use super::tree::{Front, build, check};
 use crate::address_allocator::AddressAllocator;
 use crate::allocation_engine::node::walks::saving::save;
 use crate::allocation_engine::{IntervalTree, NodeState};
-use crate::error::{Error, Result};
+use crate::error::Result;
 use crate::range::RangeInclusive;
 use rattle::{Value, json};
 use rattle::{AllocError, Global};
+use vm_values::has_fields;
 
 /// No node of a saved tree is nested deeper, since no tree of an allocator is higher.
 const MOST_NESTED: u64 = 49;
@@ -20,13 +21,9 @@ impl AddressAllocator {
     /// The value that states the allocator: its space, and its tree node for node. `OutOfMemory` where
     /// there is no memory for it.
     pub fn to_value(&self, alloc: Global) -> Result<Value> {
-        let _ = self.interval_tree.height();
         let root = save(self.interval_tree.root(), alloc)?;
         let space = self.address_space.to_value(alloc)?;
-        match save_allocator(alloc, space, root) {
-            Ok(value) => Ok(value),
-            Err(_) => Err(Error::OutOfMemory),
-        }
+        Ok(save_allocator(alloc, space, root)?)
     }
 
     /// The allocator that a value states: its space and held ranges, in a tree of the same nodes.

@@ -1,46 +1,32 @@
 // Written by bindings/erase from crates/vm_allocator/src/saved/fields.rt: do not edit.
 
-//! The fields of saved objects. Nothing here takes memory.
+//! The fields of a node's value, read and written: their names stand here alone. Reading takes no
+//! memory.
 
 use crate::allocation_engine::NodeState;
 use crate::range::RangeInclusive;
-use rattle::Value;
+use rattle::{Value, json};
+use rattle::{AllocError, Global};
+use vm_values::{has_fields, number_in};
 
-/// How many fields an object has.
-fn field_count(value: &Value) -> Option<usize> {
-    match value.as_object() {
-        Some(fields) => Some(fields.len()),
-        None => None,
-    }
-}
+const KEY: &str = "key";
 
-/// Whether the value is an object with that many fields.
-pub(super) fn has_fields(value: &Value, count: usize) -> bool {
-    match field_count(value) {
-        Some(found) => found == count,
-        None => false,
-    }
-}
+const STATE: &str = "node_state";
 
-/// The whole number in a field.
-pub(super) fn number_in(value: &Value, name: &str) -> Option<u64> {
-    value.get(name).and_then(Value::as_u64)
-}
+const LEFT: &str = "left";
+
+const RIGHT: &str = "right";
+
+const HEIGHT: &str = "height";
 
 /// The range in a field.
 pub(super) fn range_in(value: &Value, name: &str) -> Option<RangeInclusive> {
-    match value.get(name) {
-        Some(range) => RangeInclusive::stated_by(range),
-        None => None,
-    }
+    RangeInclusive::stated_by(value.get(name)?)
 }
 
 /// The state in a field.
-pub(super) fn state_in(value: &Value, name: &str) -> Option<NodeState> {
-    match value.get(name) {
-        Some(state) => NodeState::stated_by(state),
-        None => None,
-    }
+fn state_in(value: &Value, name: &str) -> Option<NodeState> {
+    NodeState::stated_by(value.get(name)?)
 }
 
 /// What stands in the fields of a node's value.
@@ -59,10 +45,22 @@ pub(super) fn node_of(value: &Value) -> Option<SavedNode<'_>> {
         return None;
     }
     Some(SavedNode {
-        key: range_in(value, "key")?,
-        state: state_in(value, "node_state")?,
-        height: number_in(value, "height")?,
-        left: value.get("left")?,
-        right: value.get("right")?,
+        key: range_in(value, KEY)?,
+        state: state_in(value, STATE)?,
+        height: number_in(value, HEIGHT)?,
+        left: value.get(LEFT)?,
+        right: value.get(RIGHT)?,
     })
+}
+
+/// The object of a node's fields.
+pub(crate) fn save_node(
+    alloc: Global,
+    key: Value,
+    state: Value,
+    left: Value,
+    right: Value,
+    height: u64,
+) -> Result<Value, AllocError> {
+    json!(in alloc; {KEY: key, STATE: state, LEFT: left, RIGHT: right, HEIGHT: height})
 }

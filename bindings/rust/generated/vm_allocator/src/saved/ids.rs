@@ -4,26 +4,20 @@
 
 use rattle::Vec;
 use super::ValueError;
-use super::fields::{has_fields, number_in};
-use crate::error::{Error, Result};
+use crate::error::Result;
 use crate::id_allocator::{IdAllocator, bound_of};
 use rattle::{Value, json};
 use rattle::{AllocError, Global};
 use rattle::BTreeSet;
+use vm_values::{has_fields, list_in, u32_from, u32_in};
 
 impl IdAllocator {
     /// The value that states the allocator: its range, the next id and the ids given back.
     /// `OutOfMemory` where there is no memory for it.
     pub fn to_value(&self, alloc: Global) -> Result<Value> {
         let next = save_next(self.next_id);
-        let _ = self.freed_ids.len();
-        let Ok(freed) = save_ids(alloc, &self.freed_ids) else {
-            return Err(Error::OutOfMemory);
-        };
-        match save_parts(alloc, self.range_base, next, self.range_end, freed) {
-            Ok(value) => Ok(value),
-            Err(_) => Err(Error::OutOfMemory),
-        }
+        let freed = save_ids(alloc, &self.freed_ids)?;
+        Ok(save_parts(alloc, self.range_base, next, self.range_end, freed)?)
     }
 
     /// The allocator that a value states: its range, the ids ever handed out and those held.
@@ -34,9 +28,7 @@ impl IdAllocator {
             return Err(ValueError::NotAState);
         };
         let bound = bound_of(ids.next, ids.end);
-        let Ok(freed_ids) = collect(alloc, ids.freed, ids.base.into(), bound) else {
-            return Err(ValueError::OutOfMemory);
-        };
+        let freed_ids = collect(alloc, ids.freed, ids.base.into(), bound)?;
         Ok(IdAllocator {
             range_base: ids.base,
             next_id: ids.next,
@@ -87,8 +79,8 @@ fn check_ids(value: &Value) -> Option<CheckedIds<'_>> {
     if !has_fields(value, 4) {
         return None;
     }
-    let base = id_in(value, "range_base")?;
-    let end = id_in(value, "range_end")?;
+    let base = u32_in(value, "range_base")?;
+    let end = u32_in(value, "range_end")?;
     let next = next_in(value, "next_id")?;
     let freed = list_in(value, "freed_ids")?;
     if base <= end && is_next(next, base, end) && rise(freed, base.into(), bound_of(next, end)) {
@@ -102,32 +94,17 @@ fn check_ids(value: &Value) -> Option<CheckedIds<'_>> {
     None
 }
 
-/// The number as an id.
-fn id_from(number: u64) -> Option<u32> {
-    u32::try_from(number).ok()
-}
-
-/// The id in a field.
-fn id_in(value: &Value, name: &str) -> Option<u32> {
-    id_from(number_in(value, name)?)
-}
-
 /// The next id that a value states.
 fn next_of(value: &Value) -> Option<Option<u32>> {
     if value.is_null() {
         return Some(None);
     }
-    Some(Some(id_from(value.as_u64()?)?))
+    Some(Some(u32_from(value.as_u64()?)?))
 }
 
 /// The next id in a field.
 fn next_in(value: &Value, name: &str) -> Option<Option<u32>> {
     next_of(value.get(name)?)
-}
-
-/// The list in a field.
-fn list_in<'v>(value: &'v Value, name: &str) -> Option<&'v Vec<Value>> {
-    value.get(name)?.as_array()
 }
 
 /// Whether this may be the next id of a range.

@@ -3,28 +3,22 @@
 //! The saved form of a range.
 
 use super::ValueError;
-use super::fields::{has_fields, number_in};
-use crate::error::{Error, Result};
+use crate::error::Result;
 use crate::range::RangeInclusive;
 use rattle::{Value, json};
 use rattle::Global;
+use vm_values::{has_fields, number_in};
 
 impl RangeInclusive {
     /// The value that states the range: an object of `start` and `end`. `OutOfMemory` where there is no
     /// memory for it.
     pub fn to_value(&self, alloc: Global) -> Result<Value> {
-        match json!(in alloc; {"start": self.start(), "end": self.end()}) {
-            Ok(value) => Ok(value),
-            Err(_) => Err(Error::OutOfMemory),
-        }
+        Ok(json!(in alloc; {"start": self.start(), "end": self.end()})?)
     }
 
     /// The range that a value states. `NotAState` where it states none. It takes no memory.
     pub fn from_value(_alloc: Global, value: &Value) -> core::result::Result<Self, ValueError> {
-        match RangeInclusive::stated_by(value) {
-            Some(range) => Ok(range),
-            None => Err(ValueError::NotAState),
-        }
+        RangeInclusive::stated_by(value).ok_or(ValueError::NotAState)
     }
 
     /// The range that a value states.
@@ -34,9 +28,6 @@ impl RangeInclusive {
         }
         let start = number_in(value, "start")?;
         let end = number_in(value, "end")?;
-        match RangeInclusive::new(start, end) {
-            Ok(range) => Some(range),
-            Err(_) => None,
-        }
+        RangeInclusive::new(start, end).ok()
     }
 }

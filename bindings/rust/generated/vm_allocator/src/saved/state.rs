@@ -4,7 +4,7 @@
 
 use super::ValueError;
 use crate::allocation_engine::NodeState;
-use crate::error::{Error, Result};
+use crate::error::Result;
 use rattle::Value;
 use rattle::Global;
 
@@ -16,18 +16,12 @@ impl NodeState {
             NodeState::Free => "Free",
             NodeState::Allocated => "Allocated",
         };
-        match Value::try_from_str(alloc, name) {
-            Ok(value) => Ok(value),
-            Err(_) => Err(Error::OutOfMemory),
-        }
+        Ok(Value::try_from_str(alloc, name)?)
     }
 
     /// The state that a value states. `NotAState` where it states none. It takes no memory.
     pub fn from_value(_alloc: Global, value: &Value) -> core::result::Result<Self, ValueError> {
-        match NodeState::stated_by(value) {
-            Some(state) => Ok(state),
-            None => Err(ValueError::NotAState),
-        }
+        NodeState::stated_by(value).ok_or(ValueError::NotAState)
     }
 
     /// The state that a value states.

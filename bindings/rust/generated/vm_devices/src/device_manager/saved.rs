@@ -12,7 +12,8 @@ use self::slots::{read_slots, save_slots};
 use super::DeviceManager;
 use rattle::{Value, json};
 use rattle::{AllocError, Global};
-use vm_allocator::{AddressAllocator, Error, IdAllocator, Result, ValueError};
+use vm_allocator::{AddressAllocator, IdAllocator, Result, ValueError};
+use vm_values::{has_fields, list_in, number_in};
 
 /// The version of the saved form.
 const VERSION: u64 = 1;
@@ -24,10 +25,7 @@ impl DeviceManager {
         let ids = self.id_allocator.to_value(alloc)?;
         let space = self.mmio_allocator.to_value(alloc)?;
         let slots = save_slots(alloc, &self.slots)?;
-        match put_manager(alloc, ids, space, slots) {
-            Ok(value) => Ok(value),
-            Err(_) => Err(Error::OutOfMemory),
-        }
+        Ok(put_manager(alloc, ids, space, slots)?)
     }
 
     /// The manager that a value states: its ids, its space and its devices. `NotAState` where the value
@@ -45,15 +43,14 @@ impl DeviceManager {
             return Err(ValueError::NotAState);
         }
         let slots = read_slots(alloc, fields.slots)?;
-        match are_held_apart(alloc, &id_allocator, &mmio_allocator, &slots) {
-            Ok(true) => Ok(DeviceManager {
-                id_allocator,
-                mmio_allocator,
-                slots,
-            }),
-            Ok(false) => Err(ValueError::NotAState),
-            Err(_) => Err(ValueError::OutOfMemory),
+        if !are_held_apart(alloc, &id_allocator, &mmio_allocator, &slots)? {
+            return Err(ValueError::NotAState);
         }
+        Ok(DeviceManager {
+            id_allocator,
+            mmio_allocator,
+            slots,
+        })
     }
 }
 
@@ -76,19 +73,11 @@ struct Fields<'a> {
 
 /// What stands in the fields of a value, where they are those of a manager, of this version.
 fn fields_of(value: &Value) -> Option<Fields<'_>> {
-    if !has_fields(value, 4) || value.get("version")?.as_u64()? != VERSION {
+    if !has_fields(value, 4) || number_in(value, "version")? != VERSION {
         return None;
     }
     let ids = value.get("id_allocator")?;
     let space = value.get("mmio_allocator")?;
-    let slots = value.get("slots")?.as_array()?;
+    let slots = list_in(value, "slots")?;
     Some(Fields { ids, space, slots })
-}
-
-/// Whether a value is an object with that many fields.
-fn has_fields(value: &Value, count: usize) -> bool {
-    match value.as_object() {
-        Some(fields) => fields.len() == count,
-        None => false,
-    }
 }

@@ -1,7 +1,7 @@
 use Rattle.std.proofs.Common.{sym}
 use Rattle.serde_json.specs.View.{view}
 use Rattle.vm_allocator.specs.Allocator.{state_of}
-use Rattle.vm_allocator.proofs.Repairing.RepairedReading.{none_stated, some_stated, can_add, added_stated}
+use Rattle.vm_allocator.proofs.Repairing.RepairedReading.{none_stated, some_stated, can_add, added_stated, repaired_state}
 use Rattle.vm_allocator.proofs.address_allocator.AddressAllocator.from_value_repaired.Goals as goal
 
 pub returns-in_default-clause-answer : goal.returns-in_default-clause-answer
@@ -22,3 +22,6 @@ pub returns-clause-answer : goal.returns-clause-answer
 returns-clause-answer c =
     let made = rw (c.start.ensures.value, c.len.ensures) at c.in-Ok.ensures in
     added_stated (view c.args.value.now) c.in-Some.checked.space (view c.in-Some.checked.root.now) (sym c.in-Some.ensures) (state_of c.in-Ok.allocator) made (state_of c.hold_keys.new.allocator) c.in-Ok-hold_keys.ensures.held
+
+pub returns-clause-state : goal.returns-clause-state
+returns-clause-state c = repaired_state (view c.args.value.now) (state_of c.hold_keys.new.allocator) (returns-clause-answer c)

@@ -1,6 +1,6 @@
 use Rattle.std.proofs.Common.{◌≡◌, Some, sym, ◌∙◌}
 use Rattle.serde_json.specs.View.{view}
-use Rattle.vm_allocator.specs.Values.ValueFields.{whole_number}
+use Rattle.vm_values.specs.Numbers.{whole_number}
 use Rattle.vm_allocator.proofs.Reading.RisingNumbers.{collect_step}
 use Rattle.vm_allocator.proofs.saved.ids.collect.Goals as goal
 

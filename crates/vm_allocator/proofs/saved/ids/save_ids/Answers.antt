@@ -1,6 +1,6 @@
 use Rattle.std.proofs.Common.{ap}
 use Rattle.std.specs.Map.Iter.{deref}
-use Rattle.vm_allocator.specs.Values.ValueFields.{whole_number}
+use Rattle.vm_values.specs.Numbers.{whole_number}
 use Rattle.vm_allocator.proofs.Reading.RisingNumbers.{states_more}
 use Rattle.vm_allocator.proofs.saved.ids.save_ids.Goals as goal
 

@@ -1,19 +1,20 @@
 //! The saved form of trees.
-ghost use Rattle.std.specs.Prelude.{IfOk};
 ghost use Rattle.serde_json.specs.View.{view};
+ghost use Rattle.vm_allocator.specs.Tree.Shape.{IsTree};
 ghost use Rattle.vm_allocator.specs.Values.TreeValues.{StatesShape};
-ghost use Rattle.vm_allocator.specs.Checks.ValueParts.{NodeParts};
 ghost use Rattle.vm_allocator.specs.Saving.{Saves};
 
 use crate::allocation_engine::node::InnerNode;
-use crate::error::{Error, Result};
-use serde_json::{Value, json};
-use std::alloc::{AllocError, Global};
+use crate::error::Result;
+use crate::saved::fields::save_node;
+use serde_json::Value;
+use std::alloc::Global;
 
 /// The value that has the tree, node for node. `OutOfMemory` where there is no memory for it.
 #[tactic(auto, using(crate::proofs::Reading::Writing::nodes))]
 pub(crate) fn save(tree: &InnerNode, alloc: Global) -> Result<Value>
-    ensures { Saves (λ d. StatesShape d tree.now) result }
+    ensures answer { Saves (λ d. StatesShape d tree.now) result }
+    ensures tree { IsTree tree.now }
 {
     let left = match &tree.left {
         None => Value::Null,
@@ -25,22 +26,5 @@ pub(crate) fn save(tree: &InnerNode, alloc: Global) -> Result<Value>
     };
     let key = tree.key.to_value(alloc)?;
     let state = tree.node_state.to_value(alloc)?;
-    match save_node(alloc, key, state, left, right, tree.height) {
-        Ok(node) => Ok(node),
-        Err(_) => Err(Error::OutOfMemory),
-    }
-}
-
-/// The object of a node's fields.
-fn save_node(
-    alloc: Global,
-    key: Value,
-    state: Value,
-    left: Value,
-    right: Value,
-    height: u64,
-) -> std::result::Result<Value, AllocError>
-    ensures { IfOk result (λ node. NodeParts (view node) (view key) (view state) (view left) (view right) height) }
-{
-    json!(in alloc; {"key": key, "node_state": state, "left": left, "right": right, "height": height})
+    Ok(save_node(alloc, key, state, left, right, tree.height)?)
 }

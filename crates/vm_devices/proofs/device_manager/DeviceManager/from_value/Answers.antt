@@ -3,40 +3,71 @@ use Rattle.serde_json.specs.View.{view, items_view}
 use Rattle.serde_json.specs.declared.value.Value.{Value}
 use Rattle.vm_allocator.specs.Allocator.{state_of}
 use Rattle.vm_devices.specs.SavedChecks.{FindsDevices}
-use Rattle.vm_devices.proofs.Saving.{ids_refused, slots_refused, not_as_many, not_paired, read_state, manager_read}
+use Rattle.vm_devices.proofs.SavedManagers.{ReadOf, fields_found, ids_refused, space_refused, slots_refused, not_as_many, not_paired, read_state, manager_read}
 use Rattle.vm_devices.proofs.device_manager.DeviceManager.from_value.Goals as goal
 
 pub returns-in_err-id_allocator-clause-answer : goal.returns-in_err-id_allocator-clause-answer
 returns-in_err-id_allocator-clause-answer c =
-    let is : c.from_residual.result ≡ Err c.in_err-id_allocator.field-0.0 = search rules in
-    let f = c.in-Some.fields in
-    rw is (ids_refused (view c.args.value.now) (view f.ids.now) (view f.space.now) (items_view f.slots.now.items) c.in_err-id_allocator.field-0.0 (sym c.in-Some.ensures) c.in_err-id_allocator.ensures.answer)
+    let e = c.in_err-id_allocator.field-0.0 in
+    let is : c.from_residual.result ≡ Err e = search rules in
+    rw is (ids_refused (fields_found (view c.args.value.now) _ _ _ (sym c.in-Some.ensures)) e c.in_err-id_allocator.ensures.answer)
 
-pub returns-then-not-are_as_many-clause-answer : goal.returns-then-not-are_as_many-clause-answer
-returns-then-not-are_as_many-clause-answer c =
-    let f = c.in-Some.fields in
-    not_as_many (view c.args.value.now) (view f.ids.now) (view f.space.now) (items_view f.slots.now.items) c.in_ok-id_allocator.id_allocator (state_of c.in_ok-mmio_allocator.mmio_allocator) (sym c.in-Some.ensures) c.in_ok-id_allocator.ensures.answer c.in_ok-mmio_allocator.ensures.answer (rw (← c.deref.ensures.value) c.if-not-are_as_many.ensures)
+pub returns-in_err-mmio_allocator-clause-answer : goal.returns-in_err-mmio_allocator-clause-answer
+returns-in_err-mmio_allocator-clause-answer c =
+    let e = c.in_err-mmio_allocator.field-0.0 in
+    let is : c.from_residual-in_err-mmio_allocator.result ≡ Err e = search rules in
+    rw is (space_refused (fields_found (view c.args.value.now) _ _ _ (sym c.in-Some.ensures)) e c.in_err-mmio_allocator.ensures.answer)
 
 pub returns-in_err-slots-clause-answer : goal.returns-in_err-slots-clause-answer
 returns-in_err-slots-clause-answer c =
-    let is : c.from_residual-in_err-slots.result ≡ Err c.in_err-slots.field-0.0 = search rules in
-    let f = c.in-Some.fields in
-    rw is (slots_refused (view c.args.value.now) (view f.ids.now) (view f.space.now) (items_view f.slots.now.items) c.in_err-slots.field-0.0 (sym c.in-Some.ensures) (subst (λ (list : List Value). FindsDevices (items_view list) (Err c.in_err-slots.field-0.0)) c.deref-2.ensures.value c.in_err-slots.ensures))
+    let e = c.in_err-slots.field-0.0 in
+    let is : c.from_residual-in_err-slots.result ≡ Err e = search rules in
+    let refused = subst (λ (list : List Value). FindsDevices (items_view list) (Err e)) c.deref-2.ensures.value c.in_err-slots.ensures in
+    rw is (slots_refused (fields_found (view c.args.value.now) _ _ _ (sym c.in-Some.ensures)) e refused)
+
+pub returns-then-not-are_as_many-clause-answer : goal.returns-then-not-are_as_many-clause-answer
+returns-then-not-are_as_many-clause-answer c =
+    let read : ReadOf (view c.args.value.now) = record {
+      fields = fields_found (view c.args.value.now) _ _ _ (sym c.in-Some.ensures);
+      ids = c.in_ok-id_allocator.id_allocator;
+      space = state_of c.in_ok-mmio_allocator.mmio_allocator;
+      ids_stated = c.in_ok-id_allocator.ensures.answer;
+      space_stated = c.in_ok-mmio_allocator.ensures.answer;
+    } in
+    not_as_many read (rw (← c.deref.ensures.value) c.if-not-are_as_many.ensures)
 
 pub invariant_of-result : goal.invariant_of-result
 invariant_of-result c =
-    let f = c.in-Some.fields in
-    read_state (view c.args.value.now) (view f.ids.now) (view f.space.now) (items_view f.slots.now.items) c.in_ok-id_allocator.id_allocator (state_of c.in_ok-mmio_allocator.mmio_allocator) c.in_ok-slots.slots (sym c.in-Some.ensures) c.in_ok-id_allocator.ensures.answer c.in_ok-mmio_allocator.ensures.answer (rw (← c.deref-2.ensures.value) c.in_ok-slots.ensures) (search rules) (rw c.in-Ok-true.field-0-test at c.in-Ok-true.ensures)
+    let read : ReadOf (view c.args.value.now) = record {
+      fields = fields_found (view c.args.value.now) _ _ _ (sym c.in-Some.ensures);
+      ids = c.in_ok-id_allocator.id_allocator;
+      space = state_of c.in_ok-mmio_allocator.mmio_allocator;
+      ids_stated = c.in_ok-id_allocator.ensures.answer;
+      space_stated = c.in_ok-mmio_allocator.ensures.answer;
+    } in
+    read_state read c.in_ok-slots.slots (rw (← c.deref-2.ensures.value) c.in_ok-slots.ensures) (search rules) (rw c.if-not-branch.false at c.in_ok-are_held_apart.ensures)
 
-pub returns-in-Ok-true-clause-answer : goal.returns-in-Ok-true-clause-answer
-returns-in-Ok-true-clause-answer c =
-    let f = c.in-Some.fields in
-    manager_read (view c.args.value.now) (view f.ids.now) (view f.space.now) (items_view f.slots.now.items) c.in_ok-id_allocator.id_allocator (state_of c.in_ok-mmio_allocator.mmio_allocator) c.in_ok-slots.slots (sym c.in-Some.ensures) c.in_ok-id_allocator.ensures.answer c.in_ok-mmio_allocator.ensures.answer (rw (← c.deref-2.ensures.value) c.in_ok-slots.ensures) (search rules) (rw c.in-Ok-true.field-0-test at c.in-Ok-true.ensures)
+pub returns-clause-answer : goal.returns-clause-answer
+returns-clause-answer c =
+    let read : ReadOf (view c.args.value.now) = record {
+      fields = fields_found (view c.args.value.now) _ _ _ (sym c.in-Some.ensures);
+      ids = c.in_ok-id_allocator.id_allocator;
+      space = state_of c.in_ok-mmio_allocator.mmio_allocator;
+      ids_stated = c.in_ok-id_allocator.ensures.answer;
+      space_stated = c.in_ok-mmio_allocator.ensures.answer;
+    } in
+    manager_read read c.in_ok-slots.slots (rw (← c.deref-2.ensures.value) c.in_ok-slots.ensures) (search rules) (rw c.if-not-branch.false at c.in_ok-are_held_apart.ensures)
 
-pub returns-in-Ok-true-clause-state : goal.returns-in-Ok-true-clause-state
-returns-in-Ok-true-clause-state c = invariant_of-result c
+pub returns-clause-state : goal.returns-clause-state
+returns-clause-state c = invariant_of-result c
 
-pub returns-in-Ok-false-clause-answer : goal.returns-in-Ok-false-clause-answer
-returns-in-Ok-false-clause-answer c =
-    let f = c.in-Some.fields in
-    not_paired (view c.args.value.now) (view f.ids.now) (view f.space.now) (items_view f.slots.now.items) c.in_ok-id_allocator.id_allocator (state_of c.in_ok-mmio_allocator.mmio_allocator) c.in_ok-slots.slots (sym c.in-Some.ensures) c.in_ok-id_allocator.ensures.answer c.in_ok-mmio_allocator.ensures.answer (rw (← c.deref-2.ensures.value) c.in_ok-slots.ensures) (rw c.in-Ok-false.field-0-test at c.in-Ok-false.ensures)
+pub returns-then-not-branch-clause-answer : goal.returns-then-not-branch-clause-answer
+returns-then-not-branch-clause-answer c =
+    let read : ReadOf (view c.args.value.now) = record {
+      fields = fields_found (view c.args.value.now) _ _ _ (sym c.in-Some.ensures);
+      ids = c.in_ok-id_allocator.id_allocator;
+      space = state_of c.in_ok-mmio_allocator.mmio_allocator;
+      ids_stated = c.in_ok-id_allocator.ensures.answer;
+      space_stated = c.in_ok-mmio_allocator.ensures.answer;
+    } in
+    not_paired read c.in_ok-slots.slots (rw (← c.deref-2.ensures.value) c.in_ok-slots.ensures) (rw c.if-not-branch.true at c.in_ok-are_held_apart.ensures)

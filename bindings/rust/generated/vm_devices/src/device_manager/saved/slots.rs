@@ -3,12 +3,12 @@
 //! The list of devices in a manager's value.
 
 use rattle::Vec;
-use super::has_fields;
 use crate::device_slot::DeviceSlot;
 use rattle::{Value, json};
 use rattle::{AllocError, Global};
 use rattle::BTreeMap;
 use vm_allocator::{Error, RangeInclusive, Result, ValueError};
+use vm_values::{has_fields, u32_in};
 
 /// The list of devices, by rising ids.
 pub(super) fn save_slots(alloc: Global, slots: &BTreeMap<u32, RangeInclusive>) -> Result<Value> {
@@ -25,10 +25,7 @@ pub(super) fn save_slots(alloc: Global, slots: &BTreeMap<u32, RangeInclusive>) -
 /// The value of one device.
 fn save_slot(alloc: Global, id: u32, range: &RangeInclusive) -> Result<Value> {
     let range = range.to_value(alloc)?;
-    match put_slot(alloc, id, range) {
-        Ok(value) => Ok(value),
-        Err(_) => Err(Error::OutOfMemory),
-    }
+    Ok(put_slot(alloc, id, range)?)
 }
 
 /// The object of a device's fields.
@@ -63,14 +60,9 @@ fn slot_of(alloc: Global, value: &Value) -> Option<DeviceSlot> {
     if !has_fields(value, 2) {
         return None;
     }
-    let id = id_of(value.get("id")?.as_u64()?)?;
+    let id = u32_in(value, "id")?;
     let range = range_of(alloc, value.get("mmio_range")?)?;
     Some(DeviceSlot { id, range })
-}
-
-/// The number as an id.
-fn id_of(number: u64) -> Option<u32> {
-    u32::try_from(number).ok()
 }
 
 /// The range that a value states.

@@ -1,4 +1,4 @@
-use Rattle.vm_devices.proofs.Slots.{IsSoFar}
+use Rattle.vm_devices.proofs.SavedDevices.{IsSoFar}
 use Rattle.vm_devices.proofs.device_manager.saved.slots.read_slots.Given as goal
 
 -- the devices so far are in the table, and those that are left go on from them

@@ -3,9 +3,10 @@
 //! The saved form of trees.
 
 use crate::allocation_engine::node::InnerNode;
-use crate::error::{Error, Result};
-use rattle::{Value, json};
-use rattle::{AllocError, Global};
+use crate::error::Result;
+use crate::saved::fields::save_node;
+use rattle::Value;
+use rattle::Global;
 
 /// The value that has the tree, node for node. `OutOfMemory` where there is no memory for it.
 pub(crate) fn save(tree: &InnerNode, alloc: Global) -> Result<Value> {
@@ -19,20 +20,5 @@ pub(crate) fn save(tree: &InnerNode, alloc: Global) -> Result<Value> {
     };
     let key = tree.key.to_value(alloc)?;
     let state = tree.node_state.to_value(alloc)?;
-    match save_node(alloc, key, state, left, right, tree.height) {
-        Ok(node) => Ok(node),
-        Err(_) => Err(Error::OutOfMemory),
-    }
-}
-
-/// The object of a node's fields.
-fn save_node(
-    alloc: Global,
-    key: Value,
-    state: Value,
-    left: Value,
-    right: Value,
-    height: u64,
-) -> core::result::Result<Value, AllocError> {
-    json!(in alloc; {"key": key, "node_state": state, "left": left, "right": right, "height": height})
+    Ok(save_node(alloc, key, state, left, right, tree.height)?)
 }

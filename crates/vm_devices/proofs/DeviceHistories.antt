@@ -15,8 +15,8 @@ use Rattle.vm_devices.specs.Histories.{DeviceCall, Reservation, Release, IsDevic
 use Rattle.vm_devices.specs.Laws.{DevicesAreGood}
 use Rattle.vm_devices.proofs.Tables.{with_here, with_other}
 use Rattle.vm_devices.proofs.Pairs.{one_range, was, id_held}
-use Rattle.vm_devices.proofs.Making.{made_state}
-use Rattle.vm_devices.proofs.Saving.{stated_state}
+use Rattle.vm_devices.proofs.NewManagers.{made_state}
+use Rattle.vm_devices.proofs.SavedManagers.{stated_state}
 use Rattle.vm_devices.proofs.Reserving.{reserving_outcome, releasing_outcome, reserved_state, released_state}
 
 -- ---- every state that is reached is one
@@ -42,7 +42,8 @@ reserved_later call calls id r g =
     record { request = g.request; call = (suc c.0, omega (arith, c.1), c.2); aligned = g.aligned; long = g.long }
 
 -- a device after a call was one before it, or the call reserved it
-call_reserves : (old new : DeviceState) (call : DeviceCall) (calls : List DeviceCall) (id : ℕ) (r : Range) → IsDeviceCallFrom old call new → IsDeviceState old → IsDevice new id r → IsDevice old id r ⊎ WasReserved (call ∷ calls) id r
+call_reserves : (old new : DeviceState) (call : DeviceCall) (calls : List DeviceCall) (id : ℕ) (r : Range) → IsDeviceCallFrom old call new → IsDeviceState old →
+    IsDevice new id r → IsDevice old id r ⊎ WasReserved (call ∷ calls) id r
 call_reserves old new (Reservation request answer) calls id r h i d =
     ⊎_elim
     (λ refused. inl (subst (λ (s : DeviceState). IsDevice s id r) refused.2 d))
@@ -70,7 +71,8 @@ call_reserves old new (Release q answer) calls id r h i d =
     (λ left. was old q left.0 i left.1 id r (subst (λ (s : DeviceState). IsDevice s id r) left.3 d))
     (releasing_outcome old new q answer h))
 
-history_reserves : (calls : List DeviceCall) (first last : DeviceState) (id : ℕ) (r : Range) → IsDeviceHistoryFrom first calls last → IsDeviceState first → IsDevice last id r → IsDevice first id r ⊎ WasReserved calls id r
+history_reserves : (calls : List DeviceCall) (first last : DeviceState) (id : ℕ) (r : Range) → IsDeviceHistoryFrom first calls last → IsDeviceState first →
+    IsDevice last id r → IsDevice first id r ⊎ WasReserved calls id r
 history_reserves [] first last id r h i d = inl (subst (λ (s : DeviceState). IsDevice s id r) h d)
 history_reserves (call ∷ calls) first last id r h i d =
     ⊎_elim

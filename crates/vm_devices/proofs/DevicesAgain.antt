@@ -1,6 +1,7 @@
 -- What a released device held is reserved again.
 use Rattle.std.proofs.Common.{◌≡◌, ◌≢◌, ℕ, ◌≤◌, ◌⊎◌, arith, refl, sym, ap, ◌∙◌, inl, inr, ⊎_elim, subst, Option, MatchOption, Result, Ok, Err}
 use Rattle.std.specs.FinMap as map
+use Rattle.vm_values.proofs.NumberSets.{inserted_other, removed_other, from_removed}
 use Rattle.vm_allocator.specs.Range.{Range, address_count}
 use Rattle.vm_allocator.specs.Address.{AddressState, holding, releasing}
 use Rattle.vm_allocator.specs.Request.{Request, request_for}
@@ -9,11 +10,9 @@ use Rattle.vm_allocator.specs.Ids.{IdState, IsHeld, IsLeastNotHeld, AreAllHeld, 
 use Rattle.vm_allocator.specs.declared.error.Error.{Error}
 use Rattle.vm_allocator.specs.declared.error.Error.TheVariants.{NeverAllocated, OutOfMemory}
 use Rattle.vm_allocator.specs.declared.constraint.AllocPolicy.TheVariants.{ExactMatch}
-use Rattle.vm_allocator.proofs.Blocks.PlainWords.{held_contains}
-use Rattle.vm_allocator.proofs.Callers.{given_held, given_again}
+use Rattle.vm_allocator.proofs.Callers.{given_held, given_again, frees_held}
 use Rattle.vm_allocator.proofs.Answers.Once.{allocates_once}
-use Rattle.vm_allocator.proofs.Answers.AddressAnswers.{freeing_undoes, releases_held}
-use Rattle.vm_allocator.proofs.Ids.IdSets.{inserted_other, removed_other, from_removed}
+use Rattle.vm_allocator.proofs.Answers.AddressAnswers.{freeing_undoes}
 use Rattle.vm_allocator.proofs.Ids.IdAnswers.{one_least}
 use Rattle.vm_devices.specs.declared.device_slot.DeviceSlot.{DeviceSlot}
 use Rattle.vm_devices.specs.Devices.{DeviceState, IsDevice, with_device, without_device, Pairs, Reserves, Releases}
@@ -23,7 +22,8 @@ use Rattle.vm_devices.proofs.Pairs.{id_held}
 use Rattle.vm_devices.proofs.Reserving.{reserved_device}
 
 -- a device that is released without want of memory is gone
-device_released : (old new : DeviceState) (id : ℕ) (r : Range) (answer : Result (Unit {0}) Error) → IsDevice old id r → Releases old id answer new → answer ≢ Err OutOfMemory → new ≡ without_device id r old
+device_released : (old new : DeviceState) (id : ℕ) (r : Range) (answer : Result (Unit {0}) Error) → IsDevice old id r → Releases old id answer new →
+    answer ≢ Err OutOfMemory → new ≡ without_device id r old
 unfolding Releases
 device_released old new id r answer d h plain =
     let P : Option Range → Type 0 = λ at.
@@ -32,7 +32,8 @@ device_released old new id r answer d h plain =
     ⊎_elim (λ t. t.1) (λ m. absurd (plain m.0)) (subst P d h)
 
 -- what a request for a range comes to, for an id
-told : (old new : DeviceState) (id : ℕ) (given : Result Range Error) (answer : Result DeviceSlot Error) (r : Range) → Pairs old id given answer new → (given ≡ Ok r) ⊎ IsSplitRefusal old.space given → (answer ≡ Ok (record { id = id; range = r })) ⊎ IsExcused old answer
+told : (old new : DeviceState) (id : ℕ) (given : Result Range Error) (answer : Result DeviceSlot Error) (r : Range) →
+    Pairs old id given answer new → (given ≡ Ok r) ⊎ IsSplitRefusal old.space given → (answer ≡ Ok (record { id = id; range = r })) ⊎ IsExcused old answer
 told old new id given answer r p (inl e) =
     ⊎_elim (λ t. inl t.0) (λ m. inr (inl m.0)) (subst (λ (g : Result Range Error). Pairs old id g answer new) e p)
 told old new id given answer r p (inr (inl e)) =
@@ -56,7 +57,8 @@ for_least ids id takes refused least (inl h) = subst takes (one_least ids h.0 id
 for_least ids id takes refused least (inr h) = absurd (least.0.1 (h.0 id least.0.0))
 
 -- the same range is given, or the split is refused
-same_given : (old new : AddressState) (request : Request) (r : Range) (given : Result Range Error) → Allocates old request (Ok r) (holding r old) → Allocates old request given new → (given ≡ Ok r) ⊎ IsSplitRefusal old given
+same_given : (old new : AddressState) (request : Request) (r : Range) (given : Result Range Error) →
+    Allocates old request (Ok r) (holding r old) → Allocates old request given new → (given ≡ Ok r) ⊎ IsSplitRefusal old given
 same_given old new request r given a b =
     ⊎_elim
     (λ same. inl (sym same.0))
@@ -71,13 +73,14 @@ reserved_again old mid new later request slot released answer i s f plain t =
     let r = slot.range in
     let device : IsDevice mid id r = ap (λ (v : DeviceState). map.get v.devices id) m.left ∙ with_here old.devices id r in
     let left : new ≡ without_device id r (with_device id r old) = device_released mid new id r released device f plain ∙ ap (without_device id r) m.left in
-    let held = held_contains (holding r old.space).held r (given_held old.space (holding r old.space) request r m.given) in
-    let back : releasing r (holding r old.space) ≡ old.space = (freeing_undoes old.space (holding r old.space) (releasing r (holding r old.space)) request r (Ok tt) i.space m.given (releases_held (holding r old.space) r held)).1 in
+    let given = holding r old.space in
+    let frees = frees_held given r (given_held old.space given request r m.given) in
+    let back : releasing r given ≡ old.space = (freeing_undoes old.space given (releasing r given) request r (Ok tt) i.space m.given frees).1 in
     let space : new.space ≡ old.space = ap (λ (v : DeviceState). v.space) left ∙ back in
     let least : IsLeastNotHeld new.ids id = subst (λ (v : IdState). IsLeastNotHeld v id) (sym (ap (λ (v : DeviceState). v.ids) left)) (least_again old.ids id m.least) in
     let u = for_least new.ids id _ _ least t in
-    let given = same_given new.space u.1 request r u.0 (subst (λ (v : AddressState). Allocates v request (Ok r) (holding r v)) (sym space) m.given) u.2 in
-    told new later id u.0 answer r u.3 given
+    let first = subst (λ (v : AddressState). Allocates v request (Ok r) (holding r v)) (sym space) m.given in
+    told new later id u.0 answer r u.3 (same_given new.space u.1 request r u.0 first u.2)
 
 -- ---- the same range
 -- an id that is given back leaves one that is not held
@@ -94,7 +97,7 @@ range_comes_back old new later id r released answer i d f plain t =
     let held = i.pairs.held id r d in
     let t' = subst (λ (v : DeviceState). Reserves v (request_for (address_count r) 1 (ExactMatch r.start)) answer later) left t in
     let u = for_some old.ids id _ _ (out.0, omega (arith, out.1, i.ids.front.1)) t' in
-    let frees = releases_held old.space r (held_contains old.space.held r held) in
+    let frees = frees_held old.space r held in
     let given = given_again old.space (releasing r old.space) u.1.1 r (Ok tt) u.1.0 i.space held frees u.1.2 in
     ⊎_elim
     (λ e. inl (u.0, e))

@@ -1,32 +1,17 @@
 -- The fields of a saved value.
-use Rattle.std.proofs.Common.{◌≡◌, ℕ, Bool, true, false, cond, List, length, Option, Some, None, option_map, option_and_then, MatchOption, refl, ap, ◌∙◌}
+use Rattle.std.proofs.Common.{◌≡◌, ℕ, true, List, length, Option, Some, None, option_map, MatchOption, refl, ap, ◌∙◌}
 use Rattle.std.proofs.lemmas.Bool.{eqb-true, eq-eqb}
-use Rattle.std.proofs.lemmas.Option.{same_Some}
 use Rattle.serde_json.specs.Data.{Data}
 use Rattle.serde_json.specs.Find.{get, as_object}
 use Rattle.serde_json.specs.Events.{members_len}
 use Rattle.serde_json.specs.View.{members_view}
 use Rattle.serde_json.proofs.Views.{Entry, members_len-members_view}
-use Rattle.vm_allocator.specs.Values.ValueFields.{field_count, FieldIs}
-use Rattle.vm_allocator.specs.Checks.ValueChecks.{is_count}
+use Rattle.vm_values.specs.Fields.{field_count, is_count, FieldIs}
 
 pub field_count_of : (d : Data) (es : List Entry) → as_object d ≡ Some (members_view es) → field_count d ≡ Some (length es)
 field_count_of d es e = ap (option_map members_len) e ∙ ap Some (members_len-members_view es)
 
 pub ruleset counts = (field_count_of)
-
--- a chain of steps has come to an end: each step has
-pub and_then_some : {A B : Type 0} (f : A → Option B) (o : Option A) (b : B) → option_and_then f o ≡ Some b → (a : A) × (o ≡ Some a) × (f a ≡ Some b)
-and_then_some f None b e = absurd (cc)
-and_then_some f (Some a) b e = (a, refl, e)
-
-pub map_some : {A B : Type 0} (f : A → B) (o : Option A) (b : B) → option_map f o ≡ Some b → (a : A) × (o ≡ Some a) × (f a ≡ b)
-map_some f None b e = absurd (cc)
-map_some f (Some a) b e = (a, refl, same_Some (f a) b e)
-
-pub if_some : {A : Type 0} (t : Bool) (o : Option A) (b : A) → cond t o None ≡ Some b → (t ≡ true) × (o ≡ Some b)
-if_some true o b e = (refl, e)
-if_some false o b e = absurd (cc)
 
 pub count-true : (n : ℕ) (o : Option ℕ) → is_count n o ≡ true → o ≡ Some n
 count-true n None e = absurd (cc)

@@ -39,7 +39,8 @@ abbrev IsAnswered : DeviceState → Request → Type 0
 IsAnswered old request =
     (answer : Result DeviceSlot Error) × (new : DeviceState) × Reserves old request answer new × (answer ≢ Err OutOfMemory)
 
-with_id : (old : DeviceState) (request : Request) (id : ℕ) (given : Result Range Error) (space : AddressState) → IsLeastNotHeld old.ids id → Allocates old.space request given space → given ≢ Err OutOfMemory → IsAnswered old request
+with_id : (old : DeviceState) (request : Request) (id : ℕ) (given : Result Range Error) (space : AddressState) → IsLeastNotHeld old.ids id →
+    Allocates old.space request given space → given ≢ Err OutOfMemory → IsAnswered old request
 unfolding Reserves ByLeastNotHeld
 with_id old request id (Err e) space least a plain =
     (Err e, old, inl (id, least, (Err e, space, a, (refl, refl))), λ h. let same : e ≡ OutOfMemory = cc (h) in plain (ap (λ (v : Error). Err v) same))
@@ -58,7 +59,8 @@ total_reserves : (old : DeviceState) (request : Request) → IsAnswered old requ
 total_reserves old request = let p = every_id_call.peeked old.ids in by_peeking old request p.0 p.1
 
 -- ---- releasing
-total_releases_at : (old : DeviceState) (id : ℕ) (at : Option Range) → map.get old.devices id ≡ at → (answer : Result (Unit {0}) Error) × (new : DeviceState) × Releases old id answer new × (answer ≢ Err OutOfMemory)
+total_releases_at : (old : DeviceState) (id : ℕ) (at : Option Range) → map.get old.devices id ≡ at →
+    (answer : Result (Unit {0}) Error) × (new : DeviceState) × Releases old id answer new × (answer ≢ Err OutOfMemory)
 unfolding Releases
 total_releases_at old id None e = (Err (NeverAllocated id), old, rw e (refl, refl), λ h. cc (h))
 total_releases_at old id (Some r) e = (Ok tt, without_device id r old, rw e (inl (refl, refl)), λ h. cc (h))

@@ -12,31 +12,26 @@ use Rattle.serde_json.specs.Events.{items_len}
 use Rattle.serde_json.specs.Find.{get}
 use Rattle.serde_json.specs.View.{view, items_view}
 use Rattle.serde_json.specs.declared.value.Value.{Value}
+use Rattle.vm_values.proofs.FieldSteps.{count-true, true-count, in_field, field_is}
+use Rattle.vm_values.proofs.Items.{items_from, less_is}
+use Rattle.vm_values.proofs.NumberSteps.{u32_in-some, some-u32}
+use Rattle.vm_values.proofs.Steps.{and_then_some, map_some, if_some}
+use Rattle.vm_values.specs.Fields.{field_count, is_count}
+use Rattle.vm_values.specs.Numbers.{u32_in}
 use Rattle.vm_allocator.specs.Range.{Range}
-use Rattle.vm_allocator.specs.Values.ValueFields.{field_count}
-use Rattle.vm_allocator.specs.Values.RangeValues.{StatesRange}
-use Rattle.vm_allocator.specs.Checks.ValueChecks.{is_count, range_found}
-use Rattle.vm_allocator.specs.Checks.IdChecks.{id_in}
-use Rattle.vm_allocator.proofs.Reading.FieldSteps.{and_then_some, if_some, count-true, true-count, in_field, field_is}
-use Rattle.vm_allocator.proofs.Reading.ReadRanges.{found-states, states-found}
-use Rattle.vm_allocator.proofs.Reading.ReadIds.{id_in-some, some-id}
-use Rattle.vm_allocator.proofs.Reading.RisingNumbers.{items_from}
-use Rattle.vm_allocator.proofs.Reading.RisingBounds.{less_is}
+use Rattle.vm_allocator.specs.Values.RangeValues.{StatesRange, range_found}
+use Rattle.vm_allocator.proofs.Callers.{found-states, states-found}
 use Rattle.vm_devices.specs.Saved.{StatesDevice, StatesDevices}
 use Rattle.vm_devices.specs.SavedChecks.{device_found, rising_devices}
 
 -- ---- one device
-pub mapped : {A B : Type 0} (f : A → B) (o : Option A) (b : B) → option_map f o ≡ Some b → (a : A) × (o ≡ Some a) × (f a ≡ b)
-mapped f None b e = absurd (cc)
-mapped f (Some a) b e = (a, refl, cc)
-
 pub device-states : (d : Data) (e : ℕ × Range) → device_found d ≡ Some e → StatesDevice d e
 device-states d e h =
     let two = if_some (is_count 2 (field_count d)) _ e h in
-    let id = and_then_some _ (id_in (codes "id") d) e two.1 in
-    let pair = mapped _ (option_and_then range_found (get (codes "mmio_range") d)) e id.2 in
+    let id = and_then_some _ (u32_in (codes "id") d) e two.1 in
+    let pair = map_some _ (option_and_then range_found (get (codes "mmio_range") d)) e id.2 in
     let range = and_then_some range_found (get (codes "mmio_range") d) pair.0 pair.1 in
-    let number = id_in-some (codes "id") d id.0 id.1 in
+    let number = u32_in-some (codes "id") d id.0 id.1 in
     subst (StatesDevice d) pair.2 (record {
       two_fields = count-true 2 (field_count d) two.0;
       id = number.0;
@@ -47,7 +42,7 @@ device-states d e h =
 pub states-device : (d : Data) (e : ℕ × Range) → StatesDevice d e → device_found d ≡ Some e
 states-device d e s =
     let range = in_field (codes "mmio_range") d (λ v. StatesRange v e.1) s.mmio_range in
-    rw (true-count 2 (field_count d) s.two_fields, s.id, some-id e.0 s.word, range.1, states-found range.0 e.1 range.2) refl
+    rw (true-count 2 (field_count d) s.two_fields, s.id, some-u32 e.0 s.word, range.1, states-found range.0 e.1 range.2) refl
 
 -- what reading a range answers, as what is found
 pub range_read : (d : Data) (r : Range) → StatesRange d r → range_found d ≡ Some r
@@ -68,7 +63,7 @@ rising-states least no_items (e ∷ es) h = absurd (cc)
 rising-states least (item d ds) es h =
     let a = and_then_some _ (device_found d) es h in
     let b = if_some (leb least a.0.0) _ es a.2 in
-    let m = mapped _ (rising_devices (a.0.0 + 1) ds) es b.1 in
+    let m = map_some _ (rising_devices (a.0.0 + 1) ds) es b.1 in
     subst (StatesDevices (item d ds)) m.2 (device-states d a.0 a.1, rising-states (a.0.0 + 1) ds m.0 m.1)
 
 -- each item is a device
@@ -78,7 +73,7 @@ rising-length least no_items (e ∷ es) h = absurd (cc)
 rising-length least (item d ds) es h =
     let a = and_then_some _ (device_found d) es h in
     let b = if_some (leb least a.0.0) _ es a.2 in
-    let m = mapped _ (rising_devices (a.0.0 + 1) ds) es b.1 in
+    let m = map_some _ (rising_devices (a.0.0 + 1) ds) es b.1 in
     ap (λ (v : List (ℕ × Range)). length v) (sym m.2) ∙ ap suc (rising-length (a.0.0 + 1) ds m.0 m.1)
 
 -- each id is above the one before it, the first from `least` on
@@ -110,7 +105,8 @@ states-rising ds es s r = rising_from 0 ds es s (from_sorted es r)
 pub no_device : (least i : ℕ) (vs : List Value) (v : Value) → i < length vs → v ≡ get_or vs i v → device_found (view v) ≡ None → rising_devices least (items_view (drop i vs)) ≡ None
 no_device least i vs v h e w = rw (items_from vs i v h e, w) refl
 
-pub too_low : (least i : ℕ) (vs : List Value) (v : Value) (f : ℕ × Range) → i < length vs → v ≡ get_or vs i v → device_found (view v) ≡ Some f → f.0 < least → rising_devices least (items_view (drop i vs)) ≡ None
+pub too_low : (least i : ℕ) (vs : List Value) (v : Value) (f : ℕ × Range) → i < length vs → v ≡ get_or vs i v → device_found (view v) ≡ Some f → f.0 < least →
+    rising_devices least (items_view (drop i vs)) ≡ None
 too_low least i vs v f h e w p = rw (items_from vs i v h e, w, lt-leb least f.0 p) refl
 
 next_rises : (least i : ℕ) (vs : List Value) (v : Value) (f : ℕ × Range) → i < length vs → v ≡ get_or vs i v → device_found (view v) ≡ Some f → least ≤ f.0 →
@@ -141,7 +137,8 @@ pub record IsSoFar (vs : List Value) (i least : ℕ) (es : List (ℕ × Range)) 
   pub so_far : rising_devices 0 (items_view vs) ≡ option_map (λ fs. es ++ fs) (rising_devices least (items_view (drop i vs)))
   pub below : AreBelow least es
 
-pub one_more : (vs : List Value) (i least : ℕ) (es fs : List (ℕ × Range)) (v : Value) (f : ℕ × Range) → i < length vs → v ≡ get_or vs i v → device_found (view v) ≡ Some f → least ≤ f.0 → IsSoFar vs i least es → fs ≡ insert_entry nat_cmp es f.0 f.1 → IsSoFar vs (i + 1) (f.0 + 1) fs
+pub one_more : (vs : List Value) (i least : ℕ) (es fs : List (ℕ × Range)) (v : Value) (f : ℕ × Range) → i < length vs → v ≡ get_or vs i v → device_found (view v) ≡ Some f →
+    least ≤ f.0 → IsSoFar vs i least es → fs ≡ insert_entry nat_cmp es f.0 f.1 → IsSoFar vs (i + 1) (f.0 + 1) fs
 one_more vs i least es fs v f h e w p s put =
     let is : fs ≡ es ++ f ∷ [] = put ∙ put_last least f es s.below p in
     let rest = rising_devices (f.0 + 1) (items_view (drop (i + 1) vs)) in
@@ -155,7 +152,8 @@ pub none_left : (vs : List Value) (i least : ℕ) (es : List (ℕ × Range)) →
 none_left vs i least es s none = s.so_far ∙ ap (option_map (λ fs. es ++ fs)) none
 
 -- ---- devices written
-push_device : (vs : List Value) (v : Value) (es : List (ℕ × Range)) (f : ℕ × Range) → StatesDevices (items_view vs) es → StatesDevice (view v) f → StatesDevices (items_view (vs ++ v ∷ [])) (es ++ f ∷ [])
+push_device : (vs : List Value) (v : Value) (es : List (ℕ × Range)) (f : ℕ × Range) → StatesDevices (items_view vs) es → StatesDevice (view v) f →
+    StatesDevices (items_view (vs ++ v ∷ [])) (es ++ f ∷ [])
 push_device [] v [] f s t = (t, tt)
 push_device [] v (e ∷ es) f s t = absurd s
 push_device (w ∷ vs) v [] f s t = absurd s
@@ -165,7 +163,8 @@ map_last : {X : Type 0} (f : X → ℕ × Range) (xs : List X) (x : X) → map f
 map_last f [] x = refl
 map_last f (y ∷ xs) x = ap (λ (l : List (ℕ × Range)). f y ∷ l) (map_last f xs x)
 
-pub states_more : {X : Type 0} (f : X → ℕ × Range) (vs ws : List Value) (v : Value) (xs : List X) (x : X) → ws ≡ vs ++ v ∷ [] → StatesDevice (view v) (f x) → StatesDevices (items_view vs) (map f xs) → StatesDevices (items_view ws) (map f (xs ++ x ∷ []))
+pub states_more : {X : Type 0} (f : X → ℕ × Range) (vs ws : List Value) (v : Value) (xs : List X) (x : X) → ws ≡ vs ++ v ∷ [] → StatesDevice (view v) (f x) →
+    StatesDevices (items_view vs) (map f xs) → StatesDevices (items_view ws) (map f (xs ++ x ∷ []))
 states_more f vs ws v xs x e w s = rw (e, map_last f xs x) (push_device vs v (map f xs) (f x) s w)
 
 pub ruleset tables = (no_device, too_low, one_more, none_left)

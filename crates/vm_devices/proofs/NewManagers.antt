@@ -1,5 +1,5 @@
 -- What a new manager is.
-use Rattle.std.proofs.Common.{◌≡◌, ℕ, ◌≤◌, [], refl, sym, ap, ◌∙◌, ⊎_elim, subst, Some, None, IsSome, Result, Ok, Err}
+use Rattle.std.proofs.Common.{◌≡◌, ℕ, ◌≤◌, arith, [], refl, sym, ap, ◌∙◌, ⊎_elim, subst, Some, None, IsSome, Result, Ok, Err}
 use Rattle.std.proofs.lemmas.Bool.{both_ways}
 use Rattle.std.specs.List.{Contains}
 use Rattle.std.specs.Ordering.{nat_cmp}
@@ -10,22 +10,30 @@ use Rattle.vm_allocator.specs.Address.{AddressState}
 use Rattle.vm_allocator.specs.Answer.{Makes}
 use Rattle.vm_allocator.specs.Ids.{MAX_ID, IdState, IsHeld, MakesIds, fresh_ids}
 use Rattle.vm_allocator.specs.declared.error.Error.{Error}
-use Rattle.vm_allocator.proofs.Blocks.PlainWords.{held_contains}
 use Rattle.vm_allocator.proofs.Answers.AddressAnswers.{made_is, state_is_kept}
 use Rattle.vm_allocator.proofs.Ids.IdAnswers.{front_is_kept}
 use Rattle.vm_devices.proofs.Pairs.{none_there}
 use Rattle.vm_devices.specs.Devices.{DeviceState, IsDeviceState, made_devices, MakesManager}
 
+-- the two allocators of a manager that is made
+pub record IsMade (lo hi base size : ℕ) (ids : IdState) (space : AddressState) : Type 0 where
+  pub id : hi ≤ MAX_ID
+  pub word : size ≤ MAX
+  pub ids_made : MakesIds lo hi (Ok ids)
+  pub space_made : Makes base size (Ok space)
+
 -- no id and no range is held, and there is no device
-pub no_devices : (lo hi base size : ℕ) (ids : IdState) (space : AddressState) → hi ≤ MAX_ID → size ≤ MAX → MakesIds lo hi (Ok ids) → Makes base size (Ok space) → IsDeviceState (record { ids = ids; space = space; devices = map.empty })
+pub no_devices : (lo hi base size : ℕ) (ids : IdState) (space : AddressState) → IsMade lo hi base size ids space →
+    IsDeviceState (record { ids = ids; space = space; devices = map.empty })
 unfolding MakesIds
-no_devices lo hi base size ids space id word m n =
+no_devices lo hi base size ids space made =
     let none = λ (q : ℕ). map.get-empty {X = Range} nat_cmp q in
-    let fresh : ids ≡ fresh_ids lo hi = ⊎_elim (λ l. absurd (cc (l.1))) (λ r. cc (r.1)) m in
-    let held : (r : Range) → ¬ Contains space.held r = λ r c. held_contains [] r (subst (λ (v : AddressState). Contains v.held r) (made_is base size space n).2 c) in
+    let fresh : ids ≡ fresh_ids lo hi = ⊎_elim (λ l. absurd (cc (l.1))) (λ r. cc (r.1)) made.ids_made in
+    let held : (r : Range) → ¬ Contains space.held r =
+    λ r c. none_in r (subst (λ (v : AddressState). Contains v.held r) (made_is base size space made.space_made).2 c) in
     record {
-      ids = front_is_kept.made lo hi ids id m;
-      space = state_is_kept.made base size space word n;
+      ids = front_is_kept.made lo hi ids made.id made.ids_made;
+      space = state_is_kept.made base size space made.word made.space_made;
       pairs = record {
         ids = λ q. (
           λ h. absurd (both_ways _ (set.contains-empty nat_cmp q) (subst (λ (v : IdState). IsHeld v q) fresh h)),
@@ -35,10 +43,12 @@ no_devices lo hi base size ids space id word m n =
         owned = λ r c. absurd (held r c);
         once = λ i j r d f. let e : None ≡ Some r = sym (none i) ∙ d in absurd (cc (e));
       };
-    }
+    } where
+      none_in : (r : Range) → ¬ Contains [] r
+      none_in r c = let below = c.1 in absurd (omega (arith, below))
 
--- the two allocators of a manager that is made
-made_parts : (ids : Result IdState Error) (space : Result AddressState Error) (state : DeviceState) → Ok state ≡ made_devices ids space → (i : IdState) × (s : AddressState) × (ids ≡ Ok i) × (space ≡ Ok s) × (state ≡ record { ids = i; space = s; devices = map.empty })
+made_parts : (ids : Result IdState Error) (space : Result AddressState Error) (state : DeviceState) → Ok state ≡ made_devices ids space →
+    (i : IdState) × (s : AddressState) × (ids ≡ Ok i) × (space ≡ Ok s) × (state ≡ record { ids = i; space = s; devices = map.empty })
 made_parts (Err e) space state h = absurd (cc (h))
 made_parts (Ok i) (Err e) state h = absurd (cc (h))
 made_parts (Ok i) (Ok s) state h = (i, s, refl, refl, cc (h))
@@ -48,6 +58,11 @@ unfolding MakesManager
 made_state lo hi base size state id word h =
     let p = made_parts h.0 h.1 state h.4 in (
       subst IsDeviceState (sym p.4)
-          (no_devices lo hi base size p.0 p.1 id word (subst (MakesIds lo hi) p.2 h.2) (subst (Makes base size) p.3 h.3)),
+          (no_devices lo hi base size p.0 p.1 (record {
+            id = id;
+            word = word;
+            ids_made = subst (MakesIds lo hi) p.2 h.2;
+            space_made = subst (Makes base size) p.3 h.3;
+          })),
       ap (λ (s : DeviceState). s.devices) p.4,
     )

@@ -15,14 +15,16 @@ use Rattle.vm_devices.specs.Devices.{DeviceState, made_devices, without_device, 
 use Rattle.vm_devices.specs.Laws.{DevicesDecide}
 
 -- ---- making
-made_with : (base size : ℕ) (ids : Result IdState Error) (x y : Result AddressState Error) (answer other : Result DeviceState Error) → answer ≢ Err OutOfMemory → other ≢ Err OutOfMemory → Makes base size x → Makes base size y → answer ≡ made_devices ids x → other ≡ made_devices ids y → answer ≡ other
+made_with : (base size : ℕ) (ids : Result IdState Error) (x y : Result AddressState Error) (answer other : Result DeviceState Error) → answer ≢ Err OutOfMemory →
+    other ≢ Err OutOfMemory → Makes base size x → Makes base size y → answer ≡ made_devices ids x → other ≡ made_devices ids y → answer ≡ other
 made_with base size (Err e) x y answer other p q m n a b = a ∙ sym b
 made_with base size (Ok ids) x y answer other p q m n a b =
     let tell = made_devices (Ok ids) in
     let same = made_once base size x y (λ e. p (a ∙ ap tell e)) (λ e. q (b ∙ ap tell e)) m n in
     a ∙ ap tell same ∙ sym b
 
-manager_once : (lo hi base size : ℕ) (answer other : Result DeviceState Error) → answer ≢ Err OutOfMemory → other ≢ Err OutOfMemory → MakesManager lo hi base size answer → MakesManager lo hi base size other → answer ≡ other
+manager_once : (lo hi base size : ℕ) (answer other : Result DeviceState Error) → answer ≢ Err OutOfMemory → other ≢ Err OutOfMemory → MakesManager lo hi base size answer →
+    MakesManager lo hi base size other → answer ≡ other
 unfolding MakesManager
 manager_once lo hi base size answer other p q a b =
     let ids = making_is_determined lo hi a.0 b.0 a.2 b.2 in
@@ -44,7 +46,8 @@ plain_range : (old new : DeviceState) (id : ℕ) (given : Result Range Error) (a
 plain_range old new id given answer plain p e =
     plain ((subst (λ (g : Result Range Error). Pairs old id g answer new) e p).0)
 
-reserved_once : (old new later : DeviceState) (request : Request) (answer other : Result DeviceSlot Error) → answer ≢ Err OutOfMemory → other ≢ Err OutOfMemory → length old.space.held < FEWEST_TOO_DEEP → Reserves old request answer new → Reserves old request other later → (answer ≡ other) × (new ≡ later)
+reserved_once : (old new later : DeviceState) (request : Request) (answer other : Result DeviceSlot Error) → answer ≢ Err OutOfMemory → other ≢ Err OutOfMemory →
+    length old.space.held < FEWEST_TOO_DEEP → Reserves old request answer new → Reserves old request other later → (answer ≡ other) × (new ≡ later)
 unfolding Reserves
 reserved_once old new later request answer other p q few a b =
     by_same_least old.ids _ _ _ _ ((answer ≡ other) × (new ≡ later)) a b
@@ -60,12 +63,14 @@ ReleasesAt old id at answer new =
     ((answer ≡ Err (NeverAllocated id)) × (new ≡ old))
     (λ r. ((answer ≡ Ok tt) × (new ≡ without_device id r old)) ⊎ ((answer ≡ Err OutOfMemory) × (new ≡ old)))
 
-released_at : (old new later : DeviceState) (id : ℕ) (at : Option Range) (answer other : Result (Unit {0}) Error) → answer ≢ Err OutOfMemory → other ≢ Err OutOfMemory → ReleasesAt old id at answer new → ReleasesAt old id at other later → (answer ≡ other) × (new ≡ later)
+released_at : (old new later : DeviceState) (id : ℕ) (at : Option Range) (answer other : Result (Unit {0}) Error) → answer ≢ Err OutOfMemory → other ≢ Err OutOfMemory →
+    ReleasesAt old id at answer new → ReleasesAt old id at other later → (answer ≡ other) × (new ≡ later)
 released_at old new later id None answer other p q a b = (a.0 ∙ sym b.0, a.1 ∙ sym b.1)
 released_at old new later id (Some r) answer other p q a b =
     ⊎_elim (λ t. ⊎_elim (λ u. (t.0 ∙ sym u.0, t.1 ∙ sym u.1)) (λ m. absurd (q m.0)) b) (λ m. absurd (p m.0)) a
 
-released_once : (old new later : DeviceState) (id : ℕ) (answer other : Result (Unit {0}) Error) → answer ≢ Err OutOfMemory → other ≢ Err OutOfMemory → Releases old id answer new → Releases old id other later → (answer ≡ other) × (new ≡ later)
+released_once : (old new later : DeviceState) (id : ℕ) (answer other : Result (Unit {0}) Error) → answer ≢ Err OutOfMemory → other ≢ Err OutOfMemory →
+    Releases old id answer new → Releases old id other later → (answer ≡ other) × (new ≡ later)
 unfolding Releases
 released_once old new later id answer other p q a b = released_at old new later id (map.get old.devices id) answer other p q a b
 

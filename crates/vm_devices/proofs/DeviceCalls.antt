@@ -1,0 +1,173 @@
+-- What the calls of a manager need: the answers of its parts make its own. A record is what a call comes with.
+use Rattle.std.proofs.Common.{◌≡◌, ℕ, ◌⊎◌, refl, sym, ap, ◌∙◌, inl, inr, ⊎_elim, subst, Some, None, Result, Ok, Err}
+use Rattle.std.specs.Ordering.{nat_cmp}
+use Rattle.std.specs.BTreeMap.{BTreeMap, IsEmpty, IsUnchanged, Updates}
+use Rattle.std.specs.FinMap as map
+use Rattle.std.specs.List.{Contains}
+use Rattle.vm_allocator.specs.Range.{Range}
+use Rattle.vm_allocator.specs.Address.{AddressState, releasing}
+use Rattle.vm_allocator.specs.Request.{Request}
+use Rattle.vm_allocator.specs.Answer.{Allocates, Frees, Makes}
+use Rattle.vm_allocator.specs.Ids.{IdState, IsHeld, MakesIds, ByLeastNotHeld, PeeksId, AllocatesId, FreesId, releasing_id}
+use Rattle.vm_allocator.specs.declared.error.Error.{Error}
+use Rattle.vm_allocator.specs.declared.error.Error.TheVariants.{Overflow, ResourceNotAvailable, NeverAllocated, OutOfMemory}
+use Rattle.vm_allocator.proofs.Answers.AddressAnswers.{freeing_undoes}
+use Rattle.vm_allocator.proofs.Answers.EveryAddressCall.{every_call}
+use Rattle.vm_allocator.proofs.Callers.{given}
+use Rattle.vm_allocator.proofs.Ids.IdAnswers.{peeking_foretells}
+use Rattle.vm_devices.specs.declared.device_slot.DeviceSlot.{DeviceSlot}
+use Rattle.vm_devices.specs.Devices.{DeviceState, IsDeviceState, IsDevice, devices_of, MakesManager, Reserves, Releases}
+use Rattle.vm_devices.proofs.Tables.{table_with, table_without, no_entries}
+use Rattle.vm_devices.proofs.Pairs.{id_held}
+use Rattle.vm_devices.proofs.NewManagers.{IsMade, no_devices}
+use Rattle.vm_devices.proofs.Reserving.{reserved_state, released_state}
+
+-- ids, a space and a table, as a manager has them
+pub record Parts : Type 0 where
+  pub ids : IdState
+  pub space : AddressState
+  pub slots : BTreeMap ℕ Range
+
+-- the state that they stand for
+abbrev pub state_in : Parts → DeviceState
+state_in p = devices_of p.ids p.space p.slots
+
+-- ---- making
+pub ids_refused : (lo hi base size : ℕ) (e : Error) → MakesIds lo hi (Err e) → MakesManager lo hi base size (Err e)
+unfolding MakesManager
+ids_refused lo hi base size e m = let space = every_call.made base size in (Err e, space.0, m, space.1, refl)
+
+pub space_refused : (lo hi base size : ℕ) (ids : IdState) (e : Error) → MakesIds lo hi (Ok ids) → Makes base size (Err e) →
+    MakesManager lo hi base size (Err e)
+unfolding MakesManager
+space_refused lo hi base size ids e m n = (Ok ids, Err e, m, n, refl)
+
+pub manager_made : (lo hi base size : ℕ) (ids : IdState) (space : AddressState) (slots : BTreeMap ℕ Range) → MakesIds lo hi (Ok ids) →
+    Makes base size (Ok space) → IsEmpty slots → MakesManager lo hi base size (Ok (devices_of ids space slots))
+unfolding MakesManager
+manager_made lo hi base size ids space slots m n e =
+    (Ok ids, Ok space, m, n, ap (λ t. Ok (record { ids = ids; space = space; devices = t })) (no_entries slots e))
+
+pub manager_state : {lo hi base size : ℕ} (new : Parts) → IsMade lo hi base size new.ids new.space → IsEmpty new.slots → IsDeviceState (state_in new)
+manager_state {lo} {hi} {base} {size} new m e =
+    subst (λ t. IsDeviceState (record { ids = new.ids; space = new.space; devices = t })) (sym (no_entries new.slots e)) (no_devices lo hi base size new.ids new.space m)
+
+pub ruleset makes_managers = (ids_refused, space_refused, manager_made)
+
+-- ---- reserving
+-- an id that is foretold is the least
+for_peeked : (ids : IdState) (id : ℕ) (takes : ℕ → Type 0) (refused : Error → Type 0) → PeeksId ids (Ok id) → takes id → ByLeastNotHeld ids takes refused
+unfolding PeeksId ByLeastNotHeld
+for_peeked ids id takes refused (inl h) t = let same : id ≡ h.0 = cc (h.2) in inl (h.0, h.1, subst takes same t)
+for_peeked ids id takes refused (inr (all, inl h)) t = absurd (cc (h.1))
+for_peeked ids id takes refused (inr (all, inr h)) t = absurd (cc (h.1))
+
+pub id_refused : (old new : DeviceState) (request : Request) (e : Error) → PeeksId old.ids (Err e) → new ≡ old → Reserves old request (Err e) new
+unfolding Reserves PeeksId ByLeastNotHeld
+id_refused old new request e (inl h) same = absurd (cc (h.2))
+id_refused old new request e (inr (all, inl h)) same = let is : e ≡ Overflow = cc (h.1) in inr (all, inl (h.0, (ap (λ (v : Error). Err v) is, same)))
+id_refused old new request e (inr (all, inr h)) same =
+    let is : e ≡ ResourceNotAvailable = cc (h.1) in inr (all, inr (h.0, (ap (λ (v : Error). Err v) is, same)))
+
+-- an id is foretold, and a range asked for
+pub record IsAsked (old : DeviceState) (request : Request) (given : Result Range Error) : Type 0 where
+  pub id : ℕ
+  pub space : AddressState
+  pub foretold : PeeksId old.ids (Ok id)
+  pub answer : Allocates old.space request given space
+
+pub range_refused : {old new : DeviceState} {request : Request} {e : Error} → IsAsked old request (Err e) → new ≡ old → Reserves old request (Err e) new
+unfolding Reserves
+range_refused {old} {new} {request} {e} a same = for_peeked old.ids a.id _ _ a.foretold (Err e, a.space, a.answer, (refl, same))
+
+pub table_refused : {old new : DeviceState} {request : Request} {r : Range} → IsAsked old request (Ok r) → new ≡ old →
+    Reserves old request (Err OutOfMemory) new
+unfolding Reserves
+table_refused {old} {new} {request} {r} a same = for_peeked old.ids a.id _ _ a.foretold (Ok r, a.space, a.answer, inr (refl, same))
+
+-- a range is given and given back, and the table left as it was
+pub record IsUndone (old : Parts) (later : AddressState) (left : BTreeMap ℕ Range) : Type 0 where
+  pub mid : AddressState
+  pub request : Request
+  pub range : Range
+  pub answer : Result (Unit {0}) Error
+  pub given : Allocates old.space request (Ok range) mid
+  pub back : Frees mid range answer later
+  pub unchanged : IsUnchanged old.slots left
+
+-- that is the state from before
+pub undone : {old : Parts} {later : AddressState} {left : BTreeMap ℕ Range} → IsDeviceState (state_in old) → IsUndone old later left →
+    devices_of old.ids later left ≡ state_in old
+undone {old} {later} {left} i u =
+    let back : later ≡ old.space = (freeing_undoes old.space u.mid later u.request u.range u.answer i.space u.given u.back).1 in
+    ap (λ (s : AddressState). devices_of old.ids s left) back
+    ∙ ap (λ es. record { ids = old.ids; space = old.space; devices = map.from_entries es }) u.unchanged
+
+-- the id that was foretold and a range are given, and entered in the table
+pub record Comes (old new : Parts) (request : Request) (slot : DeviceSlot) : Type 0 where
+  pub answer : Result ℕ Error
+  pub foretold : PeeksId old.ids (Ok slot.id)
+  pub taken : AllocatesId old.ids answer new.ids
+  pub given : Allocates old.space request (Ok slot.range) new.space
+  pub entered : Updates nat_cmp old.slots new.slots slot.id (Some slot.range)
+
+-- that is a device that comes
+pub come : {old new : Parts} {request : Request} {slot : DeviceSlot} → Comes old new request slot → Reserves (state_in old) request (Ok slot) (state_in new)
+unfolding Reserves
+come {old} {new} {request} {slot} c =
+    let foretold = (peeking_foretells.held old.ids new.ids slot.id c.answer c.foretold c.taken).1 in
+    let given = (given old.space new.space request slot.range c.given).left in
+    let table = table_with old.slots new.slots slot.id slot.range c.entered in
+    for_peeked old.ids slot.id _ _ c.foretold (Ok slot.range, new.space, c.given, inl (refl, cc (foretold, given, table)))
+
+pub come_state : {old new : Parts} {request : Request} {slot : DeviceSlot} → IsDeviceState (state_in old) → Comes old new request slot →
+    IsDeviceState (state_in new)
+come_state {old} {new} {request} {slot} i c = reserved_state (state_in old) (state_in new) request (Ok slot) i (come c)
+
+-- ---- releasing
+pub no_device : (old new : DeviceState) (id : ℕ) → map.get old.devices id ≡ None → new ≡ old → Releases old id (Err (NeverAllocated id)) new
+unfolding Releases
+no_device old new id e same = rw e (refl, same)
+
+-- the id of a device is held, so only memory refuses to take it back
+pub release_refused : (old new : DeviceState) (id : ℕ) (r : Range) (e : Error) (back : Result ℕ Error) → IsDeviceState old → IsDevice old id r →
+    (IsHeld old.ids id → (back ≡ Ok id) ⊎ (back ≡ Err OutOfMemory)) → back ≡ Err e → new ≡ old → Releases old id (Err e) new
+unfolding Releases
+release_refused old new id r e back i d held is same =
+    let memory : e ≡ OutOfMemory = ⊎_elim (λ k. absurd (cc (k, is))) (λ k. cc (k, is)) (held (id_held old id r i d)) in
+    rw d (inr (ap (λ (v : Error). Err v) memory, same))
+
+id_freed : (old new : IdState) (id back : ℕ) → FreesId old id (Ok back) new → new ≡ releasing_id id old
+unfolding FreesId
+id_freed old new id back (inl a) = absurd (cc (a.1.0))
+id_freed old new id back (inr (_, inl a)) = absurd (cc (a.1.0))
+id_freed old new id back (inr (_, inr (_, inl a))) = absurd (cc (a.1.0))
+id_freed old new id back (inr (_, inr (_, inr (_, inl a)))) = a.1
+id_freed old new id back (inr (_, inr (_, inr (_, inr a)))) = absurd (cc (a.0))
+
+range_freed : (old new : AddressState) (r : Range) (answer : Result (Unit {0}) Error) → Contains old.held r → Frees old r answer new → new ≡ releasing r old
+unfolding Frees
+range_freed old new r answer c (inl a) = a.1.1
+range_freed old new r answer c (inr a) = absurd (a.0 c)
+
+-- the id and the range of a device are given back, and it is taken out of the table
+pub record Goes (old new : Parts) (id : ℕ) : Type 0 where
+  pub range : Range
+  pub back : ℕ
+  pub answer : Result (Unit {0}) Error
+  pub device : IsDevice (state_in old) id range
+  pub freed_id : FreesId old.ids id (Ok back) new.ids
+  pub freed_range : Frees old.space range answer new.space
+  pub removed : Updates nat_cmp old.slots new.slots id None
+
+-- that is a device that goes
+pub go : {old new : Parts} {id : ℕ} → IsDeviceState (state_in old) → Goes old new id → Releases (state_in old) id (Ok tt) (state_in new)
+unfolding Releases
+go {old} {new} {id} i g =
+    let no_id = id_freed old.ids new.ids id g.back g.freed_id in
+    let no_range = range_freed old.space new.space g.range g.answer (i.pairs.held id g.range g.device) g.freed_range in
+    let table = table_without old.slots new.slots id g.removed in
+    rw g.device (inl (refl, cc (no_id, no_range, table)))
+
+pub go_state : {old new : Parts} {id : ℕ} → IsDeviceState (state_in old) → Goes old new id → IsDeviceState (state_in new)
+go_state {old} {new} {id} i g = released_state (state_in old) (state_in new) id (Ok tt) i (go i g)

@@ -1,0 +1,276 @@
+-- A manager's value: what is found of it is what it states, what is read is that, and what is written states it.
+use Rattle.std.proofs.Common.{◌≡◌, ℕ, nat_eq, ◌==◌, Bool, true, false, length, List, Option, Some, None, Result, Ok, Err, inl, inr, ◌⊎◌, option_and_then, MatchOption, codes, refl, sym, ap, ◌∙◌, subst}
+use Rattle.std.proofs.lemmas.Bool.{eqb-true, eqb-false, ne_eqb}
+use Rattle.std.proofs.lemmas.Option.{same_Some}
+use Rattle.std.specs.BTreeMap.{BTreeMap}
+use Rattle.std.specs.List.Sorted.{IsStrictlySortedBy}
+use Rattle.std.specs.Map.{keys_of}
+use Rattle.std.specs.Ordering.{nat_cmp}
+use Rattle.std.specs.FinMap as map
+use Rattle.std.specs.FinSet as set
+use Rattle.serde_json.specs.Data.{Data, Items}
+use Rattle.serde_json.specs.Events.{items_len}
+use Rattle.serde_json.specs.Find.{get, as_array}
+use Rattle.serde_json.specs.View.{items_view}
+use Rattle.serde_json.specs.declared.value.Value.{Value}
+use Rattle.serde_json.proofs.Views.{items_len-items_view}
+use Rattle.vm_values.proofs.FieldSteps.{count-true, true-count, in_field, field_is}
+use Rattle.vm_values.proofs.Steps.{and_then_some, map_some, if_some}
+use Rattle.vm_values.specs.Fields.{field_count, is_count}
+use Rattle.vm_values.specs.Numbers.{number_in}
+use Rattle.vm_allocator.specs.Range.{Range}
+use Rattle.vm_allocator.specs.Cases.{Tells}
+use Rattle.vm_allocator.specs.Address.{AddressState}
+use Rattle.vm_allocator.specs.Ids.{IdState, held_count}
+use Rattle.vm_allocator.specs.Allocator.{SpaceInTree, state_of}
+use Rattle.vm_allocator.specs.Values.TreeValues.{StatesAllocator, StatesAddresses}
+use Rattle.vm_allocator.specs.Values.IdValues.{StatesIds}
+use Rattle.vm_allocator.specs.Saving.{Reads}
+use Rattle.vm_allocator.specs.declared.saved.ValueError.{ValueError}
+use Rattle.vm_allocator.specs.declared.saved.ValueError.TheVariants.{NotAState, OutOfMemory}
+use Rattle.vm_allocator.proofs.Callers.{ids_again, ids_stated, addresses_again, addresses_stated}
+use Rattle.vm_devices.specs.Devices.{DeviceState, IsDeviceState, devices_of}
+use Rattle.vm_devices.specs.Saved.{StatesDevices, StatesList, StatesManager, ReadsInParts}
+use Rattle.vm_devices.specs.Laws.{ManagerIsReadAgain}
+use Rattle.vm_devices.specs.SavedChecks.{rising_devices, FindsDevices, manager_found, AreAsMany, AreHeldApart, AreAllHeld, ManagerParts}
+use Rattle.vm_devices.proofs.AllHeld.{pairs_all, all_paired}
+use Rattle.vm_devices.proofs.SavedDevices.{rising-states, rising-length, states-rising}
+use Rattle.vm_devices.proofs.RisingIds.{rising_sorted}
+
+-- ---- the fields of a value that states a manager
+in_list : (d : Data) (es : List (ℕ × Range)) → StatesList d es → (ds : Items) × (as_array d ≡ Some ds) × StatesDevices ds es
+in_list d es s = found (as_array d) s where
+  found : (o : Option Items) → MatchOption o ⊥ (λ ds. StatesDevices ds es) → (ds : Items) × (o ≡ Some ds) × StatesDevices ds es
+  found None s = absurd s
+  found (Some ds) s = (ds, refl, s)
+
+list_stated : (d : Data) (ds : Items) (es : List (ℕ × Range)) → as_array d ≡ Some ds → StatesDevices ds es → StatesList d es
+list_stated d ds es e s = rw e s
+
+-- the value states no manager
+abbrev StatesNone : Data → Type 0
+StatesNone d = ¬ ((state : DeviceState) × StatesManager d state)
+
+-- what the parts of a value state of a manager
+record ArePartsOf (d : Data) (state : DeviceState) (listed : List (ℕ × Range)) : Type 0 where
+  ids : Data
+  space : Data
+  slots : Items
+  found : manager_found d ≡ Some (ids, space, slots)
+  ids_stated : StatesIds ids state.ids
+  space_stated : StatesAddresses space state.space
+  slots_stated : StatesDevices slots listed
+
+parts_of : (d : Data) (state : DeviceState) (s : StatesManager d state) → ArePartsOf d state s.listed
+parts_of d state s =
+    let ids = in_field (codes "id_allocator") d (λ v. StatesIds v state.ids) s.id_allocator in
+    let space = in_field (codes "mmio_allocator") d (λ v. StatesAddresses v state.space) s.mmio_allocator in
+    let slots = in_field (codes "slots") d (λ v. StatesList v s.listed) s.slots in
+    let list = in_list slots.0 s.listed slots.2 in
+    record {
+      ids = ids.0;
+      space = space.0;
+      slots = list.0;
+      found = rw (true-count 4 (field_count d) s.four_fields, s.version, ids.1, space.1, slots.1, list.1) refl;
+      ids_stated = ids.2;
+      space_stated = space.2;
+      slots_stated = list.2;
+    }
+
+-- what is found in the fields of a value
+pub record FieldsOf (d : Data) : Type 0 where
+  pub ids : Data
+  pub space : Data
+  pub slots : Items
+  pub found : manager_found d ≡ Some (ids, space, slots)
+
+abbrev pub fields_found : (d ids space : Data) (slots : Items) → manager_found d ≡ Some (ids, space, slots) → FieldsOf d
+fields_found d ids space slots e = record { ids = ids; space = space; slots = slots; found = e }
+
+-- and the ids and the space that two of them state
+pub record ReadOf (d : Data) : Type 0 where
+  pub fields : FieldsOf d
+  pub ids : IdState
+  pub space : AddressState
+  pub ids_stated : StatesIds fields.ids ids
+  pub space_stated : StatesAddresses fields.space space
+
+-- what a manager that the value states has in its fields
+module _ {d : Data} (f : FieldsOf d) where
+  module _ (state : DeviceState) (s : StatesManager d state) where
+    same_parts : ◌≡◌ {A = Data × Data × Items} (f.ids, f.space, f.slots) ((parts_of d state s).ids, (parts_of d state s).space, (parts_of d state s).slots)
+    same_parts = same_Some _ _ (sym f.found ∙ (parts_of d state s).found)
+
+    its_ids : StatesIds f.ids state.ids
+    its_ids = subst (λ (p : Data × Data × Items). StatesIds p.0 state.ids) (sym same_parts) (parts_of d state s).ids_stated
+
+    its_space : StatesAddresses f.space state.space
+    its_space = subst (λ (p : Data × Data × Items). StatesAddresses p.1 state.space) (sym same_parts) (parts_of d state s).space_stated
+
+    its_slots : rising_devices 0 f.slots ≡ Some s.listed
+    its_slots = states-rising f.slots s.listed (subst (λ (p : Data × Data × Items). StatesDevices p.2 s.listed) (sym same_parts) (parts_of d state s).slots_stated) s.rising
+
+  -- ---- where a part states nothing, the whole states none
+  no_ids : ¬ ((i : IdState) × StatesIds f.ids i) → StatesNone d
+  no_ids none h = none (h.0.ids, its_ids h.0 h.1)
+
+  no_space : ¬ ((a : AddressState) × StatesAddresses f.space a) → StatesNone d
+  no_space none h = none (h.0.space, its_space h.0 h.1)
+
+  no_slots : rising_devices 0 f.slots ≡ None → StatesNone d
+  no_slots none h = let e : None ≡ Some h.1.listed = sym none ∙ its_slots h.0 h.1 in absurd (cc (e))
+
+  -- ---- a refused part refuses the whole
+  pub ids_refused : (e : ValueError) → Reads {X = IdState} (StatesIds f.ids) (Err e) → ReadsInParts (StatesManager d) (Err e)
+  ids_refused NotAState r = no_ids r
+  ids_refused OutOfMemory r = tt
+
+  pub space_refused : (e : ValueError) → Reads {X = AddressState} (StatesAddresses f.space) (Err e) → ReadsInParts (StatesManager d) (Err e)
+  space_refused NotAState r = no_space r
+  space_refused OutOfMemory r = tt
+
+  pub slots_refused : (e : ValueError) → FindsDevices f.slots (Err e) → ReadsInParts (StatesManager d) (Err e)
+  slots_refused NotAState r = no_slots r
+  slots_refused OutOfMemory r = tt
+
+-- ---- what is read of both allocators
+module _ {d : Data} (r : ReadOf d) where
+  -- a manager that is stated pairs them
+  all_its_own : (state : DeviceState) (s : StatesManager d state) → AreAllHeld r.ids r.space s.listed
+  all_its_own state s =
+      let f = r.fields in
+      let same_ids : state.ids ≡ r.ids = ids_again f.ids r.ids state.ids r.ids_stated (its_ids f state s) in
+      let same_space : state.space ≡ r.space = addresses_again f.space r.space state.space r.space_stated (its_space f state s) in
+      let all = all_paired state s.listed s.devices s.rising (addresses_stated f.space state.space (its_space f state s)) s.pairs in
+      rw (← same_ids, ← same_space) all
+
+  pub not_as_many : ¬ AreAsMany r.ids r.space r.fields.slots → StatesNone d
+  not_as_many none h =
+      let all = all_its_own h.0 h.1 in
+      let long = rising-length 0 r.fields.slots h.1.listed (its_slots r.fields h.0 h.1) in
+      none (record { ids_counted = sym long ∙ all.ids_counted; ranges_counted = sym long ∙ all.ranges_counted })
+
+  -- and of the list of devices
+  module _ (table : BTreeMap ℕ Range) (rise : rising_devices 0 r.fields.slots ≡ Some table.entries) where
+    pub not_paired : ¬ AreHeldApart r.ids r.space set.empty table.entries → StatesNone d
+    not_paired none h =
+        let same : h.1.listed ≡ table.entries = same_Some h.1.listed table.entries (sym (its_slots r.fields h.0 h.1) ∙ rise) in
+        none (subst (AreHeldApart r.ids r.space set.empty) same (all_its_own h.0 h.1).apart)
+
+    rising : IsStrictlySortedBy nat_cmp (keys_of table.entries)
+    rising = rising_sorted r.fields.slots table.entries rise
+
+    -- what is read is stated: as many devices as held ids and as held ranges, each with its own
+    module _ (many : AreAsMany r.ids r.space r.fields.slots) (apart : AreHeldApart r.ids r.space set.empty table.entries) where
+      all_held : AreAllHeld r.ids r.space table.entries
+      all_held =
+          let long = rising-length 0 r.fields.slots table.entries rise in
+          record { ids_counted = long ∙ many.ids_counted; ranges_counted = long ∙ many.ranges_counted; apart = apart }
+
+      pub read_state : IsDeviceState (devices_of r.ids r.space table)
+      read_state =
+          let space = addresses_stated r.fields.space r.space r.space_stated in
+          record {
+            ids = ids_stated r.fields.ids r.ids r.ids_stated;
+            space = space;
+            pairs = pairs_all (devices_of r.ids r.space table) table.entries refl rising space all_held;
+          }
+
+      pub manager_read : StatesManager d (devices_of r.ids r.space table)
+      manager_read =
+          let f = r.fields in
+          let found : Data × Data × Items = (f.ids, f.space, f.slots) in
+          let four = if_some (is_count 4 (field_count d)) _ found f.found in
+          let version = and_then_some _ (number_in (codes "version") d) found four.1 in
+          let one = if_some (version.0 == 1) _ found version.2 in
+          let x = and_then_some _ (get (codes "id_allocator") d) found one.1 in
+          let y = and_then_some _ (get (codes "mmio_allocator") d) found x.2 in
+          let z = map_some _ (option_and_then as_array (get (codes "slots") d)) found y.2 in
+          let list = and_then_some as_array (get (codes "slots") d) z.0 z.1 in
+          let at_ids : x.0 ≡ f.ids = ap (λ (p : Data × Data × Items). p.0) z.2 in
+          let at_space : y.0 ≡ f.space = ap (λ (p : Data × Data × Items). p.1) z.2 in
+          let at_slots : z.0 ≡ f.slots = ap (λ (p : Data × Data × Items). p.2) z.2 in
+          let devices = list_stated list.0 f.slots table.entries (list.2 ∙ ap Some at_slots) (rising-states 0 f.slots table.entries rise) in
+          record {
+            four_fields = count-true 4 (field_count d) four.0;
+            version = version.1 ∙ ap Some (eqb-true version.0 1 one.0);
+            id_allocator = field_is (codes "id_allocator") d f.ids (λ v. StatesIds v r.ids) (x.1 ∙ ap Some at_ids) r.ids_stated;
+            mmio_allocator = field_is (codes "mmio_allocator") d f.space (λ v. StatesAddresses v r.space) (y.1 ∙ ap Some at_space) r.space_stated;
+            listed = table.entries;
+            slots = field_is (codes "slots") d list.0 (λ v. StatesList v table.entries) list.1 devices;
+            rising = rising;
+            devices = refl;
+            pairs = read_state.pairs;
+          }
+
+pub no_fields : (d : Data) → manager_found d ≡ None → StatesNone d
+no_fields d none h =
+    let p = parts_of d h.0 h.1 in
+    let e : None ≡ Some (p.ids, p.space, p.slots) = sym none ∙ p.found in
+    absurd (cc (e))
+
+-- ---- as many
+-- a list has as many values as its view has items
+list_long : (vs : List Value) → length vs ≡ items_len (items_view vs)
+list_long vs = sym (items_len-items_view vs)
+
+module _ (i : IdState) (a : AddressState) (vs : List Value) where
+  as_many : held_count i ≡ length vs → length a.held ≡ length vs → AreAsMany i a (items_view vs)
+  as_many ids ranges = record { ids_counted = sym (list_long vs) ∙ sym ids; ranges_counted = sym (list_long vs) ∙ sym ranges }
+
+  more_ids : ¬ (held_count i ≡ length vs) → ¬ AreAsMany i a (items_view vs)
+  more_ids more many = more (sym many.ids_counted ∙ sym (list_long vs))
+
+  more_ranges : ¬ (length a.held ≡ length vs) → ¬ AreAsMany i a (items_view vs)
+  more_ranges more many = more (sym many.ranges_counted ∙ sym (list_long vs))
+
+  pub other_ids : (n : ℕ) → n ≡ held_count i → ¬ (n ≡ length vs) → Tells (nat_eq n (length vs)) (AreAsMany i a (items_view vs))
+  other_ids n is other = let f = ne_eqb n (length vs) other in rw f (more_ids (λ e. other (is ∙ e)))
+
+  pub ranges_told : (m n : ℕ) → m ≡ held_count i → m ≡ length vs → n ≡ length a.held → Tells (nat_eq n (length vs)) (AreAsMany i a (items_view vs))
+  ranges_told m n is t counted = told (nat_eq n (length vs)) refl where
+    told : (b : Bool) → nat_eq n (length vs) ≡ b → Tells b (AreAsMany i a (items_view vs))
+    told true e = as_many (sym is ∙ t) (sym counted ∙ eqb-true n (length vs) e)
+    told false e = more_ranges (λ s. eqb-false n (length vs) e (counted ∙ s))
+
+-- ---- one manager
+pub stated_state : (d : Data) (state : DeviceState) → StatesManager d state → IsDeviceState state
+stated_state d state s =
+    let p = parts_of d state s in
+    record { ids = ids_stated p.ids state.ids p.ids_stated; space = addresses_stated p.space state.space p.space_stated; pairs = s.pairs }
+
+pub one_manager : (d : Data) (a b : DeviceState) → StatesManager d a → StatesManager d b → a ≡ b
+one_manager d a b s t =
+    let p = parts_of d a s in
+    let f = fields_found d p.ids p.space p.slots p.found in
+    let ids : a.ids ≡ b.ids = ids_again p.ids b.ids a.ids (its_ids f b t) p.ids_stated in
+    let space : a.space ≡ b.space = addresses_again p.space b.space a.space (its_space f b t) p.space_stated in
+    let list = same_Some s.listed t.listed (sym (its_slots f a s) ∙ its_slots f b t) in
+    let devices : a.devices ≡ b.devices = s.devices ∙ ap (λ (es : List (ℕ × Range)). map.from_entries es) list ∙ sym t.devices in
+    ap (λ v. record { ids = v; space = a.space; devices = a.devices }) ids
+    ∙ ap (λ v. record { ids = b.ids; space = v; devices = a.devices }) space
+    ∙ ap (λ v. record { ids = b.ids; space = b.space; devices = v }) devices
+
+read_again : (d : Data) (old : DeviceState) (answer : Result DeviceState ValueError) → StatesManager d old → ReadsInParts (StatesManager d) answer → (answer ≡ Ok old) ⊎ (answer ≡ Err OutOfMemory)
+read_again d old (Ok new) s r = inl (ap (λ (v : DeviceState). Ok v) (one_manager d new old r s))
+read_again d old (Err NotAState) s r = absurd (r (old, s))
+read_again d old (Err OutOfMemory) s r = inr refl
+
+pub manager_again : ManagerIsReadAgain
+manager_again = record { one = one_manager; again = read_again }
+
+-- ---- what is written states the manager
+pub manager_written : {d ids space slots : Data} {i : IdState} {a : SpaceInTree} (table : BTreeMap ℕ Range) → ManagerParts d ids space slots →
+    StatesIds ids i → StatesAllocator space a → StatesList slots table.entries → IsStrictlySortedBy nat_cmp (keys_of table.entries) →
+    IsDeviceState (devices_of i (state_of a) table) → StatesManager d (devices_of i (state_of a) table)
+manager_written {d} {ids} {space} {slots} {i} {a} table p is held ss rise state = record {
+  four_fields = p.four_fields;
+  version = p.version_is;
+  id_allocator = field_is (codes "id_allocator") d ids (λ v. StatesIds v i) p.ids_is is;
+  mmio_allocator = field_is (codes "mmio_allocator") d space (λ v. StatesAddresses v (state_of a)) p.space_is (record { allocator = a; stated = held; is = refl });
+  listed = table.entries;
+  slots = field_is (codes "slots") d slots (λ v. StatesList v table.entries) p.slots_is ss;
+  rising = rise;
+  devices = refl;
+  pairs = state.pairs;
+}

@@ -1,0 +1,5 @@
+pub mod Steps
+pub mod FieldSteps
+pub mod NumberSteps
+pub mod Items
+pub mod NumberSets
