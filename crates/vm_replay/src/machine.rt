@@ -120,7 +120,10 @@ impl Machine {
     fn make_ids(&mut self, alloc: Global, range_base: u32, range_end: u32) -> Reply
         ensures { Does self.old (Some (Command.Ids range_base range_end)) result self.new }
     {
-        keep(IdAllocator::new(alloc, range_base, range_end), &mut self.ids)
+        keep(
+            IdAllocator::new(alloc, range_base, range_end),
+            &mut self.ids,
+        )
     }
 
     /// Holds the least id that is not held.
@@ -158,14 +161,7 @@ impl Machine {
 
     /// Makes a manager, which takes the place of the old one. A refused one does not.
     #[tactic(auto, unfolding(crate::specs::Machines::Does))]
-    fn make_manager(
-        &mut self,
-        alloc: Global,
-        id_lo: u32,
-        id_hi: u32,
-        base: u64,
-        size: u64,
-    ) -> Reply
+    fn make_manager(&mut self, alloc: Global, id_lo: u32, id_hi: u32, base: u64, size: u64) -> Reply
         ensures { Does self.old (Some (Command.Manager id_lo id_hi base size)) result self.new }
     {
         let made = DeviceManager::new(alloc, id_lo, id_hi, base, size);
