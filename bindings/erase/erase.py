@@ -65,7 +65,7 @@ METHODS = {
     "alloc", "and_then", "as_array", "as_object", "as_slice", "as_str", "as_u64", "checked_add", "checked_mul",
     "clone", "cmp", "contains", "copied", "copy_from_slice", "first", "first_chunk", "flush", "get", "ilog2", "insert",
     "into", "is_ascii_digit", "is_empty", "is_none", "is_null", "is_power_of_two", "is_some", "iter", "len", "max",
-    "min", "next", "ok", "or_else", "pop_first", "push", "read", "remove", "saturating_add", "simd_eq", "stdin", "stdout",
+    "min", "next", "ok", "pop_first", "push", "read", "remove", "saturating_add", "simd_eq", "stdin", "stdout",
     "take", "to_bitmask", "trailing_zeros", "unwrap", "write_all",
 }
 MACROS = {"json", "unreachable"}

@@ -77,9 +77,13 @@ pub fn parse(line: &[u8]) -> Option<Command> {
     if line.len() > LONGEST_LINE {
         return None;
     }
-    parse_on_space(line)
-        .or_else(|| parse_on_ids(line))
-        .or_else(|| parse_on_devices(line))
+    if let Some(command) = parse_on_space(line) {
+        return Some(command);
+    }
+    if let Some(command) = parse_on_ids(line) {
+        return Some(command);
+    }
+    parse_on_devices(line)
 }
 
 /// What a line asks of a space.
