@@ -8,7 +8,7 @@ stands on, is written to OUT/NAME, as a package of a workspace that has OUT and 
 it. With --tests every crate is written, with its tests.
 
 What is cut: clauses, `ghost` items, members and fields, `#[tactic(..)]`, `impl Model`, `Drop` among
-the derives, laws (functions of nothing that do nothing), modules that are empty then, and tests unless
+the derives and as the bound of a parameter, laws (functions of nothing that do nothing), modules that are empty then, and tests unless
 they are asked for. What is written: the line that says where a file comes from, the attributes of a
 crate, imports of what Rattle's prelude has and Rust's has not. What is changed: the front of a path, by
 the table FOLDERS, and the parameter `rt` of `main` and of tests, which becomes the first statement.
@@ -338,7 +338,9 @@ class File(Tokens):
             token, before = self.tokens[behind], self.tokens[behind - 1].text
             if token.kind == "mark" and token.text not in (",", ":", "+"):
                 self.fail("parameters of this form", token.start)
-            if before in (":", "+"):
+            if before == ":" and token.text == "Drop" and self.tokens[behind + 1].text in (",", ">"):
+                self.cut(behind - 1, behind + 1)
+            elif before in (":", "+"):
                 self.uses.append((token.start, "a type", token.text))
             elif token.kind == "word" and token.text not in ("_", "const"):
                 self.define(behind, self.generics)

@@ -67,7 +67,9 @@ def law_end(lines, index):
 
 
 def without_drop(line):
-    """A line without the derive of `Drop`."""
+    """A line without the derive of `Drop`, or without it as the bound of a function's parameter."""
+    if re.match(r"\s*(pub(\(\w+\))? )?fn \w+<", line):
+        return re.sub(r": Drop(?=[,>])", "", line)
     found = re.match(r"(\s*)#\[derive\((.*)\)\]$", line)
     names = [name for name in found[2].split(", ") if name != "Drop"] if found else []
     return line if not found else f"{found[1]}#[derive({', '.join(names)})]" if names else ""

@@ -38,20 +38,22 @@ machine_code =
 abbrev pub start : Machine
 start = record { space = None; ids = None; devices = None }
 
--- a space that is made takes the place of the old one, and a refused one does not
+-- what is made takes the place of what was there, and what is refused does not
+abbrev pub kept : {A : Type 0} → Result A Error → Option A → Option A
+kept (Ok made) old = Some made
+kept (Err error) old = old
+
+-- the machine with the space that was made, if it was
 abbrev pub with_space : Machine → Result AddressState Error → Machine
-with_space old (Ok state) = record old { space = Some state }
-with_space old (Err error) = old
+with_space old answer = record old { space = kept answer old.space }
 
--- ids that are made take the place of the old ones, and refused ones do not
+-- with the ids that were made
 abbrev pub with_ids : Machine → Result IdState Error → Machine
-with_ids old (Ok state) = record old { ids = Some state }
-with_ids old (Err error) = old
+with_ids old answer = record old { ids = kept answer old.ids }
 
--- a manager that is made takes the place of the old one, and a refused one does not
+-- with the devices that were made
 abbrev pub with_devices : Machine → Result DeviceState Error → Machine
-with_devices old (Ok state) = record old { devices = Some state }
-with_devices old (Err error) = old
+with_devices old answer = record old { devices = kept answer old.devices }
 
 -- the line needs this part: where it is absent this is the reply; else this call settles the reply, and the state that is
 -- put back

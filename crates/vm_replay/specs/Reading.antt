@@ -2,9 +2,7 @@
 use Rattle.std.specs.Prelude.{◌≡◌, ℕ, List, [], ◌∷◌, take, Option, Some, None, MatchOption}
 use Rattle.std.specs.List.{prefix_len}
 use Rattle.std.specs.Option.{option_map}
-use Rattle.vm_replay.specs.Commands.{asked_of_ids, asked_of_devices}
 use Rattle.vm_replay.specs.Numbers.{is_digit, number_of}
-use Rattle.vm_replay.specs.declared.command.Command.{Command}
 
 -- how many digits stand at the front of a text
 abbrev pub digits_ahead : List ℕ → ℕ
@@ -21,13 +19,3 @@ IsNumberAhead text result =
 abbrev pub number_first : List (List ℕ) → Option (ℕ × List (List ℕ))
 number_first [] = None
 number_first (word ∷ words) = option_map (λ number. (number, words)) (number_of word)
-
--- what the words of a line ask of the ids, or else of the devices, where they are in the language
-abbrev pub asked_on_ids : List (List ℕ) → Option Command
-asked_on_ids [] = None
-asked_on_ids (name ∷ words) = asked_of_ids name words
-
--- what the words of a line ask of the devices, where they are in the language
-abbrev pub asked_on_devices : List (List ℕ) → Option Command
-asked_on_devices [] = None
-asked_on_devices (name ∷ words) = asked_of_devices name words

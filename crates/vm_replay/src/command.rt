@@ -1,6 +1,6 @@
+//! What a line asks for: each first word is of a space, of ids or of devices.
 ghost use Rattle.std.specs.Prelude.{◌≡◌};
-ghost use Rattle.vm_replay.specs.Commands.{command_of};
-ghost use Rattle.vm_replay.specs.Reading.{asked_on_ids, asked_on_devices};
+ghost use Rattle.vm_replay.specs.Commands.{asked_of_space, asked_of_ids, asked_of_devices, command_of};
 ghost use Rattle.vm_replay.specs.Words.{words_of};
 
 use crate::words::{behind, ids_and_numbers, one_id, three_numbers, two_ids, two_numbers};
@@ -74,13 +74,27 @@ pub enum Command {
 
 /// What a line asks for. `None` where it is not in the language.
 #[inline(always)]
-#[tactic(auto, using(crate::proofs::Names::on_ids))]
 pub fn parse(line: &[u8]) -> Option<Command>
     ensures { result ≡ command_of line.now }
 {
     if line.len() > LONGEST_LINE {
         return None;
     }
+    if let Some(command) = parse_on_space(line) {
+        return Some(command);
+    }
+    if let Some(command) = parse_on_ids(line) {
+        return Some(command);
+    }
+    parse_on_devices(line)
+}
+
+/// What a line asks of a space.
+#[inline(always)]
+#[tactic(auto, using(crate::proofs::Names::none_of_space))]
+fn parse_on_space(line: &[u8]) -> Option<Command>
+    ensures { result ≡ asked_of_space (words_of line.now) }
+{
     if let Some(rest) = behind(b"space ", line) {
         let (base, size) = two_numbers(rest)?;
         return Some(Command::Space { base, size });
@@ -105,13 +119,13 @@ pub fn parse(line: &[u8]) -> Option<Command>
         let (start, end) = two_numbers(rest)?;
         return Some(Command::Free { start, end });
     }
-    parse_on_ids(line)
+    None
 }
 
-/// What a line asks of the ids, or else of the devices.
-#[tactic(auto, using(crate::proofs::Names::on_devices))]
+/// What a line asks of ids.
+#[tactic(auto, using(crate::proofs::Names::none_of_ids))]
 fn parse_on_ids(line: &[u8]) -> Option<Command>
-    ensures { result ≡ asked_on_ids (words_of line.now) }
+    ensures { result ≡ asked_of_ids (words_of line.now) }
 {
     if let Some(rest) = behind(b"ids ", line) {
         let (range_base, range_end) = two_ids(rest)?;
@@ -131,13 +145,13 @@ fn parse_on_ids(line: &[u8]) -> Option<Command>
     if line == b"id".as_slice() {
         return Some(Command::Id);
     }
-    parse_on_devices(line)
+    None
 }
 
-/// What a line asks of the devices.
-#[tactic(auto, using(crate::proofs::Names::on_nothing))]
+/// What a line asks of devices.
+#[tactic(auto, using(crate::proofs::Names::none_of_devices))]
 fn parse_on_devices(line: &[u8]) -> Option<Command>
-    ensures { result ≡ asked_on_devices (words_of line.now) }
+    ensures { result ≡ asked_of_devices (words_of line.now) }
 {
     if let Some(rest) = behind(b"device ", line) {
         let (size, alignment) = two_numbers(rest)?;

@@ -1,9 +1,10 @@
+//! How an answer reads.
 ghost use Rattle.std.specs.Prelude.{◌≡◌, ◌++◌, ◌+◌, ◌≤◌, length, decimal};
-ghost use Rattle.vm_replay.specs.Replies.{text_of, refusal_text, pair_text, device_text};
+ghost use Rattle.vm_replay.specs.Replies.{text_of, refusal_text, pair_text, device_text, done_or_refused, given_or_refused, id_or_refused, device_or_refused};
 
 use crate::buffer::{Buffer, CAPACITY};
 use crate::number::MOST_DIGITS;
-use vm_allocator::{Error, RangeInclusive};
+use vm_allocator::{Error, RangeInclusive, Result};
 use vm_devices::DeviceSlot;
 
 /// The most bytes that a reply takes, the newline behind it aside: those of an invalid range.
@@ -32,6 +33,50 @@ pub enum Reply {
     NoManager,
     /// The line is not in the language, or it is too long.
     NotInLanguage,
+}
+
+/// The reply to a call that gives nothing which is told.
+#[inline(always)]
+pub fn done_or_refused(answer: Result<()>) -> Reply
+    ensures { result ≡ done_or_refused answer }
+{
+    match answer {
+        Ok(()) => Reply::Done,
+        Err(error) => Reply::Refused(error),
+    }
+}
+
+/// The reply to a call that gives a range.
+#[inline(always)]
+pub fn given_or_refused(answer: Result<RangeInclusive>) -> Reply
+    ensures { result ≡ given_or_refused answer }
+{
+    match answer {
+        Ok(range) => Reply::Given(range),
+        Err(error) => Reply::Refused(error),
+    }
+}
+
+/// The reply to a call that gives an id.
+#[inline(always)]
+pub fn id_or_refused(answer: Result<u32>) -> Reply
+    ensures { result ≡ id_or_refused answer }
+{
+    match answer {
+        Ok(id) => Reply::Id(id),
+        Err(error) => Reply::Refused(error),
+    }
+}
+
+/// The reply to a call that gives a device.
+#[inline(always)]
+pub fn device_or_refused(answer: Result<DeviceSlot>) -> Reply
+    ensures { result ≡ device_or_refused answer }
+{
+    match answer {
+        Ok(slot) => Reply::Device(slot),
+        Err(error) => Reply::Refused(error),
+    }
 }
 
 /// Writes how a reply reads.

@@ -1,5 +1,7 @@
 // Written by bindings/erase from crates/vm_replay/src/command.rt: do not edit.
 
+//! What a line asks for: each first word is of a space, of ids or of devices.
+
 use crate::words::{behind, ids_and_numbers, one_id, three_numbers, two_ids, two_numbers};
 
 /// A longer line is not in the language.
@@ -75,6 +77,18 @@ pub fn parse(line: &[u8]) -> Option<Command> {
     if line.len() > LONGEST_LINE {
         return None;
     }
+    if let Some(command) = parse_on_space(line) {
+        return Some(command);
+    }
+    if let Some(command) = parse_on_ids(line) {
+        return Some(command);
+    }
+    parse_on_devices(line)
+}
+
+/// What a line asks of a space.
+#[inline(always)]
+fn parse_on_space(line: &[u8]) -> Option<Command> {
     if let Some(rest) = behind(b"space ", line) {
         let (base, size) = two_numbers(rest)?;
         return Some(Command::Space { base, size });
@@ -99,10 +113,10 @@ pub fn parse(line: &[u8]) -> Option<Command> {
         let (start, end) = two_numbers(rest)?;
         return Some(Command::Free { start, end });
     }
-    parse_on_ids(line)
+    None
 }
 
-/// What a line asks of the ids, or else of the devices.
+/// What a line asks of ids.
 fn parse_on_ids(line: &[u8]) -> Option<Command> {
     if let Some(rest) = behind(b"ids ", line) {
         let (range_base, range_end) = two_ids(rest)?;
@@ -122,10 +136,10 @@ fn parse_on_ids(line: &[u8]) -> Option<Command> {
     if line == b"id".as_slice() {
         return Some(Command::Id);
     }
-    parse_on_devices(line)
+    None
 }
 
-/// What a line asks of the devices.
+/// What a line asks of devices.
 fn parse_on_devices(line: &[u8]) -> Option<Command> {
     if let Some(rest) = behind(b"device ", line) {
         let (size, alignment) = two_numbers(rest)?;

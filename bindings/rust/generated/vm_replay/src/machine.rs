@@ -1,12 +1,12 @@
 // Written by bindings/erase from crates/vm_replay/src/machine.rt: do not edit.
 
+//! What a line does to what the lines so far have made: a space, ids, devices.
+
 use crate::command::Command;
-use crate::reply::Reply;
+use crate::reply::{Reply, device_or_refused, done_or_refused, given_or_refused, id_or_refused};
 use rattle::Global;
 use vm_allocator::{AddressAllocator, AllocPolicy, IdAllocator, RangeInclusive, Result};
 use vm_devices::DeviceManager;
-
-mod devices;
 
 /// What the lines so far have made.
 pub struct Machine {
@@ -64,13 +64,7 @@ impl Machine {
 
     /// Makes a space, which takes the place of the old one. A refused one does not.
     fn make_space(&mut self, alloc: Global, base: u64, size: u64) -> Reply {
-        match AddressAllocator::new(alloc, base, size) {
-            Ok(space) => {
-                self.space = Some(space);
-                Reply::Done
-            }
-            Err(error) => Reply::Refused(error),
-        }
+        keep(AddressAllocator::new(alloc, base, size), &mut self.space)
     }
 
     /// Holds the `size` addresses at the place that the policy chooses.
@@ -78,10 +72,7 @@ impl Machine {
         let Some(space) = &mut self.space else {
             return Reply::NoSpace;
         };
-        match space.allocate(alloc, size, alignment, policy) {
-            Ok(range) => Reply::Given(range),
-            Err(error) => Reply::Refused(error),
-        }
+        given_or_refused(space.allocate(alloc, size, alignment, policy))
     }
 
     /// Gives a range back.
@@ -89,21 +80,15 @@ impl Machine {
         let Some(space) = &mut self.space else {
             return Reply::NoSpace;
         };
-        match release(space, start, end) {
-            Ok(()) => Reply::Done,
-            Err(error) => Reply::Refused(error),
-        }
+        done_or_refused(release(space, start, end))
     }
 
     /// Makes ids, which take the place of the old ones. Refused ones do not.
     fn make_ids(&mut self, alloc: Global, range_base: u32, range_end: u32) -> Reply {
-        match IdAllocator::new(alloc, range_base, range_end) {
-            Ok(ids) => {
-                self.ids = Some(ids);
-                Reply::Done
-            }
-            Err(error) => Reply::Refused(error),
-        }
+        keep(
+            IdAllocator::new(alloc, range_base, range_end),
+            &mut self.ids,
+        )
     }
 
     /// Holds the least id that is not held.
@@ -111,10 +96,7 @@ impl Machine {
         let Some(ids) = &mut self.ids else {
             return Reply::NoIds;
         };
-        match ids.allocate_id() {
-            Ok(id) => Reply::Id(id),
-            Err(error) => Reply::Refused(error),
-        }
+        id_or_refused(ids.allocate_id())
     }
 
     /// Gives an id back.
@@ -122,10 +104,7 @@ impl Machine {
         let Some(ids) = &mut self.ids else {
             return Reply::NoIds;
         };
-        match ids.free_id(id) {
-            Ok(id) => Reply::Id(id),
-            Err(error) => Reply::Refused(error),
-        }
+        id_or_refused(ids.free_id(id))
     }
 
     /// Tells whether an id is held.
@@ -134,6 +113,40 @@ impl Machine {
             return Reply::NoIds;
         };
         Reply::Held(ids.is_allocated(id))
+    }
+
+    /// Makes a manager, which takes the place of the old one. A refused one does not.
+    fn make_manager(&mut self, alloc: Global, id_lo: u32, id_hi: u32, base: u64, size: u64) -> Reply {
+        let made = DeviceManager::new(alloc, id_lo, id_hi, base, size);
+        keep(made, &mut self.devices)
+    }
+
+    /// Holds the least id that is not held, and `size` addresses at the first place, for one device.
+    fn reserve(&mut self, alloc: Global, size: u64, alignment: u64) -> Reply {
+        let Some(devices) = &mut self.devices else {
+            return Reply::NoManager;
+        };
+        device_or_refused(devices.reserve(alloc, size, alignment, AllocPolicy::FirstMatch))
+    }
+
+    /// Gives back the id and the range of a device.
+    fn release_device(&mut self, id: u32) -> Reply {
+        let Some(devices) = &mut self.devices else {
+            return Reply::NoManager;
+        };
+        done_or_refused(devices.release(id))
+    }
+}
+
+/// Keeps what was made, in the place of what was there. What was refused leaves that.
+#[inline(always)]
+fn keep<T>(made: Result<T>, part: &mut Option<T>) -> Reply {
+    match made {
+        Ok(new) => {
+            *part = Some(new);
+            Reply::Done
+        }
+        Err(error) => Reply::Refused(error),
     }
 }
 

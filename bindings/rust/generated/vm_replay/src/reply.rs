@@ -1,8 +1,10 @@
 // Written by bindings/erase from crates/vm_replay/src/reply.rt: do not edit.
 
+//! How an answer reads.
+
 use crate::buffer::{Buffer, CAPACITY};
 use crate::number::MOST_DIGITS;
-use vm_allocator::{Error, RangeInclusive};
+use vm_allocator::{Error, RangeInclusive, Result};
 use vm_devices::DeviceSlot;
 
 /// The most bytes that a reply takes, the newline behind it aside: those of an invalid range.
@@ -31,6 +33,42 @@ pub enum Reply {
     NoManager,
     /// The line is not in the language, or it is too long.
     NotInLanguage,
+}
+
+/// The reply to a call that gives nothing which is told.
+#[inline(always)]
+pub fn done_or_refused(answer: Result<()>) -> Reply {
+    match answer {
+        Ok(()) => Reply::Done,
+        Err(error) => Reply::Refused(error),
+    }
+}
+
+/// The reply to a call that gives a range.
+#[inline(always)]
+pub fn given_or_refused(answer: Result<RangeInclusive>) -> Reply {
+    match answer {
+        Ok(range) => Reply::Given(range),
+        Err(error) => Reply::Refused(error),
+    }
+}
+
+/// The reply to a call that gives an id.
+#[inline(always)]
+pub fn id_or_refused(answer: Result<u32>) -> Reply {
+    match answer {
+        Ok(id) => Reply::Id(id),
+        Err(error) => Reply::Refused(error),
+    }
+}
+
+/// The reply to a call that gives a device.
+#[inline(always)]
+pub fn device_or_refused(answer: Result<DeviceSlot>) -> Reply {
+    match answer {
+        Ok(slot) => Reply::Device(slot),
+        Err(error) => Reply::Refused(error),
+    }
 }
 
 /// Writes how a reply reads.

@@ -1,0 +1,157 @@
+# shellcheck shell=bash
+# The inputs that programs are measured on: a function for each kind, which gets how many ranges are held. `mixed`
+# asks the program that `$program` names where its ranges stand. What is made twice waits in the files `$asked`
+# and `$once`.
+# shellcheck disable=SC2154 # who reads this file sets them
+
+# The numbers below n, shuffled the same way each time.
+shuffled='function shuffle(order, n,    i, j, t) {
+    for (i = 0; i < n; i++) order[i] = i
+    for (i = n - 1; i > 0; i--) {
+        seed = seed * 16807 % 2147483647
+        j = seed % (i + 1)
+        t = order[i]; order[i] = order[j]; order[j] = t
+    }
+}
+BEGIN { seed = 7 }'
+
+# k ranges of one address each at named starts, and all given back, in another order.
+exact() {
+    awk -v k="$1" "$shuffled"'
+    BEGIN {
+        print "space 0 " 2 * k
+        shuffle(order, k)
+        for (i = 0; i < k; i++) print "exact 1 1 " 2 * order[i]
+        shuffle(order, k)
+        for (i = 0; i < k; i++) print "free " 2 * order[i] " " 2 * order[i]
+    }'
+}
+
+# k ranges of one address each at the least place, with nothing given back.
+first() {
+    awk -v k="$1" 'BEGIN { print "space 0 " 2 * k; for (i = 0; i < k; i++) print "first 1 1" }'
+}
+
+# A space that k ranges of one page each fill, at the least place.
+fill() {
+    awk -v k="$1" 'BEGIN { printf "space 0 %.0f\n", k * 4096; for (i = 0; i < k; i++) print "first 4096 1" }'
+}
+
+# k pages at the least place, every second one given back, and then ranges of two pages, which fit
+# behind all of the gaps alone, each given back at once.
+frag() {
+    awk -v k="$1" 'BEGIN {
+        printf "space 0 %.0f\n", (k + 2) * 4096
+        for (i = 0; i < k; i++) print "first 4096 4096"
+        for (i = 0; i < k; i += 2) printf "free %.0f %.0f\n", i * 4096, i * 4096 + 4095
+        for (i = 0; i < k; i += 2) printf "first 8192 4096\nfree %.0f %.0f\n", k * 4096, (k + 2) * 4096 - 1
+    }'
+}
+
+# The devices of `devices` at the starts that they get there, all given back in another order.
+named() {
+    awk -v k="$1" "$shuffled"'
+    BEGIN {
+        printf "space 0 %.0f\n", k * 16777216
+        for (i = 0; i < k; i++) {
+            size = 16777216 / 2 ^ int(i * 13 / k)
+            printf "exact %.0f %.0f %.0f\n", size, size, start
+            freed[i] = sprintf("free %.0f %.0f", start, start + size - 1)
+            start += size
+        }
+        shuffle(order, k)
+        for (i = 0; i < k; i++) print freed[order[i]]
+    }'
+}
+
+# k devices of 4 KiB to 16 MiB, aligned to their sizes, and then k times one given back and placed
+# again. Each stands where one of its size fits exactly, so the answers are known beforehand.
+devices() {
+    awk -v k="$1" "$shuffled"'
+    BEGIN {
+        printf "space 0 %.0f\n", k * 16777216
+        for (i = 0; i < k; i++) {
+            size = 16777216 / 2 ^ int(i * 13 / k)
+            line[i] = "first " size " " size
+            freed[i] = sprintf("free %.0f %.0f", start, start + size - 1)
+            start += size
+            print line[i]
+        }
+        shuffle(order, k)
+        for (i = 0; i < k; i++) print freed[order[i]] "\n" line[order[i]]
+    }'
+}
+
+# k requests of 4 KiB to 16 MiB at alignments that are drawn apart from the sizes, and then k times one
+# of what they got given back and another request made. Where they stand the program itself tells.
+mixed() {
+    local drawn='function drawn() { seed = seed * 16807 % 2147483647; return 2 ^ (12 + int(seed / 1024) % 13) }'
+    awk -v k="$1" "$shuffled$drawn"'
+    BEGIN {
+        printf "space 0 %.0f\n", k * 33554432
+        for (i = 0; i < k; i++) printf "first %.0f %.0f\n", drawn(), drawn()
+    }' | tee "$asked"
+    "$program" < "$asked" | awk "$shuffled$drawn"'
+    $1 == "range" { freed[k++] = "free " $2 " " $3 }
+    END {
+        shuffle(order, k)
+        for (i = 0; i < k; i++) printf "%s\nfirst %.0f %.0f\n", freed[order[i]], drawn(), drawn()
+    }'
+}
+
+# k devices of a page each on a manager, and then k times one plugged out and in again. It gets the id
+# and the range that it had, the least ones then, so the answers are known beforehand.
+plug() {
+    awk -v k="$1" "$shuffled"'
+    BEGIN {
+        printf "manager 0 %d 0 %.0f\n", k - 1, k * 4096
+        for (i = 0; i < k; i++) print "device 4096 4096"
+        shuffle(order, k)
+        for (i = 0; i < k; i++) print "undevice " order[i] "\ndevice 4096 4096"
+    }'
+}
+
+# The same on a space and on ids, with two lines for each one of `plug`.
+apart() {
+    awk -v k="$1" "$shuffled"'
+    BEGIN {
+        printf "space 0 %.0f\nids 0 %d\n", k * 4096, k - 1
+        for (i = 0; i < k; i++) print "first 4096 4096\nid"
+        shuffle(order, k)
+        for (i = 0; i < k; i++) {
+            start = order[i] * 4096
+            printf "free %.0f %.0f\nunid %d\n", start, start + 4095, order[i]
+            print "first 4096 4096\nid"
+        }
+    }'
+}
+
+# A million lines of which each takes or gives back one of ten ranges.
+few() {
+    awk 'BEGIN {
+        print "space 0 1048576"
+        for (i = 0; i < 10; i++) print "first 16 16"
+        for (i = 0; i < 500000; i++) {
+            start = i * 7 % 10 * 16
+            print "free " start " " start + 15 "\nfirst 16 16"
+        }
+    }'
+}
+
+# k ids, and then k times one given back and taken again: the least one then, so it gets the same.
+ids() {
+    awk -v k="$1" "$shuffled"'
+    BEGIN {
+        print "ids 0 " k - 1
+        for (i = 0; i < k; i++) print "id"
+        shuffle(order, k)
+        for (i = 0; i < k; i++) print "unid " order[i] "\nid"
+    }'
+}
+
+# An input of a kind, as often as gives a hundred thousand lines.
+often() { # kind, ranges
+    "$@" > "$once"
+    awk -v lines="$(wc -l < "$once")" 'BEGIN { print (lines < 100000) ? int(100000 / lines) : 1 }' |
+        { read -r copies; for _ in $(seq "$copies"); do cat "$once"; done; }
+}
