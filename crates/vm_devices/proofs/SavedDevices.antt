@@ -25,7 +25,7 @@ use Rattle.vm_devices.specs.Saved.{StatesDevice, StatesDevices}
 use Rattle.vm_devices.specs.SavedChecks.{device_found, rising_devices}
 
 -- ---- one device
-pub device-states : (d : Data) (e : ℕ × Range) → device_found d ≡ Some e → StatesDevice d e
+device-states : (d : Data) (e : ℕ × Range) → device_found d ≡ Some e → StatesDevice d e
 device-states d e h =
     let two = if_some (is_count 2 (field_count d)) _ e h in
     let id = and_then_some _ (u32_in (codes "id") d) e two.1 in
@@ -39,7 +39,7 @@ device-states d e h =
       mmio_range = field_is (codes "mmio_range") d range.0 (λ v. StatesRange v pair.0) range.1 (found-states range.0 pair.0 range.2);
     })
 
-pub states-device : (d : Data) (e : ℕ × Range) → StatesDevice d e → device_found d ≡ Some e
+states-device : (d : Data) (e : ℕ × Range) → StatesDevice d e → device_found d ≡ Some e
 states-device d e s =
     let range = in_field (codes "mmio_range") d (λ v. StatesRange v e.1) s.mmio_range in
     rw (true-count 2 (field_count d) s.two_fields, s.id, some-u32 e.0 s.word, range.1, states-found range.0 e.1 range.2) refl

@@ -239,7 +239,7 @@ stated_state d state s =
     let p = parts_of d state s in
     record { ids = ids_stated p.ids state.ids p.ids_stated; space = addresses_stated p.space state.space p.space_stated; pairs = s.pairs }
 
-pub one_manager : (d : Data) (a b : DeviceState) → StatesManager d a → StatesManager d b → a ≡ b
+one_manager : (d : Data) (a b : DeviceState) → StatesManager d a → StatesManager d b → a ≡ b
 one_manager d a b s t =
     let p = parts_of d a s in
     let f = fields_found d p.ids p.space p.slots p.found in

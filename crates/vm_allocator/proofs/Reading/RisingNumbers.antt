@@ -47,7 +47,7 @@ some_of None h = absurd (cc)
 some_of (Some a) h = (a, refl)
 
 -- where the rest rises, the next item is a number between the bounds
-pub next_number : (least bound i : ℕ) (vs : List Value) (v : Value) → i < length vs → v ≡ get_or vs i v → IsSome (rising least bound (items_view (drop i vs))) → (n : ℕ) × (whole_number (view v) ≡ Some n) × (least ≤ n) × (n < bound)
+next_number : (least bound i : ℕ) (vs : List Value) (v : Value) → i < length vs → v ≡ get_or vs i v → IsSome (rising least bound (items_view (drop i vs))) → (n : ℕ) × (whole_number (view v) ≡ Some n) × (least ≤ n) × (n < bound)
 next_number least bound i vs v h e s =
     let t : IsSome (rising least bound (item (view v) (items_view (drop (i + 1) vs)))) = subst (λ (x : Items). IsSome (rising least bound x)) (items_from vs i v h e) s in
     let o = some_of _ t in
