@@ -85,7 +85,9 @@ module _ (state : DeviceState) (es : List (ℕ × Range)) (is : state.devices �
   pairs_all i a =
       let held = each_held state.ids state.space set.empty es in
       let each_id = (ids_listed state.ids (keys_of es) (ids_differ es s) (ids_held state.ids state.space set.empty es a.apart)).0 (length-keys_of es ∙ a.ids_counted) in
-      let each_range = (slots_listed state.space (values_of es) i (ranges_differ state.ids state.space set.empty es a.apart) (ranges_held state.ids state.space set.empty es a.apart)).0 (length-values_of es ∙ a.ranges_counted) in
+      let differ = ranges_differ state.ids state.space set.empty es a.apart in
+      let ranges = ranges_held state.ids state.space set.empty es a.apart in
+      let each_range = (slots_listed state.space (values_of es) i differ ranges).0 (length-values_of es ∙ a.ranges_counted) in
       record {
         ids = λ id. (
           λ h. let c = each_id id h in let e = entry_of_id es id c.0 c.1 c.2 in subst IsSome (sym (entry_device id e.0 e.1)) refl,
@@ -132,10 +134,12 @@ module _ (state : DeviceState) (es : List (ℕ × Range)) (is : state.devices �
   pub all_paired : IsAddressState state.space → ArePaired state → AreAllHeld state.ids state.space es
   all_paired i p =
       let apart = apart_from i p set.empty es s (λ id r h. h) (λ id r h c. both_ways _ (set.contains-empty nat_cmp r.start) c) in
+      let differ = ranges_differ state.ids state.space set.empty es apart in
+      let ranges = ranges_held state.ids state.space set.empty es apart in
       record {
         ids_counted = sym (length-keys_of es) ∙ (ids_listed state.ids (keys_of es) (ids_differ es s) (ids_held state.ids state.space set.empty es apart)).1
             (λ id h. let d = some_device id ((p.ids id).0 h) in has_id es id d.0 (device_entry id d.0 d.1));
-        ranges_counted = sym (length-values_of es) ∙ (slots_listed state.space (values_of es) i (ranges_differ state.ids state.space set.empty es apart) (ranges_held state.ids state.space set.empty es apart)).1
+        ranges_counted = sym (length-values_of es) ∙ (slots_listed state.space (values_of es) i differ ranges).1
             (λ r h. let d = p.owned r h in has_range es d.0 r (device_entry d.0 r d.1));
         apart = apart;
       }

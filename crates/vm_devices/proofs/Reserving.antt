@@ -21,12 +21,12 @@ pub record IsReserved (old : DeviceState) (request : Request) (slot : DeviceSlot
   pub left : new ≡ with_device slot.id slot.range old
 
 -- the least id that is not held is what a request for one gets
-pub gets_least : (old : DeviceState) (id : ℕ) → IsLeastNotHeld old.ids id → AllocatesId old.ids (Ok id) (holding_id id old.ids)
+gets_least : (old : DeviceState) (id : ℕ) → IsLeastNotHeld old.ids id → AllocatesId old.ids (Ok id) (holding_id id old.ids)
 unfolding AllocatesId ByLeastNotHeld
 gets_least old id least = inl (id, least, (refl, refl))
 
 -- what is held after a range was given
-pub given_holding : (old new : AddressState) (request : Request) (r : Range) → Allocates old request (Ok r) new → Allocates old request (Ok r) (holding r old)
+given_holding : (old new : AddressState) (request : Request) (r : Range) → Allocates old request (Ok r) new → Allocates old request (Ok r) (holding r old)
 given_holding old new request r a = subst (Allocates old request (Ok r)) (given old new request r a).left a
 
 -- a refusal that changes nothing, or a device

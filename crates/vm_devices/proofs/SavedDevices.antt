@@ -1,5 +1,5 @@
 -- The list of devices in a value: what is found of it is what it states.
-use Rattle.std.proofs.Common.{◌≡◌, ℕ, suc, ◌+◌, ◌<◌, ◌≤◌, leb, List, [], ◌∷◌, ◌++◌, length, get_or, drop, map, Option, Some, None, option_map, option_and_then, refl, sym, ap, ◌∙◌, subst, arith, append_assoc, Greater, Less, codes}
+use Rattle.std.proofs.Common.{◌≡◌, ℕ, suc, ◌+◌, ◌<◌, ◌≤◌, leb, List, [], ◌∷◌, ◌++◌, length, get_or, drop, Option, Some, None, option_map, option_and_then, refl, sym, ap, ◌∙◌, subst, arith, append_assoc, Greater, Less, codes}
 use Rattle.std.proofs.lemmas.Bool.{le-leb, lt-leb}
 use Rattle.std.specs.Cmp.{nat_cmp_is}
 use Rattle.std.specs.BTreeMap.{insert_entry}
@@ -12,6 +12,7 @@ use Rattle.serde_json.specs.Events.{items_len}
 use Rattle.serde_json.specs.Find.{get}
 use Rattle.serde_json.specs.View.{view, items_view}
 use Rattle.serde_json.specs.declared.value.Value.{Value}
+use Rattle.vm_values.specs.Lists.{StatesItems}
 use Rattle.vm_values.proofs.FieldSteps.{count-true, true-count, in_field, field_is}
 use Rattle.vm_values.proofs.Items.{items_from, less_is}
 use Rattle.vm_values.proofs.NumberSteps.{u32_in-some, some-u32}
@@ -21,11 +22,11 @@ use Rattle.vm_values.specs.Numbers.{u32_in}
 use Rattle.vm_allocator.specs.Range.{Range}
 use Rattle.vm_allocator.specs.Values.RangeValues.{StatesRange, range_found}
 use Rattle.vm_allocator.proofs.Callers.{found-states, states-found}
-use Rattle.vm_devices.specs.Saved.{StatesDevice, StatesDevices}
+use Rattle.vm_devices.specs.Saved.{StatesDevice}
 use Rattle.vm_devices.specs.SavedChecks.{device_found, rising_devices}
 
 -- ---- one device
-pub device-states : (d : Data) (e : ℕ × Range) → device_found d ≡ Some e → StatesDevice d e
+device-states : (d : Data) (e : ℕ × Range) → device_found d ≡ Some e → StatesDevice d e
 device-states d e h =
     let two = if_some (is_count 2 (field_count d)) _ e h in
     let id = and_then_some _ (u32_in (codes "id") d) e two.1 in
@@ -39,7 +40,7 @@ device-states d e h =
       mmio_range = field_is (codes "mmio_range") d range.0 (λ v. StatesRange v pair.0) range.1 (found-states range.0 pair.0 range.2);
     })
 
-pub states-device : (d : Data) (e : ℕ × Range) → StatesDevice d e → device_found d ≡ Some e
+states-device : (d : Data) (e : ℕ × Range) → StatesDevice d e → device_found d ≡ Some e
 states-device d e s =
     let range = in_field (codes "mmio_range") d (λ v. StatesRange v e.1) s.mmio_range in
     rw (true-count 2 (field_count d) s.two_fields, s.id, some-u32 e.0 s.word, range.1, states-found range.0 e.1 range.2) refl
@@ -57,14 +58,14 @@ range_refused d n = none (range_found d) refl where
 pub ruleset ranges = (range_read, range_refused)
 
 -- ---- the list
-pub rising-states : (least : ℕ) (ds : Items) (es : List (ℕ × Range)) → rising_devices least ds ≡ Some es → StatesDevices ds es
+pub rising-states : (least : ℕ) (ds : Items) (es : List (ℕ × Range)) → rising_devices least ds ≡ Some es → StatesItems StatesDevice ds es
 rising-states least no_items [] h = tt
 rising-states least no_items (e ∷ es) h = absurd (cc)
 rising-states least (item d ds) es h =
     let a = and_then_some _ (device_found d) es h in
     let b = if_some (leb least a.0.0) _ es a.2 in
     let m = map_some _ (rising_devices (a.0.0 + 1) ds) es b.1 in
-    subst (StatesDevices (item d ds)) m.2 (device-states d a.0 a.1, rising-states (a.0.0 + 1) ds m.0 m.1)
+    subst (StatesItems StatesDevice (item d ds)) m.2 (device-states d a.0 a.1, rising-states (a.0.0 + 1) ds m.0 m.1)
 
 -- each item is a device
 pub rising-length : (least : ℕ) (ds : Items) (es : List (ℕ × Range)) → rising_devices least ds ≡ Some es → length es ≡ items_len ds
@@ -91,14 +92,14 @@ unfolding IsStrictlySortedBy
 from_sorted [] s = tt
 from_sorted (e ∷ es) s = (omega arith, rises_from e es s.0 s.1)
 
-rising_from : (least : ℕ) (ds : Items) (es : List (ℕ × Range)) → StatesDevices ds es → RiseFrom least es → rising_devices least ds ≡ Some es
+rising_from : (least : ℕ) (ds : Items) (es : List (ℕ × Range)) → StatesItems StatesDevice ds es → RiseFrom least es → rising_devices least ds ≡ Some es
 rising_from least no_items [] s r = refl
 rising_from least no_items (e ∷ es) s r = absurd s
 rising_from least (item d ds) [] s r = absurd s
 rising_from least (item d ds) (e ∷ es) s r =
     rw (states-device d e s.0, le-leb least e.0 r.0, rising_from (e.0 + 1) ds es s.1 r.1) refl
 
-pub states-rising : (ds : Items) (es : List (ℕ × Range)) → StatesDevices ds es → IsStrictlySortedBy nat_cmp (keys_of es) → rising_devices 0 ds ≡ Some es
+pub states-rising : (ds : Items) (es : List (ℕ × Range)) → StatesItems StatesDevice ds es → IsStrictlySortedBy nat_cmp (keys_of es) → rising_devices 0 ds ≡ Some es
 states-rising ds es s r = rising_from 0 ds es s (from_sorted es r)
 
 -- ---- item by item
@@ -150,21 +151,5 @@ one_more vs i least es fs v f h e w p s put =
 -- where what is left is none, the whole is none
 pub none_left : (vs : List Value) (i least : ℕ) (es : List (ℕ × Range)) → IsSoFar vs i least es → rising_devices least (items_view (drop i vs)) ≡ None → rising_devices 0 (items_view vs) ≡ None
 none_left vs i least es s none = s.so_far ∙ ap (option_map (λ fs. es ++ fs)) none
-
--- ---- devices written
-push_device : (vs : List Value) (v : Value) (es : List (ℕ × Range)) (f : ℕ × Range) → StatesDevices (items_view vs) es → StatesDevice (view v) f →
-    StatesDevices (items_view (vs ++ v ∷ [])) (es ++ f ∷ [])
-push_device [] v [] f s t = (t, tt)
-push_device [] v (e ∷ es) f s t = absurd s
-push_device (w ∷ vs) v [] f s t = absurd s
-push_device (w ∷ vs) v (e ∷ es) f s t = (s.0, push_device vs v es f s.1 t)
-
-map_last : {X : Type 0} (f : X → ℕ × Range) (xs : List X) (x : X) → map f (xs ++ x ∷ []) ≡ map f xs ++ f x ∷ []
-map_last f [] x = refl
-map_last f (y ∷ xs) x = ap (λ (l : List (ℕ × Range)). f y ∷ l) (map_last f xs x)
-
-pub states_more : {X : Type 0} (f : X → ℕ × Range) (vs ws : List Value) (v : Value) (xs : List X) (x : X) → ws ≡ vs ++ v ∷ [] → StatesDevice (view v) (f x) →
-    StatesDevices (items_view vs) (map f xs) → StatesDevices (items_view ws) (map f (xs ++ x ∷ []))
-states_more f vs ws v xs x e w s = rw (e, map_last f xs x) (push_device vs v (map f xs) (f x) s w)
 
 pub ruleset tables = (no_device, too_low, one_more, none_left)

@@ -1,5 +1,5 @@
 -- A manager's value: what is found of it is what it states, what is read is that, and what is written states it.
-use Rattle.std.proofs.Common.{◌≡◌, ℕ, nat_eq, ◌==◌, Bool, true, false, length, List, Option, Some, None, Result, Ok, Err, inl, inr, ◌⊎◌, option_and_then, MatchOption, codes, refl, sym, ap, ◌∙◌, subst}
+use Rattle.std.proofs.Common.{◌≡◌, ℕ, nat_eq, ◌==◌, Bool, true, false, length, List, Some, None, Result, Ok, Err, inl, inr, ◌⊎◌, option_and_then, codes, refl, sym, ap, ◌∙◌, subst}
 use Rattle.std.proofs.lemmas.Bool.{eqb-true, eqb-false, ne_eqb}
 use Rattle.std.proofs.lemmas.Option.{same_Some}
 use Rattle.std.specs.BTreeMap.{BTreeMap}
@@ -14,6 +14,8 @@ use Rattle.serde_json.specs.Find.{get, as_array}
 use Rattle.serde_json.specs.View.{items_view}
 use Rattle.serde_json.specs.declared.value.Value.{Value}
 use Rattle.serde_json.proofs.Views.{items_len-items_view}
+use Rattle.vm_values.specs.Lists.{StatesItems}
+use Rattle.vm_values.proofs.Lists.{in_list, list_stated}
 use Rattle.vm_values.proofs.FieldSteps.{count-true, true-count, in_field, field_is}
 use Rattle.vm_values.proofs.Steps.{and_then_some, map_some, if_some}
 use Rattle.vm_values.specs.Fields.{field_count, is_count}
@@ -30,7 +32,7 @@ use Rattle.vm_allocator.specs.declared.saved.ValueError.{ValueError}
 use Rattle.vm_allocator.specs.declared.saved.ValueError.TheVariants.{NotAState, OutOfMemory}
 use Rattle.vm_allocator.proofs.Callers.{ids_again, ids_stated, addresses_again, addresses_stated}
 use Rattle.vm_devices.specs.Devices.{DeviceState, IsDeviceState, devices_of}
-use Rattle.vm_devices.specs.Saved.{StatesDevices, StatesList, StatesManager, ReadsInParts}
+use Rattle.vm_devices.specs.Saved.{StatesDevice, StatesList, StatesManager, ReadsInParts}
 use Rattle.vm_devices.specs.Laws.{ManagerIsReadAgain}
 use Rattle.vm_devices.specs.SavedChecks.{rising_devices, FindsDevices, manager_found, AreAsMany, AreHeldApart, AreAllHeld, ManagerParts}
 use Rattle.vm_devices.proofs.AllHeld.{pairs_all, all_paired}
@@ -38,15 +40,6 @@ use Rattle.vm_devices.proofs.SavedDevices.{rising-states, rising-length, states-
 use Rattle.vm_devices.proofs.RisingIds.{rising_sorted}
 
 -- ---- the fields of a value that states a manager
-in_list : (d : Data) (es : List (ℕ × Range)) → StatesList d es → (ds : Items) × (as_array d ≡ Some ds) × StatesDevices ds es
-in_list d es s = found (as_array d) s where
-  found : (o : Option Items) → MatchOption o ⊥ (λ ds. StatesDevices ds es) → (ds : Items) × (o ≡ Some ds) × StatesDevices ds es
-  found None s = absurd s
-  found (Some ds) s = (ds, refl, s)
-
-list_stated : (d : Data) (ds : Items) (es : List (ℕ × Range)) → as_array d ≡ Some ds → StatesDevices ds es → StatesList d es
-list_stated d ds es e s = rw e s
-
 -- the value states no manager
 abbrev StatesNone : Data → Type 0
 StatesNone d = ¬ ((state : DeviceState) × StatesManager d state)
@@ -59,14 +52,14 @@ record ArePartsOf (d : Data) (state : DeviceState) (listed : List (ℕ × Range)
   found : manager_found d ≡ Some (ids, space, slots)
   ids_stated : StatesIds ids state.ids
   space_stated : StatesAddresses space state.space
-  slots_stated : StatesDevices slots listed
+  slots_stated : StatesItems StatesDevice slots listed
 
 parts_of : (d : Data) (state : DeviceState) (s : StatesManager d state) → ArePartsOf d state s.listed
 parts_of d state s =
     let ids = in_field (codes "id_allocator") d (λ v. StatesIds v state.ids) s.id_allocator in
     let space = in_field (codes "mmio_allocator") d (λ v. StatesAddresses v state.space) s.mmio_allocator in
     let slots = in_field (codes "slots") d (λ v. StatesList v s.listed) s.slots in
-    let list = in_list slots.0 s.listed slots.2 in
+    let list = in_list StatesDevice slots.0 s.listed slots.2 in
     record {
       ids = ids.0;
       space = space.0;
@@ -108,7 +101,7 @@ module _ {d : Data} (f : FieldsOf d) where
     its_space = subst (λ (p : Data × Data × Items). StatesAddresses p.1 state.space) (sym same_parts) (parts_of d state s).space_stated
 
     its_slots : rising_devices 0 f.slots ≡ Some s.listed
-    its_slots = states-rising f.slots s.listed (subst (λ (p : Data × Data × Items). StatesDevices p.2 s.listed) (sym same_parts) (parts_of d state s).slots_stated) s.rising
+    its_slots = states-rising f.slots s.listed (subst (λ (p : Data × Data × Items). StatesItems StatesDevice p.2 s.listed) (sym same_parts) (parts_of d state s).slots_stated) s.rising
 
   -- ---- where a part states nothing, the whole states none
   no_ids : ¬ ((i : IdState) × StatesIds f.ids i) → StatesNone d
@@ -190,7 +183,7 @@ module _ {d : Data} (r : ReadOf d) where
           let at_ids : x.0 ≡ f.ids = ap (λ (p : Data × Data × Items). p.0) z.2 in
           let at_space : y.0 ≡ f.space = ap (λ (p : Data × Data × Items). p.1) z.2 in
           let at_slots : z.0 ≡ f.slots = ap (λ (p : Data × Data × Items). p.2) z.2 in
-          let devices = list_stated list.0 f.slots table.entries (list.2 ∙ ap Some at_slots) (rising-states 0 f.slots table.entries rise) in
+          let devices = list_stated StatesDevice list.0 f.slots table.entries (list.2 ∙ ap Some at_slots) (rising-states 0 f.slots table.entries rise) in
           record {
             four_fields = count-true 4 (field_count d) four.0;
             version = version.1 ∙ ap Some (eqb-true version.0 1 one.0);
@@ -239,7 +232,7 @@ stated_state d state s =
     let p = parts_of d state s in
     record { ids = ids_stated p.ids state.ids p.ids_stated; space = addresses_stated p.space state.space p.space_stated; pairs = s.pairs }
 
-pub one_manager : (d : Data) (a b : DeviceState) → StatesManager d a → StatesManager d b → a ≡ b
+one_manager : (d : Data) (a b : DeviceState) → StatesManager d a → StatesManager d b → a ≡ b
 one_manager d a b s t =
     let p = parts_of d a s in
     let f = fields_found d p.ids p.space p.slots p.found in

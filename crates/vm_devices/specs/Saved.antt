@@ -1,12 +1,12 @@
 -- The saved value of a manager of devices.
-use Rattle.std.specs.Prelude.{◌≡◌, ℕ, ◌≤◌, List, [], ◌∷◌, Some, MatchOption, Result, Ok, Err, codes}
+use Rattle.std.specs.Prelude.{◌≡◌, ℕ, ◌≤◌, List, Some, Result, Ok, Err, codes}
 use Rattle.std.specs.List.Sorted.{IsStrictlySortedBy}
 use Rattle.std.specs.Map.{keys_of}
 use Rattle.std.specs.Ordering.{nat_cmp}
 use Rattle.std.specs.FinMap as map
-use Rattle.serde_json.specs.Data.{Data, Items, no_items, item}
-use Rattle.serde_json.specs.Find.{as_array}
+use Rattle.serde_json.specs.Data.{Data}
 use Rattle.vm_values.specs.Fields.{field_count, FieldIs}
+use Rattle.vm_values.specs.Lists.{StatesListOf}
 use Rattle.vm_values.specs.Numbers.{number_in}
 use Rattle.vm_allocator.specs.Range.{Range}
 use Rattle.vm_allocator.specs.Ids.{MAX_ID}
@@ -24,16 +24,9 @@ pub record StatesDevice (d : Data) (device : ℕ × Range) : Type 0 where
   pub word : device.0 ≤ MAX_ID
   pub mmio_range : FieldIs (codes "mmio_range") d (λ v. StatesRange v device.1)
 
--- the items are these devices, in this order
-abbrev pub StatesDevices : Items → List (ℕ × Range) → Type 0
-StatesDevices no_items [] = Unit {0}
-StatesDevices no_items (e ∷ es) = ⊥
-StatesDevices (item d ds) [] = ⊥
-StatesDevices (item d ds) (e ∷ es) = StatesDevice d e × StatesDevices ds es
-
 -- the value is the list of these devices
 abbrev pub StatesList : Data → List (ℕ × Range) → Type 0
-StatesList d es = MatchOption (as_array d) ⊥ (λ ds. StatesDevices ds es)
+StatesList d es = StatesListOf StatesDevice d es
 
 -- the value is an object of a version, the two allocators and the devices alone; the version is 1, the ids of the
 -- devices rise, and they pair the held ids with the held ranges

@@ -3,3 +3,4 @@ pub mod FieldSteps
 pub mod NumberSteps
 pub mod Items
 pub mod NumberSets
+pub mod Lists

@@ -1,10 +1,10 @@
 -- The ids that an allocator's fields hold, as a set.
-use Rattle.std.proofs.Common.{◌≡◌, ℕ, zero, suc, ◌+◌, ◌-◌, ◌<◌, ◌≤◌, ◌⊎◌, Bool, true, false, cond, not, refl, sym, ap, ◌∙◌, arith, inl, inr, ⊎_elim, Option, Some, None, IsTrue}
-use Rattle.std.proofs.lemmas.Bool.{cases_eq, both_ways, and_parts, or_cases, and_from, or_left, or_right, not-true, eq-eqb, eqb-true, ne_eqb}
+use Rattle.std.proofs.Common.{◌≡◌, ℕ, zero, suc, ◌+◌, ◌-◌, ◌<◌, ◌≤◌, true, false, not, refl, sym, ap, ◌∙◌, arith, ⊎_elim, Option, Some, None, IsTrue}
+use Rattle.std.proofs.lemmas.Bool.{cases_eq, both_ways, and_parts, or_cases, and_from, or_left, or_right, not-true}
 use Rattle.std.specs.List.{range_with_len, list_any}
 use Rattle.std.specs.Ordering.{nat_cmp, eq_by_cmp}
-use Rattle.std.specs.Cmp.{nat_cmp_total, unsigned_tied}
-use Rattle.std.specs.BTreeSet.{BTreeSet, contains, Updates}
+use Rattle.std.specs.Cmp.{nat_cmp_total}
+use Rattle.std.specs.BTreeSet.{BTreeSet, contains}
 use Rattle.std.specs.FinSet as set
 use Rattle.vm_values.proofs.NumberSets.{tied_here, tied_is}
 use Rattle.vm_allocator.specs.Ids.{IsHandedOut, IsHeld, bound_of, held_of, ids_of, IsNext}

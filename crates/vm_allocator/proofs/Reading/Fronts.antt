@@ -65,7 +65,7 @@ all_behind (x ∷ xs) front hi t b =
     (rest.0, rw f rest.1, rest.2)
 
 -- one row of blocks after another
-pub after_all-append : {S : Type 0} (step : S → Block → Option S) (xs ys : List Block) (s : S) → after_all step (xs ++ ys) s ≡ option_and_then (after_all step ys) (after_all step xs s)
+after_all-append : {S : Type 0} (step : S → Block → Option S) (xs ys : List Block) (s : S) → after_all step (xs ++ ys) s ≡ option_and_then (after_all step ys) (after_all step xs s)
 after_all-append step [] ys s = refl
 after_all-append step (x ∷ xs) ys s = next step xs ys (step s x) (λ f. after_all-append step xs ys f) where
   next : {S : Type 0} (step : S → Block → Option S) (xs ys : List Block) (o : Option S) → ((f : S) → after_all step (xs ++ ys) f ≡ option_and_then (after_all step ys) (after_all step xs f)) → option_and_then (after_all step (xs ++ ys)) o ≡ option_and_then (after_all step ys) (option_and_then (after_all step xs) o)

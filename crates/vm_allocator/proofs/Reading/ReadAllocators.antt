@@ -115,7 +115,7 @@ built_states d space root s e p =
     let c = checks d space root e in
     subst (λ (x : Shape). StatesAllocator d (over space x)) (one_shape c.0 s root c.1.root.stated p) c.1.stated
 
-pub stated_space : (d : Data) (a : SpaceInTree) → StatesAllocator d a → IsRange a.space.start a.space.end
+stated_space : (d : Data) (a : SpaceInTree) → StatesAllocator d a → IsRange a.space.start a.space.end
 stated_space d a p = (parts_are d a.space (λ v. StatesShape v a.tree) (fields_of d a p)).3
 
 pub stated_tree : (d : Data) (a : SpaceInTree) → StatesAllocator d a → IsSpaceTree a.tree

@@ -35,7 +35,7 @@ not_among freed i n =
     ] refl
 
 -- the state of an allocator's fields is that of the same fields in a value
-pub state_of_fields : (lo hi : ℕ) (next : Option ℕ) (freed : BTreeSet ℕ) → AreIdsOf (fields_of lo next hi freed.keys) (ids_of lo hi next freed)
+state_of_fields : (lo hi : ℕ) (next : Option ℕ) (freed : BTreeSet ℕ) → AreIdsOf (fields_of lo next hi freed.keys) (ids_of lo hi next freed)
 unfolding ids_of
 state_of_fields lo hi next freed = record {
   lo = refl;
@@ -47,7 +47,7 @@ state_of_fields lo hi next freed = record {
   );
 }
 
-pub are_ids : (lo hi : ℕ) (next : Option ℕ) (freed : BTreeSet ℕ) → AreIdFields (fields_of lo next hi freed.keys) → AreIds lo hi next freed
+are_ids : (lo hi : ℕ) (next : Option ℕ) (freed : BTreeSet ℕ) → AreIdFields (fields_of lo next hi freed.keys) → AreIds lo hi next freed
 are_ids lo hi next freed s = record {
   range = s.range;
   ids = s.ids;
@@ -57,7 +57,7 @@ are_ids lo hi next freed s = record {
   all_of : (ns : List ℕ) (i : ℕ) → All (λ n. (lo ≤ n) × (n < bound_of next hi)) ns → Contains ns i → (lo ≤ i) × (i < bound_of next hi)
   all_of ns i a c = subst (λ (x : ℕ). (lo ≤ x) × (x < bound_of next hi)) c.2 (a c.0 i c.1)
 
-pub sensible : (lo hi : ℕ) (next : Option ℕ) (freed : BTreeSet ℕ) → AreIds lo hi next freed → IsStrictlySortedBy nat_cmp freed.keys → AreIdFields (fields_of lo next hi freed.keys)
+sensible : (lo hi : ℕ) (next : Option ℕ) (freed : BTreeSet ℕ) → AreIds lo hi next freed → IsStrictlySortedBy nat_cmp freed.keys → AreIdFields (fields_of lo next hi freed.keys)
 sensible lo hi next freed i s = record {
   range = i.range;
   ids = i.ids;
@@ -71,7 +71,7 @@ sensible lo hi next freed i s = record {
   same (n ∷ ns) (suc k) d l = same ns k d (omega arith)
 
 -- fields have one state
-pub one_state : (f : IdFields) (a b : IdState) → AreIdsOf f a → AreIdsOf f b → a ≡ b
+one_state : (f : IdFields) (a b : IdState) → AreIdsOf f a → AreIdsOf f b → a ≡ b
 one_state f a b p q =
     let lo : a.lo ≡ b.lo = p.lo ∙ sym q.lo in
     let hi : a.hi ≡ b.hi = p.hi ∙ sym q.hi in

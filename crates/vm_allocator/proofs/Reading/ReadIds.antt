@@ -1,16 +1,18 @@
 -- The check of an id allocator's value finds just the id allocators that values state.
-use Rattle.std.proofs.Common.{◌≡◌, ℕ, ◌+◌, ◌≤◌, Bool, true, false, cond, ◌&&◌, leb, ltb, List, Option, Some, None, is_some, option_map, option_and_then, MatchOption, codes, refl, sym, ap, ◌∙◌, subst, arith}
-use Rattle.std.proofs.lemmas.Bool.{le-leb, leb-true, le-ltb, ltb-false, eq-eqb, eqb-true, and_parts}
+use Rattle.std.proofs.Common.{◌≡◌, ℕ, ◌+◌, ◌≤◌, true, false, cond, ◌&&◌, leb, List, Option, Some, None, is_some, option_map, option_and_then, MatchOption, codes, refl, sym, ap, ◌∙◌, subst, arith}
+use Rattle.std.proofs.lemmas.Bool.{le-leb, leb-true, eq-eqb, eqb-true, and_parts}
 use Rattle.std.proofs.lemmas.Option.{same_Some}
 use Rattle.serde_json.specs.Data.{Data, null, boolean, number, string, array, object, Items}
 use Rattle.serde_json.specs.Find.{get, as_array, as_null}
 use Rattle.vm_values.proofs.NumberSteps.{u32-some, some-u32, u32_in-some}
+use Rattle.vm_values.specs.Lists.{StatesItems}
+use Rattle.vm_values.proofs.Lists.{in_list, list_stated}
 use Rattle.vm_values.proofs.FieldSteps.{count-true, true-count, in_field, field_is, same_field}
 use Rattle.vm_values.proofs.Steps.{and_then_some, if_some}
 use Rattle.vm_values.specs.Fields.{field_count, is_count}
-use Rattle.vm_values.specs.Numbers.{whole_number, number_in, u32_from, u32_in}
+use Rattle.vm_values.specs.Numbers.{whole_number, u32_from, u32_in}
 use Rattle.vm_allocator.specs.Ids.{MAX_ID, bound_of, IsNext}
-use Rattle.vm_allocator.specs.Values.IdValues.{IdFields, StatesNext, StatesNumbers, StatesList, HasIdFields, AreIdFields}
+use Rattle.vm_allocator.specs.Values.IdValues.{IdFields, StatesNext, StatesNumber, StatesList, HasIdFields, AreIdFields}
 use Rattle.vm_allocator.specs.Checks.IdChecks.{rising, next_found, is_next, ids_found}
 use Rattle.vm_allocator.proofs.Reading.ReadTrees.{null_of}
 use Rattle.vm_allocator.proofs.Reading.RisingNumbers.{some_of, one_list}
@@ -66,17 +68,6 @@ next_fits-true : (n : Option ℕ) (lo hi : ℕ) → IsNext lo hi n → is_next n
 next_fits-true None lo hi f = eq-eqb hi MAX_ID f
 next_fits-true (Some n) lo hi f = rw (le-leb lo n f.0, le-leb n (hi + 1) f.1) refl
 
--- The list.
-
-list_stated : (d : Data) (ds : Items) (ns : List ℕ) → as_array d ≡ Some ds → StatesNumbers ds ns → StatesList d ns
-list_stated d ds ns e s = rw e s
-
-in_list : (d : Data) (ns : List ℕ) → StatesList d ns → (ds : Items) × (as_array d ≡ Some ds) × StatesNumbers ds ns
-in_list d ns s = found (as_array d) s where
-  found : (o : Option Items) → MatchOption o ⊥ (λ ds. StatesNumbers ds ns) → (ds : Items) × (o ≡ Some ds) × StatesNumbers ds ns
-  found None s = absurd s
-  found (Some ds) s = (ds, refl, s)
-
 -- The whole value.
 
 abbrev pub fields_of : ℕ → Option ℕ → ℕ → List ℕ → IdFields
@@ -118,7 +109,7 @@ checks d p h =
         range_base = b.0;
         next_id = field_is (codes "next_id") d next_at.0 (λ v. StatesNext v next.0) next_at.1 n.0;
         range_end = e.0;
-        freed_ids = field_is (codes "freed_ids") d list_at.0 (λ v. StatesList v ns.0) list_at.1 (list_stated list_at.0 list.0 ns.0 list_at.2 r.0);
+        freed_ids = field_is (codes "freed_ids") d list_at.0 (λ v. StatesList v ns.0) list_at.1 (list_stated StatesNumber list_at.0 list.0 ns.0 list_at.2 r.0);
       };
       sensible = record { range = leb-true lo.0 hi.0 t.0; ids = e.1; next_id = next_fits next.0 lo.0 hi.0 u.0 n.1; rising = sorted lo.0 (bound_of next.0 hi.0) ns.0 r.1; handed_out = within lo.0 (bound_of next.0 hi.0) ns.0 r.1 };
     } in
@@ -128,7 +119,7 @@ pub passes : (d : Data) (f : IdFields) → HasIdFields d f → AreIdFields f →
 passes d f w s =
     let next = in_field (codes "next_id") d (λ v. StatesNext v f.next_id) w.next_id in
     let freed = in_field (codes "freed_ids") d (λ v. StatesList v f.freed_ids) w.freed_ids in
-    let list = in_list freed.0 f.freed_ids freed.2 in
+    let list = in_list StatesNumber freed.0 f.freed_ids freed.2 in
     let ids = s.ids in
     let range = s.range in
     rw (
@@ -154,7 +145,7 @@ one_next d (Some n) (Some m) p q = sym p ∙ q
 
 one_freed : (d : Data) (a b : List ℕ) → StatesList d a → StatesList d b → a ≡ b
 one_freed d a b p q = both (as_array d) p q where
-  both : (o : Option Items) → MatchOption o ⊥ (λ ds. StatesNumbers ds a) → MatchOption o ⊥ (λ ds. StatesNumbers ds b) → a ≡ b
+  both : (o : Option Items) → MatchOption o ⊥ (λ ds. StatesItems StatesNumber ds a) → MatchOption o ⊥ (λ ds. StatesItems StatesNumber ds b) → a ≡ b
   both None p q = absurd p
   both (Some ds) p q = one_list ds a b p q
 

@@ -24,7 +24,7 @@ null_of (string s) e = absurd (cc)
 null_of (array ds) e = absurd (cc)
 null_of (object ms) e = absurd (cc)
 
-pub no_fields : (d : Data) (n : ℕ) → d ≡ null → field_count d ≡ Some n → ⊥
+no_fields : (d : Data) (n : ℕ) → d ≡ null → field_count d ≡ Some n → ⊥
 no_fields d n z e = let f : field_count null ≡ Some n = subst (λ (v : Data). field_count v ≡ Some n) z e in cc
 
 pub not_null : (d : Data) (n : ℕ) → field_count d ≡ Some n → is_some (as_null d) ≡ false

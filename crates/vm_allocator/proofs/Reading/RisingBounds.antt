@@ -1,16 +1,15 @@
 -- Numbers that rise between two bounds.
-use Rattle.std.proofs.Common.{◌≡◌, ℕ, ◌+◌, ◌<◌, ◌≤◌, ◌&&◌, leb, ltb, List, [], ◌∷◌, Option, Some, None, option_map, refl, sym, subst, arith, nat_cmp, Ordering, Less}
+use Rattle.std.proofs.Common.{◌≡◌, ℕ, ◌+◌, ◌<◌, ◌≤◌, ◌&&◌, leb, ltb, List, [], ◌∷◌, Option, Some, None, option_map, refl, subst, arith, nat_cmp, Less}
 use Rattle.std.proofs.lemmas.Bool.{le-leb, lt-ltb, leb-true, ltb-true, and_parts}
 use Rattle.std.proofs.lemmas.List.Elements.{recursion_from_All, All-from_recursion}
-use Rattle.std.specs.Cmp.{nat_cmp_is, ranks}
 use Rattle.std.specs.List.{All, AllByRecursion}
 use Rattle.std.specs.List.Sorted.{IsStrictlySortedBy}
-use Rattle.std.specs.Ordering.{MatchOrdering}
 use Rattle.serde_json.specs.Data.{Items, no_items, item}
 use Rattle.vm_values.proofs.Steps.{and_then_some, if_some}
 use Rattle.vm_values.specs.Numbers.{whole_number}
 use Rattle.vm_values.proofs.Items.{less, less_is}
-use Rattle.vm_allocator.specs.Values.IdValues.{StatesNumbers}
+use Rattle.vm_values.specs.Lists.{StatesItems}
+use Rattle.vm_allocator.specs.Values.IdValues.{StatesNumber}
 use Rattle.vm_allocator.specs.Checks.IdChecks.{rising}
 
 -- each number is above the one before it, the first from `least` on, and all are below `bound`
@@ -18,7 +17,7 @@ abbrev pub RiseWithin : ℕ → ℕ → List ℕ → Type 0
 RiseWithin least bound [] = Unit {0}
 RiseWithin least bound (n ∷ ns) = (least ≤ n) × (n < bound) × RiseWithin (n + 1) bound ns
 
-pub rising-states : (least bound : ℕ) (ds : Items) (ns : List ℕ) → rising least bound ds ≡ Some ns → StatesNumbers ds ns × RiseWithin least bound ns
+pub rising-states : (least bound : ℕ) (ds : Items) (ns : List ℕ) → rising least bound ds ≡ Some ns → StatesItems StatesNumber ds ns × RiseWithin least bound ns
 rising-states least bound no_items [] e = (tt, tt)
 rising-states least bound no_items (n ∷ ns) e = absurd (cc)
 rising-states least bound (item d ds) ns e =
@@ -27,12 +26,12 @@ rising-states least bound (item d ds) ns e =
     let c = and_parts (leb least a.0) (ltb a.0 bound) b.0 in
     let m = mapped a.0 (rising (a.0 + 1) bound ds) ns b.1 in
     let r = rising-states (a.0 + 1) bound ds m.0 m.1 in
-    subst (λ (x : List ℕ). StatesNumbers (item d ds) x × RiseWithin least bound x) m.2 ((a.1, r.0), (leb-true least a.0 c.0, ltb-true a.0 bound c.1, r.1)) where
+    subst (λ (x : List ℕ). StatesItems StatesNumber (item d ds) x × RiseWithin least bound x) m.2 ((a.1, r.0), (leb-true least a.0 c.0, ltb-true a.0 bound c.1, r.1)) where
       mapped : (n : ℕ) (o : Option (List ℕ)) (ns : List ℕ) → option_map (λ (x : List ℕ). n ∷ x) o ≡ Some ns → (ms : List ℕ) × (o ≡ Some ms) × (n ∷ ms ≡ ns)
       mapped n None ns e = absurd (cc)
       mapped n (Some ms) ns e = (ms, refl, cc)
 
-pub states-rising : (ns : List ℕ) (least bound : ℕ) (ds : Items) → StatesNumbers ds ns → RiseWithin least bound ns → rising least bound ds ≡ Some ns
+pub states-rising : (ns : List ℕ) (least bound : ℕ) (ds : Items) → StatesItems StatesNumber ds ns → RiseWithin least bound ns → rising least bound ds ≡ Some ns
 states-rising [] least bound no_items s r = refl
 states-rising [] least bound (item d ds) s r = absurd s
 states-rising (n ∷ ns) least bound no_items s r = absurd s

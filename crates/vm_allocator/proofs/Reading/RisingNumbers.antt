@@ -1,7 +1,6 @@
 -- Lists of numbers that rise.
-use Rattle.std.proofs.Common.{◌≡◌, ℕ, ◌+◌, ◌<◌, ◌≤◌, Bool, true, false, ◌&&◌, leb, ltb, List, [], ◌∷◌, ◌++◌, length, get_or, drop, map, Option, Some, None, is_some, option_map, refl, sym, ap, ◌∙◌, subst, arith, append_assoc, nat_cmp, Greater, IsSome}
+use Rattle.std.proofs.Common.{◌≡◌, ℕ, ◌+◌, ◌<◌, ◌≤◌, Bool, true, false, ◌&&◌, leb, ltb, List, [], ◌∷◌, ◌++◌, length, get_or, drop, Option, Some, None, is_some, option_map, refl, sym, ap, ◌∙◌, subst, arith, append_assoc, nat_cmp, Greater, IsSome}
 use Rattle.std.proofs.lemmas.Bool.{le-leb, lt-ltb, leb-true, ltb-true, lt-leb, le-ltb, and_parts}
-use Rattle.std.proofs.lemmas.List.{drop_more}
 use Rattle.std.specs.Cmp.{nat_cmp_is}
 use Rattle.std.specs.BTreeSet.{insert_key}
 use Rattle.serde_json.specs.Data.{Items, no_items, item}
@@ -10,7 +9,8 @@ use Rattle.serde_json.specs.declared.value.Value.{Value}
 use Rattle.vm_values.proofs.Steps.{and_then_some, if_some}
 use Rattle.vm_values.specs.Numbers.{whole_number}
 use Rattle.vm_values.proofs.Items.{items_from}
-use Rattle.vm_allocator.specs.Values.IdValues.{StatesNumbers}
+use Rattle.vm_values.specs.Lists.{StatesItems}
+use Rattle.vm_allocator.specs.Values.IdValues.{StatesNumber}
 use Rattle.vm_allocator.specs.Checks.IdChecks.{rising}
 
 -- Items one by one.
@@ -47,7 +47,7 @@ some_of None h = absurd (cc)
 some_of (Some a) h = (a, refl)
 
 -- where the rest rises, the next item is a number between the bounds
-pub next_number : (least bound i : ℕ) (vs : List Value) (v : Value) → i < length vs → v ≡ get_or vs i v → IsSome (rising least bound (items_view (drop i vs))) → (n : ℕ) × (whole_number (view v) ≡ Some n) × (least ≤ n) × (n < bound)
+next_number : (least bound i : ℕ) (vs : List Value) (v : Value) → i < length vs → v ≡ get_or vs i v → IsSome (rising least bound (items_view (drop i vs))) → (n : ℕ) × (whole_number (view v) ≡ Some n) × (least ≤ n) × (n < bound)
 next_number least bound i vs v h e s =
     let t : IsSome (rising least bound (item (view v) (items_view (drop (i + 1) vs)))) = subst (λ (x : Items). IsSome (rising least bound x)) (items_from vs i v h e) s in
     let o = some_of _ t in
@@ -91,22 +91,7 @@ collect_step first least bound i n vs v ks ms h e w so_far below rest put =
       sym (rest_rises least bound i n vs v h e w p q) ∙ rest,
     )
 
--- Numbers written.
-
-push_number : (vs : List Value) (v : Value) (ns : List ℕ) (n : ℕ) → StatesNumbers (items_view vs) ns → whole_number (view v) ≡ Some n → StatesNumbers (items_view (vs ++ v ∷ [])) (ns ++ n ∷ [])
-push_number [] v [] n s e = (e, tt)
-push_number [] v (m ∷ ns) n s e = absurd s
-push_number (w ∷ vs) v [] n s e = absurd s
-push_number (w ∷ vs) v (m ∷ ns) n s e = (s.0, push_number vs v ns n s.1 e)
-
-map_last : {X : Type 0} (f : X → ℕ) (xs : List X) (x : X) → map f (xs ++ x ∷ []) ≡ map f xs ++ f x ∷ []
-map_last f [] x = refl
-map_last f (y ∷ xs) x = ap (λ (l : List ℕ). f y ∷ l) (map_last f xs x)
-
-pub states_more : {X : Type 0} (f : X → ℕ) (vs ws : List Value) (v : Value) (xs : List X) (x : X) → ws ≡ vs ++ v ∷ [] → whole_number (view v) ≡ Some (f x) → StatesNumbers (items_view vs) (map f xs) → StatesNumbers (items_view ws) (map f (xs ++ x ∷ []))
-states_more f vs ws v xs x e w s = rw (e, map_last f xs x) (push_number vs v (map f xs) (f x) s w)
-
-pub one_list : (ds : Items) (xs ys : List ℕ) → StatesNumbers ds xs → StatesNumbers ds ys → xs ≡ ys
+pub one_list : (ds : Items) (xs ys : List ℕ) → StatesItems StatesNumber ds xs → StatesItems StatesNumber ds ys → xs ≡ ys
 one_list no_items [] [] p q = refl
 one_list no_items [] (y ∷ ys) p q = absurd q
 one_list no_items (x ∷ xs) ys p q = absurd p

@@ -1,11 +1,11 @@
 -- The saved value of an id allocator.
-use Rattle.std.specs.Prelude.{◌≡◌, ℕ, ◌<◌, ◌≤◌, ◌↔◌, List, [], ◌∷◌, Option, Some, None, MatchOption, codes}
+use Rattle.std.specs.Prelude.{◌≡◌, ℕ, ◌<◌, ◌≤◌, ◌↔◌, List, Option, Some, None, codes}
 use Rattle.std.specs.List.{All, Contains}
 use Rattle.std.specs.List.Sorted.{IsStrictlySortedBy}
 use Rattle.std.specs.Ordering.{nat_cmp}
-use Rattle.serde_json.specs.Data.{Data, null, Items, no_items, item}
-use Rattle.serde_json.specs.Find.{as_array}
+use Rattle.serde_json.specs.Data.{Data, null}
 use Rattle.vm_values.specs.Fields.{field_count, FieldIs}
+use Rattle.vm_values.specs.Lists.{StatesListOf}
 use Rattle.vm_values.specs.Numbers.{whole_number, number_in}
 use Rattle.vm_allocator.specs.Ids.{MAX_ID, IdState, IsHandedOut, IsHeld, IsNext, bound_of}
 
@@ -21,16 +21,13 @@ abbrev pub StatesNext : Data → Option ℕ → Type 0
 StatesNext d None = d ≡ null
 StatesNext d (Some n) = whole_number d ≡ Some n
 
--- the items are these whole numbers, in this order
-abbrev pub StatesNumbers : Items → List ℕ → Type 0
-StatesNumbers no_items [] = Unit {0}
-StatesNumbers no_items (n ∷ ns) = ⊥
-StatesNumbers (item d ds) [] = ⊥
-StatesNumbers (item d ds) (n ∷ ns) = (whole_number d ≡ Some n) × StatesNumbers ds ns
+-- the value is the whole number
+abbrev pub StatesNumber : Data → ℕ → Type 0
+StatesNumber d n = whole_number d ≡ Some n
 
 -- the value is the list of these whole numbers
 abbrev pub StatesList : Data → List ℕ → Type 0
-StatesList d ns = MatchOption (as_array d) ⊥ (λ ds. StatesNumbers ds ns)
+StatesList d ns = StatesListOf StatesNumber d ns
 
 -- the value is an object of these four fields alone
 pub record HasIdFields (d : Data) (fields : IdFields) : Type 0 where

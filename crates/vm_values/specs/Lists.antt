@@ -1,0 +1,15 @@
+-- Lists in values: what their items state.
+use Rattle.std.specs.Prelude.{List, [], ◌∷◌, MatchOption}
+use Rattle.serde_json.specs.Data.{Data, Items, no_items, item}
+use Rattle.serde_json.specs.Find.{as_array}
+
+-- the items state these things, in this order
+abbrev pub StatesItems : {X : Type 0} → (Data → X → Type 0) → Items → List X → Type 0
+StatesItems States no_items [] = Unit {0}
+StatesItems States no_items (x ∷ xs) = ⊥
+StatesItems States (item d ds) [] = ⊥
+StatesItems States (item d ds) (x ∷ xs) = States d x × StatesItems States ds xs
+
+-- the value is a list, and its items state these things
+abbrev pub StatesListOf : {X : Type 0} → (Data → X → Type 0) → Data → List X → Type 0
+StatesListOf States d xs = MatchOption (as_array d) ⊥ (λ ds. StatesItems States ds xs)
