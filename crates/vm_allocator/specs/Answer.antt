@@ -58,15 +58,15 @@ Takes old r answer new =
     ⊎ (LeavesClear old r × (new ≡ old) × IsSplitRefusal old answer)
 
 -- the answer to a request that makes sense
-unfoldable pub Settles : AddressState → Request → Result Range Error → AddressState → Type 0
-Settles old request answer new =
+unfoldable pub Grants : AddressState → Request → Result Range Error → AddressState → Type 0
+Grants old request answer new =
     let refused : Error → Type 0 = λ e. (answer ≡ Err e) × (new ≡ old) in
     ByExactStart request old refused (ByPlace request old refused (λ r. Takes old r answer new))
 
 -- the answer to a request: a refusal changes nothing
 unfoldable pub Allocates : AddressState → Request → Result Range Error → AddressState → Type 0
 Allocates old request answer new =
-    ByConstraint request (λ e. (answer ≡ Err e) × (new ≡ old)) (Settles old request answer new)
+    ByConstraint request (λ e. (answer ≡ Err e) × (new ≡ old)) (Grants old request answer new)
 
 -- a request that makes sense and whose chosen place, s, ends below MAX and leaves nothing clear beside it
 pub record FillsGap (state : AddressState) (request : Request) (s : ℕ) : Type 0 where

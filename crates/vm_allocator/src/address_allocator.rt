@@ -176,7 +176,7 @@ impl AddressAllocator {
         self.interval_tree.free_counted(key)
     }
 
-    /// How many nodes the longest way down the tree has. The tree is balanced: with k held ranges its
+    /// The height of the tree, which is balanced: with k held ranges its
     /// height h has F(h + 2) at most 2k + 2, where F is the sequence 1, 1, 2, 3, 5 of Fibonacci, and is
     /// 49 at most.
     pub fn height(&self) -> u64

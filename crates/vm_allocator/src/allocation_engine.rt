@@ -14,7 +14,7 @@ pub use interval_tree::IntervalTree;
 pub enum NodeState {
     /// No one holds the block.
     Free,
-    /// Some one holds the block.
+    /// Someone holds the block.
     Allocated,
 }
 

@@ -12,7 +12,7 @@ use Rattle.vm_allocator.specs.Ids.{MAX_ID, IdState, IsHeld, MakesIds, fresh_ids}
 use Rattle.vm_allocator.specs.declared.error.Error.{Error}
 use Rattle.vm_allocator.proofs.Blocks.PlainWords.{held_contains}
 use Rattle.vm_allocator.proofs.Answers.AddressAnswers.{made_is, state_is_kept}
-use Rattle.vm_allocator.proofs.Ids.IdAnswers.{front_is_kept}
+use Rattle.vm_allocator.proofs.Ids.IdAnswers.{id_states_are_kept}
 use Rattle.vm_devices.proofs.Pairs.{none_there}
 use Rattle.vm_devices.specs.Devices.{DeviceState, IsDeviceState, made_devices, MakesManager}
 
@@ -24,7 +24,7 @@ no_devices lo hi base size ids space id word m n =
     let fresh : ids ≡ fresh_ids lo hi = ⊎_elim (λ l. absurd (cc (l.1))) (λ r. cc (r.1)) m in
     let held : (r : Range) → ¬ Contains space.held r = λ r c. held_contains [] r (subst (λ (v : AddressState). Contains v.held r) (made_is base size space n).2 c) in
     record {
-      ids = front_is_kept.made lo hi ids id m;
+      ids = id_states_are_kept.made lo hi ids id m;
       space = state_is_kept.made base size space word n;
       pairs = record {
         ids = λ q. (

@@ -85,7 +85,7 @@ three_some (word ∷ words) behind number e =
     zip None = refl
     zip (Some p) = refl
 
--- A text by its digits at the front.
+-- A text by the digits that it begins with.
 
 -- where the first blank stands, or the end
 abbrev end_of_word : List ℕ → ℕ

@@ -6,7 +6,7 @@ use Rattle.std.specs.List.{join_with_byte}
 use Rattle.std.proofs.lemmas.List.Splits.{join_with_byte-slice_split}
 use Rattle.std.proofs.lemmas.Slice.Eq.{bytes_eq-Decides}
 use Rattle.vm_replay.specs.Commands.{asked}
-use Rattle.vm_replay.specs.Reading.{asked_on_ids, asked_on_devices}
+use Rattle.vm_replay.specs.Reading.{asked_of_ids_in, asked_of_devices_in}
 use Rattle.vm_replay.specs.Words.{blank, words_of, alone}
 use Rattle.vm_replay.specs.declared.command.Command.{Command}
 use Rattle.vm_replay.specs.declared.command.Command.TheVariants.{Id}
@@ -41,10 +41,10 @@ skip word name words found other alone none = other_name word name found other (
 -- a line that begins with none of these names asks of the ids or of the devices, or for nothing
 pub on_ids : (line : List ℕ) → BeginsNot (codes "space ") line → BeginsNot (codes "first ") line
     → BeginsNot (codes "last ") line → BeginsNot (codes "exact ") line → BeginsNot (codes "free ") line
-    → asked (words_of line) ≡ asked_on_ids (words_of line)
+    → asked (words_of line) ≡ asked_of_ids_in (words_of line)
 on_ids line space first last exact free = step (words_of line) refl
   where
-    step : (parts : List (List ℕ)) → words_of line ≡ parts → asked parts ≡ asked_on_ids parts
+    step : (parts : List (List ℕ)) → words_of line ≡ parts → asked parts ≡ asked_of_ids_in parts
     step [] e = refl
     step (word ∷ words) e =
         skip word (codes "space") words _ _ (alone_so (codes "space") line word words e space) (λ w n. rw (w, n) refl)
@@ -59,14 +59,14 @@ alone_is line word e = sym (join_with_byte-slice_split blank line) ∙ ap (join_
 
 -- a line that begins with none of these either asks of the devices, or for nothing
 pub on_devices : (line : List ℕ) → BeginsNot (codes "ids ") line → BeginsNot (codes "unid ") line
-    → BeginsNot (codes "has ") line → line ≢ codes "id" → asked_on_ids (words_of line) ≡ asked_on_devices (words_of line)
+    → BeginsNot (codes "has ") line → line ≢ codes "id" → asked_of_ids_in (words_of line) ≡ asked_of_devices_in (words_of line)
 on_devices line ids unid has id = step (words_of line) refl
   where
     id_none : (word : List ℕ) (words : List (List ℕ)) → words_of line ≡ word ∷ words → word ≡ codes "id" → alone Id words ≡ None
     id_none word [] e same = absurd (id (alone_is line word e ∙ same))
     id_none word (next ∷ more) e same = refl
 
-    step : (parts : List (List ℕ)) → words_of line ≡ parts → asked_on_ids parts ≡ asked_on_devices parts
+    step : (parts : List (List ℕ)) → words_of line ≡ parts → asked_of_ids_in parts ≡ asked_of_devices_in parts
     step [] e = refl
     step (word ∷ words) e =
         skip word (codes "ids") words _ _ (alone_so (codes "ids") line word words e ids) (λ w n. rw (w, n) refl)
@@ -76,10 +76,10 @@ on_devices line ids unid has id = step (words_of line) refl
 
 -- a line that begins with none of these either asks for nothing
 pub on_nothing : (line : List ℕ) → BeginsNot (codes "manager ") line → BeginsNot (codes "device ") line
-    → BeginsNot (codes "undevice ") line → asked_on_devices (words_of line) ≡ None
+    → BeginsNot (codes "undevice ") line → asked_of_devices_in (words_of line) ≡ None
 on_nothing line manager device undevice = step (words_of line) refl
   where
-    step : (parts : List (List ℕ)) → words_of line ≡ parts → asked_on_devices parts ≡ None
+    step : (parts : List (List ℕ)) → words_of line ≡ parts → asked_of_devices_in parts ≡ None
     step [] e = refl
     step (word ∷ words) e =
         skip word (codes "manager") words _ _ (alone_so (codes "manager") line word words e manager) (λ w n. rw (w, n) refl)

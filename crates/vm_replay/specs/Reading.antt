@@ -6,11 +6,11 @@ use Rattle.vm_replay.specs.Commands.{asked_of_ids, asked_of_devices}
 use Rattle.vm_replay.specs.Numbers.{is_digit, number_of}
 use Rattle.vm_replay.specs.declared.command.Command.{Command}
 
--- how many digits stand at the front of a text
+-- how many digits stand at the beginning of a text
 abbrev pub digits_ahead : List ℕ → ℕ
 digits_ahead text = prefix_len is_digit text
 
--- the number that the digits at the front of a text say, and how many digits they are
+-- the number that the digits at the beginning of a text say, and how many digits they are
 abbrev pub IsNumberAhead : List ℕ → Option (ℕ × ℕ) → Type 0
 IsNumberAhead text result =
     MatchOption result
@@ -23,11 +23,11 @@ number_first [] = None
 number_first (word ∷ words) = option_map (λ number. (number, words)) (number_of word)
 
 -- what the words of a line ask of the ids, or else of the devices, where they are in the language
-abbrev pub asked_on_ids : List (List ℕ) → Option Command
-asked_on_ids [] = None
-asked_on_ids (name ∷ words) = asked_of_ids name words
+abbrev pub asked_of_ids_in : List (List ℕ) → Option Command
+asked_of_ids_in [] = None
+asked_of_ids_in (name ∷ words) = asked_of_ids name words
 
 -- what the words of a line ask of the devices, where they are in the language
-abbrev pub asked_on_devices : List (List ℕ) → Option Command
-asked_on_devices [] = None
-asked_on_devices (name ∷ words) = asked_of_devices name words
+abbrev pub asked_of_devices_in : List (List ℕ) → Option Command
+asked_of_devices_in [] = None
+asked_of_devices_in (name ∷ words) = asked_of_devices name words

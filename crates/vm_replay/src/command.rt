@@ -1,6 +1,6 @@
 ghost use Rattle.std.specs.Prelude.{◌≡◌};
 ghost use Rattle.vm_replay.specs.Commands.{command_of};
-ghost use Rattle.vm_replay.specs.Reading.{asked_on_ids, asked_on_devices};
+ghost use Rattle.vm_replay.specs.Reading.{asked_of_ids_in, asked_of_devices_in};
 ghost use Rattle.vm_replay.specs.Words.{words_of};
 
 use crate::words::{behind, ids_and_numbers, one_id, three_numbers, two_ids, two_numbers};
@@ -111,7 +111,7 @@ pub fn parse(line: &[u8]) -> Option<Command>
 /// What a line asks of the ids, or else of the devices.
 #[tactic(auto, using(crate::proofs::Names::on_devices))]
 fn parse_on_ids(line: &[u8]) -> Option<Command>
-    ensures { result ≡ asked_on_ids (words_of line.now) }
+    ensures { result ≡ asked_of_ids_in (words_of line.now) }
 {
     if let Some(rest) = behind(b"ids ", line) {
         let (range_base, range_end) = two_ids(rest)?;
@@ -137,7 +137,7 @@ fn parse_on_ids(line: &[u8]) -> Option<Command>
 /// What a line asks of the devices.
 #[tactic(auto, using(crate::proofs::Names::on_nothing))]
 fn parse_on_devices(line: &[u8]) -> Option<Command>
-    ensures { result ≡ asked_on_devices (words_of line.now) }
+    ensures { result ≡ asked_of_devices_in (words_of line.now) }
 {
     if let Some(rest) = behind(b"device ", line) {
         let (size, alignment) = two_numbers(rest)?;

@@ -1,6 +1,6 @@
 ghost use Rattle.std.specs.Prelude.{◌≡◌, Some};
 ghost use Rattle.vm_allocator.specs.Allocator.{state_of};
-ghost use Rattle.vm_replay.specs.Machines.{Places, Releases};
+ghost use Rattle.vm_replay.specs.Machines.{Places, FreesRange};
 
 use crate::command::Command;
 use crate::reply::Reply;
@@ -182,9 +182,9 @@ impl Machine {
 }
 
 /// Gives back the range from `start` to `end`. `InvalidRange(start, end)` where that is none.
-#[tactic(auto, unfolding(crate::specs::Machines::Releases))]
+#[tactic(auto, unfolding(crate::specs::Machines::FreesRange))]
 fn release(space: &mut AddressAllocator, start: u64, end: u64) -> Result<()>
-    ensures { Releases (state_of space.old) start end result (state_of space.new) }
+    ensures { FreesRange (state_of space.old) start end result (state_of space.new) }
 {
     let range = RangeInclusive::new(start, end)?;
     space.free(&range)

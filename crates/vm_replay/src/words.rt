@@ -6,7 +6,7 @@ ghost use Rattle.vm_replay.specs.Reading.{number_first};
 
 use crate::number::number_ahead;
 
-/// What stands behind the front of a text, where the text begins with it.
+/// What stands behind the beginning of a text, where the text begins so.
 #[inline(always)]
 #[tactic(auto, using(crate::proofs::Splitting::too_short, crate::proofs::Splitting::begins_else, crate::proofs::Splitting::begins_so))]
 pub fn behind<'a, const N: usize>(front: &[u8; N], text: &'a [u8]) -> Option<&'a [u8]>

@@ -16,38 +16,38 @@ pub ordered_drop : (lo : ℕ) (l : List Block) (x : Block) (r : List Block) → 
 ordered_drop lo [] x r o = ordered_weaken lo (x.key.end + 1) r (omega arith) o.2
 ordered_drop lo (b ∷ l) x r o = (o.0, o.1, ordered_drop (b.key.end + 1) l x r o.2)
 
-pub ordered_front : (lo : ℕ) (l m : List Block) → IsOrderedFrom lo (l ++ m) → IsOrderedFrom lo l
-ordered_front lo [] m s = tt
-ordered_front lo (b ∷ l) m s = (s.0, s.1, ordered_front (b.key.end + 1) l m s.2)
+pub ordered_below : (lo : ℕ) (l m : List Block) → IsOrderedFrom lo (l ++ m) → IsOrderedFrom lo l
+ordered_below lo [] m s = tt
+ordered_below lo (b ∷ l) m s = (s.0, s.1, ordered_below (b.key.end + 1) l m s.2)
 
 pub ordered_middle : (lo : ℕ) (l : List Block) (b : Block) (r : List Block) → IsOrderedFrom lo (l ++ b ∷ r) → IsOrderedFrom lo (b ∷ r)
 ordered_middle lo [] b r s = s
 ordered_middle lo (x ∷ l) b r s =
     let t = ordered_middle (x.key.end + 1) l b r s.2 in (omega arith, t.1, t.2)
 
-pub ordered_back : (l : List Block) (b : Block) (r : List Block) → IsOrderedFrom 0 (l ++ b ∷ r) → IsOrderedFrom 0 r
-ordered_back l b r s = let t = ordered_middle 0 l b r s in ordered_weaken 0 (b.key.end + 1) r (omega arith) t.2
+pub ordered_above : (l : List Block) (b : Block) (r : List Block) → IsOrderedFrom 0 (l ++ b ∷ r) → IsOrderedFrom 0 r
+ordered_above l b r s = let t = ordered_middle 0 l b r s in ordered_weaken 0 (b.key.end + 1) r (omega arith) t.2
 
 -- the blocks below a rotation, grouped the other way
 pub append-cons_assoc : (x : List Block) (j : Block) (y : List Block) (k : Block) (z : List Block) → (x ++ j ∷ y) ++ k ∷ z ≡ x ++ j ∷ (y ++ k ∷ z)
 append-cons_assoc x j y k z = append_assoc x (j ∷ y) (k ∷ z)
 
 pub ordered_inner_right : (x : List Block) (j : Block) (y : List Block) (k : Block) (z : List Block) → IsOrderedFrom 0 ((x ++ j ∷ y) ++ k ∷ z) → IsOrderedFrom 0 (y ++ k ∷ z)
-ordered_inner_right x j y k z s = ordered_back x j (y ++ k ∷ z) (subst (IsOrderedFrom 0) (append-cons_assoc x j y k z) s)
+ordered_inner_right x j y k z s = ordered_above x j (y ++ k ∷ z) (subst (IsOrderedFrom 0) (append-cons_assoc x j y k z) s)
 
 pub ordered_inner_left : (x : List Block) (j : Block) (y : List Block) (k : Block) (z : List Block) → IsOrderedFrom 0 (x ++ j ∷ (y ++ k ∷ z)) → IsOrderedFrom 0 (x ++ j ∷ y)
-ordered_inner_left x j y k z s = ordered_front 0 (x ++ j ∷ y) (k ∷ z) (subst (IsOrderedFrom 0) (sym (append-cons_assoc x j y k z)) s)
+ordered_inner_left x j y k z s = ordered_below 0 (x ++ j ∷ y) (k ∷ z) (subst (IsOrderedFrom 0) (sym (append-cons_assoc x j y k z)) s)
 
 -- the parts of a tree s beside a block k, kept in order
 pub ordered_left_sides : (s : Shape) (l : Shape) (j : Block) (r : Shape) (k : Block) (z : List Block) → s ≡ Fork l j r → IsOrderedFrom 0 (blocks s ++ k ∷ z) → IsOrderedFrom 0 (blocks l ++ j ∷ blocks r) × IsOrderedFrom 0 (blocks r ++ k ∷ z)
 ordered_left_sides s l j r k z e o =
     let t : IsOrderedFrom 0 ((blocks l ++ j ∷ blocks r) ++ k ∷ z) = rw e at o in
-    (ordered_front 0 (blocks l ++ j ∷ blocks r) (k ∷ z) t, ordered_inner_right (blocks l) j (blocks r) k z t)
+    (ordered_below 0 (blocks l ++ j ∷ blocks r) (k ∷ z) t, ordered_inner_right (blocks l) j (blocks r) k z t)
 
 pub ordered_right_sides : (s : Shape) (l : Shape) (j : Block) (r : Shape) (k : Block) (x : List Block) → s ≡ Fork l j r → IsOrderedFrom 0 (x ++ k ∷ blocks s) → IsOrderedFrom 0 (x ++ k ∷ blocks l) × IsOrderedFrom 0 (blocks l ++ j ∷ blocks r)
 ordered_right_sides s l j r k x e o =
     let t : IsOrderedFrom 0 (x ++ k ∷ (blocks l ++ j ∷ blocks r)) = rw e at o in
-    (ordered_inner_left x k (blocks l) j (blocks r) t, ordered_back x k (blocks l ++ j ∷ blocks r) t)
+    (ordered_inner_left x k (blocks l) j (blocks r) t, ordered_above x k (blocks l ++ j ∷ blocks r) t)
 
 pub ruleset rotations = (ordered_left_sides, ordered_right_sides)
 

@@ -28,8 +28,8 @@ EndsHeld before [] = NotBothFree before Free
 EndsHeld before (b ∷ bs) = EndsHeld b.state bs
 
 -- the block is held and has this range
-unfoldable pub IsSlot : Range → Block → Type 0
-IsSlot r b = (b.key ≡ r) × (b.state ≡ Allocated)
+unfoldable pub IsHeldBlock : Range → Block → Type 0
+IsHeldBlock r b = (b.key ≡ r) × (b.state ≡ Allocated)
 
 tiles_join : (p st : NodeState) (lo hi : ℕ) (k : Range) (b : Block) (bs : List Block) → b.state ≡ st → NotBothFree p Free → k.start ≡ lo → lo ≤ k.end → b.key.start ≡ k.end + 1 → k.end + 1 ≤ b.key.end → Tiles b.state (b.key.end + 1) bs hi → Tiles p lo (join_if st k b bs) hi
 tiles_join p Free lo hi k b bs e q s l n m t = (s, omega arith, q, subst (λ (v : NodeState). Tiles v (b.key.end + 1) bs hi) e t)
@@ -110,9 +110,9 @@ blocks_freed_before state bs xs ys f b h e i g =
       held = held_freed_before Allocated state.space.start state.space.end (record { start = f.key.start; end = b.key.end }) f b xs ys i g t ∙ ap (without_range b.key) (ap held_of (sym e) ∙ h.held);
     }
 
-held_slot : (r : Range) (b : Block) (bs : List Block) → IsHeld (held_of (b ∷ bs)) r → IsSlot r b ⊎ IsHeld (held_of bs) r
-unfolding IsSlot
-held_slot r b bs h =
+held_or_later : (r : Range) (b : Block) (bs : List Block) → IsHeld (held_of (b ∷ bs)) r → IsHeldBlock r b ⊎ IsHeld (held_of bs) r
+unfolding IsHeldBlock
+held_or_later r b bs h =
     ⊎_elim
     (λ (e : b.state ≡ Free). inr (subst (λ (v : List Range). IsHeld v r) (held_of-free b bs e) h))
     (λ (e : b.state ≡ Allocated).
@@ -121,8 +121,8 @@ held_slot r b bs h =
     (state_cases b.state)
 
 -- and one that a held block has is
-pub is_held : (r : Range) (b : Block) (xs ys : List Block) → IsSlot r b → IsHeld (held_of (xs ++ b ∷ ys)) r
-unfolding IsSlot
+pub is_held : (r : Range) (b : Block) (xs ys : List Block) → IsHeldBlock r b → IsHeld (held_of (xs ++ b ∷ ys)) r
+unfolding IsHeldBlock
 is_held r b [] ys s = subst (λ (v : List Range). IsHeld v r) (sym (held_of-held b ys s.1)) (inl s.0)
 is_held r b (x ∷ xs) ys s =
     ⊎_elim

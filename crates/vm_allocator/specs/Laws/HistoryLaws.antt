@@ -84,7 +84,7 @@ pub record RefusalsChangeNothing : Type 0 where
 
 -- in each state the held ranges lie apart, and each was given as it was asked for, or was held in the value from which
 -- the allocator was read
-pub record SlotsAreGood : Type 0 where
+pub record HeldAreGood : Type 0 where
   pub state : (old : Reached) → IsAddressState old.state
   pub apart : (old : Reached) → LieApart old.state
   pub given : (old : Reached) (r : Range) → Contains old.state.held r →

@@ -3,11 +3,11 @@
 ghost use Rattle.std.specs.Prelude.{◌≡◌, ◌+◌, ◌*◌, ◌≤◌, OnErr, IfOk};
 ghost use Rattle.vm_allocator.specs.Range.{MAX};
 ghost use Rattle.vm_allocator.specs.Address.{IsAddressState};
-ghost use Rattle.vm_allocator.specs.Answer.{Settles, Frees};
+ghost use Rattle.vm_allocator.specs.Answer.{Grants, Frees};
 ghost use Rattle.vm_allocator.specs.Cloning.{Clones};
 ghost use Rattle.vm_allocator.specs.Tree.Shape.{blocks, height_of, node_count, IsTree};
 ghost use Rattle.vm_allocator.specs.Counts.GapSearch.{SearchesGaps, SearchesAligned};
-ghost use Rattle.vm_allocator.specs.Counts.Steps.{Enters, EntersToFree, IsBalancedTreeOf, IsSettlingCount, IsReleaseCount, SplitsIfLow};
+ghost use Rattle.vm_allocator.specs.Counts.Steps.{Enters, EntersToFree, IsBalancedTreeOf, IsGrantCount, IsReleaseCount, SplitsIfLow};
 ghost use Rattle.vm_allocator.specs.Tree.SpaceTree.{tree_state, IsSpaceTree, MakesTree};
 
 use super::NodeState;
@@ -92,7 +92,7 @@ impl IntervalTree {
         root
     }
 
-    /// How many nodes the longest way down has.
+    /// The height of the tree.
     pub(crate) fn height(&self) -> u64
         ensures value { result ≡ height_of self.now }
         ensures space { IsSpaceTree self.now }
@@ -103,7 +103,7 @@ impl IntervalTree {
     }
 
     /// `allocate`, which adds the nodes that it enters to a count.
-    #[tactic(auto, using(crate::proofs::Choosing::Searched::settling, crate::proofs::Counts::Granting::settlings))]
+    #[tactic(auto, using(crate::proofs::Choosing::Searched::granting, crate::proofs::Counts::Granting::grantings))]
     fn grant(
         &mut self,
         alloc: Global,
@@ -111,7 +111,7 @@ impl IntervalTree {
         count: &mut u64,
     ) -> Result<RangeInclusive>
         requires { count.old + node_count self.old + 3 * height_of self.old ≤ MAX }
-        ensures answer { Settles (tree_state self.old) constraint result (tree_state self.new) }
+        ensures answer { Grants (tree_state self.old) constraint result (tree_state self.new) }
         ensures unchanged { OnErr result (self.new ≡ self.old) }
         ensures depth { SplitsIfLow (height_of self.old) (tree_state self.old) result }
         ensures count { Enters self.old constraint result count.old count.new }
@@ -122,17 +122,17 @@ impl IntervalTree {
     }
 
     /// `allocate`, and how many nodes it entered.
-    #[tactic(auto, using(crate::proofs::Counts::Granting::settlings, crate::proofs::Counts::GapBounds::of_trees))]
+    #[tactic(auto, using(crate::proofs::Counts::Granting::grantings, crate::proofs::Counts::GapBounds::of_trees))]
     pub(crate) fn allocate_counted(
         &mut self,
         alloc: Global,
         constraint: Constraint,
     ) -> (Result<RangeInclusive>, u64)
-        ensures answer { Settles (tree_state self.old) constraint result.0 (tree_state self.new) }
+        ensures answer { Grants (tree_state self.old) constraint result.0 (tree_state self.new) }
         ensures unchanged { OnErr result.0 (self.new ≡ self.old) }
         ensures depth { SplitsIfLow (height_of self.old) (tree_state self.old) result.0 }
         ensures count { Enters self.old constraint result.0 0 result.1 }
-        ensures steps { IsSettlingCount (height_of self.old) (tree_state self.old) constraint result.0 result.1 }
+        ensures steps { IsGrantCount (height_of self.old) (tree_state self.old) constraint result.0 result.1 }
         ensures search { SearchesGaps (height_of self.old) (tree_state self.old) constraint result.0 result.1 }
         ensures search_aligned { SearchesAligned (height_of self.old) (tree_state self.old)
             constraint result.0 result.1 }
@@ -149,7 +149,7 @@ impl IntervalTree {
     /// 48 or more, and `OutOfMemory`. A refusal changes nothing.
     #[tactic(auto, using(crate::proofs::Nodes::Spaces::states))]
     pub fn allocate(&mut self, alloc: Global, constraint: Constraint) -> Result<RangeInclusive>
-        ensures answer { Settles (tree_state self.old) constraint result (tree_state self.new) }
+        ensures answer { Grants (tree_state self.old) constraint result (tree_state self.new) }
         ensures unchanged { OnErr result (self.new ≡ self.old) }
         ensures state { IsAddressState (tree_state self.new) }
         ensures depth { SplitsIfLow (height_of self.old) (tree_state self.old) result }

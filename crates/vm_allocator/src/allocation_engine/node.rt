@@ -134,7 +134,7 @@ impl InnerNode {
         *count += 1;
     }
 
-    /// How many nodes the longest way down from here has.
+    /// The height of the tree from here on.
     pub(crate) fn height(&self) -> u64
         ensures value { result ≡ height_of self.now }
         ensures high { 0 < height_of self.now }

@@ -2,7 +2,7 @@
 
 use crate::number::number_ahead;
 
-/// What stands behind the front of a text, where the text begins with it.
+/// What stands behind the beginning of a text, where the text begins so.
 #[inline(always)]
 pub fn behind<'a, const N: usize>(front: &[u8; N], text: &'a [u8]) -> Option<&'a [u8]> {
     if text.len() < N {

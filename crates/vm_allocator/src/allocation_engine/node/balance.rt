@@ -125,7 +125,7 @@ pub(super) fn fork(left: Child, mut middle: Box<InnerNode>, right: Child) -> Box
 /// The rotations where the left side is two levels higher: a single one, or a double one where the
 /// inner grandchild is the higher.
 #[tactic(auto, using(crate::proofs::Blocks::BlockOrder::rotations))]
-fn lean_left(mut left: Box<InnerNode>, middle: Box<InnerNode>, right: Child) -> Box<InnerNode>
+fn rotate_right(mut left: Box<InnerNode>, middle: Box<InnerNode>, right: Child) -> Box<InnerNode>
     requires leaf { IsLeaf middle.value }
     requires ordered { IsOrderedFrom 0 (blocks left.value ++ root_block middle.value ∷ blocks (side right)) }
     requires two_higher { height_of left.value ≡ height_of (side right) + 2 }
@@ -166,7 +166,7 @@ fn lean_left(mut left: Box<InnerNode>, middle: Box<InnerNode>, right: Child) -> 
 
 /// The rotations where the right side is two levels higher, the mirror image.
 #[tactic(auto, using(crate::proofs::Blocks::BlockOrder::rotations))]
-fn lean_right(left: Child, middle: Box<InnerNode>, mut right: Box<InnerNode>) -> Box<InnerNode>
+fn rotate_left(left: Child, middle: Box<InnerNode>, mut right: Box<InnerNode>) -> Box<InnerNode>
     requires leaf { IsLeaf middle.value }
     requires ordered { IsOrderedFrom 0 (blocks (side left) ++ root_block middle.value ∷ blocks right.value) }
     requires two_higher { height_of right.value ≡ height_of (side left) + 2 }
@@ -215,11 +215,11 @@ pub(super) fn balance(left: Child, middle: Box<InnerNode>, right: Child) -> Box<
     let right_height = height(&right);
     if left_height > right_height + 1 {
         let Some(left) = left else { unreachable!() };
-        return lean_left(left, middle, right);
+        return rotate_right(left, middle, right);
     }
     if right_height > left_height + 1 {
         let Some(right) = right else { unreachable!() };
-        return lean_right(left, middle, right);
+        return rotate_left(left, middle, right);
     }
     fork(left, middle, right)
 }

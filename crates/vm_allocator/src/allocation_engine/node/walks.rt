@@ -16,7 +16,7 @@ use super::{Child, InnerNode};
 use crate::allocation_engine::block::Block;
 use std::marker::Model;
 
-/// As many nodes as stand on the longest way down a tree.
+/// The height of the highest tree.
 const MOST: usize = 49;
 
 /// Puts the nodes on the way from the root of a tree to its least block before those from `at` on;

@@ -56,7 +56,7 @@ impl IntervalTree {
         root
     }
 
-    /// How many nodes the longest way down has.
+    /// The height of the tree.
     pub(crate) fn height(&self) -> u64 {
         self.root().height()
     }

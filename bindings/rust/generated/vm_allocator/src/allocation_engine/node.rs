@@ -89,7 +89,7 @@ impl InnerNode {
         *count += 1;
     }
 
-    /// How many nodes the longest way down from here has.
+    /// The height of the tree from here on.
     pub(crate) fn height(&self) -> u64 {
         self.height
     }

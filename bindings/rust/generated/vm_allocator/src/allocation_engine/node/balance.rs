@@ -84,7 +84,7 @@ pub(super) fn fork(left: Child, mut middle: Box<InnerNode>, right: Child) -> Box
 
 /// The rotations where the left side is two levels higher: a single one, or a double one where the
 /// inner grandchild is the higher.
-fn lean_left(mut left: Box<InnerNode>, middle: Box<InnerNode>, right: Child) -> Box<InnerNode> {
+fn rotate_right(mut left: Box<InnerNode>, middle: Box<InnerNode>, right: Child) -> Box<InnerNode> {
     let higher = &mut *left;
     let inner = higher.right.take();
     if height(&higher.left) >= height(&inner) {
@@ -115,7 +115,7 @@ fn lean_left(mut left: Box<InnerNode>, middle: Box<InnerNode>, right: Child) -> 
 }
 
 /// The rotations where the right side is two levels higher, the mirror image.
-fn lean_right(left: Child, middle: Box<InnerNode>, mut right: Box<InnerNode>) -> Box<InnerNode> {
+fn rotate_left(left: Child, middle: Box<InnerNode>, mut right: Box<InnerNode>) -> Box<InnerNode> {
     let higher = &mut *right;
     let inner = higher.left.take();
     if height(&higher.right) >= height(&inner) {
@@ -151,11 +151,11 @@ pub(super) fn balance(left: Child, middle: Box<InnerNode>, right: Child) -> Box<
     let right_height = height(&right);
     if left_height > right_height + 1 {
         let Some(left) = left else { unreachable!() };
-        return lean_left(left, middle, right);
+        return rotate_right(left, middle, right);
     }
     if right_height > left_height + 1 {
         let Some(right) = right else { unreachable!() };
-        return lean_right(left, middle, right);
+        return rotate_left(left, middle, right);
     }
     fork(left, middle, right)
 }

@@ -29,7 +29,7 @@ pub(crate) enum Change {
 /// What a child keeps.
 #[derive(Clone, Copy, Debug)]
 pub(super) struct Kept {
-    /// How many nodes the longest way down from it has.
+    /// The height of its tree.
     pub(super) height: u64,
     /// What the free blocks of its tree have room for.
     pub(super) room: Room,

@@ -10,7 +10,7 @@ pub(crate) mod saving;
 use super::{Child, InnerNode};
 use crate::allocation_engine::block::Block;
 
-/// As many nodes as stand on the longest way down a tree.
+/// The height of the highest tree.
 const MOST: usize = 49;
 
 /// Puts the nodes on the way from the root of a tree to its least block before those from `at` on;
