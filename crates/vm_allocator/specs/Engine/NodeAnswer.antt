@@ -22,6 +22,15 @@ unfoldable pub TellsOverlap : Range → Option Range → List Block → Type 0
 TellsOverlap k None bs = IsClearOf k bs
 TellsOverlap k (Some met) bs = Overlaps k met
 
+-- the first key that a range overlaps on the way down from the root: to the left of a key that starts above the
+-- range, and to the right of one that ends below it
+abbrev pub first_met : Range → Shape → Option Range
+first_met k Tip = None
+first_met k (Fork l b r) =
+    if nat_lt k.end b.key.start then first_met k l
+    else if nat_lt b.key.end k.start then first_met k r
+    else Some b.key
+
 -- a key that overlaps is refused for the first key that it meets on the way down, and any other only where memory runs out
 unfoldable pub RefusesKey : Range → Shape → Error → Type 0
 RefusesKey k s e =
@@ -37,12 +46,3 @@ MarksBlock Allocated k answer old new = (answer ≡ Err (InvalidStateTransition 
 unfoldable pub Marks : Option Block → Range → Result (Unit {0}) Error → Shape → Shape → Type 0
 Marks None k answer old new = (answer ≡ Err ResourceNotAvailable) × (new ≡ old)
 Marks (Some b) k answer old new = MarksBlock b.state k answer old new
-
--- the first key that a range overlaps on the way down from the root: to the left of a key that starts above the
--- range, and to the right of one that ends below it
-abbrev pub first_met : Range → Shape → Option Range
-first_met k Tip = None
-first_met k (Fork l b r) =
-    if nat_lt k.end b.key.start then first_met k l
-    else if nat_lt b.key.end k.start then first_met k r
-    else Some b.key

@@ -89,7 +89,7 @@ impl Row {
 
 /// The row with the blocks of the nodes of a value, in order. None where it is no tree of nodes, has
 /// them nested deeper than `depth`, or has a block that may not stand where it does.
-#[tactic(auto, unfolding(crate::specs::SavedRepairs::row_found))]
+#[tactic(auto, unfolding(crate::specs::Checks::RepairChecks::row_found))]
 fn check_keys(value: &Value, end: u64, depth: u64, row: Row) -> Option<Row>
     ensures { result ≡ row_found end depth (view value.now) row }
 {

@@ -50,7 +50,7 @@ pub(super) struct Checked {
 /// The height of the tree that a value has, and the front behind its blocks. None where it is no tree,
 /// has nodes nested deeper than `depth`, a wrong height, no balance, or a block that may not stand
 /// where it does.
-#[tactic(auto, unfolding(crate::specs::SavedChecks::tree_found))]
+#[tactic(auto, unfolding(crate::specs::Checks::ValueChecks::tree_found))]
 pub(super) fn check(value: &Value, depth: u64, front: Front) -> Option<Checked>
     ensures found { result ≡ tree_found depth (view value.now) front }
     ensures not_deeper { IfSome result (λ found. found.height ≤ depth) }

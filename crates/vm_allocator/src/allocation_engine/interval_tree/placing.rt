@@ -77,7 +77,7 @@ impl IntervalTree {
 
 /// The `size` addresses from the place on that a search found. `ResourceNotAvailable` where it found
 /// none, and `Overflow` where they end at `u64::MAX`.
-#[tactic(auto, unfolding(crate::specs::SpaceTree::ChoosesBelowMax, crate::specs::BlockEdits::HasRoom))]
+#[tactic(auto, unfolding(crate::specs::Tree::SpaceTree::ChoosesBelowMax, crate::specs::Engine::BlockEdits::HasRoom))]
 fn choice_at(found: Option<Place>, size: u64) -> Result<Choice>
     requires sized { 0 < size }
     requires room { IfSome found (λ place. HasRoom place.start size (free_block place.key)) }

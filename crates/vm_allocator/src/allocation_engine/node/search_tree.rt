@@ -44,7 +44,7 @@ impl InnerNode {
     /// The tree with one more key. A key that overlaps is refused by `Overlap` of it with the first
     /// key met on the way down, and only then may memory run out, `OutOfMemory`. A refusal hands the
     /// same tree back.
-    #[tactic(auto, using(crate::proofs::Counts::WayBounds::way_bounds), unfolding(crate::specs::NodeAnswer::TellsOverlap, crate::specs::NodeAnswer::RefusesKey))]
+    #[tactic(auto, using(crate::proofs::Counts::WayBounds::way_bounds), unfolding(crate::specs::Engine::NodeAnswer::TellsOverlap, crate::specs::Engine::NodeAnswer::RefusesKey))]
     pub(crate) fn insert(
         tree: Box<InnerNode>,
         alloc: Global,
@@ -71,7 +71,7 @@ impl InnerNode {
 
     /// The tree without this key, and the same tree where it has none. None where the key was the
     /// only one. It takes no memory.
-    #[tactic(auto, unfolding(crate::specs::Shape::LeavesIfAbsent))]
+    #[tactic(auto, unfolding(crate::specs::Engine::Changes::LeavesIfAbsent))]
     pub(crate) fn delete(
         tree: Box<InnerNode>,
         key: &RangeInclusive,
@@ -173,7 +173,7 @@ impl InnerNode {
     }
 
     /// Marks this node's block as held, unless it is.
-    #[tactic(auto, using(crate::proofs::Nodes::Rewriting::ordered_marked), unfolding(crate::specs::NodeAnswer::MarksBlock))]
+    #[tactic(auto, using(crate::proofs::Nodes::Rewriting::ordered_marked), unfolding(crate::specs::Engine::NodeAnswer::MarksBlock))]
     fn mark_here(&mut self) -> Result<()>
         ensures marks { MarksBlock (root_block self.old).state (root_block self.old).key result self.old self.new }
         ensures height { height_of self.new ≡ height_of self.old }
