@@ -1,3 +1,9 @@
+//! Ranges of one space. The space stands beside the tree, which tells it too, so that `base` and
+//! `end` are one read each; that the two agree is the invariant. Its fields, those of the id
+//! allocator and the root of a tree are open inside the crate, for `saved`, and whoever puts them
+//! together proves the invariant. The plain calls are the counted ones without the count. That some
+//! calls always succeed follows from their answers, and is a clause of its own all the same: a
+//! monitor relies on it.
 ghost use Rattle.std.specs.Prelude.{ℕ, ◌≡◌, OnErr, IsOk};
 ghost use Rattle.std.specs.List.{Contains};
 ghost use Rattle.vm_allocator.specs.Address.{IsAddressState};

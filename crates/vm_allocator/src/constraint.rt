@@ -1,3 +1,5 @@
+//! Requests. That a request makes sense is the invariant of `Constraint`, so what takes one needs no
+//! condition.
 ghost use Rattle.std.specs.Prelude.{◌≡◌};
 ghost use Rattle.vm_allocator.specs.Alignment.{IsAlignment};
 ghost use Rattle.vm_allocator.specs.Cases.{Tells};

@@ -1,3 +1,4 @@
+//! Why calls are refused, with the texts of the Rust crate.
 use crate::allocation_engine::NodeState;
 use crate::range::RangeInclusive;
 use thiserror::Error;

@@ -1,3 +1,5 @@
+//! Ids of one range: those handed out so far lie below the next one, and those given back stand in a
+//! set. So a call looks at no other id, and only giving back asks for memory.
 ghost use Rattle.std.specs.Prelude.{◌≡◌, ℕ, ◌≤◌, ◌⊎◌, ◌↔◌, IsTrue, IsOk, OnErr, Ok, Err};
 ghost use Rattle.vm_allocator.specs.Cloning.{Clones};
 ghost use Rattle.vm_allocator.specs.Ids.{MakesIds, AllocatesId, PeeksId, FreesId, NextId, IsOfRange, IsHandedOut, IsHeld, IsNotHeld, IsIdState, held_count, bound_of};

@@ -1,3 +1,5 @@
+//! Ranges of addresses. Their order is written by hand and not derived, so that the contract of `cmp`
+//! names it: by start, then by end.
 ghost use Rattle.std.specs.Prelude.{◌≡◌, ◌↔◌, IsTrue, MatchBool};
 ghost use Rattle.std.proofs.Common.{rules};
 ghost use Rattle.std.specs.Cmp.{partial_order_from_own_ties};

@@ -1,3 +1,6 @@
+//! What a line asks. Each byte is looked at once: the line is compared with each name and its space,
+//! and not cut into words first. What reads a line is `inline(always)`, measured: small results would
+//! go through memory between its functions.
 ghost use Rattle.std.specs.Prelude.{◌≡◌};
 ghost use Rattle.vm_replay.specs.Commands.{command_of};
 ghost use Rattle.vm_replay.specs.Reading.{asked_of_ids_in, asked_of_devices_in};

@@ -1,3 +1,5 @@
+//! What a command does to what the lines so far have made: a space, ids and devices, each of which
+//! may not be there. Its absence has a reply and changes nothing.
 ghost use Rattle.std.specs.Prelude.{◌≡◌, Some};
 ghost use Rattle.vm_allocator.specs.Allocator.{state_of};
 ghost use Rattle.vm_replay.specs.Machines.{Places, FreesRange};

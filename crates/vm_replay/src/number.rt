@@ -1,3 +1,5 @@
+//! The number at the beginning of a text, up to the first byte that is no digit. Nineteen digits fit
+//! 64 bits whichever they are, so the twentieth alone is added with a check.
 ghost use Rattle.std.specs.Prelude.{◌≡◌, ◌≤◌, ◌<◌, ◌^◌, take, min, true};
 ghost use Rattle.std.specs.List.{list_all};
 ghost use Rattle.vm_replay.specs.Numbers.{is_digit, value_from};

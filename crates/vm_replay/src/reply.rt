@@ -1,3 +1,4 @@
+//! How an answer reads: all wording of the program.
 ghost use Rattle.std.specs.Prelude.{◌≡◌, ◌++◌, ◌+◌, ◌≤◌, length, decimal};
 ghost use Rattle.vm_replay.specs.Replies.{text_of, refusal_text, pair_text, device_text};
 

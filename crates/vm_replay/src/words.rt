@@ -1,3 +1,4 @@
+//! The words of a line: whether it begins with a name, and the numbers and ids behind that.
 ghost use Rattle.std.specs.Prelude.{◌≡◌, ◌≢◌, ◌++◌, ℕ, List, None, Some, MatchOption};
 ghost use Rattle.std.specs.Option.{option_copied};
 ghost use Rattle.vm_replay.specs.Numbers.{number_of, id_of};

@@ -1,5 +1,7 @@
-//! A balanced search tree of blocks. Each function in here that calls itself counts the nodes that
-//! it enters: `count` rises by one for each, in `enter` alone.
+//! An AVL tree of blocks. Each function in here that calls itself counts the nodes that it enters:
+//! `count` rises by one for each, in `enter` alone. A node is seen as a tree without pointers, so
+//! that its blocks, its height and its balance are functions of that value, and 'unchanged' is an
+//! equation.
 ghost use Rattle.std.specs.Prelude.{◌≡◌, ◌+◌, ◌<◌, ◌≤◌, ◌^◌, ◌↔◌, max, IsNone, MatchResult};
 ghost use Rattle.vm_allocator.specs.Range.{MAX};
 ghost use Rattle.vm_allocator.specs.Tree.Shape.{Tip, Fork, height_of, single, root_block, IsTree};

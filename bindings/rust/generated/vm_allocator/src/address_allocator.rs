@@ -1,5 +1,12 @@
 // Written by bindings/erase from crates/vm_allocator/src/address_allocator.rt: do not edit.
 
+//! Ranges of one space. The space stands beside the tree, which tells it too, so that `base` and
+//! `end` are one read each; that the two agree is the invariant. Its fields, those of the id
+//! allocator and the root of a tree are open inside the crate, for `saved`, and whoever puts them
+//! together proves the invariant. The plain calls are the counted ones without the count. That some
+//! calls always succeed follows from their answers, and is a clause of its own all the same: a
+//! monitor relies on it.
+
 use crate::allocation_engine::IntervalTree;
 use crate::constraint::{AllocPolicy, Constraint};
 use crate::error::{Error, Result};

@@ -1,5 +1,8 @@
 // Written by bindings/erase from crates/vm_allocator/src/constraint.rt: do not edit.
 
+//! Requests. That a request makes sense is the invariant of `Constraint`, so what takes one needs no
+//! condition.
+
 use crate::error::{Error, Result};
 
 /// An alignment for requests that need no particular one.

@@ -1,5 +1,6 @@
 // Written by bindings/erase from crates/vm_allocator/src/error.rt: do not edit.
 
+//! Why calls are refused, with the texts of the Rust crate.
 use crate::allocation_engine::NodeState;
 use crate::range::RangeInclusive;
 use rattle::Error;

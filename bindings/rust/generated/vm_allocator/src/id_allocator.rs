@@ -1,5 +1,8 @@
 // Written by bindings/erase from crates/vm_allocator/src/id_allocator.rt: do not edit.
 
+//! Ids of one range: those handed out so far lie below the next one, and those given back stand in a
+//! set. So a call looks at no other id, and only giving back asks for memory.
+
 use crate::error::{Error, Result};
 use rattle::Global;
 use rattle::BTreeSet;

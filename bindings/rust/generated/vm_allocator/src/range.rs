@@ -1,5 +1,8 @@
 // Written by bindings/erase from crates/vm_allocator/src/range.rt: do not edit.
 
+//! Ranges of addresses. Their order is written by hand and not derived, so that the contract of `cmp`
+//! names it: by start, then by end.
+
 use crate::error::{Error, Result};
 use core::cmp::Ordering;
 

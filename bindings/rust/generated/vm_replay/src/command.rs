@@ -1,5 +1,9 @@
 // Written by bindings/erase from crates/vm_replay/src/command.rt: do not edit.
 
+//! What a line asks. Each byte is looked at once: the line is compared with each name and its space,
+//! and not cut into words first. What reads a line is `inline(always)`, measured: small results would
+//! go through memory between its functions.
+
 use crate::words::{behind, ids_and_numbers, one_id, three_numbers, two_ids, two_numbers};
 
 /// A longer line is not in the language.

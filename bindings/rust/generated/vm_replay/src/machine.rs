@@ -1,5 +1,8 @@
 // Written by bindings/erase from crates/vm_replay/src/machine.rt: do not edit.
 
+//! What a command does to what the lines so far have made: a space, ids and devices, each of which
+//! may not be there. Its absence has a reply and changes nothing.
+
 use crate::command::Command;
 use crate::reply::Reply;
 use rattle::Global;

@@ -1,5 +1,8 @@
 // Written by bindings/erase from crates/vm_replay/src/number.rt: do not edit.
 
+//! The number at the beginning of a text, up to the first byte that is no digit. Nineteen digits fit
+//! 64 bits whichever they are, so the twentieth alone is added with a check.
+
 /// No number of the language has more digits, and none of 64 bits needs more.
 pub const MOST_DIGITS: usize = 20;
 

@@ -1,5 +1,7 @@
 // Written by bindings/erase from crates/vm_replay/src/reply.rt: do not edit.
 
+//! How an answer reads: all wording of the program.
+
 use crate::buffer::{Buffer, CAPACITY};
 use crate::number::MOST_DIGITS;
 use vm_allocator::{Error, RangeInclusive};

@@ -1,5 +1,7 @@
 // Written by bindings/erase from crates/vm_replay/src/words.rt: do not edit.
 
+//! The words of a line: whether it begins with a name, and the numbers and ids behind that.
+
 use crate::number::number_ahead;
 
 /// What stands behind the beginning of a text, where the text begins so.

@@ -1,4 +1,7 @@
-//! The search for a held block and the free ones beside it, in one descent.
+//! The search for a held block and the free ones beside it, in one descent. It writes the nodes that
+//! it passes into a pair which its caller holds, and returns only whether it found the block, so that
+//! it is a loop once compiled: a quarter of the instructions of a search that carried both free
+//! ranges back up.
 ghost use Rattle.std.specs.Prelude.{◌≡◌, ◌+◌, ◌*◌, ◌≤◌, Option, Some, None};
 ghost use Rattle.vm_allocator.specs.Range.{MAX, Range};
 ghost use Rattle.vm_allocator.specs.Tree.Shape.{blocks, height_of, root_block};

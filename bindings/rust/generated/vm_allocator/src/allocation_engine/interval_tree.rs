@@ -1,7 +1,12 @@
 // Written by bindings/erase from crates/vm_allocator/src/allocation_engine/interval_tree.rt: do not edit.
 
 //! The blocks of a space in a balanced tree: which place a request gets (`placing`), how the range
-//! there is held (`holding`), how a held one is given back (`release`), and how two compare (`comparing`).
+//! there is held (`holding`), how a held one is given back (`release`), and how two compare
+//! (`comparing`).
+//!
+//! A counted call is a counter at 0, what takes the counter (`grant`, `release`), and the counter; a
+//! plain call is the counted one without the count. So that the counter has room, as a tree of height
+//! 49 has fewer than 2^49 nodes, is shown once, and no caller has a condition.
 
 use rattle::Box;
 use super::NodeState;

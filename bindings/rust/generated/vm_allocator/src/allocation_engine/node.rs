@@ -1,7 +1,9 @@
 // Written by bindings/erase from crates/vm_allocator/src/allocation_engine/node.rt: do not edit.
 
-//! A balanced search tree of blocks. Each function in here that calls itself counts the nodes that
-//! it enters: `count` rises by one for each, in `enter` alone.
+//! An AVL tree of blocks. Each function in here that calls itself counts the nodes that it enters:
+//! `count` rises by one for each, in `enter` alone. A node is seen as a tree without pointers, so
+//! that its blocks, its height and its balance are functions of that value, and 'unchanged' is an
+//! equation.
 
 use rattle::Box;
 mod balance;

@@ -1,7 +1,8 @@
 // Written by bindings/erase from crates/vm_allocator/src/allocation_engine/interval_tree/release.rt: do not edit.
 
-//! How a held range is given back: the free blocks beside it are removed, and its block takes their
-//! addresses, free again.
+//! How a held range is given back: the free blocks beside it are removed by a descent each, and its
+//! block is widened by one more, free again. To take all three out in one descent would ask for a
+//! proof by cases on which of them stands above which, and for two removals on one way back up.
 
 use super::IntervalTree;
 use crate::allocation_engine::node::Child;

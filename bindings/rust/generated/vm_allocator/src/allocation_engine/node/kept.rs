@@ -1,6 +1,13 @@
 // Written by bindings/erase from crates/vm_allocator/src/allocation_engine/node/kept.rt: do not edit.
 
-//! What a node keeps of its tree, brought up to date from its children and its own block.
+//! What a node keeps of its tree, brought up to date from its children and its own block: the height,
+//! the length of the longest free block, and how many of the 64 alignments have a multiple in a free
+//! one. A multiple of a power of two is one of each lesser power, so the count says which alignments
+//! these are. A search enters no tree without room for its size and alignment. All that a child keeps
+//! is read at once (`kept_of`), and the own block looked at last: each read with its own look whether
+//! the child is there cost 4 % of the instructions of `exact`. The count is a byte beside the state,
+//! so that a node has 72 bytes, and takes a logarithm; the word that it is the logarithm of would
+//! make them 80.
 
 use super::Child;
 use crate::allocation_engine::NodeState;

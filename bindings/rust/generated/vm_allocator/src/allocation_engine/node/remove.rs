@@ -1,6 +1,8 @@
 // Written by bindings/erase from crates/vm_allocator/src/allocation_engine/node/remove.rt: do not edit.
 
-//! A block removed from a tree.
+//! A block removed from a tree. What removes the node itself is no part of the descent to it
+//! (`delete_root`, never inlined): together they would save twice as many registers at each level, 4
+//! % of the instructions of `exact`.
 
 use rattle::Box;
 use super::balance::{balance, settle};

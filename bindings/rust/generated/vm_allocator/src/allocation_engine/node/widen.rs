@@ -1,7 +1,9 @@
 // Written by bindings/erase from crates/vm_allocator/src/allocation_engine/node/widen.rt: do not edit.
 
-//! A held block made free and wider, in one way down: what the nodes on the way keep of their
-//! trees' room can only rise, so that nothing is left to be done on the way back.
+//! A held block made free and wider, in one way down: what the nodes on the way keep of their trees'
+//! room can only rise, to what the new range has room for. So nothing is left to be done on the way
+//! back, and the recursion is a loop once compiled. What a node keeps is compared before it is
+//! written (`raise_room`), which costs less than to write the greater of the two each time.
 
 use super::kept::{Room, raise_room, room_of};
 use super::{Child, InnerNode};
