@@ -74,7 +74,8 @@ impl IdAllocator {
     }
 
     /// A copy: the same range, held ids and ids ever handed out. `OutOfMemory` where there is no memory
-    /// for it. The ids given back ask the allocator that they came with.
+    /// for it. The ids given back ask the allocator that they came with: their own `clone` promises the
+    /// same set, where a new one would promise the same members.
     #[tactic(auto, using(crate::proofs::Ids::IdFields::clones))]
     pub fn try_clone(&self, _alloc: Global) -> Result<Self>
         ensures { Clones self.now result }

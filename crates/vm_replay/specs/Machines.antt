@@ -1,4 +1,5 @@
--- What the lines so far have made, and what a further line does to it.
+-- What the lines so far have made, and what a further line does to it: by the very relations that the calls of the
+-- libraries ensure.
 use Rattle.std.specs.Prelude.{◌≡◌, ◌↔◌, ℕ, Bool, IsTrue, Option, Some, None, Result, Ok, Err, MatchOption, refl}
 use Rattle.std.specs.Coded.{Coded, code_by, coded×, coded_option}
 use Rattle.vm_allocator.specs.Cases.{Unless}

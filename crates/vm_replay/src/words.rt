@@ -1,4 +1,5 @@
-//! The words of a line: whether it begins with a name, and the numbers and ids behind that.
+//! The words of a line: whether it begins with a name, and the numbers and ids behind that. The four
+//! numbers of `manager` are read as three are, and two of them then taken as ids.
 ghost use Rattle.std.specs.Prelude.{◌≡◌, ◌≢◌, ◌++◌, ℕ, List, None, Some, MatchOption};
 ghost use Rattle.std.specs.Option.{option_copied};
 ghost use Rattle.vm_replay.specs.Numbers.{number_of, id_of};

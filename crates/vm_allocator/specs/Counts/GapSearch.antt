@@ -1,4 +1,5 @@
--- How many gaps are searched in vain for a place, and how many nodes that enters.
+-- How many gaps are searched in vain for a place, and how many nodes that enters. The gaps are counted over the blocks of
+-- the state, by tests, so that a clause needs no number as a further argument; a law says that each test tells the truth.
 use Rattle.std.specs.Prelude.{◌≡◌, ℕ, ◌+◌, ◌*◌, ◌≤◌, ◌&&◌, not, min, nat_le, Bool, List, length, Result, Err}
 use Rattle.std.specs.List.{filter}
 use Rattle.vm_allocator.specs.Range.{Range}

@@ -90,7 +90,7 @@ pub record HeldAreGood : Type 0 where
   pub given : (old : Reached) (r : Range) → Contains old.state.held r →
       WasGiven old.calls r ⊎ WasStated old.reached.first r
 
--- one space, and the same held ranges
+-- one space, and the same held ranges as sets: that the ascending lists are then equal is proved
 pub record AreAlike (first second : AddressState) : Type 0 where
   pub space : first.space ≡ second.space
   pub held : (r : Range) → Contains first.held r ↔ Contains second.held r

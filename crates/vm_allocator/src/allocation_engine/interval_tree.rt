@@ -69,7 +69,7 @@ impl IntervalTree {
         Ok(IntervalTree { root: Some(node) })
     }
 
-    /// A copy, node for node.
+    /// A copy, node for node, for `AddressAllocator` alone: who has a tree can make another.
     pub(crate) fn try_clone(&self, alloc: Global) -> Result<Self>
         ensures { Clones self.now result }
     {

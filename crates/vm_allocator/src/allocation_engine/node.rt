@@ -87,8 +87,8 @@ impl InnerNode {
         }
     }
 
-    /// A node over children whose heights are at most one apart, and between whose keys its own lies.
-    /// `OutOfMemory` where there is no memory for it.
+    /// A node over children whose heights are at most one apart, and between whose keys its own lies,
+    /// with what it keeps computed over them. `OutOfMemory` where there is no memory for it.
     pub(crate) fn with_children(
         alloc: Global,
         left: Child,

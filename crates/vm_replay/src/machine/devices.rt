@@ -1,4 +1,5 @@
-//! What a line does to the devices.
+//! What a line does to the devices, one more part beside the space and the ids, by the very relations
+//! that the calls of the manager ensure.
 ghost use Rattle.std.specs.Prelude.{Some};
 ghost use Rattle.vm_replay.specs.Machines.{Does};
 
