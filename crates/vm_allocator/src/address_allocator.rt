@@ -4,7 +4,7 @@
 //! together proves the invariant. The plain calls are the counted ones without the count. That some
 //! calls always succeed follows from their answers, and is a clause of its own all the same: a
 //! monitor relies on it.
-ghost use Rattle.std.specs.Prelude.{ℕ, ◌≡◌, OnErr, IsOk};
+ghost use Rattle.std.specs.Prelude.{ℕ, ◌≡◌, OnErr, IfOk, IsOk};
 ghost use Rattle.std.specs.List.{Contains};
 ghost use Rattle.vm_allocator.specs.Address.{IsAddressState};
 ghost use Rattle.vm_allocator.specs.Request.{request_for};
@@ -54,14 +54,13 @@ impl AddressAllocator {
     /// of 0 is `Underflow`, an end past `u64::MAX` is `Overflow`, and `OutOfMemory` comes last.
     #[tactic(auto, using(crate::proofs::Answers::Making::making, crate::proofs::Nodes::Spaces::spaces))]
     pub fn new(alloc: Global, base: u64, size: u64) -> Result<Self>
-        ensures { Makes base size (made_state result) }
+        ensures answer { Makes base size (made_state result) }
+        ensures state { IfOk result (λ allocator. IsAddressState (state_of allocator)) }
     {
         if size == 0 {
             return Err(Error::Underflow);
         }
-        let Some(end) = base.checked_add(size - 1) else {
-            return Err(Error::Overflow);
-        };
+        let end = base.checked_add(size - 1).ok_or(Error::Overflow)?;
         let address_space = RangeInclusive::between(base, end);
         let interval_tree = IntervalTree::new(alloc, address_space)?;
         Ok(AddressAllocator {
@@ -109,7 +108,7 @@ impl AddressAllocator {
         ensures state { IsAddressState (state_of self.new) }
     {
         let answer = self.allocate_counted(alloc, size, alignment, policy).0;
-        let _ = self.base();
+        self.known();
         answer
     }
 
@@ -121,7 +120,7 @@ impl AddressAllocator {
     /// h(v + 1) + 8h + 8, and at most hv where they answer `ResourceNotAvailable`; at alignment 1 no
     /// gap is such. The same holds of w in the place of v, where w gaps have a multiple of the
     /// alignment and no place: these are no more than the multiples in the space.
-    #[tactic(auto, using(crate::proofs::Answers::Requests::allocating, crate::proofs::Nodes::Spaces::spaces, crate::proofs::Answers::Filling::succeeding, crate::proofs::Counts::Allocating::allocations, crate::proofs::Counts::GapBounds::searches))]
+    #[tactic(auto, using(crate::proofs::Counts::GapBounds::counted_allocations))]
     pub fn allocate_counted(
         &mut self,
         alloc: Global,
@@ -162,9 +161,7 @@ impl AddressAllocator {
         ensures held { Contains (state_of self.old).held key.now → IsOk result }
         ensures state { IsAddressState (state_of self.new) }
     {
-        let answer = self.free_counted(key).0;
-        let _ = self.base();
-        answer
+        self.free_counted(key).0
     }
 
     /// Does what `free` does, and answers besides how many nodes of the tree it entered: with the
@@ -178,6 +175,7 @@ impl AddressAllocator {
         ensures held { Contains (state_of self.old).held key.now → IsOk result.0 }
         ensures count { EntersToFree self.old.tree key.now result.0 0 result.1 }
         ensures steps { IsReleaseCount (height_of self.old.tree) result.1 }
+        ensures state { IsAddressState (state_of self.new) }
     {
         self.interval_tree.free_counted(key)
     }
@@ -193,13 +191,21 @@ impl AddressAllocator {
     }
 
     /// The first address of the space.
-    #[tactic(auto, using(crate::proofs::Blocks::BlockStates::is_state))]
     pub fn base(&self) -> u64
         ensures value { result ≡ (state_of self.now).space.start }
         ensures state { IsAddressState (state_of self.now) }
     {
-        let _ = self.interval_tree.height();
+        self.known();
         self.address_space.start()
+    }
+
+    /// For the prover alone: what holds of every state is known from here on.
+    #[inline(always)]
+    #[tactic(auto, using(crate::proofs::Blocks::BlockStates::is_state))]
+    fn known(&self)
+        ensures { IsAddressState (state_of self.now) }
+    {
+        self.interval_tree.known();
     }
 
     /// The last address of the space.

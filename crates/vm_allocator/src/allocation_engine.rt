@@ -49,9 +49,7 @@ pub fn align_up(address: u64, alignment: u64) -> Result<u64>
     if alignment == 0 {
         return Err(Error::InvalidAlignment);
     }
-    let Some(last) = address.checked_add(alignment - 1) else {
-        return Err(Error::Overflow);
-    };
+    let last = address.checked_add(alignment - 1).ok_or(Error::Overflow)?;
     align_down(last, alignment)
 }
 

@@ -2,7 +2,20 @@
 //! set. So a call looks at no other id, and only giving back asks for memory.
 ghost use Rattle.std.specs.Prelude.{◌≡◌, ℕ, ◌≤◌, ◌⊎◌, ◌↔◌, IsTrue, IsOk, OnErr, Ok, Err};
 ghost use Rattle.vm_allocator.specs.Cloning.{Clones};
-ghost use Rattle.vm_allocator.specs.Ids.{MakesIds, AllocatesId, PeeksId, FreesId, NextId, IsOfRange, IsHandedOut, IsHeld, IsNotHeld, IsIdState, held_count, bound_of};
+ghost use Rattle.vm_allocator.specs.Ids.{
+  MakesIds,
+  AllocatesId,
+  PeeksId,
+  FreesId,
+  NextId,
+  IsOfRange,
+  IsHandedOut,
+  IsHeld,
+  IsNotHeld,
+  IsIdState,
+  held_count,
+  bound_of,
+};
 
 use crate::error::{Error, Result};
 use std::alloc::Global;
@@ -80,9 +93,7 @@ impl IdAllocator {
     pub fn try_clone(&self, _alloc: Global) -> Result<Self>
         ensures { Clones self.now result }
     {
-        let Ok(freed_ids) = self.freed_ids.clone() else {
-            return Err(Error::OutOfMemory);
-        };
+        let freed_ids = self.freed_ids.clone()?;
         Ok(IdAllocator {
             range_base: self.range_base,
             next_id: self.next_id,
@@ -155,10 +166,7 @@ impl IdAllocator {
             return Err(Error::NeverAllocated(id));
         }
         // Only an id that is not in the set yet asks for memory.
-        let Ok(newly_freed) = self.freed_ids.insert(id) else {
-            return Err(Error::OutOfMemory);
-        };
-        if newly_freed {
+        if self.freed_ids.insert(id)? {
             Ok(id)
         } else {
             Err(Error::AlreadyReleased(id))

@@ -110,8 +110,7 @@ impl RangeInclusive {
         ensures in_order { IsInOrder self.now }
         ensures other_in_order { IsInOrder other.now }
     {
-        let _ = other.end;
-        other.start > self.end
+        other.start() > self.end
     }
 
     /// The first address.

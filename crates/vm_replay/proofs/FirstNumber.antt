@@ -160,3 +160,7 @@ then_blank text number n is within at e =
     let first = words_some text n (rw ends (grind (arith, nat_tests))) in
     let says : number_of (take n text) ≡ Some number = rw (sym is) at e in
     rw (first, says) refl
+
+pub ruleset first_numbers = (no_number, alone_number, then_blank, then_other)
+
+pub ruleset one_numbers = (one_none, one_alone, one_more)

@@ -29,7 +29,7 @@ pub fn behind<'a, const N: usize>(front: &[u8; N], text: &'a [u8]) -> Option<&'a
 
 /// The number that the first word of a text says, and what stands after the space behind it.
 #[inline(always)]
-#[tactic(auto, using(crate::proofs::FirstNumber::no_number, crate::proofs::FirstNumber::alone_number, crate::proofs::FirstNumber::then_blank, crate::proofs::FirstNumber::then_other))]
+#[tactic(auto, using(crate::proofs::FirstNumber::first_numbers))]
 fn first_number(text: &[u8]) -> Option<(u64, Option<&[u8]>)>
     ensures { MatchOption result
         (number_first (words_of text.now) ≡ None)
@@ -47,7 +47,7 @@ fn first_number(text: &[u8]) -> Option<(u64, Option<&[u8]>)>
 
 /// The number that the word of a text says, where it is one.
 #[inline(always)]
-#[tactic(auto, using(crate::proofs::FirstNumber::one_none, crate::proofs::FirstNumber::one_alone, crate::proofs::FirstNumber::one_more, crate::proofs::Splitting::some_words))]
+#[tactic(auto, using(crate::proofs::FirstNumber::one_numbers, crate::proofs::Splitting::some_words))]
 fn one_number(text: &[u8]) -> Option<u64>
     ensures { result ≡ one_in number_of (words_of text.now) }
 {

@@ -80,6 +80,8 @@ unfolding Frees
 freed_state old new r answer i h =
     ⊎_elim (λ l. subst IsAddressState (sym l.1.1) (released_state old r i)) (λ l. subst IsAddressState (sym l.1.1) i) h
 
+pub ruleset freed = (freed_state)
+
 -- what a new allocator is
 pub made_is : (base size : ℕ) (first : AddressState) → Makes base size (Ok first) → (0 < size) × (base + size - 1 ≤ MAX) × (first ≡ record { space = span base size; held = [] })
 unfolding Makes

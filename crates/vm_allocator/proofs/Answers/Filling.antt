@@ -31,7 +31,7 @@ exact_start : (n a s t : ℕ) (state : AddressState) → IsChosen (request_for n
 unfolding IsChosen
 exact_start n a s t state c = c.0
 
-pub place_clear : (n a t : ℕ) (state : AddressState) → IsPlace n a state t → AreClear n state t
+place_clear : (n a t : ℕ) (state : AddressState) → IsPlace n a state t → AreClear n state t
 unfolding IsPlace
 place_clear n a t state p = p.1
 

@@ -146,7 +146,7 @@ pub ruleset findings = (find_in_left, find_in_right, find_in_middle)
 pub same_range_true : (a b : Range) → same_range a b ≡ true → (a.start ≡ b.start) × (a.end ≡ b.end)
 same_range_true a b e = let t = and_parts (eqb a.start b.start) (eqb a.end b.end) e in (eqb-true a.start b.start t.0, eqb-true a.end b.end t.1)
 
-pub ordered_removed : (lo : ℕ) (k : Range) (bs : List Block) → IsOrderedFrom lo bs → IsOrderedFrom lo (replace_block k [] bs)
+ordered_removed : (lo : ℕ) (k : Range) (bs : List Block) → IsOrderedFrom lo bs → IsOrderedFrom lo (replace_block k [] bs)
 ordered_removed lo k [] o = tt
 ordered_removed lo k (b ∷ bs) o =
     elim (same_range k b.key) as (λ v. IsOrderedFrom lo (cond v bs (b ∷ replace_block k [] bs))) [

@@ -59,7 +59,7 @@ pub record IsWithin (sp : Range) (bs : List Block) (b : Block) (n t : ℕ) : Typ
   pub some : 0 < n
   pub below : t < MAX
 
-pub in_space : (p : NodeState) (lo hi x : ℕ) (b : Block) (xs ys : List Block) → Tiles p lo (xs ++ b ∷ ys) hi → IsIn b.key x → (lo ≤ x) × (x ≤ hi)
+in_space : (p : NodeState) (lo hi x : ℕ) (b : Block) (xs ys : List Block) → Tiles p lo (xs ++ b ∷ ys) hi → IsIn b.key x → (lo ≤ x) × (x ≤ hi)
 in_space p lo hi x b [] ys t i = (omega (arith, t.0, i.0), omega (arith, i.1, tiles_end b.state (b.key.end + 1) hi ys t.3))
 in_space p lo hi x b (y ∷ xs) ys t i = let g = in_space y.state (y.key.end + 1) hi x b xs ys t.3 i in (omega (arith, g.0, t.0, t.1), g.1)
 

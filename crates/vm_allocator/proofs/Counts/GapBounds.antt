@@ -21,7 +21,10 @@ use Rattle.vm_allocator.specs.declared.constraint.AllocPolicy.TheVariants.{First
 use Rattle.vm_allocator.proofs.Blocks.Gaps.{InFreeBlock}
 use Rattle.vm_allocator.proofs.Choosing.Places.{block_place}
 use Rattle.vm_allocator.proofs.Comparing.Tilings.{tree_blocks}
-use Rattle.vm_allocator.proofs.Counts.Allocating.{constraint_made}
+use Rattle.vm_allocator.proofs.Counts.Allocating.{constraint_made, allocations}
+use Rattle.vm_allocator.proofs.Answers.Requests.{allocating}
+use Rattle.vm_allocator.proofs.Answers.Filling.{succeeding}
+use Rattle.vm_allocator.proofs.Nodes.Spaces.{spaces}
 use Rattle.vm_allocator.proofs.Counts.CarvingWays.{way_to_carve_at_most}
 use Rattle.vm_allocator.proofs.Counts.SearchedGaps.{HasOneInVain, futile_in_vain, cramped_in_vain, first_in_vain, first_to_place, last_in_vain, last_to_place}
 use Rattle.vm_allocator.proofs.Counts.Searching.{least_from, free_if_true}
@@ -132,3 +135,5 @@ pub sensible_aligned : (h : ℕ) (old : AddressState) (request k : Request) (ans
 sensible_aligned h old request k answer c m g = subst (λ (v : Request). SearchesAligned h old v answer c) (constraint_made request k m).0 g
 
 pub ruleset searches = (senseless_search, sensible_search, senseless_aligned, sensible_aligned)
+
+pub ruleset counted_allocations = (allocating, spaces, succeeding, allocations, searches)

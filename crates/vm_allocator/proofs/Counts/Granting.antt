@@ -54,7 +54,7 @@ pub split_low : (s : Shape) (choice : Choice) (answer : Result Range Error) (new
 split_low s choice answer new h i t low memory = record { split = of_splits (height_of s < TOO_HIGH) s choice answer new h i t low; memory = memory }
 
 -- ---- exactly the nodes that a request enters
-pub search_at_most : (request : Request) (s : Shape) → way_of_search request s ≤ most_searched request.policy s
+search_at_most : (request : Request) (s : Shape) → way_of_search request s ≤ most_searched request.policy s
 search_at_most request s = by_policy request.policy
   where
     named : (test : Bool) (most way : ℕ) → way ≤ most → cond test 0 way ≤ most

@@ -20,7 +20,7 @@ use super::node::walks::Walk;
 use super::node::walks::copying::copy;
 use super::node::{Child, InnerNode};
 use crate::constraint::Constraint;
-use crate::error::{Error, Result};
+use crate::error::Result;
 use crate::range::RangeInclusive;
 use std::alloc::Global;
 use std::marker::Model;
@@ -63,9 +63,7 @@ impl IntervalTree {
         ensures state { IfOk result (λ tree. IsAddressState (tree_state tree)) }
     {
         let _ = key.end();
-        let Ok(node) = Box::new(alloc, InnerNode::new(key, NodeState::Free)) else {
-            return Err(Error::OutOfMemory);
-        };
+        let node = Box::new(alloc, InnerNode::new(key, NodeState::Free))?;
         Ok(IntervalTree { root: Some(node) })
     }
 
@@ -107,7 +105,16 @@ impl IntervalTree {
         self.root().height()
     }
 
-    /// `allocate`, which adds the nodes that it enters to a count.
+    /// For the prover alone: what holds of every tree of a space is known from here on.
+    #[inline(always)]
+    pub(crate) fn known(&self)
+        ensures space { IsSpaceTree self.now }
+        ensures tree { IsTree self.now }
+    {
+        let _ = self.height();
+    }
+
+    /// `allocate`, which adds the nodes that it enters to a counter at 0.
     #[tactic(auto, using(crate::proofs::Choosing::Searched::granting, crate::proofs::Counts::Granting::grantings))]
     fn grant(
         &mut self,
@@ -115,13 +122,15 @@ impl IntervalTree {
         constraint: Constraint,
         count: &mut u64,
     ) -> Result<RangeInclusive>
-        requires { count.old + node_count self.old + 3 * height_of self.old ≤ MAX }
+        requires { count.old ≡ 0 }
         ensures answer { Grants (tree_state self.old) constraint result (tree_state self.new) }
         ensures unchanged { OnErr result (self.new ≡ self.old) }
         ensures depth { SplitsIfLow (height_of self.old) (tree_state self.old) result }
-        ensures count { Enters self.old constraint result count.old count.new }
+        ensures count { Enters self.old constraint result 0 count.new }
+        ensures space { IsSpaceTree self.old }
+        ensures tree { IsTree self.old }
     {
-        let _ = self.height();
+        self.known();
         let choice = self.place_for(constraint, count)?;
         self.hold(alloc, choice, count)
     }
@@ -142,7 +151,6 @@ impl IntervalTree {
         ensures search_aligned { SearchesAligned (height_of self.old) (tree_state self.old)
             constraint result.0 result.1 }
     {
-        let _ = self.height();
         let mut count = 0;
         let answer = self.grant(alloc, constraint, &mut count);
         (answer, count)
@@ -160,19 +168,19 @@ impl IntervalTree {
         ensures depth { SplitsIfLow (height_of self.old) (tree_state self.old) result }
     {
         let answer = self.allocate_counted(alloc, constraint).0;
-        let _ = self.height();
+        self.known();
         answer
     }
 
     /// `free`, and how many nodes it entered.
-    #[tactic(auto, using(crate::proofs::Counts::ReleaseWays::releasings))]
+    #[tactic(auto, using(crate::proofs::Counts::ReleaseWays::releasings, crate::proofs::Nodes::Spaces::states, crate::proofs::Answers::AddressAnswers::freed))]
     pub(crate) fn free_counted(&mut self, key: &RangeInclusive) -> (Result<()>, u64)
         ensures answer { Frees (tree_state self.old) key.now result.0 (tree_state self.new) }
         ensures unchanged { OnErr result.0 (self.new ≡ self.old) }
         ensures count { EntersToFree self.old key.now result.0 0 result.1 }
         ensures steps { IsReleaseCount (height_of self.old) result.1 }
+        ensures state { IsAddressState (tree_state self.new) }
     {
-        let _ = self.height();
         let mut count = 0;
         let answer = self.release(key, &mut count);
         (answer, count)
@@ -180,14 +188,11 @@ impl IntervalTree {
 
     /// Gives a held range back, and joins its addresses with the clear ones on both sides. Any other
     /// range is `ResourceNotAvailable`. It takes no memory, and a refusal changes nothing.
-    #[tactic(auto, using(crate::proofs::Nodes::Spaces::states))]
     pub fn free(&mut self, key: &RangeInclusive) -> Result<()>
         ensures answer { Frees (tree_state self.old) key.now result (tree_state self.new) }
         ensures unchanged { OnErr result (self.new ≡ self.old) }
         ensures state { IsAddressState (tree_state self.new) }
     {
-        let answer = self.free_counted(key).0;
-        let _ = self.height();
-        answer
+        self.free_counted(key).0
     }
 }

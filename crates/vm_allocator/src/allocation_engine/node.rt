@@ -102,10 +102,8 @@ impl InnerNode {
             (λ node. node.value ≡ Fork (side left) (record { key = key; state = node_state }) (side right))
             (λ error. error ≡ Error.OutOfMemory) }
     {
-        match Box::new(alloc, InnerNode::new(key, node_state)) {
-            Ok(middle) => Ok(fork(left, middle, right)),
-            Err(_) => Err(Error::OutOfMemory),
-        }
+        let middle = Box::new(alloc, InnerNode::new(key, node_state))?;
+        Ok(fork(left, middle, right))
     }
 
     /// The key of this node.

@@ -1,5 +1,19 @@
 //! Laws of single calls of an address allocator, and of ranges.
-ghost use Rattle.vm_allocator.specs.Laws.AddressLaws.{AllocatesOnce, FreesOnce, StateIsKept, HeldLieApart, AllocatingAddsRange, FreeingDropsRange, FreeingUndoes, FutileIsTold, NoneIsFutileAtOne, CountTellsAll, CrampedIsTold, CrampedAreFew, RangesAreSets};
+ghost use Rattle.vm_allocator.specs.Laws.AddressLaws.{
+  AllocatesOnce,
+  FreesOnce,
+  StateIsKept,
+  HeldLieApart,
+  AllocatingAddsRange,
+  FreeingDropsRange,
+  FreeingUndoes,
+  FutileIsTold,
+  NoneIsFutileAtOne,
+  CountTellsAll,
+  CrampedIsTold,
+  CrampedAreFew,
+  RangesAreSets,
+};
 
 /// The state of an allocator decides its answer to a request and the state after it, the refusal of
 /// a split for memory or for depth aside.

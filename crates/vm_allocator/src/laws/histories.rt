@@ -2,7 +2,24 @@
 //! read, clones made on the way among them.
 ghost use Rattle.vm_allocator.specs.Values.TreeValues.{StatesAddresses};
 ghost use Rattle.vm_allocator.specs.Values.RepairedValues.{StatesRepaired};
-ghost use Rattle.vm_allocator.specs.Laws.HistoryLaws.{FirstIsLeast, LastIsGreatest, ExactIsNamed, PlacesAnswer, RefusalsChangeNothing, HeldAreGood, StateDecides, ReleaseUndoes, OrderOfReleasesIsFree, EveryCallIsAnswered, EveryListHasHistory, CloneIsReached, ReadIsReached, OneEndIsEqual, ReleaseMakesEqual, OrderOfReleasesMakesEqual};
+ghost use Rattle.vm_allocator.specs.Laws.HistoryLaws.{
+  FirstIsLeast,
+  LastIsGreatest,
+  ExactIsNamed,
+  PlacesAnswer,
+  RefusalsChangeNothing,
+  HeldAreGood,
+  StateDecides,
+  ReleaseUndoes,
+  OrderOfReleasesIsFree,
+  EveryCallIsAnswered,
+  EveryListHasHistory,
+  CloneIsReached,
+  ReadIsReached,
+  OneEndIsEqual,
+  ReleaseMakesEqual,
+  OrderOfReleasesMakesEqual,
+};
 
 /// In every history `FirstMatch` gives the least place, `LastMatch` the greatest and `ExactMatch` the
 /// named one.

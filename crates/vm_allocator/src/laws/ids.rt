@@ -1,5 +1,14 @@
 //! Laws of ids.
-ghost use Rattle.vm_allocator.specs.Laws.IdLaws.{MakingIsDetermined, AllocatingIsDetermined, PeekingForetells, FreeingIsDetermined, IdStateIsKept, AllocatingAdds, FreeingDrops, IdCountTellsAll};
+ghost use Rattle.vm_allocator.specs.Laws.IdLaws.{
+  MakingIsDetermined,
+  AllocatingIsDetermined,
+  PeekingForetells,
+  FreeingIsDetermined,
+  IdStateIsKept,
+  AllocatingAdds,
+  FreeingDrops,
+  IdCountTellsAll,
+};
 
 /// From one state a call has one answer and one next state, out of memory aside.
 #[tactic(auto, using(crate::proofs::Ids::IdAnswers::determined))]

@@ -31,9 +31,7 @@ impl AddressAllocator {
         if size == 0 {
             return Err(Error::Underflow);
         }
-        let Some(end) = base.checked_add(size - 1) else {
-            return Err(Error::Overflow);
-        };
+        let end = base.checked_add(size - 1).ok_or(Error::Overflow)?;
         let address_space = RangeInclusive::between(base, end);
         let interval_tree = IntervalTree::new(alloc, address_space)?;
         Ok(AddressAllocator {
@@ -68,7 +66,7 @@ impl AddressAllocator {
         policy: AllocPolicy,
     ) -> Result<RangeInclusive> {
         let answer = self.allocate_counted(alloc, size, alignment, policy).0;
-        let _ = self.base();
+        self.known();
         answer
     }
 
@@ -96,9 +94,7 @@ impl AddressAllocator {
     /// Gives a held range back. Any other range is `ResourceNotAvailable`, a part of a held one and
     /// a clear one among them. Takes no memory, and a refusal changes nothing.
     pub fn free(&mut self, key: &RangeInclusive) -> Result<()> {
-        let answer = self.free_counted(key).0;
-        let _ = self.base();
-        answer
+        self.free_counted(key).0
     }
 
     /// Does what `free` does, and answers besides how many nodes of the tree it entered: with the
@@ -116,8 +112,14 @@ impl AddressAllocator {
 
     /// The first address of the space.
     pub fn base(&self) -> u64 {
-        let _ = self.interval_tree.height();
+        self.known();
         self.address_space.start()
+    }
+
+    /// For the prover alone: what holds of every state is known from here on.
+    #[inline(always)]
+    fn known(&self) {
+        self.interval_tree.known();
     }
 
     /// The last address of the space.

@@ -1,8 +1,10 @@
 // Written by bindings/erase from crates/vm_allocator/src/error.rt: do not edit.
 
 //! Why calls are refused, with the texts of the Rust crate.
+
 use crate::allocation_engine::NodeState;
 use crate::range::RangeInclusive;
+use rattle::{AllocError, AllocFailed};
 use rattle::Error;
 
 /// Why a call is refused. A refused call changes nothing. Errors are ordered by variant, then by
@@ -48,6 +50,18 @@ pub enum Error {
     /// A request for memory was refused.
     #[error("There is not enough memory.")]
     OutOfMemory,
+}
+
+impl From<AllocError> for Error {
+    fn from(_: AllocError) -> Error {
+        Error::OutOfMemory
+    }
+}
+
+impl<T> From<AllocFailed<T>> for Error {
+    fn from(_: AllocFailed<T>) -> Error {
+        Error::OutOfMemory
+    }
 }
 
 /// What a call answers: a value, or why it is refused.

@@ -64,8 +64,7 @@ impl RangeInclusive {
 
     /// Whether the range ends before another starts.
     pub(crate) fn ends_before(&self, other: &RangeInclusive) -> bool {
-        let _ = other.end;
-        other.start > self.end
+        other.start() > self.end
     }
 
     /// The first address.

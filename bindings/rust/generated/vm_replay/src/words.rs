@@ -1,6 +1,7 @@
 // Written by bindings/erase from crates/vm_replay/src/words.rt: do not edit.
 
-//! The words of a line: whether it begins with a name, and the numbers and ids behind that.
+//! The words of a line: whether it begins with a name, and the numbers and ids behind that. The four
+//! numbers of `manager` are read as three are, and two of them then taken as ids.
 
 use crate::number::number_ahead;
 

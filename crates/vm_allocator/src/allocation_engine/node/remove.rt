@@ -99,7 +99,7 @@ impl InnerNode {
 
 /// Removes the node with a key from below the node at a place, if there is one; says what
 /// changed there.
-#[tactic(auto, using(crate::proofs::Blocks::Replacement::removals, crate::proofs::Blocks::Replacement::leavings, crate::proofs::Nodes::SideChange::takes, crate::proofs::Counts::WayCases::ways_to_remove))]
+#[tactic(auto, using(crate::proofs::Nodes::SideChange::deletions, crate::proofs::Counts::WayCases::ways_to_remove))]
 pub(crate) fn delete_at(at: &mut Child, key: &RangeInclusive, count: &mut u64) -> Change
     requires { count.old + height_of (side at.old) ≤ MAX }
     ensures blocks { blocks (side at.new) ≡ replace_block key.now [] (blocks (side at.old)) }

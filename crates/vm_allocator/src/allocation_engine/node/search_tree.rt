@@ -36,7 +36,7 @@ impl InnerNode {
         ensures count { count.new ≡ count.old + way_down (root_block leaf.value).key tree.value }
     {
         let mut at = Some(tree);
-        let _ = link_at(&mut at, leaf, count);
+        link_at(&mut at, leaf, count);
         let Some(tree) = at else { unreachable!() };
         tree
     }
@@ -85,7 +85,7 @@ impl InnerNode {
         ensures count { count.new ≡ count.old + way_to_remove key.now tree.value }
     {
         let mut at = Some(tree);
-        let _ = delete_at(&mut at, key, count);
+        delete_at(&mut at, key, count);
         let _ = height(&at);
         at
     }

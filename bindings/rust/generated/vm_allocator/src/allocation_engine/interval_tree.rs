@@ -14,7 +14,7 @@ use super::node::walks::Walk;
 use super::node::walks::copying::copy;
 use super::node::{Child, InnerNode};
 use crate::constraint::Constraint;
-use crate::error::{Error, Result};
+use crate::error::Result;
 use crate::range::RangeInclusive;
 use rattle::Global;
 
@@ -35,13 +35,11 @@ impl IntervalTree {
     /// one node.
     pub fn new(alloc: Global, key: RangeInclusive) -> Result<Self> {
         let _ = key.end();
-        let Ok(node) = Box::new(alloc, InnerNode::new(key, NodeState::Free)) else {
-            return Err(Error::OutOfMemory);
-        };
+        let node = Box::new(alloc, InnerNode::new(key, NodeState::Free))?;
         Ok(IntervalTree { root: Some(node) })
     }
 
-    /// A copy, node for node.
+    /// A copy, node for node, for `AddressAllocator` alone: who has a tree can make another.
     pub(crate) fn try_clone(&self, alloc: Global) -> Result<Self> {
         Ok(IntervalTree {
             root: Some(copy(self.root(), alloc)?),
@@ -66,14 +64,20 @@ impl IntervalTree {
         self.root().height()
     }
 
-    /// `allocate`, which adds the nodes that it enters to a count.
+    /// For the prover alone: what holds of every tree of a space is known from here on.
+    #[inline(always)]
+    pub(crate) fn known(&self) {
+        let _ = self.height();
+    }
+
+    /// `allocate`, which adds the nodes that it enters to a counter at 0.
     fn grant(
         &mut self,
         alloc: Global,
         constraint: Constraint,
         count: &mut u64,
     ) -> Result<RangeInclusive> {
-        let _ = self.height();
+        self.known();
         let choice = self.place_for(constraint, count)?;
         self.hold(alloc, choice, count)
     }
@@ -84,7 +88,6 @@ impl IntervalTree {
         alloc: Global,
         constraint: Constraint,
     ) -> (Result<RangeInclusive>, u64) {
-        let _ = self.height();
         let mut count = 0;
         let answer = self.grant(alloc, constraint, &mut count);
         (answer, count)
@@ -96,13 +99,12 @@ impl IntervalTree {
     /// 48 or more, and `OutOfMemory`. A refusal changes nothing.
     pub fn allocate(&mut self, alloc: Global, constraint: Constraint) -> Result<RangeInclusive> {
         let answer = self.allocate_counted(alloc, constraint).0;
-        let _ = self.height();
+        self.known();
         answer
     }
 
     /// `free`, and how many nodes it entered.
     pub(crate) fn free_counted(&mut self, key: &RangeInclusive) -> (Result<()>, u64) {
-        let _ = self.height();
         let mut count = 0;
         let answer = self.release(key, &mut count);
         (answer, count)
@@ -111,8 +113,6 @@ impl IntervalTree {
     /// Gives a held range back, and joins its addresses with the clear ones on both sides. Any other
     /// range is `ResourceNotAvailable`. It takes no memory, and a refusal changes nothing.
     pub fn free(&mut self, key: &RangeInclusive) -> Result<()> {
-        let answer = self.free_counted(key).0;
-        let _ = self.height();
-        answer
+        self.free_counted(key).0
     }
 }

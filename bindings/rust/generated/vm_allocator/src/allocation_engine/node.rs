@@ -59,8 +59,8 @@ impl InnerNode {
         }
     }
 
-    /// A node over children whose heights are at most one apart, and between whose keys its own lies.
-    /// `OutOfMemory` where there is no memory for it.
+    /// A node over children whose heights are at most one apart, and between whose keys its own lies,
+    /// with what it keeps computed over them. `OutOfMemory` where there is no memory for it.
     pub(crate) fn with_children(
         alloc: Global,
         left: Child,
@@ -68,10 +68,8 @@ impl InnerNode {
         node_state: NodeState,
         right: Child,
     ) -> Result<Box<InnerNode>> {
-        match Box::new(alloc, InnerNode::new(key, node_state)) {
-            Ok(middle) => Ok(fork(left, middle, right)),
-            Err(_) => Err(Error::OutOfMemory),
-        }
+        let middle = Box::new(alloc, InnerNode::new(key, node_state))?;
+        Ok(fork(left, middle, right))
     }
 
     /// The key of this node.

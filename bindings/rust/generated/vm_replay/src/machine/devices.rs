@@ -1,6 +1,7 @@
 // Written by bindings/erase from crates/vm_replay/src/machine/devices.rt: do not edit.
 
-//! What a line does to the devices.
+//! What a line does to the devices, one more part beside the space and the ids, by the very relations
+//! that the calls of the manager ensure.
 
 use super::Machine;
 use crate::command::Command;

@@ -27,8 +27,5 @@ pub(crate) fn copy(tree: &InnerNode, alloc: Global) -> Result<Box<InnerNode>>
         height: tree.height,
         max_free: tree.max_free,
     };
-    match Box::new(alloc, node) {
-        Ok(node) => Ok(node),
-        Err(_) => Err(Error::OutOfMemory),
-    }
+    Ok(Box::new(alloc, node)?)
 }

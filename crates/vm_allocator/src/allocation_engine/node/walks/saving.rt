@@ -6,7 +6,7 @@ ghost use Rattle.vm_allocator.specs.Checks.ValueParts.{NodeParts};
 ghost use Rattle.vm_allocator.specs.Saving.{Saves};
 
 use crate::allocation_engine::node::InnerNode;
-use crate::error::{Error, Result};
+use crate::error::Result;
 use serde_json::{Value, json};
 use std::alloc::{AllocError, Global};
 
@@ -25,10 +25,7 @@ pub(crate) fn save(tree: &InnerNode, alloc: Global) -> Result<Value>
     };
     let key = tree.key.to_value(alloc)?;
     let state = tree.node_state.to_value(alloc)?;
-    match save_node(alloc, key, state, left, right, tree.height) {
-        Ok(node) => Ok(node),
-        Err(_) => Err(Error::OutOfMemory),
-    }
+    Ok(save_node(alloc, key, state, left, right, tree.height)?)
 }
 
 /// The object of a node's fields.

@@ -13,7 +13,7 @@ use crate::error::{Error, Result};
 use crate::range::RangeInclusive;
 
 impl IntervalTree {
-    /// `free`, which adds the nodes that it enters to a count.
+    /// `free`, which adds the nodes that it enters to a counter at 0.
     pub(super) fn release(&mut self, key: &RangeInclusive, count: &mut u64) -> Result<()> {
         let Some(beside) = self.root().neighbours(key, count) else {
             return Err(Error::ResourceNotAvailable);

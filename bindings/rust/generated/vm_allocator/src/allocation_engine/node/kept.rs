@@ -7,7 +7,9 @@
 //! is read at once (`kept_of`), and the own block looked at last: each read with its own look whether
 //! the child is there cost 4 % of the instructions of `exact`. The count is a byte beside the state,
 //! so that a node has 72 bytes, and takes a logarithm; the word that it is the logarithm of would
-//! make them 80.
+//! make them 80. At 10^4 ranges (callgrind, against the version before) the count takes 0.7 % of the
+//! instructions of `exact`, 3.8 % of `first` and 8.1 % of `devices`, and `mixed` has a 25th of the
+//! time.
 
 use super::Child;
 use crate::allocation_engine::NodeState;
@@ -22,7 +24,8 @@ pub(super) struct Room {
     pub(super) alignments: u8,
 }
 
-/// What changed of what a node keeps.
+/// What changed of what a node keeps. A removal looks at the height wherever anything changed: to spare
+/// that, as a split does, cost 5 % of the instructions of `exact`.
 #[derive(Clone, Copy, Debug)]
 pub(crate) enum Change {
     /// Nothing.

@@ -22,7 +22,7 @@ impl InnerNode {
         count: &mut u64,
     ) -> Box<InnerNode> {
         let mut at = Some(tree);
-        let _ = link_at(&mut at, leaf, count);
+        link_at(&mut at, leaf, count);
         let Some(tree) = at else { unreachable!() };
         tree
     }
@@ -54,7 +54,7 @@ impl InnerNode {
         count: &mut u64,
     ) -> Option<Box<InnerNode>> {
         let mut at = Some(tree);
-        let _ = delete_at(&mut at, key, count);
+        delete_at(&mut at, key, count);
         let _ = height(&at);
         at
     }

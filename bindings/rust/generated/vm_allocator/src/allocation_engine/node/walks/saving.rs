@@ -3,7 +3,7 @@
 //! The saved form of trees.
 
 use crate::allocation_engine::node::InnerNode;
-use crate::error::{Error, Result};
+use crate::error::Result;
 use rattle::{Value, json};
 use rattle::{AllocError, Global};
 
@@ -19,10 +19,7 @@ pub(crate) fn save(tree: &InnerNode, alloc: Global) -> Result<Value> {
     };
     let key = tree.key.to_value(alloc)?;
     let state = tree.node_state.to_value(alloc)?;
-    match save_node(alloc, key, state, left, right, tree.height) {
-        Ok(node) => Ok(node),
-        Err(_) => Err(Error::OutOfMemory),
-    }
+    Ok(save_node(alloc, key, state, left, right, tree.height)?)
 }
 
 /// The object of a node's fields.
