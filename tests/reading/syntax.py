@@ -260,7 +260,7 @@ class Reader:
     def take_conversions(self, earlier):
         """Takes out what a `?` calls without a word: it may do nothing but name its answer."""
         for function in self.module.functions[earlier:]:
-            if not isinstance(function.body, Path):
+            if not all(isinstance(form, Path) for form in function.body.statements):
                 raise function.at.refused("a conversion that does more than to name its answer")
         del self.module.functions[earlier:]
 
