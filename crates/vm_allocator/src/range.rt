@@ -113,6 +113,14 @@ impl RangeInclusive {
         other.start() > self.end
     }
 
+    /// For the prover alone: that the ends are those of a range is known from here on.
+    #[inline(always)]
+    pub(crate) fn known(&self)
+        ensures { IsRange self.now.start self.now.end }
+    {
+        let _ = self.end();
+    }
+
     /// The first address.
     pub fn start(&self) -> u64
         ensures value { result ≡ self.now.start }
@@ -140,11 +148,9 @@ impl Ord for RangeInclusive {
     ghost matches_eq = { Prim.search (comparing, rules) };
 
     /// By start, then by end.
+    #[tactic(auto, using(crate::proofs::Comparing::Orders::by_order))]
     fn cmp(&self, other: &RangeInclusive) -> Ordering {
-        match self.start.cmp(&other.start) {
-            Ordering::Equal => self.end.cmp(&other.end),
-            unequal => unequal,
-        }
+        self.order(other)
     }
 }
 

@@ -5,12 +5,12 @@
 //! A counted call is a counter at 0, what takes the counter (`grant`, `release`), and the counter; a
 //! plain call is the counted one without the count. So that the counter has room, as a tree of height
 //! 49 has fewer than 2^49 nodes, is shown once, and no caller has a condition.
-ghost use Rattle.std.specs.Prelude.{◌≡◌, ◌+◌, ◌*◌, ◌≤◌, OnErr, IfOk};
-ghost use Rattle.vm_allocator.specs.Range.{MAX};
+ghost use Rattle.std.specs.Prelude.{◌≡◌, ◌↔◌, IsTrue, length, OnErr, IfOk};
+ghost use Rattle.std.specs.List.{Contains};
 ghost use Rattle.vm_allocator.specs.Address.{IsAddressState};
 ghost use Rattle.vm_allocator.specs.Answer.{Grants, Frees};
 ghost use Rattle.vm_allocator.specs.Cloning.{Clones};
-ghost use Rattle.vm_allocator.specs.Tree.Shape.{blocks, height_of, node_count, IsTree};
+ghost use Rattle.vm_allocator.specs.Tree.Shape.{blocks, height_of, IsTree};
 ghost use Rattle.vm_allocator.specs.Counts.GapSearch.{SearchesGaps, SearchesAligned};
 ghost use Rattle.vm_allocator.specs.Counts.Steps.{Enters, EntersToFree, IsBalancedTreeOf, IsGrantCount, IsReleaseCount, SplitsIfLow};
 ghost use Rattle.vm_allocator.specs.Tree.SpaceTree.{tree_state, IsSpaceTree, MakesTree};
@@ -18,6 +18,7 @@ ghost use Rattle.vm_allocator.specs.Tree.SpaceTree.{tree_state, IsSpaceTree, Mak
 use super::NodeState;
 use super::node::walks::Walk;
 use super::node::walks::copying::copy;
+use super::node::walks::held::{count_held, has_held};
 use super::node::{Child, InnerNode};
 use crate::constraint::Constraint;
 use crate::error::Result;
@@ -26,7 +27,6 @@ use std::alloc::Global;
 use std::marker::Model;
 
 mod comparing;
-mod held;
 mod holding;
 pub(crate) mod placing;
 mod release;
@@ -62,7 +62,7 @@ impl IntervalTree {
         ensures answer { MakesTree key result }
         ensures state { IfOk result (λ tree. IsAddressState (tree_state tree)) }
     {
-        let _ = key.end();
+        key.known();
         let node = Box::new(alloc, InnerNode::new(key, NodeState::Free))?;
         Ok(IntervalTree { root: Some(node) })
     }
@@ -81,6 +81,21 @@ impl IntervalTree {
         ensures { result ≡ blocks self.now }
     {
         Walk::over(&self.root)
+    }
+
+    /// Whether exactly this range is held.
+    #[tactic(auto, using(crate::proofs::Releasing::Finding::held_by_key))]
+    pub(crate) fn holds(&self, key: &RangeInclusive) -> bool
+        ensures { IsTrue result ↔ Contains (tree_state self.now).held key.now }
+    {
+        has_held(&self.root, key)
+    }
+
+    /// How many ranges are held.
+    pub(crate) fn held_count(&self) -> u64
+        ensures { result ≡ length (tree_state self.now).held }
+    {
+        count_held(&self.root)
     }
 
     /// The root, which is always there.

@@ -144,6 +144,15 @@ impl InnerNode {
     }
 }
 
+/// For the prover alone: what holds of the tree at a place is known from here on.
+#[inline(always)]
+fn known(child: &Child)
+    ensures tree { IsTree (side child.now) }
+    ensures absent { IsNone child.now ↔ (side child.now ≡ Tip) }
+{
+    let _ = height(child);
+}
+
 /// The height of a child, 0 where it is absent.
 #[inline(always)]
 pub(crate) fn height(child: &Child) -> u64

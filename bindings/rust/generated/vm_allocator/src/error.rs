@@ -53,13 +53,13 @@ pub enum Error {
 }
 
 impl From<AllocError> for Error {
-    fn from(_: AllocError) -> Error {
+    fn from(_error: AllocError) -> Error {
         Error::OutOfMemory
     }
 }
 
 impl<T> From<AllocFailed<T>> for Error {
-    fn from(_: AllocFailed<T>) -> Error {
+    fn from(_error: AllocFailed<T>) -> Error {
         Error::OutOfMemory
     }
 }

@@ -67,6 +67,12 @@ impl RangeInclusive {
         other.start() > self.end
     }
 
+    /// For the prover alone: that the ends are those of a range is known from here on.
+    #[inline(always)]
+    pub(crate) fn known(&self) {
+        let _ = self.end();
+    }
+
     /// The first address.
     pub fn start(&self) -> u64 {
         self.start
@@ -81,10 +87,7 @@ impl RangeInclusive {
 impl Ord for RangeInclusive {
     /// By start, then by end.
     fn cmp(&self, other: &RangeInclusive) -> Ordering {
-        match self.start.cmp(&other.start) {
-            Ordering::Equal => self.end.cmp(&other.end),
-            unequal => unequal,
-        }
+        self.order(other)
     }
 }
 

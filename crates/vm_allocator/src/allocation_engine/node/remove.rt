@@ -11,7 +11,7 @@ ghost use Rattle.vm_allocator.specs.Engine.NodeFields.{side};
 
 use super::balance::{balance, settle};
 use super::kept::Change;
-use super::{Child, InnerNode, height};
+use super::{Child, InnerNode, known};
 use crate::range::RangeInclusive;
 use std::cmp::Ordering;
 
@@ -31,7 +31,7 @@ fn take_least_at(at: &mut Child, count: &mut u64) -> (Box<InnerNode>, Change)
     tree.enter(count);
     if tree.left.is_none() {
         let (_, right) = tree.strip();
-        let _ = height(&right);
+        known(&right);
         let Some(least) = at.take() else {
             unreachable!()
         };
@@ -65,7 +65,8 @@ pub(super) fn join(left: Child, mut right: Child, count: &mut u64) -> Child
     ensures joins { Joins (side left) (side right) (side result) }
     ensures count { count.new ≡ count.old + way_to_join (side left) (side right) }
 {
-    let _ = (height(&left), height(&right));
+    known(&left);
+    known(&right);
     if right.is_none() {
         return left;
     }
@@ -92,7 +93,7 @@ impl InnerNode {
     {
         let InnerNode { left, right, .. } = Box::into_inner(tree);
         let joined = join(left, right, count);
-        let _ = height(&joined);
+        known(&joined);
         joined
     }
 }

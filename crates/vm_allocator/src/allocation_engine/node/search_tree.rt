@@ -13,7 +13,7 @@ ghost use Rattle.vm_allocator.specs.Engine.NodeFields.{side};
 use super::kept::{Change, kept_of, refresh_room, room_of};
 use super::link::link_at;
 use super::remove::{delete_at, join};
-use super::{InnerNode, height};
+use super::{InnerNode, known};
 use crate::allocation_engine::NodeState;
 use crate::error::{Error, Result};
 use crate::range::RangeInclusive;
@@ -86,7 +86,7 @@ impl InnerNode {
     {
         let mut at = Some(tree);
         delete_at(&mut at, key, count);
-        let _ = height(&at);
+        known(&at);
         at
     }
 

@@ -12,6 +12,7 @@ use rattle::Box;
 use super::NodeState;
 use super::node::walks::Walk;
 use super::node::walks::copying::copy;
+use super::node::walks::held::{count_held, has_held};
 use super::node::{Child, InnerNode};
 use crate::constraint::Constraint;
 use crate::error::Result;
@@ -19,7 +20,6 @@ use crate::range::RangeInclusive;
 use rattle::Global;
 
 mod comparing;
-mod held;
 mod holding;
 pub(crate) mod placing;
 mod release;
@@ -34,7 +34,7 @@ impl IntervalTree {
     /// The tree of the space `key`, with nothing held. `OutOfMemory` where there is no memory for its
     /// one node.
     pub fn new(alloc: Global, key: RangeInclusive) -> Result<Self> {
-        let _ = key.end();
+        key.known();
         let node = Box::new(alloc, InnerNode::new(key, NodeState::Free))?;
         Ok(IntervalTree { root: Some(node) })
     }
@@ -49,6 +49,16 @@ impl IntervalTree {
     /// The walk over the blocks.
     pub(crate) fn walk(&self) -> Walk<'_> {
         Walk::over(&self.root)
+    }
+
+    /// Whether exactly this range is held.
+    pub(crate) fn holds(&self, key: &RangeInclusive) -> bool {
+        has_held(&self.root, key)
+    }
+
+    /// How many ranges are held.
+    pub(crate) fn held_count(&self) -> u64 {
+        count_held(&self.root)
     }
 
     /// The root, which is always there.

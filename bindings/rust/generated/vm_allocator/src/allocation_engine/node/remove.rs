@@ -7,7 +7,7 @@
 use rattle::Box;
 use super::balance::{balance, settle};
 use super::kept::Change;
-use super::{Child, InnerNode, height};
+use super::{Child, InnerNode, known};
 use crate::range::RangeInclusive;
 use core::cmp::Ordering;
 
@@ -19,7 +19,7 @@ fn take_least_at(at: &mut Child, count: &mut u64) -> (Box<InnerNode>, Change) {
     tree.enter(count);
     if tree.left.is_none() {
         let (_, right) = tree.strip();
-        let _ = height(&right);
+        known(&right);
         let Some(least) = at.take() else {
             unreachable!()
         };
@@ -45,7 +45,8 @@ fn take_least_at(at: &mut Child, count: &mut u64) -> (Box<InnerNode>, Change) {
 /// What is left of a tree without its root, from the root's children: the other child where one is
 /// absent, and else both below the least node of the right one.
 pub(super) fn join(left: Child, mut right: Child, count: &mut u64) -> Child {
-    let _ = (height(&left), height(&right));
+    known(&left);
+    known(&right);
     if right.is_none() {
         return left;
     }
@@ -63,7 +64,7 @@ impl InnerNode {
     pub(crate) fn delete_root(tree: Box<InnerNode>, count: &mut u64) -> Option<Box<InnerNode>> {
         let InnerNode { left, right, .. } = Box::into_inner(tree);
         let joined = join(left, right, count);
-        let _ = height(&joined);
+        known(&joined);
         joined
     }
 }
