@@ -131,8 +131,8 @@ pub(super) fn fork(left: Child, mut middle: Box<InnerNode>, right: Child) -> Box
     middle
 }
 
-/// The rotations where the left side is two levels higher: a single one, or a double one where the
-/// inner grandchild is the higher.
+/// Rotates to the right, where the left side is two levels higher: once, or twice where the inner
+/// grandchild is the higher.
 #[tactic(auto, using(crate::proofs::Blocks::BlockOrder::rotations))]
 fn rotate_right(mut left: Box<InnerNode>, middle: Box<InnerNode>, right: Child) -> Box<InnerNode>
     requires leaf { IsLeaf middle.value }
@@ -173,7 +173,7 @@ fn rotate_right(mut left: Box<InnerNode>, middle: Box<InnerNode>, right: Child) 
     inner
 }
 
-/// The rotations where the right side is two levels higher, the mirror image.
+/// Rotates to the left, where the right side is two levels higher: the mirror image.
 #[tactic(auto, using(crate::proofs::Blocks::BlockOrder::rotations))]
 fn rotate_left(left: Child, middle: Box<InnerNode>, mut right: Box<InnerNode>) -> Box<InnerNode>
     requires leaf { IsLeaf middle.value }

@@ -17,7 +17,7 @@ ghost use Rattle.vm_allocator.specs.Engine.NodeFields.{side};
 use super::balance::settle;
 use super::kept::{Change, kept_of, renew_room, room_of};
 use super::link::link_at;
-use super::{Child, InnerNode, height};
+use super::{Child, InnerNode, known};
 use crate::allocation_engine::NodeState;
 use crate::range::RangeInclusive;
 use std::cmp::Ordering;
@@ -55,7 +55,7 @@ fn link_if(child: &mut Child, leaf: Child, count: &mut u64)
     ensures grows { Grows (side child.old) (side child.new) Change.Height }
     ensures count { count.new ≡ count.old + way_to_link (side leaf) (side child.old) }
 {
-    let _ = height(child);
+    known(child);
     if let Some(leaf) = leaf {
         link_at(child, leaf, count);
     }

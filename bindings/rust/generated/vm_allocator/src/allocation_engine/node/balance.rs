@@ -91,8 +91,8 @@ pub(super) fn fork(left: Child, mut middle: Box<InnerNode>, right: Child) -> Box
     middle
 }
 
-/// The rotations where the left side is two levels higher: a single one, or a double one where the
-/// inner grandchild is the higher.
+/// Rotates to the right, where the left side is two levels higher: once, or twice where the inner
+/// grandchild is the higher.
 fn rotate_right(mut left: Box<InnerNode>, middle: Box<InnerNode>, right: Child) -> Box<InnerNode> {
     let higher = &mut *left;
     let inner = higher.right.take();
@@ -123,7 +123,7 @@ fn rotate_right(mut left: Box<InnerNode>, middle: Box<InnerNode>, right: Child) 
     inner
 }
 
-/// The rotations where the right side is two levels higher, the mirror image.
+/// Rotates to the left, where the right side is two levels higher: the mirror image.
 fn rotate_left(left: Child, middle: Box<InnerNode>, mut right: Box<InnerNode>) -> Box<InnerNode> {
     let higher = &mut *right;
     let inner = higher.left.take();

@@ -11,7 +11,7 @@
 use super::balance::settle;
 use super::kept::{Change, kept_of, renew_room, room_of};
 use super::link::link_at;
-use super::{Child, InnerNode, height};
+use super::{Child, InnerNode, known};
 use crate::allocation_engine::NodeState;
 use crate::range::RangeInclusive;
 use core::cmp::Ordering;
@@ -37,7 +37,7 @@ impl Rest {
 
 /// Links a leaf, if there is one, below a side.
 fn link_if(child: &mut Child, leaf: Child, count: &mut u64) {
-    let _ = height(child);
+    known(child);
     if let Some(leaf) = leaf {
         link_at(child, leaf, count);
     }
