@@ -81,7 +81,7 @@ impl RangeInclusive {
     }
 
     /// How the range compares with another, by start, then by end. It stops at the first difference.
-    #[tactic(auto, unfolding(crate::specs::RangeOrder::Before))]
+    #[tactic(auto, using(crate::proofs::Numbers::RangeCalls::orders))]
     pub(crate) fn order(&self, other: &RangeInclusive) -> Ordering
         ensures { MatchOrdering result (Before self.now other.now) (self.now ≡ other.now) (Before other.now self.now) }
     {

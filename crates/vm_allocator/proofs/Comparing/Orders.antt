@@ -12,6 +12,7 @@ use Rattle.vm_allocator.specs.Comparison.{rank, range_cmp-total, block_cmp, bloc
 use Rattle.vm_allocator.specs.Laws.AddressLaws.{RangesAreSets}
 use Rattle.vm_allocator.specs.declared.allocation_engine.NodeState.{NodeState}
 use Rattle.vm_allocator.specs.declared.allocation_engine.NodeState.TheVariants.{Free, Allocated}
+use Rattle.vm_allocator.proofs.Numbers.RangeCalls.{before_parts}
 use Rattle.vm_allocator.proofs.Blocks.OneList.{same_range, same_block}
 
 -- a total order by the standard library's word is one
@@ -46,19 +47,18 @@ by_starts a b o e = ap (λ (v : Ordering). ordering_then v (nat_cmp a.end b.end)
 
 -- which of two ranges comes first is what their order says
 pub ordered_is : (o : Ordering) (a b : Range) → MatchOrdering o (Before a b) (a ≡ b) (Before b a) → o ≡ range_cmp a b
-unfolding Before
 ordered_is Less a b h =
     ⊎_elim
     (λ (l : a.start < b.start). by_starts a b Less (nat_cmp_is a.start b.start Less l))
     (λ e. by_ends a b Less e.0 (nat_cmp_is a.end b.end Less e.1))
-    h
+    (before_parts a b h)
 ordered_is Equal a b h =
     by_ends a b Equal (ap (λ (v : Range). v.start) h) (nat_cmp_is a.end b.end Equal (ap (λ (v : Range). v.end) h))
 ordered_is Greater a b h =
     ⊎_elim
     (λ (l : b.start < a.start). by_starts a b Greater (nat_cmp_is a.start b.start Greater l))
     (λ e. by_ends a b Greater (sym e.0) (nat_cmp_is a.end b.end Greater e.1))
-    h
+    (before_parts b a h)
 
 pub ruleset by_order = (ordered_is)
 
