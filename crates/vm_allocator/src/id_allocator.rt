@@ -1,5 +1,5 @@
 //! Ids of one range: those handed out so far lie below the next one, and those given back stand in a
-//! set. So a call looks at no other id, and only giving back asks for memory.
+//! set, the least first. Only giving back and cloning ask for memory.
 ghost use Rattle.std.specs.Prelude.{◌≡◌, ℕ, ◌≤◌, ◌⊎◌, ◌↔◌, IsTrue, IsOk, OnErr, Ok, Err};
 ghost use Rattle.vm_allocator.specs.Cloning.{Clones};
 ghost use Rattle.vm_allocator.specs.Ids.{

@@ -1,7 +1,7 @@
 // Written by bindings/erase from crates/vm_allocator/src/id_allocator.rt: do not edit.
 
 //! Ids of one range: those handed out so far lie below the next one, and those given back stand in a
-//! set. So a call looks at no other id, and only giving back asks for memory.
+//! set, the least first. Only giving back and cloning ask for memory.
 
 use crate::error::{Error, Result};
 use rattle::Global;

@@ -26,13 +26,7 @@ impl InnerNode {
         self.key = key;
         self.node_state = node_state;
         let own = room_of(&key, node_state);
-        refresh_room(
-            left,
-            right,
-            own,
-            &mut self.max_free,
-            &mut self.alignments,
-        )
+        refresh_room(left, right, own, &mut self.max_free, &mut self.alignments)
     }
 
     /// Gives the node with key `at` another key, which keeps its place in the order, and another
