@@ -8,7 +8,7 @@ stands on, is written to OUT/NAME, as a package of a workspace that has OUT and 
 it. With --tests every crate is written, with its tests.
 
 What is cut: clauses, `ghost` items, members and fields, `#[tactic(..)]`, `impl Model`, `Drop` among
-the derives and as the bound of a parameter, laws (functions of nothing that do nothing), modules that are empty then, and tests unless
+the derives and as a bound, laws (functions of nothing that do nothing), modules that are empty then, and tests unless
 they are asked for. What is written: the line that says where a file comes from, the attributes of a
 crate, imports of what Rattle's prelude has and Rust's has not. What is changed: the front of a path, by
 the table FOLDERS, and the parameter `rt` of `main` and of tests, which becomes the first statement.
@@ -29,7 +29,7 @@ import types
 
 # Folders of libraries: the folder that stands for each, and what may be used of it. None: for proofs.
 FOLDERS = {
-    "std::alloc": ("rattle", {"AllocError", "Global"}),
+    "std::alloc": ("rattle", {"AllocError", "AllocFailed", "Global"}),
     "std::cmp": ("core::cmp", {"Ordering"}),
     "std::collections": ("rattle", {"BTreeMap", "BTreeSet"}),
     "std::io": ("std::io", {"Read", "Write"}),
@@ -65,15 +65,14 @@ METHODS = {
     "alloc", "and_then", "as_array", "as_object", "as_slice", "as_str", "as_u64", "checked_add", "checked_mul",
     "clone", "cmp", "contains", "copied", "copy_from_slice", "first", "first_chunk", "flush", "get", "ilog2", "insert",
     "into", "is_ascii_digit", "is_empty", "is_none", "is_null", "is_power_of_two", "is_some", "iter", "len", "max",
-    "min", "next", "ok", "ok_or", "pop_first", "push", "read", "remove", "saturating_add", "simd_eq", "stdin", "stdout",
-    "take", "to_bitmask", "trailing_zeros", "unwrap", "write_all",
+    "min", "next", "ok", "ok_or", "pop_first", "push", "read", "remove", "saturating_add", "simd_eq", "stdin",
+    "stdout", "take", "to_bitmask", "trailing_zeros", "unwrap", "write_all",
 }
 MACROS = {"json", "unreachable"}
 DERIVES = {"Clone", "Copy", "Debug", "Default", "Drop", "Eq", "Error", "Hash", "Ord", "PartialEq", "PartialOrd"}
 # No item of a crate may have one of these names, since the tables mean the libraries' own.
 TAKEN = (PRELUDE | NAMES | NUMBERS | {path.split("::")[0] for path in ASSOCIATED}) - {"Result"}
-TRAITS_OF_A_TYPE = {"From"}
-TRAITS = {"Eq", "Iterator", "Ord", "PartialEq", "PartialOrd"} | TRAITS_OF_A_TYPE
+TRAITS = {"Eq", "From", "Iterator", "Ord", "PartialEq", "PartialOrd"}
 TRAITS_OF_TESTS = {"Read", "Write"}
 ATTRIBUTES = {"allow", "cold", "default", "derive", "error", "inline"}
 KEYWORDS = set("""_ as bool break const continue crate else enum false fn for if impl in let loop match mod
@@ -336,11 +335,13 @@ class File(Tokens):
         behind = index + 1
         while not self.at(behind, ">"):
             token, before = self.tokens[behind], self.tokens[behind - 1].text
+            if self.at(behind, ":", "Drop"):  # a bound that every type of Rust's meets
+                self.cut(behind, behind + 2)
+                behind += 2
+                continue
             if token.kind == "mark" and token.text not in (",", ":", "+"):
                 self.fail("parameters of this form", token.start)
-            if before == ":" and token.text == "Drop" and self.tokens[behind + 1].text in (",", ">"):
-                self.cut(behind - 1, behind + 1)
-            elif before in (":", "+"):
+            if before in (":", "+"):
                 self.uses.append((token.start, "a type", token.text))
             elif token.kind == "word" and token.text not in ("_", "const"):
                 self.define(behind, self.generics)
@@ -466,11 +467,13 @@ class File(Tokens):
 
     def implementation(self, item):
         index = self.angles(item.keyword + 1)
-        of_type = self.at(index + 1, "<") and self.tokens[index].text in TRAITS_OF_A_TYPE
-        behind = index + (4 if of_type else 1)
+        behind = index + 1
+        if self.at(index, "From", "<"):  # the one trait that is of a type
+            while self.tokens[behind].text not in ("for", "{"):
+                if self.tokens[behind].kind == "word":
+                    self.uses.append((self.start_of(behind), "a type", self.tokens[behind].text))
+                behind += 1
         trait = self.tokens[index].text if self.at(behind, "for") else None
-        if trait and of_type:
-            self.uses.append((self.start_of(index + 2), "a type", self.tokens[index + 2].text))
         index = behind + 1 if trait else index
         name = self.tokens[index].text
         self.uses.append((self.start_of(index), "a type", name))

@@ -23,6 +23,7 @@ CHANGED = [
     ("std::simd::prelude::", "rattle::simd::"),
     ("serde_json::", "rattle::"),
     ("thiserror::", "rattle::"),
+    ("<T: Drop>", "<T>"),
     ("fn main(rt: HostRuntime) -> ExitCode {", "fn main() -> ExitCode { let rt = HostRuntime;"),
 ]
 PRELUDE = ("Box", "HostRuntime", "Vec")

@@ -28,6 +28,7 @@ UNSEEN = {
     "closure_behind_a_reference": "it follows no box",
     "closure_in_an_arm": "it follows no box",
     "closure_that_moves": "it follows no box",
+    "conversion_that_does_something": "it follows no box",
     "function_that_counts_by_its_name": "it is the same call",
     "loop_in_a_range": "it follows no box",
     "loop_outside_node": "it follows no box",

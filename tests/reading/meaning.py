@@ -14,7 +14,8 @@ OF_NUMBERS = {
     "checked_add": Type("Option", (Type("u64"),)), "ilog2": Type("u32"), "is_power_of_two": Type("bool"),
     "max": "same", "min": "same", "trailing_zeros": Type("u32"),
 }
-OF_OPTIONS = {"is_none": Type("bool"), "is_some": Type("bool"), "take": "same"}
+# What `ok_or` makes is tried as the option is.
+OF_OPTIONS = {"is_none": Type("bool"), "is_some": Type("bool"), "ok_or": "same", "take": "same"}
 # Functions of the standard library: what they answer, their first argument's type where it says 'same'.
 OUTSIDE = {
     "Box::new": Type("Result", ("same", Type("AllocError"))), "Box::into_inner": "same",

@@ -232,24 +232,37 @@ class Reader:
         self.take()
         self.expect(";")
 
-    def no_parameters(self):
-        """Passes over lifetimes; a type as a parameter is refused."""
+    def no_parameters(self, but_dropped=False):
+        """Passes over lifetimes; a type as a parameter is refused, but for one that is only dropped."""
         if self.accept("<"):
             while not self.accept(">"):
-                if self.word.kind != "lifetime" and not self.is_at(","):
+                if but_dropped and self.ahead(1) == ":" and self.ahead(2) == "Drop":
+                    self.take(), self.take()
+                elif self.word.kind != "lifetime" and not self.is_at(","):
                     raise self.word.refused("a parameter that is no lifetime")
                 self.take()
 
     def impl(self):
-        self.no_parameters()
+        self.no_parameters(but_dropped=True)
         owner = self.type()
-        if self.accept("for"):
-            if owner.name not in TRAITS:
-                raise self.word.refused(f"an impl of the trait {owner.name}")
+        trait = owner.name if self.accept("for") else None
+        if trait:
+            if trait not in TRAITS:
+                raise self.word.refused(f"an impl of the trait {trait}")
             owner = self.type()
         self.expect("{")
+        earlier = len(self.module.functions)
         while not self.accept("}"):
             self.item(owner.name)
+        if trait == "From":
+            self.take_conversions(earlier)
+
+    def take_conversions(self, earlier):
+        """Takes out what a `?` calls without a word: it may do nothing but name its answer."""
+        for function in self.module.functions[earlier:]:
+            if not all(isinstance(form, Path) for form in function.body.statements):
+                raise function.at.refused("a conversion that does more than to name its answer")
+        del self.module.functions[earlier:]
 
     def function(self, owner):
         at, name = self.word, self.name()

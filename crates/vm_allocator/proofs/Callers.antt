@@ -26,7 +26,7 @@ use Rattle.vm_allocator.proofs.Answers.Outcomes.{allocates_outcome}
 use Rattle.vm_allocator.proofs.Reading.ReadAllocators.{one_allocator, stated_state as stated_addresses}
 use Rattle.vm_allocator.proofs.Reading.ReadIdStates.{one_stated, stated_state as stated_ids}
 -- a list of held ranges or ids, no two the same, has all of them exactly if it has as many as are held
-pub use Rattle.vm_allocator.proofs.Blocks.HeldLists.{slots_listed}
+pub use Rattle.vm_allocator.proofs.Blocks.HeldLists.{ranges_listed}
 pub use Rattle.vm_allocator.proofs.Ids.IdCounts.{ids_listed}
 -- the range that a value states is what is found of it
 pub use Rattle.vm_allocator.proofs.Reading.ReadRanges.{found-states, states-found}
@@ -118,13 +118,13 @@ released_clear : (old : AddressState) (r : Range) → IsAddressState old → IsH
 released_clear old r i h x low high =
     let lo = old.space.start in
     let hi = old.space.end in
-    let l = held_lies lo hi old.held r i.slots h in
+    let l = held_lies lo hi old.held r i.in_order h in
     let inside : IsIn r x = (low, omega (arith, l.1, high)) in (
       (omega (arith, l.0, low), omega (arith, l.2, inside.1)),
       all_miss (without_range r old.held) x (λ k.
           let q = range_of (without_range r old.held) x k in
-          not_held_without lo hi r q.0 old.held i.slots q.1
-          (one_held lo hi x old.held r q.0 i.slots h (held_without r q.0 old.held q.1) inside q.2)),
+          not_held_without lo hi r q.0 old.held i.in_order q.1
+          (one_held lo hi x old.held r q.0 i.in_order h (held_without r q.0 old.held q.1) inside q.2)),
     )
 
 -- so it is given again, unless the split is refused
@@ -132,7 +132,7 @@ pub given_again : (old mid new : AddressState) (r : Range) (freed : Result (Unit
 unfolding Frees Takes IsPlace IsChosen IsStartAligned IsAlignment
 given_again old mid new r freed answer i c f h =
     let held = held_contains old.held r c in
-    let l = held_lies old.space.start old.space.end old.held r i.slots held in
+    let l = held_lies old.space.start old.space.end old.held r i.in_order held in
     let left : mid ≡ releasing r old = ⊎_elim (λ k. k.1.1) (λ k. absurd (k.0 c)) f in
     let request = request_for (address_count r) 1 (ExactMatch r.start) in
     let one : r.start % 1 ≡ 0 = grind arith in

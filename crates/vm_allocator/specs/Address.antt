@@ -61,12 +61,12 @@ abbrev pub releasing : Range → AddressState → AddressState
 releasing r state = record state { held = without_range r state.held }
 
 -- from lo to hi the ranges stand in order with no address in common, and none contains MAX
-abbrev pub AreSlots : ℕ → List Range → ℕ → Type 0
-AreSlots lo [] hi = Unit {0}
-AreSlots lo (r ∷ rs) hi =
-    (lo ≤ r.start) × (r.start ≤ r.end) × (r.end ≤ hi) × (r.end < MAX) × AreSlots (r.end + 1) rs hi
+abbrev pub StandInOrder : ℕ → List Range → ℕ → Type 0
+StandInOrder lo [] hi = Unit {0}
+StandInOrder lo (r ∷ rs) hi =
+    (lo ≤ r.start) × (r.start ≤ r.end) × (r.end ≤ hi) × (r.end < MAX) × StandInOrder (r.end + 1) rs hi
 
 -- the space is a range, and the held ranges lie apart in it and do not contain MAX
 pub record IsAddressState (state : AddressState) : Type 0 where
   pub space : IsRange state.space.start state.space.end
-  pub slots : AreSlots state.space.start state.held state.space.end
+  pub in_order : StandInOrder state.space.start state.held state.space.end

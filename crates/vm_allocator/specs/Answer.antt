@@ -18,7 +18,8 @@ IsChosen request state s =
     (λ start. (s ≡ start) × IsPlace request.size request.align state s)
 
 -- The faults of a request for n addresses from the start t on, by the first that applies: the start is MAX; it is
--- outside the space; the range passes MAX; the range is a held one; an address of it is not clear; it ends at MAX.
+-- outside the space; the range passes MAX; the range is a held one; an address of it is not clear; it ends at MAX. The
+-- last two follow from the places too, and stand here so that this reads as the documentation does.
 unfoldable pub ByStart : ℕ → ℕ → AddressState → (Error → Type 0) → Type 0 → Type 0
 ByStart t n state refused otherwise =
     IfElse (t ≡ MAX) (refused Overflow) (
@@ -41,7 +42,7 @@ ByPlace request state refused takes =
     ⊎ ((s : ℕ) × IsChosen request state s ×
     IfElse (s + request.size - 1 ≡ MAX) (refused Overflow) (takes (span s request.size)))
 
--- the fewest held ranges with which a split may be refused for the depth of a tree
+-- the fewest held ranges with which a split may be refused for the depth of a tree: F(50) less one, halved
 abbrev pub FEWEST_TOO_DEEP : ℕ
 FEWEST_TOO_DEEP = 6_293_134_512
 
@@ -58,15 +59,15 @@ Takes old r answer new =
     ⊎ (LeavesClear old r × (new ≡ old) × IsSplitRefusal old answer)
 
 -- the answer to a request that makes sense
-unfoldable pub Settles : AddressState → Request → Result Range Error → AddressState → Type 0
-Settles old request answer new =
+unfoldable pub Grants : AddressState → Request → Result Range Error → AddressState → Type 0
+Grants old request answer new =
     let refused : Error → Type 0 = λ e. (answer ≡ Err e) × (new ≡ old) in
     ByExactStart request old refused (ByPlace request old refused (λ r. Takes old r answer new))
 
 -- the answer to a request: a refusal changes nothing
 unfoldable pub Allocates : AddressState → Request → Result Range Error → AddressState → Type 0
 Allocates old request answer new =
-    ByConstraint request (λ e. (answer ≡ Err e) × (new ≡ old)) (Settles old request answer new)
+    ByConstraint request (λ e. (answer ≡ Err e) × (new ≡ old)) (Grants old request answer new)
 
 -- a request that makes sense and whose chosen place, s, ends below MAX and leaves nothing clear beside it
 pub record FillsGap (state : AddressState) (request : Request) (s : ℕ) : Type 0 where

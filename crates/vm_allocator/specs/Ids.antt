@@ -57,11 +57,11 @@ IsLeastNotHeld state i = IsNotHeld state i × ((j : ℕ) → IsNotHeld state j �
 unfoldable pub AreAllHeld : IdState → Type 0
 AreAllHeld state = (i : ℕ) → IsOfRange state i → IsHeld state i
 
--- the range has an id, the ids handed out are the front of it below the bound, and only such ids are held
+-- the range has an id, the ids handed out are those of it below the bound, and only such ids are held
 pub record IsIdState (state : IdState) : Type 0 where
   pub range : state.lo ≤ state.hi
   pub ids : state.hi ≤ MAX_ID
-  pub front : (state.lo ≤ state.bound) × (state.bound ≤ state.hi + 1)
+  pub bound : (state.lo ≤ state.bound) × (state.bound ≤ state.hi + 1)
   pub held : (i : ℕ) → IsHeld state i → IsHandedOut state i
 
 -- no id was handed out yet

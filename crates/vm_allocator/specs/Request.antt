@@ -1,4 +1,5 @@
--- What a request asks for, and which requests make no sense.
+-- What a request asks for, and which requests make no sense. A request travels whole, as a constraint is seen as one; a
+-- place is said of a size and an alignment alone, as it has nothing to do with the policy.
 use Rattle.std.specs.Prelude.{◌≡◌, ℕ, ◌%◌, ◌<◌, Result, Ok, Err}
 use Rattle.vm_allocator.specs.Cases.{IfElse, Unless}
 use Rattle.vm_allocator.specs.Alignment.{IsAlignment}

@@ -1,4 +1,10 @@
-ghost use Rattle.std.specs.Prelude.{ℕ, ◌≡◌, OnErr, IsOk};
+//! Ranges of one space. The space stands beside the tree, which tells it too, so that `base` and
+//! `end` are one read each; that the two agree is the invariant. Its fields, those of the id
+//! allocator and the root of a tree are open inside the crate, for `saved`, and whoever puts them
+//! together proves the invariant. The plain calls are the counted ones without the count. That some
+//! calls always succeed follows from their answers, and is a clause of its own all the same: a
+//! monitor relies on it.
+ghost use Rattle.std.specs.Prelude.{ℕ, ◌≡◌, OnErr, IfOk, IsOk};
 ghost use Rattle.std.specs.List.{Contains};
 ghost use Rattle.vm_allocator.specs.Address.{IsAddressState};
 ghost use Rattle.vm_allocator.specs.Request.{request_for};
@@ -48,14 +54,13 @@ impl AddressAllocator {
     /// of 0 is `Underflow`, an end past `u64::MAX` is `Overflow`, and `OutOfMemory` comes last.
     #[tactic(auto, using(crate::proofs::Answers::Making::making, crate::proofs::Nodes::Spaces::spaces))]
     pub fn new(alloc: Global, base: u64, size: u64) -> Result<Self>
-        ensures { Makes base size (made_state result) }
+        ensures answer { Makes base size (made_state result) }
+        ensures state { IfOk result (λ allocator. IsAddressState (state_of allocator)) }
     {
         if size == 0 {
             return Err(Error::Underflow);
         }
-        let Some(end) = base.checked_add(size - 1) else {
-            return Err(Error::Overflow);
-        };
+        let end = base.checked_add(size - 1).ok_or(Error::Overflow)?;
         let address_space = RangeInclusive::between(base, end);
         let interval_tree = IntervalTree::new(alloc, address_space)?;
         Ok(AddressAllocator {
@@ -103,7 +108,7 @@ impl AddressAllocator {
         ensures state { IsAddressState (state_of self.new) }
     {
         let answer = self.allocate_counted(alloc, size, alignment, policy).0;
-        let _ = self.base();
+        self.known();
         answer
     }
 
@@ -115,7 +120,7 @@ impl AddressAllocator {
     /// h(v + 1) + 8h + 8, and at most hv where they answer `ResourceNotAvailable`; at alignment 1 no
     /// gap is such. The same holds of w in the place of v, where w gaps have a multiple of the
     /// alignment and no place: these are no more than the multiples in the space.
-    #[tactic(auto, using(crate::proofs::Answers::Requests::allocating, crate::proofs::Nodes::Spaces::spaces, crate::proofs::Answers::Filling::succeeding, crate::proofs::Counts::Allocating::allocations, crate::proofs::Counts::GapBounds::searches))]
+    #[tactic(auto, using(crate::proofs::Counts::GapBounds::counted_allocations))]
     pub fn allocate_counted(
         &mut self,
         alloc: Global,
@@ -156,9 +161,7 @@ impl AddressAllocator {
         ensures held { Contains (state_of self.old).held key.now → IsOk result }
         ensures state { IsAddressState (state_of self.new) }
     {
-        let answer = self.free_counted(key).0;
-        let _ = self.base();
-        answer
+        self.free_counted(key).0
     }
 
     /// Does what `free` does, and answers besides how many nodes of the tree it entered: with the
@@ -172,11 +175,12 @@ impl AddressAllocator {
         ensures held { Contains (state_of self.old).held key.now → IsOk result.0 }
         ensures count { EntersToFree self.old.tree key.now result.0 0 result.1 }
         ensures steps { IsReleaseCount (height_of self.old.tree) result.1 }
+        ensures state { IsAddressState (state_of self.new) }
     {
         self.interval_tree.free_counted(key)
     }
 
-    /// How many nodes the longest way down the tree has. The tree is balanced: with k held ranges its
+    /// The height of the tree, which is balanced: with k held ranges its
     /// height h has F(h + 2) at most 2k + 2, where F is the sequence 1, 1, 2, 3, 5 of Fibonacci, and is
     /// 49 at most.
     pub fn height(&self) -> u64
@@ -187,13 +191,21 @@ impl AddressAllocator {
     }
 
     /// The first address of the space.
-    #[tactic(auto, using(crate::proofs::Blocks::BlockStates::is_state))]
     pub fn base(&self) -> u64
         ensures value { result ≡ (state_of self.now).space.start }
         ensures state { IsAddressState (state_of self.now) }
     {
-        let _ = self.interval_tree.height();
+        self.known();
         self.address_space.start()
+    }
+
+    /// For the prover alone: what holds of every state is known from here on.
+    #[inline(always)]
+    #[tactic(auto, using(crate::proofs::Blocks::BlockStates::is_state))]
+    fn known(&self)
+        ensures { IsAddressState (state_of self.now) }
+    {
+        self.interval_tree.known();
     }
 
     /// The last address of the space.

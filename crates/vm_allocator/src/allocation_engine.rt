@@ -14,7 +14,7 @@ pub use interval_tree::IntervalTree;
 pub enum NodeState {
     /// No one holds the block.
     Free,
-    /// Some one holds the block.
+    /// Someone holds the block.
     Allocated,
 }
 
@@ -49,9 +49,7 @@ pub fn align_up(address: u64, alignment: u64) -> Result<u64>
     if alignment == 0 {
         return Err(Error::InvalidAlignment);
     }
-    let Some(last) = address.checked_add(alignment - 1) else {
-        return Err(Error::Overflow);
-    };
+    let last = address.checked_add(alignment - 1).ok_or(Error::Overflow)?;
     align_down(last, alignment)
 }
 

@@ -1,3 +1,5 @@
+//! Requests. That a request makes sense is the invariant of `Constraint`, so what takes one needs no
+//! condition.
 ghost use Rattle.std.specs.Prelude.{◌≡◌};
 ghost use Rattle.vm_allocator.specs.Alignment.{IsAlignment};
 ghost use Rattle.vm_allocator.specs.Cases.{Tells};
@@ -12,10 +14,10 @@ pub const DEFAULT_CONSTRAINT_ALIGN: u64 = 4;
 /// Which of the places for a request is taken.
 #[derive(Clone, Copy, Debug, Default, PartialEq, Eq)]
 pub enum AllocPolicy {
-    /// The least.
+    /// First fit: the least.
     #[default]
     FirstMatch,
-    /// The greatest.
+    /// Last fit: the greatest.
     LastMatch,
     /// The one with this start.
     ExactMatch(u64),

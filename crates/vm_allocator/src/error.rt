@@ -1,9 +1,10 @@
+//! Why calls are refused, with the texts of the Rust crate.
 ghost use Rattle.std.specs.Prelude.{◌≡◌};
-ghost use Rattle.vm_allocator.specs.declared.error.Error.TheVariants as errors;
+ghost use Rattle.vm_allocator.specs.declared.error.Error.TheVariants.{OutOfMemory};
 
 use crate::allocation_engine::NodeState;
 use crate::range::RangeInclusive;
-use std::alloc::AllocError;
+use std::alloc::{AllocError, AllocFailed};
 use thiserror::Error;
 
 /// Why a call is refused. A refused call changes nothing. Errors are ordered by variant, then by
@@ -52,9 +53,17 @@ pub enum Error {
 }
 
 impl From<AllocError> for Error {
-    ghost from_gives = { λ _ e. e ≡ errors.OutOfMemory };
+    ghost from_gives = { λ _ e. e ≡ OutOfMemory };
 
     fn from(_error: AllocError) -> Error {
+        Error::OutOfMemory
+    }
+}
+
+impl<T: Drop> From<AllocFailed<T>> for Error {
+    ghost from_gives = { λ _ e. e ≡ OutOfMemory };
+
+    fn from(_error: AllocFailed<T>) -> Error {
         Error::OutOfMemory
     }
 }

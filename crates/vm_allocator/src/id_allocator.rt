@@ -1,6 +1,21 @@
+//! Ids of one range: those handed out so far lie below the next one, and those given back stand in a
+//! set, the least first. Only giving back and cloning ask for memory.
 ghost use Rattle.std.specs.Prelude.{◌≡◌, ℕ, ◌≤◌, ◌⊎◌, ◌↔◌, IsTrue, IsOk, OnErr, Ok, Err};
 ghost use Rattle.vm_allocator.specs.Cloning.{Clones};
-ghost use Rattle.vm_allocator.specs.Ids.{MakesIds, AllocatesId, PeeksId, FreesId, NextId, IsOfRange, IsHandedOut, IsHeld, IsNotHeld, IsIdState, held_count, bound_of};
+ghost use Rattle.vm_allocator.specs.Ids.{
+  MakesIds,
+  AllocatesId,
+  PeeksId,
+  FreesId,
+  NextId,
+  IsOfRange,
+  IsHandedOut,
+  IsHeld,
+  IsNotHeld,
+  IsIdState,
+  held_count,
+  bound_of,
+};
 
 use crate::error::{Error, Result};
 use std::alloc::Global;
@@ -72,14 +87,13 @@ impl IdAllocator {
     }
 
     /// A copy: the same range, held ids and ids ever handed out. `OutOfMemory` where there is no memory
-    /// for it. The ids given back ask the allocator that they came with.
+    /// for it. The ids given back ask the allocator that they came with: their own `clone` promises the
+    /// same set, where a new one would promise the same members.
     #[tactic(auto, using(crate::proofs::Ids::IdFields::clones))]
     pub fn try_clone(&self, _alloc: Global) -> Result<Self>
         ensures { Clones self.now result }
     {
-        let Ok(freed_ids) = self.freed_ids.clone() else {
-            return Err(Error::OutOfMemory);
-        };
+        let freed_ids = self.freed_ids.clone()?;
         Ok(IdAllocator {
             range_base: self.range_base,
             next_id: self.next_id,
@@ -152,10 +166,7 @@ impl IdAllocator {
             return Err(Error::NeverAllocated(id));
         }
         // Only an id that is not in the set yet asks for memory.
-        let Ok(newly_freed) = self.freed_ids.insert(id) else {
-            return Err(Error::OutOfMemory);
-        };
-        if newly_freed {
+        if self.freed_ids.insert(id)? {
             Ok(id)
         } else {
             Err(Error::AlreadyReleased(id))

@@ -1,3 +1,5 @@
+//! Ranges of addresses. Their order is written by hand and not derived, so that the contract of `cmp`
+//! names it: by start, then by end.
 ghost use Rattle.std.specs.Prelude.{◌≡◌, ◌↔◌, IsTrue, MatchBool};
 ghost use Rattle.std.proofs.Common.{rules};
 ghost use Rattle.std.specs.Cmp.{partial_order_from_own_ties};
@@ -79,7 +81,7 @@ impl RangeInclusive {
     }
 
     /// How the range compares with another, by start, then by end. It stops at the first difference.
-    #[tactic(auto, unfolding(crate::specs::RangeOrder::Before))]
+    #[tactic(auto, using(crate::proofs::Numbers::RangeCalls::orders))]
     pub(crate) fn order(&self, other: &RangeInclusive) -> Ordering
         ensures { MatchOrdering result (Before self.now other.now) (self.now ≡ other.now) (Before other.now self.now) }
     {
@@ -108,8 +110,15 @@ impl RangeInclusive {
         ensures in_order { IsInOrder self.now }
         ensures other_in_order { IsInOrder other.now }
     {
-        let _ = other.end;
-        other.start > self.end
+        other.start() > self.end
+    }
+
+    /// For the prover alone: that the ends are those of a range is known from here on.
+    #[inline(always)]
+    pub(crate) fn known(&self)
+        ensures { IsRange self.now.start self.now.end }
+    {
+        let _ = self.end();
     }
 
     /// The first address.
@@ -139,11 +148,9 @@ impl Ord for RangeInclusive {
     ghost matches_eq = { Prim.search (comparing, rules) };
 
     /// By start, then by end.
+    #[tactic(auto, using(crate::proofs::Comparing::Orders::by_order))]
     fn cmp(&self, other: &RangeInclusive) -> Ordering {
-        match self.start.cmp(&other.start) {
-            Ordering::Equal => self.end.cmp(&other.end),
-            unequal => unequal,
-        }
+        self.order(other)
     }
 }
 

@@ -15,7 +15,7 @@ use Rattle.vm_allocator.specs.Range.{Range, Overlaps}
 use Rattle.vm_allocator.specs.Address.{AddressState, IsAddressState}
 use Rattle.vm_allocator.specs.Ids.{IdState, IsHeld}
 use Rattle.vm_allocator.proofs.Answers.AddressAnswers.{lie_apart}
-use Rattle.vm_allocator.proofs.Callers.{slots_listed, ids_listed}
+use Rattle.vm_allocator.proofs.Callers.{ranges_listed, ids_listed}
 use Rattle.vm_devices.specs.Devices.{DeviceState, IsDevice, ArePaired}
 use Rattle.vm_devices.specs.SavedChecks.{AreHeldApart, AreAllHeld}
 use Rattle.vm_devices.proofs.Entries.{IsEntry, Rise, head_below, rest_rises, found_entry, entry_found, entry_of_id, entry_of_range, has_id, has_range, ids_differ}
@@ -87,7 +87,7 @@ module _ (state : DeviceState) (es : List (ℕ × Range)) (is : state.devices �
       let each_id = (ids_listed state.ids (keys_of es) (ids_differ es s) (ids_held state.ids state.space set.empty es a.apart)).0 (length-keys_of es ∙ a.ids_counted) in
       let differ = ranges_differ state.ids state.space set.empty es a.apart in
       let ranges = ranges_held state.ids state.space set.empty es a.apart in
-      let each_range = (slots_listed state.space (values_of es) i differ ranges).0 (length-values_of es ∙ a.ranges_counted) in
+      let each_range = (ranges_listed state.space (values_of es) i differ ranges).0 (length-values_of es ∙ a.ranges_counted) in
       record {
         ids = λ id. (
           λ h. let c = each_id id h in let e = entry_of_id es id c.0 c.1 c.2 in subst IsSome (sym (entry_device id e.0 e.1)) refl,
@@ -139,7 +139,7 @@ module _ (state : DeviceState) (es : List (ℕ × Range)) (is : state.devices �
       record {
         ids_counted = sym (length-keys_of es) ∙ (ids_listed state.ids (keys_of es) (ids_differ es s) (ids_held state.ids state.space set.empty es apart)).1
             (λ id h. let d = some_device id ((p.ids id).0 h) in has_id es id d.0 (device_entry id d.0 d.1));
-        ranges_counted = sym (length-values_of es) ∙ (slots_listed state.space (values_of es) i differ ranges).1
+        ranges_counted = sym (length-values_of es) ∙ (ranges_listed state.space (values_of es) i differ ranges).1
             (λ r h. let d = p.owned r h in has_range es d.0 r (device_entry d.0 r d.1));
         apart = apart;
       }

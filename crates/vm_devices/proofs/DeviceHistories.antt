@@ -107,7 +107,7 @@ device_inside old id r is d =
     let l = lie_apart old.space is.space in
     let c = is.pairs.held id r d in
     let out = is.ids.held id (id_held old id r is d) in
-    ((out.0, omega (arith, out.1, is.ids.front.1)), (l.inside r c).1, l.below r c)
+    ((out.0, omega (arith, out.1, is.ids.bound.1)), (l.inside r c).1, l.below r c)
 
 pub devices_are_good : DevicesAreGood
 devices_are_good = record {

@@ -96,7 +96,7 @@ range_comes_back old new later id r released answer i d f plain t =
     let out = i.ids.held id (id_held old id r i d) in
     let held = i.pairs.held id r d in
     let t' = subst (λ (v : DeviceState). Reserves v (request_for (address_count r) 1 (ExactMatch r.start)) answer later) left t in
-    let u = for_some old.ids id _ _ (out.0, omega (arith, out.1, i.ids.front.1)) t' in
+    let u = for_some old.ids id _ _ (out.0, omega (arith, out.1, i.ids.bound.1)) t' in
     let frees = frees_held old.space r held in
     let given = given_again old.space (releasing r old.space) u.1.1 r (Ok tt) u.1.0 i.space held frees u.1.2 in
     ⊎_elim

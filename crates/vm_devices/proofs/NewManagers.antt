@@ -11,7 +11,7 @@ use Rattle.vm_allocator.specs.Answer.{Makes}
 use Rattle.vm_allocator.specs.Ids.{MAX_ID, IdState, IsHeld, MakesIds, fresh_ids}
 use Rattle.vm_allocator.specs.declared.error.Error.{Error}
 use Rattle.vm_allocator.proofs.Answers.AddressAnswers.{made_is, state_is_kept}
-use Rattle.vm_allocator.proofs.Ids.IdAnswers.{front_is_kept}
+use Rattle.vm_allocator.proofs.Ids.IdAnswers.{id_states_are_kept}
 use Rattle.vm_devices.proofs.Pairs.{none_there}
 use Rattle.vm_devices.specs.Devices.{DeviceState, IsDeviceState, made_devices, MakesManager}
 
@@ -32,7 +32,7 @@ no_devices lo hi base size ids space made =
     let held : (r : Range) → ¬ Contains space.held r =
     λ r c. none_in r (subst (λ (v : AddressState). Contains v.held r) (made_is base size space made.space_made).2 c) in
     record {
-      ids = front_is_kept.made lo hi ids made.id made.ids_made;
+      ids = id_states_are_kept.made lo hi ids made.id made.ids_made;
       space = state_is_kept.made base size space made.word made.space_made;
       pairs = record {
         ids = λ q. (

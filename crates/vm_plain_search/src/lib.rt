@@ -1,5 +1,7 @@
 //! A space of 64 addresses, searched address by address, and a long run of calls on it: what the
-//! tests of a library and of the program compare its answers with. Nothing but tests uses it.
+//! tests of a library and of the program compare its answers with. It is a library, since the tests
+//! of a program share nothing with those of a library but through one below both. Nothing but tests
+//! uses it.
 #![tactic(auto)]
 
 use Answer::{Done, Held, NotAvailable, Range, Unaligned};

@@ -85,7 +85,7 @@ three_some (word ∷ words) behind number e =
     zip None = refl
     zip (Some p) = refl
 
--- A text by its digits at the front.
+-- A text by the digits that it begins with.
 
 -- where the first blank stands, or the end
 abbrev end_of_word : List ℕ → ℕ
@@ -160,3 +160,7 @@ then_blank text number n is within at e =
     let first = words_some text n (rw ends (grind (arith, nat_tests))) in
     let says : number_of (take n text) ≡ Some number = rw (sym is) at e in
     rw (first, says) refl
+
+pub ruleset first_numbers = (no_number, alone_number, then_blank, then_other)
+
+pub ruleset one_numbers = (one_none, one_alone, one_more)

@@ -50,7 +50,7 @@ answers_input (Some input) (Some rest) c d read text h e m k =
     let all : input ≡ read = h ∙ ap (λ l. read ++ l) e ∙ append-nil read in
     (ap Some e, subst (λ bytes. GainsAnswers (lines_of bytes) c d) (sym all) (gains c d (lines_of read) text m k))
 
--- what was read up to a fault is the front of the input
+-- what was read up to a fault is the beginning of the input
 pub answers_ended : (a b c d : Option (List ℕ)) (read text : List ℕ) → Consumes a b read
     → MayAnswer (ended_lines_of read) text → Appends c d text → AnswersEndedLines a b c d
 answers_ended None b c d read text h m k = tt

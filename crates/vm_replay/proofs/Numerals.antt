@@ -36,9 +36,9 @@ next_fits value count h few =
     let l : 10 ^ count ≤ 1000000000000000000 = pow-le-pow_right (omega arith) (let f : count ≤ 18 = omega arith in f) in
     omega (arith, l)
 
--- Digits at the front.
+-- Digits at the beginning.
 
--- the front of the digits is of digits
+-- the first of the digits are digits
 all_digits : (text : List ℕ) (n : ℕ) → n ≤ digits_ahead text → list_all is_digit (take n text) ≡ true
 all_digits text zero h = refl
 all_digits [] (suc n) h = refl

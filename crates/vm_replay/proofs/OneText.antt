@@ -16,7 +16,7 @@ use Rattle.vm_replay.specs.Commands.{command_of}
 use Rattle.vm_replay.specs.Lines.{newline}
 use Rattle.vm_devices.specs.Devices.{DeviceState}
 use Rattle.vm_devices.proofs.DevicesOnce.{devices_decide}
-use Rattle.vm_replay.specs.Machines.{Machine, start, with_space, with_ids, with_devices, OnPart, OnSpace, OnIds, OnDevices, Places, Releases, Does}
+use Rattle.vm_replay.specs.Machines.{Machine, start, with_space, with_ids, with_devices, OnPart, OnSpace, OnIds, OnDevices, Places, FreesRange, Does}
 use Rattle.vm_replay.specs.Replies.{text_of, done_or_refused, given_or_refused, id_or_refused, device_or_refused}
 use Rattle.vm_replay.specs.Laws.{HoldsFew, AreAnsweredInMemory, AreAnsweredAmply, OneText}
 use Rattle.vm_replay.specs.declared.command.Command.{Command}
@@ -37,9 +37,9 @@ same_told : {A : Type 0} (tell : Result A Error → Reply) (x y : Reply) (answer
     → y ≡ tell other → answer ≡ other → x ≡ y
 same_told tell x y answer other p q e = p ∙ ap tell e ∙ sym q
 
-released_once : (old m n : AddressState) (start end : ℕ) (x y : Result (Unit {0}) Error) → Releases old start end x m
-    → Releases old start end y n → (x ≡ y) × (m ≡ n)
-unfolding Releases
+released_once : (old m n : AddressState) (start end : ℕ) (x y : Result (Unit {0}) Error) → FreesRange old start end x m
+    → FreesRange old start end y n → (x ≡ y) × (m ≡ n)
+unfolding FreesRange
 released_once old m n start end x y a b =
     unless_same _ _ _ _ _ a b (λ u v. (u.0 ∙ sym v.0, u.1 ∙ sym v.1)) (frees_once old m n (record { start = start; end = end }) x y)
 

@@ -12,7 +12,7 @@ use Rattle.vm_allocator.proofs.Numbers.Decisions.{Decided, decided_both, decided
 use Rattle.vm_allocator.proofs.Answers.Amply.{frees_no_memory, makes_ids_no_memory, allocates_id_no_memory}
 use Rattle.vm_allocator.proofs.Answers.EveryAddressCall.{every_call}
 use Rattle.vm_allocator.proofs.Ids.EveryIdCall.{every_call as every_id_call}
-use Rattle.vm_replay.specs.Machines.{Releases}
+use Rattle.vm_replay.specs.Machines.{FreesRange}
 
 -- some answer, not that memory ran out, and some next state are allowed
 abbrev pub IsAnswered : {A S : Type 0} → (Result A Error → S → Type 0) → Type 0
@@ -35,8 +35,8 @@ decided_range start end = by_last (decided_both (start ≤ end) (end ≤ MAX) (d
     by_last (inl a) (inl b) (inr n) = inr (λ r. n (r.2 b))
 
 -- each range, and what is none, is given back or refused
-pub releases_answered : (old : AddressState) (start end : ℕ) → IsAnswered (Releases old start end)
-unfolding Releases
+pub releases_answered : (old : AddressState) (start end : ℕ) → IsAnswered (FreesRange old start end)
+unfolding FreesRange
 releases_answered old start end =
     ⊎_elim
     (λ (range : IsRange start end).

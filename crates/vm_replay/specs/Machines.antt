@@ -1,4 +1,5 @@
--- What the lines so far have made, and what a further line does to it.
+-- What the lines so far have made, and what a further line does to it: by the very relations that the calls of the
+-- libraries ensure.
 use Rattle.std.specs.Prelude.{◌≡◌, ◌↔◌, ℕ, Bool, IsTrue, Option, Some, None, Result, Ok, Err, MatchOption, refl}
 use Rattle.std.specs.Coded.{Coded, code_by, coded×, coded_option}
 use Rattle.vm_allocator.specs.Cases.{Unless}
@@ -55,7 +56,7 @@ with_ids old answer = record old { ids = kept answer old.ids }
 abbrev pub with_devices : Machine → Result DeviceState Error → Machine
 with_devices old answer = record old { devices = kept answer old.devices }
 
--- the line needs this part: where it is absent this is the reply; else this call settles the reply, and the state that is
+-- the line needs this part: where it is absent this is the reply; else this call decides the reply, and the state that is
 -- put back
 abbrev pub OnPart : {S : Type 0} → Option S → (S → Machine) → Reply → Machine → Reply → Machine → (S → S → Type 0) → Type 0
 OnPart {S} part put absent old reply new call =
@@ -63,15 +64,15 @@ OnPart {S} part put absent old reply new call =
     ((reply ≡ absent) × (new ≡ old))
     (λ state. (later : S) × call state later × (new ≡ put later))
 
--- the line needs a space: where there is one, this call settles the reply and the state that it leaves
+-- the line needs a space: where there is one, this call decides the reply and the state that it leaves
 unfoldable pub OnSpace : Machine → Reply → Machine → (AddressState → AddressState → Type 0) → Type 0
 OnSpace old reply new call = OnPart old.space (λ later. record old { space = Some later }) NoSpace old reply new call
 
--- the line needs ids: where there are some, this call settles the reply and the state that it leaves
+-- the line needs ids: where there are some, this call decides the reply and the state that it leaves
 unfoldable pub OnIds : Machine → Reply → Machine → (IdState → IdState → Type 0) → Type 0
 OnIds old reply new call = OnPart old.ids (λ later. record old { ids = Some later }) NoIds old reply new call
 
--- the line needs a manager: where there is one, this call settles the reply and the state that it leaves
+-- the line needs a manager: where there is one, this call decides the reply and the state that it leaves
 unfoldable pub OnDevices : Machine → Reply → Machine → (DeviceState → DeviceState → Type 0) → Type 0
 OnDevices old reply new call =
     OnPart old.devices (λ later. record old { devices = Some later }) NoManager old reply new call
@@ -83,8 +84,8 @@ Places old request reply new =
     (answer : Result Range Error) × Allocates state request answer later × (reply ≡ given_or_refused answer))
 
 -- the release of what is to be a range
-unfoldable pub Releases : AddressState → ℕ → ℕ → Result (Unit {0}) Error → AddressState → Type 0
-Releases old start end answer new =
+unfoldable pub FreesRange : AddressState → ℕ → ℕ → Result (Unit {0}) Error → AddressState → Type 0
+FreesRange old start end answer new =
     Unless (IsRange start end)
     ((answer ≡ Err (InvalidRange start end)) × (new ≡ old))
     (Frees old (record { start = start; end = end }) answer new)
@@ -105,7 +106,7 @@ Does old (Some (Exact size alignment start)) reply new =
     Places old (record { size = size; align = alignment; policy = ExactMatch start }) reply new
 Does old (Some (Free start end)) reply new =
     OnSpace old reply new (λ state later.
-    (answer : Result (Unit {0}) Error) × Releases state start end answer later × (reply ≡ done_or_refused answer))
+    (answer : Result (Unit {0}) Error) × FreesRange state start end answer later × (reply ≡ done_or_refused answer))
 Does old (Some (Ids range_base range_end)) reply new =
     (answer : Result IdState Error)
     × MakesIds range_base range_end answer

@@ -4,11 +4,11 @@ use Rattle.std.specs.List.{prefix_len}
 use Rattle.std.specs.Option.{option_map}
 use Rattle.vm_replay.specs.Numbers.{is_digit, number_of}
 
--- how many digits stand at the front of a text
+-- how many digits stand at the beginning of a text
 abbrev pub digits_ahead : List ℕ → ℕ
 digits_ahead text = prefix_len is_digit text
 
--- the number that the digits at the front of a text say, and how many digits they are
+-- the number that the digits at the beginning of a text say, and how many digits they are
 abbrev pub IsNumberAhead : List ℕ → Option (ℕ × ℕ) → Type 0
 IsNumberAhead text result =
     MatchOption result

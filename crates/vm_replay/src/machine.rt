@@ -1,7 +1,7 @@
 //! What a line does to what the lines so far have made: a space, ids, devices.
 ghost use Rattle.std.specs.Prelude.{◌≡◌, Some};
 ghost use Rattle.vm_allocator.specs.Allocator.{state_of};
-ghost use Rattle.vm_replay.specs.Machines.{Places, Releases, kept};
+ghost use Rattle.vm_replay.specs.Machines.{Places, FreesRange, kept};
 ghost use Rattle.vm_replay.specs.Replies.{done_or_refused};
 
 use crate::command::Command;
@@ -207,9 +207,9 @@ fn keep<T: Drop>(made: Result<T>, part: &mut Option<T>) -> Reply
 }
 
 /// Gives back the range from `start` to `end`. `InvalidRange(start, end)` where that is none.
-#[tactic(auto, unfolding(crate::specs::Machines::Releases))]
+#[tactic(auto, unfolding(crate::specs::Machines::FreesRange))]
 fn release(space: &mut AddressAllocator, start: u64, end: u64) -> Result<()>
-    ensures { Releases (state_of space.old) start end result (state_of space.new) }
+    ensures { FreesRange (state_of space.old) start end result (state_of space.new) }
 {
     let range = RangeInclusive::new(start, end)?;
     space.free(&range)

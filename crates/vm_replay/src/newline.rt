@@ -1,4 +1,5 @@
-//! The search for the end of a line.
+//! The search for the end of a line, sixteen bytes at once: a byte at a time cost fourteen
+//! instructions for each byte.
 ghost use Rattle.std.specs.Prelude.{◌≡◌, ◌==◌, position};
 ghost use Rattle.vm_replay.specs.Lines.{newline};
 

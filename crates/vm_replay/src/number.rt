@@ -1,3 +1,5 @@
+//! The number at the beginning of a text, up to the first byte that is no digit. Nineteen digits fit
+//! 64 bits whichever they are, so the twentieth alone is added with a check.
 ghost use Rattle.std.specs.Prelude.{◌≡◌, ◌≤◌, ◌<◌, ◌^◌, take, min, true};
 ghost use Rattle.std.specs.List.{list_all};
 ghost use Rattle.vm_replay.specs.Numbers.{is_digit, value_from};
@@ -14,7 +16,7 @@ const CHUNK: usize = 8;
 
 const BASE: u64 = 10;
 
-/// The number that the digits at the front of a text say, and how many digits they are.
+/// The number that the digits at the beginning of a text say, and how many digits they are.
 #[inline(always)]
 #[tactic(auto, using(crate::proofs::Numerals::number_is, crate::proofs::Numerals::number_none))]
 pub fn number_ahead(text: &[u8]) -> Option<(u64, usize)>
@@ -30,7 +32,7 @@ pub fn number_ahead(text: &[u8]) -> Option<(u64, usize)>
     Some((value, count))
 }
 
-/// The value of the digits at the front of a text, of the first `SAFE_DIGITS` if they are more, and
+/// The value of the digits at the beginning of a text, of the first `SAFE_DIGITS` if they are more, and
 /// how many digits that are.
 #[inline(always)]
 fn safe_value(text: &[u8]) -> (u64, usize)

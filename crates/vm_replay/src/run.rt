@@ -1,3 +1,7 @@
+//! Answers an input: reads pieces of it, cuts them into lines, and drains the buffer. Its two facts
+//! have names (`AnswersInput`, `AnswersEndedLines`) and are stated for readers and writers that tell
+//! their bytes; they follow from what also holds where nothing is known of the bytes, so that no twin
+//! of `run` is needed.
 ghost use Rattle.std.specs.Prelude.{◌≡◌, ◌++◌, [], ◌+◌, ◌<◌, ℕ, List, length, OnOk, IfErr, IsErrOf};
 ghost use Rattle.std.specs.Io.KnownBytes.{Appends};
 ghost use Rattle.vm_replay.specs.Sessions.{Feeds, Finishes};

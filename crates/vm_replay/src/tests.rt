@@ -47,7 +47,7 @@ impl Text {
         &self.bytes[..self.filled]
     }
 
-    /// Adds the front of some more text, as far as there is room. The answer is the length of that.
+    /// Adds the beginning of some more text, as far as there is room. The answer is the length of that.
     fn push(&mut self, text: &[u8]) -> usize
         ensures { result ≤ length text.now }
     {

@@ -1,3 +1,5 @@
+//! The words of a line: whether it begins with a name, and the numbers and ids behind that. The four
+//! numbers of `manager` are read as three are, and two of them then taken as ids.
 ghost use Rattle.std.specs.Prelude.{◌≡◌, ◌≢◌, ◌++◌, ℕ, List, None, Some, MatchOption};
 ghost use Rattle.std.specs.Option.{option_copied};
 ghost use Rattle.vm_replay.specs.Numbers.{number_of, id_of};
@@ -6,7 +8,7 @@ ghost use Rattle.vm_replay.specs.Reading.{number_first};
 
 use crate::number::number_ahead;
 
-/// What stands behind the front of a text, where the text begins with it.
+/// What stands behind the beginning of a text, where the text begins so.
 #[inline(always)]
 #[tactic(auto, using(crate::proofs::Splitting::too_short, crate::proofs::Splitting::begins_else, crate::proofs::Splitting::begins_so))]
 pub fn behind<'a, const N: usize>(front: &[u8; N], text: &'a [u8]) -> Option<&'a [u8]>
@@ -27,7 +29,7 @@ pub fn behind<'a, const N: usize>(front: &[u8; N], text: &'a [u8]) -> Option<&'a
 
 /// The number that the first word of a text says, and what stands after the space behind it.
 #[inline(always)]
-#[tactic(auto, using(crate::proofs::FirstNumber::no_number, crate::proofs::FirstNumber::alone_number, crate::proofs::FirstNumber::then_blank, crate::proofs::FirstNumber::then_other))]
+#[tactic(auto, using(crate::proofs::FirstNumber::first_numbers))]
 fn first_number(text: &[u8]) -> Option<(u64, Option<&[u8]>)>
     ensures { MatchOption result
         (number_first (words_of text.now) ≡ None)
@@ -45,7 +47,7 @@ fn first_number(text: &[u8]) -> Option<(u64, Option<&[u8]>)>
 
 /// The number that the word of a text says, where it is one.
 #[inline(always)]
-#[tactic(auto, using(crate::proofs::FirstNumber::one_none, crate::proofs::FirstNumber::one_alone, crate::proofs::FirstNumber::one_more, crate::proofs::Splitting::some_words))]
+#[tactic(auto, using(crate::proofs::FirstNumber::one_numbers, crate::proofs::Splitting::some_words))]
 fn one_number(text: &[u8]) -> Option<u64>
     ensures { result ≡ one_in number_of (words_of text.now) }
 {

@@ -5,14 +5,14 @@ use Rattle.vm_allocator.specs.Range.{Range, MAX, Overlaps, span}
 use Rattle.vm_allocator.specs.Address.{AddressState, IsPlace, IsAddressState, holding, releasing, with_range, without_range}
 use Rattle.vm_allocator.specs.Request.{Request}
 use Rattle.vm_allocator.specs.Answer.{Takes, Allocates, Frees, Makes}
-use Rattle.vm_allocator.specs.Laws.AddressLaws.{HeldLieApart, StateIsKept, AddsRange, AllocatingAddsRange, FreeingTakesRange, FreeingUndoes}
+use Rattle.vm_allocator.specs.Laws.AddressLaws.{HeldLieApart, StateIsKept, AddsRange, AllocatingAddsRange, FreeingDropsRange, FreeingUndoes}
 use Rattle.vm_allocator.specs.declared.error.Error.{Error}
 use Rattle.vm_allocator.specs.declared.error.Error.TheVariants.{Overflow, OutOfMemory}
 use Rattle.vm_allocator.proofs.Blocks.PlainWords.{IsHeld, contains_held, held_contains, none_holds}
 use Rattle.vm_allocator.proofs.Answers.Outcomes.{IsRefused, allocates_outcome}
 use Rattle.vm_allocator.proofs.Numbers.RangeCalls.{covers}
 use Rattle.vm_allocator.proofs.Answers.Once.{chosen_place}
-use Rattle.vm_allocator.proofs.Blocks.HeldChanges.{Misses, slots_with, held_with, held_now, still_held_with, slots_without, without_with, held_without, not_held_without, others_held}
+use Rattle.vm_allocator.proofs.Blocks.HeldChanges.{Misses, in_order_with, held_with, held_now, still_held_with, in_order_without, without_with, held_without, not_held_without, others_held}
 use Rattle.vm_allocator.proofs.Blocks.HeldSets.{held_lies, one_held}
 
 -- ---- the two outcomes of a request
@@ -62,7 +62,7 @@ given_state old new request answer g i =
     let some = g.some in
     subst IsAddressState (sym g.left) (record {
       space = i.space;
-      slots = slots_with old.space.start old.space.end (span g.from request.size) old.held i.slots l.0 (omega arith) l.1 l.2 l.3;
+      in_order = in_order_with old.space.start old.space.end (span g.from request.size) old.held i.in_order l.0 (omega arith) l.1 l.2 l.3;
     })
 
 pub allocated_state : (old new : AddressState) (request : Request) (answer : Result Range Error) → IsAddressState old → Allocates old request answer new → IsAddressState new
@@ -73,12 +73,14 @@ allocated_state old new request answer i h =
     (outcome request old new answer h)
 
 released_state : (old : AddressState) (r : Range) → IsAddressState old → IsAddressState (releasing r old)
-released_state old r i = record { space = i.space; slots = slots_without old.space.start old.space.end r old.held i.slots }
+released_state old r i = record { space = i.space; in_order = in_order_without old.space.start old.space.end r old.held i.in_order }
 
 pub freed_state : (old new : AddressState) (r : Range) (answer : Result (Unit {0}) Error) → IsAddressState old → Frees old r answer new → IsAddressState new
 unfolding Frees
 freed_state old new r answer i h =
     ⊎_elim (λ l. subst IsAddressState (sym l.1.1) (released_state old r i)) (λ l. subst IsAddressState (sym l.1.1) i) h
+
+pub ruleset freed = (freed_state)
 
 -- what a new allocator is
 pub made_is : (base size : ℕ) (first : AddressState) → Makes base size (Ok first) → (0 < size) × (base + size - 1 ≤ MAX) × (first ≡ record { space = span base size; held = [] })
@@ -96,7 +98,7 @@ made_is base size first h =
 pub made_state : (base size : ℕ) (first : AddressState) → size ≤ MAX → Makes base size (Ok first) → IsAddressState first
 made_state base size first w h =
     let m = made_is base size first h in
-    subst IsAddressState (sym m.2) (record { space = (omega (arith, m.0), m.1, λ z. omega (arith, m.0)); slots = tt })
+    subst IsAddressState (sym m.2) (record { space = (omega (arith, m.0), m.1, λ z. omega (arith, m.0)); in_order = tt })
 
 pub state_is_kept : StateIsKept
 state_is_kept = record { made = made_state; allocated = allocated_state; freed = freed_state }
@@ -108,9 +110,9 @@ lie_apart state i =
     let lo = state.space.start in
     let hi = state.space.end in
     record {
-      apart = λ r q k l o. one_held lo hi o.0 state.held r q i.slots (held_contains state.held r k) (held_contains state.held q l) o.1 o.2;
-      inside = λ r k. let l = held_lies lo hi state.held r i.slots (held_contains state.held r k) in (l.1, covers state.space r l.0 l.2);
-      below = λ r k. (held_lies lo hi state.held r i.slots (held_contains state.held r k)).3;
+      apart = λ r q k l o. one_held lo hi o.0 state.held r q i.in_order (held_contains state.held r k) (held_contains state.held q l) o.1 o.2;
+      inside = λ r k. let l = held_lies lo hi state.held r i.in_order (held_contains state.held r k) in (l.1, covers state.space r l.0 l.2);
+      below = λ r k. (held_lies lo hi state.held r i.in_order (held_contains state.held r k)).3;
     }
 
 -- ---- what a range that is given changes
@@ -126,12 +128,12 @@ adds_given : (old new : AddressState) (request : Request) (r : Range) → IsGive
 unfolding IsPlace
 adds_given old new request r g =
     let some = g.some in
-    let slot = span g.from request.size in
-    let same : r ≡ slot = cc (g.given) in
+    let held_one = span g.from request.size in
+    let same : r ≡ held_one = cc (g.given) in
     subst (AddsRange old new) (sym same) (record {
       clear = λ x l m. g.place.1 x l (omega arith);
       space = ap (λ (v : AddressState). v.space) g.left;
-      held = λ q. subst (λ (v : AddressState). Contains v.held q ↔ (Contains old.held q ⊎ (q ≡ slot))) (sym g.left) (with_members slot old.held q);
+      held = λ q. subst (λ (v : AddressState). Contains v.held q ↔ (Contains old.held q ⊎ (q ≡ held_one))) (sym g.left) (with_members held_one old.held q);
     })
 
 pub adds_range : AllocatingAddsRange
@@ -158,12 +160,12 @@ without_members old r q i h =
     let hi = old.space.end in (
       λ c.
           let k = held_contains (without_range r old.held) q c in
-          (contains_held old.held q (held_without r q old.held k), λ e. not_held_without lo hi r q old.held i.slots k (sym e)),
-      λ c. contains_held (without_range r old.held) q (others_held lo hi r q old.held i.slots h (held_contains old.held q c.0) (λ e. c.1 (sym e))),
+          (contains_held old.held q (held_without r q old.held k), λ e. not_held_without lo hi r q old.held i.in_order k (sym e)),
+      λ c. contains_held (without_range r old.held) q (others_held lo hi r q old.held i.in_order h (held_contains old.held q c.0) (λ e. c.1 (sym e))),
     )
 
-pub takes_range : FreeingTakesRange
-takes_range old new r i h =
+pub drops_range : FreeingDropsRange
+drops_range old new r i h =
     let f = freed_held old new r h in
     record {
       was = contains_held old.held r f.0;
@@ -175,18 +177,18 @@ takes_range old new r i h =
 undoes_given : (old mid new : AddressState) (request : Request) (r : Range) (answer : Result (Unit {0}) Error) → IsAddressState old → IsGiven old request (Ok r) mid → Frees mid r answer new → (answer ≡ Ok tt) × (new ≡ old)
 undoes_given old mid new request r answer i g f =
     let some = g.some in
-    let slot = span g.from request.size in
-    let same : r ≡ slot = cc (g.given) in
-    let held : IsHeld mid.held r = subst (λ (v : AddressState). IsHeld v.held r) (sym g.left) (subst (IsHeld (with_range slot old.held)) (sym same) (held_now slot old.held)) in
+    let held_one = span g.from request.size in
+    let same : r ≡ held_one = cc (g.given) in
+    let held : IsHeld mid.held r = subst (λ (v : AddressState). IsHeld v.held r) (sym g.left) (subst (IsHeld (with_range held_one old.held)) (sym same) (held_now held_one old.held)) in
     let freed = frees_held mid new r answer held f in
     let clear = lies_clear old mid request (Ok r) g i in
-    let back : releasing slot (holding slot old) ≡ old = ap (λ (hs : List Range). record old { held = hs }) (without_with old.space.start old.space.end slot old.held i.slots (omega arith) clear.3) in
-    let alike : releasing r mid ≡ releasing slot (holding slot old) = rw (same, g.left) refl in
+    let back : releasing held_one (holding held_one old) ≡ old = ap (λ (hs : List Range). record old { held = hs }) (without_with old.space.start old.space.end held_one old.held i.in_order (omega arith) clear.3) in
+    let alike : releasing r mid ≡ releasing held_one (holding held_one old) = rw (same, g.left) refl in
     (freed.0, freed.1 ∙ (alike ∙ back))
 
 pub freeing_undoes : FreeingUndoes
 freeing_undoes old mid new request r answer i s f = undoes_given old mid new request r answer i (gets request old mid r s) f
 
-pub ruleset changes = (adds_range, takes_range, freeing_undoes)
+pub ruleset changes = (adds_range, drops_range, freeing_undoes)
 
 pub ruleset kept = (state_is_kept, lie_apart)

@@ -6,7 +6,7 @@ use Rattle.vm_allocator.specs.Cases.{IfElse, Unless}
 use Rattle.vm_allocator.specs.Range.{Range, MAX, span}
 use Rattle.vm_allocator.specs.Address.{AddressState, AreClear, IsPlace, IsLeastPlace, IsGreatestPlace, holding, releasing}
 use Rattle.vm_allocator.specs.Request.{Request, request_for, IsStartAligned, ByConstraint}
-use Rattle.vm_allocator.specs.Answer.{IsChosen, ByStart, ByExactStart, ByPlace, Takes, Settles, Allocates, Frees, Makes}
+use Rattle.vm_allocator.specs.Answer.{IsChosen, ByStart, ByExactStart, ByPlace, Takes, Grants, Allocates, Frees, Makes}
 use Rattle.vm_allocator.specs.Cloning.{Clones}
 use Rattle.vm_allocator.specs.Histories.AddressHistories.{Allocation, Release, Cloning, Asked, Allocate, Free, Clone, RunsOutOfMemory}
 use Rattle.vm_allocator.specs.Laws.HistoryLaws.{EveryCallIsAnswered, EveryListHasHistory}
@@ -90,11 +90,11 @@ total_start t n old Rest rest =
     total_unless old _ (Refuses old ResourceNotAvailable) _ (decided_all_clear n old t) (refusal old ResourceNotAvailable (λ e. cc e)) (λ clear.
     total_if old _ (Refuses old Overflow) Rest (cases_eq (t + n - 1) MAX) (refusal old Overflow (λ e. cc e)) (λ _. rest clear))))))
 
-total_settles : (policy : AllocPolicy) (n a : ℕ) (old : AddressState) → 0 < n → IsStartAligned a policy → IsTotal (Settles old (request_for n a policy))
-unfolding Settles ByExactStart IsStartAligned IsPlace
-total_settles FirstMatch n a old some aligned = total_place (request_for n a FirstMatch) old (least_choice n a old some)
-total_settles LastMatch n a old some aligned = total_place (request_for n a LastMatch) old (greatest_choice n a old some)
-total_settles (ExactMatch t) n a old some aligned =
+total_grants : (policy : AllocPolicy) (n a : ℕ) (old : AddressState) → 0 < n → IsStartAligned a policy → IsTotal (Grants old (request_for n a policy))
+unfolding Grants ByExactStart IsStartAligned IsPlace
+total_grants FirstMatch n a old some aligned = total_place (request_for n a FirstMatch) old (least_choice n a old some)
+total_grants LastMatch n a old some aligned = total_place (request_for n a LastMatch) old (greatest_choice n a old some)
+total_grants (ExactMatch t) n a old some aligned =
     total_start t n old _ (λ clear. total_place (request_for n a (ExactMatch t)) old (named_choice n a t old (aligned, clear)))
 
 total_allocates : (old : AddressState) (request : Request) → IsTotal (Allocates old request)
@@ -103,7 +103,7 @@ total_allocates old request =
     total_if old _ (Refuses old (InvalidSize 0)) _ (cases_eq request.size 0) (refusal old (InvalidSize 0) (λ e. cc e)) (λ some.
     total_unless old _ (Refuses old InvalidAlignment) _ (decided_alignment request.align) (refusal old InvalidAlignment (λ e. cc e)) (λ _.
     total_unless old _ (Refuses old UnalignedAddress) _ (decided_start request.align request.policy) (refusal old UnalignedAddress (λ e. cc e)) (λ aligned.
-    total_settles request.policy request.size request.align old (omega (arith, some)) aligned)))
+    total_grants request.policy request.size request.align old (omega (arith, some)) aligned)))
 
 -- ---- a range given back is answered, and so is an allocator that is made
 total_frees : (old : AddressState) (r : Range) → (answer : Result (Unit {0}) Error) × (new : AddressState) × Frees old r answer new

@@ -5,7 +5,7 @@ use Rattle.vm_allocator.specs.Cases.{IfElse, Unless}
 use Rattle.vm_allocator.specs.Range.{Range, MAX, IsIn, span}
 use Rattle.vm_allocator.specs.Address.{AddressState, AreClear, IsPlace}
 use Rattle.vm_allocator.specs.Request.{Request, request_for, IsRequest, ByConstraint, MakesConstraint}
-use Rattle.vm_allocator.specs.Answer.{IsChosen, ByStart, ByExactStart, ByPlace, Takes, Settles, Allocates, FillsGap, Frees}
+use Rattle.vm_allocator.specs.Answer.{IsChosen, ByStart, ByExactStart, ByPlace, Takes, Grants, Allocates, FillsGap, Frees}
 use Rattle.vm_allocator.specs.declared.error.Error.{Error}
 use Rattle.vm_allocator.specs.declared.error.Error.TheVariants.{Overflow}
 use Rattle.vm_allocator.specs.declared.constraint.AllocPolicy.{AllocPolicy}
@@ -31,7 +31,7 @@ exact_start : (n a s t : ℕ) (state : AddressState) → IsChosen (request_for n
 unfolding IsChosen
 exact_start n a s t state c = c.0
 
-pub place_clear : (n a t : ℕ) (state : AddressState) → IsPlace n a state t → AreClear n state t
+place_clear : (n a t : ℕ) (state : AddressState) → IsPlace n a state t → AreClear n state t
 unfolding IsPlace
 place_clear n a t state p = p.1
 
@@ -68,8 +68,8 @@ module _ (s : ℕ) (old new : AddressState) (answer : Result Range Error) where
       (given _ _ _ clear (otherwise _ _ _ (clear_not_held n t old z clear) (otherwise _ _ _ (λ o. omega arith) (given _ _ _ inside k.1)))))
       h
 
-  chosen_by : (policy : AllocPolicy) (n a : ℕ) → 0 < n → s + n - 1 ≤ MAX → IsChosen (request_for n a policy) old s → Settles old (request_for n a policy) answer new → TakesBelowMax old n s answer new
-  unfolding Settles ByExactStart
+  chosen_by : (policy : AllocPolicy) (n a : ℕ) → 0 < n → s + n - 1 ≤ MAX → IsChosen (request_for n a policy) old s → Grants old (request_for n a policy) answer new → TakesBelowMax old n s answer new
+  unfolding Grants ByExactStart
   chosen_by FirstMatch n a z m c h = by_place (request_for n a FirstMatch) c h
   chosen_by LastMatch n a z m c h = by_place (request_for n a LastMatch) c h
   chosen_by (ExactMatch t) n a z m c h =
@@ -78,14 +78,14 @@ module _ (s : ℕ) (old new : AddressState) (answer : Result Range Error) where
       let clear : AreClear n old t = subst (AreClear n old) e (place_clear n a s old (chosen_place request s old c)) in
       start_chosen t n _ z (omega arith) e clear (by_place request c) h
 
--- a request that makes sense is settled
-pub request_settles : (request : Request) (old new : AddressState) (answer : Result Range Error) → IsRequest request → Allocates old request answer new → Settles old request answer new
+-- a request that makes sense is granted or refused by its place
+pub request_grants : (request : Request) (old new : AddressState) (answer : Result Range Error) → IsRequest request → Allocates old request answer new → Grants old request answer new
 unfolding Allocates ByConstraint
-request_settles request old new answer r h = given _ _ _ r.start (given _ _ _ r.aligned (otherwise _ _ _ (λ k. let z = r.some in omega arith) h))
+request_grants request old new answer r h = given _ _ _ r.start (given _ _ _ r.aligned (otherwise _ _ _ (λ k. let z = r.some in omega arith) h))
 
 -- and so its chosen place is taken
 pub allocates_chosen : (request : Request) (s : ℕ) (old new : AddressState) (answer : Result Range Error) → IsRequest request → s + request.size - 1 ≤ MAX → IsChosen request old s → Allocates old request answer new → TakesBelowMax old request.size s answer new
-allocates_chosen request s old new answer r m c h = chosen_by s old new answer request.policy request.size request.align r.some m c (request_settles request old new answer r h)
+allocates_chosen request s old new answer r m c h = chosen_by s old new answer request.policy request.size request.align r.some m c (request_grants request old new answer r h)
 
 -- the constraint of a request that makes sense is made
 pub no_constraint_fault : (request : Request) (e : Error) → MakesConstraint request (Err e) → IsRequest request → ⊥

@@ -4,7 +4,7 @@ use Rattle.vm_allocator.specs.Cases.{IfElse, Unless}
 use Rattle.vm_allocator.specs.Range.{Range, MAX, span}
 use Rattle.vm_allocator.specs.Address.{AddressState, IsPlace, IsLeastPlace, IsGreatestPlace}
 use Rattle.vm_allocator.specs.Request.{Request, request_for, ByConstraint}
-use Rattle.vm_allocator.specs.Answer.{IsChosen, ByStart, ByExactStart, ByPlace, Takes, Settles, Allocates, Frees}
+use Rattle.vm_allocator.specs.Answer.{IsChosen, ByStart, ByExactStart, ByPlace, Takes, Grants, Allocates, Frees}
 use Rattle.vm_allocator.specs.Laws.AddressLaws.{AgreeButForSplits, AllocatesOnce, FreesOnce}
 use Rattle.vm_allocator.specs.declared.error.Error.{Error}
 use Rattle.vm_allocator.specs.declared.error.Error.TheVariants.{Overflow, ResourceNotAvailable}
@@ -86,18 +86,18 @@ module _ (old new later : AddressState) (answer other : Result Range Error) wher
       (both_unless _ _ _ _ _ Agree (refused_once _)
       (both _ _ _ _ _ Agree (refused_once _) rest)))))
 
-  settles_by : (policy : AllocPolicy) (n a : ℕ) → Settles old (request_for n a policy) answer new → Settles old (request_for n a policy) other later → Agree
-  unfolding Settles ByExactStart
-  settles_by FirstMatch n a p q = place_once (request_for n a FirstMatch) p q
-  settles_by LastMatch n a p q = place_once (request_for n a LastMatch) p q
-  settles_by (ExactMatch t) n a p q = start_once t n _ _ (place_once (request_for n a (ExactMatch t))) p q
+  grants_by : (policy : AllocPolicy) (n a : ℕ) → Grants old (request_for n a policy) answer new → Grants old (request_for n a policy) other later → Agree
+  unfolding Grants ByExactStart
+  grants_by FirstMatch n a p q = place_once (request_for n a FirstMatch) p q
+  grants_by LastMatch n a p q = place_once (request_for n a LastMatch) p q
+  grants_by (ExactMatch t) n a p q = start_once t n _ _ (place_once (request_for n a (ExactMatch t))) p q
 
   request_once : (request : Request) → Allocates old request answer new → Allocates old request other later → Agree
   unfolding Allocates ByConstraint
   request_once request p q =
       both _ _ _ _ _ Agree (refused_once _)
       (both_unless _ _ _ _ _ Agree (refused_once _)
-      (both_unless _ _ _ _ _ Agree (refused_once _) (settles_by request.policy request.size request.align))) p q
+      (both_unless _ _ _ _ _ Agree (refused_once _) (grants_by request.policy request.size request.align))) p q
 
 pub allocates_once : AllocatesOnce
 allocates_once old new later request answer other = request_once old new later answer other request

@@ -3,7 +3,7 @@ use Rattle.std.proofs.Common.{◌≡◌, ℕ, ◌+◌, ◌-◌, arith, inl, inr,
 use Rattle.vm_allocator.specs.Range.{Range, MAX, span}
 use Rattle.vm_allocator.specs.Address.{AddressState}
 use Rattle.vm_allocator.specs.Request.{Request, request_for, IsRequest, ByConstraint}
-use Rattle.vm_allocator.specs.Answer.{IsChosen, ByStart, ByExactStart, ByPlace, Takes, Settles, Allocates}
+use Rattle.vm_allocator.specs.Answer.{IsChosen, ByStart, ByExactStart, ByPlace, Takes, Grants, Allocates}
 use Rattle.vm_allocator.specs.declared.error.Error.{Error}
 use Rattle.vm_allocator.specs.declared.error.Error.TheVariants.{Overflow, ResourceNotAvailable}
 use Rattle.vm_allocator.specs.declared.constraint.AllocPolicy.{AllocPolicy}
@@ -43,15 +43,15 @@ module _ (old new : AddressState) (answer : Result Range Error) where
       (λ d. or_rest _ _ _ G _
       (λ d. rest)))))) h
 
-  outcome_by : (policy : AllocPolicy) (n a : ℕ) → Settles old (request_for n a policy) answer new → IsRefused old answer new ⊎ IsTaken (request_for n a policy) old answer new
-  unfolding Settles ByExactStart
+  outcome_by : (policy : AllocPolicy) (n a : ℕ) → Grants old (request_for n a policy) answer new → IsRefused old answer new ⊎ IsTaken (request_for n a policy) old answer new
+  unfolding Grants ByExactStart
   outcome_by FirstMatch n a h = place_outcome (request_for n a FirstMatch) h
   outcome_by LastMatch n a h = place_outcome (request_for n a LastMatch) h
   outcome_by (ExactMatch t) n a h =
       let request = request_for n a (ExactMatch t) in start_outcome t n _ (IsTaken request old answer new) (place_outcome request) h
 
-  pub settles_outcome : (request : Request) → Settles old request answer new → IsRefused old answer new ⊎ IsTaken request old answer new
-  settles_outcome request = outcome_by request.policy request.size request.align
+  pub grants_outcome : (request : Request) → Grants old request answer new → IsRefused old answer new ⊎ IsTaken request old answer new
+  grants_outcome request = outcome_by request.policy request.size request.align
 
   pub allocates_outcome : (request : Request) → Allocates old request answer new → IsRefused old answer new ⊎ (IsRequest request × IsTaken request old answer new)
   unfolding Allocates ByConstraint
@@ -64,4 +64,4 @@ module _ (old new : AddressState) (answer : Result Range Error) where
       ⊎_elim
       (λ l. inl l)
       (λ t. inr (record { some = omega (arith, some); aligned = aligned; start = start }, t))
-      (settles_outcome request q)))) h
+      (grants_outcome request q)))) h

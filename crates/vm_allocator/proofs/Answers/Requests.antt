@@ -8,7 +8,7 @@ use Rattle.vm_allocator.proofs.Numbers.Power.{alignment_if_true, no_alignment_if
 use Rattle.std.proofs.Common.{◌≡◌, refl, ap, inl, inr, Result, Ok, Err, ⊎_elim, subst}
 use Rattle.vm_allocator.specs.Range.{Range}
 use Rattle.vm_allocator.specs.Address.{AddressState}
-use Rattle.vm_allocator.specs.Answer.{Settles, Allocates}
+use Rattle.vm_allocator.specs.Answer.{Grants, Allocates}
 use Rattle.vm_allocator.specs.declared.error.Error.{Error}
 
 pub constrains_size : (request : Request) → request.size ≡ 0 → MakesConstraint request (Err (InvalidSize 0))
@@ -53,17 +53,17 @@ unfolding MakesConstraint Allocates
 allocates_refused old request x h =
     let made : Result Request Error = Err x in
     let answer : Result Range Error = Err x in
-    constraint_map request (λ e. made ≡ Err e) (λ e. (answer ≡ Err e) × (old ≡ old)) (made ≡ Ok request) (Settles old request (Err x) old)
+    constraint_map request (λ e. made ≡ Err e) (λ e. (answer ≡ Err e) × (old ≡ old)) (made ≡ Ok request) (Grants old request (Err x) old)
     (λ e k. let same : x ≡ e = cc in (ap (λ (v : Error). Err v) same, refl)) (λ k. absurd (cc)) h
 
--- and the constraint that is made is settled
-pub allocates_settled : (old new : AddressState) (request made : Request) (answer : Result Range Error) → MakesConstraint request (Ok made) → Settles old made answer new → Allocates old request answer new
+-- and the constraint that is made is granted or refused
+pub allocates_granted : (old new : AddressState) (request made : Request) (answer : Result Range Error) → MakesConstraint request (Ok made) → Grants old made answer new → Allocates old request answer new
 unfolding MakesConstraint Allocates
-allocates_settled old new request made answer h s =
+allocates_granted old new request made answer h s =
     let constraint : Result Request Error = Ok made in
-    constraint_map request (λ x. constraint ≡ Err x) (λ x. (answer ≡ Err x) × (new ≡ old)) (constraint ≡ Ok request) (Settles old request answer new)
+    constraint_map request (λ x. constraint ≡ Err x) (λ x. (answer ≡ Err x) × (new ≡ old)) (constraint ≡ Ok request) (Grants old request answer new)
     (λ x m. absurd (cc))
-    (λ m. let same : made ≡ request = cc in subst (λ (v : Request). Settles old v answer new) same s)
+    (λ m. let same : made ≡ request = cc in subst (λ (v : Request). Grants old v answer new) same s)
     h
 
-pub ruleset allocating = (allocates_refused, allocates_settled)
+pub ruleset allocating = (allocates_refused, allocates_granted)

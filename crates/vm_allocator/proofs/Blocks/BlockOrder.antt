@@ -16,42 +16,42 @@ pub ordered_drop : (lo : ℕ) (l : List Block) (x : Block) (r : List Block) → 
 ordered_drop lo [] x r o = ordered_weaken lo (x.key.end + 1) r (omega arith) o.2
 ordered_drop lo (b ∷ l) x r o = (o.0, o.1, ordered_drop (b.key.end + 1) l x r o.2)
 
-pub ordered_front : (lo : ℕ) (l m : List Block) → IsOrderedFrom lo (l ++ m) → IsOrderedFrom lo l
-ordered_front lo [] m s = tt
-ordered_front lo (b ∷ l) m s = (s.0, s.1, ordered_front (b.key.end + 1) l m s.2)
+pub ordered_below : (lo : ℕ) (l m : List Block) → IsOrderedFrom lo (l ++ m) → IsOrderedFrom lo l
+ordered_below lo [] m s = tt
+ordered_below lo (b ∷ l) m s = (s.0, s.1, ordered_below (b.key.end + 1) l m s.2)
 
 pub ordered_middle : (lo : ℕ) (l : List Block) (b : Block) (r : List Block) → IsOrderedFrom lo (l ++ b ∷ r) → IsOrderedFrom lo (b ∷ r)
 ordered_middle lo [] b r s = s
 ordered_middle lo (x ∷ l) b r s =
     let t = ordered_middle (x.key.end + 1) l b r s.2 in (omega arith, t.1, t.2)
 
-pub ordered_back : (l : List Block) (b : Block) (r : List Block) → IsOrderedFrom 0 (l ++ b ∷ r) → IsOrderedFrom 0 r
-ordered_back l b r s = let t = ordered_middle 0 l b r s in ordered_weaken 0 (b.key.end + 1) r (omega arith) t.2
+pub ordered_above : (l : List Block) (b : Block) (r : List Block) → IsOrderedFrom 0 (l ++ b ∷ r) → IsOrderedFrom 0 r
+ordered_above l b r s = let t = ordered_middle 0 l b r s in ordered_weaken 0 (b.key.end + 1) r (omega arith) t.2
 
 -- the blocks below a rotation, grouped the other way
-pub append-cons_assoc : (x : List Block) (j : Block) (y : List Block) (k : Block) (z : List Block) → (x ++ j ∷ y) ++ k ∷ z ≡ x ++ j ∷ (y ++ k ∷ z)
+append-cons_assoc : (x : List Block) (j : Block) (y : List Block) (k : Block) (z : List Block) → (x ++ j ∷ y) ++ k ∷ z ≡ x ++ j ∷ (y ++ k ∷ z)
 append-cons_assoc x j y k z = append_assoc x (j ∷ y) (k ∷ z)
 
-pub ordered_inner_right : (x : List Block) (j : Block) (y : List Block) (k : Block) (z : List Block) → IsOrderedFrom 0 ((x ++ j ∷ y) ++ k ∷ z) → IsOrderedFrom 0 (y ++ k ∷ z)
-ordered_inner_right x j y k z s = ordered_back x j (y ++ k ∷ z) (subst (IsOrderedFrom 0) (append-cons_assoc x j y k z) s)
+ordered_inner_right : (x : List Block) (j : Block) (y : List Block) (k : Block) (z : List Block) → IsOrderedFrom 0 ((x ++ j ∷ y) ++ k ∷ z) → IsOrderedFrom 0 (y ++ k ∷ z)
+ordered_inner_right x j y k z s = ordered_above x j (y ++ k ∷ z) (subst (IsOrderedFrom 0) (append-cons_assoc x j y k z) s)
 
-pub ordered_inner_left : (x : List Block) (j : Block) (y : List Block) (k : Block) (z : List Block) → IsOrderedFrom 0 (x ++ j ∷ (y ++ k ∷ z)) → IsOrderedFrom 0 (x ++ j ∷ y)
-ordered_inner_left x j y k z s = ordered_front 0 (x ++ j ∷ y) (k ∷ z) (subst (IsOrderedFrom 0) (sym (append-cons_assoc x j y k z)) s)
+ordered_inner_left : (x : List Block) (j : Block) (y : List Block) (k : Block) (z : List Block) → IsOrderedFrom 0 (x ++ j ∷ (y ++ k ∷ z)) → IsOrderedFrom 0 (x ++ j ∷ y)
+ordered_inner_left x j y k z s = ordered_below 0 (x ++ j ∷ y) (k ∷ z) (subst (IsOrderedFrom 0) (sym (append-cons_assoc x j y k z)) s)
 
 -- the parts of a tree s beside a block k, kept in order
 pub ordered_left_sides : (s : Shape) (l : Shape) (j : Block) (r : Shape) (k : Block) (z : List Block) → s ≡ Fork l j r → IsOrderedFrom 0 (blocks s ++ k ∷ z) → IsOrderedFrom 0 (blocks l ++ j ∷ blocks r) × IsOrderedFrom 0 (blocks r ++ k ∷ z)
 ordered_left_sides s l j r k z e o =
     let t : IsOrderedFrom 0 ((blocks l ++ j ∷ blocks r) ++ k ∷ z) = rw e at o in
-    (ordered_front 0 (blocks l ++ j ∷ blocks r) (k ∷ z) t, ordered_inner_right (blocks l) j (blocks r) k z t)
+    (ordered_below 0 (blocks l ++ j ∷ blocks r) (k ∷ z) t, ordered_inner_right (blocks l) j (blocks r) k z t)
 
 pub ordered_right_sides : (s : Shape) (l : Shape) (j : Block) (r : Shape) (k : Block) (x : List Block) → s ≡ Fork l j r → IsOrderedFrom 0 (x ++ k ∷ blocks s) → IsOrderedFrom 0 (x ++ k ∷ blocks l) × IsOrderedFrom 0 (blocks l ++ j ∷ blocks r)
 ordered_right_sides s l j r k x e o =
     let t : IsOrderedFrom 0 (x ++ k ∷ (blocks l ++ j ∷ blocks r)) = rw e at o in
-    (ordered_inner_left x k (blocks l) j (blocks r) t, ordered_back x k (blocks l ++ j ∷ blocks r) t)
+    (ordered_inner_left x k (blocks l) j (blocks r) t, ordered_above x k (blocks l ++ j ∷ blocks r) t)
 
 pub ruleset rotations = (ordered_left_sides, ordered_right_sides)
 
-pub insert_block_left : (x k : Block) (l r : List Block) → x.key.start < k.key.start → insert_block x (l ++ k ∷ r) ≡ insert_block x l ++ k ∷ r
+insert_block_left : (x k : Block) (l r : List Block) → x.key.start < k.key.start → insert_block x (l ++ k ∷ r) ≡ insert_block x l ++ k ∷ r
 insert_block_left x k [] r p = rw (lt-ltb x.key.start k.key.start p)
 insert_block_left x k (b ∷ l) r p =
     let ih = insert_block_left x k l r p in
@@ -60,20 +60,20 @@ insert_block_left x k (b ∷ l) r p =
       | false ↦ ap (λ z. b ∷ z) ih
     ]
 
-pub insert_block_right : (lo : ℕ) (x k : Block) (l r : List Block) → k.key.start ≤ x.key.start → IsOrderedFrom lo (l ++ k ∷ r) → insert_block x (l ++ k ∷ r) ≡ l ++ k ∷ insert_block x r
+insert_block_right : (lo : ℕ) (x k : Block) (l r : List Block) → k.key.start ≤ x.key.start → IsOrderedFrom lo (l ++ k ∷ r) → insert_block x (l ++ k ∷ r) ≡ l ++ k ∷ insert_block x r
 insert_block_right lo x k [] r p o = rw (le-ltb x.key.start k.key.start p)
 insert_block_right lo x k (b ∷ l) r p o =
     let m = ordered_middle (b.key.end + 1) l k r o.2 in
     let q : b.key.start ≤ x.key.start = omega (arith, o.1, m.0) in
     rw (le-ltb x.key.start b.key.start q) (ap (λ z. b ∷ z) (insert_block_right (b.key.end + 1) x k l r p o.2))
 
-pub clear_left : (k : Range) (l : List Block) (b : Block) (r : List Block) → IsClearOf k (l ++ b ∷ r) → IsClearOf k l × Apart k b.key × IsClearOf k r
+clear_left : (k : Range) (l : List Block) (b : Block) (r : List Block) → IsClearOf k (l ++ b ∷ r) → IsClearOf k l × Apart k b.key × IsClearOf k r
 unfolding IsClearOf
 clear_left k [] b r c = (tt, c.0, c.1)
 clear_left k (x ∷ l) b r c = let t = clear_left k l b r c.1 in ((c.0, t.0), t.1, t.2)
 
 -- a block that is apart from all of an ordered list keeps it ordered
-pub ordered_insert : (lo : ℕ) (x : Block) (bs : List Block) → lo ≤ x.key.start → x.key.start ≤ x.key.end → IsClearOf x.key bs → IsOrderedFrom lo bs → IsOrderedFrom lo (insert_block x bs)
+ordered_insert : (lo : ℕ) (x : Block) (bs : List Block) → lo ≤ x.key.start → x.key.start ≤ x.key.end → IsClearOf x.key bs → IsOrderedFrom lo bs → IsOrderedFrom lo (insert_block x bs)
 unfolding IsClearOf
 ordered_insert lo x [] p q c o = (p, q, tt)
 ordered_insert lo x (b ∷ bs) p q c o =
@@ -83,7 +83,7 @@ ordered_insert lo x (b ∷ bs) p q c o =
     ] refl
 
 -- what a new block x does to the tree s, on the side where it goes
-pub link_left : (s l : Shape) (k : Block) (r : Shape) (x : Block) → s ≡ Fork l k r → x.key.start < k.key.start → x.key.start ≤ x.key.end → IsClearOf x.key (blocks s) → IsTree s
+link_left : (s l : Shape) (k : Block) (r : Shape) (x : Block) → s ≡ Fork l k r → x.key.start < k.key.start → x.key.start ≤ x.key.end → IsClearOf x.key (blocks s) → IsTree s
     → IsClearOf x.key (blocks l) × IsOrderedFrom 0 (insert_block x (blocks l) ++ k ∷ blocks r) × (insert_block x (blocks s) ≡ insert_block x (blocks l) ++ k ∷ blocks r)
 link_left s l k r x e p q c t =
     let d : IsClearOf x.key (blocks l ++ k ∷ blocks r) = rw e at c in
@@ -92,7 +92,7 @@ link_left s l k r x e p q c t =
     let n : IsOrderedFrom 0 (insert_block x (blocks l ++ k ∷ blocks r)) = ordered_insert 0 x (blocks l ++ k ∷ blocks r) (omega arith) q d o in
     ((clear_left x.key (blocks l) k (blocks r) d).0, subst (IsOrderedFrom 0) i n, ap (λ (v : Shape). insert_block x (blocks v)) e ∙ i)
 
-pub link_right : (s l : Shape) (k : Block) (r : Shape) (x : Block) → s ≡ Fork l k r → k.key.start ≤ x.key.start → x.key.start ≤ x.key.end → IsClearOf x.key (blocks s) → IsTree s
+link_right : (s l : Shape) (k : Block) (r : Shape) (x : Block) → s ≡ Fork l k r → k.key.start ≤ x.key.start → x.key.start ≤ x.key.end → IsClearOf x.key (blocks s) → IsTree s
     → IsClearOf x.key (blocks r) × IsOrderedFrom 0 (blocks l ++ k ∷ insert_block x (blocks r)) × (insert_block x (blocks s) ≡ blocks l ++ k ∷ insert_block x (blocks r))
 link_right s l k r x e p q c t =
     let d : IsClearOf x.key (blocks l ++ k ∷ blocks r) = rw e at c in

@@ -2,9 +2,9 @@
 use Rattle.std.proofs.Common.{◌≡◌, ℕ, ◌+◌, ◌<◌, ◌≤◌, ◌⊎◌, List, [], ◌∷◌, refl, sym, ap, ◌∙◌, arith, inl, inr, ⊎_elim, eq-eqb}
 use Rattle.std.proofs.lemmas.Bool.{cases_lt, lt-ltb, le-ltb, cases_eq, ne_eqb}
 use Rattle.vm_allocator.specs.Range.{Range, MAX, IsIn}
-use Rattle.vm_allocator.specs.Address.{with_range, without_range, AreSlots}
+use Rattle.vm_allocator.specs.Address.{with_range, without_range, StandInOrder}
 use Rattle.vm_allocator.proofs.Blocks.PlainWords.{IsHeldAddress, IsHeld}
-use Rattle.vm_allocator.proofs.Blocks.BlockStates.{slots_from}
+use Rattle.vm_allocator.proofs.Blocks.BlockStates.{in_order_from}
 use Rattle.vm_allocator.proofs.Blocks.HeldSets.{later_above, one_start}
 
 -- ---- with one more
@@ -31,14 +31,14 @@ beside x r xs o l m =
 misses_later : (x r : Range) (xs : List Range) → Misses (x ∷ xs) r → Misses xs r
 misses_later x r xs m a i h = m a i (inr h)
 
-pub slots_with : (lo hi : ℕ) (r : Range) (hs : List Range) → AreSlots lo hs hi → lo ≤ r.start → r.start ≤ r.end → r.end ≤ hi → r.end < MAX → Misses hs r → AreSlots lo (with_range r hs) hi
-slots_with lo hi r [] s b l u w m = (b, l, u, w, tt)
-slots_with lo hi r (x ∷ xs) s b l u w m =
+pub in_order_with : (lo hi : ℕ) (r : Range) (hs : List Range) → StandInOrder lo hs hi → lo ≤ r.start → r.start ≤ r.end → r.end ≤ hi → r.end < MAX → Misses hs r → StandInOrder lo (with_range r hs) hi
+in_order_with lo hi r [] s b l u w m = (b, l, u, w, tt)
+in_order_with lo hi r (x ∷ xs) s b l u w m =
     ⊎_elim
     (λ (d : r.end < x.start). let e = lt-ltb r.start x.start (omega arith) in rw e (b, l, u, w, (omega arith, s.1, s.2, s.3, s.4)))
     (λ (d : x.end < r.start).
     let e = le-ltb r.start x.start (omega (arith, s.1)) in
-    rw e (s.0, s.1, s.2, s.3, slots_with (x.end + 1) hi r xs s.4 (omega arith) l u w (misses_later x r xs m)))
+    rw e (s.0, s.1, s.2, s.3, in_order_with (x.end + 1) hi r xs s.4 (omega arith) l u w (misses_later x r xs m)))
     (beside x r xs s.1 l m)
 
 -- what is held with one more is that one or was held
@@ -75,16 +75,16 @@ held_now r (x ∷ xs) =
     (cases_lt r.start x.start)
 
 -- ---- with one less
-pub slots_without : (lo hi : ℕ) (r : Range) (hs : List Range) → AreSlots lo hs hi → AreSlots lo (without_range r hs) hi
-slots_without lo hi r [] s = tt
-slots_without lo hi r (x ∷ xs) s =
+pub in_order_without : (lo hi : ℕ) (r : Range) (hs : List Range) → StandInOrder lo hs hi → StandInOrder lo (without_range r hs) hi
+in_order_without lo hi r [] s = tt
+in_order_without lo hi r (x ∷ xs) s =
     ⊎_elim
-    (λ (d : r.start ≡ x.start). let e = eq-eqb r.start x.start d in rw e (slots_from lo (x.end + 1) hi xs (omega (arith, s.0, s.1)) s.4))
-    (λ (d : r.start ≡ x.start → ⊥). let e = ne_eqb r.start x.start d in rw e (s.0, s.1, s.2, s.3, slots_without (x.end + 1) hi r xs s.4))
+    (λ (d : r.start ≡ x.start). let e = eq-eqb r.start x.start d in rw e (in_order_from lo (x.end + 1) hi xs (omega (arith, s.0, s.1)) s.4))
+    (λ (d : r.start ≡ x.start → ⊥). let e = ne_eqb r.start x.start d in rw e (s.0, s.1, s.2, s.3, in_order_without (x.end + 1) hi r xs s.4))
     (cases_eq r.start x.start)
 
 -- what is taken and given back leaves the ranges from before
-pub without_with : (lo hi : ℕ) (r : Range) (hs : List Range) → AreSlots lo hs hi → r.start ≤ r.end → Misses hs r → without_range r (with_range r hs) ≡ hs
+pub without_with : (lo hi : ℕ) (r : Range) (hs : List Range) → StandInOrder lo hs hi → r.start ≤ r.end → Misses hs r → without_range r (with_range r hs) ≡ hs
 without_with lo hi r [] s l m = let e = eq-eqb r.start r.start refl in rw e refl
 without_with lo hi r (x ∷ xs) s l m =
     ⊎_elim
@@ -111,7 +111,7 @@ held_without r q (x ∷ xs) h =
     (cases_eq r.start x.start)
 
 -- and is not that one
-pub not_held_without : (lo hi : ℕ) (r q : Range) (hs : List Range) → AreSlots lo hs hi → IsHeld (without_range r hs) q → r ≡ q → ⊥
+pub not_held_without : (lo hi : ℕ) (r q : Range) (hs : List Range) → StandInOrder lo hs hi → IsHeld (without_range r hs) q → r ≡ q → ⊥
 not_held_without lo hi r q [] s h g = h
 not_held_without lo hi r q (x ∷ xs) s h g =
     let same : r.start ≡ q.start = ap (λ (v : Range). v.start) g in
@@ -143,5 +143,5 @@ still_held r q (x ∷ xs) h n =
     (cases_eq r.start x.start)
 
 -- where the one that is given back is held
-pub others_held : (lo hi : ℕ) (r q : Range) (hs : List Range) → AreSlots lo hs hi → IsHeld hs r → IsHeld hs q → ¬ (r ≡ q) → IsHeld (without_range r hs) q
+pub others_held : (lo hi : ℕ) (r q : Range) (hs : List Range) → StandInOrder lo hs hi → IsHeld hs r → IsHeld hs q → ¬ (r ≡ q) → IsHeld (without_range r hs) q
 others_held lo hi r q hs s h k n = still_held r q hs k (λ (e : r.start ≡ q.start). n (one_start lo hi r q hs s h k e))

@@ -11,7 +11,7 @@ use Rattle.std.specs.List.{Contains}
 use Rattle.std.specs.Ordering.{eq_by_cmp}
 use Rattle.vm_allocator.specs.Range.{Range}
 use Rattle.vm_allocator.specs.RangeOrder.{range_cmp}
-use Rattle.vm_allocator.specs.Address.{AreSlots}
+use Rattle.vm_allocator.specs.Address.{StandInOrder}
 use Rattle.vm_allocator.specs.Comparison.{range_cmp-total}
 use Rattle.vm_allocator.specs.Laws.AddressLaws.{CountTellsAll}
 use Rattle.vm_allocator.proofs.Numbers.Listed.{Differ, AreAtMost, listed_is, each_listed}
@@ -33,22 +33,22 @@ no_more hs rs d a =
     length-le_from_is_member laws rs hs (IsDistinct-from_AllPairs tells rs d)
     (λ q m. (is_member-Decides tells hs q).1 (listed_is tells (Contains hs) rs q a m))
 
-slots_differ : (lo hi : ℕ) (hs : List Range) → AreSlots lo hs hi → Differ hs
-slots_differ lo hi [] s = λ i j d l m. absurd (omega (arith, m))
-slots_differ lo hi (x ∷ xs) s =
+held_differ : (lo hi : ℕ) (hs : List Range) → StandInOrder lo hs hi → Differ hs
+held_differ lo hi [] s = λ i j d l m. absurd (omega (arith, m))
+held_differ lo hi (x ∷ xs) s =
     AllPairs-cons (λ r s. r ≢ s) x xs
     (λ k b l e.
     let c : Contains xs x = subst (Contains xs) (sym e) (Contains-get_or xs k b l) in
     omega (arith, later_above lo hi x xs x s (held_contains xs x c), s.1))
-    (slots_differ (x.end + 1) hi xs s.4)
+    (held_differ (x.end + 1) hi xs s.4)
 
-pub slots_listed : CountTellsAll
-slots_listed state list i d a =
+pub ranges_listed : CountTellsAll
+ranges_listed state list i d a =
     let held = state.held in (
       λ e r. each_listed tells (Contains held) (length held) (no_more held) list r d a e,
       λ each.
-          let back = no_more list held (slots_differ state.space.start state.space.end held i.slots) (λ k b l. each _ (Contains-get_or held k b l)) in
+          let back = no_more list held (held_differ state.space.start state.space.end held i.in_order) (λ k b l. each _ (Contains-get_or held k b l)) in
           omega (arith, no_more held list d a, back),
     )
 
-pub ruleset listings = (slots_listed)
+pub ruleset listings = (ranges_listed)

@@ -1,5 +1,5 @@
 -- A block that goes, or that others replace.
-use Rattle.std.proofs.Common.{◌≡◌, ℕ, ◌+◌, ◌<◌, ◌≤◌, true, false, cond, eqb, List, [], ◌∷◌, ◌++◌, refl, ap, ◌∙◌, subst, sym, append_assoc, arith, inl, inr, ◌⊎◌, Some, None}
+use Rattle.std.proofs.Common.{◌≡◌, ℕ, ◌+◌, ◌<◌, ◌≤◌, true, false, cond, eqb, List, [], ◌∷◌, ◌++◌, refl, ap, ◌∙◌, subst, sym, append_assoc, arith, inl, inr, ◌⊎◌, Some, None, ⊎_elim}
 use Rattle.std.proofs.lemmas.Bool.{eq-eqb, ne_eqb, eqb-true, and_parts}
 use Rattle.vm_allocator.specs.Range.{Range}
 use Rattle.vm_allocator.specs.RangeOrder.{Before, same_range}
@@ -9,17 +9,23 @@ use Rattle.vm_allocator.specs.Tree.Shape.{Shape, Fork, blocks, IsTree}
 use Rattle.vm_allocator.specs.Engine.Changes.{LeavesIfAbsent}
 use Rattle.vm_allocator.specs.declared.allocation_engine.node.kept.Change.{Change}
 use Rattle.vm_allocator.specs.declared.allocation_engine.node.kept.Change.TheVariants.{Nothing}
+use Rattle.vm_allocator.proofs.Numbers.RangeCalls.{before_parts, starts_low}
 use Rattle.vm_allocator.proofs.Blocks.BlockOrder.{ordered_middle, ordered_weaken, ordered_drop}
 
 pub same_range_start : (a b : Range) → (a.start ≡ b.start → ⊥) → same_range a b ≡ false
 same_range_start a b n = rw (ne_eqb a.start b.start n)
 
 pub same_range_before : (a b : Range) → Before a b ⊎ Before b a → same_range a b ≡ false
-unfolding Before
-same_range_before a b (inl (inl p)) = same_range_start a b (λ e. omega arith)
-same_range_before a b (inr (inl p)) = same_range_start a b (λ e. omega arith)
-same_range_before a b (inl (inr p)) = rw (eq-eqb a.start b.start p.0, ne_eqb a.end b.end (λ e. omega arith))
-same_range_before a b (inr (inr p)) = rw (eq-eqb a.start b.start (sym p.0), ne_eqb a.end b.end (λ e. omega arith))
+same_range_before a b (inl h) =
+    ⊎_elim
+    (λ p. same_range_start a b (λ e. omega arith))
+    (λ p. rw (eq-eqb a.start b.start p.0, ne_eqb a.end b.end (λ e. omega (arith, p.1))) refl)
+    (before_parts a b h)
+same_range_before a b (inr h) =
+    ⊎_elim
+    (λ p. same_range_start a b (λ e. omega arith))
+    (λ p. rw (eq-eqb a.start b.start (sym p.0), ne_eqb a.end b.end (λ e. omega (arith, p.1))) refl)
+    (before_parts b a h)
 
 pub same_range_self : (a : Range) → same_range a a ≡ true
 same_range_self a = rw (eq-eqb a.start a.start refl, eq-eqb a.end a.end refl)
@@ -31,9 +37,8 @@ replace_below lo k ys (b ∷ bs) p o =
     rw (same_range_start k b.key (λ e. omega arith), replace_below (b.key.end + 1) k ys bs (omega arith) o.2)
 
 replace_left : (lo : ℕ) (k : Range) (ys l : List Block) (x : Block) (r : List Block) → Before k x.key → IsOrderedFrom lo (l ++ x ∷ r) → replace_block k ys (l ++ x ∷ r) ≡ replace_block k ys l ++ x ∷ r
-unfolding Before
 replace_left lo k ys [] x r p o =
-    let q : k.start ≤ x.key.start = elim p [ inl a ↦ omega (arith, a) | inr a ↦ omega (arith, a.0) ] in
+    let q = starts_low k x.key p in
     rw (same_range_before k x.key (inl p), replace_below (x.key.end + 1) k ys r (omega arith) o.2)
 replace_left lo k ys (b ∷ l) x r p o =
     elim (same_range k b.key) as (λ v. cond v (ys ++ (l ++ x ∷ r)) (b ∷ replace_block k ys (l ++ x ∷ r)) ≡ cond v (ys ++ l) (b ∷ replace_block k ys l) ++ x ∷ r) [
@@ -49,9 +54,8 @@ replace_past lo k ys (b ∷ l) x r p o =
     rw (same_range_start k b.key (λ e. omega (arith, m.0, o.1)), replace_past (b.key.end + 1) k ys l x r p o.2)
 
 replace_right : (lo : ℕ) (k : Range) (ys l : List Block) (x : Block) (r : List Block) → Before x.key k → IsOrderedFrom lo (l ++ x ∷ r) → replace_block k ys (l ++ x ∷ r) ≡ l ++ x ∷ replace_block k ys r
-unfolding Before
 replace_right lo k ys l x r p o =
-    let q : x.key.start ≤ k.start = elim p [ inl a ↦ omega (arith, a) | inr a ↦ omega (arith, a.0) ] in
+    let q = starts_low x.key k p in
     replace_past lo k ys l x r q o ∙ rw (same_range_before k x.key (inr p))
 
 pub replace_middle : (lo : ℕ) (k : Range) (ys l : List Block) (x : Block) (r : List Block) → x.key ≡ k → IsOrderedFrom lo (l ++ x ∷ r) → replace_block k ys (l ++ x ∷ r) ≡ l ++ (ys ++ r)
@@ -64,9 +68,8 @@ find_below lo k [] p o = refl
 find_below lo k (b ∷ bs) p o = rw (same_range_start k b.key (λ e. omega arith), find_below (b.key.end + 1) k bs (omega arith) o.2)
 
 find_left : (lo : ℕ) (k : Range) (l : List Block) (x : Block) (r : List Block) → Before k x.key → IsOrderedFrom lo (l ++ x ∷ r) → find_key k (l ++ x ∷ r) ≡ find_key k l
-unfolding Before
 find_left lo k [] x r p o =
-    let q : k.start ≤ x.key.start = elim p [ inl a ↦ omega (arith, a) | inr a ↦ omega (arith, a.0) ] in
+    let q = starts_low k x.key p in
     rw (same_range_before k x.key (inl p), find_below (x.key.end + 1) k r (omega arith) o.2)
 find_left lo k (b ∷ l) x r p o =
     elim (same_range k b.key) as (λ v. cond v (Some b) (find_key k (l ++ x ∷ r)) ≡ cond v (Some b) (find_key k l)) [
@@ -81,9 +84,8 @@ find_past lo k (b ∷ l) x r p o =
     rw (same_range_start k b.key (λ e. omega (arith, m.0, o.1)), find_past (b.key.end + 1) k l x r p o.2)
 
 find_right : (lo : ℕ) (k : Range) (l : List Block) (x : Block) (r : List Block) → Before x.key k → IsOrderedFrom lo (l ++ x ∷ r) → find_key k (l ++ x ∷ r) ≡ find_key k r
-unfolding Before
 find_right lo k l x r p o =
-    let q : x.key.start ≤ k.start = elim p [ inl a ↦ omega (arith, a) | inr a ↦ omega (arith, a.0) ] in
+    let q = starts_low x.key k p in
     find_past lo k l x r q o ∙ rw (same_range_before k x.key (inr p))
 
 pub find_middle : (lo : ℕ) (k : Range) (l : List Block) (x : Block) (r : List Block) → x.key ≡ k → IsOrderedFrom lo (l ++ x ∷ r) → find_key k (l ++ x ∷ r) ≡ Some x
@@ -146,7 +148,7 @@ pub ruleset findings = (find_in_left, find_in_right, find_in_middle)
 pub same_range_true : (a b : Range) → same_range a b ≡ true → (a.start ≡ b.start) × (a.end ≡ b.end)
 same_range_true a b e = let t = and_parts (eqb a.start b.start) (eqb a.end b.end) e in (eqb-true a.start b.start t.0, eqb-true a.end b.end t.1)
 
-pub ordered_removed : (lo : ℕ) (k : Range) (bs : List Block) → IsOrderedFrom lo bs → IsOrderedFrom lo (replace_block k [] bs)
+ordered_removed : (lo : ℕ) (k : Range) (bs : List Block) → IsOrderedFrom lo bs → IsOrderedFrom lo (replace_block k [] bs)
 ordered_removed lo k [] o = tt
 ordered_removed lo k (b ∷ bs) o =
     elim (same_range k b.key) as (λ v. IsOrderedFrom lo (cond v bs (b ∷ replace_block k [] bs))) [

@@ -39,11 +39,11 @@ pub no_fit_held : (n a : ℕ) (b : Block) → b.state ≡ Allocated → HasNoFit
 unfolding HasNoFit
 no_fit_held n a b e t f = let bad = f.0 in cc
 
-pub no_fit_over : (n a : ℕ) (b : Block) (e : Error) → 0 < n → IsAlignment a → b.key.end ≤ MAX → AlignsUp b.key.start a (Err e) → HasNoFit n a b
+no_fit_over : (n a : ℕ) (b : Block) (e : Error) → 0 < n → IsAlignment a → b.key.end ≤ MAX → AlignsUp b.key.start a (Err e) → HasNoFit n a b
 unfolding HasNoFit
 no_fit_over n a b e z h m u t f = none_left b.key.start a t h (up_err b.key.start a e h u) f.1 f.2 (omega (arith, f.3))
 
-pub no_fit_short : (n a s : ℕ) (b : Block) → IsAlignment a → AlignsUp b.key.start a (Ok s) → b.key.end + 1 < s + n → HasNoFit n a b
+no_fit_short : (n a s : ℕ) (b : Block) → IsAlignment a → AlignsUp b.key.start a (Ok s) → b.key.end + 1 < s + n → HasNoFit n a b
 unfolding HasNoFit IsLeastMultiple
 no_fit_short n a s b h u l t f = let i = (up_ok b.key.start a s h u).2 t f.1 f.2 in omega (arith, f.3)
 

@@ -4,10 +4,10 @@ use Rattle.vm_allocator.specs.Range.{Range, MAX, span, at_address}
 use Rattle.vm_allocator.specs.Tree.Block.{Block, free_block}
 use Rattle.vm_allocator.specs.Address.{AddressState}
 use Rattle.vm_allocator.specs.Request.{Request, IsRequest, IsStartAligned}
-use Rattle.vm_allocator.specs.Answer.{Takes, Settles}
+use Rattle.vm_allocator.specs.Answer.{Takes, Grants}
 use Rattle.vm_allocator.specs.Tree.BlockList.{find_superset}
 use Rattle.vm_allocator.specs.Tree.Shape.{Shape, blocks}
-use Rattle.vm_allocator.specs.Tree.SpaceTree.{space_of, tree_state, IsSpaceTree, TakingSettles, Chooses, ExactIn}
+use Rattle.vm_allocator.specs.Tree.SpaceTree.{space_of, tree_state, IsSpaceTree, HoldingGrants, Chooses, ExactIn}
 use Rattle.vm_allocator.specs.declared.error.Error.{Error}
 use Rattle.vm_allocator.specs.declared.error.Error.TheVariants.{Overflow, ResourceNotAvailable, InvalidStateTransition}
 use Rattle.vm_allocator.specs.declared.allocation_engine.NodeState.{NodeState}
@@ -91,7 +91,7 @@ free_is : (b : Block) → b.state ≡ Free → b ≡ free_block b.key
 free_is b e = same_block b (free_block b.key) refl e
 
 choice_in : (n a t last : ℕ) (s : Shape) (b : Block) (w : IsWithin (space_of (blocks s)) (blocks s) b n t) → b.state ≡ Free → t % a ≡ 0 → last ≡ t + (n - 1) → last ≤ b.key.end → last < MAX → Chooses s (named n a t) (Ok (record { key = b.key; range = record { start = t; end = last } }))
-unfolding Chooses TakingSettles
+unfolding Chooses HoldingGrants
 choice_in n a t last s b w f d e l m =
     let z = w.some in
     let span_is : record { start = t; end = last } ≡ span t n = same_range (record { start = t; end = last }) (span t n) refl (omega arith) in (
@@ -106,7 +106,7 @@ choice_in n a t last s b w f d e l m =
           exact_taken_new answer new (subst (λ (v : Range). Takes (tree_state s) v answer new) span_is h),
     )
   where
-    exact_taken_new : (answer : Result Range Error) (new : AddressState) → Takes (tree_state s) (span t n) answer new → Settles (tree_state s) (named n a t) answer new
+    exact_taken_new : (answer : Result Range Error) (new : AddressState) → Takes (tree_state s) (span t n) answer new → Grants (tree_state s) (named n a t) answer new
     exact_taken_new answer new h = exact_taken (space_of (blocks s)) (blocks s) b n a t new answer w f (let z = w.some in omega arith) (let z = w.some in omega arith) d h
 
 chooses_in : (n a t last : ℕ) (s : Shape) (b : Block) (st : NodeState) (answer : Result Choice Error) → IsWithin (space_of (blocks s)) (blocks s) b n t → st ≡ b.state → t % a ≡ 0 → last ≡ t + (n - 1) → last ≤ MAX → ExactIn b.key st t last answer → Chooses s (named n a t) answer

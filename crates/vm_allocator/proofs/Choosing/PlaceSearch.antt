@@ -52,7 +52,7 @@ first_here n a t s l b r e h f =
       fit = subst (λ (v : Block). IsLeastFit n a v t) free f;
     }
 
-pub first_in_right : (n a : ℕ) (s l : Shape) (b : Block) (r : Shape) (place : Place) → s ≡ Fork l b r → All (HasNoFit n a) (blocks l) → HasNoFit n a b → IsFirstFit n a (blocks r) place → IsFirstFit n a (blocks s) place
+first_in_right : (n a : ℕ) (s l : Shape) (b : Block) (r : Shape) (place : Place) → s ≡ Fork l b r → All (HasNoFit n a) (blocks l) → HasNoFit n a b → IsFirstFit n a (blocks r) place → IsFirstFit n a (blocks s) place
 first_in_right n a s l b r place e h k f = record {
   before = blocks l ++ b ∷ f.before;
   after = f.after;
@@ -81,7 +81,7 @@ last_here n a t s l b r e h f =
       fit = subst (λ (v : Block). IsGreatestFit n a v t) free f;
     }
 
-pub last_in_left : (n a : ℕ) (s l : Shape) (b : Block) (r : Shape) (place : Place) → s ≡ Fork l b r → All (HasNoFit n a) (blocks r) → HasNoFit n a b → IsLastFit n a (blocks l) place → IsLastFit n a (blocks s) place
+last_in_left : (n a : ℕ) (s l : Shape) (b : Block) (r : Shape) (place : Place) → s ≡ Fork l b r → All (HasNoFit n a) (blocks r) → HasNoFit n a b → IsLastFit n a (blocks l) place → IsLastFit n a (blocks s) place
 last_in_left n a s l b r place e h k f = record {
   before = f.before;
   after = f.after ++ b ∷ blocks r;

@@ -12,7 +12,7 @@ use Rattle.vm_allocator.specs.declared.allocation_engine.NodeState.{NodeState}
 use Rattle.vm_allocator.specs.declared.allocation_engine.NodeState.TheVariants.{Free, Allocated}
 use Rattle.vm_allocator.proofs.Blocks.Gaps.{InFreeBlock, in_free_block, free_is_clear}
 
-pub place_in_block : (state : AddressState) (bs : List Block) (n a t : ℕ) → IsBlocksOf state bs → 0 < n → IsPlace n a state t → InFreeBlock bs t (t + n - 1)
+place_in_block : (state : AddressState) (bs : List Block) (n a t : ℕ) → IsBlocksOf state bs → 0 < n → IsPlace n a state t → InFreeBlock bs t (t + n - 1)
 unfolding IsPlace
 place_in_block state bs n a t h z p =
     let first = p.1 t (omega arith) (omega arith) in

@@ -5,12 +5,12 @@ use Rattle.vm_allocator.specs.Range.{Range, MAX, span}
 use Rattle.vm_allocator.specs.Tree.Block.{Block, free_block}
 use Rattle.vm_allocator.specs.Address.{AddressState, IsPlace, IsLeastPlace, IsGreatestPlace}
 use Rattle.vm_allocator.specs.Request.{Request, request_for, IsRequest}
-use Rattle.vm_allocator.specs.Answer.{IsChosen, ByExactStart, ByPlace, Takes, Settles}
+use Rattle.vm_allocator.specs.Answer.{IsChosen, ByExactStart, ByPlace, Takes, Grants}
 use Rattle.vm_allocator.specs.Engine.Fit.{HasNoFit, IsLeastFit, IsGreatestFit}
 use Rattle.vm_allocator.specs.Engine.BlockEdits.{IsTakenFrom, HasRoom}
 use Rattle.vm_allocator.specs.Engine.Place.{IsFirstFit, IsLastFit, FindsFirst, FindsLast}
 use Rattle.vm_allocator.specs.Tree.Shape.{Shape, blocks}
-use Rattle.vm_allocator.specs.Tree.SpaceTree.{ChoosesAt, space_of, tree_state, IsSpaceTree, IsChoice, TakingSettles, Chooses, ChoosesBelowMax}
+use Rattle.vm_allocator.specs.Tree.SpaceTree.{ChoosesAt, space_of, tree_state, IsSpaceTree, IsChoice, HoldingGrants, Chooses, ChoosesBelowMax}
 use Rattle.vm_allocator.specs.declared.error.Error.{Error}
 use Rattle.vm_allocator.specs.declared.error.Error.TheVariants.{Overflow, ResourceNotAvailable}
 use Rattle.vm_allocator.specs.declared.constraint.AllocPolicy.{AllocPolicy}
@@ -26,29 +26,29 @@ use Rattle.vm_allocator.proofs.Splitting.Taking.{as_blocks}
 abbrev pub NamesNoStart : AllocPolicy → Type 0
 NamesNoStart policy = (policy ≡ FirstMatch) ⊎ (policy ≡ LastMatch)
 
--- the places alone settle them
-settles_by : (policy : AllocPolicy) (n a : ℕ) (old new : AddressState) (answer : Result Range Error) → NamesNoStart policy → ByPlace (request_for n a policy) old (λ e. (answer ≡ Err e) × (new ≡ old)) (λ r. Takes old r answer new) → Settles old (request_for n a policy) answer new
-unfolding Settles ByExactStart
-settles_by FirstMatch n a old new answer p h = h
-settles_by LastMatch n a old new answer p h = h
-settles_by (ExactMatch t) n a old new answer p h = absurd (⊎_elim (λ e. cc e) (λ e. cc e) p)
+-- the places alone decide them
+grants_by : (policy : AllocPolicy) (n a : ℕ) (old new : AddressState) (answer : Result Range Error) → NamesNoStart policy → ByPlace (request_for n a policy) old (λ e. (answer ≡ Err e) × (new ≡ old)) (λ r. Takes old r answer new) → Grants old (request_for n a policy) answer new
+unfolding Grants ByExactStart
+grants_by FirstMatch n a old new answer p h = h
+grants_by LastMatch n a old new answer p h = h
+grants_by (ExactMatch t) n a old new answer p h = absurd (⊎_elim (λ e. cc e) (λ e. cc e) p)
 
 -- a request of which the policy is known
 module _ (request : Request) (old : AddressState) (searched : NamesNoStart request.policy) where
-  places_settle : (new : AddressState) (answer : Result Range Error) → ByPlace request old (λ e. (answer ≡ Err e) × (new ≡ old)) (λ r. Takes old r answer new) → Settles old request answer new
-  places_settle new answer = settles_by request.policy request.size request.align old new answer searched
+  places_grant : (new : AddressState) (answer : Result Range Error) → ByPlace request old (λ e. (answer ≡ Err e) × (new ≡ old)) (λ r. Takes old r answer new) → Grants old request answer new
+  places_grant new answer = grants_by request.policy request.size request.align old new answer searched
 
-  none_settles : ((s : ℕ) → ¬ IsPlace request.size request.align old s) → Settles old request (Err ResourceNotAvailable) old
+  none_grants : ((s : ℕ) → ¬ IsPlace request.size request.align old s) → Grants old request (Err ResourceNotAvailable) old
   unfolding ByPlace
-  none_settles none = places_settle old (Err ResourceNotAvailable) (inl (none, (refl, refl)))
+  none_grants none = places_grant old (Err ResourceNotAvailable) (inl (none, (refl, refl)))
 
-  chosen_settles : (t : ℕ) (new : AddressState) (answer : Result Range Error) → IsChosen request old t → t + request.size - 1 < MAX → Takes old (span t request.size) answer new → Settles old request answer new
+  chosen_grants : (t : ℕ) (new : AddressState) (answer : Result Range Error) → IsChosen request old t → t + request.size - 1 < MAX → Takes old (span t request.size) answer new → Grants old request answer new
   unfolding ByPlace
-  chosen_settles t new answer c l h = places_settle new answer (inr (t, c, inr (λ e. omega arith, h)))
+  chosen_grants t new answer c l h = places_grant new answer (inr (t, c, inr (λ e. omega arith, h)))
 
-  over_settles : (t : ℕ) → IsChosen request old t → t + request.size - 1 ≡ MAX → Settles old request (Err Overflow) old
+  over_grants : (t : ℕ) → IsChosen request old t → t + request.size - 1 ≡ MAX → Grants old request (Err Overflow) old
   unfolding ByPlace
-  over_settles t c e = places_settle old (Err Overflow) (inr (t, c, inl (e, (refl, refl))))
+  over_grants t c e = places_grant old (Err Overflow) (inr (t, c, inl (e, (refl, refl))))
 
 -- ---- the place that a search finds
 -- it is the chosen one, and lies in a free block that has room for the request
@@ -65,20 +65,20 @@ unfolding HasRoom
 in_room s n k z r = record { from = r.0; some = omega arith; upto = omega (arith, r.1) }
 
 found_chooses : (request : Request) (s : Shape) (place : Place) (answer : Result Choice Error) → NamesNoStart request.policy → IsFound request s place → ChoosesBelowMax place.key place.start request.size answer → Chooses s request answer
-unfolding ChoosesBelowMax Chooses TakingSettles
+unfolding ChoosesBelowMax Chooses HoldingGrants
 found_chooses request s place answer p f h =
     ⊎_elim
-    (λ o. subst (λ (v : Result Choice Error). Chooses s request v) (sym o.1) (over_settles request (tree_state s) p place.start f.chosen o.0))
+    (λ o. subst (λ (v : Result Choice Error). Chooses s request v) (sym o.1) (over_grants request (tree_state s) p place.start f.chosen o.0))
     (λ o. subst (λ (v : Result Choice Error). Chooses s request v) (sym o.1) (
       record { before = f.before; after = f.after; cut = f.cut; within = in_room place.start request.size place.key f.some f.room; below = o.0 },
-      λ answer new h. chosen_settles request (tree_state s) p place.start new answer f.chosen o.0 h,
+      λ answer new h. chosen_grants request (tree_state s) p place.start new answer f.chosen o.0 h,
     ))
     h
 
 none_chooses : (request : Request) (s : Shape) → NamesNoStart request.policy → IsSpaceTree s → IsRequest request → All (HasNoFit request.size request.align) (blocks s) → Chooses s request (Err ResourceNotAvailable)
 unfolding Chooses
 none_chooses request s p t r h =
-    none_settles request (tree_state s) p (no_place (tree_state s) (blocks s) request.size request.align (as_blocks (space_of (blocks s)) (blocks s) t.tiling.tiles) r.some h)
+    none_grants request (tree_state s) p (no_place (tree_state s) (blocks s) request.size request.align (as_blocks (space_of (blocks s)) (blocks s) t.tiling.tiles) r.some h)
 
 -- ---- the first fit
 least_chosen : (request : Request) (t : ℕ) (state : AddressState) → request.policy ≡ FirstMatch → IsLeastPlace request.size request.align state t → IsChosen request state t
@@ -155,7 +155,7 @@ last_chooses request s (Some place) answer t r p f h = chooses_last request s pl
 pub ruleset choices = (first_room, first_chooses, last_room, last_chooses, search_first, search_last)
 
 -- ---- from what is chosen to the answer
-pub chooses_refused : (s : Shape) (request : Request) (e : Error) → Chooses s request (Err e) → Settles (tree_state s) request (Err e) (tree_state s)
+pub chooses_refused : (s : Shape) (request : Request) (e : Error) → Chooses s request (Err e) → Grants (tree_state s) request (Err e) (tree_state s)
 unfolding Chooses
 chooses_refused s request e h = h
 
@@ -163,8 +163,8 @@ pub is_choice : (s : Shape) (request : Request) (choice : Choice) → Chooses s 
 unfolding Chooses
 is_choice s request choice h = h.0
 
-pub settled : (s : Shape) (request : Request) (choice : Choice) (answer : Result Range Error) (new : AddressState) → Chooses s request (Ok choice) → Takes (tree_state s) choice.range answer new → Settles (tree_state s) request answer new
-unfolding Chooses TakingSettles
-settled s request choice answer new h t = h.1 answer new t
+pub granted : (s : Shape) (request : Request) (choice : Choice) (answer : Result Range Error) (new : AddressState) → Chooses s request (Ok choice) → Takes (tree_state s) choice.range answer new → Grants (tree_state s) request answer new
+unfolding Chooses HoldingGrants
+granted s request choice answer new h t = h.1 answer new t
 
-pub ruleset settling = (chooses_refused, settled)
+pub ruleset granting = (chooses_refused, granted)

@@ -1,17 +1,18 @@
 -- What the orders of blocks and of lists of them say.
-use Rattle.std.proofs.Common.{◌≡◌, [], ◌∷◌, refl, ap, ◌∙◌, arith, subst}
+use Rattle.std.proofs.Common.{◌≡◌, ◌<◌, [], ◌∷◌, refl, sym, ap, ◌∙◌, arith, subst, ⊎_elim}
 use Rattle.std.specs.declared.cmp.Ordering.{Ordering}
 use Rattle.std.specs.declared.cmp.Ordering.TheVariants.{Less, Equal, Greater}
-use Rattle.std.specs.Ordering.{nat_cmp, ordering_then, ordering_reverse}
-use Rattle.std.specs.Cmp.{IsTotalOrder, tied_itself}
+use Rattle.std.specs.Ordering.{nat_cmp, ordering_then, ordering_reverse, MatchOrdering}
+use Rattle.std.specs.Cmp.{IsTotalOrder, tied_itself, nat_cmp_is}
 use Rattle.std.proofs.lemmas.Map.Lookups.{CmpEqualImpliesEq, exact_unsigned}
 use Rattle.vm_allocator.specs.Range.{Range, Overlaps, Covers}
-use Rattle.vm_allocator.specs.RangeOrder.{range_cmp}
+use Rattle.vm_allocator.specs.RangeOrder.{range_cmp, Before}
 use Rattle.vm_allocator.specs.Address.{AddressState}
 use Rattle.vm_allocator.specs.Comparison.{rank, range_cmp-total, block_cmp, blocks_cmp, IsOrder}
 use Rattle.vm_allocator.specs.Laws.AddressLaws.{RangesAreSets}
 use Rattle.vm_allocator.specs.declared.allocation_engine.NodeState.{NodeState}
 use Rattle.vm_allocator.specs.declared.allocation_engine.NodeState.TheVariants.{Free, Allocated}
+use Rattle.vm_allocator.proofs.Numbers.RangeCalls.{before_parts}
 use Rattle.vm_allocator.proofs.Blocks.OneList.{same_range, same_block}
 
 -- a total order by the standard library's word is one
@@ -36,6 +37,30 @@ rank-injective Free Free e = refl
 rank-injective Free Allocated e = absurd (omega arith)
 rank-injective Allocated Free e = absurd (omega arith)
 rank-injective Allocated Allocated e = refl
+
+-- where the starts are one, the ends decide
+by_ends : (a b : Range) (o : Ordering) → a.start ≡ b.start → o ≡ nat_cmp a.end b.end → o ≡ range_cmp a b
+by_ends a b o s e = e ∙ ap (λ (v : Ordering). ordering_then v (nat_cmp a.end b.end)) (nat_cmp_is a.start b.start Equal s)
+
+by_starts : (a b : Range) (o : Ordering) → o ≡ nat_cmp a.start b.start → ordering_then o (nat_cmp a.end b.end) ≡ range_cmp a b
+by_starts a b o e = ap (λ (v : Ordering). ordering_then v (nat_cmp a.end b.end)) e
+
+-- which of two ranges comes first is what their order says
+pub ordered_is : (o : Ordering) (a b : Range) → MatchOrdering o (Before a b) (a ≡ b) (Before b a) → o ≡ range_cmp a b
+ordered_is Less a b h =
+    ⊎_elim
+    (λ (l : a.start < b.start). by_starts a b Less (nat_cmp_is a.start b.start Less l))
+    (λ e. by_ends a b Less e.0 (nat_cmp_is a.end b.end Less e.1))
+    (before_parts a b h)
+ordered_is Equal a b h =
+    by_ends a b Equal (ap (λ (v : Range). v.start) h) (nat_cmp_is a.end b.end Equal (ap (λ (v : Range). v.end) h))
+ordered_is Greater a b h =
+    ⊎_elim
+    (λ (l : b.start < a.start). by_starts a b Greater (nat_cmp_is a.start b.start Greater l))
+    (λ e. by_ends a b Greater (sym e.0) (nat_cmp_is a.end b.end Greater e.1))
+    (before_parts b a h)
+
+pub ruleset by_order = (ordered_is)
 
 pub range_cmp-exact : CmpEqualImpliesEq range_cmp
 range_cmp-exact a b h =

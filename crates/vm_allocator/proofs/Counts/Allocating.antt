@@ -4,13 +4,13 @@ use Rattle.vm_allocator.specs.Range.{Range}
 use Rattle.vm_allocator.specs.Address.{AddressState}
 use Rattle.vm_allocator.specs.Request.{Request, IsRequest, ByConstraint, MakesConstraint}
 use Rattle.vm_allocator.specs.Tree.Shape.{Shape}
-use Rattle.vm_allocator.specs.Counts.Steps.{IsSettlingCount, IsAllocationCount, Enters, EntersToAllocate, SplitsIfLow}
+use Rattle.vm_allocator.specs.Counts.Steps.{IsGrantCount, IsAllocationCount, Enters, EntersToAllocate, SplitsIfLow}
 use Rattle.vm_allocator.specs.declared.error.Error.{Error}
 use Rattle.vm_allocator.proofs.Answers.Filling.{no_constraint_fault}
 
 -- ---- requests that may make no sense
 pub senseless_count : (h : ℕ) (old : AddressState) (request : Request) (e : Error) → IsAllocationCount h old request (Err e) 0
-senseless_count h old request e = record { settling = record { most = omega arith; success = λ k. absurd (cc); split = tt }; senseless = λ x m. refl }
+senseless_count h old request e = record { granting = record { most = omega arith; success = λ k. absurd (cc); split = tt }; senseless = λ x m. refl }
 
 -- the constraint that is made is what was asked for, and makes sense
 pub constraint_made : (request k : Request) → MakesConstraint request (Ok k) → (k ≡ request) × IsRequest request
@@ -21,11 +21,11 @@ constraint_made request k (inr (some, inr (aligned, inl z))) = absurd (cc (z.1))
 constraint_made request k (inr (some, inr (aligned, inr (start, made)))) =
     (cc (made), record { some = omega (arith, some); aligned = aligned; start = start })
 
-pub settling_count : (h : ℕ) (old : AddressState) (request k : Request) (answer : Result Range Error) (c : ℕ) → MakesConstraint request (Ok k) → IsSettlingCount h old k answer c → IsAllocationCount h old request answer c
-settling_count h old request k answer c m s =
+pub grant_count : (h : ℕ) (old : AddressState) (request k : Request) (answer : Result Range Error) (c : ℕ) → MakesConstraint request (Ok k) → IsGrantCount h old k answer c → IsAllocationCount h old request answer c
+grant_count h old request k answer c m s =
     let made = constraint_made request k m in
     record {
-      settling = subst (λ (v : Request). IsSettlingCount h old v answer c) made.0 s;
+      granting = subst (λ (v : Request). IsGrantCount h old v answer c) made.0 s;
       senseless = λ x f. absurd (no_constraint_fault request x f made.1);
     }
 
@@ -48,4 +48,4 @@ senseless_low h old request e (inr (some, inl z)) = record { split = tt; memory 
 senseless_low h old request e (inr (some, inr (aligned, inl z))) = record { split = tt; memory = λ m. absurd (cc (m, z.1)) }
 senseless_low h old request e (inr (some, inr (aligned, inr (start, made)))) = absurd (cc (made))
 
-pub ruleset allocations = (senseless_count, settling_count, senseless_entered, sensible_entered)
+pub ruleset allocations = (senseless_count, grant_count, senseless_entered, sensible_entered)

@@ -3,7 +3,7 @@ use Rattle.std.specs.Prelude.{not, nat_eq}
 use Rattle.std.proofs.Common.{◌≡◌, ℕ, ◌+◌, ◌-◌, ◌%◌, ◌<◌, ◌≤◌, zero, suc, true, false, cond, List, [], ◌∷◌, length, refl, sym, ap, ◌∙◌, arith, ⊎_elim, eq-eqb}
 use Rattle.std.proofs.lemmas.Bool.{and_parts, lt-ltb, le-ltb, cases_lt, not-true}
 use Rattle.vm_allocator.specs.Range.{Range}
-use Rattle.vm_allocator.specs.Address.{AreSlots}
+use Rattle.vm_allocator.specs.Address.{StandInOrder}
 use Rattle.vm_allocator.specs.Tree.Block.{is_free, free_block, held_block}
 use Rattle.vm_allocator.specs.Tree.Blocks.{gap_before, blocks_between, blocks_of}
 use Rattle.vm_allocator.specs.Engine.Fit.{HasNoFit}
@@ -73,7 +73,7 @@ held_has_none : (n a : ℕ) (r : Range) → cramped_among n a (held_block r ∷ 
 unfolding is_cramped has_aligned
 held_has_none n a r = refl
 
-few_between : (n a lo hi : ℕ) (rs : List Range) → 0 < a → lo ≤ hi + 1 → AreSlots lo rs hi → cramped_among n a (blocks_between lo rs hi) + multiples_below a lo ≤ multiples_below a (hi + 1)
+few_between : (n a lo hi : ℕ) (rs : List Range) → 0 < a → lo ≤ hi + 1 → StandInOrder lo rs hi → cramped_among n a (blocks_between lo rs hi) + multiples_below a lo ≤ multiples_below a (hi + 1)
 few_between n a lo hi [] z l h = gap_before_few n a lo (hi + 1) z l
 few_between n a lo hi (r ∷ rs) z l h =
     let rest = blocks_between (r.end + 1) rs hi in
@@ -90,6 +90,6 @@ few_between n a lo hi (r ∷ rs) z l h =
 pub cramped_are_few : CrampedAreFew
 unfolding cramped_gaps blocks_of multiples_in
 cramped_are_few state request h u =
-    omega (arith, few_between request.size request.align state.space.start state.space.end state.held (alignment_pos request.align u) (omega (arith, h.space.0)) h.slots)
+    omega (arith, few_between request.size request.align state.space.start state.space.end state.held (alignment_pos request.align u) (omega (arith, h.space.0)) h.in_order)
 
 pub ruleset cramped = (cramped_is_told, cramped_are_few)

@@ -6,7 +6,7 @@ use Rattle.vm_allocator.specs.Range.{Range}
 use Rattle.vm_allocator.specs.Tree.Block.{Block, is_free}
 use Rattle.vm_allocator.specs.Address.{AddressState, IsPlace}
 use Rattle.vm_allocator.specs.Alignment.{IsLeastMultiple}
-use Rattle.vm_allocator.specs.Answer.{ByExactStart, ByPlace, Takes, Settles}
+use Rattle.vm_allocator.specs.Answer.{ByExactStart, ByPlace, Takes, Grants}
 use Rattle.vm_allocator.specs.Counts.GapSearch.{is_futile, futile_gaps, is_cramped, cramped_gaps, IsGapSearchCount, SearchesAmong, SearchesGaps, SearchesAligned}
 use Rattle.vm_allocator.specs.Request.{Request, request_for, IsRequest, MakesConstraint}
 use Rattle.vm_allocator.specs.Tree.Shape.{Shape, blocks, height_of, leaf_of}
@@ -21,7 +21,10 @@ use Rattle.vm_allocator.specs.declared.constraint.AllocPolicy.TheVariants.{First
 use Rattle.vm_allocator.proofs.Blocks.Gaps.{InFreeBlock}
 use Rattle.vm_allocator.proofs.Choosing.Places.{block_place}
 use Rattle.vm_allocator.proofs.Comparing.Tilings.{tree_blocks}
-use Rattle.vm_allocator.proofs.Counts.Allocating.{constraint_made}
+use Rattle.vm_allocator.proofs.Counts.Allocating.{constraint_made, allocations}
+use Rattle.vm_allocator.proofs.Answers.Requests.{allocating}
+use Rattle.vm_allocator.proofs.Answers.Filling.{succeeding}
+use Rattle.vm_allocator.proofs.Nodes.Spaces.{spaces}
 use Rattle.vm_allocator.proofs.Counts.CarvingWays.{way_to_carve_at_most}
 use Rattle.vm_allocator.proofs.Counts.SearchedGaps.{HasOneInVain, futile_in_vain, cramped_in_vain, first_in_vain, first_to_place, last_in_vain, last_to_place}
 use Rattle.vm_allocator.proofs.Counts.Searching.{least_from, free_if_true}
@@ -72,8 +75,8 @@ module _ (request : Request) (s : Shape) (h : IsSpaceTree s) (r : IsRequest requ
   no_fit_among new answer k e = none_fits request.size request.align s r.some (alignment_pos request.align r.aligned) h (no_place_by request (tree_state s) new answer e k)
 
 searched_by : (policy : AllocPolicy) (n a : ℕ) (q : Block → Bool) (s : Shape) (answer : Result Range Error) (new : AddressState) (c : ℕ) → HasOneInVain n a q → IsSpaceTree s → IsRequest (request_for n a policy)
-    → Settles (tree_state s) (request_for n a policy) answer new → Enters s (request_for n a policy) answer 0 c → SearchesAmong (height_of s) (length (filter q (blocks s))) (request_for n a policy) answer c
-unfolding Settles ByExactStart
+    → Grants (tree_state s) (request_for n a policy) answer new → Enters s (request_for n a policy) answer 0 c → SearchesAmong (height_of s) (length (filter q (blocks s))) (request_for n a policy) answer c
+unfolding Grants ByExactStart
 searched_by FirstMatch n a q s answer new c some h r k e =
     by_gaps (request_for n a FirstMatch) s h r answer (length (filter q (blocks s))) c (first_to_place n a q some s, λ u. first_in_vain n a q some s (no_fit_among (request_for n a FirstMatch) s h r new answer k u)) e
 searched_by LastMatch n a q s answer new c some h r k e =
@@ -88,7 +91,7 @@ of_lesser P x y p q =
     (λ (l : y ≤ x). let same : min x y ≡ y = omega arith in rw same q)
     (cases_lt x y)
 
-module _ (s : Shape) (request : Request) (answer : Result Range Error) (new : AddressState) (c : ℕ) (h : IsSpaceTree s) (r : IsRequest request) (k : Settles (tree_state s) request answer new) (e : Enters s request answer 0 c) where
+module _ (s : Shape) (request : Request) (answer : Result Range Error) (new : AddressState) (c : ℕ) (h : IsSpaceTree s) (r : IsRequest request) (k : Grants (tree_state s) request answer new) (e : Enters s request answer 0 c) where
   by_futile : SearchesAmong (height_of s) (futile_gaps (tree_state s) request) request answer c
   unfolding futile_gaps
   by_futile =
@@ -132,3 +135,5 @@ pub sensible_aligned : (h : ℕ) (old : AddressState) (request k : Request) (ans
 sensible_aligned h old request k answer c m g = subst (λ (v : Request). SearchesAligned h old v answer c) (constraint_made request k m).0 g
 
 pub ruleset searches = (senseless_search, sensible_search, senseless_aligned, sensible_aligned)
+
+pub ruleset counted_allocations = (allocating, spaces, succeeding, allocations, searches)

@@ -10,7 +10,7 @@ use Rattle.vm_allocator.specs.Engine.BlockEdits.{before_part, after_part, IsTake
 use Rattle.vm_allocator.specs.Tree.Shape.{Shape, Tip, Fork, blocks, height_of, node_count, IsTree, leaf_of}
 use Rattle.vm_allocator.specs.Counts.Ways.{way_across, way_by, way_of_search, way_to_carve, way_to_hold, way_if_held}
 use Rattle.vm_allocator.specs.Tree.SpaceTree.{space_of, tree_state, most_searched, IsSpaceTree, IsChoice}
-use Rattle.vm_allocator.specs.Counts.Steps.{most_entered, IsSettlingCount, IsHeldIn, Enters, SplitsIfLow, TOO_HIGH}
+use Rattle.vm_allocator.specs.Counts.Steps.{most_entered, IsGrantCount, IsHeldIn, Enters, SplitsIfLow, TOO_HIGH}
 use Rattle.vm_allocator.specs.declared.error.Error.{Error}
 use Rattle.vm_allocator.specs.declared.error.Error.TheVariants.{OutOfMemory}
 use Rattle.vm_allocator.specs.declared.constraint.AllocPolicy.{AllocPolicy}
@@ -54,7 +54,7 @@ pub split_low : (s : Shape) (choice : Choice) (answer : Result Range Error) (new
 split_low s choice answer new h i t low memory = record { split = of_splits (height_of s < TOO_HIGH) s choice answer new h i t low; memory = memory }
 
 -- ---- exactly the nodes that a request enters
-pub search_at_most : (request : Request) (s : Shape) → way_of_search request s ≤ most_searched request.policy s
+search_at_most : (request : Request) (s : Shape) → way_of_search request s ≤ most_searched request.policy s
 search_at_most request s = by_policy request.policy
   where
     named : (test : Bool) (most way : ℕ) → way ≤ most → cond test 0 way ≤ most
@@ -88,8 +88,8 @@ enters_held s request choice (Ok r) new before mid after i t p q =
         way_to_hold choice.key r s,
         record {
           key = choice.key;
-          front = i.before;
-          back = i.after;
+          lower = i.before;
+          upper = i.after;
           cut = i.cut;
           within = subst (IsTakenFrom choice.key) (sym same) i.within;
           way = refl;
@@ -110,15 +110,15 @@ left_over k r (inl l) = inl (rw (lt-ltb k.start r.start l) (λ e. absurd (cc e))
 left_over k r (inr l) = inr (rw (lt-ltb r.end k.end l) (λ e. absurd (cc e)))
 
 held_part : (s : Shape) (r : Range) (way : ℕ) → IsSpaceTree s → LeavesClear (tree_state s) r → (i : IsHeldIn s r way) → LeavesPart i.key r
-held_part s r way h left i = leaves_part (space_of (blocks s)) (blocks s) i.front i.back (free_block i.key) r h.tiling.tiles i.cut refl i.within left
+held_part s r way h left i = leaves_part (space_of (blocks s)) (blocks s) i.lower i.upper (free_block i.key) r h.tiling.tiles i.cut refl i.within left
 
-pub settling_of : (s : Shape) (request : Request) (answer : Result Range Error) (c : ℕ) → IsSpaceTree s → IsTree s → Enters s request answer 0 c → IsSettlingCount (height_of s) (tree_state s) request answer c
-settling_of s request (Err e) c h t n = record {
+pub grant_of : (s : Shape) (request : Request) (answer : Result Range Error) (c : ℕ) → IsSpaceTree s → IsTree s → Enters s request answer 0 c → IsGrantCount (height_of s) (tree_state s) request answer c
+grant_of s request (Err e) c h t n = record {
   most = searched request.policy s c h (omega (arith, n.refused, search_at_most request s));
   success = λ k. absurd (cc);
   split = tt;
 }
-settling_of s request (Ok r) c h t n =
+grant_of s request (Ok r) c h t n =
     let way = n.given.0 in
     let held : IsHeldIn s r way = n.given.1 in
     let is : c ≡ 0 + way_of_search request s + way = n.given.2 in
@@ -132,4 +132,4 @@ settling_of s request (Ok r) c h t n =
           omega (arith, held.way);
     }
 
-pub ruleset settlings = (few_nodes, search_fits, enters_refused, settling_of)
+pub ruleset grantings = (few_nodes, search_fits, enters_refused, grant_of)

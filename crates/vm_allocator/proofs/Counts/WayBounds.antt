@@ -6,7 +6,7 @@ use Rattle.vm_allocator.specs.Tree.Shape.{Shape, Tip, Fork, height_of, IsBalance
 use Rattle.vm_allocator.specs.Counts.Ways.{way_down, way_to, way_across, way_to_first, way_to_last, way_to_join, way_to_remove, way_beside, way_around}
 use Rattle.vm_allocator.specs.declared.allocation_engine.NodeState.{NodeState}
 use Rattle.vm_allocator.specs.declared.allocation_engine.NodeState.TheVariants.{Free, Allocated}
-use Rattle.vm_allocator.proofs.Counts.WayCases.{search_at_max, search_named}
+use Rattle.vm_allocator.proofs.Counts.WayCases.{search_at_max, search_named, ways_around}
 
 -- ---- at most
 -- a test picks one of two, and both are at most a third
@@ -104,3 +104,5 @@ way_around_at_most k (Fork l b r) =
     )
 
 pub ruleset bounds_around = (way_to_first_at_most, way_to_last_at_most, way_around_at_most)
+
+pub ruleset around = (ways_around, bounds_around)

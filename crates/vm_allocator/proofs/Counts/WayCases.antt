@@ -1,5 +1,5 @@
 -- How many nodes the ways through a tree enter, case by case.
-use Rattle.std.proofs.Common.{◌≡◌, ◌≢◌, ℕ, ◌+◌, ◌<◌, true, false, refl, sym, arith, inl, inr}
+use Rattle.std.proofs.Common.{◌≡◌, ◌≢◌, ℕ, ◌+◌, ◌<◌, true, false, refl, sym, arith, inl, inr, ⊎_elim}
 use Rattle.std.proofs.lemmas.Bool.{lt-ltb, le-ltb, eq-eqb, ne_eqb}
 use Rattle.vm_allocator.specs.Range.{Range, MAX, at_address}
 use Rattle.vm_allocator.specs.RangeOrder.{Before, StartsBefore, StartsAtOrAfter, EndsBefore, ReachesStartOf, comes_first}
@@ -9,17 +9,19 @@ use Rattle.vm_allocator.specs.Counts.Ways.{way_down, way_to, way_across, way_to_
 use Rattle.vm_allocator.specs.Request.{Request}
 use Rattle.vm_allocator.specs.declared.constraint.AllocPolicy.TheVariants.{FirstMatch, LastMatch, ExactMatch}
 use Rattle.vm_allocator.specs.declared.allocation_engine.NodeState.TheVariants.{Free, Allocated}
+use Rattle.vm_allocator.proofs.Numbers.RangeCalls.{before_parts}
 use Rattle.vm_allocator.proofs.Blocks.Replacement.{same_range_before, same_range_self}
 
 pub before_first : (a b : Range) → Before a b → comes_first a b ≡ true
 unfolding Before
-before_first a b (inl p) = rw (lt-ltb a.start b.start p)
-before_first a b (inr p) = rw (le-ltb a.start b.start (omega (arith, p.0)), eq-eqb a.start b.start p.0, lt-ltb a.end b.end p.1)
+before_first a b h = h
 
 pub after_first : (a b : Range) → Before b a → comes_first a b ≡ false
-unfolding Before
-after_first a b (inl p) = rw (le-ltb a.start b.start (omega arith), ne_eqb a.start b.start (λ e. omega arith))
-after_first a b (inr p) = rw (le-ltb a.start b.start (omega (arith, p.0)), eq-eqb a.start b.start (sym p.0), le-ltb a.end b.end (omega (arith, p.1)))
+after_first a b h =
+    ⊎_elim
+    (λ (l : b.start < a.start). rw (le-ltb a.start b.start (omega arith), ne_eqb a.start b.start (λ e. omega arith)) refl)
+    (λ p. rw (le-ltb a.start b.start (omega (arith, p.0)), eq-eqb a.start b.start (sym p.0), le-ltb a.end b.end (omega (arith, p.1))) refl)
+    (before_parts b a h)
 
 -- ---- to where a leaf would hang
 pub way_down_tip : (k : Range) → way_down k Tip ≡ 0

@@ -6,7 +6,7 @@ use Rattle.vm_allocator.specs.Address.{AddressState, IsPlace, IsAddressState}
 use Rattle.vm_allocator.specs.Request.{Request}
 use Rattle.vm_allocator.specs.Answer.{Allocates, Frees}
 use Rattle.vm_allocator.specs.Histories.AddressHistories.{Call, Allocation, Release, Cloning, IsCallFrom, IsHistoryFrom, Begins, Reached, WasGiven, WasStated}
-use Rattle.vm_allocator.specs.Laws.HistoryLaws.{SlotsAreGood, AreAlike, StateDecides, ReleaseUndoes}
+use Rattle.vm_allocator.specs.Laws.HistoryLaws.{HeldAreGood, AreAlike, StateDecides, ReleaseUndoes}
 use Rattle.vm_allocator.specs.declared.error.Error.{Error}
 use Rattle.vm_allocator.proofs.Blocks.PlainWords.{IsHeld, contains_held, held_contains}
 use Rattle.vm_allocator.proofs.Answers.Outcomes.{IsRefused}
@@ -14,7 +14,7 @@ use Rattle.vm_allocator.proofs.Reading.ReadAllocators.{stated_state}
 use Rattle.vm_allocator.proofs.Repairing.RepairedReading.{repaired_state}
 use Rattle.vm_allocator.proofs.Answers.CloneAnswers.{cloning_keeps}
 use Rattle.vm_allocator.proofs.Answers.Once.{allocates_once, frees_once}
-use Rattle.vm_allocator.proofs.Blocks.HeldSets.{same_slots}
+use Rattle.vm_allocator.proofs.Blocks.HeldSets.{same_ranges_held}
 use Rattle.vm_allocator.proofs.Blocks.HeldChanges.{held_with, held_without}
 use Rattle.vm_allocator.proofs.Answers.AddressAnswers.{IsGiven, outcome, allocated_state, freed_state, made_is, made_state, lie_apart, freeing_undoes}
 
@@ -90,8 +90,8 @@ reached_given old r c =
     (λ (g : WasGiven old.calls r). inl g)
     (history_gives old.calls h.first old.state r h.history (held_contains old.state.held r c))
 
-pub slots_good : SlotsAreGood
-slots_good = record { state = reached_state; apart = λ old. lie_apart old.state (reached_state old); given = reached_given }
+pub held_good : HeldAreGood
+held_good = record { state = reached_state; apart = λ old. lie_apart old.state (reached_state old); given = reached_given }
 
 -- ---- the space and the held ranges decide
 pub same_members : (xs ys : List Range) → ((r : Range) → Contains xs r ↔ Contains ys r) → (r : Range) → IsHeld xs r ↔ IsHeld ys r
@@ -100,7 +100,7 @@ same_members xs ys h r = (λ k. held_contains ys r ((h r).0 (contains_held xs r 
 pub same_state : (x y : AddressState) → IsAddressState x → IsAddressState y → x.space ≡ y.space → ((r : Range) → IsHeld x.held r ↔ IsHeld y.held r) → x ≡ y
 same_state x y i j e h =
     let f : Range → List Range → AddressState = λ s hs. record { space = s; held = hs } in
-    let same = same_slots x.space.start y.space.start x.space.end y.space.end x.held y.held i.slots j.slots h in
+    let same = same_ranges_held x.space.start y.space.start x.space.end y.space.end x.held y.held i.in_order j.in_order h in
     let g : f x.space x.held ≡ f y.space x.held = ap (λ s. f s x.held) e in
     g ∙ ap (λ hs. f y.space hs) same
 

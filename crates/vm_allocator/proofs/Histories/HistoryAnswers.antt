@@ -4,7 +4,7 @@ use Rattle.std.proofs.lemmas.Bool.{cases_eq}
 use Rattle.vm_allocator.specs.Range.{Range, MAX, IsIn, span}
 use Rattle.vm_allocator.specs.Address.{AddressState, IsPlace, IsAddressState}
 use Rattle.vm_allocator.specs.Request.{Request, request_for, IsRequest, ByConstraint, MakesConstraint}
-use Rattle.vm_allocator.specs.Answer.{IsChosen, ByStart, ByExactStart, ByPlace, Takes, Settles, Allocates, Frees}
+use Rattle.vm_allocator.specs.Answer.{IsChosen, ByStart, ByExactStart, ByPlace, Takes, Grants, Allocates, Frees}
 use Rattle.vm_allocator.specs.Laws.HistoryLaws.{FirstIsLeast, LastIsGreatest, ExactIsNamed, IsRefusedInOrder, IsAnswered, PlacesAnswer, RefusalsChangeNothing}
 use Rattle.vm_allocator.specs.declared.error.Error.{Error}
 use Rattle.vm_allocator.specs.declared.error.Error.TheVariants.{Overflow, ResourceNotAvailable}
@@ -14,7 +14,7 @@ use Rattle.vm_allocator.proofs.Answers.TwoFacts.{if_same, unless_same}
 use Rattle.vm_allocator.proofs.Blocks.PlainWords.{held_contains}
 use Rattle.vm_allocator.proofs.Blocks.HeldSets.{held_lies}
 use Rattle.vm_allocator.proofs.Answers.Once.{chosen_place}
-use Rattle.vm_allocator.proofs.Answers.Filling.{otherwise, given, faulty, lacking, clear_not_held, request_settles, allocates_chosen}
+use Rattle.vm_allocator.proofs.Answers.Filling.{otherwise, given, faulty, lacking, clear_not_held, request_grants, allocates_chosen}
 use Rattle.vm_allocator.proofs.Answers.Outcomes.{allocates_outcome}
 use Rattle.vm_allocator.proofs.Histories.AlongHistories.{reached_state}
 
@@ -75,11 +75,11 @@ none_by_place : (request : Request) (old new : AddressState) (answer : Result Ra
 unfolding ByPlace
 none_by_place request old new answer none h = ⊎_elim (λ l. l.1.0) (λ k. absurd (none k.0 (chosen_place request k.0 old k.1))) h
 
-none_settles : (policy : AllocPolicy) (n a : ℕ) (old new : AddressState) (answer : Result Range Error) → (policy ≡ FirstMatch) ⊎ (policy ≡ LastMatch) → ((s : ℕ) → ¬ IsPlace n a old s) → Settles old (request_for n a policy) answer new → answer ≡ Err ResourceNotAvailable
-unfolding Settles ByExactStart
-none_settles FirstMatch n a old new answer p none h = none_by_place (request_for n a FirstMatch) old new answer none h
-none_settles LastMatch n a old new answer p none h = none_by_place (request_for n a LastMatch) old new answer none h
-none_settles (ExactMatch t) n a old new answer p none h = ⊎_elim (λ e. absurd (cc e)) (λ e. absurd (cc e)) p
+none_grants : (policy : AllocPolicy) (n a : ℕ) (old new : AddressState) (answer : Result Range Error) → (policy ≡ FirstMatch) ⊎ (policy ≡ LastMatch) → ((s : ℕ) → ¬ IsPlace n a old s) → Grants old (request_for n a policy) answer new → answer ≡ Err ResourceNotAvailable
+unfolding Grants ByExactStart
+none_grants FirstMatch n a old new answer p none h = none_by_place (request_for n a FirstMatch) old new answer none h
+none_grants LastMatch n a old new answer p none h = none_by_place (request_for n a LastMatch) old new answer none h
+none_grants (ExactMatch t) n a old new answer p none h = ⊎_elim (λ e. absurd (cc e)) (λ e. absurd (cc e)) p
 
 -- where there is a place, what is refused is refused for memory, for depth or for its end
 taken_not_lacking : (old new : AddressState) (r : Range) (answer : Result Range Error) → Takes old r answer new → answer ≢ Err ResourceNotAvailable
@@ -94,11 +94,11 @@ some_by_place request old new answer s place h e =
     (λ k. ⊎_elim (λ o. cc (o.1.0, e)) (λ o. taken_not_lacking old new (span k.0 request.size) answer o.1 e) k.2)
     h
 
-some_settles : (policy : AllocPolicy) (n a : ℕ) (old new : AddressState) (answer : Result Range Error) → (policy ≡ FirstMatch) ⊎ (policy ≡ LastMatch) → (s : ℕ) → IsPlace n a old s → Settles old (request_for n a policy) answer new → answer ≢ Err ResourceNotAvailable
-unfolding Settles ByExactStart
-some_settles FirstMatch n a old new answer p s place h = some_by_place (request_for n a FirstMatch) old new answer s place h
-some_settles LastMatch n a old new answer p s place h = some_by_place (request_for n a LastMatch) old new answer s place h
-some_settles (ExactMatch t) n a old new answer p s place h = ⊎_elim (λ e. absurd (cc e)) (λ e. absurd (cc e)) p
+some_grants : (policy : AllocPolicy) (n a : ℕ) (old new : AddressState) (answer : Result Range Error) → (policy ≡ FirstMatch) ⊎ (policy ≡ LastMatch) → (s : ℕ) → IsPlace n a old s → Grants old (request_for n a policy) answer new → answer ≢ Err ResourceNotAvailable
+unfolding Grants ByExactStart
+some_grants FirstMatch n a old new answer p s place h = some_by_place (request_for n a FirstMatch) old new answer s place h
+some_grants LastMatch n a old new answer p s place h = some_by_place (request_for n a LastMatch) old new answer s place h
+some_grants (ExactMatch t) n a old new answer p s place h = ⊎_elim (λ e. absurd (cc e)) (λ e. absurd (cc e)) p
 
 -- the faults of a request for the n addresses from t on, in order
 named_faults : (old new : AddressState) (answer : Result Range Error) (t n : ℕ) (Rest : Type 0) → IsAddressState old → 0 < n → ByStart t n old (λ e. (answer ≡ Err e) × (new ≡ old)) Rest → IsRefusedInOrder old t n answer
@@ -109,7 +109,7 @@ named_faults old new answer t n Rest state some h =
       start_is_outside = λ below outside. lacking _ _ _ outside (λ p. p.0) (otherwise _ _ _ below h);
       passes_max = λ below inside over. faulty _ _ _ over (λ p. p.0) (given _ _ _ inside (otherwise _ _ _ below h));
       is_held = λ held.
-          let lies = held_lies old.space.start old.space.end old.held (span t n) state.slots (held_contains old.held (span t n) held) in
+          let lies = held_lies old.space.start old.space.end old.held (span t n) state.in_order (held_contains old.held (span t n) held) in
           let inside : IsIn old.space t = (lies.0, omega (arith, lies.1, lies.2)) in
           faulty _ _ _ held (λ p. p.0) (otherwise _ _ _ (λ over. omega (arith, lies.3)) (given _ _ _ inside (otherwise _ _ _ (λ is. omega (arith, lies.1, lies.3)) h)));
       is_not_clear = λ below inside fits free unclear.
@@ -123,10 +123,10 @@ named_faults old new answer t n Rest state some h =
           (cases_eq t MAX);
     }
 
-named_settles : (policy : AllocPolicy) (n a t : ℕ) (old new : AddressState) (answer : Result Range Error) → IsAddressState old → 0 < n → policy ≡ ExactMatch t → Settles old (request_for n a policy) answer new → IsRefusedInOrder old t n answer
-unfolding Settles ByExactStart
-named_settles policy n a t old new answer state some p h =
-    let g : Settles old (request_for n a (ExactMatch t)) answer new = subst (λ (v : AllocPolicy). Settles old (request_for n a v) answer new) p h in
+named_grants : (policy : AllocPolicy) (n a t : ℕ) (old new : AddressState) (answer : Result Range Error) → IsAddressState old → 0 < n → policy ≡ ExactMatch t → Grants old (request_for n a policy) answer new → IsRefusedInOrder old t n answer
+unfolding Grants ByExactStart
+named_grants policy n a t old new answer state some p h =
+    let g : Grants old (request_for n a (ExactMatch t)) answer new = subst (λ (v : AllocPolicy). Grants old (request_for n a v) answer new) p h in
     named_faults old new answer t n _ state some g
 
 answered : (request : Request) (old new : AddressState) (answer : Result Range Error) → IsAddressState old → Allocates old request answer new → IsAnswered old request answer new
@@ -134,13 +134,13 @@ answered request old new answer state h =
     record {
       senseless = λ e m. senseless request old new answer e h m;
       sensible = λ sense.
-          let settles = request_settles request old new answer sense h in
+          let grants = request_grants request old new answer sense h in
           record {
             taken = chosen_taken request old new answer sense h;
             at_max = chosen_at_max request old new answer sense h;
-            no_place = λ p none. none_settles request.policy request.size request.align old new answer p none settles;
-            only_there = λ p s place. some_settles request.policy request.size request.align old new answer p s place settles;
-            named = λ t p. named_settles request.policy request.size request.align t old new answer state sense.some p settles;
+            no_place = λ p none. none_grants request.policy request.size request.align old new answer p none grants;
+            only_there = λ p s place. some_grants request.policy request.size request.align old new answer p s place grants;
+            named = λ t p. named_grants request.policy request.size request.align t old new answer state sense.some p grants;
           };
       given = λ r e. given_chosen request old new r (subst (λ (v : Result Range Error). Allocates old request v new) e h);
     }

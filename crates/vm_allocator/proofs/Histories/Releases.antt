@@ -29,8 +29,8 @@ left_held (r ∷ rs) old new q i s =
       λ k.
           let l = rest.0 k in
           let was : IsHeld (without_range r old.held) q = subst P f.1 l.0 in
-          (held_without r q old.held was, λ n. ⊎_elim (not_held_without lo hi r q old.held i.slots was) l.1 n),
-      λ k. rest.1 (subst P (sym f.1) (others_held lo hi r q old.held i.slots f.0 k.0 (λ e. k.1 (inl e))), λ n. k.1 (inr n)),
+          (held_without r q old.held was, λ n. ⊎_elim (not_held_without lo hi r q old.held i.in_order was) l.1 n),
+      λ k. rest.1 (subst P (sym f.1) (others_held lo hi r q old.held i.in_order f.0 k.0 (λ e. k.1 (inl e))), λ n. k.1 (inr n)),
     )
 
 -- and the space is the one from before
@@ -88,7 +88,7 @@ all_distinct (r ∷ rs) old new i s =
     let f = freed_held old s.0 r s.1 in (
       all_of (λ q. same_start r q ≡ false) rs (λ q k.
           let left : IsHeld (without_range r old.held) q = subst (λ (v : AddressState). IsHeld v.held q) f.1 (all_held rs s.0 new q s.2 k) in
-          ne_eqb r.start q.start (λ e. not_held_without old.space.start old.space.end r q old.held i.slots left (one_start old.space.start old.space.end r q old.held i.slots f.0 (held_without r q old.held left) e))),
+          ne_eqb r.start q.start (λ e. not_held_without old.space.start old.space.end r q old.held i.in_order left (one_start old.space.start old.space.end r q old.held i.in_order f.0 (held_without r q old.held left) e))),
       all_distinct rs s.0 new (freed_state old s.0 r (Ok tt) i s.1) s.2,
     )
 
@@ -99,7 +99,7 @@ give_back [] old i h d = (old, refl)
 give_back (r ∷ rs) old i h d =
     let freed = releases_held old r (h r (inl refl)) in
     let mid = releasing r old in
-    let rest = give_back rs mid (freed_state old mid r (Ok tt) i freed) (λ q k. others_held old.space.start old.space.end r q old.held i.slots (h r (inl refl)) (h q (inr k)) (λ e.
+    let rest = give_back rs mid (freed_state old mid r (Ok tt) i freed) (λ q k. others_held old.space.start old.space.end r q old.held i.in_order (h r (inl refl)) (h q (inr k)) (λ e.
     let apart : same_start r q ≡ false = each_of (λ p. same_start r p ≡ false) rs q d.0 k in
     let same : same_start r q ≡ true = eq-eqb r.start q.start (ap (λ (v : Range). v.start) e) in
     cc)) d.1 in

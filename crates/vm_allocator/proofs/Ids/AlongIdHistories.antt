@@ -12,7 +12,7 @@ use Rattle.vm_allocator.specs.Laws.IdHistoryLaws.{EachIsLeastNotHeld, NoIdIsHeld
 use Rattle.vm_allocator.specs.declared.error.Error.{Error}
 use Rattle.vm_allocator.proofs.Answers.CloneAnswers.{cloning_keeps}
 use Rattle.vm_allocator.proofs.Reading.ReadIdStates.{stated_state}
-use Rattle.vm_allocator.proofs.Ids.IdAnswers.{front_is_kept, allocating_adds, freeing_takes}
+use Rattle.vm_allocator.proofs.Ids.IdAnswers.{id_states_are_kept, allocating_adds, freeing_drops}
 
 -- What one call says.
 
@@ -55,8 +55,8 @@ same_held old new id e = ap (λ (s : IdState). set.contains s.held id) e
 -- Each state of a history is one of ids.
 
 call_state : (call : IdCall) (old new : IdState) → IsIdState old → IsIdCallFrom old call new → IsIdState new
-call_state (Allocation answer) old new s h = front_is_kept.allocated old new answer s h
-call_state (Release id answer) old new s h = front_is_kept.freed old new id answer s h
+call_state (Allocation answer) old new s h = id_states_are_kept.allocated old new answer s h
+call_state (Release id answer) old new s h = id_states_are_kept.freed old new id answer s h
 call_state (Cloning answer) old new s h = subst IsIdState (sym (cloning_keeps old new answer h.0 h.1)) s
 
 history_state : (calls : List IdCall) (first last : IdState) → IsIdState first → IsIdHistoryFrom first calls last → IsIdState last
@@ -65,7 +65,7 @@ history_state (call ∷ calls) first last s history =
     history_state calls history.0 last (call_state call first history.0 s history.1) history.2
 
 first_state : (first : IdState) → AreIdsMade first ⊎ AreIdsRead first → IsIdState first
-first_state first (inl m) = front_is_kept.made m.lo m.hi first m.word m.made
+first_state first (inl m) = id_states_are_kept.made m.lo m.hi first m.word m.made
 first_state first (inr r) = stated_state r.value first r.stated
 
 pub states_are_of_ids : StatesAreOfIds
@@ -86,7 +86,7 @@ held_after_taking old new i id s h =
 
 held_after_return : (old new : IdState) (i back id : ℕ) → FreesId old i (Ok back) new → set.contains new.held id ≡ cond (nat_eq i id) false (set.contains old.held id)
 held_after_return old new i back id h =
-    let held = (freeing_takes old new i back h).held id in
+    let held = (freeing_drops old new i back h).held id in
     ⊎_elim
     (λ (e : i ≡ id). false_from_ne_true _ (λ n. (held.0 n).1 (sym e)) ∙ sym (cond-true _ _ _ (eq-eqb i id e)))
     (λ (ne : i ≢ id).
@@ -145,7 +145,7 @@ call_gives_back (Release i (Ok back)) old new id s h held gone =
     let named : back ≡ i = answer_names_id old new i back h in
     ⊎_elim
     (λ (e : id ≡ i). cc)
-    (λ (ne : id ≢ i). absurd (gone (((freeing_takes old new i back h).held id).1 (held, ne))))
+    (λ (ne : id ≢ i). absurd (gone (((freeing_drops old new i back h).held id).1 (held, ne))))
     (cases_eq id i)
 call_gives_back (Release i (Err e)) old new id s h held gone =
     absurd (gone (same_held old new id (refused_return_keeps old new i e h) ∙ held))
@@ -173,7 +173,7 @@ state_between (x ∷ xs) ys first last history =
 given_twice : (between : List IdCall) (old state : IdState) (id : ℕ) → IsIdState old → IsIdHistoryFrom old (Allocation (Ok id) ∷ (between ++ Allocation (Ok id) ∷ [])) state → Contains between (Release id (Ok id))
 given_twice between old state id s history =
     let cut = state_between between (Allocation (Ok id) ∷ []) history.0 state history.2 in
-    history_gives_back between history.0 cut.0 id (front_is_kept.allocated old history.0 (Ok id) s history.1) cut.1 (given_is_held old history.0 id s history.1) (least_is_not_held cut.0 id (given_is_least cut.0 cut.2.0 id cut.2.1))
+    history_gives_back between history.0 cut.0 id (id_states_are_kept.allocated old history.0 (Ok id) s history.1) cut.1 (given_is_held old history.0 id s history.1) (least_is_not_held cut.0 id (given_is_least cut.0 cut.2.0 id cut.2.1))
 
 pub no_id_is_held_twice : NoIdIsHeldTwice
 unfolding NoIdIsHeldTwice

@@ -5,7 +5,7 @@ use Rattle.std.specs.Ordering.{nat_cmp}
 use Rattle.std.specs.FinSet as set
 use Rattle.vm_values.proofs.NumberSets.{inserted_here, inserted_other, from_inserted, removed_other, from_removed}
 use Rattle.vm_allocator.specs.Ids.{MAX_ID, IdState, IsHandedOut, IsHeld, IsLeastNotHeld, AreAllHeld, IsIdState, fresh_ids, holding_id, releasing_id, MakesIds, ByLeastNotHeld, AllocatesId, PeeksId, FreesId}
-use Rattle.vm_allocator.specs.Laws.IdLaws.{MakingIsDetermined, AllocatingIsDetermined, PeekingForetells, FreeingIsDetermined, FrontIsKept, AddsId, TakesId, AllocatingAdds, FreeingTakes}
+use Rattle.vm_allocator.specs.Laws.IdLaws.{MakingIsDetermined, AllocatingIsDetermined, PeekingForetells, FreeingIsDetermined, IdStateIsKept, AddsId, DropsId, AllocatingAdds, FreeingDrops}
 use Rattle.vm_allocator.specs.declared.error.Error.{Error}
 use Rattle.vm_allocator.specs.declared.error.Error.TheVariants.{Overflow, ResourceNotAvailable, OutOfMemory}
 use Rattle.vm_allocator.proofs.Answers.TwoFacts.{if_same, unless_same}
@@ -68,75 +68,75 @@ freeing_is_determined old new other id r s m n a b =
 
 pub ruleset determined = (making_is_determined, allocating_is_determined, peeking_foretells, freeing_is_determined)
 
--- The front.
+-- States of ids.
 
-fresh_front : (lo hi : ℕ) → lo ≤ hi → hi ≤ MAX_ID → IsIdState (fresh_ids lo hi)
-fresh_front lo hi l m = record {
+fresh_state : (lo hi : ℕ) → lo ≤ hi → hi ≤ MAX_ID → IsIdState (fresh_ids lo hi)
+fresh_state lo hi l m = record {
   range = l;
   ids = m;
-  front = (omega arith, omega arith);
+  bound = (omega arith, omega arith);
   held = λ i h. absurd (both_ways _ (set.contains-empty nat_cmp i) h);
 }
 
 -- an id that is least among those not held is at most the first one never handed out
-least_at_front : (old : IdState) (id : ℕ) → IsIdState old → IsLeastNotHeld old id → (old.lo ≤ id) × (id ≤ old.hi) × (id ≤ old.bound)
+least_to_bound : (old : IdState) (id : ℕ) → IsIdState old → IsLeastNotHeld old id → (old.lo ≤ id) × (id ≤ old.hi) × (id ≤ old.bound)
 unfolding IsLeastNotHeld
-least_at_front old id s a = (
+least_to_bound old id s a = (
   a.0.0.0,
   a.0.0.1,
-  ⊎_elim (λ (past : old.hi < old.bound). omega (arith, a.0.0.1)) (λ (fits : old.bound ≤ old.hi). a.1 old.bound ((s.front.0, fits), λ h. let out = s.held old.bound h in omega (arith, out.1))) (cases_lt old.hi old.bound),
+  ⊎_elim (λ (past : old.hi < old.bound). omega (arith, a.0.0.1)) (λ (fits : old.bound ≤ old.hi). a.1 old.bound ((s.bound.0, fits), λ h. let out = s.held old.bound h in omega (arith, out.1))) (cases_lt old.hi old.bound),
 )
 
-holding_front : (old : IdState) (id : ℕ) → IsIdState old → IsLeastNotHeld old id → IsIdState (holding_id id old)
-holding_front old id s a =
-    let at = least_at_front old id s a in record {
+holding_state : (old : IdState) (id : ℕ) → IsIdState old → IsLeastNotHeld old id → IsIdState (holding_id id old)
+holding_state old id s a =
+    let at = least_to_bound old id s a in record {
       range = s.range;
       ids = s.ids;
-      front = (omega (arith, s.front.0), omega (arith, s.front.1, at.1));
+      bound = (omega (arith, s.bound.0), omega (arith, s.bound.1, at.1));
       held = λ i h.
           ⊎_elim (λ (e : i ≡ id). (omega (arith, e, at.0), omega (arith, e))) (λ (m : IsHeld old i). let out = s.held i m in (out.0, omega (arith, out.1))) (from_inserted old.held id i h);
     }
 
-releasing_front : (old : IdState) (id : ℕ) → IsIdState old → IsIdState (releasing_id id old)
-releasing_front old id s = record {
+releasing_state : (old : IdState) (id : ℕ) → IsIdState old → IsIdState (releasing_id id old)
+releasing_state old id s = record {
   range = s.range;
   ids = s.ids;
-  front = s.front;
+  bound = s.bound;
   held = λ i h. s.held i (from_removed old.held id i h).1;
 }
 
-made_front : (lo hi : ℕ) (state : IdState) → hi ≤ MAX_ID → MakesIds lo hi (Ok state) → IsIdState state
+made_ids : (lo hi : ℕ) (state : IdState) → hi ≤ MAX_ID → MakesIds lo hi (Ok state) → IsIdState state
 unfolding MakesIds
-made_front lo hi state m (inl a) = absurd (cc (a.1))
-made_front lo hi state m (inr a) =
+made_ids lo hi state m (inl a) = absurd (cc (a.1))
+made_ids lo hi state m (inr a) =
     let l : lo ≤ hi = ⊎_elim (λ (x : hi < lo). absurd (a.0 x)) (λ (x : lo ≤ hi). x) (cases_lt hi lo) in
     let same : fresh_ids lo hi ≡ state = cc (a.1) in
-    subst IsIdState same (fresh_front lo hi l m)
+    subst IsIdState same (fresh_state lo hi l m)
 
-allocated_front : (old new : IdState) (r : Result ℕ Error) → IsIdState old → AllocatesId old r new → IsIdState new
+allocated_ids : (old new : IdState) (r : Result ℕ Error) → IsIdState old → AllocatesId old r new → IsIdState new
 unfolding AllocatesId ByLeastNotHeld
-allocated_front old new r s (inl a) = subst IsIdState (sym a.2.1) (holding_front old a.0 s a.1)
-allocated_front old new r s (inr (_, inl a)) = subst IsIdState (sym a.1.1) s
-allocated_front old new r s (inr (_, inr a)) = subst IsIdState (sym a.1.1) s
+allocated_ids old new r s (inl a) = subst IsIdState (sym a.2.1) (holding_state old a.0 s a.1)
+allocated_ids old new r s (inr (_, inl a)) = subst IsIdState (sym a.1.1) s
+allocated_ids old new r s (inr (_, inr a)) = subst IsIdState (sym a.1.1) s
 
-freed_front : (old new : IdState) (id : ℕ) (r : Result ℕ Error) → IsIdState old → FreesId old id r new → IsIdState new
+freed_ids_state : (old new : IdState) (id : ℕ) (r : Result ℕ Error) → IsIdState old → FreesId old id r new → IsIdState new
 unfolding FreesId
-freed_front old new id r s (inl a) = subst IsIdState (sym a.1.1) s
-freed_front old new id r s (inr (_, inl a)) = subst IsIdState (sym a.1.1) s
-freed_front old new id r s (inr (_, inr (_, inl a))) = subst IsIdState (sym a.1.1) s
-freed_front old new id r s (inr (_, inr (_, inr (_, inl a)))) = subst IsIdState (sym a.1) (releasing_front old id s)
-freed_front old new id r s (inr (_, inr (_, inr (_, inr a)))) = subst IsIdState (sym a.1) s
+freed_ids_state old new id r s (inl a) = subst IsIdState (sym a.1.1) s
+freed_ids_state old new id r s (inr (_, inl a)) = subst IsIdState (sym a.1.1) s
+freed_ids_state old new id r s (inr (_, inr (_, inl a))) = subst IsIdState (sym a.1.1) s
+freed_ids_state old new id r s (inr (_, inr (_, inr (_, inl a)))) = subst IsIdState (sym a.1) (releasing_state old id s)
+freed_ids_state old new id r s (inr (_, inr (_, inr (_, inr a)))) = subst IsIdState (sym a.1) s
 
-pub front_is_kept : FrontIsKept
-front_is_kept = record { made = made_front; allocated = allocated_front; freed = freed_front }
+pub id_states_are_kept : IdStateIsKept
+id_states_are_kept = record { made = made_ids; allocated = allocated_ids; freed = freed_ids_state }
 
-pub ruleset front = (front_is_kept)
+pub ruleset kept = (id_states_are_kept)
 
 -- What changes.
 
 more_handed_out : (old : IdState) (id q : ℕ) → IsIdState old → IsLeastNotHeld old id → IsHandedOut (holding_id id old) q ↔ (IsHandedOut old q ⊎ (q ≡ id))
 more_handed_out old id q s a =
-    let at = least_at_front old id s a in (
+    let at = least_to_bound old id s a in (
       λ h. ⊎_elim (λ (e : q ≡ id). inr e) (λ (ne : q ≡ id → ⊥). inl (h.0, omega (arith, h.1, at.2, ne))) (cases_eq q id),
       λ h. ⊎_elim (λ (m : IsHandedOut old q). (m.0, omega (arith, m.1))) (λ (e : q ≡ id). (omega (arith, e, at.0), omega (arith, e))) h,
     )
@@ -161,21 +161,21 @@ allocating_adds old new id s (inl a) =
 allocating_adds old new id s (inr (_, inl a)) = absurd (cc (a.1.0))
 allocating_adds old new id s (inr (_, inr a)) = absurd (cc (a.1.0))
 
-takes : (old new : IdState) (id : ℕ) → new ≡ releasing_id id old → TakesId old new id
-takes old new id e =
-    subst (λ (t : IdState). TakesId old t id) (sym e)
+drops : (old new : IdState) (id : ℕ) → new ≡ releasing_id id old → DropsId old new id
+drops old new id e =
+    subst (λ (t : IdState). DropsId old t id) (sym e)
     (record {
       range = (refl, refl);
       handed_out = λ q. (λ h. h, λ h. h);
       held = λ q. (λ h. let p = from_removed old.held id q h in (p.1, p.0), λ h. removed_other old.held id q h.1 h.0);
     })
 
-pub freeing_takes : FreeingTakes
+pub freeing_drops : FreeingDrops
 unfolding FreesId
-freeing_takes old new id back (inl a) = absurd (cc (a.1.0))
-freeing_takes old new id back (inr (_, inl a)) = absurd (cc (a.1.0))
-freeing_takes old new id back (inr (_, inr (_, inl a))) = absurd (cc (a.1.0))
-freeing_takes old new id back (inr (_, inr (_, inr (_, inl a)))) = takes old new id a.1
-freeing_takes old new id back (inr (_, inr (_, inr (_, inr a)))) = absurd (cc (a.0))
+freeing_drops old new id back (inl a) = absurd (cc (a.1.0))
+freeing_drops old new id back (inr (_, inl a)) = absurd (cc (a.1.0))
+freeing_drops old new id back (inr (_, inr (_, inl a))) = absurd (cc (a.1.0))
+freeing_drops old new id back (inr (_, inr (_, inr (_, inl a)))) = drops old new id a.1
+freeing_drops old new id back (inr (_, inr (_, inr (_, inr a)))) = absurd (cc (a.0))
 
-pub ruleset changes = (allocating_adds, freeing_takes)
+pub ruleset changes = (allocating_adds, freeing_drops)

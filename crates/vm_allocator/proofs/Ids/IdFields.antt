@@ -36,7 +36,7 @@ unfolding ids_of
 is_state_of lo hi next freed h = record {
   range = h.range;
   ids = h.ids;
-  front = (bound_above lo hi next h.range h.next_id, bound_fits lo hi next h.next_id);
+  bound = (bound_above lo hi next h.range h.next_id, bound_fits lo hi next h.next_id);
   held = λ i k. let p = from_held lo (bound_of next hi) i freed k in (p.0, p.1);
 }
 

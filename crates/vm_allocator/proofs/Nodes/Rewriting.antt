@@ -10,15 +10,15 @@ use Rattle.vm_allocator.specs.declared.error.Error.{Error}
 use Rattle.vm_allocator.specs.declared.error.Error.TheVariants.{ResourceNotAvailable}
 use Rattle.vm_allocator.specs.declared.allocation_engine.NodeState.{NodeState}
 use Rattle.vm_allocator.specs.declared.allocation_engine.NodeState.TheVariants.{Free, Allocated}
-use Rattle.vm_allocator.proofs.Blocks.BlockOrder.{ordered_front, ordered_back}
+use Rattle.vm_allocator.proofs.Blocks.BlockOrder.{ordered_below, ordered_above}
 use Rattle.vm_allocator.proofs.Blocks.Replacement.{replace_in_left, replace_in_right, replace_in_middle, find_in_left, find_in_right, find_in_middle, same_range_true}
 
 -- a rewriting that keeps the whole in order keeps each side in order
 pub rewritten_left : (s l : Shape) (x : Block) (r : Shape) (k : Range) (ys : List Block) → s ≡ Fork l x r → Before k x.key → IsTree s → IsOrderedFrom 0 (replace_block k ys (blocks s)) → IsOrderedFrom 0 (replace_block k ys (blocks l))
-rewritten_left s l x r k ys e p t o = ordered_front 0 (replace_block k ys (blocks l)) (x ∷ blocks r) (subst (IsOrderedFrom 0) (replace_in_left s l x r k ys e p t) o)
+rewritten_left s l x r k ys e p t o = ordered_below 0 (replace_block k ys (blocks l)) (x ∷ blocks r) (subst (IsOrderedFrom 0) (replace_in_left s l x r k ys e p t) o)
 
 pub rewritten_right : (s l : Shape) (x : Block) (r : Shape) (k : Range) (ys : List Block) → s ≡ Fork l x r → Before x.key k → IsTree s → IsOrderedFrom 0 (replace_block k ys (blocks s)) → IsOrderedFrom 0 (replace_block k ys (blocks r))
-rewritten_right s l x r k ys e p t o = ordered_back (blocks l) x (replace_block k ys (blocks r)) (subst (IsOrderedFrom 0) (replace_in_right s l x r k ys e p t) o)
+rewritten_right s l x r k ys e p t o = ordered_above (blocks l) x (replace_block k ys (blocks r)) (subst (IsOrderedFrom 0) (replace_in_right s l x r k ys e p t) o)
 
 pub known_left : (s l : Shape) (x : Block) (r : Shape) (k : Range) → s ≡ Fork l x r → Before k x.key → IsTree s → IsSome (find_key k (blocks s)) → IsSome (find_key k (blocks l))
 known_left s l x r k e p t h = rw (find_in_left s l x r k e p t) at h

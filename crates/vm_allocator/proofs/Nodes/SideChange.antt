@@ -6,7 +6,7 @@ use Rattle.vm_allocator.specs.Tree.Block.{Block}
 use Rattle.vm_allocator.specs.Tree.BlockList.{IsOrderedFrom, IsClearOf, insert_block, replace_block}
 use Rattle.vm_allocator.specs.Tree.Shape.{Shape, Fork, blocks, height_of, IsTree, DifferByAtMost}
 use Rattle.vm_allocator.proofs.Blocks.BlockOrder.{link_in_left, link_in_right}
-use Rattle.vm_allocator.proofs.Blocks.Replacement.{removed_in_left, removed_in_right, take_left}
+use Rattle.vm_allocator.proofs.Blocks.Replacement.{removed_in_left, removed_in_right, take_left, removals, leavings}
 
 -- the tree with the new left side, its heights within one
 pub tree_link_left : (l n : Shape) (k : Block) (r : Shape) (x : Block) → StartsBefore x.key k.key → IsInOrder x.key → IsClearOf x.key (blocks (Fork l k r)) → IsTree (Fork l k r)
@@ -39,3 +39,5 @@ pub ordered_take_left : (l n : Shape) (x : Block) (r : Shape) (m : Block) → Is
 ordered_take_left l n x r m t e = (take_left (Fork l x r) l x r m (blocks n) refl e t).0
 
 pub ruleset takes = (ordered_take_left, tree_delete_left, tree_delete_right, tree_take_left)
+
+pub ruleset deletions = (removals, leavings, takes)

@@ -16,9 +16,9 @@ use Rattle.vm_allocator.proofs.Nodes.FewestNodes.{most_nodes, power_grows}
 use Rattle.vm_allocator.proofs.Blocks.BlockStates.{is_state}
 use Rattle.std.proofs.Common.{◌≡◌, ap, ◌∙◌, ⊎_elim, Result, []}
 use Rattle.vm_allocator.specs.Request.{Request}
-use Rattle.vm_allocator.specs.Answer.{Takes, Settles, Frees}
+use Rattle.vm_allocator.specs.Answer.{Takes, Grants, Frees}
 use Rattle.vm_allocator.specs.declared.error.Error.{Error}
-use Rattle.vm_allocator.proofs.Answers.Outcomes.{IsRefused, IsTaken, settles_outcome}
+use Rattle.vm_allocator.proofs.Answers.Outcomes.{IsRefused, IsTaken, grants_outcome}
 
 -- blocks that follow one another end where the space ends
 last_tile : (p : NodeState) (lo hi : ℕ) (bs : List Block) → Tiles p (lo + 1) bs hi → last_end lo bs ≡ hi
@@ -52,7 +52,7 @@ state_of_tree s h = is_state (space_of (blocks s)) (blocks s) h.tiling h.space
 pub ruleset states = (state_of_tree)
 
 pub state_made : (s : Shape) (k : Range) → IsRange k.start k.end → tree_state s ≡ record { space = k; held = [] } → IsAddressState (tree_state s)
-state_made s k r e = subst IsAddressState (sym e) (record { space = r; slots = tt })
+state_made s k r e = subst IsAddressState (sym e) (record { space = r; in_order = tt })
 
 pub ruleset making = (tree_of_space, state_made)
 
@@ -78,20 +78,20 @@ takes_space : (old new : AddressState) (r : Range) (answer : Result Range Error)
 unfolding Takes
 takes_space old new r answer h = ⊎_elim (λ l. ap (λ (v : AddressState). v.space) l.1) (λ r. ap (λ (v : AddressState). v.space) r.1) h
 
-settles_space : (request : Request) (old new : AddressState) (answer : Result Range Error) → Settles old request answer new → HasSpaceOf old new
-settles_space request old new answer h =
+grants_space : (request : Request) (old new : AddressState) (answer : Result Range Error) → Grants old request answer new → HasSpaceOf old new
+grants_space request old new answer h =
     ⊎_elim
     (λ (l : IsRefused old answer new). ap (λ (v : AddressState). v.space) l.2)
     (λ (t : IsTaken request old answer new). takes_space old new (span t.0 request.size) answer t.3)
-    (settles_outcome old new answer request h)
+    (grants_outcome old new answer request h)
 
 frees_space : (old new : AddressState) (r : Range) (answer : Result (Unit {0}) Error) → Frees old r answer new → HasSpaceOf old new
 unfolding Frees
 frees_space old new r answer h = ⊎_elim (λ l. ap (λ (v : AddressState). v.space) l.1.1) (λ l. ap (λ (v : AddressState). v.space) l.1.1) h
 
 -- so the space of the tree stays that of the allocator
-pub settles_keeps : (space : Range) (s t : Shape) (request : Request) (answer : Result Range Error) → space_of (blocks s) ≡ space → Settles (tree_state s) request answer (tree_state t) → space_of (blocks t) ≡ space
-settles_keeps space s t request answer e h = settles_space request (tree_state s) (tree_state t) answer h ∙ e
+pub grants_keeps : (space : Range) (s t : Shape) (request : Request) (answer : Result Range Error) → space_of (blocks s) ≡ space → Grants (tree_state s) request answer (tree_state t) → space_of (blocks t) ≡ space
+grants_keeps space s t request answer e h = grants_space request (tree_state s) (tree_state t) answer h ∙ e
 
 pub frees_keeps : (space : Range) (s t : Shape) (r : Range) (answer : Result (Unit {0}) Error) → space_of (blocks s) ≡ space → Frees (tree_state s) r answer (tree_state t) → space_of (blocks t) ≡ space
 frees_keeps space s t r answer e h = frees_space (tree_state s) (tree_state t) r answer h ∙ e
@@ -99,4 +99,4 @@ frees_keeps space s t r answer e h = frees_space (tree_state s) (tree_state t) r
 pub space_made : (space : Range) (s : Shape) → tree_state s ≡ record { space = space; held = [] } → space_of (blocks s) ≡ space
 space_made space s e = ap (λ (v : AddressState). v.space) e
 
-pub ruleset spaces = (settles_keeps, frees_keeps, space_made)
+pub ruleset spaces = (grants_keeps, frees_keeps, space_made)

@@ -22,7 +22,7 @@ decided_both P Q (inl p) (inl q) = inl (p, q)
 decided_both P Q (inl p) (inr n) = inr (λ h. n h.1)
 decided_both P Q (inr n) q = inr (λ h. n h.0)
 
-pub decided_if : (P Q : Type 0) → (P → Q) → (Q → P) → Decided P → Decided Q
+decided_if : (P Q : Type 0) → (P → Q) → (Q → P) → Decided P → Decided Q
 decided_if P Q f g (inl p) = inl (f p)
 decided_if P Q f g (inr n) = inr (λ q. n (g q))
 
@@ -33,7 +33,7 @@ pub decided_up_to : (a b : ℕ) → Decided (a ≤ b)
 decided_up_to a b = ⊎_elim (λ (l : b < a). inr (λ h. omega arith)) (λ (l : a ≤ b). inl l) (cases_lt b a)
 
 -- each number of a row
-pub decided_row : (P : ℕ → Type 0) → ((x : ℕ) → Decided (P x)) → (s n : ℕ) → Decided ((x : ℕ) → s ≤ x → x < s + n → P x)
+decided_row : (P : ℕ → Type 0) → ((x : ℕ) → Decided (P x)) → (s n : ℕ) → Decided ((x : ℕ) → s ≤ x → x < s + n → P x)
 decided_row P decide s zero = inl (λ x l m. absurd (omega arith))
 decided_row P decide s (suc n) =
     decided_if (((x : ℕ) → s ≤ x → x < s + n → P x) × P (s + n)) ((x : ℕ) → s ≤ x → x < s + suc n → P x)

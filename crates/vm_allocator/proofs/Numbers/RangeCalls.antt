@@ -1,7 +1,35 @@
 -- What the calls of a range return.
-use Rattle.std.proofs.Common.{◌<◌, ◌≤◌, arith, ⊎_elim}
-use Rattle.std.proofs.lemmas.Bool.{cases_lt}
+use Rattle.std.proofs.Common.{◌≡◌, ◌<◌, ◌≤◌, ◌⊎◌, arith, inl, inr, refl, true, ⊎_elim}
+use Rattle.std.proofs.lemmas.Bool.{cases_lt, and_parts, eq-eqb, eqb-true, lt-ltb, le-ltb, ltb-true}
 use Rattle.vm_allocator.specs.Range.{Range, Overlaps, Covers}
+use Rattle.vm_allocator.specs.RangeOrder.{Before, comes_first}
+
+-- ---- which of two ranges comes first
+pub before_parts : (a b : Range) → Before a b → (a.start < b.start) ⊎ ((a.start ≡ b.start) × (a.end < b.end))
+unfolding Before
+before_parts a b h =
+    ⊎_elim
+    (λ (l : a.start < b.start). inl l)
+    (λ (l : b.start ≤ a.start).
+    let p = and_parts _ _ (rw (le-ltb a.start b.start l) at h) in
+    inr (eqb-true a.start b.start p.0, ltb-true a.end b.end p.1))
+    (cases_lt a.start b.start)
+
+pub before_by_start : (a b : Range) → a.start < b.start → Before a b
+unfolding Before
+before_by_start a b l = rw (lt-ltb a.start b.start l) refl
+
+pub before_by_end : (a b : Range) → a.start ≡ b.start → a.end < b.end → Before a b
+unfolding Before
+before_by_end a b e l =
+    rw (le-ltb a.start b.start (omega (arith, e)), eq-eqb a.start b.start e, lt-ltb a.end b.end l) refl
+
+pub starts_low : (a b : Range) → Before a b → a.start ≤ b.start
+starts_low a b h = ⊎_elim (λ (l : a.start < b.start). omega arith) (λ p. omega (arith, p.0)) (before_parts a b h)
+
+pub ruleset orders = (before_by_start, before_by_end)
+
+-- ---- what lies in both, and in one of the two
 
 pub meet : (r s : Range) → r.start ≤ r.end → s.start ≤ s.end → r.start ≤ s.end → s.start ≤ r.end → Overlaps r s
 unfolding Overlaps

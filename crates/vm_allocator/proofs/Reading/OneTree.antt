@@ -6,7 +6,7 @@ use Rattle.vm_allocator.specs.Tree.Shape.{Shape, Tip, Fork, blocks, height_of}
 use Rattle.vm_allocator.specs.Values.TreeValues.{StatesShape}
 use Rattle.vm_allocator.specs.Checks.ValueParts.{IsShapeWithin, HasShapeWithin}
 use Rattle.vm_allocator.specs.Checks.ValueChecks.{NodeData, node_data}
-use Rattle.vm_allocator.proofs.Blocks.BlockOrder.{ordered_front, ordered_back}
+use Rattle.vm_allocator.proofs.Blocks.BlockOrder.{ordered_below, ordered_above}
 use Rattle.vm_allocator.proofs.Reading.ReadNodes.{shape_nodes, one_tree, none_tip, data_of, node_is}
 
 pub one_shape : (s t : Shape) (d : Data) → StatesShape d s → StatesShape d t → s ≡ t
@@ -32,8 +32,8 @@ parts_of depth d n (Fork l b r) p e =
       left = l;
       right = r;
       some_depth = omega arith;
-      left_within = record { stated = m.3; tree = record { ordered = ordered_front 0 (blocks l) (b ∷ blocks r) p.tree.ordered; balanced = p.tree.balanced.0 }; height = omega arith };
-      right_within = record { stated = m.4; tree = record { ordered = ordered_back (blocks l) b (blocks r) p.tree.ordered; balanced = p.tree.balanced.1 }; height = omega arith };
+      left_within = record { stated = m.3; tree = record { ordered = ordered_below 0 (blocks l) (b ∷ blocks r) p.tree.ordered; balanced = p.tree.balanced.0 }; height = omega arith };
+      right_within = record { stated = m.4; tree = record { ordered = ordered_above (blocks l) b (blocks r) p.tree.ordered; balanced = p.tree.balanced.1 }; height = omega arith };
       whole = p;
     } in
     subst (Parts depth d) (same_Some (data_of b (max (height_of l) (height_of r) + 1) m.0 m.1) n (sym m.2 ∙ e)) found

@@ -6,7 +6,7 @@ use Rattle.vm_allocator.specs.Address.{releasing}
 use Rattle.vm_allocator.specs.Tree.Blocks.{NotBothFree, Tiles, TilesSpace, IsBlocksOf}
 use Rattle.vm_allocator.specs.Tree.Shape.{Shape, blocks}
 use Rattle.vm_allocator.specs.Tree.SpaceTree.{space_of, tree_state, IsSpaceTree}
-use Rattle.vm_allocator.specs.Engine.Release.{HasSlot, key_if_free, last_free, first_free, free_if, end_with, joined, IsAround}
+use Rattle.vm_allocator.specs.Engine.Release.{HasHeld, key_if_free, last_free, first_free, free_if, end_with, joined, IsAround}
 use Rattle.vm_allocator.specs.declared.allocation_engine.node.neighbours.Neighbours.{Neighbours}
 use Rattle.vm_allocator.specs.declared.allocation_engine.NodeState.{NodeState}
 use Rattle.vm_allocator.specs.declared.allocation_engine.NodeState.TheVariants.{Free, Allocated}
@@ -18,43 +18,43 @@ use Rattle.vm_allocator.proofs.Nodes.TreeEdits.{tiles_ordered}
 use Rattle.vm_allocator.proofs.Blocks.BlockOrder.{ordered_weaken}
 
 -- blocks with the free one at their end apart
-record Front (p : NodeState) (xs : List Block) (last : Option Range) : Type 0 where
-  front : List Block
-  is : xs ≡ front ++ free_if last
+record Lower (p : NodeState) (xs : List Block) (last : Option Range) : Type 0 where
+  lower : List Block
+  is : xs ≡ lower ++ free_if last
   ends : last ≡ None → EndsHeld p xs
 
-front_one : (p st : NodeState) (x : Block) → x.state ≡ st → Front p (x ∷ []) (key_if_free st x.key)
-front_one p Free x e = record { front = []; is = ap (λ (v : Block). v ∷ []) (same_block x (free_block x.key) refl e); ends = λ n. absurd (cc) }
-front_one p Allocated x e = record { front = x ∷ []; is = refl; ends = λ n. subst (λ (v : NodeState). NotBothFree v Free) (sym e) tt }
+lower_one : (p st : NodeState) (x : Block) → x.state ≡ st → Lower p (x ∷ []) (key_if_free st x.key)
+lower_one p Free x e = record { lower = []; is = ap (λ (v : Block). v ∷ []) (same_block x (free_block x.key) refl e); ends = λ n. absurd (cc) }
+lower_one p Allocated x e = record { lower = x ∷ []; is = refl; ends = λ n. subst (λ (v : NodeState). NotBothFree v Free) (sym e) tt }
 
-front_of : (p : NodeState) (x : Block) (xs : List Block) → Front p (x ∷ xs) (last_free (key_if_free x.state x.key) xs)
-front_of p x [] = front_one p x.state x refl
-front_of p x (y ∷ xs) =
-    let i = front_of x.state y xs in
-    record { front = x ∷ i.front; is = ap (λ (v : List Block). x ∷ v) i.is; ends = i.ends }
+lower_of : (p : NodeState) (x : Block) (xs : List Block) → Lower p (x ∷ xs) (last_free (key_if_free x.state x.key) xs)
+lower_of p x [] = lower_one p x.state x refl
+lower_of p x (y ∷ xs) =
+    let i = lower_of x.state y xs in
+    record { lower = x ∷ i.lower; is = ap (λ (v : List Block). x ∷ v) i.is; ends = i.ends }
 
-front_all : (xs : List Block) → Front Allocated xs (last_free None xs)
-front_all [] = record { front = []; is = refl; ends = λ n. tt }
-front_all (x ∷ xs) = front_of Allocated x xs
+lower_all : (xs : List Block) → Lower Allocated xs (last_free None xs)
+lower_all [] = record { lower = []; is = refl; ends = λ n. tt }
+lower_all (x ∷ xs) = lower_of Allocated x xs
 
 -- blocks with the free one at their beginning apart, and what a free range before them joins with
-record Back (ys : List Block) (first : Option Range) : Type 0 where
-  back : List Block
-  is : ys ≡ free_if first ++ back
-  with : (k : Range) → with_free k ys ≡ free_block (record { start = k.start; end = end_with k first }) ∷ back
+record Upper (ys : List Block) (first : Option Range) : Type 0 where
+  upper : List Block
+  is : ys ≡ free_if first ++ upper
+  with : (k : Range) → with_free k ys ≡ free_block (record { start = k.start; end = end_with k first }) ∷ upper
 
-back_one : (st : NodeState) (y : Block) (ys : List Block) → y.state ≡ st → Back (y ∷ ys) (key_if_free st y.key)
-back_one Free y ys e = record { back = ys; is = ap (λ (v : Block). v ∷ ys) (same_block y (free_block y.key) refl e); with = λ k. ap (λ (v : NodeState). join_if v k y ys) e }
-back_one Allocated y ys e = record { back = y ∷ ys; is = refl; with = λ k. ap (λ (v : NodeState). join_if v k y ys) e }
+upper_one : (st : NodeState) (y : Block) (ys : List Block) → y.state ≡ st → Upper (y ∷ ys) (key_if_free st y.key)
+upper_one Free y ys e = record { upper = ys; is = ap (λ (v : Block). v ∷ ys) (same_block y (free_block y.key) refl e); with = λ k. ap (λ (v : NodeState). join_if v k y ys) e }
+upper_one Allocated y ys e = record { upper = y ∷ ys; is = refl; with = λ k. ap (λ (v : NodeState). join_if v k y ys) e }
 
-back_all : (ys : List Block) → Back ys (first_free ys None)
-back_all [] = record { back = []; is = refl; with = λ k. refl }
-back_all (y ∷ ys) = back_one y.state y ys refl
+upper_all : (ys : List Block) → Upper ys (first_free ys None)
+upper_all [] = record { upper = []; is = refl; with = λ k. refl }
+upper_all (y ∷ ys) = upper_one y.state y ys refl
 
--- what is left once the slot is given back
+-- what is left once the held block is given back
 pub record Given (s : Shape) (k : Range) (n : Neighbours) : Type 0 where
   pub around : IsAround (blocks s) k n
-  pub blocks_of : IsBlocksOf (releasing k (tree_state s)) (around.front ++ free_block (joined k n) ∷ around.back)
+  pub blocks_of : IsBlocksOf (releasing k (tree_state s)) (around.lower ++ free_block (joined k n) ∷ around.upper)
 
 -- the bounds of a block in a tiling
 block_bounds : (p : NodeState) (lo hi : ℕ) (b : Block) (xs ys : List Block) → Tiles p lo (xs ++ b ∷ ys) hi → (lo ≤ b.key.start) × (b.key.start ≤ b.key.end) × (b.key.end ≤ hi)
@@ -64,14 +64,14 @@ block_bounds p lo hi b (x ∷ xs) ys t = let i = block_bounds x.state (x.key.end
 range_within : (sp k : Range) → IsRange sp.start sp.end → sp.start ≤ k.start → k.start ≤ k.end → k.end ≤ sp.end → IsRange k.start k.end
 range_within sp k r l m h = (m, omega (arith, r.1), λ z. let q : sp.start ≡ 0 = omega arith in omega (arith, r.2 q))
 
-around_of : (s : Shape) (k : Range) (front back : List Block) (n : Neighbours) → IsSpaceTree s → blocks s ≡ front ++ (free_if n.before ++ held_block k ∷ (free_if n.after ++ back)) → Tiles Allocated (space_of (blocks s)).start (front ++ free_block (joined k n) ∷ back) (space_of (blocks s)).end → IsAround (blocks s) k n
+around_of : (s : Shape) (k : Range) (lower upper : List Block) (n : Neighbours) → IsSpaceTree s → blocks s ≡ lower ++ (free_if n.before ++ held_block k ∷ (free_if n.after ++ upper)) → Tiles Allocated (space_of (blocks s)).start (lower ++ free_block (joined k n) ∷ upper) (space_of (blocks s)).end → IsAround (blocks s) k n
 unfolding TilesSpace
-around_of s k front back n h e t =
+around_of s k lower upper n h e t =
     let sp = space_of (blocks s) in
-    let b = block_bounds Allocated sp.start sp.end (free_block (joined k n)) front back t in
+    let b = block_bounds Allocated sp.start sp.end (free_block (joined k n)) lower upper t in
     record {
-      front = front;
-      back = back;
+      lower = lower;
+      upper = upper;
       cut = e;
       range = range_within sp (joined k n) h.space b.0 b.1 b.2;
       old = ordered_weaken 0 sp.start (blocks s) (omega arith) (tiles_ordered Allocated sp.start sp.end (blocks s) h.tiling.tiles);
@@ -82,34 +82,34 @@ same_end : (a b : Range) (after : Option Range) → a.end ≡ b.end → end_with
 same_end a b None e = e
 same_end a b (Some r) e = refl
 
--- the free block before and after, joined with the slot
-given_by : (s : Shape) (k : Range) (xs ys : List Block) (before after : Option Range) → IsSpaceTree s → blocks s ≡ xs ++ held_block k ∷ ys → Front Allocated xs before → Back ys after → Given s k (record { before = before; after = after })
+-- the free block before and after, joined with the held one
+given_by : (s : Shape) (k : Range) (xs ys : List Block) (before after : Option Range) → IsSpaceTree s → blocks s ≡ xs ++ held_block k ∷ ys → Lower Allocated xs before → Upper ys after → Given s k (record { before = before; after = after })
 unfolding TilesSpace around_of
 given_by s k xs ys None after h e f b =
     let st = tree_state s in
     let sp = space_of (blocks s) in
-    let front_is : xs ≡ f.front = f.is ∙ append-nil f.front in
+    let lower_is : xs ≡ f.lower = f.is ∙ append-nil f.lower in
     let freed : IsBlocksOf (releasing k st) (xs ++ with_free k ys) = blocks_freed st (blocks s) xs ys (held_block k) (as_blocks sp (blocks s) h.tiling.tiles) e refl (f.ends refl) in
-    let new : IsBlocksOf (releasing k st) (f.front ++ free_block (record { start = k.start; end = end_with k after }) ∷ b.back) = subst (λ (v : List Block). IsBlocksOf (releasing k st) (v ++ free_block (record { start = k.start; end = end_with k after }) ∷ b.back)) front_is (subst (λ (v : List Block). IsBlocksOf (releasing k st) (xs ++ v)) (b.with k) freed) in
+    let new : IsBlocksOf (releasing k st) (f.lower ++ free_block (record { start = k.start; end = end_with k after }) ∷ b.upper) = subst (λ (v : List Block). IsBlocksOf (releasing k st) (v ++ free_block (record { start = k.start; end = end_with k after }) ∷ b.upper)) lower_is (subst (λ (v : List Block). IsBlocksOf (releasing k st) (xs ++ v)) (b.with k) freed) in
     record {
-      around = around_of s k f.front b.back (record { before = None; after = after }) h (e ∙ ap (λ (v : List Block). v ++ held_block k ∷ ys) front_is ∙ ap (λ (v : List Block). f.front ++ held_block k ∷ v) b.is) new.tiles;
+      around = around_of s k f.lower b.upper (record { before = None; after = after }) h (e ∙ ap (λ (v : List Block). v ++ held_block k ∷ ys) lower_is ∙ ap (λ (v : List Block). f.lower ++ held_block k ∷ v) b.is) new.tiles;
       blocks_of = new;
     }
 given_by s k xs ys (Some p) after h e f b =
     let st = tree_state s in
     let sp = space_of (blocks s) in
-    let whole : blocks s ≡ f.front ++ free_block p ∷ held_block k ∷ ys = e ∙ ap (λ (v : List Block). v ++ held_block k ∷ ys) f.is ∙ append_assoc f.front (free_block p ∷ []) (held_block k ∷ ys) in
+    let whole : blocks s ≡ f.lower ++ free_block p ∷ held_block k ∷ ys = e ∙ ap (λ (v : List Block). v ++ held_block k ∷ ys) f.is ∙ append_assoc f.lower (free_block p ∷ []) (held_block k ∷ ys) in
     let wide : Range = record { start = p.start; end = k.end } in
-    let freed : IsBlocksOf (releasing k st) (f.front ++ with_free wide ys) = blocks_freed_before st (blocks s) f.front ys (free_block p) (held_block k) (as_blocks sp (blocks s) h.tiling.tiles) whole refl refl in
+    let freed : IsBlocksOf (releasing k st) (f.lower ++ with_free wide ys) = blocks_freed_before st (blocks s) f.lower ys (free_block p) (held_block k) (as_blocks sp (blocks s) h.tiling.tiles) whole refl refl in
     let end_is : end_with wide after ≡ end_with k after = same_end wide k after refl in
-    let new : IsBlocksOf (releasing k st) (f.front ++ free_block (record { start = p.start; end = end_with k after }) ∷ b.back) = subst (λ (v : ℕ). IsBlocksOf (releasing k st) (f.front ++ free_block (record { start = p.start; end = v }) ∷ b.back)) end_is (subst (λ (v : List Block). IsBlocksOf (releasing k st) (f.front ++ v)) (b.with wide) freed) in
+    let new : IsBlocksOf (releasing k st) (f.lower ++ free_block (record { start = p.start; end = end_with k after }) ∷ b.upper) = subst (λ (v : ℕ). IsBlocksOf (releasing k st) (f.lower ++ free_block (record { start = p.start; end = v }) ∷ b.upper)) end_is (subst (λ (v : List Block). IsBlocksOf (releasing k st) (f.lower ++ v)) (b.with wide) freed) in
     record {
-      around = around_of s k f.front b.back (record { before = Some p; after = after }) h (whole ∙ ap (λ (v : List Block). f.front ++ free_block p ∷ held_block k ∷ v) b.is) new.tiles;
+      around = around_of s k f.lower b.upper (record { before = Some p; after = after }) h (whole ∙ ap (λ (v : List Block). f.lower ++ free_block p ∷ held_block k ∷ v) b.is) new.tiles;
       blocks_of = new;
     }
 
-pub slot_given : (s : Shape) (k : Range) (n : Neighbours) → IsSpaceTree s → HasSlot (blocks s) k n → Given s k n
-slot_given s k n h c =
-    let front : Front Allocated c.before n.before = subst (λ (v : Option Range). Front Allocated c.before v) (sym c.last) (front_all c.before) in
-    let back : Back c.after n.after = subst (λ (v : Option Range). Back c.after v) (sym c.first) (back_all c.after) in
-    given_by s k c.before c.after n.before n.after h c.cut front back
+pub held_given_back : (s : Shape) (k : Range) (n : Neighbours) → IsSpaceTree s → HasHeld (blocks s) k n → Given s k n
+held_given_back s k n h c =
+    let lower : Lower Allocated c.before n.before = subst (λ (v : Option Range). Lower Allocated c.before v) (sym c.last) (lower_all c.before) in
+    let upper : Upper c.after n.after = subst (λ (v : Option Range). Upper c.after v) (sym c.first) (upper_all c.after) in
+    given_by s k c.before c.after n.before n.after h c.cut lower upper

@@ -8,7 +8,7 @@ use Rattle.vm_allocator.specs.Tree.Blocks.{held_of, TilesSpace}
 use Rattle.vm_allocator.specs.Tree.BlockList.{IsOrderedFrom, find_key}
 use Rattle.vm_allocator.specs.Tree.Shape.{Shape, blocks}
 use Rattle.vm_allocator.specs.Tree.SpaceTree.{space_of, tree_state, IsSpaceTree}
-use Rattle.vm_allocator.specs.Engine.Release.{HasSlot, key_if_free, last_free, first_free, if_held, neighbours}
+use Rattle.vm_allocator.specs.Engine.Release.{HasHeld, key_if_free, last_free, first_free, if_held, neighbours}
 use Rattle.vm_allocator.specs.declared.allocation_engine.node.neighbours.Neighbours.{Neighbours}
 use Rattle.vm_allocator.specs.declared.allocation_engine.NodeState.{NodeState}
 use Rattle.vm_allocator.specs.declared.allocation_engine.NodeState.TheVariants.{Free, Allocated}
@@ -61,8 +61,8 @@ found_in d e (b ∷ bs) k n f =
           record { before = b ∷ i.before; after = i.after; cut = ap (λ (v : List Block). b ∷ v) i.cut; last = i.last; first = i.first }
     ] refl f
 
-pub slot_found : (s : Shape) (k : Range) (n : Neighbours) → neighbours k None (blocks s) None ≡ Some n → HasSlot (blocks s) k n
-slot_found s k n f =
+pub held_block_found : (s : Shape) (k : Range) (n : Neighbours) → neighbours k None (blocks s) None ≡ Some n → HasHeld (blocks s) k n
+held_block_found s k n f =
     let i = found_in None None (blocks s) k n f in
     record { before = i.before; after = i.after; cut = i.cut; last = i.last; first = i.first }
 

@@ -28,15 +28,15 @@ EndsHeld before [] = NotBothFree before Free
 EndsHeld before (b ∷ bs) = EndsHeld b.state bs
 
 -- the block is held and has this range
-unfoldable pub IsSlot : Range → Block → Type 0
-IsSlot r b = (b.key ≡ r) × (b.state ≡ Allocated)
+unfoldable pub IsHeldBlock : Range → Block → Type 0
+IsHeldBlock r b = (b.key ≡ r) × (b.state ≡ Allocated)
 
 tiles_join : (p st : NodeState) (lo hi : ℕ) (k : Range) (b : Block) (bs : List Block) → b.state ≡ st → NotBothFree p Free → k.start ≡ lo → lo ≤ k.end → b.key.start ≡ k.end + 1 → k.end + 1 ≤ b.key.end → Tiles b.state (b.key.end + 1) bs hi → Tiles p lo (join_if st k b bs) hi
 tiles_join p Free lo hi k b bs e q s l n m t = (s, omega arith, q, subst (λ (v : NodeState). Tiles v (b.key.end + 1) bs hi) e t)
 tiles_join p Allocated lo hi k b bs e q s l n m t = (s, l, q, (n, m, subst (λ (v : NodeState). NotBothFree Free v) (sym e) tt, t))
 
 -- a free block before blocks that follow it
-pub tiles_with_free : (p q : NodeState) (lo hi : ℕ) (k : Range) (ys : List Block) → NotBothFree p Free → k.start ≡ lo → lo ≤ k.end → Tiles q (k.end + 1) ys hi → Tiles p lo (with_free k ys) hi
+tiles_with_free : (p q : NodeState) (lo hi : ℕ) (k : Range) (ys : List Block) → NotBothFree p Free → k.start ≡ lo → lo ≤ k.end → Tiles q (k.end + 1) ys hi → Tiles p lo (with_free k ys) hi
 tiles_with_free p q lo hi k [] f s l t = (s, l, f, t)
 tiles_with_free p q lo hi k (y ∷ ys) f s l t = tiles_join p y.state lo hi k y ys refl f s l t.0 t.1 t.3
 
@@ -44,7 +44,7 @@ held_join : (st : NodeState) (k : Range) (b : Block) (bs : List Block) → b.sta
 held_join Free k b bs e = sym (held_of-free b bs e)
 held_join Allocated k b bs e = refl
 
-pub held_with_free : (k : Range) (ys : List Block) → held_of (with_free k ys) ≡ held_of ys
+held_with_free : (k : Range) (ys : List Block) → held_of (with_free k ys) ≡ held_of ys
 held_with_free k [] = refl
 held_with_free k (y ∷ ys) = held_join y.state k y ys refl
 
@@ -63,12 +63,12 @@ without_later k x zs hs l e =
     (state_cases x.state)
 
 -- a held block that follows no free block becomes free
-pub tiles_freed : (p : NodeState) (lo hi : ℕ) (b : Block) (xs ys : List Block) → EndsHeld p xs → b.state ≡ Allocated → Tiles p lo (xs ++ b ∷ ys) hi → Tiles p lo (xs ++ with_free b.key ys) hi
+tiles_freed : (p : NodeState) (lo hi : ℕ) (b : Block) (xs ys : List Block) → EndsHeld p xs → b.state ≡ Allocated → Tiles p lo (xs ++ b ∷ ys) hi → Tiles p lo (xs ++ with_free b.key ys) hi
 tiles_freed p lo hi b [] ys g e t = tiles_with_free p b.state lo hi b.key ys g t.0 t.1 t.3
 tiles_freed p lo hi b (x ∷ xs) ys g e t = (t.0, t.1, t.2, tiles_freed x.state (x.key.end + 1) hi b xs ys g e t.3)
 
 -- a held block that follows a free block is joined with it
-pub tiles_freed_before : (p : NodeState) (lo hi : ℕ) (f b : Block) (xs ys : List Block) → f.state ≡ Free → b.state ≡ Allocated → Tiles p lo (xs ++ f ∷ b ∷ ys) hi → Tiles p lo (xs ++ with_free (record { start = f.key.start; end = b.key.end }) ys) hi
+tiles_freed_before : (p : NodeState) (lo hi : ℕ) (f b : Block) (xs ys : List Block) → f.state ≡ Free → b.state ≡ Allocated → Tiles p lo (xs ++ f ∷ b ∷ ys) hi → Tiles p lo (xs ++ with_free (record { start = f.key.start; end = b.key.end }) ys) hi
 tiles_freed_before p lo hi f b [] ys g e t =
     tiles_with_free p b.state lo hi (record { start = f.key.start; end = b.key.end }) ys (subst (λ (v : NodeState). NotBothFree p v) g t.2) t.0 (omega (arith, t.1, t.3.1)) t.3.3
 tiles_freed_before p lo hi f b (x ∷ xs) ys g e t = (t.0, t.1, t.2, tiles_freed_before x.state (x.key.end + 1) hi f b xs ys g e t.3)
@@ -110,9 +110,9 @@ blocks_freed_before state bs xs ys f b h e i g =
       held = held_freed_before Allocated state.space.start state.space.end (record { start = f.key.start; end = b.key.end }) f b xs ys i g t ∙ ap (without_range b.key) (ap held_of (sym e) ∙ h.held);
     }
 
-held_slot : (r : Range) (b : Block) (bs : List Block) → IsHeld (held_of (b ∷ bs)) r → IsSlot r b ⊎ IsHeld (held_of bs) r
-unfolding IsSlot
-held_slot r b bs h =
+held_or_later : (r : Range) (b : Block) (bs : List Block) → IsHeld (held_of (b ∷ bs)) r → IsHeldBlock r b ⊎ IsHeld (held_of bs) r
+unfolding IsHeldBlock
+held_or_later r b bs h =
     ⊎_elim
     (λ (e : b.state ≡ Free). inr (subst (λ (v : List Range). IsHeld v r) (held_of-free b bs e) h))
     (λ (e : b.state ≡ Allocated).
@@ -121,8 +121,8 @@ held_slot r b bs h =
     (state_cases b.state)
 
 -- and one that a held block has is
-pub is_held : (r : Range) (b : Block) (xs ys : List Block) → IsSlot r b → IsHeld (held_of (xs ++ b ∷ ys)) r
-unfolding IsSlot
+pub is_held : (r : Range) (b : Block) (xs ys : List Block) → IsHeldBlock r b → IsHeld (held_of (xs ++ b ∷ ys)) r
+unfolding IsHeldBlock
 is_held r b [] ys s = subst (λ (v : List Range). IsHeld v r) (sym (held_of-held b ys s.1)) (inl s.0)
 is_held r b (x ∷ xs) ys s =
     ⊎_elim

@@ -6,6 +6,7 @@ use Rattle.vm_allocator.specs.Tree.Block.{Block}
 use Rattle.vm_allocator.specs.Tree.BlockList.{IsOrderedFrom}
 use Rattle.vm_allocator.specs.Tree.Shape.{Shape, Fork, blocks, IsTree}
 use Rattle.vm_allocator.specs.Engine.Release.{key_if_free, last_free, first_free, if_held, neighbours}
+use Rattle.vm_allocator.proofs.Numbers.RangeCalls.{starts_low}
 use Rattle.vm_allocator.proofs.Blocks.BlockOrder.{ordered_middle}
 use Rattle.vm_allocator.proofs.Blocks.Replacement.{same_range_start, same_range_before, same_range_self}
 
@@ -33,9 +34,8 @@ none_below lo k d e (b ∷ bs) p o =
     rw (same_range_start k b.key (λ z. omega (arith, o.0)), none_below (b.key.end + 1) k (key_if_free b.state b.key) e bs (omega (arith, o.0, o.1)) o.2) refl
 
 beside_left : (lo : ℕ) (k : Range) (d e : Option Range) (l : List Block) (x : Block) (r : List Block) → Before k x.key → IsOrderedFrom lo (l ++ x ∷ r) → neighbours k d (l ++ x ∷ r) e ≡ neighbours k d l (key_if_free x.state x.key)
-unfolding Before
 beside_left lo k d e [] x r p o =
-    let q : k.start ≤ x.key.start = elim p [ inl a ↦ omega (arith, a) | inr a ↦ omega (arith, a.0) ] in
+    let q = starts_low k x.key p in
     rw (same_range_before k x.key (inl p), none_below (x.key.end + 1) k (key_if_free x.state x.key) e r (omega (arith, q, o.1)) o.2) refl
 beside_left lo k d e (b ∷ l) x r p o =
     elim (same_range k b.key) as (λ v. cond v (if_held b.state (record { before = d; after = first_free (l ++ x ∷ r) e })) (neighbours k (key_if_free b.state b.key) (l ++ x ∷ r) e) ≡ cond v (if_held b.state (record { before = d; after = first_free l (key_if_free x.state x.key) })) (neighbours k (key_if_free b.state b.key) l (key_if_free x.state x.key))) [
@@ -51,9 +51,8 @@ past lo k d e (b ∷ l) x r p o =
     rw (same_range_start k b.key (λ z. omega (arith, m.0, o.1))) (past (b.key.end + 1) k (key_if_free b.state b.key) e l x r p o.2)
 
 beside_right : (lo : ℕ) (k : Range) (d e : Option Range) (l : List Block) (x : Block) (r : List Block) → Before x.key k → IsOrderedFrom lo (l ++ x ∷ r) → neighbours k d (l ++ x ∷ r) e ≡ neighbours k (key_if_free x.state x.key) r e
-unfolding Before
 beside_right lo k d e l x r p o =
-    let q : x.key.start ≤ k.start = elim p [ inl a ↦ omega (arith, a) | inr a ↦ omega (arith, a.0) ] in
+    let q = starts_low x.key k p in
     past lo k d e l x r q o ∙ rw (same_range_before k x.key (inr p)) refl
 
 beside_middle : (lo : ℕ) (k : Range) (d e : Option Range) (l : List Block) (x : Block) (r : List Block) → k ≡ x.key → IsOrderedFrom lo (l ++ x ∷ r) → neighbours k d (l ++ x ∷ r) e ≡ if_held x.state (record { before = last_free d l; after = first_free r e })

@@ -9,7 +9,7 @@ use Rattle.vm_allocator.specs.Tree.Blocks.{TilesSpace, IsBlocksOf, held_of, bloc
 use Rattle.vm_allocator.specs.Tree.BlockList.{IsOrderedFrom, replace_block}
 use Rattle.vm_allocator.specs.Tree.Shape.{Shape, blocks, height_of}
 use Rattle.vm_allocator.specs.Tree.SpaceTree.{space_of, tree_state, IsSpaceTree}
-use Rattle.vm_allocator.specs.Engine.Release.{HasSlot, neighbours, free_if, joined, IsAround, without_if, rejoined}
+use Rattle.vm_allocator.specs.Engine.Release.{HasHeld, neighbours, free_if, joined, IsAround, without_if, rejoined}
 use Rattle.vm_allocator.specs.Engine.Widening.{CanWiden}
 use Rattle.vm_allocator.specs.declared.allocation_engine.node.neighbours.Neighbours.{Neighbours}
 use Rattle.vm_allocator.specs.declared.error.Error.TheVariants.{ResourceNotAvailable}
@@ -22,54 +22,54 @@ use Rattle.vm_allocator.proofs.Nodes.TreeEdits.{tiles_ordered}
 use Rattle.vm_allocator.proofs.Blocks.BlockOrder.{ordered_drop}
 use Rattle.vm_allocator.proofs.Blocks.Replacement.{replace_middle, find_middle}
 use Rattle.vm_allocator.proofs.Nodes.Spaces.{space_tiled, space_tree}
-use Rattle.vm_allocator.proofs.Releasing.Finding.{slot_found, not_held}
-use Rattle.vm_allocator.proofs.Releasing.Apart.{Given, slot_given}
+use Rattle.vm_allocator.proofs.Releasing.Finding.{held_block_found, not_held}
+use Rattle.vm_allocator.proofs.Releasing.Apart.{Given, held_given_back}
 
 -- the edits leave what is left
-without_before : (before : Option Range) (front rest : List Block) → IsOrderedFrom 0 (front ++ (free_if before ++ rest)) → without_if before (front ++ (free_if before ++ rest)) ≡ front ++ rest
-without_before None front rest o = refl
-without_before (Some p) front rest o = replace_middle 0 p [] front (free_block p) rest refl o
+without_before : (before : Option Range) (lower rest : List Block) → IsOrderedFrom 0 (lower ++ (free_if before ++ rest)) → without_if before (lower ++ (free_if before ++ rest)) ≡ lower ++ rest
+without_before None lower rest o = refl
+without_before (Some p) lower rest o = replace_middle 0 p [] lower (free_block p) rest refl o
 
-ordered_rest : (before : Option Range) (front rest : List Block) → IsOrderedFrom 0 (front ++ (free_if before ++ rest)) → IsOrderedFrom 0 (front ++ rest)
-ordered_rest None front rest o = o
-ordered_rest (Some p) front rest o = ordered_drop 0 front (free_block p) rest o
+ordered_rest : (before : Option Range) (lower rest : List Block) → IsOrderedFrom 0 (lower ++ (free_if before ++ rest)) → IsOrderedFrom 0 (lower ++ rest)
+ordered_rest None lower rest o = o
+ordered_rest (Some p) lower rest o = ordered_drop 0 lower (free_block p) rest o
 
-no_middle : (front : List Block) (b : Block) (rest : List Block) → front ++ b ∷ rest ≡ [] → ⊥
+no_middle : (lower : List Block) (b : Block) (rest : List Block) → lower ++ b ∷ rest ≡ [] → ⊥
 no_middle [] b rest e = cc
 no_middle (x ∷ xs) b rest e = cc
 
 module _ (bs : List Block) (k : Range) (n : Neighbours) (a : IsAround bs k n) where
-  old_ordered : IsOrderedFrom 0 (a.front ++ (free_if n.before ++ held_block k ∷ (free_if n.after ++ a.back)))
+  old_ordered : IsOrderedFrom 0 (a.lower ++ (free_if n.before ++ held_block k ∷ (free_if n.after ++ a.upper)))
   old_ordered = subst (IsOrderedFrom 0) a.cut a.old
 
-  mid_is : without_if n.before bs ≡ (a.front ++ held_block k ∷ []) ++ (free_if n.after ++ a.back)
-  mid_is = ap (without_if n.before) a.cut ∙ without_before n.before a.front (held_block k ∷ (free_if n.after ++ a.back)) old_ordered ∙ sym (append_assoc a.front (held_block k ∷ []) (free_if n.after ++ a.back))
+  mid_is : without_if n.before bs ≡ (a.lower ++ held_block k ∷ []) ++ (free_if n.after ++ a.upper)
+  mid_is = ap (without_if n.before) a.cut ∙ without_before n.before a.lower (held_block k ∷ (free_if n.after ++ a.upper)) old_ordered ∙ sym (append_assoc a.lower (held_block k ∷ []) (free_if n.after ++ a.upper))
 
-  mid_ordered : IsOrderedFrom 0 ((a.front ++ held_block k ∷ []) ++ (free_if n.after ++ a.back))
-  mid_ordered = subst (IsOrderedFrom 0) (sym (append_assoc a.front (held_block k ∷ []) (free_if n.after ++ a.back))) (ordered_rest n.before a.front (held_block k ∷ (free_if n.after ++ a.back)) old_ordered)
+  mid_ordered : IsOrderedFrom 0 ((a.lower ++ held_block k ∷ []) ++ (free_if n.after ++ a.upper))
+  mid_ordered = subst (IsOrderedFrom 0) (sym (append_assoc a.lower (held_block k ∷ []) (free_if n.after ++ a.upper))) (ordered_rest n.before a.lower (held_block k ∷ (free_if n.after ++ a.upper)) old_ordered)
 
-  last_is : without_if n.after (without_if n.before bs) ≡ a.front ++ held_block k ∷ a.back
-  last_is = ap (without_if n.after) mid_is ∙ without_before n.after (a.front ++ held_block k ∷ []) a.back mid_ordered ∙ append_assoc a.front (held_block k ∷ []) a.back
+  last_is : without_if n.after (without_if n.before bs) ≡ a.lower ++ held_block k ∷ a.upper
+  last_is = ap (without_if n.after) mid_is ∙ without_before n.after (a.lower ++ held_block k ∷ []) a.upper mid_ordered ∙ append_assoc a.lower (held_block k ∷ []) a.upper
 
-  last_ordered : IsOrderedFrom 0 (a.front ++ held_block k ∷ a.back)
-  last_ordered = subst (IsOrderedFrom 0) (append_assoc a.front (held_block k ∷ []) a.back) (ordered_rest n.after (a.front ++ held_block k ∷ []) a.back mid_ordered)
+  last_ordered : IsOrderedFrom 0 (a.lower ++ held_block k ∷ a.upper)
+  last_ordered = subst (IsOrderedFrom 0) (append_assoc a.lower (held_block k ∷ []) a.upper) (ordered_rest n.after (a.lower ++ held_block k ∷ []) a.upper mid_ordered)
 
-  pub rejoined_is : rejoined k n bs ≡ a.front ++ free_block (joined k n) ∷ a.back
-  rejoined_is = ap (replace_block k (free_block (joined k n) ∷ [])) last_is ∙ replace_middle 0 k (free_block (joined k n) ∷ []) a.front (held_block k) a.back refl last_ordered
+  pub rejoined_is : rejoined k n bs ≡ a.lower ++ free_block (joined k n) ∷ a.upper
+  rejoined_is = ap (replace_block k (free_block (joined k n) ∷ [])) last_is ∙ replace_middle 0 k (free_block (joined k n) ∷ []) a.lower (held_block k) a.upper refl last_ordered
 
-  pub slot_held : (news : List Block) → news ≡ without_if n.after (without_if n.before bs) → CanWiden news k (joined k n)
-  slot_held news e =
+  pub can_widen_held : (news : List Block) → news ≡ without_if n.after (without_if n.before bs) → CanWiden news k (joined k n)
+  can_widen_held news e =
       subst (λ (v : List Block). CanWiden v k (joined k n)) (sym (e ∙ last_is)) (
       record {
-        held = find_middle 0 k a.front (held_block k) a.back refl last_ordered;
+        held = find_middle 0 k a.lower (held_block k) a.upper refl last_ordered;
         ordered = subst (IsOrderedFrom 0) (ap (replace_block k (free_block (joined k n) ∷ [])) last_is) (subst (IsOrderedFrom 0) (sym rejoined_is) a.new);
       })
 
   pub not_empty : bs ≡ [] → ⊥
-  not_empty e = no_middle (a.front ++ free_if n.before) (held_block k) (free_if n.after ++ a.back) (append_assoc a.front (free_if n.before) (held_block k ∷ (free_if n.after ++ a.back)) ∙ sym a.cut ∙ e)
+  not_empty e = no_middle (a.lower ++ free_if n.before) (held_block k) (free_if n.after ++ a.upper) (append_assoc a.lower (free_if n.before) (held_block k ∷ (free_if n.after ++ a.upper)) ∙ sym a.cut ∙ e)
 
   pub not_empty_mid : (news : List Block) → news ≡ without_if n.before bs → news ≡ [] → ⊥
-  not_empty_mid news e z = no_middle a.front (held_block k) (free_if n.after ++ a.back) (sym (append_assoc a.front (held_block k ∷ []) (free_if n.after ++ a.back)) ∙ sym mid_is ∙ sym e ∙ z)
+  not_empty_mid news e z = no_middle a.lower (held_block k) (free_if n.after ++ a.upper) (sym (append_assoc a.lower (held_block k ∷ []) (free_if n.after ++ a.upper)) ∙ sym mid_is ∙ sym e ∙ z)
 
 pub space_given : (s m : Shape) (k : Range) (n : Neighbours) → IsSpaceTree s → Given s k n → blocks m ≡ rejoined k n (blocks s) → height_of m ≤ height_of s → IsSpaceTree m
 unfolding TilesSpace
@@ -77,8 +77,8 @@ space_given s m k n h g e l =
     let b : IsBlocksOf (releasing k (tree_state s)) (blocks m) = subst (λ (v : List Block). IsBlocksOf (releasing k (tree_state s)) v) (sym (e ∙ rejoined_is (blocks s) k n g.around)) g.blocks_of in
     space_tree (space_of (blocks s)) m (record { tiles = b.tiles; below = subst AreBelowMax (sym b.held) (below_without k (held_of (blocks s)) h.tiling.below) }) h.space (omega (arith, h.height))
 
-held_slot : (bs : List Block) (k : Range) (n : Neighbours) → HasSlot bs k n → Contains (held_of bs) k
-held_slot bs k n c = contains_held (held_of bs) k (subst (λ (v : List Block). IsHeld (held_of v) k) (sym c.cut) (in_list c.before c.after))
+held_or_later : (bs : List Block) (k : Range) (n : Neighbours) → HasHeld bs k n → Contains (held_of bs) k
+held_or_later bs k n c = contains_held (held_of bs) k (subst (λ (v : List Block). IsHeld (held_of v) k) (sym c.cut) (in_list c.before c.after))
   where
     in_list : (xs ys : List Block) → IsHeld (held_of (xs ++ held_block k ∷ ys)) k
     in_list [] ys = inl refl
@@ -88,12 +88,12 @@ held_slot bs k n c = contains_held (held_of bs) k (subst (λ (v : List Block). I
         (λ (e : x.state ≡ Allocated). subst (λ (v : List Range). IsHeld v k) (sym (held_of-held x (xs ++ held_block k ∷ ys) e)) (inr (in_list xs ys)))
         (state_cases x.state)
 
-pub frees_slot : (s m : Shape) (k : Range) (n : Neighbours) → IsSpaceTree s → HasSlot (blocks s) k n → Given s k n → blocks m ≡ rejoined k n (blocks s) → Frees (tree_state s) k (Ok tt) (tree_state m)
+pub frees_held_block : (s m : Shape) (k : Range) (n : Neighbours) → IsSpaceTree s → HasHeld (blocks s) k n → Given s k n → blocks m ≡ rejoined k n (blocks s) → Frees (tree_state s) k (Ok tt) (tree_state m)
 unfolding TilesSpace Frees
-frees_slot s m k n h c g e =
+frees_held_block s m k n h c g e =
     let b : IsBlocksOf (releasing k (tree_state s)) (blocks m) = subst (λ (v : List Block). IsBlocksOf (releasing k (tree_state s)) v) (sym (e ∙ rejoined_is (blocks s) k n g.around)) g.blocks_of in
     let sp : space_of (blocks m) ≡ space_of (blocks s) = space_tiled (space_of (blocks s)) (blocks m) b.tiles h.space.0 in
-    inl (held_slot (blocks s) k n c, (refl, ap (λ (v : Range). blocks_state v (blocks m)) sp ∙ ap (λ (v : List Range). record { space = space_of (blocks s); held = v }) b.held))
+    inl (held_or_later (blocks s) k n c, (refl, ap (λ (v : Range). blocks_state v (blocks m)) sp ∙ ap (λ (v : List Range). record { space = space_of (blocks s); held = v }) b.held))
 
 pub frees_none : (s : Shape) (k : Range) → IsSpaceTree s → neighbours k None (blocks s) None ≡ None → Frees (tree_state s) k (Err ResourceNotAvailable) (tree_state s)
 unfolding Frees TilesSpace
@@ -101,6 +101,6 @@ frees_none s k h f =
     let sp = space_of (blocks s) in
     inr ((λ c. not_held sp.start None None (blocks s) k (tiles_ordered Allocated sp.start sp.end (blocks s) h.tiling.tiles) f (held_contains (held_of (blocks s)) k c)), (refl, refl))
 
-pub ruleset releases = (slot_found, slot_given, space_given, frees_slot, frees_none)
+pub ruleset releases = (held_block_found, held_given_back, space_given, frees_held_block, frees_none)
 
-pub ruleset rejoins = (rejoined_is, slot_held, not_empty, not_empty_mid)
+pub ruleset rejoins = (rejoined_is, can_widen_held, not_empty, not_empty_mid)

@@ -4,7 +4,7 @@ use Rattle.std.proofs.lemmas.Bool.{le-ltb}
 use Rattle.std.proofs.lemmas.List.{append_assoc, append-nil, length-append}
 use Rattle.vm_allocator.specs.Range.{Range, MAX, IsIn, span, address_count}
 use Rattle.vm_allocator.specs.Alignment.{IsAlignment}
-use Rattle.vm_allocator.specs.Address.{AddressState, IsPlace, AreClear, AreSlots, IsAddressState, with_range}
+use Rattle.vm_allocator.specs.Address.{AddressState, IsPlace, AreClear, StandInOrder, IsAddressState, with_range}
 use Rattle.vm_allocator.specs.Request.{Request, request_for, IsRequest, IsStartAligned}
 use Rattle.vm_allocator.specs.Answer.{FEWEST_TOO_DEEP, IsChosen, Takes, Allocates}
 use Rattle.vm_allocator.specs.Tree.Blocks.{range_if_held}
@@ -19,25 +19,25 @@ use Rattle.vm_allocator.proofs.Blocks.HeldSets.{held_lies, later_above}
 use Rattle.vm_allocator.proofs.Answers.Filling.{otherwise, allocates_chosen}
 
 -- ---- some ranges, and then others
-slots_front : (xs ys : List Range) (lo hi : ℕ) → AreSlots lo (xs ++ ys) hi → AreSlots lo xs hi
-slots_front [] ys lo hi s = tt
-slots_front (x ∷ xs) ys lo hi s = (s.0, s.1, s.2, s.3, slots_front xs ys (x.end + 1) hi s.4)
+in_order_below : (xs ys : List Range) (lo hi : ℕ) → StandInOrder lo (xs ++ ys) hi → StandInOrder lo xs hi
+in_order_below [] ys lo hi s = tt
+in_order_below (x ∷ xs) ys lo hi s = (s.0, s.1, s.2, s.3, in_order_below xs ys (x.end + 1) hi s.4)
 
 pub adding_both : (xs ys : List Range) (state : AddressState) → adding ys (adding xs state) ≡ adding (xs ++ ys) state
 adding_both xs ys state = ap (λ (v : List Range). record state { held = v }) (append_assoc state.held xs ys)
 
-pub can_front : (xs ys : List Range) (state : AddressState) → CanAdd (xs ++ ys) state → CanAdd xs state
-can_front xs ys state c =
+pub can_below : (xs ys : List Range) (state : AddressState) → CanAdd (xs ++ ys) state → CanAdd xs state
+can_below xs ys state c =
     let same : state.held ++ (xs ++ ys) ≡ (state.held ++ xs) ++ ys = sym (append_assoc state.held xs ys) in
-    let slots = subst (λ (v : List Range). AreSlots state.space.start v state.space.end) same c.reached.slots in
+    let in_order = subst (λ (v : List Range). StandInOrder state.space.start v state.space.end) same c.reached.in_order in
     let few : length ((state.held ++ xs) ++ ys) ≤ FEWEST_TOO_DEEP = subst (λ (v : List Range). length v ≤ FEWEST_TOO_DEEP) same c.few in
     record {
-      reached = record { space = c.reached.space; slots = slots_front (state.held ++ xs) ys state.space.start state.space.end slots };
+      reached = record { space = c.reached.space; in_order = in_order_below (state.held ++ xs) ys state.space.start state.space.end in_order };
       few = omega (arith, length-append (state.held ++ xs) ys);
     }
 
-pub can_back : (xs ys : List Range) (state : AddressState) → CanAdd (xs ++ ys) state → CanAdd ys (adding xs state)
-can_back xs ys state c = record {
+pub can_above : (xs ys : List Range) (state : AddressState) → CanAdd (xs ++ ys) state → CanAdd ys (adding xs state)
+can_above xs ys state c = record {
   reached = subst IsAddressState (sym (adding_both xs ys state)) c.reached;
   few = subst (λ (v : AddressState). length v.held ≤ FEWEST_TOO_DEEP) (sym (adding_both xs ys state)) c.few;
 }
@@ -48,7 +48,7 @@ last_held [] r = inl refl
 last_held (x ∷ xs) r = inr (last_held xs r)
 
 -- no other range has an address from its start on
-misses : (xs : List Range) (r : Range) (lo hi x : ℕ) → AreSlots lo (xs ++ r ∷ []) hi → r.start ≤ x → ¬ IsHeldAddress xs x
+misses : (xs : List Range) (r : Range) (lo hi x : ℕ) → StandInOrder lo (xs ++ r ∷ []) hi → r.start ≤ x → ¬ IsHeldAddress xs x
 misses [] r lo hi x s l h = h
 misses (y ∷ ys) r lo hi x s l h =
     ⊎_elim
@@ -57,7 +57,7 @@ misses (y ∷ ys) r lo hi x s l h =
     h
 
 -- so it comes last
-goes_last : (xs : List Range) (r : Range) (lo hi : ℕ) → AreSlots lo (xs ++ r ∷ []) hi → with_range r xs ≡ xs ++ r ∷ []
+goes_last : (xs : List Range) (r : Range) (lo hi : ℕ) → StandInOrder lo (xs ++ r ∷ []) hi → with_range r xs ≡ xs ++ r ∷ []
 goes_last [] r lo hi s = refl
 goes_last (y ∷ ys) r lo hi s =
     rw (le-ltb r.start y.start (omega (arith, s.1, later_above lo hi y (ys ++ r ∷ []) r s (last_held ys r))))
@@ -72,7 +72,7 @@ module _ (r : Range) (old : AddressState) (can : CanAdd (r ∷ []) old) where
   request = request_for (address_count r) 1 (ExactMatch r.start)
 
   lies : (old.space.start ≤ r.start) × (r.start ≤ r.end) × (r.end ≤ old.space.end) × (r.end < MAX)
-  lies = held_lies old.space.start old.space.end (old.held ++ r ∷ []) r can.reached.slots (last_held old.held r)
+  lies = held_lies old.space.start old.space.end (old.held ++ r ∷ []) r can.reached.in_order (last_held old.held r)
 
   sensible : IsRequest request
   unfolding IsStartAligned
@@ -82,7 +82,7 @@ module _ (r : Range) (old : AddressState) (can : CanAdd (r ∷ []) old) where
   clear x low high =
       let l = lies in (
         (omega (arith, l.0), omega (arith, l.1, l.2)),
-        all_miss old.held x (misses old.held r old.space.start old.space.end x can.reached.slots low),
+        all_miss old.held x (misses old.held r old.space.start old.space.end x can.reached.in_order low),
       )
 
   chosen : IsChosen request old r.start
@@ -99,7 +99,7 @@ module _ (r : Range) (old : AddressState) (can : CanAdd (r ∷ []) old) where
       ⊎_elim
       (λ g. inl (
         g.0 ∙ ap (λ (v : Range). Ok v) is_span,
-        g.1 ∙ ap (λ (v : Range). record old { held = with_range v old.held }) is_span ∙ ap (λ (v : List Range). record old { held = v }) (goes_last old.held r old.space.start old.space.end can.reached.slots),
+        g.1 ∙ ap (λ (v : Range). record old { held = with_range v old.held }) is_span ∙ ap (λ (v : List Range). record old { held = v }) (goes_last old.held r old.space.start old.space.end can.reached.in_order),
       ))
       (λ g. ⊎_elim (λ m. inr m) (λ m. absurd (omega (arith, m.0, can.few, length-append old.held (r ∷ [])))) g.2)
       t

@@ -12,7 +12,7 @@ use Rattle.vm_allocator.specs.Checks.ValueChecks.{NodeData, node_data}
 use Rattle.vm_allocator.specs.Values.RepairedValues.{HasNodes}
 use Rattle.vm_allocator.specs.Checks.RepairChecks.{adding, CanAdd, HasNodesToAdd, CanAddNodes, AddsNodes}
 use Rattle.vm_allocator.proofs.Reading.ReadNodes.{no_data, fork_is, none_tip, one_tree}
-use Rattle.vm_allocator.proofs.Repairing.AddedKeys.{adding_both, can_front, can_back}
+use Rattle.vm_allocator.proofs.Repairing.AddedKeys.{adding_both, can_below, can_above}
 
 held_node : (xs : List Block) (b : Block) (ys : List Block) → held_of (xs ++ b ∷ ys) ≡ held_of xs ++ (range_if_held b.state b.key ++ held_of ys)
 held_node [] b ys = refl
@@ -69,10 +69,10 @@ module _ (depth : ℕ) (d : Data) (old : AddressState) (n : NodeData) (p : ToAdd
   with_left = adding (held_of (blocks p.left)) old
 
   rest_can : CanAdd (own n ++ held_of (blocks p.right)) with_left
-  rest_can = can_back (held_of (blocks p.left)) (own n ++ held_of (blocks p.right)) old p.can
+  rest_can = can_above (held_of (blocks p.left)) (own n ++ held_of (blocks p.right)) old p.can
 
   pub left_can : CanAddNodes (depth - 1) n.left old
-  left_can = (p.left, record { nodes = p.left_nodes; height = p.left_height; can = can_front (held_of (blocks p.left)) (own n ++ held_of (blocks p.right)) old p.can })
+  left_can = (p.left, record { nodes = p.left_nodes; height = p.left_height; can = can_below (held_of (blocks p.left)) (own n ++ held_of (blocks p.right)) old p.can })
 
   -- once the keys to the left are held
   module _ (mid : AddressState) (added : AddsNodes n.left old mid) where
@@ -80,7 +80,7 @@ module _ (depth : ℕ) (d : Data) (old : AddressState) (n : NodeData) (p : ToAdd
     left_is = added.2 ∙ ap (λ (s : Shape). adding (held_of (blocks s)) old) (one_tree added.0 p.left n.left added.1 p.left_nodes)
 
     pub key_can : CanAdd (own n) mid
-    key_can = subst (CanAdd (own n)) (sym left_is) (can_front (own n) (held_of (blocks p.right)) with_left rest_can)
+    key_can = subst (CanAdd (own n)) (sym left_is) (can_below (own n) (held_of (blocks p.right)) with_left rest_can)
 
     -- and the node's own
     module _ (next : AddressState) (held : next ≡ adding (own n) mid) where
@@ -88,7 +88,7 @@ module _ (depth : ℕ) (d : Data) (old : AddressState) (n : NodeData) (p : ToAdd
       key_is = held ∙ ap (adding (own n)) left_is
 
       pub right_can : CanAddNodes (depth - 1) n.right next
-      right_can = (p.right, record { nodes = p.right_nodes; height = p.right_height; can = subst (CanAdd (held_of (blocks p.right))) (sym key_is) (can_back (own n) (held_of (blocks p.right)) with_left rest_can) })
+      right_can = (p.right, record { nodes = p.right_nodes; height = p.right_height; can = subst (CanAdd (held_of (blocks p.right))) (sym key_is) (can_above (own n) (held_of (blocks p.right)) with_left rest_can) })
 
       pub all_added : (new : AddressState) → AddsNodes n.right next new → AddsNodes d old new
       all_added new a =

@@ -5,7 +5,7 @@ use Rattle.serde_json.specs.Data.{Data}
 use Rattle.vm_values.proofs.FieldSteps.{field_map}
 use Rattle.vm_values.proofs.Steps.{and_then_some, if_some}
 use Rattle.vm_allocator.specs.Range.{Range, IsRange, address_count}
-use Rattle.vm_allocator.specs.Address.{AddressState, AreSlots, IsAddressState}
+use Rattle.vm_allocator.specs.Address.{AddressState, StandInOrder, IsAddressState}
 use Rattle.vm_allocator.specs.Answer.{FEWEST_TOO_DEEP, Makes}
 use Rattle.vm_allocator.specs.Tree.Blocks.{held_of, TilesSpace}
 use Rattle.vm_allocator.specs.Tree.Shape.{Shape, blocks, height_of}
@@ -17,7 +17,7 @@ use Rattle.vm_allocator.specs.Checks.RepairChecks.{row_found, row_of, repaired_f
 use Rattle.vm_allocator.specs.declared.allocation_engine.NodeState.TheVariants.{Allocated}
 use Rattle.vm_allocator.specs.declared.saved.repaired.Row.{Row}
 use Rattle.vm_allocator.proofs.Answers.AddressAnswers.{made_is}
-use Rattle.vm_allocator.proofs.Blocks.BlockStates.{tiles_keys, keys_slots}
+use Rattle.vm_allocator.proofs.Blocks.BlockStates.{tiles_keys, keys_in_order}
 use Rattle.vm_allocator.proofs.Reading.ReadNodes.{shape_nodes, one_tree, keys_stated}
 use Rattle.vm_allocator.proofs.Reading.AllocatorParts.{HasParts, parts_stated, parts_are, one_root}
 use Rattle.vm_allocator.proofs.Reading.ReadAllocators.{stated_ends}
@@ -33,7 +33,7 @@ record IsChecked (d : Data) (space : Range) (root : Data) (s : Shape) : Type 0 w
   nodes : HasNodes root s
   height : height_of s ≤ MAX_HEIGHT_REPAIRED
   range : IsRange space.start space.end
-  slots : AreSlots space.start (held_of (blocks s)) space.end
+  in_order : StandInOrder space.start (held_of (blocks s)) space.end
   few : length (held_of (blocks s)) ≤ FEWEST_TOO_DEEP
 
 checked_root : (d : Data) (space : Range) (root : Data) (last : Row) → parts_found d ≡ Some (space, root) → row_found space.end MAX_HEIGHT_REPAIRED root (row_of space) ≡ Some last → (s : Shape) × IsChecked d space root s
@@ -58,7 +58,7 @@ checked_root d space root last parts e =
         };
         nodes = f.1.nodes;
         height = f.1.within;
-        slots = keys_slots space.start space.end (blocks f.0) g.keys g.below;
+        in_order = keys_in_order space.start space.end (blocks f.0) g.keys g.below;
         few = omega arith;
         range = (parts_are d space (λ v. HasNodes v f.0) all).3;
       },
@@ -102,8 +102,8 @@ one_repaired d a b p q =
 pub repaired_state : (d : Data) (state : AddressState) → StatesRepaired d state → IsAddressState state
 repaired_state d state p =
     let range = (parts_are d state.space (λ v. HasNodes v p.tree) (fields_of d state p)).3 in
-    let slots = keys_slots state.space.start state.space.end (blocks p.tree) p.keys p.below in
-    record { space = range; slots = subst (λ (hs : List Range). AreSlots state.space.start hs state.space.end) p.held slots }
+    let in_order = keys_in_order state.space.start state.space.end (blocks p.tree) p.keys p.below in
+    record { space = range; in_order = subst (λ (hs : List Range). StandInOrder state.space.start hs state.space.end) p.held in_order }
 
 -- what is read without repairs is read to the same state with them, where no split of it can be refused for depth
 strict_tree : (d : Data) (s : Shape) → StatesTree d (λ v. StatesShape v s) → StatesTree d (λ v. HasNodes v s)
@@ -155,7 +155,7 @@ module _ (d : Data) (space : Range) (root : Data) (e : repaired_found d ≡ Some
   pub can_add : CanAddNodes MAX_HEIGHT_REPAIRED root new
   can_add =
       let c = checks d space root e in
-      let can : CanAdd (held_of (blocks c.0)) fresh = record { reached = record { space = c.1.range; slots = c.1.slots }; few = c.1.few } in
+      let can : CanAdd (held_of (blocks c.0)) fresh = record { reached = record { space = c.1.range; in_order = c.1.in_order }; few = c.1.few } in
       (c.0, record { nodes = c.1.nodes; height = c.1.height; can = subst (CanAdd (held_of (blocks c.0))) (sym is_fresh) can })
 
   -- and once they are, it is what the value states

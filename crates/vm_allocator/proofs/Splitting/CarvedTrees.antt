@@ -5,7 +5,7 @@ use Rattle.vm_allocator.specs.Range.{Range}
 use Rattle.vm_allocator.specs.Tree.Block.{Block}
 use Rattle.vm_allocator.specs.Tree.BlockList.{IsOrderedFrom, IsClearOf, insert_block, insert_all, AreClearOf, replace_block}
 use Rattle.vm_allocator.specs.Tree.Shape.{Shape, Fork, blocks, height_of, single, root_block, IsTree, DifferByAtMost}
-use Rattle.vm_allocator.proofs.Blocks.BlockOrder.{ordered_drop, ordered_front, ordered_back}
+use Rattle.vm_allocator.proofs.Blocks.BlockOrder.{ordered_drop, ordered_below, ordered_above}
 use Rattle.vm_allocator.proofs.Nodes.Rewriting.{known_left, known_right, rewritten_left, rewritten_right}
 use Rattle.vm_allocator.proofs.Blocks.Replacement.{replace_middle, find_middle, replace_in_left, replace_in_right, replace_in_middle}
 use Rattle.vm_allocator.proofs.Nodes.TreeEdits.{insert_between, clear_between}
@@ -15,7 +15,7 @@ all_last : (lo : ℕ) (xs l rest : List Block) → IsOrderedFrom lo (l ++ (xs ++
 all_last lo [] l rest o = sym (append-nil l)
 all_last lo (x ∷ xs) l rest o =
     ap (insert_block x) (all_last lo xs l rest (ordered_drop lo l x (xs ++ rest) o))
-    ∙ insert_between lo x l xs (ordered_front lo (l ++ x ∷ xs) rest (subst (IsOrderedFrom lo) (sym (append_assoc l (x ∷ xs) rest)) o))
+    ∙ insert_between lo x l xs (ordered_below lo (l ++ x ∷ xs) rest (subst (IsOrderedFrom lo) (sym (append_assoc l (x ∷ xs) rest)) o))
 
 all_first : (lo : ℕ) (xs r : List Block) → IsOrderedFrom lo (xs ++ r) → insert_all xs r ≡ xs ++ r
 all_first lo [] r o = refl
@@ -51,7 +51,7 @@ module _ (s l : Shape) (x : Block) (r : Shape) (us vs : List Block) (y : Block) 
   ordered_here = subst (IsOrderedFrom 0) here_is o
 
   ordered_after : IsOrderedFrom 0 (vs ++ blocks r)
-  ordered_after = ordered_back (blocks l ++ us) y (vs ++ blocks r) (subst (IsOrderedFrom 0) (sym (append_assoc (blocks l) us (y ∷ (vs ++ blocks r)))) ordered_here)
+  ordered_after = ordered_above (blocks l ++ us) y (vs ++ blocks r) (subst (IsOrderedFrom 0) (sym (append_assoc (blocks l) us (y ∷ (vs ++ blocks r)))) ordered_here)
 
   pub before_clear : AreClearOf us (blocks l)
   before_clear = last_clear 0 us (blocks l) (y ∷ (vs ++ blocks r)) ordered_here

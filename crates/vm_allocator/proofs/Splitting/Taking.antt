@@ -14,7 +14,7 @@ use Rattle.std.proofs.Common.{◌≡◌, ℕ, ◌+◌, ◌-◌, ◌<◌, ◌≤�
 use Rattle.vm_allocator.proofs.Blocks.PlainWords.{all_miss}
 use Rattle.vm_allocator.proofs.Blocks.Gaps.{InFreeBlock, free_is_clear}
 
-pub before_held : (p : NodeState) (lo hi : ℕ) (bs : List Block) → Tiles p lo bs hi → Tiles Allocated lo bs hi
+before_held : (p : NodeState) (lo hi : ℕ) (bs : List Block) → Tiles p lo bs hi → Tiles Allocated lo bs hi
 before_held p lo hi [] t = t
 before_held p lo hi (b ∷ bs) t = (t.0, t.1, tt, t.3)
 
@@ -71,7 +71,7 @@ starts_after p lo hi b [] ys t = omega (arith, t.0)
 starts_after p lo hi b (x ∷ xs) ys t = let i = starts_after x.state (x.key.end + 1) hi b xs ys t.3 in omega (arith, i, t.1)
 
 -- exactly that range is held besides
-pub held_carved : (p : NodeState) (lo hi : ℕ) (r : Range) (b : Block) (xs ys : List Block) → b.state ≡ Free → IsTakenFrom b.key r → Tiles p lo (xs ++ b ∷ ys) hi → held_of (xs ++ (parts b.key r ++ ys)) ≡ with_range r (held_of (xs ++ b ∷ ys))
+held_carved : (p : NodeState) (lo hi : ℕ) (r : Range) (b : Block) (xs ys : List Block) → b.state ≡ Free → IsTakenFrom b.key r → Tiles p lo (xs ++ b ∷ ys) hi → held_of (xs ++ (parts b.key r ++ ys)) ≡ with_range r (held_of (xs ++ b ∷ ys))
 held_carved p lo hi r b [] ys f w t =
     held_parts b.key r ys ∙ sym (ap (with_range r) (held_of-free b ys f) ∙ with_first b.state (b.key.end + 1) hi r ys t.3 (omega (arith, w.some, w.upto)))
 held_carved p lo hi r b (x ∷ xs) ys f w t =

@@ -1,4 +1,5 @@
--- How many gaps are searched in vain for a place, and how many nodes that enters.
+-- How many gaps are searched in vain for a place, and how many nodes that enters. The gaps are counted over the blocks of
+-- the state, by tests, so that a clause needs no number as a further argument; a law says that each test tells the truth.
 use Rattle.std.specs.Prelude.{◌≡◌, ℕ, ◌+◌, ◌*◌, ◌≤◌, ◌&&◌, not, min, nat_le, Bool, List, length, Result, Err}
 use Rattle.std.specs.List.{filter}
 use Rattle.vm_allocator.specs.Range.{Range}
@@ -16,7 +17,7 @@ use Rattle.vm_allocator.specs.declared.error.Error.TheVariants.{ResourceNotAvail
 unfoldable pub is_futile : ℕ → ℕ → Block → Bool
 is_futile n a b = nat_le n (free_length b) && not (has_fit n a b)
 
--- how many of some blocks are so
+-- how many of some blocks are futile gaps
 abbrev pub futile_among : ℕ → ℕ → List Block → ℕ
 futile_among n a bs = length (filter (is_futile n a) bs)
 
@@ -28,7 +29,7 @@ futile_gaps state request = futile_among request.size request.align (blocks_of s
 unfoldable pub is_cramped : ℕ → ℕ → Block → Bool
 is_cramped n a b = has_aligned a b && not (has_fit n a b)
 
--- how many of some blocks are so
+-- how many of some blocks are cramped gaps
 abbrev pub cramped_among : ℕ → ℕ → List Block → ℕ
 cramped_among n a bs = length (filter (is_cramped n a) bs)
 

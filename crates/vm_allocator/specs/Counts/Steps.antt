@@ -39,22 +39,22 @@ most_entered (ExactMatch t) h k = most_on_ways h
 
 -- the nodes that a request entered in a tree of height h: a success enters one at least, and a split half the height, as
 -- each way from the root to an absent child is that long
-pub record IsSettlingCount (h : ℕ) (old : AddressState) (request : Request) (answer : Result Range Error) (count : ℕ) : Type 0 where
+pub record IsGrantCount (h : ℕ) (old : AddressState) (request : Request) (answer : Result Range Error) (count : ℕ) : Type 0 where
   pub most : count ≤ most_entered request.policy h (length old.held)
   pub success : IsOk answer → 1 ≤ count
   pub split : IfOk answer (λ r. LeavesClear old r → h ≤ 2 * count)
 
 -- the same, also where the request makes no sense: then no node is entered
 pub record IsAllocationCount (h : ℕ) (old : AddressState) (request : Request) (answer : Result Range Error) (count : ℕ) : Type 0 where
-  pub settling : IsSettlingCount h old request answer count
+  pub granting : IsGrantCount h old request answer count
   pub senseless : (e : Error) → MakesConstraint request (Err e) → count ≡ 0
 
 -- the range is taken from within a free block of the tree, and the way there takes so many nodes
 pub record IsHeldIn (s : Shape) (range : Range) (entered : ℕ) : Type 0 where
   pub key : Range
-  pub front : List Block
-  pub back : List Block
-  pub cut : blocks s ≡ front ++ free_block key ∷ back
+  pub lower : List Block
+  pub upper : List Block
+  pub cut : blocks s ≡ lower ++ free_block key ∷ upper
   pub within : IsTakenFrom key range
   pub way : entered ≡ way_to_hold key range s
 

@@ -94,7 +94,8 @@ way_to_carve k before after (Fork l b r) =
 abbrev pub multiple_from : ℕ → ℕ → ℕ
 multiple_from a x = x + (a - 1) - (x + (a - 1)) % a
 
--- whether the block is free and has room for n addresses from its least multiple of a on
+-- whether the block is free and has room for n addresses from its least multiple of a on: a test, since the way of a
+-- search depends on it, and proved to tell the truth about places
 unfoldable pub has_fit : ℕ → ℕ → Block → Bool
 has_fit n a b = is_free b.state && nat_le (multiple_from a b.key.start + n) (b.key.end + 1)
 

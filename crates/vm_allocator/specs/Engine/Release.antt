@@ -37,7 +37,7 @@ neighbours range before (b ∷ bs) after =
     else neighbours range (key_if_free b.state b.key) bs after
 
 -- one of the blocks is held and has this range, and these free ranges are beside it
-pub record HasSlot (bs : List Block) (k : Range) (n : Neighbours) : Type 0 where
+pub record HasHeld (bs : List Block) (k : Range) (n : Neighbours) : Type 0 where
   pub before : List Block
   pub after : List Block
   pub cut : bs ≡ before ++ held_block k ∷ after
@@ -66,12 +66,12 @@ joined k n = record { start = start_with n.before k; end = end_with k n.after }
 -- between two lists of blocks stands the held block, with a free one before it and one after it if there are such; with
 -- the three joined the blocks are in order too
 pub record IsAround (bs : List Block) (k : Range) (n : Neighbours) : Type 0 where
-  pub front : List Block
-  pub back : List Block
-  pub cut : bs ≡ front ++ (free_if n.before ++ held_block k ∷ (free_if n.after ++ back))
+  pub lower : List Block
+  pub upper : List Block
+  pub cut : bs ≡ lower ++ (free_if n.before ++ held_block k ∷ (free_if n.after ++ upper))
   pub range : IsRange (start_with n.before k) (end_with k n.after)
   pub old : IsOrderedFrom 0 bs
-  pub new : IsOrderedFrom 0 (front ++ free_block (joined k n) ∷ back)
+  pub new : IsOrderedFrom 0 (lower ++ free_block (joined k n) ∷ upper)
 
 -- the blocks without the one of a range, if there is such a range
 abbrev pub without_if : Option Range → List Block → List Block

@@ -59,7 +59,7 @@ pub record LieApart (state : AddressState) : Type 0 where
   pub inside : (r : Range) → Contains state.held r → (r.start ≤ r.end) × Covers state.space r
   pub below : (r : Range) → Contains state.held r → r.end < MAX
 
--- so they do in each state of an allocator
+-- the held ranges lie apart in each state of an allocator
 abbrev pub HeldLieApart : Type 0
 HeldLieApart = (state : AddressState) → IsAddressState state → LieApart state
 
@@ -70,7 +70,7 @@ pub record AddsRange (old new : AddressState) (r : Range) : Type 0 where
   pub held : (q : Range) → Contains new.held q ↔ (Contains old.held q ⊎ (q ≡ r))
 
 -- the range was held, is held no more in the new state, and nothing else changes
-pub record TakesRange (old new : AddressState) (r : Range) : Type 0 where
+pub record DropsRange (old new : AddressState) (r : Range) : Type 0 where
   pub was : Contains old.held r
   pub space : new.space ≡ old.space
   pub held : (q : Range) → Contains new.held q ↔ (Contains old.held q × (q ≢ r))
@@ -82,10 +82,10 @@ AllocatingAddsRange =
     IsAddressState old → Allocates old request (Ok r) new → AddsRange old new r
 
 -- a range given back is taken away
-abbrev pub FreeingTakesRange : Type 0
-FreeingTakesRange =
+abbrev pub FreeingDropsRange : Type 0
+FreeingDropsRange =
     (old new : AddressState) (r : Range) →
-    IsAddressState old → Frees old r (Ok tt) new → TakesRange old new r
+    IsAddressState old → Frees old r (Ok tt) new → DropsRange old new r
 
 -- giving back what was just given succeeds, and leaves the state from before
 abbrev pub FreeingUndoes : Type 0

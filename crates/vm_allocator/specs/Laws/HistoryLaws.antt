@@ -84,13 +84,13 @@ pub record RefusalsChangeNothing : Type 0 where
 
 -- in each state the held ranges lie apart, and each was given as it was asked for, or was held in the value from which
 -- the allocator was read
-pub record SlotsAreGood : Type 0 where
+pub record HeldAreGood : Type 0 where
   pub state : (old : Reached) → IsAddressState old.state
   pub apart : (old : Reached) → LieApart old.state
   pub given : (old : Reached) (r : Range) → Contains old.state.held r →
       WasGiven old.calls r ⊎ WasStated old.reached.first r
 
--- one space, and the same held ranges
+-- one space, and the same held ranges as sets: that the ascending lists are then equal is proved
 pub record AreAlike (first second : AddressState) : Type 0 where
   pub space : first.space ≡ second.space
   pub held : (r : Range) → Contains first.held r ↔ Contains second.held r

@@ -31,7 +31,7 @@ pub record HeldIsOut : Type 0 where
   pub made : (calls : List IdCall) (first state : IdState) (id : ℕ) → AreIdsMade first →
       IsIdHistoryFrom first calls state → IsHeld state id ↔ IsTrue (is_out_after id false calls)
 
--- the ids handed out are a front of the range in each state, and the held ones are among them
+-- in each state the ids handed out are the first of the range, and the held ones are among them
 unfoldable pub StatesAreOfIds : Type 0
 StatesAreOfIds = (calls : List IdCall) (state : IdState) → AreIdsReached calls state → IsIdState state
 

@@ -16,7 +16,7 @@ AllocatingIsDetermined =
     (old new later : IdState) (answer other : Result ℕ Error) →
     AllocatesId old answer new → AllocatesId old other later → (answer ≡ other) × (new ≡ later)
 
--- what is foretold is what a request gets, and an id that is foretold is held from then on
+-- what peeking answers is what a request gets, and an id that it answers is held from then on
 pub record PeekingForetells : Type 0 where
   pub answer : (old new : IdState) (peeked answer : Result ℕ Error) →
       PeeksId old peeked → AllocatesId old answer new → peeked ≡ answer
@@ -30,8 +30,8 @@ FreeingIsDetermined =
     answer ≢ Err OutOfMemory → other ≢ Err OutOfMemory →
     FreesId old id answer new → FreesId old id other later → (answer ≡ other) × (new ≡ later)
 
--- a new allocator has a front and holds only ids of it, and each call keeps that
-pub record FrontIsKept : Type 0 where
+-- a new allocator has the state of one, and each call keeps that
+pub record IdStateIsKept : Type 0 where
   pub made : (lo hi : ℕ) (state : IdState) → hi ≤ MAX_ID → MakesIds lo hi (Ok state) → IsIdState state
   pub allocated : (old new : IdState) (answer : Result ℕ Error) →
       IsIdState old → AllocatesId old answer new → IsIdState new
@@ -45,7 +45,7 @@ pub record AddsId (old new : IdState) (id : ℕ) : Type 0 where
   pub held : (q : ℕ) → IsHeld new q ↔ (IsHeld old q ⊎ (q ≡ id))
 
 -- the id is held no more in the new state, and nothing else changes
-pub record TakesId (old new : IdState) (id : ℕ) : Type 0 where
+pub record DropsId (old new : IdState) (id : ℕ) : Type 0 where
   pub range : (new.lo ≡ old.lo) × (new.hi ≡ old.hi)
   pub handed_out : (q : ℕ) → IsHandedOut new q ↔ IsHandedOut old q
   pub held : (q : ℕ) → IsHeld new q ↔ (IsHeld old q × (q ≢ id))
@@ -55,8 +55,8 @@ abbrev pub AllocatingAdds : Type 0
 AllocatingAdds = (old new : IdState) (id : ℕ) → IsIdState old → AllocatesId old (Ok id) new → AddsId old new id
 
 -- an id given back is taken away
-abbrev pub FreeingTakes : Type 0
-FreeingTakes = (old new : IdState) (id back : ℕ) → FreesId old id (Ok back) new → TakesId old new id
+abbrev pub FreeingDrops : Type 0
+FreeingDrops = (old new : IdState) (id back : ℕ) → FreesId old id (Ok back) new → DropsId old new id
 
 -- a list of held ids, no two the same, has as many as are held exactly if each held id is in it
 abbrev pub IdCountTellsAll : Type 0

@@ -28,7 +28,7 @@ alignment_count r = alignments_below 64 r
 abbrev pub free_alignments : Block → ℕ
 free_alignments b = if is_free b.state then alignment_count b.key else 0
 
--- how many of the numbers below x are multiples of a
+-- how many of the numbers below x are multiples of a, counted one by one: a division would want a law of its own
 unfoldable pub multiples_below : ℕ → ℕ → ℕ
 multiples_below a zero = 0
 multiples_below a (suc x) = multiples_below a x + (if nat_eq (x % a) 0 then 1 else 0)

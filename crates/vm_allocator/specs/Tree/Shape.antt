@@ -15,7 +15,7 @@ abbrev pub blocks : Shape → List Block
 blocks Tip = []
 blocks (Fork l b r) = blocks l ++ b ∷ blocks r
 
--- how many nodes the longest way down has
+-- the height: how many nodes stand one below the other, at most
 abbrev pub height_of : Shape → ℕ
 height_of Tip = 0
 height_of (Fork l b r) = max (height_of l) (height_of r) + 1

@@ -5,7 +5,7 @@ use Rattle.vm_allocator.specs.Range.{Range, MAX, IsRange, span}
 use Rattle.vm_allocator.specs.Tree.Block.{Block, free_block}
 use Rattle.vm_allocator.specs.Address.{AddressState}
 use Rattle.vm_allocator.specs.Request.{Request}
-use Rattle.vm_allocator.specs.Answer.{Takes, Settles}
+use Rattle.vm_allocator.specs.Answer.{Takes, Grants}
 use Rattle.vm_allocator.specs.Tree.Blocks.{blocks_state, IsTiling}
 use Rattle.vm_allocator.specs.Engine.BlockEdits.{parts, IsTakenFrom}
 use Rattle.vm_allocator.specs.Tree.Shape.{Shape, MAX_HEIGHT, blocks, height_of, node_count}
@@ -51,15 +51,15 @@ pub record IsChoice (bs : List Block) (choice : Choice) : Type 0 where
   pub within : IsTakenFrom choice.key choice.range
   pub below : choice.range.end < MAX
 
--- whatever taking the range comes to is the answer to the request
-unfoldable pub TakingSettles : AddressState → Request → Range → Type 0
-TakingSettles old request r =
-    (answer : Result Range Error) (new : AddressState) → Takes old r answer new → Settles old request answer new
+-- what holding the range answers, and the state that it leaves, answer the request
+unfoldable pub HoldingGrants : AddressState → Request → Range → Type 0
+HoldingGrants old request r =
+    (answer : Result Range Error) (new : AddressState) → Takes old r answer new → Grants old request answer new
 
 -- a range to take, from a free block, or the refusal
 unfoldable pub Chooses : Shape → Request → Result Choice Error → Type 0
-Chooses s request (Ok choice) = IsChoice (blocks s) choice × TakingSettles (tree_state s) request choice.range
-Chooses s request (Err e) = Settles (tree_state s) request (Err e) (tree_state s)
+Chooses s request (Ok choice) = IsChoice (blocks s) choice × HoldingGrants (tree_state s) request choice.range
+Chooses s request (Err e) = Grants (tree_state s) request (Err e) (tree_state s)
 
 -- the n addresses from s on are chosen, in the block, unless they end at MAX
 unfoldable pub ChoosesBelowMax : Range → ℕ → ℕ → Result Choice Error → Type 0

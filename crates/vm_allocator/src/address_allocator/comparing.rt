@@ -1,4 +1,5 @@
-//! Equality and order of allocators: by their states, whatever the shapes of their trees.
+//! Equality and order of allocators: by their states, whatever the shapes of their trees. Both stand
+//! here and for trees too, since each is a trait's implementation with a clause of its own.
 ghost use Rattle.std.specs.Prelude.{◌≡◌, ◌↔◌, IsTrue, Some};
 ghost use Rattle.std.proofs.Common.{rules};
 ghost use Rattle.std.specs.Cmp.Rules.{comparing};

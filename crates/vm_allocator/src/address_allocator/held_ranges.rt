@@ -1,4 +1,6 @@
-//! The held ranges: one after the other, whether a range is one, and how many there are.
+//! The held ranges: one after the other, whether a range is one, and how many there are. Their number
+//! is counted anew for each question: one that is kept would have to be brought up to date in every
+//! change.
 ghost use Rattle.std.specs.Prelude.{◌≡◌, ◌↔◌, IsTrue, length};
 ghost use Rattle.std.specs.List.{Contains};
 ghost use Rattle.std.specs.Iterator.{YieldsFirst, item_count};

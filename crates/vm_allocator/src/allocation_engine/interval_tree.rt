@@ -1,27 +1,32 @@
 //! The blocks of a space in a balanced tree: which place a request gets (`placing`), how the range
-//! there is held (`holding`), how a held one is given back (`release`), and how two compare (`comparing`).
-ghost use Rattle.std.specs.Prelude.{◌≡◌, ◌+◌, ◌*◌, ◌≤◌, OnErr, IfOk};
-ghost use Rattle.vm_allocator.specs.Range.{MAX};
+//! there is held (`holding`), how a held one is given back (`release`), and how two compare
+//! (`comparing`).
+//!
+//! A counted call is a counter at 0, what takes the counter (`grant`, `release`), and the counter; a
+//! plain call is the counted one without the count. So that the counter has room, as a tree of height
+//! 49 has fewer than 2^49 nodes, is shown once, and no caller has a condition.
+ghost use Rattle.std.specs.Prelude.{◌≡◌, ◌↔◌, IsTrue, length, OnErr, IfOk};
+ghost use Rattle.std.specs.List.{Contains};
 ghost use Rattle.vm_allocator.specs.Address.{IsAddressState};
-ghost use Rattle.vm_allocator.specs.Answer.{Settles, Frees};
+ghost use Rattle.vm_allocator.specs.Answer.{Grants, Frees};
 ghost use Rattle.vm_allocator.specs.Cloning.{Clones};
-ghost use Rattle.vm_allocator.specs.Tree.Shape.{blocks, height_of, node_count, IsTree};
+ghost use Rattle.vm_allocator.specs.Tree.Shape.{blocks, height_of, IsTree};
 ghost use Rattle.vm_allocator.specs.Counts.GapSearch.{SearchesGaps, SearchesAligned};
-ghost use Rattle.vm_allocator.specs.Counts.Steps.{Enters, EntersToFree, IsBalancedTreeOf, IsSettlingCount, IsReleaseCount, SplitsIfLow};
+ghost use Rattle.vm_allocator.specs.Counts.Steps.{Enters, EntersToFree, IsBalancedTreeOf, IsGrantCount, IsReleaseCount, SplitsIfLow};
 ghost use Rattle.vm_allocator.specs.Tree.SpaceTree.{tree_state, IsSpaceTree, MakesTree};
 
 use super::NodeState;
 use super::node::walks::Walk;
 use super::node::walks::copying::copy;
+use super::node::walks::held::{count_held, has_held};
 use super::node::{Child, InnerNode};
 use crate::constraint::Constraint;
-use crate::error::{Error, Result};
+use crate::error::Result;
 use crate::range::RangeInclusive;
 use std::alloc::Global;
 use std::marker::Model;
 
 mod comparing;
-mod held;
 mod holding;
 pub(crate) mod placing;
 mod release;
@@ -57,14 +62,12 @@ impl IntervalTree {
         ensures answer { MakesTree key result }
         ensures state { IfOk result (λ tree. IsAddressState (tree_state tree)) }
     {
-        let _ = key.end();
-        let Ok(node) = Box::new(alloc, InnerNode::new(key, NodeState::Free)) else {
-            return Err(Error::OutOfMemory);
-        };
+        key.known();
+        let node = Box::new(alloc, InnerNode::new(key, NodeState::Free))?;
         Ok(IntervalTree { root: Some(node) })
     }
 
-    /// A copy, node for node.
+    /// A copy, node for node, for `AddressAllocator` alone: who has a tree can make another.
     pub(crate) fn try_clone(&self, alloc: Global) -> Result<Self>
         ensures { Clones self.now result }
     {
@@ -80,6 +83,21 @@ impl IntervalTree {
         Walk::over(&self.root)
     }
 
+    /// Whether exactly this range is held.
+    #[tactic(auto, using(crate::proofs::Releasing::Finding::held_by_key))]
+    pub(crate) fn holds(&self, key: &RangeInclusive) -> bool
+        ensures { IsTrue result ↔ Contains (tree_state self.now).held key.now }
+    {
+        has_held(&self.root, key)
+    }
+
+    /// How many ranges are held.
+    pub(crate) fn held_count(&self) -> u64
+        ensures { result ≡ length (tree_state self.now).held }
+    {
+        count_held(&self.root)
+    }
+
     /// The root, which is always there.
     #[tactic(auto, using(crate::proofs::Nodes::Spaces::rooted))]
     pub(crate) fn root(&self) -> &InnerNode
@@ -92,7 +110,7 @@ impl IntervalTree {
         root
     }
 
-    /// How many nodes the longest way down has.
+    /// The height of the tree.
     pub(crate) fn height(&self) -> u64
         ensures value { result ≡ height_of self.now }
         ensures space { IsSpaceTree self.now }
@@ -102,42 +120,52 @@ impl IntervalTree {
         self.root().height()
     }
 
-    /// `allocate`, which adds the nodes that it enters to a count.
-    #[tactic(auto, using(crate::proofs::Choosing::Searched::settling, crate::proofs::Counts::Granting::settlings))]
+    /// For the prover alone: what holds of every tree of a space is known from here on.
+    #[inline(always)]
+    pub(crate) fn known(&self)
+        ensures space { IsSpaceTree self.now }
+        ensures tree { IsTree self.now }
+    {
+        let _ = self.height();
+    }
+
+    /// `allocate`, which adds the nodes that it enters to a counter at 0.
+    #[tactic(auto, using(crate::proofs::Choosing::Searched::granting, crate::proofs::Counts::Granting::grantings))]
     fn grant(
         &mut self,
         alloc: Global,
         constraint: Constraint,
         count: &mut u64,
     ) -> Result<RangeInclusive>
-        requires { count.old + node_count self.old + 3 * height_of self.old ≤ MAX }
-        ensures answer { Settles (tree_state self.old) constraint result (tree_state self.new) }
+        requires { count.old ≡ 0 }
+        ensures answer { Grants (tree_state self.old) constraint result (tree_state self.new) }
         ensures unchanged { OnErr result (self.new ≡ self.old) }
         ensures depth { SplitsIfLow (height_of self.old) (tree_state self.old) result }
-        ensures count { Enters self.old constraint result count.old count.new }
+        ensures count { Enters self.old constraint result 0 count.new }
+        ensures space { IsSpaceTree self.old }
+        ensures tree { IsTree self.old }
     {
-        let _ = self.height();
+        self.known();
         let choice = self.place_for(constraint, count)?;
         self.hold(alloc, choice, count)
     }
 
     /// `allocate`, and how many nodes it entered.
-    #[tactic(auto, using(crate::proofs::Counts::Granting::settlings, crate::proofs::Counts::GapBounds::of_trees))]
+    #[tactic(auto, using(crate::proofs::Counts::Granting::grantings, crate::proofs::Counts::GapBounds::of_trees))]
     pub(crate) fn allocate_counted(
         &mut self,
         alloc: Global,
         constraint: Constraint,
     ) -> (Result<RangeInclusive>, u64)
-        ensures answer { Settles (tree_state self.old) constraint result.0 (tree_state self.new) }
+        ensures answer { Grants (tree_state self.old) constraint result.0 (tree_state self.new) }
         ensures unchanged { OnErr result.0 (self.new ≡ self.old) }
         ensures depth { SplitsIfLow (height_of self.old) (tree_state self.old) result.0 }
         ensures count { Enters self.old constraint result.0 0 result.1 }
-        ensures steps { IsSettlingCount (height_of self.old) (tree_state self.old) constraint result.0 result.1 }
+        ensures steps { IsGrantCount (height_of self.old) (tree_state self.old) constraint result.0 result.1 }
         ensures search { SearchesGaps (height_of self.old) (tree_state self.old) constraint result.0 result.1 }
         ensures search_aligned { SearchesAligned (height_of self.old) (tree_state self.old)
             constraint result.0 result.1 }
     {
-        let _ = self.height();
         let mut count = 0;
         let answer = self.grant(alloc, constraint, &mut count);
         (answer, count)
@@ -149,25 +177,25 @@ impl IntervalTree {
     /// 48 or more, and `OutOfMemory`. A refusal changes nothing.
     #[tactic(auto, using(crate::proofs::Nodes::Spaces::states))]
     pub fn allocate(&mut self, alloc: Global, constraint: Constraint) -> Result<RangeInclusive>
-        ensures answer { Settles (tree_state self.old) constraint result (tree_state self.new) }
+        ensures answer { Grants (tree_state self.old) constraint result (tree_state self.new) }
         ensures unchanged { OnErr result (self.new ≡ self.old) }
         ensures state { IsAddressState (tree_state self.new) }
         ensures depth { SplitsIfLow (height_of self.old) (tree_state self.old) result }
     {
         let answer = self.allocate_counted(alloc, constraint).0;
-        let _ = self.height();
+        self.known();
         answer
     }
 
     /// `free`, and how many nodes it entered.
-    #[tactic(auto, using(crate::proofs::Counts::ReleaseWays::releasings))]
+    #[tactic(auto, using(crate::proofs::Counts::ReleaseWays::releasings, crate::proofs::Nodes::Spaces::states, crate::proofs::Answers::AddressAnswers::freed))]
     pub(crate) fn free_counted(&mut self, key: &RangeInclusive) -> (Result<()>, u64)
         ensures answer { Frees (tree_state self.old) key.now result.0 (tree_state self.new) }
         ensures unchanged { OnErr result.0 (self.new ≡ self.old) }
         ensures count { EntersToFree self.old key.now result.0 0 result.1 }
         ensures steps { IsReleaseCount (height_of self.old) result.1 }
+        ensures state { IsAddressState (tree_state self.new) }
     {
-        let _ = self.height();
         let mut count = 0;
         let answer = self.release(key, &mut count);
         (answer, count)
@@ -175,14 +203,11 @@ impl IntervalTree {
 
     /// Gives a held range back, and joins its addresses with the clear ones on both sides. Any other
     /// range is `ResourceNotAvailable`. It takes no memory, and a refusal changes nothing.
-    #[tactic(auto, using(crate::proofs::Nodes::Spaces::states))]
     pub fn free(&mut self, key: &RangeInclusive) -> Result<()>
         ensures answer { Frees (tree_state self.old) key.now result (tree_state self.new) }
         ensures unchanged { OnErr result (self.new ≡ self.old) }
         ensures state { IsAddressState (tree_state self.new) }
     {
-        let answer = self.free_counted(key).0;
-        let _ = self.height();
-        answer
+        self.free_counted(key).0
     }
 }

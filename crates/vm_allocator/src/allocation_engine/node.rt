@@ -1,5 +1,7 @@
-//! A balanced search tree of blocks. Each function in here that calls itself counts the nodes that
-//! it enters: `count` rises by one for each, in `enter` alone.
+//! An AVL tree of blocks. Each function in here that calls itself counts the nodes that it enters:
+//! `count` rises by one for each, in `enter` alone. A node is seen as a tree without pointers, so
+//! that its blocks, its height and its balance are functions of that value, and 'unchanged' is an
+//! equation.
 ghost use Rattle.std.specs.Prelude.{◌≡◌, ◌+◌, ◌<◌, ◌≤◌, ◌^◌, ◌↔◌, max, IsNone, MatchResult};
 ghost use Rattle.vm_allocator.specs.Range.{MAX};
 ghost use Rattle.vm_allocator.specs.Tree.Shape.{Tip, Fork, height_of, single, root_block, IsTree};
@@ -85,8 +87,8 @@ impl InnerNode {
         }
     }
 
-    /// A node over children whose heights are at most one apart, and between whose keys its own lies.
-    /// `OutOfMemory` where there is no memory for it.
+    /// A node over children whose heights are at most one apart, and between whose keys its own lies,
+    /// with what it keeps computed over them. `OutOfMemory` where there is no memory for it.
     pub(crate) fn with_children(
         alloc: Global,
         left: Child,
@@ -100,10 +102,8 @@ impl InnerNode {
             (λ node. node.value ≡ Fork (side left) (record { key = key; state = node_state }) (side right))
             (λ error. error ≡ Error.OutOfMemory) }
     {
-        match Box::new(alloc, InnerNode::new(key, node_state)) {
-            Ok(middle) => Ok(fork(left, middle, right)),
-            Err(_) => Err(Error::OutOfMemory),
-        }
+        let middle = Box::new(alloc, InnerNode::new(key, node_state))?;
+        Ok(fork(left, middle, right))
     }
 
     /// The key of this node.
@@ -134,7 +134,7 @@ impl InnerNode {
         *count += 1;
     }
 
-    /// How many nodes the longest way down from here has.
+    /// The height of the tree from here on.
     pub(crate) fn height(&self) -> u64
         ensures value { result ≡ height_of self.now }
         ensures high { 0 < height_of self.now }
@@ -142,6 +142,15 @@ impl InnerNode {
     {
         self.height
     }
+}
+
+/// For the prover alone: what holds of the tree at a place is known from here on.
+#[inline(always)]
+fn known(child: &Child)
+    ensures tree { IsTree (side child.now) }
+    ensures absent { IsNone child.now ↔ (side child.now ≡ Tip) }
+{
+    let _ = height(child);
 }
 
 /// The height of a child, 0 where it is absent.

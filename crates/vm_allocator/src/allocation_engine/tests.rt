@@ -1,3 +1,4 @@
+//! States of blocks.
 use super::*;
 
 #[test]

@@ -1,3 +1,4 @@
+//! A private question: whether an id is one of the range.
 use super::*;
 use std::test::Fail;
 

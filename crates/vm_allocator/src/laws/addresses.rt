@@ -1,4 +1,19 @@
-ghost use Rattle.vm_allocator.specs.Laws.AddressLaws.{AllocatesOnce, FreesOnce, StateIsKept, HeldLieApart, AllocatingAddsRange, FreeingTakesRange, FreeingUndoes, FutileIsTold, NoneIsFutileAtOne, CountTellsAll, CrampedIsTold, CrampedAreFew, RangesAreSets};
+//! Laws of single calls of an address allocator, and of ranges.
+ghost use Rattle.vm_allocator.specs.Laws.AddressLaws.{
+  AllocatesOnce,
+  FreesOnce,
+  StateIsKept,
+  HeldLieApart,
+  AllocatingAddsRange,
+  FreeingDropsRange,
+  FreeingUndoes,
+  FutileIsTold,
+  NoneIsFutileAtOne,
+  CountTellsAll,
+  CrampedIsTold,
+  CrampedAreFew,
+  RangesAreSets,
+};
 
 /// The state of an allocator decides its answer to a request and the state after it, the refusal of
 /// a split for memory or for depth aside.
@@ -25,7 +40,7 @@ fn states_are_kept()
 #[tactic(auto, using(crate::proofs::Answers::AddressAnswers::changes))]
 fn one_range_changes()
     ensures takes { AllocatingAddsRange }
-    ensures gives_back { FreeingTakesRange }
+    ensures gives_back { FreeingDropsRange }
     ensures undone { FreeingUndoes }
 {}
 

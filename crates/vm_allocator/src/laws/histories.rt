@@ -2,7 +2,24 @@
 //! read, clones made on the way among them.
 ghost use Rattle.vm_allocator.specs.Values.TreeValues.{StatesAddresses};
 ghost use Rattle.vm_allocator.specs.Values.RepairedValues.{StatesRepaired};
-ghost use Rattle.vm_allocator.specs.Laws.HistoryLaws.{FirstIsLeast, LastIsGreatest, ExactIsNamed, PlacesAnswer, RefusalsChangeNothing, SlotsAreGood, StateDecides, ReleaseUndoes, OrderOfReleasesIsFree, EveryCallIsAnswered, EveryListHasHistory, CloneIsReached, ReadIsReached, OneEndIsEqual, ReleaseMakesEqual, OrderOfReleasesMakesEqual};
+ghost use Rattle.vm_allocator.specs.Laws.HistoryLaws.{
+  FirstIsLeast,
+  LastIsGreatest,
+  ExactIsNamed,
+  PlacesAnswer,
+  RefusalsChangeNothing,
+  HeldAreGood,
+  StateDecides,
+  ReleaseUndoes,
+  OrderOfReleasesIsFree,
+  EveryCallIsAnswered,
+  EveryListHasHistory,
+  CloneIsReached,
+  ReadIsReached,
+  OneEndIsEqual,
+  ReleaseMakesEqual,
+  OrderOfReleasesMakesEqual,
+};
 
 /// In every history `FirstMatch` gives the least place, `LastMatch` the greatest and `ExactMatch` the
 /// named one.
@@ -20,9 +37,9 @@ fn places_answer()
 
 /// The held ranges have no address in common, lie in the space and do not contain `u64::MAX`; each is
 /// aligned and as long as was asked, or was stated by the value that was read.
-#[tactic(auto, using(crate::proofs::Histories::AlongHistories::slots_good))]
-fn slots_are_good()
-    ensures { SlotsAreGood }
+#[tactic(auto, using(crate::proofs::Histories::AlongHistories::held_good))]
+fn held_are_good()
+    ensures { HeldAreGood }
 {}
 
 /// The space and the held ranges alone decide what a call answers.

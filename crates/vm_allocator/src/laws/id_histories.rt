@@ -1,6 +1,15 @@
 //! Laws of whole histories: every list of calls of an id allocator, from one on that was made or read,
 //! clones made on the way among them.
-ghost use Rattle.vm_allocator.specs.Laws.IdHistoryLaws.{EachIsLeastNotHeld, NoIdIsHeldTwice, HeldIsOut, StatesAreOfIds, EveryIdCallIsAnswered, EveryIdListHasHistory, IdCloneIsReached, IdReadIsReached};
+ghost use Rattle.vm_allocator.specs.Laws.IdHistoryLaws.{
+  EachIsLeastNotHeld,
+  NoIdIsHeldTwice,
+  HeldIsOut,
+  StatesAreOfIds,
+  EveryIdCallIsAnswered,
+  EveryIdListHasHistory,
+  IdCloneIsReached,
+  IdReadIsReached,
+};
 
 /// In every history each id given is the least that is not held, and none is held twice.
 #[tactic(auto, using(crate::proofs::Ids::AlongIdHistories::least_ids))]

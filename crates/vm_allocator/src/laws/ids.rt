@@ -1,5 +1,14 @@
 //! Laws of ids.
-ghost use Rattle.vm_allocator.specs.Laws.IdLaws.{MakingIsDetermined, AllocatingIsDetermined, PeekingForetells, FreeingIsDetermined, FrontIsKept, AllocatingAdds, FreeingTakes, IdCountTellsAll};
+ghost use Rattle.vm_allocator.specs.Laws.IdLaws.{
+  MakingIsDetermined,
+  AllocatingIsDetermined,
+  PeekingForetells,
+  FreeingIsDetermined,
+  IdStateIsKept,
+  AllocatingAdds,
+  FreeingDrops,
+  IdCountTellsAll,
+};
 
 /// From one state a call has one answer and one next state, out of memory aside.
 #[tactic(auto, using(crate::proofs::Ids::IdAnswers::determined))]
@@ -10,17 +19,17 @@ fn calls_are_determined()
     ensures frees { FreeingIsDetermined }
 {}
 
-/// The ids handed out are a front of the range, and the held ones are among them.
-#[tactic(auto, using(crate::proofs::Ids::IdAnswers::front))]
-fn front_is_kept()
-    ensures { FrontIsKept }
+/// The ids handed out are the first of the range, and the held ones are among them.
+#[tactic(auto, using(crate::proofs::Ids::IdAnswers::kept))]
+fn id_states_are_kept()
+    ensures { IdStateIsKept }
 {}
 
 /// What an id that is taken or given back changes.
 #[tactic(auto, using(crate::proofs::Ids::IdAnswers::changes))]
 fn one_id_changes()
     ensures takes { AllocatingAdds }
-    ensures gives_back { FreeingTakes }
+    ensures gives_back { FreeingDrops }
 {}
 
 /// As many different held ids as are held are all of them.

@@ -105,11 +105,11 @@ fn answer_of(number: usize, line: &[u8], rows: Rows, cut_lines: CutLines) -> &'s
     "error line"
 }
 
-/// The answers to a front of an input.
+/// The answers to the beginning of an input.
 fn answers_of(front: &[u8], rows: Rows, cut_lines: CutLines) -> Text {
     let mut answers = Text::new();
     for (number, line) in front.split(|byte| *byte == b'\n').enumerate() {
-        // No line of these inputs is empty: the front ends in a newline, or is empty itself.
+        // No line of these inputs is empty: the beginning ends in a newline, or is empty itself.
         if line.is_empty() {
             continue;
         }

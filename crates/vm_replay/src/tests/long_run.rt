@@ -1,5 +1,6 @@
 //! A long run on 64 addresses, as lines that are made while they are read. Each answer is compared
-//! while it is written with that of a plain search over the addresses.
+//! while it is written with that of a plain search over the addresses, which goes on from what was
+//! not done where a line is refused for memory.
 use super::*;
 use vm_plain_search::Answer::{Done, Held, NotAvailable, Range, Unaligned};
 use vm_plain_search::Call::{Exact, First, Free, Last};

@@ -1,4 +1,5 @@
-//! Lines of inputs, each with its answer.
+//! Lines of inputs, each with its answer. Four tests go over these tables: a table of tables passed
+//! the limit of steps of the prover.
 
 /// Lines, each with its answer.
 pub type Rows = &'static [(&'static str, &'static str)];

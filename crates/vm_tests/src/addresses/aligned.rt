@@ -1,3 +1,5 @@
+//! Requests at great alignments, in spaces of many gaps without a multiple: how many nodes they
+//! enter.
 use super::*;
 
 /// Ranges of one length, evenly apart.

@@ -1,4 +1,5 @@
-//! Values that the Rust crate vm-allocator 0.1.4 wrote by its feature `serde`, its faults among them.
+//! Values that the Rust crate vm-allocator 0.1.4 wrote by its feature `serde`, its faults among them,
+//! as texts, since a test can read no file.
 use super::repaired::assert_repaired;
 use super::*;
 

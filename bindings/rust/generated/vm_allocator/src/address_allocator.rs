@@ -1,5 +1,12 @@
 // Written by bindings/erase from crates/vm_allocator/src/address_allocator.rt: do not edit.
 
+//! Ranges of one space. The space stands beside the tree, which tells it too, so that `base` and
+//! `end` are one read each; that the two agree is the invariant. Its fields, those of the id
+//! allocator and the root of a tree are open inside the crate, for `saved`, and whoever puts them
+//! together proves the invariant. The plain calls are the counted ones without the count. That some
+//! calls always succeed follows from their answers, and is a clause of its own all the same: a
+//! monitor relies on it.
+
 use crate::allocation_engine::IntervalTree;
 use crate::constraint::{AllocPolicy, Constraint};
 use crate::error::{Error, Result};
@@ -24,9 +31,7 @@ impl AddressAllocator {
         if size == 0 {
             return Err(Error::Underflow);
         }
-        let Some(end) = base.checked_add(size - 1) else {
-            return Err(Error::Overflow);
-        };
+        let end = base.checked_add(size - 1).ok_or(Error::Overflow)?;
         let address_space = RangeInclusive::between(base, end);
         let interval_tree = IntervalTree::new(alloc, address_space)?;
         Ok(AddressAllocator {
@@ -61,7 +66,7 @@ impl AddressAllocator {
         policy: AllocPolicy,
     ) -> Result<RangeInclusive> {
         let answer = self.allocate_counted(alloc, size, alignment, policy).0;
-        let _ = self.base();
+        self.known();
         answer
     }
 
@@ -89,9 +94,7 @@ impl AddressAllocator {
     /// Gives a held range back. Any other range is `ResourceNotAvailable`, a part of a held one and
     /// a clear one among them. Takes no memory, and a refusal changes nothing.
     pub fn free(&mut self, key: &RangeInclusive) -> Result<()> {
-        let answer = self.free_counted(key).0;
-        let _ = self.base();
-        answer
+        self.free_counted(key).0
     }
 
     /// Does what `free` does, and answers besides how many nodes of the tree it entered: with the
@@ -100,7 +103,7 @@ impl AddressAllocator {
         self.interval_tree.free_counted(key)
     }
 
-    /// How many nodes the longest way down the tree has. The tree is balanced: with k held ranges its
+    /// The height of the tree, which is balanced: with k held ranges its
     /// height h has F(h + 2) at most 2k + 2, where F is the sequence 1, 1, 2, 3, 5 of Fibonacci, and is
     /// 49 at most.
     pub fn height(&self) -> u64 {
@@ -109,8 +112,14 @@ impl AddressAllocator {
 
     /// The first address of the space.
     pub fn base(&self) -> u64 {
-        let _ = self.interval_tree.height();
+        self.known();
         self.address_space.start()
+    }
+
+    /// For the prover alone: what holds of every state is known from here on.
+    #[inline(always)]
+    fn known(&self) {
+        self.interval_tree.known();
     }
 
     /// The last address of the space.

@@ -1,5 +1,8 @@
 // Written by bindings/erase from crates/vm_allocator/src/constraint.rt: do not edit.
 
+//! Requests. That a request makes sense is the invariant of `Constraint`, so what takes one needs no
+//! condition.
+
 use crate::error::{Error, Result};
 
 /// An alignment for requests that need no particular one.
@@ -8,10 +11,10 @@ pub const DEFAULT_CONSTRAINT_ALIGN: u64 = 4;
 /// Which of the places for a request is taken.
 #[derive(Clone, Copy, Debug, Default, PartialEq, Eq)]
 pub enum AllocPolicy {
-    /// The least.
+    /// First fit: the least.
     #[default]
     FirstMatch,
-    /// The greatest.
+    /// Last fit: the greatest.
     LastMatch,
     /// The one with this start.
     ExactMatch(u64),

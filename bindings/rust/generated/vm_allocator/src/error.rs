@@ -1,8 +1,10 @@
 // Written by bindings/erase from crates/vm_allocator/src/error.rt: do not edit.
 
+//! Why calls are refused, with the texts of the Rust crate.
+
 use crate::allocation_engine::NodeState;
 use crate::range::RangeInclusive;
-use rattle::AllocError;
+use rattle::{AllocError, AllocFailed};
 use rattle::Error;
 
 /// Why a call is refused. A refused call changes nothing. Errors are ordered by variant, then by
@@ -52,6 +54,12 @@ pub enum Error {
 
 impl From<AllocError> for Error {
     fn from(_error: AllocError) -> Error {
+        Error::OutOfMemory
+    }
+}
+
+impl<T> From<AllocFailed<T>> for Error {
+    fn from(_error: AllocFailed<T>) -> Error {
         Error::OutOfMemory
     }
 }

@@ -1,5 +1,8 @@
 // Written by bindings/erase from crates/vm_allocator/src/id_allocator.rt: do not edit.
 
+//! Ids of one range: those handed out so far lie below the next one, and those given back stand in a
+//! set, the least first. Only giving back and cloning ask for memory.
+
 use crate::error::{Error, Result};
 use rattle::Global;
 use rattle::BTreeSet;
@@ -49,11 +52,10 @@ impl IdAllocator {
     }
 
     /// A copy: the same range, held ids and ids ever handed out. `OutOfMemory` where there is no memory
-    /// for it. The ids given back ask the allocator that they came with.
+    /// for it. The ids given back ask the allocator that they came with: their own `clone` promises the
+    /// same set, where a new one would promise the same members.
     pub fn try_clone(&self, _alloc: Global) -> Result<Self> {
-        let Ok(freed_ids) = self.freed_ids.clone() else {
-            return Err(Error::OutOfMemory);
-        };
+        let freed_ids = self.freed_ids.clone()?;
         Ok(IdAllocator {
             range_base: self.range_base,
             next_id: self.next_id,
@@ -104,10 +106,7 @@ impl IdAllocator {
             return Err(Error::NeverAllocated(id));
         }
         // Only an id that is not in the set yet asks for memory.
-        let Ok(newly_freed) = self.freed_ids.insert(id) else {
-            return Err(Error::OutOfMemory);
-        };
-        if newly_freed {
+        if self.freed_ids.insert(id)? {
             Ok(id)
         } else {
             Err(Error::AlreadyReleased(id))

@@ -1,5 +1,8 @@
 // Written by bindings/erase from crates/vm_allocator/src/range.rt: do not edit.
 
+//! Ranges of addresses. Their order is written by hand and not derived, so that the contract of `cmp`
+//! names it: by start, then by end.
+
 use crate::error::{Error, Result};
 use core::cmp::Ordering;
 
@@ -61,8 +64,13 @@ impl RangeInclusive {
 
     /// Whether the range ends before another starts.
     pub(crate) fn ends_before(&self, other: &RangeInclusive) -> bool {
-        let _ = other.end;
-        other.start > self.end
+        other.start() > self.end
+    }
+
+    /// For the prover alone: that the ends are those of a range is known from here on.
+    #[inline(always)]
+    pub(crate) fn known(&self) {
+        let _ = self.end();
     }
 
     /// The first address.
@@ -79,10 +87,7 @@ impl RangeInclusive {
 impl Ord for RangeInclusive {
     /// By start, then by end.
     fn cmp(&self, other: &RangeInclusive) -> Ordering {
-        match self.start.cmp(&other.start) {
-            Ordering::Equal => self.end.cmp(&other.end),
-            unequal => unequal,
-        }
+        self.order(other)
     }
 }
 

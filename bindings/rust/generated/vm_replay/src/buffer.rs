@@ -1,5 +1,9 @@
 // Written by bindings/erase from crates/vm_replay/src/buffer.rt: do not edit.
 
+//! Where answers wait to be written. A number is printed by pairs of digits from a table, and copied
+//! as twenty bytes whatever its length, two moves and no call: with the reading of numbers this took
+//! half of the instructions off that the text of a line costs.
+
 use crate::number::MOST_DIGITS;
 
 /// How many bytes a buffer has room for.

@@ -1,6 +1,7 @@
 // Written by bindings/erase from crates/vm_replay/src/newline.rt: do not edit.
 
-//! The search for the end of a line.
+//! The search for the end of a line, sixteen bytes at once: a byte at a time cost fourteen
+//! instructions for each byte.
 
 use rattle::simd::*;
 

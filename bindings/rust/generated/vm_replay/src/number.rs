@@ -1,5 +1,8 @@
 // Written by bindings/erase from crates/vm_replay/src/number.rt: do not edit.
 
+//! The number at the beginning of a text, up to the first byte that is no digit. Nineteen digits fit
+//! 64 bits whichever they are, so the twentieth alone is added with a check.
+
 /// No number of the language has more digits, and none of 64 bits needs more.
 pub const MOST_DIGITS: usize = 20;
 
@@ -11,7 +14,7 @@ const CHUNK: usize = 8;
 
 const BASE: u64 = 10;
 
-/// The number that the digits at the front of a text say, and how many digits they are.
+/// The number that the digits at the beginning of a text say, and how many digits they are.
 #[inline(always)]
 pub fn number_ahead(text: &[u8]) -> Option<(u64, usize)> {
     let (value, count) = safe_value(text);
@@ -24,7 +27,7 @@ pub fn number_ahead(text: &[u8]) -> Option<(u64, usize)> {
     Some((value, count))
 }
 
-/// The value of the digits at the front of a text, of the first `SAFE_DIGITS` if they are more, and
+/// The value of the digits at the beginning of a text, of the first `SAFE_DIGITS` if they are more, and
 /// how many digits that are.
 #[inline(always)]
 fn safe_value(text: &[u8]) -> (u64, usize) {

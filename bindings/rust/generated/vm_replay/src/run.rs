@@ -1,5 +1,10 @@
 // Written by bindings/erase from crates/vm_replay/src/run.rt: do not edit.
 
+//! Answers an input: reads pieces of it, cuts them into lines, and drains the buffer. Its two facts
+//! have names (`AnswersInput`, `AnswersEndedLines`) and are stated for readers and writers that tell
+//! their bytes; they follow from what also holds where nothing is known of the bytes, so that no twin
+//! of `run` is needed.
+
 use crate::buffer::{Buffer, CAPACITY};
 use crate::newline::newline_at;
 use crate::reply::LONGEST_REPLY;

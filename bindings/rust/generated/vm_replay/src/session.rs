@@ -1,5 +1,8 @@
 // Written by bindings/erase from crates/vm_replay/src/session.rt: do not edit.
 
+//! What ended lines have made, and the line that has begun. A line is read where it lies in its
+//! piece; only one that began in an earlier piece is kept.
+
 use crate::buffer::{Buffer, CAPACITY};
 use crate::command::{Command, LONGEST_LINE, parse};
 use crate::machine::Machine;

@@ -1,8 +1,11 @@
 // Written by bindings/erase from crates/vm_replay/src/words.rt: do not edit.
 
+//! The words of a line: whether it begins with a name, and the numbers and ids behind that. The four
+//! numbers of `manager` are read as three are, and two of them then taken as ids.
+
 use crate::number::number_ahead;
 
-/// What stands behind the front of a text, where the text begins with it.
+/// What stands behind the beginning of a text, where the text begins so.
 #[inline(always)]
 pub fn behind<'a, const N: usize>(front: &[u8; N], text: &'a [u8]) -> Option<&'a [u8]> {
     if text.len() < N {

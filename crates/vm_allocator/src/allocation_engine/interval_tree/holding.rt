@@ -95,7 +95,7 @@ fn leaf_before(alloc: Global, choice: &Choice) -> Result<Child>
     ensures leaf { IfOk result (λ leaf. IfSome leaf (λ n. IsLeaf n.value)) }
     ensures error { IfErr result (λ error. error ≡ Error.OutOfMemory) }
 {
-    let _ = choice.key.end();
+    choice.key.known();
     if choice.key.start() >= choice.range.start() {
         return Ok(None);
     }
@@ -110,7 +110,7 @@ fn leaf_after(alloc: Global, choice: &Choice) -> Result<Child>
     ensures leaf { IfOk result (λ leaf. IfSome leaf (λ n. IsLeaf n.value)) }
     ensures error { IfErr result (λ error. error ≡ Error.OutOfMemory) }
 {
-    let _ = choice.key.end();
+    choice.key.known();
     if choice.range.end() >= choice.key.end() {
         return Ok(None);
     }

@@ -34,7 +34,7 @@ impl IntervalTree {
         ensures no_memory { IfErr result (λ error. error ≢ Error.OutOfMemory) }
         ensures count { count.new ≡ count.old + way_of_search constraint self.now }
     {
-        let _ = self.root();
+        self.known();
         let (size, align) = (constraint.size(), constraint.align());
         match constraint.policy() {
             AllocPolicy::FirstMatch => {
@@ -87,7 +87,7 @@ fn choice_at(found: Option<Place>, size: u64) -> Result<Choice>
     let Some(place) = found else {
         return Err(Error::ResourceNotAvailable);
     };
-    let _ = place.key.end();
+    place.key.known();
     let last = place.start + (size - 1);
     if last == u64::MAX {
         return Err(Error::Overflow);

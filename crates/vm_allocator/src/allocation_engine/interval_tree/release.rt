@@ -1,12 +1,13 @@
-//! How a held range is given back: the free blocks beside it are removed, and its block takes their
-//! addresses, free again.
+//! How a held range is given back: the free blocks beside it are removed by a descent each, and its
+//! block is widened by one more, free again. To take all three out in one descent would ask for a
+//! proof by cases on which of them stands above which, and for two removals on one way back up.
 ghost use Rattle.std.specs.Prelude.{◌≡◌, ◌+◌, ◌*◌, ◌≤◌, OnErr, IsSome};
 ghost use Rattle.vm_allocator.specs.Range.{MAX, IsRange};
 ghost use Rattle.vm_allocator.specs.Answer.{Frees};
 ghost use Rattle.vm_allocator.specs.Engine.Release.{IsAround, joined, rejoined, without_if, start_with, end_with};
 ghost use Rattle.vm_allocator.specs.Tree.Shape.{blocks, height_of};
 ghost use Rattle.vm_allocator.specs.Engine.NodeFields.{side};
-ghost use Rattle.vm_allocator.specs.Tree.SpaceTree.{tree_state};
+ghost use Rattle.vm_allocator.specs.Tree.SpaceTree.{tree_state, IsSpaceTree};
 ghost use Rattle.vm_allocator.specs.Counts.Steps.{EntersToFree, IsWayBack};
 ghost use Rattle.vm_allocator.specs.Counts.Ways.{way_if};
 
@@ -19,13 +20,14 @@ use crate::error::{Error, Result};
 use crate::range::RangeInclusive;
 
 impl IntervalTree {
-    /// `free`, which adds the nodes that it enters to a count.
+    /// `free`, which adds the nodes that it enters to a counter at 0.
     #[tactic(auto, using(crate::proofs::Releasing::Rejoining::releases, crate::proofs::Counts::ReleaseWays::ways_back))]
     pub(super) fn release(&mut self, key: &RangeInclusive, count: &mut u64) -> Result<()>
-        requires { count.old + 5 * height_of self.old ≤ MAX }
+        requires { count.old ≡ 0 }
         ensures answer { Frees (tree_state self.old) key.now result (tree_state self.new) }
         ensures unchanged { OnErr result (self.new ≡ self.old) }
-        ensures count { EntersToFree self.old key.now result count.old count.new }
+        ensures count { EntersToFree self.old key.now result 0 count.new }
+        ensures space { IsSpaceTree self.old }
     {
         let Some(beside) = self.root().neighbours(key, count) else {
             return Err(Error::ResourceNotAvailable);

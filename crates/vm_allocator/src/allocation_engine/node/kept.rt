@@ -1,4 +1,13 @@
-//! What a node keeps of its tree, brought up to date from its children and its own block.
+//! What a node keeps of its tree, brought up to date from its children and its own block: the height,
+//! the length of the longest free block, and how many of the 64 alignments have a multiple in a free
+//! one. A multiple of a power of two is one of each lesser power, so the count says which alignments
+//! these are. A search enters no tree without room for its size and alignment. All that a child keeps
+//! is read at once (`kept_of`), and the own block looked at last: each read with its own look whether
+//! the child is there cost 4 % of the instructions of `exact`. The count is a byte beside the state,
+//! so that a node has 72 bytes, and takes a logarithm; the word that it is the logarithm of would
+//! make them 80. At 10^4 ranges (callgrind, against the version before) the count takes 0.7 % of the
+//! instructions of `exact`, 3.8 % of `first` and 8.1 % of `devices`, and `mixed` has a 25th of the
+//! time.
 ghost use Rattle.std.specs.Prelude.{◌≡◌, ◌+◌, ◌<◌, ◌^◌, max};
 ghost use Rattle.vm_allocator.specs.Tree.Block.{free_length};
 ghost use Rattle.vm_allocator.specs.Tree.Multiples.{alignment_count, free_alignments};
@@ -20,7 +29,8 @@ pub(super) struct Room {
     pub(super) alignments: u8,
 }
 
-/// What changed of what a node keeps.
+/// What changed of what a node keeps. A removal looks at the height wherever anything changed: to spare
+/// that, as a split does, cost 5 % of the instructions of `exact`.
 #[derive(Clone, Copy, Debug)]
 pub(crate) enum Change {
     /// Nothing.
@@ -34,7 +44,7 @@ pub(crate) enum Change {
 /// What a child keeps.
 #[derive(Clone, Copy, Debug)]
 pub(super) struct Kept {
-    /// How many nodes the longest way down from it has.
+    /// The height of its tree.
     pub(super) height: u64,
     /// What the free blocks of its tree have room for.
     pub(super) room: Room,

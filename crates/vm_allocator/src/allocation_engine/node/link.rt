@@ -1,4 +1,4 @@
-//! A leaf added to a tree.
+//! A leaf added to a tree, on one way down and back up.
 ghost use Rattle.std.specs.Prelude.{◌≡◌, ◌+◌, ◌<◌, ◌≤◌, IsSome};
 ghost use Rattle.vm_allocator.specs.Range.{MAX};
 ghost use Rattle.vm_allocator.specs.Tree.BlockList.{IsClearOf, insert_block};

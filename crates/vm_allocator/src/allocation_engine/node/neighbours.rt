@@ -1,4 +1,7 @@
-//! The search for a held block and the free ones beside it, in one descent.
+//! The search for a held block and the free ones beside it, in one descent. It writes the nodes that
+//! it passes into a pair which its caller holds, and returns only whether it found the block, so that
+//! it is a loop once compiled: a quarter of the instructions of a search that carried both free
+//! ranges back up.
 ghost use Rattle.std.specs.Prelude.{◌≡◌, ◌+◌, ◌*◌, ◌≤◌, Option, Some, None};
 ghost use Rattle.vm_allocator.specs.Range.{MAX, Range};
 ghost use Rattle.vm_allocator.specs.Tree.Shape.{blocks, height_of, root_block};
@@ -104,7 +107,7 @@ impl InnerNode {
 
     /// Whether a held block has this key. `beside` comes with the nodes right before and right after
     /// the whole tree, and has then those beside the block.
-    #[tactic(auto, using(crate::proofs::Releasing::Neighbours::searches, crate::proofs::Counts::WayCases::ways_around, crate::proofs::Counts::WayBounds::bounds_around))]
+    #[tactic(auto, using(crate::proofs::Releasing::Neighbours::searches, crate::proofs::Counts::WayBounds::around))]
     fn find_held<'a>(
         &'a self,
         key: &RangeInclusive,
@@ -135,7 +138,7 @@ impl InnerNode {
     }
 
     /// Whether this node's block is held. `beside` has then the nodes beside it.
-    #[tactic(auto, using(crate::proofs::Releasing::Neighbours::searches, crate::proofs::Counts::WayCases::ways_around, crate::proofs::Counts::WayBounds::bounds_around))]
+    #[tactic(auto, using(crate::proofs::Releasing::Neighbours::searches, crate::proofs::Counts::WayBounds::around))]
     fn look_beside<'a>(&'a self, beside: &mut Beside<'a>, count: &mut u64) -> bool
         requires { count.old + 2 * height_of self.now ≤ MAX + 1 }
         ensures value { if_found result (free_keys beside.new)

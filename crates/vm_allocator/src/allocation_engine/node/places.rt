@@ -1,4 +1,10 @@
-//! The searches for the place of a request.
+//! The searches for the place of a request: first fit and last fit, two functions, since one with a
+//! side as its argument would look at it at each node, and its proof would be by cases on it
+//! throughout. They write what they find into an `Option` that their caller holds: a returned place
+//! is 32 bytes that are copied at each level, 12 % of the instructions of `first`. Each looks whether
+//! a child is there, and has room (`roomy`), before it calls: a recursion over optional children took
+//! 40 to 80 % more time. None calls what begins the search, since whatever comes back to itself has
+//! to count a node.
 ghost use Rattle.std.specs.Prelude.{◌≡◌, ◌+◌, ◌<◌, ◌≤◌, true, false, None, MatchOption};
 ghost use Rattle.vm_allocator.specs.Range.{MAX};
 ghost use Rattle.vm_allocator.specs.Alignment.{IsAlignment};

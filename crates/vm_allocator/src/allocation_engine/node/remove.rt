@@ -1,4 +1,6 @@
-//! A block removed from a tree.
+//! A block removed from a tree. What removes the node itself is no part of the descent to it
+//! (`delete_root`, never inlined): together they would save twice as many registers at each level, 4
+//! % of the instructions of `exact`.
 ghost use Rattle.std.specs.Prelude.{◌≡◌, ◌+◌, ◌<◌, ◌≤◌, ◌^◌, ◌++◌, [], ◌∷◌, ◌↔◌, max, true, IsNone, IsSome};
 ghost use Rattle.vm_allocator.specs.Range.{MAX};
 ghost use Rattle.vm_allocator.specs.Tree.BlockList.{IsOrderedFrom, replace_block};
@@ -9,7 +11,7 @@ ghost use Rattle.vm_allocator.specs.Engine.NodeFields.{side};
 
 use super::balance::{balance, settle};
 use super::kept::Change;
-use super::{Child, InnerNode, height};
+use super::{Child, InnerNode, known};
 use crate::range::RangeInclusive;
 use std::cmp::Ordering;
 
@@ -29,7 +31,7 @@ fn take_least_at(at: &mut Child, count: &mut u64) -> (Box<InnerNode>, Change)
     tree.enter(count);
     if tree.left.is_none() {
         let (_, right) = tree.strip();
-        let _ = height(&right);
+        known(&right);
         let Some(least) = at.take() else {
             unreachable!()
         };
@@ -63,7 +65,8 @@ pub(super) fn join(left: Child, mut right: Child, count: &mut u64) -> Child
     ensures joins { Joins (side left) (side right) (side result) }
     ensures count { count.new ≡ count.old + way_to_join (side left) (side right) }
 {
-    let _ = (height(&left), height(&right));
+    known(&left);
+    known(&right);
     if right.is_none() {
         return left;
     }
@@ -90,14 +93,14 @@ impl InnerNode {
     {
         let InnerNode { left, right, .. } = Box::into_inner(tree);
         let joined = join(left, right, count);
-        let _ = height(&joined);
+        known(&joined);
         joined
     }
 }
 
 /// Removes the node with a key from below the node at a place, if there is one; says what
 /// changed there.
-#[tactic(auto, using(crate::proofs::Blocks::Replacement::removals, crate::proofs::Blocks::Replacement::leavings, crate::proofs::Nodes::SideChange::takes, crate::proofs::Counts::WayCases::ways_to_remove))]
+#[tactic(auto, using(crate::proofs::Nodes::SideChange::deletions, crate::proofs::Counts::WayCases::ways_to_remove))]
 pub(crate) fn delete_at(at: &mut Child, key: &RangeInclusive, count: &mut u64) -> Change
     requires { count.old + height_of (side at.old) ≤ MAX }
     ensures blocks { blocks (side at.new) ≡ replace_block key.now [] (blocks (side at.old)) }

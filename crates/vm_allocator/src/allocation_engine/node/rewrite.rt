@@ -22,17 +22,11 @@ impl InnerNode {
         ensures blocks { blocks self.new ≡ with_block (root_block self.old).key key node_state (blocks self.old) }
         ensures keeps { KeepsShape self.old self.new result }
     {
-        let _ = &self.height;
+        let (left, right) = (kept_of(&self.left).room, kept_of(&self.right).room);
         self.key = key;
         self.node_state = node_state;
         let own = room_of(&key, node_state);
-        refresh_room(
-            kept_of(&self.left).room,
-            kept_of(&self.right).room,
-            own,
-            &mut self.max_free,
-            &mut self.alignments,
-        )
+        refresh_room(left, right, own, &mut self.max_free, &mut self.alignments)
     }
 
     /// Gives the node with key `at` another key, which keeps its place in the order, and another

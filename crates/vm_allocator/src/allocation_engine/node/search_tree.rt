@@ -13,7 +13,7 @@ ghost use Rattle.vm_allocator.specs.Engine.NodeFields.{side};
 use super::kept::{Change, kept_of, refresh_room, room_of};
 use super::link::link_at;
 use super::remove::{delete_at, join};
-use super::{InnerNode, height};
+use super::{InnerNode, known};
 use crate::allocation_engine::NodeState;
 use crate::error::{Error, Result};
 use crate::range::RangeInclusive;
@@ -36,7 +36,7 @@ impl InnerNode {
         ensures count { count.new ≡ count.old + way_down (root_block leaf.value).key tree.value }
     {
         let mut at = Some(tree);
-        let _ = link_at(&mut at, leaf, count);
+        link_at(&mut at, leaf, count);
         let Some(tree) = at else { unreachable!() };
         tree
     }
@@ -85,8 +85,8 @@ impl InnerNode {
         ensures count { count.new ≡ count.old + way_to_remove key.now tree.value }
     {
         let mut at = Some(tree);
-        let _ = delete_at(&mut at, key, count);
-        let _ = height(&at);
+        delete_at(&mut at, key, count);
+        known(&at);
         at
     }
 

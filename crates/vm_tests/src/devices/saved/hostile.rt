@@ -1,4 +1,6 @@
-//! Values of strangers, which state no manager.
+//! Values of strangers, which state no manager: a good one's text with one part replaced. That the
+//! text without the change is read, and has the part, is asserted, so no row is refused for another
+//! reason.
 use super::*;
 
 /// The text in which `new` stands for the first `old`, or none where it has no `old`.

@@ -1,6 +1,7 @@
 // Written by bindings/erase from crates/vm_allocator/src/address_allocator/comparing.rt: do not edit.
 
-//! Equality and order of allocators: by their states, whatever the shapes of their trees.
+//! Equality and order of allocators: by their states, whatever the shapes of their trees. Both stand
+//! here and for trees too, since each is a trait's implementation with a clause of its own.
 
 use super::AddressAllocator;
 use core::cmp::Ordering;

@@ -1,6 +1,8 @@
 // Written by bindings/erase from crates/vm_allocator/src/address_allocator/held_ranges.rt: do not edit.
 
-//! The held ranges: one after the other, whether a range is one, and how many there are.
+//! The held ranges: one after the other, whether a range is one, and how many there are. Their number
+//! is counted anew for each question: one that is kept would have to be brought up to date in every
+//! change.
 
 use super::AddressAllocator;
 use crate::allocation_engine::NodeState;

@@ -1,20 +1,25 @@
 // Written by bindings/erase from crates/vm_allocator/src/allocation_engine/interval_tree.rt: do not edit.
 
 //! The blocks of a space in a balanced tree: which place a request gets (`placing`), how the range
-//! there is held (`holding`), how a held one is given back (`release`), and how two compare (`comparing`).
+//! there is held (`holding`), how a held one is given back (`release`), and how two compare
+//! (`comparing`).
+//!
+//! A counted call is a counter at 0, what takes the counter (`grant`, `release`), and the counter; a
+//! plain call is the counted one without the count. So that the counter has room, as a tree of height
+//! 49 has fewer than 2^49 nodes, is shown once, and no caller has a condition.
 
 use rattle::Box;
 use super::NodeState;
 use super::node::walks::Walk;
 use super::node::walks::copying::copy;
+use super::node::walks::held::{count_held, has_held};
 use super::node::{Child, InnerNode};
 use crate::constraint::Constraint;
-use crate::error::{Error, Result};
+use crate::error::Result;
 use crate::range::RangeInclusive;
 use rattle::Global;
 
 mod comparing;
-mod held;
 mod holding;
 pub(crate) mod placing;
 mod release;
@@ -29,14 +34,12 @@ impl IntervalTree {
     /// The tree of the space `key`, with nothing held. `OutOfMemory` where there is no memory for its
     /// one node.
     pub fn new(alloc: Global, key: RangeInclusive) -> Result<Self> {
-        let _ = key.end();
-        let Ok(node) = Box::new(alloc, InnerNode::new(key, NodeState::Free)) else {
-            return Err(Error::OutOfMemory);
-        };
+        key.known();
+        let node = Box::new(alloc, InnerNode::new(key, NodeState::Free))?;
         Ok(IntervalTree { root: Some(node) })
     }
 
-    /// A copy, node for node.
+    /// A copy, node for node, for `AddressAllocator` alone: who has a tree can make another.
     pub(crate) fn try_clone(&self, alloc: Global) -> Result<Self> {
         Ok(IntervalTree {
             root: Some(copy(self.root(), alloc)?),
@@ -48,6 +51,16 @@ impl IntervalTree {
         Walk::over(&self.root)
     }
 
+    /// Whether exactly this range is held.
+    pub(crate) fn holds(&self, key: &RangeInclusive) -> bool {
+        has_held(&self.root, key)
+    }
+
+    /// How many ranges are held.
+    pub(crate) fn held_count(&self) -> u64 {
+        count_held(&self.root)
+    }
+
     /// The root, which is always there.
     pub(crate) fn root(&self) -> &InnerNode {
         let Some(root) = &self.root else {
@@ -56,19 +69,25 @@ impl IntervalTree {
         root
     }
 
-    /// How many nodes the longest way down has.
+    /// The height of the tree.
     pub(crate) fn height(&self) -> u64 {
         self.root().height()
     }
 
-    /// `allocate`, which adds the nodes that it enters to a count.
+    /// For the prover alone: what holds of every tree of a space is known from here on.
+    #[inline(always)]
+    pub(crate) fn known(&self) {
+        let _ = self.height();
+    }
+
+    /// `allocate`, which adds the nodes that it enters to a counter at 0.
     fn grant(
         &mut self,
         alloc: Global,
         constraint: Constraint,
         count: &mut u64,
     ) -> Result<RangeInclusive> {
-        let _ = self.height();
+        self.known();
         let choice = self.place_for(constraint, count)?;
         self.hold(alloc, choice, count)
     }
@@ -79,7 +98,6 @@ impl IntervalTree {
         alloc: Global,
         constraint: Constraint,
     ) -> (Result<RangeInclusive>, u64) {
-        let _ = self.height();
         let mut count = 0;
         let answer = self.grant(alloc, constraint, &mut count);
         (answer, count)
@@ -91,13 +109,12 @@ impl IntervalTree {
     /// 48 or more, and `OutOfMemory`. A refusal changes nothing.
     pub fn allocate(&mut self, alloc: Global, constraint: Constraint) -> Result<RangeInclusive> {
         let answer = self.allocate_counted(alloc, constraint).0;
-        let _ = self.height();
+        self.known();
         answer
     }
 
     /// `free`, and how many nodes it entered.
     pub(crate) fn free_counted(&mut self, key: &RangeInclusive) -> (Result<()>, u64) {
-        let _ = self.height();
         let mut count = 0;
         let answer = self.release(key, &mut count);
         (answer, count)
@@ -106,8 +123,6 @@ impl IntervalTree {
     /// Gives a held range back, and joins its addresses with the clear ones on both sides. Any other
     /// range is `ResourceNotAvailable`. It takes no memory, and a refusal changes nothing.
     pub fn free(&mut self, key: &RangeInclusive) -> Result<()> {
-        let answer = self.free_counted(key).0;
-        let _ = self.height();
-        answer
+        self.free_counted(key).0
     }
 }

@@ -1,7 +1,9 @@
 // Written by bindings/erase from crates/vm_allocator/src/allocation_engine/node.rt: do not edit.
 
-//! A balanced search tree of blocks. Each function in here that calls itself counts the nodes that
-//! it enters: `count` rises by one for each, in `enter` alone.
+//! An AVL tree of blocks. Each function in here that calls itself counts the nodes that it enters:
+//! `count` rises by one for each, in `enter` alone. A node is seen as a tree without pointers, so
+//! that its blocks, its height and its balance are functions of that value, and 'unchanged' is an
+//! equation.
 
 use rattle::Box;
 mod balance;
@@ -57,8 +59,8 @@ impl InnerNode {
         }
     }
 
-    /// A node over children whose heights are at most one apart, and between whose keys its own lies.
-    /// `OutOfMemory` where there is no memory for it.
+    /// A node over children whose heights are at most one apart, and between whose keys its own lies,
+    /// with what it keeps computed over them. `OutOfMemory` where there is no memory for it.
     pub(crate) fn with_children(
         alloc: Global,
         left: Child,
@@ -66,10 +68,8 @@ impl InnerNode {
         node_state: NodeState,
         right: Child,
     ) -> Result<Box<InnerNode>> {
-        match Box::new(alloc, InnerNode::new(key, node_state)) {
-            Ok(middle) => Ok(fork(left, middle, right)),
-            Err(_) => Err(Error::OutOfMemory),
-        }
+        let middle = Box::new(alloc, InnerNode::new(key, node_state))?;
+        Ok(fork(left, middle, right))
     }
 
     /// The key of this node.
@@ -89,10 +89,16 @@ impl InnerNode {
         *count += 1;
     }
 
-    /// How many nodes the longest way down from here has.
+    /// The height of the tree from here on.
     pub(crate) fn height(&self) -> u64 {
         self.height
     }
+}
+
+/// For the prover alone: what holds of the tree at a place is known from here on.
+#[inline(always)]
+fn known(child: &Child) {
+    let _ = height(child);
 }
 
 /// The height of a child, 0 where it is absent.

@@ -12,7 +12,7 @@ returns-in_default-new-clause-answer c = some_stated (view c.args.value.now) _ _
 
 pub hold_keys-requires : goal.hold_keys-requires
 hold_keys-requires c =
-    let made = rw (c.start.ensures.value, c.len.ensures) at c.in-Ok.ensures in
+    let made = rw (c.start.ensures.value, c.len.ensures) at c.in-Ok.ensures.answer in
     can_add (view c.args.value.now) c.in-Some.checked.space (view c.in-Some.checked.root.now) (sym c.in-Some.ensures) (state_of c.in-Ok.allocator) made
 
 pub returns-in_default-hold_keys-clause-answer : goal.returns-in_default-hold_keys-clause-answer
@@ -20,7 +20,7 @@ returns-in_default-hold_keys-clause-answer c = some_stated (view c.args.value.no
 
 pub returns-clause-answer : goal.returns-clause-answer
 returns-clause-answer c =
-    let made = rw (c.start.ensures.value, c.len.ensures) at c.in-Ok.ensures in
+    let made = rw (c.start.ensures.value, c.len.ensures) at c.in-Ok.ensures.answer in
     added_stated (view c.args.value.now) c.in-Some.checked.space (view c.in-Some.checked.root.now) (sym c.in-Some.ensures) (state_of c.in-Ok.allocator) made (state_of c.hold_keys.new.allocator) c.in-Ok-hold_keys.ensures.held
 
 pub returns-clause-state : goal.returns-clause-state

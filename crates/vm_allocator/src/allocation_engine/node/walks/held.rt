@@ -1,4 +1,6 @@
-//! What is held in a tree: whether a range is, and how many are.
+//! What is held in a tree: whether a range is, by one way down, and how many are. No count is
+//! promised of either, so neither takes the counter: one more place that makes one would weaken the
+//! rule on it.
 ghost use Rattle.std.specs.Prelude.{◌≡◌, ◌≤◌, ◌↔◌, IsTrue, Some, length};
 ghost use Rattle.vm_allocator.specs.Tree.Blocks.{held_of};
 ghost use Rattle.vm_allocator.specs.Tree.BlockList.{find_key};

@@ -2,7 +2,7 @@
 ghost use Rattle.std.specs.Prelude.{◌≡◌, ◌↔◌, IsTrue};
 ghost use Rattle.vm_allocator.specs.Engine.NodeFields.{side};
 
-use crate::allocation_engine::node::{Child, InnerNode};
+use crate::allocation_engine::node::{Child, known};
 
 /// Whether two trees are equal node for node.
 pub(crate) fn same(a: &Child, b: &Child) -> bool
@@ -16,14 +16,12 @@ pub(crate) fn same(a: &Child, b: &Child) -> bool
                 && same(&a.left, &b.left)
                 && same(&a.right, &b.right)
         }
-        (None, Some(node)) => {
-            let node: &InnerNode = node;
-            let _ = &node.height;
+        (None, Some(_)) => {
+            known(b);
             false
         }
-        (Some(node), None) => {
-            let node: &InnerNode = node;
-            let _ = &node.height;
+        (Some(_), None) => {
+            known(a);
             false
         }
     }

@@ -15,7 +15,7 @@ invariant_of-result c =
       id = omega (arith, c.ranges.id_hi.fits);
       word = omega (arith, c.ranges.size.fits);
       ids_made = c.in_ok-id_allocator.ensures.answer;
-      space_made = c.in_ok-mmio_allocator.ensures;
+      space_made = c.in_ok-mmio_allocator.ensures.answer;
     } in
     manager_state new made c.new-3.ensures.empty
 

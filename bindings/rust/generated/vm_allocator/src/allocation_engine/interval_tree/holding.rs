@@ -65,7 +65,7 @@ fn rest_of(alloc: Global, choice: &Choice) -> Result<Rest> {
 
 /// A leaf for what is left of the free block before the range.
 fn leaf_before(alloc: Global, choice: &Choice) -> Result<Child> {
-    let _ = choice.key.end();
+    choice.key.known();
     if choice.key.start() >= choice.range.start() {
         return Ok(None);
     }
@@ -75,7 +75,7 @@ fn leaf_before(alloc: Global, choice: &Choice) -> Result<Child> {
 
 /// A leaf for what is left of the free block after the range.
 fn leaf_after(alloc: Global, choice: &Choice) -> Result<Child> {
-    let _ = choice.key.end();
+    choice.key.known();
     if choice.range.end() >= choice.key.end() {
         return Ok(None);
     }

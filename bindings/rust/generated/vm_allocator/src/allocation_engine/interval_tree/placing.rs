@@ -22,7 +22,7 @@ pub(crate) struct Choice {
 impl IntervalTree {
     /// The range to hold for a request, and the free block that has it, or the refusal.
     pub(super) fn place_for(&self, constraint: Constraint, count: &mut u64) -> Result<Choice> {
-        let _ = self.root();
+        self.known();
         let (size, align) = (constraint.size(), constraint.align());
         match constraint.policy() {
             AllocPolicy::FirstMatch => {
@@ -62,7 +62,7 @@ fn choice_at(found: Option<Place>, size: u64) -> Result<Choice> {
     let Some(place) = found else {
         return Err(Error::ResourceNotAvailable);
     };
-    let _ = place.key.end();
+    place.key.known();
     let last = place.start + (size - 1);
     if last == u64::MAX {
         return Err(Error::Overflow);

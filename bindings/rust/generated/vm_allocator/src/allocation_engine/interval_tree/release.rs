@@ -1,7 +1,8 @@
 // Written by bindings/erase from crates/vm_allocator/src/allocation_engine/interval_tree/release.rt: do not edit.
 
-//! How a held range is given back: the free blocks beside it are removed, and its block takes their
-//! addresses, free again.
+//! How a held range is given back: the free blocks beside it are removed by a descent each, and its
+//! block is widened by one more, free again. To take all three out in one descent would ask for a
+//! proof by cases on which of them stands above which, and for two removals on one way back up.
 
 use super::IntervalTree;
 use crate::allocation_engine::node::Child;
@@ -12,7 +13,7 @@ use crate::error::{Error, Result};
 use crate::range::RangeInclusive;
 
 impl IntervalTree {
-    /// `free`, which adds the nodes that it enters to a count.
+    /// `free`, which adds the nodes that it enters to a counter at 0.
     pub(super) fn release(&mut self, key: &RangeInclusive, count: &mut u64) -> Result<()> {
         let Some(beside) = self.root().neighbours(key, count) else {
             return Err(Error::ResourceNotAvailable);

@@ -1,6 +1,6 @@
 // Written by bindings/erase from crates/vm_allocator/src/allocation_engine/node/link.rt: do not edit.
 
-//! A leaf added to a tree.
+//! A leaf added to a tree, on one way down and back up.
 
 use rattle::Box;
 use super::balance::settle;

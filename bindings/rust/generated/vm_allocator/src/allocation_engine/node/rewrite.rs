@@ -12,17 +12,11 @@ impl InnerNode {
     /// Gives this node another key, which keeps its place in the order, and another state; says
     /// whether what is kept here changed.
     pub(super) fn rewrite_here(&mut self, key: RangeInclusive, node_state: NodeState) -> bool {
-        let _ = &self.height;
+        let (left, right) = (kept_of(&self.left).room, kept_of(&self.right).room);
         self.key = key;
         self.node_state = node_state;
         let own = room_of(&key, node_state);
-        refresh_room(
-            kept_of(&self.left).room,
-            kept_of(&self.right).room,
-            own,
-            &mut self.max_free,
-            &mut self.alignments,
-        )
+        refresh_room(left, right, own, &mut self.max_free, &mut self.alignments)
     }
 
     /// Gives the node with key `at` another key, which keeps its place in the order, and another

@@ -7,7 +7,7 @@ use rattle::Box;
 use super::kept::{Change, kept_of, refresh_room, room_of};
 use super::link::link_at;
 use super::remove::{delete_at, join};
-use super::{InnerNode, height};
+use super::{InnerNode, known};
 use crate::allocation_engine::NodeState;
 use crate::error::{Error, Result};
 use crate::range::RangeInclusive;
@@ -22,7 +22,7 @@ impl InnerNode {
         count: &mut u64,
     ) -> Box<InnerNode> {
         let mut at = Some(tree);
-        let _ = link_at(&mut at, leaf, count);
+        link_at(&mut at, leaf, count);
         let Some(tree) = at else { unreachable!() };
         tree
     }
@@ -54,8 +54,8 @@ impl InnerNode {
         count: &mut u64,
     ) -> Option<Box<InnerNode>> {
         let mut at = Some(tree);
-        let _ = delete_at(&mut at, key, count);
-        let _ = height(&at);
+        delete_at(&mut at, key, count);
+        known(&at);
         at
     }
 

@@ -1,6 +1,10 @@
 // Written by bindings/erase from crates/vm_allocator/src/allocation_engine/node/walks.rt: do not edit.
 
-//! Walks over the blocks of a tree, and recursions over nodes, that no counted function calls.
+//! Walks over the blocks of a tree, and recursions over nodes, that no counted function calls. A
+//! `Walk` has the nodes of its way down in an array of 49, so it takes no memory, and two of them
+//! side by side end at the first difference of two trees, whatever their shapes. What has to hang in
+//! its parent is a recursion: `copying`, and `saving`, which stands here as it reads the fields of
+//! nodes.
 
 pub(crate) mod comparing;
 pub(crate) mod copying;
@@ -10,7 +14,7 @@ pub(crate) mod saving;
 use super::{Child, InnerNode};
 use crate::allocation_engine::block::Block;
 
-/// As many nodes as stand on the longest way down a tree.
+/// The height of the highest tree.
 const MOST: usize = 49;
 
 /// Puts the nodes on the way from the root of a tree to its least block before those from `at` on;

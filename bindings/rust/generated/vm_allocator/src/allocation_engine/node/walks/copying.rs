@@ -7,8 +7,8 @@ use crate::allocation_engine::node::InnerNode;
 use crate::error::{Error, Result};
 use rattle::Global;
 
-/// A copy of a tree, node for node. `OutOfMemory` where there is no memory for one of them; those that
-/// were made are given back then.
+/// A copy of a tree, node for node, with what each node keeps. `OutOfMemory` where there is no memory
+/// for one of them; those that were made are given back then.
 pub(crate) fn copy(tree: &InnerNode, alloc: Global) -> Result<Box<InnerNode>> {
     let left = match &tree.left {
         None => None,
@@ -27,8 +27,5 @@ pub(crate) fn copy(tree: &InnerNode, alloc: Global) -> Result<Box<InnerNode>> {
         height: tree.height,
         max_free: tree.max_free,
     };
-    match Box::new(alloc, node) {
-        Ok(node) => Ok(node),
-        Err(_) => Err(Error::OutOfMemory),
-    }
+    Ok(Box::new(alloc, node)?)
 }

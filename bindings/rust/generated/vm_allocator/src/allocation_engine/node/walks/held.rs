@@ -1,6 +1,8 @@
 // Written by bindings/erase from crates/vm_allocator/src/allocation_engine/node/walks/held.rt: do not edit.
 
-//! What is held in a tree: whether a range is, and how many are.
+//! What is held in a tree: whether a range is, by one way down, and how many are. No count is
+//! promised of either, so neither takes the counter: one more place that makes one would weaken the
+//! rule on it.
 
 use crate::allocation_engine::NodeState;
 use crate::allocation_engine::node::{Child, InnerNode};

@@ -2,7 +2,7 @@ use Rattle.std.proofs.Common.{sym}
 use Rattle.vm_allocator.specs.Engine.NodeFields.{side}
 use Rattle.vm_allocator.specs.Tree.Shape.{blocks, root_block}
 use Rattle.vm_allocator.proofs.Blocks.BlockOrder.{ordered_right_sides}
-use Rattle.vm_allocator.proofs.allocation_engine.node.balance.lean_right.Goals as goal
+use Rattle.vm_allocator.proofs.allocation_engine.node.balance.rotate_left.Goals as goal
 
 pub fork-requires-2-clause-ordered : goal.fork-requires-2-clause-ordered
 fork-requires-2-clause-ordered c =
