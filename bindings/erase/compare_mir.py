@@ -31,7 +31,7 @@ OPTIONS = ["--emit=mir", "-Copt-level=0", "-Coverflow-checks=off", "-Cdebug-asse
 HEAD = re.compile(r"(?:const )?fn (.+?)\((?:_1: |\) -> )")
 IMPL_AT = re.compile(r"(?:.*::)?<impl at ([^:]+):(\d+):(\d+): \d+:(\d+)>::(\w+)$")
 TYPE_LINE = re.compile(r"(?:pub(?:\(\w+\))? )?(?:struct|enum) (\w+)")
-IMPL_LINE = re.compile(r"impl(?:<[^>]*>)? (?:(\w+)(?:<[^>]*>)? for )?(\w+)")
+IMPL_LINE = re.compile(r"impl(?:<[^>]*>)? (?:(\w+)(?:<(\w+)>)? for )?(\w+)")
 OPERATION = re.compile(r"\s+\S+ = (\w+)\(")
 CALL = re.compile(r"\s+\S.*? = (.+)\([^()]*(?:\([^()]*\)[^()]*)*\) -> \[")
 AS_TRAIT = re.compile(r"<&?(?:mut )?([\w:]+).* as (?:[\w:]*::)?(\w+)(?:<.*>)?>::(\w+)$")
@@ -129,7 +129,7 @@ def defined(workspace, crate, name):
         lines = source.read().split("\n")[int(line) - 1:]
     impl = IMPL_LINE.match(lines[0])
     if impl:
-        return f"{impl[2]}{impl[1] or ''}::{method}", False
+        return f"{impl[3]}{impl[1] or ''}{impl[2] or ''}::{method}", False
     trait = lines[0][int(start) - 1:int(end) - 1]
     type_name = next(found[1] for found in map(TYPE_LINE.match, lines) if found)
     return f"{type_name}{trait}::{method}", True
@@ -173,11 +173,21 @@ def count_plain(line, following, crate, known, function):
     elif call:
         function.slices_gone_through += bool(NEXT_OF_SLICE.match(call[1]))
         name = called(crate, call[1])
-        function.calls[name] += name in known
+        function.calls[known.get(name, name)] += name in known
     function.calls += collections.Counter()
 
 
 # ---- Both ----
+
+def by_names(keys):
+    """The functions by their keys, and by crate and name alone, as rustc calls what a crate hands on."""
+    names = {name: name for name in keys}
+    for name in list(names):
+        words = name.split("::")
+        if words[0].startswith("vm_"):
+            names.setdefault(f"{words[0]}::{words[-1]}", name)
+    return names
+
 
 def differences(one, other):
     """What differs between the proved function and rustc's; a `for` over a slice is made good."""
@@ -214,7 +224,7 @@ def main():
         built = {crate: proved_functions(place.format(crate)) for crate in crates}
     except Unusable as unusable:
         sys.exit(f"the proved MIR is not compared: {unusable}")
-    known = {key(name) for functions in built.values() for name in functions if not UNWRITTEN.search(name)}
+    known = by_names(key(name) for functions in built.values() for name in functions if not UNWRITTEN.search(name))
     right = True
     for crate in crates:
         compiled, derived = plain(rustc_mir(workspace, crate, target), workspace, crate, known)
