@@ -13,4 +13,6 @@ pub mod AllHeld
 pub mod SavedDevices
 pub mod Apart
 pub mod RisingIds
+pub mod ManagerFields
+pub mod AsMany
 pub mod SavedManagers

@@ -1,6 +1,6 @@
 -- A manager's value: what is found of it is what it states, what is read is that, and what is written states it.
-use Rattle.std.proofs.Common.{◌≡◌, ℕ, nat_eq, ◌==◌, Bool, true, false, length, List, Some, None, Result, Ok, Err, inl, inr, ◌⊎◌, option_and_then, codes, refl, sym, ap, ◌∙◌, subst}
-use Rattle.std.proofs.lemmas.Bool.{eqb-true, eqb-false, ne_eqb}
+use Rattle.std.proofs.Common.{◌≡◌, ℕ, ◌==◌, List, Some, Result, Ok, Err, inl, inr, ◌⊎◌, option_and_then, codes, refl, sym, ap, ◌∙◌, subst}
+use Rattle.std.proofs.lemmas.Bool.{eqb-true}
 use Rattle.std.proofs.lemmas.Option.{same_Some}
 use Rattle.std.specs.BTreeMap.{BTreeMap}
 use Rattle.std.specs.List.Sorted.{IsStrictlySortedBy}
@@ -9,122 +9,28 @@ use Rattle.std.specs.Ordering.{nat_cmp}
 use Rattle.std.specs.FinMap as map
 use Rattle.std.specs.FinSet as set
 use Rattle.serde_json.specs.Data.{Data, Items}
-use Rattle.serde_json.specs.Events.{items_len}
 use Rattle.serde_json.specs.Find.{get, as_array}
-use Rattle.serde_json.specs.View.{items_view}
-use Rattle.serde_json.specs.declared.value.Value.{Value}
-use Rattle.serde_json.proofs.Views.{items_len-items_view}
-use Rattle.vm_values.specs.Lists.{StatesItems}
-use Rattle.vm_values.proofs.Lists.{in_list, list_stated}
-use Rattle.vm_values.proofs.FieldSteps.{count-true, true-count, in_field, field_is}
+use Rattle.vm_values.proofs.Lists.{list_stated}
+use Rattle.vm_values.proofs.FieldSteps.{count-true, field_is}
 use Rattle.vm_values.proofs.Steps.{and_then_some, map_some, if_some}
 use Rattle.vm_values.specs.Fields.{field_count, is_count}
 use Rattle.vm_values.specs.Numbers.{number_in}
 use Rattle.vm_allocator.specs.Range.{Range}
-use Rattle.vm_allocator.specs.Cases.{Tells}
-use Rattle.vm_allocator.specs.Address.{AddressState}
-use Rattle.vm_allocator.specs.Ids.{IdState, held_count}
+use Rattle.vm_allocator.specs.Ids.{IdState}
 use Rattle.vm_allocator.specs.Allocator.{SpaceInTree, state_of}
 use Rattle.vm_allocator.specs.Values.TreeValues.{StatesAllocator, StatesAddresses}
 use Rattle.vm_allocator.specs.Values.IdValues.{StatesIds}
-use Rattle.vm_allocator.specs.Saving.{Reads}
 use Rattle.vm_allocator.specs.declared.saved.ValueError.{ValueError}
 use Rattle.vm_allocator.specs.declared.saved.ValueError.TheVariants.{NotAState, OutOfMemory}
 use Rattle.vm_allocator.proofs.Callers.{ids_again, ids_stated, addresses_again, addresses_stated}
 use Rattle.vm_devices.specs.Devices.{DeviceState, IsDeviceState, devices_of}
 use Rattle.vm_devices.specs.Saved.{StatesDevice, StatesList, StatesManager, ReadsInParts}
 use Rattle.vm_devices.specs.Laws.{ManagerIsReadAgain}
-use Rattle.vm_devices.specs.SavedChecks.{rising_devices, FindsDevices, manager_found, AreAsMany, AreHeldApart, AreAllHeld, ManagerParts}
+use Rattle.vm_devices.specs.SavedChecks.{rising_devices, AreAsMany, AreHeldApart, AreAllHeld, ManagerParts}
 use Rattle.vm_devices.proofs.AllHeld.{pairs_all, all_paired}
-use Rattle.vm_devices.proofs.SavedDevices.{rising-states, rising-length, states-rising}
+use Rattle.vm_devices.proofs.SavedDevices.{rising-states, rising-length}
 use Rattle.vm_devices.proofs.RisingIds.{rising_sorted}
-
--- ---- the fields of a value that states a manager
--- the value states no manager
-abbrev StatesNone : Data → Type 0
-StatesNone d = ¬ ((state : DeviceState) × StatesManager d state)
-
--- what the parts of a value state of a manager
-record ArePartsOf (d : Data) (state : DeviceState) (listed : List (ℕ × Range)) : Type 0 where
-  ids : Data
-  space : Data
-  slots : Items
-  found : manager_found d ≡ Some (ids, space, slots)
-  ids_stated : StatesIds ids state.ids
-  space_stated : StatesAddresses space state.space
-  slots_stated : StatesItems StatesDevice slots listed
-
-parts_of : (d : Data) (state : DeviceState) (s : StatesManager d state) → ArePartsOf d state s.listed
-parts_of d state s =
-    let ids = in_field (codes "id_allocator") d (λ v. StatesIds v state.ids) s.id_allocator in
-    let space = in_field (codes "mmio_allocator") d (λ v. StatesAddresses v state.space) s.mmio_allocator in
-    let slots = in_field (codes "slots") d (λ v. StatesList v s.listed) s.slots in
-    let list = in_list StatesDevice slots.0 s.listed slots.2 in
-    record {
-      ids = ids.0;
-      space = space.0;
-      slots = list.0;
-      found = rw (true-count 4 (field_count d) s.four_fields, s.version, ids.1, space.1, slots.1, list.1) refl;
-      ids_stated = ids.2;
-      space_stated = space.2;
-      slots_stated = list.2;
-    }
-
--- what is found in the fields of a value
-pub record FieldsOf (d : Data) : Type 0 where
-  pub ids : Data
-  pub space : Data
-  pub slots : Items
-  pub found : manager_found d ≡ Some (ids, space, slots)
-
-abbrev pub fields_found : (d ids space : Data) (slots : Items) → manager_found d ≡ Some (ids, space, slots) → FieldsOf d
-fields_found d ids space slots e = record { ids = ids; space = space; slots = slots; found = e }
-
--- and the ids and the space that two of them state
-pub record ReadOf (d : Data) : Type 0 where
-  pub fields : FieldsOf d
-  pub ids : IdState
-  pub space : AddressState
-  pub ids_stated : StatesIds fields.ids ids
-  pub space_stated : StatesAddresses fields.space space
-
--- what a manager that the value states has in its fields
-module _ {d : Data} (f : FieldsOf d) where
-  module _ (state : DeviceState) (s : StatesManager d state) where
-    same_parts : ◌≡◌ {A = Data × Data × Items} (f.ids, f.space, f.slots) ((parts_of d state s).ids, (parts_of d state s).space, (parts_of d state s).slots)
-    same_parts = same_Some _ _ (sym f.found ∙ (parts_of d state s).found)
-
-    its_ids : StatesIds f.ids state.ids
-    its_ids = subst (λ (p : Data × Data × Items). StatesIds p.0 state.ids) (sym same_parts) (parts_of d state s).ids_stated
-
-    its_space : StatesAddresses f.space state.space
-    its_space = subst (λ (p : Data × Data × Items). StatesAddresses p.1 state.space) (sym same_parts) (parts_of d state s).space_stated
-
-    its_slots : rising_devices 0 f.slots ≡ Some s.listed
-    its_slots = states-rising f.slots s.listed (subst (λ (p : Data × Data × Items). StatesItems StatesDevice p.2 s.listed) (sym same_parts) (parts_of d state s).slots_stated) s.rising
-
-  -- ---- where a part states nothing, the whole states none
-  no_ids : ¬ ((i : IdState) × StatesIds f.ids i) → StatesNone d
-  no_ids none h = none (h.0.ids, its_ids h.0 h.1)
-
-  no_space : ¬ ((a : AddressState) × StatesAddresses f.space a) → StatesNone d
-  no_space none h = none (h.0.space, its_space h.0 h.1)
-
-  no_slots : rising_devices 0 f.slots ≡ None → StatesNone d
-  no_slots none h = let e : None ≡ Some h.1.listed = sym none ∙ its_slots h.0 h.1 in absurd (cc (e))
-
-  -- ---- a refused part refuses the whole
-  pub ids_refused : (e : ValueError) → Reads {X = IdState} (StatesIds f.ids) (Err e) → ReadsInParts (StatesManager d) (Err e)
-  ids_refused NotAState r = no_ids r
-  ids_refused OutOfMemory r = tt
-
-  pub space_refused : (e : ValueError) → Reads {X = AddressState} (StatesAddresses f.space) (Err e) → ReadsInParts (StatesManager d) (Err e)
-  space_refused NotAState r = no_space r
-  space_refused OutOfMemory r = tt
-
-  pub slots_refused : (e : ValueError) → FindsDevices f.slots (Err e) → ReadsInParts (StatesManager d) (Err e)
-  slots_refused NotAState r = no_slots r
-  slots_refused OutOfMemory r = tt
+use Rattle.vm_devices.proofs.ManagerFields.{StatesNone, parts_of, fields_found, ReadOf, its_ids, its_space, its_slots}
 
 -- ---- what is read of both allocators
 module _ {d : Data} (r : ReadOf d) where
@@ -195,36 +101,6 @@ module _ {d : Data} (r : ReadOf d) where
             devices = refl;
             pairs = read_state.pairs;
           }
-
-pub no_fields : (d : Data) → manager_found d ≡ None → StatesNone d
-no_fields d none h =
-    let p = parts_of d h.0 h.1 in
-    let e : None ≡ Some (p.ids, p.space, p.slots) = sym none ∙ p.found in
-    absurd (cc (e))
-
--- ---- as many
--- a list has as many values as its view has items
-list_long : (vs : List Value) → length vs ≡ items_len (items_view vs)
-list_long vs = sym (items_len-items_view vs)
-
-module _ (i : IdState) (a : AddressState) (vs : List Value) where
-  as_many : held_count i ≡ length vs → length a.held ≡ length vs → AreAsMany i a (items_view vs)
-  as_many ids ranges = record { ids_counted = sym (list_long vs) ∙ sym ids; ranges_counted = sym (list_long vs) ∙ sym ranges }
-
-  more_ids : ¬ (held_count i ≡ length vs) → ¬ AreAsMany i a (items_view vs)
-  more_ids more many = more (sym many.ids_counted ∙ sym (list_long vs))
-
-  more_ranges : ¬ (length a.held ≡ length vs) → ¬ AreAsMany i a (items_view vs)
-  more_ranges more many = more (sym many.ranges_counted ∙ sym (list_long vs))
-
-  pub other_ids : (n : ℕ) → n ≡ held_count i → ¬ (n ≡ length vs) → Tells (nat_eq n (length vs)) (AreAsMany i a (items_view vs))
-  other_ids n is other = let f = ne_eqb n (length vs) other in rw f (more_ids (λ e. other (is ∙ e)))
-
-  pub ranges_told : (m n : ℕ) → m ≡ held_count i → m ≡ length vs → n ≡ length a.held → Tells (nat_eq n (length vs)) (AreAsMany i a (items_view vs))
-  ranges_told m n is t counted = told (nat_eq n (length vs)) refl where
-    told : (b : Bool) → nat_eq n (length vs) ≡ b → Tells b (AreAsMany i a (items_view vs))
-    told true e = as_many (sym is ∙ t) (sym counted ∙ eqb-true n (length vs) e)
-    told false e = more_ranges (λ s. eqb-false n (length vs) e (counted ∙ s))
 
 -- ---- one manager
 pub stated_state : (d : Data) (state : DeviceState) → StatesManager d state → IsDeviceState state

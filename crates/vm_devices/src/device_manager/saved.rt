@@ -37,7 +37,7 @@ impl DeviceManager {
     /// states none: the version is another, a part states nothing, ids do not rise, a device has an id
     /// or a range that is not held, or a held one has no device. Its parts are read in turn, so
     /// `OutOfMemory` may come for any value.
-    #[tactic(auto, using(crate::proofs::SavedManagers::no_fields))]
+    #[tactic(auto, using(crate::proofs::ManagerFields::no_fields))]
     pub fn from_value(alloc: Global, value: &Value) -> std::result::Result<Self, ValueError>
         ensures answer { ReadsInParts (StatesManager (view value.now)) result }
         ensures state { IfOk result IsDeviceState }

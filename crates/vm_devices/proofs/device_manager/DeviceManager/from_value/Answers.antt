@@ -3,7 +3,8 @@ use Rattle.serde_json.specs.View.{view, items_view}
 use Rattle.serde_json.specs.declared.value.Value.{Value}
 use Rattle.vm_allocator.specs.Allocator.{state_of}
 use Rattle.vm_devices.specs.SavedChecks.{FindsDevices}
-use Rattle.vm_devices.proofs.SavedManagers.{ReadOf, fields_found, ids_refused, space_refused, slots_refused, not_as_many, not_paired, read_state, manager_read}
+use Rattle.vm_devices.proofs.ManagerFields.{ReadOf, fields_found, ids_refused, space_refused, slots_refused}
+use Rattle.vm_devices.proofs.SavedManagers.{not_as_many, not_paired, read_state, manager_read}
 use Rattle.vm_devices.proofs.device_manager.DeviceManager.from_value.Goals as goal
 
 pub returns-in_err-id_allocator-clause-answer : goal.returns-in_err-id_allocator-clause-answer

@@ -1,5 +1,5 @@
 use Rattle.vm_allocator.specs.Allocator.{state_of}
-use Rattle.vm_devices.proofs.SavedManagers.{other_ids, ranges_told}
+use Rattle.vm_devices.proofs.AsMany.{other_ids, ranges_told}
 use Rattle.vm_devices.proofs.device_manager.saved.pairing.are_as_many.Goals as goal
 
 pub returns-then-held_count-count : goal.returns-then-held_count-count
