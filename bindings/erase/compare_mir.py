@@ -31,7 +31,7 @@ OPTIONS = ["--emit=mir", "-Copt-level=0", "-Coverflow-checks=off", "-Cdebug-asse
 HEAD = re.compile(r"(?:const )?fn (.+?)\((?:_1: |\) -> )")
 IMPL_AT = re.compile(r"(?:.*::)?<impl at ([^:]+):(\d+):(\d+): \d+:(\d+)>::(\w+)$")
 TYPE_LINE = re.compile(r"(?:pub(?:\(\w+\))? )?(?:struct|enum) (\w+)")
-IMPL_LINE = re.compile(r"impl(?:<[^>]*>)? (?:(\w+)(?:<(\w+)>)? for )?(\w+)")
+IMPL_LINE = re.compile(r"impl(?:<[^>]*>)? (?:(\w+)(?:<(\w+)(?:<[^>]*>)?>)? for )?(\w+)")
 OPERATION = re.compile(r"\s+\S+ = (\w+)\(")
 CALL = re.compile(r"\s+\S.*? = (.+)\([^()]*(?:\([^()]*\)[^()]*)*\) -> \[")
 AS_TRAIT = re.compile(r"<&?(?:mut )?([\w:]+).* as (?:[\w:]*::)?(\w+)(?:<.*>)?>::(\w+)$")

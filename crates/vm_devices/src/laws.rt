@@ -1,6 +1,14 @@
 //! Laws: theorems about the definitions that the contracts cite, each the contract of a function that
 //! does nothing.
-ghost use Rattle.vm_devices.specs.Laws.{DevicesAreGood, ReservedAgain, RangeComesBack, DevicesDecide, EveryDeviceCallIsAnswered, EveryDeviceListHasHistory, ManagerIsReadAgain};
+ghost use Rattle.vm_devices.specs.Laws.{
+  DevicesAreGood,
+  ReservedAgain,
+  RangeComesBack,
+  DevicesDecide,
+  EveryDeviceCallIsAnswered,
+  EveryDeviceListHasHistory,
+  ManagerIsReadAgain,
+};
 
 /// In every history no two devices share an id or an address, and each lies in the space, aligned and
 /// as long as it was asked for, or as the value stated it that was read.

@@ -6,8 +6,8 @@
 //! of it (`Settled`) instead of rotating, since the caller still has it open: once it is closed,
 //! `finish` does the rest, and one lemma says what both make of it (`finished`). It stands in line:
 //! never inlined it costs 5 to 10 % of the instructions of every input, since the fields then go as
-//! addresses. A rotation changes nodes in place: to take them apart and put them together again reads
-//! better, and costs 1.5 to 3 %.
+//! addresses; the rotation alone as a cold function makes no difference. A rotation changes nodes in
+//! place: to take them apart and put them together again reads better, and costs 1.5 to 3 %.
 ghost use Rattle.std.specs.Prelude.{◌≡◌, ◌+◌, ◌<◌, ◌≤◌, ◌^◌, ◌++◌, ◌∷◌, max, None, IsSome, ◌↔◌, IsNone};
 ghost use Rattle.vm_allocator.specs.Tree.BlockList.{IsOrderedFrom};
 ghost use Rattle.vm_allocator.specs.Tree.Shape.{Fork, blocks, height_of, single, root_block, IsTree, DifferByAtMost};

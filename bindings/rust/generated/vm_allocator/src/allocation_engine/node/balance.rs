@@ -8,8 +8,8 @@
 //! of it (`Settled`) instead of rotating, since the caller still has it open: once it is closed,
 //! `finish` does the rest, and one lemma says what both make of it (`finished`). It stands in line:
 //! never inlined it costs 5 to 10 % of the instructions of every input, since the fields then go as
-//! addresses. A rotation changes nodes in place: to take them apart and put them together again reads
-//! better, and costs 1.5 to 3 %.
+//! addresses; the rotation alone as a cold function makes no difference. A rotation changes nodes in
+//! place: to take them apart and put them together again reads better, and costs 1.5 to 3 %.
 
 use rattle::Box;
 use super::kept::{Change, kept_of, kept_over, renew_room, room_of};
