@@ -9,7 +9,7 @@ use Rattle.vm_allocator.specs.Counts.Steps.{IsReleaseCount, IsWayBack, EntersToF
 use Rattle.vm_allocator.specs.declared.error.Error.{Error}
 use Rattle.vm_allocator.specs.declared.allocation_engine.node.neighbours.Neighbours.{Neighbours}
 use Rattle.vm_allocator.proofs.Nodes.Spaces.{few_nodes, no_empty_tree}
-use Rattle.vm_allocator.proofs.Counts.WayBounds.{way_to_at_most, way_across_at_most, way_to_remove_at_most, way_around_at_most}
+use Rattle.vm_allocator.proofs.Counts.WayBounds.{way_to_at_most, way_to_remove_at_most, way_around_at_most}
 
 -- ---- giving a range back
 pub way_if_at_most : (k : Option Range) (s : Shape) → way_if k s ≤ height_of s

@@ -1,8 +1,8 @@
 -- What the calls of a range return.
-use Rattle.std.proofs.Common.{◌≡◌, ◌<◌, ◌≤◌, ◌⊎◌, arith, inl, inr, refl, true, ⊎_elim}
+use Rattle.std.proofs.Common.{◌≡◌, ◌<◌, ◌≤◌, ◌⊎◌, arith, inl, inr, refl, ⊎_elim}
 use Rattle.std.proofs.lemmas.Bool.{cases_lt, and_parts, eq-eqb, eqb-true, lt-ltb, le-ltb, ltb-true}
 use Rattle.vm_allocator.specs.Range.{Range, Overlaps, Covers}
-use Rattle.vm_allocator.specs.RangeOrder.{Before, comes_first}
+use Rattle.vm_allocator.specs.RangeOrder.{Before}
 
 -- ---- which of two ranges comes first
 pub before_parts : (a b : Range) → Before a b → (a.start < b.start) ⊎ ((a.start ≡ b.start) × (a.end < b.end))

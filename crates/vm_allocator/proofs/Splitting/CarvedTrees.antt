@@ -7,7 +7,7 @@ use Rattle.vm_allocator.specs.Tree.BlockList.{IsOrderedFrom, IsClearOf, insert_b
 use Rattle.vm_allocator.specs.Tree.Shape.{Shape, Fork, blocks, height_of, single, root_block, IsTree, DifferByAtMost}
 use Rattle.vm_allocator.proofs.Blocks.BlockOrder.{ordered_drop, ordered_below, ordered_above}
 use Rattle.vm_allocator.proofs.Nodes.Rewriting.{known_left, known_right, rewritten_left, rewritten_right}
-use Rattle.vm_allocator.proofs.Blocks.Replacement.{replace_middle, find_middle, replace_in_left, replace_in_right, replace_in_middle}
+use Rattle.vm_allocator.proofs.Blocks.Replacement.{replace_in_left, replace_in_right, replace_in_middle}
 use Rattle.vm_allocator.proofs.Nodes.TreeEdits.{insert_between, clear_between}
 
 -- blocks that go in after others, and before others

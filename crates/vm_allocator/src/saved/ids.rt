@@ -3,7 +3,7 @@ ghost use Rattle.std.specs.Prelude.{◌≡◌, ◌≤◌, ◌<◌, ◌+◌, ◌^
 ghost use Rattle.std.specs.List.Sorted.{IsStrictlySortedBy};
 ghost use Rattle.std.specs.Ordering.{nat_cmp};
 ghost use Rattle.serde_json.specs.View.{view, items_view};
-ghost use Rattle.serde_json.specs.Find.{get, as_array};
+ghost use Rattle.serde_json.specs.Find.{get};
 ghost use Rattle.vm_values.specs.Numbers.{u32_from, u32_in};
 ghost use Rattle.vm_allocator.specs.Ids.{IsIdState, bound_of};
 ghost use Rattle.vm_allocator.specs.Values.IdValues.{StatesNext, StatesList, StatesIds};

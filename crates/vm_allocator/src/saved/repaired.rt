@@ -1,6 +1,6 @@
 //! Address allocators read with repairs, from what the Rust crate vm-allocator 0.1.4 saves, its faults
 //! among it: a check of the whole value without memory, and the holding of its keys.
-ghost use Rattle.std.specs.Prelude.{◌≡◌, ◌+◌, ◌≤◌, IfOk, IfErr, OnOk, is_some, option_map};
+ghost use Rattle.std.specs.Prelude.{◌≡◌, ◌+◌, IfOk, IfErr, OnOk, option_map};
 ghost use Rattle.serde_json.specs.View.{view};
 ghost use Rattle.vm_allocator.specs.Address.{IsAddressState};
 ghost use Rattle.vm_allocator.specs.Allocator.{state_of, made_state};

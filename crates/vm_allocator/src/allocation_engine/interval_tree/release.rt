@@ -1,7 +1,7 @@
 //! How a held range is given back: the free blocks beside it are removed by a descent each, and its
 //! block is widened by one more, free again. To take all three out in one descent would ask for a
 //! proof by cases on which of them stands above which, and for two removals on one way back up.
-ghost use Rattle.std.specs.Prelude.{◌≡◌, ◌+◌, ◌*◌, ◌≤◌, OnErr, IsSome};
+ghost use Rattle.std.specs.Prelude.{◌≡◌, ◌+◌, ◌*◌, ◌≤◌, OnErr};
 ghost use Rattle.vm_allocator.specs.Range.{MAX, IsRange};
 ghost use Rattle.vm_allocator.specs.Answer.{Frees};
 ghost use Rattle.vm_allocator.specs.Engine.Release.{IsAround, joined, rejoined, without_if, start_with, end_with};

@@ -8,7 +8,7 @@
 //! never inlined it costs 5 to 10 % of the instructions of every input, since the fields then go as
 //! addresses; the rotation alone as a cold function makes no difference. A rotation changes nodes in
 //! place: to take them apart and put them together again reads better, and costs 1.5 to 3 %.
-ghost use Rattle.std.specs.Prelude.{◌≡◌, ◌+◌, ◌<◌, ◌≤◌, ◌^◌, ◌++◌, ◌∷◌, max, None, IsSome, ◌↔◌, IsNone};
+ghost use Rattle.std.specs.Prelude.{◌≡◌, ◌+◌, ◌<◌, ◌≤◌, ◌^◌, ◌++◌, ◌∷◌, max, IsSome};
 ghost use Rattle.vm_allocator.specs.Tree.BlockList.{IsOrderedFrom};
 ghost use Rattle.vm_allocator.specs.Tree.Shape.{Fork, blocks, height_of, single, root_block, IsTree, DifferByAtMost};
 ghost use Rattle.vm_allocator.specs.Engine.Changes.{IsLeaf, CanBalance, Balances};

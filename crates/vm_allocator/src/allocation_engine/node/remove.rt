@@ -1,7 +1,7 @@
 //! A block removed from a tree. What removes the node itself is no part of the descent to it
 //! (`delete_root`, never inlined): together they would save twice as many registers at each level, 4
 //! % of the instructions of `exact`.
-ghost use Rattle.std.specs.Prelude.{◌≡◌, ◌+◌, ◌<◌, ◌≤◌, ◌^◌, ◌++◌, [], ◌∷◌, ◌↔◌, max, true, IsNone, IsSome};
+ghost use Rattle.std.specs.Prelude.{◌≡◌, ◌+◌, ◌<◌, ◌≤◌, ◌^◌, ◌++◌, [], ◌∷◌, ◌↔◌, max, IsNone, IsSome};
 ghost use Rattle.vm_allocator.specs.Range.{MAX};
 ghost use Rattle.vm_allocator.specs.Tree.BlockList.{IsOrderedFrom, replace_block};
 ghost use Rattle.vm_allocator.specs.Tree.Shape.{Shape, Tip, Fork, blocks, height_of, root_block, DifferByAtMost};

@@ -1,10 +1,10 @@
 //! The other calls of a search tree: searching, inserting, deleting and marking by a key. The
 //! allocator makes none of them, and the tests that every search tree has to pass make them all.
-ghost use Rattle.std.specs.Prelude.{◌≡◌, ◌+◌, ◌*◌, ◌<◌, ◌≤◌, [], ◌↔◌, None, true, IsNone, IfOk, IfErr, OnOk, OnErr};
+ghost use Rattle.std.specs.Prelude.{◌≡◌, ◌+◌, ◌*◌, ◌<◌, ◌≤◌, [], ◌↔◌, None, IsNone, IfOk, IfErr, OnOk, OnErr};
 ghost use Rattle.std.specs.Option.{option_map};
 ghost use Rattle.vm_allocator.specs.Range.{MAX};
 ghost use Rattle.vm_allocator.specs.Tree.BlockList.{IsClearOf, insert_block, replace_block, find_key};
-ghost use Rattle.vm_allocator.specs.Tree.Shape.{Shape, MAX_HEIGHT, Tip, Fork, blocks, height_of, root_block, IsTree};
+ghost use Rattle.vm_allocator.specs.Tree.Shape.{MAX_HEIGHT, Tip, blocks, height_of, root_block, IsTree};
 ghost use Rattle.vm_allocator.specs.Engine.Changes.{IsLeaf, Grows, Shrinks};
 ghost use Rattle.vm_allocator.specs.Engine.NodeAnswer.{first_met, Inserts, TellsOverlap, RefusesKey, Marks, MarksBlock};
 ghost use Rattle.vm_allocator.specs.Counts.Ways.{way_down, way_to, way_across, way_to_remove};

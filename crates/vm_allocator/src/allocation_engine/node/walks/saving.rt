@@ -1,5 +1,4 @@
 //! The saved form of trees.
-ghost use Rattle.serde_json.specs.View.{view};
 ghost use Rattle.vm_allocator.specs.Tree.Shape.{IsTree};
 ghost use Rattle.vm_allocator.specs.Values.TreeValues.{StatesShape};
 ghost use Rattle.vm_allocator.specs.Saving.{Saves};
