@@ -67,6 +67,11 @@ pub record ReadOf (d : Data) : Type 0 where
   pub ids_stated : StatesIds fields.ids ids
   pub space_stated : StatesAddresses fields.space space
 
+-- the three, as the reader comes by them
+abbrev pub read_of : (d : Data) (fields : FieldsOf d) (ids : IdState) (space : AddressState) → StatesIds fields.ids ids
+    → StatesAddresses fields.space space → ReadOf d
+read_of d fields ids space i s = record { fields = fields; ids = ids; space = space; ids_stated = i; space_stated = s }
+
 -- what a manager that the value states has in its fields
 module _ {d : Data} (f : FieldsOf d) where
   module _ (state : DeviceState) (s : StatesManager d state) where

@@ -1,9 +1,8 @@
 use Rattle.std.proofs.Common.{◌≡◌, List, sym, subst, Err, rules}
 use Rattle.serde_json.specs.View.{view, items_view}
 use Rattle.serde_json.specs.declared.value.Value.{Value}
-use Rattle.vm_allocator.specs.Allocator.{state_of}
 use Rattle.vm_devices.specs.SavedChecks.{FindsDevices}
-use Rattle.vm_devices.proofs.ManagerFields.{ReadOf, fields_found, ids_refused, space_refused, slots_refused}
+use Rattle.vm_devices.proofs.ManagerFields.{read_of, fields_found, ids_refused, space_refused, slots_refused}
 use Rattle.vm_devices.proofs.SavedManagers.{not_as_many, not_paired, read_state, manager_read}
 use Rattle.vm_devices.proofs.device_manager.DeviceManager.from_value.Goals as goal
 
@@ -28,35 +27,20 @@ returns-in_err-slots-clause-answer c =
 
 pub returns-then-not-are_as_many-clause-answer : goal.returns-then-not-are_as_many-clause-answer
 returns-then-not-are_as_many-clause-answer c =
-    let read : ReadOf (view c.args.value.now) = record {
-      fields = fields_found (view c.args.value.now) _ _ _ (sym c.in-Some.ensures);
-      ids = c.in_ok-id_allocator.id_allocator;
-      space = state_of c.in_ok-mmio_allocator.mmio_allocator;
-      ids_stated = c.in_ok-id_allocator.ensures.answer;
-      space_stated = c.in_ok-mmio_allocator.ensures.answer;
-    } in
+    let fields = fields_found (view c.args.value.now) _ _ _ (sym c.in-Some.ensures) in
+    let read = read_of _ fields _ _ c.in_ok-id_allocator.ensures.answer c.in_ok-mmio_allocator.ensures.answer in
     not_as_many read (rw (← c.deref.ensures.value) c.if-not-are_as_many.ensures)
 
 pub invariant_of-result : goal.invariant_of-result
 invariant_of-result c =
-    let read : ReadOf (view c.args.value.now) = record {
-      fields = fields_found (view c.args.value.now) _ _ _ (sym c.in-Some.ensures);
-      ids = c.in_ok-id_allocator.id_allocator;
-      space = state_of c.in_ok-mmio_allocator.mmio_allocator;
-      ids_stated = c.in_ok-id_allocator.ensures.answer;
-      space_stated = c.in_ok-mmio_allocator.ensures.answer;
-    } in
+    let fields = fields_found (view c.args.value.now) _ _ _ (sym c.in-Some.ensures) in
+    let read = read_of _ fields _ _ c.in_ok-id_allocator.ensures.answer c.in_ok-mmio_allocator.ensures.answer in
     read_state read c.in_ok-slots.slots (rw (← c.deref-2.ensures.value) c.in_ok-slots.ensures) (search rules) (rw c.if-not-branch.false at c.in_ok-are_held_apart.ensures)
 
 pub returns-clause-answer : goal.returns-clause-answer
 returns-clause-answer c =
-    let read : ReadOf (view c.args.value.now) = record {
-      fields = fields_found (view c.args.value.now) _ _ _ (sym c.in-Some.ensures);
-      ids = c.in_ok-id_allocator.id_allocator;
-      space = state_of c.in_ok-mmio_allocator.mmio_allocator;
-      ids_stated = c.in_ok-id_allocator.ensures.answer;
-      space_stated = c.in_ok-mmio_allocator.ensures.answer;
-    } in
+    let fields = fields_found (view c.args.value.now) _ _ _ (sym c.in-Some.ensures) in
+    let read = read_of _ fields _ _ c.in_ok-id_allocator.ensures.answer c.in_ok-mmio_allocator.ensures.answer in
     manager_read read c.in_ok-slots.slots (rw (← c.deref-2.ensures.value) c.in_ok-slots.ensures) (search rules) (rw c.if-not-branch.false at c.in_ok-are_held_apart.ensures)
 
 pub returns-clause-state : goal.returns-clause-state
@@ -64,11 +48,6 @@ returns-clause-state c = invariant_of-result c
 
 pub returns-then-not-branch-clause-answer : goal.returns-then-not-branch-clause-answer
 returns-then-not-branch-clause-answer c =
-    let read : ReadOf (view c.args.value.now) = record {
-      fields = fields_found (view c.args.value.now) _ _ _ (sym c.in-Some.ensures);
-      ids = c.in_ok-id_allocator.id_allocator;
-      space = state_of c.in_ok-mmio_allocator.mmio_allocator;
-      ids_stated = c.in_ok-id_allocator.ensures.answer;
-      space_stated = c.in_ok-mmio_allocator.ensures.answer;
-    } in
+    let fields = fields_found (view c.args.value.now) _ _ _ (sym c.in-Some.ensures) in
+    let read = read_of _ fields _ _ c.in_ok-id_allocator.ensures.answer c.in_ok-mmio_allocator.ensures.answer in
     not_paired read c.in_ok-slots.slots (rw (← c.deref-2.ensures.value) c.in_ok-slots.ensures) (rw c.if-not-branch.true at c.in_ok-are_held_apart.ensures)
