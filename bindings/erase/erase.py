@@ -43,6 +43,7 @@ FOLDERS = {
 FOLDERS_OF_TESTS = {
     "std": ("std", {"io"}),
     "std::env": ("rattle::testing", {"Env"}),
+    "std::fmt": ("core::fmt", {"Debug", "Display"}),
     "std::io": ("std::io", {"ErrorKind", "Read", "Write"}),
     "std::process": ("rattle::testing", {"Abort"}),
     "std::str": ("core::str", {"from_utf8"}),
@@ -570,7 +571,7 @@ class File(Tokens):
             return name in ASSOCIATED or self.imported.get(head) in crate.stands_on
         if kind == "a function":
             return name in NAMES or name in crate.functions or self.imported.get(head) in crate.stands_on
-        return name in NAMES | PRELUDE | NUMBERS or name in self.imported
+        return name in NAMES | PRELUDE | NUMBERS or name in self.imported or self.of_tests and name in TRAITS
 
     # ---- Output ----
 
@@ -643,7 +644,12 @@ class Crate:
         return kept
 
     def and_below(self):
-        return [self] + [self.project.crate(name) for name in self.used]
+        """The crate, what it uses, and what that uses: a type can be exported by a crate above its own."""
+        found = [self]
+        for crate in found:
+            below = [self.project.crate(name) for name in sorted(crate.used)]
+            found += [each for each in below if each not in found]
+        return found
 
     def manifest(self):
         feature = "testing" if self.project.with_tests else "program" if self.is_program else None

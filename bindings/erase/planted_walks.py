@@ -19,7 +19,7 @@ import planting
 import scratch_workspace
 
 LIST = os.path.join("tests", "count_rule_bodies")
-SOURCES = os.path.join("crates", "vm_allocator", "src")
+SOURCES = "crates"
 # What the list says of bodies that walk; those that write the count wrongly have other reasons.
 OF_WALKS = re.compile("takes no counter|call into walks|calls into walks|begins a|calls another one|a loop|a closure|more than"
                       "|which this rule does not know|named and not called")

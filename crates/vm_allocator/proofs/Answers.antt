@@ -1,10 +1,3 @@
-pub mod TwoFacts
-pub mod Requests
 pub mod Making
-pub mod Once
-pub mod Outcomes
-pub mod Filling
-pub mod AddressAnswers
 pub mod EveryAddressCall
-pub mod CloneAnswers
 pub mod Amply

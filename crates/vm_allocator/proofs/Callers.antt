@@ -3,33 +3,33 @@ use Rattle.std.proofs.Common.{◌≡◌, ℕ, ◌+◌, ◌-◌, ◌%◌, List, [
 use Rattle.std.specs.List.{Contains}
 use Rattle.serde_json.specs.Data.{Data}
 use Rattle.vm_values.proofs.NumberSets.{inserted_here}
-use Rattle.vm_allocator.specs.Range.{Range, IsIn, Overlaps, address_count, span}
-use Rattle.vm_allocator.specs.Address.{AddressState, AreClear, IsPlace, IsAddressState, holding, releasing, without_range}
-use Rattle.vm_allocator.specs.Alignment.{IsAlignment}
-use Rattle.vm_allocator.specs.Request.{Request, request_for, IsRequest, IsStartAligned}
-use Rattle.vm_allocator.specs.Answer.{IsChosen, IsSplitRefusal, Takes, Allocates, Frees}
-use Rattle.vm_allocator.specs.Ids.{IdState, IsIdState, IsHeld, IsLeastNotHeld, holding_id, ByLeastNotHeld, AllocatesId}
+use Rattle.vm_engine.specs.Range.{Range, IsIn, Overlaps, address_count, span}
+use Rattle.vm_engine.specs.Address.{AddressState, AreClear, IsPlace, IsAddressState, holding, releasing, without_range}
+use Rattle.vm_engine.specs.Alignment.{IsAlignment}
+use Rattle.vm_engine.specs.Request.{Request, request_for, IsRequest, IsStartAligned}
+use Rattle.vm_engine.specs.Answer.{IsChosen, IsSplitRefusal, Takes, Allocates, Frees}
+use Rattle.vm_ids.specs.Ids.{IdState, IsIdState, IsHeld, IsLeastNotHeld, holding_id, ByLeastNotHeld, AllocatesId}
 use Rattle.vm_allocator.specs.Allocator.{SpaceInTree, state_of}
-use Rattle.vm_allocator.specs.Values.TreeValues.{StatesAllocator, StatesAddresses}
-use Rattle.vm_allocator.specs.Values.IdValues.{StatesIds}
-use Rattle.vm_allocator.specs.declared.error.Error.{Error}
-use Rattle.vm_allocator.specs.declared.error.Error.TheVariants.{Overflow, OutOfMemory}
-use Rattle.vm_allocator.specs.declared.constraint.AllocPolicy.{AllocPolicy}
-use Rattle.vm_allocator.specs.declared.constraint.AllocPolicy.TheVariants.{ExactMatch}
-use Rattle.vm_allocator.proofs.Blocks.PlainWords.{IsHeldAddress, IsHeld as IsHeldRange, contains_held, held_contains, all_miss, none_holds, held_address}
-use Rattle.vm_allocator.proofs.Blocks.HeldSets.{held_lies, one_held}
-use Rattle.vm_allocator.proofs.Blocks.HeldChanges.{held_now, held_without, not_held_without}
-use Rattle.vm_allocator.proofs.Answers.AddressAnswers.{releases_held}
-use Rattle.vm_allocator.proofs.Answers.Once.{chosen_place}
-use Rattle.vm_allocator.proofs.Answers.Filling.{allocates_chosen}
-use Rattle.vm_allocator.proofs.Answers.Outcomes.{allocates_outcome}
+use Rattle.vm_allocator.specs.Values.AllocatorValues.{StatesAllocator, StatesAddresses}
+use Rattle.vm_ids.specs.IdValues.{StatesIds}
+use Rattle.vm_engine.specs.declared.error.Error.{Error}
+use Rattle.vm_engine.specs.declared.error.Error.TheVariants.{Overflow, OutOfMemory}
+use Rattle.vm_engine.specs.declared.constraint.AllocPolicy.{AllocPolicy}
+use Rattle.vm_engine.specs.declared.constraint.AllocPolicy.TheVariants.{ExactMatch}
+use Rattle.vm_engine.proofs.Blocks.PlainWords.{IsHeldAddress, IsHeld as IsHeldRange, contains_held, held_contains, all_miss, none_holds, held_address}
+use Rattle.vm_engine.proofs.Blocks.HeldSets.{held_lies, one_held}
+use Rattle.vm_engine.proofs.Blocks.HeldChanges.{held_now, held_without, not_held_without}
+use Rattle.vm_engine.proofs.Answers.AddressAnswers.{releases_held}
+use Rattle.vm_engine.proofs.Answers.Once.{chosen_place}
+use Rattle.vm_engine.proofs.Answers.Filling.{allocates_chosen}
+use Rattle.vm_engine.proofs.Answers.Outcomes.{allocates_outcome}
 use Rattle.vm_allocator.proofs.Reading.ReadAllocators.{one_allocator, stated_state as stated_addresses}
-use Rattle.vm_allocator.proofs.Reading.ReadIdStates.{one_stated, stated_state as stated_ids}
+use Rattle.vm_ids.proofs.ReadIdStates.{one_stated, stated_state as stated_ids}
 -- a list of held ranges or ids, no two the same, has all of them exactly if it has as many as are held
-pub use Rattle.vm_allocator.proofs.Blocks.HeldLists.{ranges_listed}
-pub use Rattle.vm_allocator.proofs.Ids.IdCounts.{ids_listed}
+pub use Rattle.vm_engine.proofs.Blocks.HeldLists.{ranges_listed}
+pub use Rattle.vm_ids.proofs.IdCounts.{ids_listed}
 -- the range that a value states is what is found of it
-pub use Rattle.vm_allocator.proofs.Reading.ReadRanges.{found-states, states-found}
+pub use Rattle.vm_engine.proofs.Reading.ReadRanges.{found-states, states-found}
 
 -- a range that was given: as long as was asked, from a multiple of the alignment on, clear before and held after
 pub record IsGiven (old : AddressState) (request : Request) (r : Range) (new : AddressState) : Type 0 where

@@ -1,15 +1,5 @@
-pub mod Numbers
-pub mod Blocks
-pub mod Nodes
-pub mod Choosing
-pub mod Splitting
-pub mod Releasing
-pub mod Counts
 pub mod Answers
 pub mod Histories
-pub mod Ids
-pub mod Walking
-pub mod Comparing
 pub mod Reading
 pub mod Repairing
 pub mod Callers

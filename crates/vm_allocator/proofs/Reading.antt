@@ -1,14 +1,4 @@
-pub mod ReadRanges
-pub mod ReadStates
-pub mod Fronts
-pub mod ReadNodes
-pub mod ReadTrees
-pub mod OneTree
-pub mod Writing
-pub mod RisingNumbers
-pub mod RisingBounds
-pub mod ReadIds
-pub mod ReadIdStates
 pub mod ReadAgain
 pub mod AllocatorParts
 pub mod ReadAllocators
+pub mod WrittenAllocators

@@ -1,11 +1,11 @@
 -- What an address allocator is seen as, and the state that it stands for.
 use Rattle.std.specs.Prelude.{Result, Ok, Err, refl}
 use Rattle.std.specs.Coded.{Coded, code_by, coded×}
-use Rattle.vm_allocator.specs.Range.{Range, range_code}
-use Rattle.vm_allocator.specs.Address.{AddressState}
-use Rattle.vm_allocator.specs.Tree.Shape.{Shape}
-use Rattle.vm_allocator.specs.Tree.ShapeCode.{shape_code}
-use Rattle.vm_allocator.specs.Tree.SpaceTree.{tree_state}
+use Rattle.vm_engine.specs.Range.{Range, range_code}
+use Rattle.vm_engine.specs.Address.{AddressState}
+use Rattle.vm_engine.specs.Tree.Shape.{Shape}
+use Rattle.vm_engine.specs.Tree.ShapeCode.{shape_code}
+use Rattle.vm_engine.specs.Tree.SpaceTree.{tree_state}
 
 -- a space, and the tree of its blocks
 pub record SpaceInTree : Type 0 where

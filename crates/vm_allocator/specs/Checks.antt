@@ -1,4 +1,2 @@
-pub mod ValueChecks
-pub mod IdChecks
 pub mod RepairChecks
-pub mod ValueParts
+pub mod AllocatorChecks

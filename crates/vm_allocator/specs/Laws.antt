@@ -1,5 +1,5 @@
-pub mod AddressLaws
-pub mod IdLaws
 pub mod HistoryLaws
-pub mod IdHistoryLaws
 pub mod ValueLaws
+pub use Rattle.vm_engine.specs.Laws.AddressLaws
+pub use Rattle.vm_ids.specs.IdLaws
+pub use Rattle.vm_ids.specs.IdHistoryLaws

@@ -1,4 +1,5 @@
-pub mod RangeValues
-pub mod TreeValues
-pub mod IdValues
 pub mod RepairedValues
+pub mod AllocatorValues
+pub use Rattle.vm_engine.specs.Values.RangeValues
+pub use Rattle.vm_engine.specs.Values.TreeValues
+pub use Rattle.vm_ids.specs.IdValues

@@ -1,29 +1,26 @@
 //! Ranges of one space. The space stands beside the tree, which tells it too, so that `base` and
-//! `end` are one read each; that the two agree is the invariant. Its fields, those of the id
-//! allocator and the root of a tree are open inside the crate, for `saved`, and whoever puts them
-//! together proves the invariant. The plain calls are the counted ones without the count. That some
+//! `end` are one read each; that the two agree is the invariant. Its fields are open inside the crate,
+//! for `saved`, and whoever puts them together proves the invariant. The plain calls are the counted ones without the count. That some
 //! calls always succeed follows from their answers, and is a clause of its own all the same: a
 //! monitor relies on it.
 ghost use Rattle.std.specs.Prelude.{ℕ, ◌≡◌, OnErr, IfOk, IsOk};
 ghost use Rattle.std.specs.List.{Contains};
-ghost use Rattle.vm_allocator.specs.Address.{IsAddressState};
-ghost use Rattle.vm_allocator.specs.Request.{request_for};
-ghost use Rattle.vm_allocator.specs.Answer.{Allocates, FillsGap, Frees, Makes};
+ghost use Rattle.vm_engine.specs.Address.{IsAddressState};
+ghost use Rattle.vm_engine.specs.Request.{request_for};
+ghost use Rattle.vm_engine.specs.Answer.{Allocates, FillsGap, Frees, Makes};
 ghost use Rattle.vm_allocator.specs.Allocator.{state_of, made_state};
-ghost use Rattle.vm_allocator.specs.Cloning.{Clones};
-ghost use Rattle.vm_allocator.specs.Tree.Shape.{height_of};
-ghost use Rattle.vm_allocator.specs.Counts.GapSearch.{SearchesGaps, SearchesAligned};
-ghost use Rattle.vm_allocator.specs.Counts.Steps.{EntersToAllocate, EntersToFree, IsAllocationCount, IsReleaseCount, IsBalancedTreeOf, SplitsIfLow};
+ghost use Rattle.vm_engine.specs.Cloning.{Clones};
+ghost use Rattle.vm_engine.specs.Tree.Shape.{height_of};
+ghost use Rattle.vm_engine.specs.Counts.GapSearch.{SearchesGaps, SearchesAligned};
+ghost use Rattle.vm_engine.specs.Counts.Steps.{EntersToAllocate, EntersToFree, IsAllocationCount, IsReleaseCount, IsBalancedTreeOf, SplitsIfLow};
 
-use crate::allocation_engine::IntervalTree;
-use crate::constraint::{AllocPolicy, Constraint};
-use crate::error::{Error, Result};
-use crate::range::RangeInclusive;
 use std::alloc::Global;
 use std::marker::Model;
+use vm_engine::allocation_engine::IntervalTree;
+use vm_engine::{AllocPolicy, Constraint, Error, RangeInclusive, Result};
 
 mod comparing;
-pub(crate) mod held_ranges;
+mod held_ranges;
 
 /// Gives out the ranges of one space of addresses. Two ranges held at one time share no address,
 /// each lies in the space, and none contains `u64::MAX`.
@@ -43,8 +40,8 @@ impl Model for AddressAllocator {
     ghost view = { λ a. record { space = a.address_space; tree = a.interval_tree } };
 
     ghost use Rattle.std.specs.Prelude.{◌≡◌};
-    ghost use Rattle.vm_allocator.specs.Tree.Shape.{blocks};
-    ghost use Rattle.vm_allocator.specs.Tree.SpaceTree.{space_of};
+    ghost use Rattle.vm_engine.specs.Tree.Shape.{blocks};
+    ghost use Rattle.vm_engine.specs.Tree.SpaceTree.{space_of};
 
     ghost invariant = { λ a. space_of (blocks a.interval_tree) ≡ a.address_space };
 }
@@ -52,7 +49,7 @@ impl Model for AddressAllocator {
 impl AddressAllocator {
     /// The allocator of the `size` addresses from `base` on, with none held. In this order: a size
     /// of 0 is `Underflow`, an end past `u64::MAX` is `Overflow`, and `OutOfMemory` comes last.
-    #[tactic(auto, using(crate::proofs::Answers::Making::making, crate::proofs::Nodes::Spaces::spaces))]
+    #[tactic(auto, using(crate::proofs::Answers::Making::making, vm_engine::proofs::Nodes::Spaces::spaces))]
     pub fn new(alloc: Global, base: u64, size: u64) -> Result<Self>
         ensures answer { Makes base size (made_state result) }
         ensures state { IfOk result (λ allocator. IsAddressState (state_of allocator)) }
@@ -61,7 +58,7 @@ impl AddressAllocator {
             return Err(Error::Underflow);
         }
         let end = base.checked_add(size - 1).ok_or(Error::Overflow)?;
-        let address_space = RangeInclusive::between(base, end);
+        let address_space = RangeInclusive::new(base, end)?;
         let interval_tree = IntervalTree::new(alloc, address_space)?;
         Ok(AddressAllocator {
             address_space,
@@ -120,7 +117,7 @@ impl AddressAllocator {
     /// h(v + 1) + 8h + 8, and at most hv where they answer `ResourceNotAvailable`; at alignment 1 no
     /// gap is such. The same holds of w in the place of v, where w gaps have a multiple of the
     /// alignment and no place: these are no more than the multiples in the space.
-    #[tactic(auto, using(crate::proofs::Counts::GapBounds::counted_allocations))]
+    #[tactic(auto, using(vm_engine::proofs::Counts::GapBounds::counted_allocations))]
     pub fn allocate_counted(
         &mut self,
         alloc: Global,
@@ -166,7 +163,7 @@ impl AddressAllocator {
 
     /// Does what `free` does, and answers besides how many nodes of the tree it entered: with the
     /// height h before at most 8h + 8, and always one at least.
-    #[tactic(auto, using(crate::proofs::Nodes::Spaces::spaces, crate::proofs::Answers::Filling::succeeding))]
+    #[tactic(auto, using(vm_engine::proofs::Nodes::Spaces::spaces, vm_engine::proofs::Answers::Filling::succeeding))]
     pub fn free_counted(&mut self, key: &RangeInclusive) -> (Result<()>, u64)
         ensures answer { Frees (state_of self.old) key.now result.0 (state_of self.new) }
         ensures unchanged { OnErr result.0 (self.new ≡ self.old) }
@@ -201,11 +198,11 @@ impl AddressAllocator {
 
     /// For the prover alone: what holds of every state is known from here on.
     #[inline(always)]
-    #[tactic(auto, using(crate::proofs::Blocks::BlockStates::is_state))]
+    #[tactic(auto, using(vm_engine::proofs::Blocks::BlockStates::is_state))]
     fn known(&self)
         ensures { IsAddressState (state_of self.now) }
     {
-        self.interval_tree.known();
+        let _ = self.interval_tree.height();
     }
 
     /// The last address of the space.

@@ -1,8 +1,4 @@
 //! Laws: theorems about the definitions that the calls' contracts cite. Each is the contract of a
 //! function that does nothing.
-mod addresses;
 mod histories;
-mod id_histories;
-mod ids;
-mod orders;
 mod saved;

@@ -3,17 +3,11 @@
 
 mod address_allocator;
 pub mod allocation_engine;
-mod constraint;
-mod error;
-mod id_allocator;
 mod laws;
-mod range;
 mod saved;
 
 pub use address_allocator::AddressAllocator;
-pub use address_allocator::held_ranges::HeldRanges;
-pub use constraint::{AllocPolicy, Constraint, DEFAULT_CONSTRAINT_ALIGN};
-pub use error::{Error, Result};
-pub use id_allocator::IdAllocator;
-pub use range::RangeInclusive;
-pub use saved::ValueError;
+pub use vm_engine::allocation_engine::HeldRanges;
+pub use vm_engine::{AllocPolicy, Constraint, DEFAULT_CONSTRAINT_ALIGN, RangeInclusive};
+pub use vm_engine::{Error, Result, ValueError};
+pub use vm_ids::IdAllocator;

@@ -3,11 +3,11 @@ use Rattle.std.proofs.Common.{◌≡◌, ◌≢◌, ℕ, ◌<◌, ◌⊎◌, Lis
 use Rattle.std.proofs.lemmas.Bool.{cases_eq}
 use Rattle.std.specs.Ordering.{nat_cmp}
 use Rattle.std.specs.FinMap as map
-use Rattle.vm_allocator.specs.Range.{Range, MAX, Overlaps, Covers}
-use Rattle.vm_allocator.specs.Address.{holding}
-use Rattle.vm_allocator.specs.Answer.{Allocates}
-use Rattle.vm_allocator.specs.Ids.{IsOfRange}
-use Rattle.vm_allocator.proofs.Answers.AddressAnswers.{lie_apart}
+use Rattle.vm_engine.specs.Range.{Range, MAX, Overlaps, Covers}
+use Rattle.vm_engine.specs.Address.{holding}
+use Rattle.vm_engine.specs.Answer.{Allocates}
+use Rattle.vm_ids.specs.Ids.{IsOfRange}
+use Rattle.vm_engine.proofs.Answers.AddressAnswers.{lie_apart}
 use Rattle.vm_allocator.proofs.Callers.{given, given_aligned}
 use Rattle.vm_devices.specs.declared.device_slot.DeviceSlot.{DeviceSlot}
 use Rattle.vm_devices.specs.Devices.{DeviceState, IsDevice, IsDeviceState}

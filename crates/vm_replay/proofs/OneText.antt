@@ -1,17 +1,17 @@
 -- Lines have one text and leave one machine, where memory suffices and few ranges are held.
 use Rattle.std.proofs.Common.{◌≡◌, ◌≢◌, ℕ, ◌<◌, ◌↔◌, Bool, true, false, List, [], ◌∷◌, ◌++◌, length, refl, sym, ap, ◌∙◌, subst, Option, Some, None, Result, Err}
 use Rattle.std.specs.Prelude.{IfSome, IsTrue}
-use Rattle.vm_allocator.specs.Address.{AddressState}
-use Rattle.vm_allocator.specs.Answer.{FEWEST_TOO_DEEP}
-use Rattle.vm_allocator.specs.Request.{Request}
-use Rattle.vm_allocator.specs.Ids.{IdState, IsHeld}
-use Rattle.vm_allocator.specs.declared.constraint.AllocPolicy.TheVariants.{FirstMatch, LastMatch, ExactMatch}
-use Rattle.vm_allocator.specs.declared.error.Error.{Error}
-use Rattle.vm_allocator.specs.declared.error.Error.TheVariants.{OutOfMemory}
-use Rattle.vm_allocator.proofs.Answers.TwoFacts.{unless_same}
-use Rattle.vm_allocator.proofs.Answers.Once.{frees_once}
+use Rattle.vm_engine.specs.Address.{AddressState}
+use Rattle.vm_engine.specs.Answer.{FEWEST_TOO_DEEP}
+use Rattle.vm_engine.specs.Request.{Request}
+use Rattle.vm_ids.specs.Ids.{IdState, IsHeld}
+use Rattle.vm_engine.specs.declared.constraint.AllocPolicy.TheVariants.{FirstMatch, LastMatch, ExactMatch}
+use Rattle.vm_engine.specs.declared.error.Error.{Error}
+use Rattle.vm_engine.specs.declared.error.Error.TheVariants.{OutOfMemory}
+use Rattle.vm_engine.proofs.Answers.TwoFacts.{unless_same}
+use Rattle.vm_engine.proofs.Answers.Once.{frees_once}
 use Rattle.vm_allocator.proofs.Answers.Amply.{placed_once, made_once}
-use Rattle.vm_allocator.proofs.Ids.IdAnswers.{making_is_determined, allocating_is_determined, freeing_is_determined}
+use Rattle.vm_ids.proofs.IdAnswers.{making_is_determined, allocating_is_determined, freeing_is_determined}
 use Rattle.vm_replay.specs.Commands.{command_of}
 use Rattle.vm_replay.specs.Lines.{newline}
 use Rattle.vm_devices.specs.Devices.{DeviceState}

@@ -15,9 +15,9 @@ use crate::run::{RunError, run};
 use crate::status;
 use device_rows::{MANAGER_BESIDE_OTHERS, PROGRAM_DEVICES, REFUSALS_OF_DEVICES, WORDS_ON_DEVICES};
 use rows::{
-    ALL_POLICIES, FIRST_PROGRAM, FULL_SPACE, HELD_IDS, LINE_GRAMMAR, NUMBERS_OF_32_BITS,
-    PLACES_OF_A_START, PROGRAM_IDS, PROGRAM_REFUSALS, REFUSALS_IN_ORDER, REFUSALS_OF_IDS, Rows,
-    SPACE_BESIDE_IDS, WORDS_AND_NUMBERS,
+    ALL_POLICIES, FIRST_PROGRAM, FULL_SPACE, HELD_IDS, LINE_GRAMMAR, LINES_AGAIN,
+    NUMBERS_OF_32_BITS, PLACES_OF_A_START, PROGRAM_IDS, PROGRAM_REFUSALS, REFUSALS_IN_ORDER,
+    REFUSALS_OF_IDS, Rows, SPACE_BESIDE_IDS, WORDS_AND_NUMBERS,
 };
 use std::alloc::Global;
 use std::io;
@@ -504,77 +504,23 @@ fn answer(rt: &impl Abort, alloc: Global, machine: &mut Machine, line: &str) -> 
     output
 }
 
+/// Ends the test where the answer to a line is another.
+fn expect_shown(rt: &impl Abort, got: &Buffer, want: &str, line: &str) {
+    assert_eq!(rt; shown(got.as_slice()), want, "line '{line}'");
+}
+
 /// A line for which memory ran out changes nothing, and is answered well when it comes again. Beside
 /// each line and its answer stands a line that tells whether anything changed, with its answer before.
 #[test]
 fn a_line_comes_again_when_memory_ran_out(rt: HostRuntime) {
     let mut machine = Machine::new();
-    for (line, want, look, before) in [
-        ("space 16 4", "done", "first 1 1", "error no-space"),
-        (
-            "first 1 1",
-            "range 16 16",
-            "free 16 16",
-            "error not-available",
-        ),
-        (
-            "first 3 1",
-            "range 17 19",
-            "free 17 19",
-            "error not-available",
-        ),
-        ("free 16 16", "done", "exact 1 1 16", "error state 16 16"),
-        ("space 32 4", "done", "exact 3 1 17", "error state 17 19"),
-        ("ids 5 9", "done", "id", "error no-ids"),
-        ("id", "id 5", "has 5", "no"),
-        ("id", "id 6", "has 6", "no"),
-        ("unid 5", "id 5", "has 5", "yes"),
-        ("has 5", "no", "has 6", "yes"),
-        ("id", "id 5", "has 5", "no"),
-        ("id", "id 7", "has 7", "no"),
-        ("manager 0 1 16 4", "done", "device 1 1", "error no-manager"),
-        (
-            "device 1 1",
-            "device 0 16 16",
-            "undevice 0",
-            "error never-allocated 0",
-        ),
-        (
-            "device 2 1",
-            "device 1 17 18",
-            "undevice 1",
-            "error never-allocated 1",
-        ),
-        ("undevice 0", "done", "device 1 1", "error not-available"),
-        (
-            "device 1 1",
-            "device 0 16 16",
-            "undevice 0",
-            "error never-allocated 0",
-        ),
-        (
-            "manager 0 0 32 4",
-            "done",
-            "device 1 1",
-            "error not-available",
-        ),
-        (
-            "device 4 1",
-            "device 0 32 35",
-            "undevice 0",
-            "error never-allocated 0",
-        ),
-    ] {
+    for (line, want, look, before) in LINES_AGAIN {
         let mut got = answer(&rt, rt.alloc(), &mut machine, line);
         if shown(got.as_slice()) == "error memory" {
             let now = answer(&rt, rt.alloc(), &mut machine, look);
-            assert_eq!(rt;
-                shown(now.as_slice()),
-                before,
-                "line '{look}' after '{line}' was refused"
-            );
+            expect_shown(&rt, &now, before, look);
             got = answer(&rt, rt.alloc(), &mut machine, line);
         }
-        assert_eq!(rt; shown(got.as_slice()), want, "line '{line}'");
+        expect_shown(&rt, &got, want, line);
     }
 }

@@ -1,12 +1,11 @@
 //! Address allocators.
-use crate::fixtures::{block_count, cloned, made};
+use crate::fixtures::{block_count, cloned, expect_same, expect_so, made};
 use AllocPolicy::{ExactMatch, FirstMatch, LastMatch};
 use Call::{Exact, First, Free, Last, Space};
 use Form::{Counted, Plain};
 use Want::{Held, NoAlignment, NoSize, NotAvailable, Overflow, Range, Unaligned, Underflow};
 use std::alloc::Global;
 use std::process::Abort;
-use std::test::Fail;
 use vm_allocator::allocation_engine::NodeState::Allocated;
 use vm_allocator::{AddressAllocator, AllocPolicy, Error, RangeInclusive, Result};
 
@@ -48,7 +47,7 @@ enum Call {
 type Answer = Result<(u64, u64)>;
 
 /// The answer that a call has to have.
-#[derive(Clone, Copy, Debug)]
+#[derive(Clone, Copy)]
 enum Want {
     /// The first and the last address of what is made, given out or given back.
     Range(u64, u64),
@@ -81,7 +80,7 @@ impl Want {
 }
 
 /// Which of two calls that do the same.
-#[derive(Clone, Copy, Debug)]
+#[derive(Clone, Copy)]
 enum Form {
     Plain,
     Counted,
@@ -90,170 +89,187 @@ enum Form {
 impl Call {
     /// Does the call.
     fn ask(self, space: &mut AddressAllocator, alloc: Global, form: Form) -> Answer {
+        self.count(space, alloc, form).0
+    }
+
+    /// Does the call, and says how many nodes it entered, where that is counted.
+    fn count(self, space: &mut AddressAllocator, alloc: Global, form: Form) -> (Answer, u64) {
         let (size, alignment, policy) = match self {
-            Space(base, size) => {
-                *space = AddressAllocator::new(alloc, base, size)?;
-                return Ok((space.base(), space.end()));
-            }
-            Free(start, end) => {
-                let range = RangeInclusive::new(start, end)?;
-                match form {
-                    Plain => space.free(&range)?,
-                    Counted => space.free_counted(&range).0?,
-                }
-                return Ok((start, end));
-            }
+            Space(base, size) => return (replace(space, alloc, base, size), 0),
+            Free(start, end) => return give_back(space, start, end, form),
             First(size, alignment) => (size, alignment, FirstMatch),
             Last(size, alignment) => (size, alignment, LastMatch),
             Exact(size, alignment, start) => (size, alignment, ExactMatch(start)),
         };
-        let range = match form {
-            Plain => space.allocate(alloc, size, alignment, policy)?,
-            Counted => space.allocate_counted(alloc, size, alignment, policy).0?,
+        let (answer, count) = match form {
+            Plain => (space.allocate(alloc, size, alignment, policy), 0),
+            Counted => space.allocate_counted(alloc, size, alignment, policy),
         };
-        Ok((range.start(), range.end()))
+        match answer {
+            Ok(range) => (Ok((range.start(), range.end())), count),
+            Err(error) => (Err(error), count),
+        }
+    }
+}
+
+/// Puts another allocator in the place of one.
+fn replace(space: &mut AddressAllocator, alloc: Global, base: u64, size: u64) -> Answer {
+    *space = AddressAllocator::new(alloc, base, size)?;
+    Ok((space.base(), space.end()))
+}
+
+/// Gives a range back, and says how many nodes that entered, where they are counted.
+fn give_back(space: &mut AddressAllocator, start: u64, end: u64, form: Form) -> (Answer, u64) {
+    let range = match RangeInclusive::new(start, end) {
+        Ok(range) => range,
+        Err(error) => return (Err(error), 0),
+    };
+    let (answer, count) = match form {
+        Plain => (space.free(&range), 0),
+        Counted => space.free_counted(&range),
+    };
+    match answer {
+        Ok(()) => (Ok((start, end)), count),
+        Err(error) => (Err(error), count),
     }
 }
 
 /// The answer to a call. Where memory ran out nothing has changed.
 fn ask(rt: &(impl Abort + AllocGlobal), space: &mut AddressAllocator, call: Call) -> Answer {
     let before = cloned(rt, space);
-    let answer = call.ask(space, rt.alloc(), Plain);
-    if answer != Err(Error::OutOfMemory) {
-        return answer;
+    match call.ask(space, rt.alloc(), Plain) {
+        Err(Error::OutOfMemory) => {
+            expect_so(rt, *space == before, &"a refusal changes nothing");
+            call.ask(space, rt.alloc(), Plain)
+        }
+        answer => answer,
     }
-    assert!(rt; *space == before, "{call:?}");
-    call.ask(space, rt.alloc(), Plain)
+}
+
+/// The answer to a call, which is made again where memory ran out.
+fn ask_again(rt: &impl AllocGlobal, space: &mut AddressAllocator, call: Call) -> Answer {
+    match call.ask(space, rt.alloc(), Plain) {
+        Err(Error::OutOfMemory) => call.ask(space, rt.alloc(), Plain),
+        answer => answer,
+    }
 }
 
 /// Does the calls in turn, each with the answer that it has to have.
 fn replay(rt: &(impl Abort + AllocGlobal), space: &mut AddressAllocator, rows: &[(Call, Want)]) {
     for (call, want) in rows {
-        assert_eq!(rt; ask(rt, space, *call), want.answer(), "{call:?}");
+        expect_same(rt, &ask(rt, space, *call), &want.answer(), call);
     }
+}
+
+/// Does the calls in turn in a fresh allocator of a space.
+fn replay_in(rt: &(impl Abort + AllocGlobal), base: u64, size: u64, rows: &[(Call, Want)]) {
+    replay(rt, &mut made(rt, base, size), rows);
 }
 
 #[test]
 fn test_new_fails_overflow(rt: HostRuntime) {
-    assert_eq!(rt;
-        AddressAllocator::new(rt.alloc(), MAX, 0x100).err(),
-        Some(Error::Overflow)
-    );
+    replay_in(&rt, 0, 1, &[(Space(MAX, 0x100), Overflow)]);
 }
 
 #[test]
 fn test_new_fails_size_zero(rt: HostRuntime) {
-    assert_eq!(rt;
-        AddressAllocator::new(rt.alloc(), 0x1000, 0).err(),
-        Some(Error::Underflow)
-    );
+    replay_in(&rt, 0, 1, &[(Space(0x1000, 0), Underflow)]);
 }
 
 #[test]
 fn test_allocate_fails_alignment_zero(rt: HostRuntime) {
-    let mut space = made(&rt, 0x1000, 0x10000);
-    let rows = [(First(0x100, 0), NoAlignment)];
-    replay(&rt, &mut space, &rows);
+    let rows = &[(First(0x100, 0), NoAlignment)];
+    replay_in(&rt, 0x1000, 0x10000, rows);
 }
 
 #[test]
 fn test_allocate_fails_alignment_non_power_of_two(rt: HostRuntime) {
-    let mut space = made(&rt, 0x1000, 0x10000);
-    let rows = [(First(0x100, 200), NoAlignment)];
-    replay(&rt, &mut space, &rows);
+    let rows = &[(First(0x100, 200), NoAlignment)];
+    replay_in(&rt, 0x1000, 0x10000, rows);
 }
 
 #[test]
 fn test_allocate_with_alignment_first_ok(rt: HostRuntime) {
-    let mut space = made(&rt, 0x1000, 0x1000);
-    let rows = [
+    let rows = &[
         (First(0x110, 0x100), Range(0x1000, 0x110F)),
         (First(0x100, 0x100), Range(0x1200, 0x12FF)),
         (First(0x10, 0x100), Range(0x1300, 0x130F)),
     ];
-    replay(&rt, &mut space, &rows);
+    replay_in(&rt, 0x1000, 0x1000, rows);
 }
 
 #[test]
 fn test_allocate_with_alignment_last_ok(rt: HostRuntime) {
-    let mut space = made(&rt, 0x1000, 0x10000);
-    let rows = [
+    let rows = &[
         (Last(0x110, 0x100), Range(0x10E00, 0x10F0F)),
         (Last(0x100, 0x100), Range(0x10D00, 0x10DFF)),
         (Last(0x10, 0x100), Range(0x10C00, 0x10C0F)),
     ];
-    replay(&rt, &mut space, &rows);
+    replay_in(&rt, 0x1000, 0x10000, rows);
 }
 
 #[test]
 fn test_allow_range_size_one_left(rt: HostRuntime) {
-    let mut space = made(&rt, 1, 1000);
-    let rows = [(First(10, 2), Range(2, 11)), (First(1, 1), Range(1, 1))];
-    replay(&rt, &mut space, &rows);
+    let rows = &[(First(10, 2), Range(2, 11)), (First(1, 1), Range(1, 1))];
+    replay_in(&rt, 1, 1000, rows);
 }
 
 #[test]
 fn test_tree_allocate_address_free_and_realloc(rt: HostRuntime) {
-    let mut space = made(&rt, 0x1000, 0x1000);
-    let rows = [
+    let rows = &[
         (First(0x800, 0x100), Range(0x1000, 0x17FF)),
         (Free(0x1000, 0x17FF), Range(0x1000, 0x17FF)),
         (First(0x800, 0x100), Range(0x1000, 0x17FF)),
     ];
-    replay(&rt, &mut space, &rows);
+    replay_in(&rt, 0x1000, 0x1000, rows);
 }
 
 #[test]
 fn test_allocate_fails_not_enough_space(rt: HostRuntime) {
-    let mut space = made(&rt, 0x1000, 0x1000);
-    let rows = [
+    let rows = &[
         (Last(0x800, 0x100), Range(0x1800, 0x1FFF)),
         (First(0x900, 0x100), NotAvailable),
         (First(0x400, 0x100), Range(0x1000, 0x13FF)),
     ];
-    replay(&rt, &mut space, &rows);
+    replay_in(&rt, 0x1000, 0x1000, rows);
 }
 
 #[test]
 fn test_allocate_address_not_enough_space(rt: HostRuntime) {
-    let mut space = made(&rt, 0x1000, 0x1000);
-    let rows = [
+    let rows = &[
         (First(0x800, 0x100), Range(0x1000, 0x17FF)),
         (Exact(0x200, 0x100, 0x1A00), Range(0x1A00, 0x1BFF)),
         (Exact(0x800, 0x100, 0x1800), NotAvailable),
         (Exact(0x100, 0x100, 0x1800), Range(0x1800, 0x18FF)),
     ];
-    replay(&rt, &mut space, &rows);
+    replay_in(&rt, 0x1000, 0x1000, rows);
 }
 
 #[test]
 fn test_allocate_address_fail_free_and_realloc(rt: HostRuntime) {
-    let mut space = made(&rt, 0, 0x1000);
-    let rows = [
+    let rows = &[
         (First(0x2000, 0x100), NotAvailable),
         (Free(0x1200, 0x3200), NotAvailable),
         (Exact(0x4FE, 0x100, 0x500), Range(0x500, 0x9FD)),
         (Free(0x500, 0x9FD), Range(0x500, 0x9FD)),
     ];
-    replay(&rt, &mut space, &rows);
+    replay_in(&rt, 0, 0x1000, rows);
 }
 
 #[test]
 fn test_regression_exact_match_length_check(rt: HostRuntime) {
-    let mut space = made(&rt, 0, 0x2000);
-    let rows = [
+    let rows = &[
         (Exact(0x1000, 0x1000, 0x1000), Range(0x1000, 0x1FFF)),
         (First(0, 0x1000), NoSize),
         (Exact(0x1000, 0x1000, 3), Unaligned),
         (Exact(0x1000, 0x1000, 0), Range(0, 0xFFF)),
     ];
-    replay(&rt, &mut space, &rows);
+    replay_in(&rt, 0, 0x2000, rows);
 }
 
 #[test]
 fn answers_of_calls(rt: HostRuntime) {
-    let mut space = made(&rt, 0, 6);
-    let rows = [
+    let rows = &[
         // Each address on its own.
         (Exact(1, 1, 3), Range(3, 3)),
         (Exact(1, 1, 0), Range(0, 0)),
@@ -278,13 +294,12 @@ fn answers_of_calls(rt: HostRuntime) {
         (Free(0x10, 0x13), Range(0x10, 0x13)),
         (Free(0x10, 0x13), NotAvailable),
     ];
-    replay(&rt, &mut space, &rows);
+    replay_in(&rt, 0, 6, rows);
 }
 
 #[test]
 fn answers_for_one_start(rt: HostRuntime) {
-    let mut space = made(&rt, 0x1000, 0x1000);
-    let rows = [
+    let rows = &[
         (Exact(0x100, 0x100, 0x1000), Range(0x1000, 0x10FF)),
         (Exact(0x100, 0x100, 0x1000), Held(0x1000, 0x10FF)),
         (Exact(0x80, 0x80, 0x1080), NotAvailable),
@@ -298,29 +313,61 @@ fn answers_for_one_start(rt: HostRuntime) {
         (First(0x800, 0x100), Range(0x1000, 0x17FF)),
         (Exact(0x100, 0x100, 0x1000), NotAvailable),
     ];
-    replay(&rt, &mut space, &rows);
+    replay_in(&rt, 0x1000, 0x1000, rows);
 }
 
 #[test]
 fn a_tree_of_one_block(rt: HostRuntime) {
     let mut space = made(&rt, 0, 0x1000);
-    assert_eq!(rt; space.height(), 1);
-    let (answer, count) = space.allocate_counted(rt.alloc(), 0, 1, FirstMatch);
-    assert_eq!(rt; (answer, count), (Err(Error::InvalidSize(0)), 0));
+    expect_so(&rt, space.height() == 1, &"a height of 1");
+    let found = First(0, 1).count(&mut space, rt.alloc(), Counted);
+    expect_counted(&rt, First(0, 1), &found, NoSize, (0, 0));
 }
+
+/// Each address of [0, 5], given back in three orders.
+const ORDERS: [[(Call, Want); 6]; 3] = [
+    [
+        (Free(0, 0), Range(0, 0)),
+        (Free(1, 1), Range(1, 1)),
+        (Free(2, 2), Range(2, 2)),
+        (Free(3, 3), Range(3, 3)),
+        (Free(4, 4), Range(4, 4)),
+        (Free(5, 5), Range(5, 5)),
+    ],
+    [
+        (Free(5, 5), Range(5, 5)),
+        (Free(4, 4), Range(4, 4)),
+        (Free(3, 3), Range(3, 3)),
+        (Free(2, 2), Range(2, 2)),
+        (Free(1, 1), Range(1, 1)),
+        (Free(0, 0), Range(0, 0)),
+    ],
+    [
+        (Free(1, 1), Range(1, 1)),
+        (Free(3, 3), Range(3, 3)),
+        (Free(5, 5), Range(5, 5)),
+        (Free(0, 0), Range(0, 0)),
+        (Free(2, 2), Range(2, 2)),
+        (Free(4, 4), Range(4, 4)),
+    ],
+];
 
 #[test]
 fn joins_what_is_given_back(rt: HostRuntime) {
-    for order in [[0, 1, 2, 3, 4, 5], [5, 4, 3, 2, 1, 0], [1, 3, 5, 0, 2, 4]] {
+    let taken = &[
+        (First(1, 1), Range(0, 0)),
+        (First(1, 1), Range(1, 1)),
+        (First(1, 1), Range(2, 2)),
+        (First(1, 1), Range(3, 3)),
+        (First(1, 1), Range(4, 4)),
+        (First(1, 1), Range(5, 5)),
+        (First(1, 1), NotAvailable),
+    ];
+    for order in &ORDERS {
         let mut space = made(&rt, 0, 6);
-        for i in 0..6u64 {
-            replay(&rt, &mut space, &[(First(1, 1), Range(i, i))]);
-        }
-        replay(&rt, &mut space, &[(First(1, 1), NotAvailable)]);
-        for i in order {
-            replay(&rt, &mut space, &[(Free(i, i), Range(i, i))]);
-        }
-        assert!(rt; space == made(&rt, 0, 6), "{order:?}");
+        replay(&rt, &mut space, taken);
+        replay(&rt, &mut space, order);
+        expect_so(&rt, space == made(&rt, 0, 6), &"all is joined again");
     }
 }
 
@@ -346,72 +393,85 @@ fn most_on_ways(height: u64) -> u64 {
     height.saturating_mul(8).saturating_add(8)
 }
 
-/// The least single address, taken where `held` ranges are held, with its bounds on the nodes entered.
-fn take_first_counted(
-    rt: &(impl Abort + AllocGlobal),
-    space: &mut AddressAllocator,
-    held: u64,
-) -> Result<u64> {
-    let height = space.height();
-    let (mut answer, mut count) = space.allocate_counted(rt.alloc(), 1, 1, FirstMatch);
-    if answer == Err(Error::OutOfMemory) {
-        (answer, count) = space.allocate_counted(rt.alloc(), 1, 1, FirstMatch);
+/// What a call answers, and how many nodes it enters. Where memory ran out it is made again.
+fn count_again(rt: &impl AllocGlobal, space: &mut AddressAllocator, call: Call) -> (Answer, u64) {
+    match call.count(space, rt.alloc(), Counted) {
+        (Err(Error::OutOfMemory), _) => call.count(space, rt.alloc(), Counted),
+        found => found,
     }
-    let blocks = held.saturating_mul(2).saturating_add(1);
-    assert!(rt; count >= 1);
+}
+
+/// A call has this answer, and entered from `bounds.0` to `bounds.1` nodes.
+fn expect_counted(
+    rt: &impl Abort,
+    call: Call,
+    found: &(Answer, u64),
+    want: Want,
+    bounds: (u64, u64),
+) {
+    expect_same(rt, &found.0, &want.answer(), &call);
+    let count = found.1;
     assert!(rt;
-        count <= blocks.saturating_add(most_on_ways(height)),
-        "{held} held, {count} entered"
+        bounds.0 <= count && count <= bounds.1,
+        "{call:?}: {count} entered"
     );
-    Ok(answer?.start())
+}
+
+/// The least single address, taken where `held` ranges are held, and they are those below it.
+fn take_first_counted(rt: &(impl Abort + AllocGlobal), space: &mut AddressAllocator, held: u64) {
+    let blocks = held.saturating_mul(2).saturating_add(1);
+    let most = blocks.saturating_add(most_on_ways(space.height()));
+    let found = count_again(rt, space, First(1, 1));
+    expect_counted(rt, First(1, 1), &found, Range(held, held), (1, most));
+    expect_so(
+        rt,
+        is_low(space, held.saturating_add(1)),
+        &("low with", held),
+    );
+}
+
+/// A single address given back, after which `held` ranges are held.
+fn give_back_counted(rt: &impl Abort, space: &mut AddressAllocator, address: u64, held: u64) {
+    let most = most_on_ways(space.height());
+    let found = give_back(space, address, address, Counted);
+    let call = Free(address, address);
+    expect_counted(rt, call, &found, Range(address, address), (1, most));
+    expect_so(rt, is_low(space, held), &("low without", address));
 }
 
 #[test]
-fn balanced_and_counted(rt: HostRuntime) -> std::result::Result<(), Fail> {
+fn balanced_and_counted(rt: HostRuntime) {
     let mut space = made(&rt, 0, 2047);
     for i in 0..2047 {
-        assert_eq!(rt; take_first_counted(&rt, &mut space, i), Ok(i));
-        assert!(rt; is_low(&space, i + 1), "after {i} is taken");
+        take_first_counted(&rt, &mut space, i);
     }
-    let mut held: u64 = 2047;
     for i in 0..1023 {
-        let address = 2 * i + 1;
-        let height = space.height();
-        let (answer, count) = space.free_counted(&RangeInclusive::new(address, address)?);
-        held = held.saturating_sub(1);
-        assert_eq!(rt; answer, Ok(()));
-        assert!(rt; count >= 1);
-        assert!(rt;
-            count <= most_on_ways(height),
-            "{count} entered for {address}"
-        );
-        assert!(rt; is_low(&space, held), "after {address} is given back");
+        give_back_counted(&rt, &mut space, 2 * i + 1, 2046 - i);
     }
-    assert_eq!(rt; held, 1024);
-    assert!(rt; space.height() <= 15);
-    assert_eq!(rt; block_count(&rt, &space), 2047);
+    expect_so(&rt, space.height() <= 15, &"a height of 15 at most");
+    expect_same(&rt, &block_count(&rt, &space), &2047, &"blocks");
     every_second_is_clear(&rt, &mut space);
-    Ok(())
 }
 
 /// In the space from 0 to 2046 the odd addresses are clear: two in a row are not looked for anywhere,
 /// and one is found without a look at the blocks before it.
 fn every_second_is_clear(rt: &(impl Abort + AllocGlobal), space: &mut AddressAllocator) {
     let most = 9u64.saturating_mul(space.height()).saturating_add(8);
-    for (alignment, policy) in [(1, FirstMatch), (1, LastMatch), (2, FirstMatch)] {
-        let (answer, count) = space.allocate_counted(rt.alloc(), 2, alignment, policy);
-        assert_eq!(rt; answer, Err(Error::ResourceNotAvailable), "{policy:?}");
-        assert_eq!(rt; count, 0, "{policy:?}");
-    }
-    for (policy, address) in [(FirstMatch, 1), (LastMatch, 2045)] {
-        let (answer, count) = space.allocate_counted(rt.alloc(), 1, 1, policy);
-        assert_eq!(rt; answer, RangeInclusive::new(address, address), "{policy:?}");
-        assert!(rt; count <= most, "{count} entered by {policy:?}");
-    }
     let rows = [
+        (First(2, 1), NotAvailable, 0),
+        (Last(2, 1), NotAvailable, 0),
+        (First(2, 2), NotAvailable, 0),
+        (First(1, 1), Range(1, 1), most),
+        (Last(1, 1), Range(2045, 2045), most),
+    ];
+    for (call, want, most) in rows {
+        let found = call.count(space, rt.alloc(), Counted);
+        expect_counted(rt, call, &found, want, (0, most));
+    }
+    let rows = &[
         (Free(1, 1), Range(1, 1)),
         (Free(2, 2), Range(2, 2)),
         (First(3, 1), Range(1, 3)),
     ];
-    replay(rt, space, &rows);
+    replay(rt, space, rows);
 }

@@ -1,4 +1,5 @@
 //! Rounding to multiples.
+use crate::fixtures::expect_same;
 use vm_allocator::Error;
 use vm_allocator::allocation_engine::{align_down, align_up};
 
@@ -17,11 +18,8 @@ fn test_range_align_up(rt: HostRuntime) {
         (MAX, 3, Err(Error::Overflow)),
         (MAX, 0, Err(Error::InvalidAlignment)),
     ] {
-        assert_eq!(rt;
-            align_up(address, alignment),
-            want,
-            "{address} up by {alignment}"
-        );
+        let answer = align_up(address, alignment);
+        expect_same(&rt, &answer, &want, &(address, alignment));
     }
-    assert_eq!(rt; align_down(7, 4), Ok(4));
+    expect_same(&rt, &align_down(7, 4), &Ok(4), &(7, 4));
 }

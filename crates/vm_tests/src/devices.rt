@@ -1,5 +1,6 @@
 //! Managers of devices.
-use Call::{Exact, First, Last, Release};
+use crate::fixtures::{expect_same, expect_so};
+use Call::{Exact, First, Last, LookUp, Release};
 use Want::{Device, Gone, Held, NeverAllocated, NoSize, NotAvailable, Overflow, Unaligned};
 use serde_json::Value;
 use std::alloc::Global;
@@ -23,14 +24,16 @@ enum Call {
     Exact(u64, u64, u64),
     /// The id of a device that is given back.
     Release(u32),
+    /// The id of a device that is looked up.
+    LookUp(u32),
 }
 
 /// The answer that a call has to have.
-#[derive(Clone, Copy, Debug)]
+#[derive(Clone, Copy)]
 enum Want {
-    /// The id of a new device, and the first and the last address of its range.
+    /// The id of a device, new or looked up, and the first and the last address of its range.
     Device(u32, u64, u64),
-    /// A device was given back.
+    /// A device was given back, or there is none with that id.
     Gone,
     NotAvailable,
     Overflow,
@@ -41,7 +44,7 @@ enum Want {
     Held(u64, u64),
 }
 
-/// The id of a new device with the ends of its range, or none where one was given back.
+/// The id of a device with the ends of its range, or none where there is none any more.
 type Answer = Result<Option<(u32, u64, u64)>>;
 
 impl Want {
@@ -70,6 +73,7 @@ impl Call {
                 devices.release(id)?;
                 return Ok(None);
             }
+            LookUp(id) => return Ok(look_up(devices, id)),
             First(size, align) => (size, align, AllocPolicy::FirstMatch),
             Last(size, align) => (size, align, AllocPolicy::LastMatch),
             Exact(size, align, start) => (size, align, AllocPolicy::ExactMatch(start)),
@@ -91,6 +95,12 @@ fn made(rt: &(impl Abort + AllocGlobal), ids: (u32, u32), base: u64, size: u64) 
     }
 }
 
+/// The device with an id, and the ends of its range.
+fn look_up(devices: &DeviceManager, id: u32) -> Option<(u32, u64, u64)> {
+    let range = devices.slot(id)?;
+    Some((id, range.start(), range.end()))
+}
+
 /// What a manager holds: its saved value, and the allocator of its addresses, whose tree may have
 /// another shape after a refusal.
 #[derive(Drop)]
@@ -107,12 +117,18 @@ impl Parts {
         Parts { value, space }
     }
 
-    /// Whether the ids, the devices and the held ranges are the same.
-    fn are_of(&self, rt: &(impl Abort + AllocGlobal), devices: &DeviceManager) -> bool {
+    /// Whether a field is the same in both saved values.
+    fn share(&self, other: &Parts, field: &str) -> bool {
+        self.value.get(field) == other.value.get(field)
+    }
+
+    /// The ids, the devices and the held ranges are the same.
+    fn expect_of(&self, rt: &(impl Abort + AllocGlobal), devices: &DeviceManager) {
         let other = Parts::of(rt, devices);
-        self.value.get("id_allocator") == other.value.get("id_allocator")
-            && self.value.get("slots") == other.value.get("slots")
-            && self.space == other.space
+        let is_so = self.share(&other, "id_allocator")
+            && self.share(&other, "slots")
+            && self.space == other.space;
+        expect_so(rt, is_so, &"the same manager");
     }
 }
 
@@ -126,22 +142,25 @@ fn saved_devices(rt: &(impl Abort + AllocGlobal), devices: &DeviceManager) -> Va
     }
 }
 
-/// Does each call, which has to have its answer. Where memory is refused everything stays, and the
-/// same call is made again.
+/// Does a call, which has to have its answer. Where memory is refused everything stays, and the same
+/// call is made again.
+fn ask(rt: &(impl Abort + AllocGlobal), devices: &mut DeviceManager, call: Call, want: Want) {
+    let before = Parts::of(rt, devices);
+    let mut answer = call.ask(devices, rt.alloc());
+    if let Err(Error::OutOfMemory) = answer {
+        before.expect_of(rt, devices);
+        answer = call.ask(devices, rt.alloc());
+    }
+    expect_same(rt, &answer, &want.answer(), &call);
+    if answer.is_err() {
+        before.expect_of(rt, devices);
+    }
+}
+
+/// Does the calls in turn, each with the answer that it has to have.
 fn replay(rt: &(impl Abort + AllocGlobal), devices: &mut DeviceManager, rows: &[(Call, Want)]) {
     for (call, want) in rows {
-        let before = Parts::of(rt, devices);
-        let answer = match call.ask(devices, rt.alloc()) {
-            Err(Error::OutOfMemory) => {
-                assert!(rt; before.are_of(rt, devices), "a refusal changes nothing");
-                call.ask(devices, rt.alloc())
-            }
-            answer => answer,
-        };
-        assert_eq!(rt; answer, want.answer(), "{call:?}");
-        if answer.is_err() {
-            assert!(rt; before.are_of(rt, devices), "a refusal changes nothing");
-        }
+        ask(rt, devices, *call, *want);
     }
 }
 
@@ -150,11 +169,22 @@ fn replay(rt: &(impl Abort + AllocGlobal), devices: &mut DeviceManager, rows: &[
 fn ask_again(rt: &(impl Abort + AllocGlobal), devices: &mut DeviceManager, call: Call, want: Want) {
     let before = slots_of(devices);
     let mut answer = call.ask(devices, rt.alloc());
-    if answer == Err(Error::OutOfMemory) {
-        assert!(rt; slots_of(devices) == before, "a refusal changes nothing");
+    if let Err(Error::OutOfMemory) = answer {
+        expect_so(rt, slots_of(devices) == before, &"the same devices");
         answer = call.ask(devices, rt.alloc());
     }
-    assert_eq!(rt; answer, want.answer(), "{call:?}");
+    expect_same(rt, &answer, &want.answer(), &call);
+}
+
+/// Reserves 16 addresses for the device with an id, at a start.
+fn reserve_sixteen(
+    rt: &(impl Abort + AllocGlobal),
+    devices: &mut DeviceManager,
+    id: u32,
+    start: u64,
+) {
+    let want = Device(id, start, start.saturating_add(15));
+    ask_again(rt, devices, First(16, 16), want);
 }
 
 /// The ranges of the devices with the first ids.
@@ -166,8 +196,14 @@ fn slots_of(devices: &DeviceManager) -> [Option<RangeInclusive>; 64] {
     slots
 }
 
-/// The first and the last address that the device with this id has.
-fn slot_of(devices: &DeviceManager, id: u32) -> Option<(u64, u64)> {
-    let range = devices.slot(id)?;
-    Some((range.start(), range.end()))
+/// No manager is made of these ids and these addresses.
+fn expect_no_manager(
+    rt: &(impl Abort + AllocGlobal),
+    ids: (u32, u32),
+    base: u64,
+    size: u64,
+    want: Error,
+) {
+    let refused = DeviceManager::new(rt.alloc(), ids.0, ids.1, base, size).err();
+    expect_so(rt, refused == Some(want), &"a refusal");
 }

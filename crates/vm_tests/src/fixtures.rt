@@ -2,8 +2,11 @@
 //! request for memory is refused.
 use serde_json::Value;
 use std::alloc::Global;
+use std::fmt::Debug;
 use std::process::Abort;
-use vm_allocator::{AddressAllocator, AllocPolicy, IdAllocator, ValueError};
+use vm_allocator::allocation_engine::NodeState;
+use vm_allocator::{AddressAllocator, AllocPolicy, IdAllocator, RangeInclusive, ValueError};
+use vm_devices::DeviceManager;
 
 /// How many bytes `end_of_memory` asks for. Nothing else asks for as many, and tests/refused_memory
 /// has the same number.
@@ -18,6 +21,26 @@ const COUNT_REQUEST: usize = 1_000_100;
 
 /// What a second try says where it fails too.
 const REFUSED_ONCE: &str = "memory is refused once";
+
+/// Ends the test where an answer is not the one that it has to be; `of` says of what.
+pub(crate) fn expect_same<T: PartialEq + Debug>(
+    rt: &impl Abort,
+    got: &T,
+    want: &T,
+    of: &impl Debug,
+) {
+    assert!(rt; got == want, "{of:?}: {got:?} where {want:?} is due");
+}
+
+/// Ends the test where something is not so; `of` says what.
+pub(crate) fn expect_so(rt: &impl Abort, is_so: bool, of: &impl Debug) {
+    assert!(rt; is_so, "{of:?} is not so");
+}
+
+/// The range from one address to another.
+pub(crate) fn range(rt: &impl Abort, start: u64, end: u64) -> RangeInclusive {
+    RangeInclusive::new(start, end).expect(rt, "it is a range")
+}
 
 /// Asks for memory, whether it is there or not. tests/refused_memory refuses every later request.
 pub(crate) fn end_of_memory(alloc: Global) {
@@ -79,6 +102,11 @@ pub(crate) fn parsed(rt: &(impl Abort + AllocGlobal), text: &str) -> Value {
         Ok(value) => value,
         Err(_) => Value::from_str(rt.alloc(), text).expect(rt, REFUSED_ONCE),
     }
+}
+
+/// The items of a list.
+pub(crate) fn items<'a>(rt: &impl Abort, list: &'a Value) -> &'a [Value] {
+    list.as_array().expect(rt, "it is a list").as_slice()
 }
 
 /// The text of a value.
@@ -156,4 +184,91 @@ pub(crate) fn read_ids(
         Err(ValueError::OutOfMemory) => IdAllocator::from_value(rt.alloc(), value),
         answer => answer,
     }
+}
+
+/// The answer is an allocator that is equal to this one.
+pub(crate) fn expect_space(
+    rt: &impl Abort,
+    answer: Result<AddressAllocator, ValueError>,
+    want: &AddressAllocator,
+    of: &str,
+) {
+    let is_equal = match &answer {
+        Ok(space) => space == want,
+        Err(_) => false,
+    };
+    assert!(rt; is_equal, "{of}");
+}
+
+/// What reads a value.
+#[derive(Clone, Copy, Debug)]
+pub(crate) enum Reader {
+    Range,
+    State,
+    Space,
+    Repaired,
+    Ids,
+    Manager,
+}
+
+impl Reader {
+    /// Why the value states nothing to this reader, which is asked once.
+    fn refusal(self, alloc: Global, value: &Value) -> Option<ValueError> {
+        match self {
+            Reader::Range => RangeInclusive::from_value(alloc, value).err(),
+            Reader::State => NodeState::from_value(alloc, value).err(),
+            Reader::Space => AddressAllocator::from_value(alloc, value).err(),
+            Reader::Repaired => AddressAllocator::from_value_repaired(alloc, value).err(),
+            Reader::Ids => IdAllocator::from_value(alloc, value).err(),
+            Reader::Manager => DeviceManager::from_value(alloc, value).err(),
+        }
+    }
+}
+
+/// The value states nothing to this reader; `of` says which value it is.
+pub(crate) fn expect_refused(
+    rt: &(impl Abort + AllocGlobal),
+    reader: Reader,
+    value: &Value,
+    of: &impl Debug,
+) {
+    let refusal = reader.refusal(rt.alloc(), value);
+    assert!(rt;
+        refusal == Some(ValueError::NotAState),
+        "{reader:?} of {of:?}"
+    );
+}
+
+/// No value of the list states something to this reader.
+pub(crate) fn refuse_each(rt: &(impl Abort + AllocGlobal), reader: Reader, list: &Value) {
+    let values = list.as_array().expect(rt, "it is a list");
+    for (number, value) in values.iter().enumerate() {
+        expect_refused(rt, reader, value, &number);
+    }
+}
+
+/// Puts a part into a place that a value has.
+pub(crate) fn put(rt: &impl Abort, value: &mut Value, place: &str, part: Value) {
+    *value.pointer_mut(place).expect(rt, "it has the place") = part;
+}
+
+/// Copies of a node, each with one address for its key and the copy before it at `side`. The keys go by
+/// one, up from 0 or down from `first`, that of the innermost node.
+pub(crate) fn chain(
+    rt: &(impl Abort + AllocGlobal),
+    node: &str,
+    keys: u64,
+    first: u64,
+    side: &str,
+) -> Value {
+    let mut chain = Value::Null;
+    for number in 0..keys {
+        let mut outer = parsed(rt, node);
+        let key = first.abs_diff(number);
+        put(rt, &mut outer, "/key/start", Value::from(key));
+        put(rt, &mut outer, "/key/end", Value::from(key));
+        put(rt, &mut outer, side, chain);
+        chain = outer;
+    }
+    chain
 }

@@ -1,9 +1,10 @@
 //! Id allocators.
-use crate::fixtures::{balance, end_of_memory, parsed, read_ids, saved_ids};
-use Call::{Allocate, Count, Free, Holds, Peek};
+use crate::fixtures::{
+    balance, end_of_memory, expect_same, expect_so, parsed, read_ids, saved_ids,
+};
+use Call::{Allocate, Count, Fields, Free, Holds, Peek, TakeAll};
 use Want::{AlreadyReleased, Id, NeverAllocated, NotAvailable, OutOfRange, Overflow};
 use std::process::Abort;
-use std::test::Fail;
 use vm_allocator::{Error, IdAllocator, Result};
 
 mod counts;
@@ -23,7 +24,7 @@ fn give_back(rt: &impl Abort, ids: &mut IdAllocator, id: u32) -> Result<u32> {
     let before = answers(ids);
     match ids.free_id(id) {
         Err(Error::OutOfMemory) => {
-            assert!(rt; answers(ids) == before, "a refusal changes nothing");
+            expect_so(rt, answers(ids) == before, &"the same ids");
             ids.free_id(id)
         }
         answer => answer,
@@ -33,28 +34,47 @@ fn give_back(rt: &impl Abort, ids: &mut IdAllocator, id: u32) -> Result<u32> {
 /// Takes ids, which have to be those from `first` to `last`.
 fn take_all(rt: &impl Abort, ids: &mut IdAllocator, first: u32, last: u32) {
     for id in first..=last {
-        assert_eq!(rt; ids.peek_id(), Ok(id));
-        assert_eq!(rt; ids.allocate_id(), Ok(id));
+        expect_same(rt, &ids.peek_id(), &Ok(id), &id);
+        expect_same(rt, &ids.allocate_id(), &Ok(id), &id);
     }
 }
 
 /// The range, the next fresh id and the ids given back are those of the text.
-fn assert_fields(rt: &(impl Abort + AllocGlobal), ids: &IdAllocator, text: &str) {
-    assert!(rt; saved_ids(rt, ids) == parsed(rt, text), "{text}");
+fn expect_fields(rt: &(impl Abort + AllocGlobal), ids: &IdAllocator, text: &str) {
+    expect_so(rt, saved_ids(rt, ids) == parsed(rt, text), &text);
+}
+
+/// The allocator of the ids from `first` to `last`.
+fn made(rt: &(impl Abort + AllocGlobal), first: u32, last: u32) -> IdAllocator {
+    IdAllocator::new(rt.alloc(), first, last).expect(rt, "it is a range")
+}
+
+/// A clone of an allocator.
+fn cloned(rt: &(impl Abort + AllocGlobal), ids: &IdAllocator) -> IdAllocator {
+    match ids.try_clone(rt.alloc()) {
+        Ok(clone) => clone,
+        Err(_) => ids
+            .try_clone(rt.alloc())
+            .expect(rt, "memory is refused once"),
+    }
 }
 
 /// A call, with the answer that it has to have.
-#[derive(Clone, Copy, Debug)]
+#[derive(Clone, Copy)]
 enum Call {
     Allocate(Want),
     Peek(Want),
     Free(u32, Want),
     Holds(u32, bool),
     Count(u64),
+    /// The first and the last of the ids that are taken, one by one.
+    TakeAll(u32, u32),
+    /// What is written of the allocator.
+    Fields(&'static str),
 }
 
 /// An id, or why there is none.
-#[derive(Clone, Copy, Debug)]
+#[derive(Clone, Copy)]
 enum Want {
     Id(u32),
     Overflow,
@@ -78,100 +98,91 @@ impl Want {
 }
 
 /// Does the calls in turn.
-fn replay(rt: &impl Abort, ids: &mut IdAllocator, calls: &[Call]) {
+fn replay(rt: &(impl Abort + AllocGlobal), ids: &mut IdAllocator, calls: &[Call]) {
     for call in calls {
-        match call {
-            Allocate(want) => assert_eq!(rt; ids.allocate_id(), want.answer(), "{call:?}"),
-            Peek(want) => assert_eq!(rt; ids.peek_id(), want.answer(), "{call:?}"),
-            Free(id, want) => assert_eq!(rt; give_back(rt, ids, *id), want.answer(), "{call:?}"),
-            Holds(id, want) => assert_eq!(rt; ids.is_allocated(*id), *want, "{call:?}"),
-            Count(want) => assert_eq!(rt; ids.held_count(), *want, "{call:?}"),
+        match *call {
+            Allocate(want) => expect_same(rt, &ids.allocate_id(), &want.answer(), &"taken"),
+            Peek(want) => expect_same(rt, &ids.peek_id(), &want.answer(), &"next"),
+            Free(id, want) => expect_same(rt, &give_back(rt, ids, id), &want.answer(), &id),
+            Holds(id, want) => expect_same(rt, &ids.is_allocated(id), &want, &id),
+            Count(want) => expect_same(rt, &ids.held_count(), &want, &"count"),
+            TakeAll(first, last) => take_all(rt, ids, first, last),
+            Fields(text) => expect_fields(rt, ids, text),
         }
     }
 }
 
-#[test]
-fn test_slot_id_allocation(rt: HostRuntime) -> std::result::Result<(), Fail> {
-    let refused = IdAllocator::new(rt.alloc(), 23, 5);
-    assert_eq!(rt; refused.err(), Some(Error::InvalidRange(23, 5)));
+/// Does the calls in turn in a fresh allocator of the ids from `first` to `last`.
+fn replay_in(rt: &(impl Abort + AllocGlobal), first: u32, last: u32, calls: &[Call]) {
+    replay(rt, &mut made(rt, first, last), calls);
+}
 
-    let mut ids = IdAllocator::new(rt.alloc(), 5, 23)?;
-    take_all(&rt, &mut ids, 5, 5);
-    let one_taken = r#"{"range_base":5,"next_id":6,"range_end":23,"freed_ids":[]}"#;
-    assert_fields(&rt, &ids, one_taken);
-    take_all(&rt, &mut ids, 6, 23);
-    assert_eq!(rt; ids.allocate_id(), Err(Error::ResourceNotAvailable));
-    Ok(())
+/// No allocator is made of a range whose last id is below the first.
+fn expect_no_range(rt: &(impl Abort + AllocGlobal), first: u32, last: u32) {
+    let refused = IdAllocator::new(rt.alloc(), first, last).err();
+    let want = Some(Error::InvalidRange(u64::from(first), u64::from(last)));
+    expect_so(rt, refused == want, &(first, last));
 }
 
 #[test]
-fn test_u32_overflow(rt: HostRuntime) -> std::result::Result<(), Fail> {
-    let mut ids = IdAllocator::new(rt.alloc(), 4294967294, 4294967295)?;
-    let calls = [
+fn test_slot_id_allocation(rt: HostRuntime) {
+    expect_no_range(&rt, 23, 5);
+    let calls = &[
+        TakeAll(5, 5),
+        Fields(r#"{"range_base":5,"next_id":6,"range_end":23,"freed_ids":[]}"#),
+        TakeAll(6, 23),
+        Allocate(NotAvailable),
+    ];
+    replay_in(&rt, 5, 23, calls);
+}
+
+#[test]
+fn test_u32_overflow(rt: HostRuntime) {
+    let calls = &[
         Allocate(Id(4294967294)),
         Allocate(Id(4294967295)),
         Allocate(Overflow),
     ];
-    replay(&rt, &mut ids, &calls);
-    Ok(())
+    replay_in(&rt, 4294967294, 4294967295, calls);
 }
 
 #[test]
-fn test_slot_id_free(rt: HostRuntime) -> std::result::Result<(), Fail> {
-    let mut ids = IdAllocator::new(rt.alloc(), 5, 23)?;
-    replay(&rt, &mut ids, &[Free(3, OutOfRange(3))]);
-    let fresh = r#"{"range_base":5,"next_id":5,"range_end":23,"freed_ids":[]}"#;
-    assert_fields(&rt, &ids, fresh);
-
-    take_all(&rt, &mut ids, 5, 13);
-    let calls = [
+fn test_slot_id_free(rt: HostRuntime) {
+    let calls = &[
+        Free(3, OutOfRange(3)),
+        Fields(r#"{"range_base":5,"next_id":5,"range_end":23,"freed_ids":[]}"#),
+        TakeAll(5, 13),
         Free(10, Id(10)),
         Free(10, AlreadyReleased(10)),
         Free(9, Id(9)),
-    ];
-    replay(&rt, &mut ids, &calls);
-    let two_freed = r#"{"range_base":5,"next_id":14,"range_end":23,"freed_ids":[9,10]}"#;
-    assert_fields(&rt, &ids, two_freed);
-
-    replay(&rt, &mut ids, &[Peek(Id(9)), Allocate(Id(9))]);
-    let one_freed = r#"{"range_base":5,"next_id":14,"range_end":23,"freed_ids":[10]}"#;
-    assert_fields(&rt, &ids, one_freed);
-    let calls = [
+        Fields(r#"{"range_base":5,"next_id":14,"range_end":23,"freed_ids":[9,10]}"#),
+        Peek(Id(9)),
+        Allocate(Id(9)),
+        Fields(r#"{"range_base":5,"next_id":14,"range_end":23,"freed_ids":[10]}"#),
         Free(21, NeverAllocated(21)),
         Holds(10, false),
         Holds(9, true),
         Holds(14, false),
     ];
-    replay(&rt, &mut ids, &calls);
-    Ok(())
+    replay_in(&rt, 5, 23, calls);
 }
 
 #[test]
-fn test_free_id_never_allocated_boundary(rt: HostRuntime) -> std::result::Result<(), Fail> {
-    let mut ids = IdAllocator::new(rt.alloc(), 5, 23)?;
-    for (id, taken, fields) in [
-        (
-            5,
-            7,
-            r#"{"range_base":5,"next_id":5,"range_end":23,"freed_ids":[]}"#,
-        ),
-        (
-            8,
-            8,
-            r#"{"range_base":5,"next_id":8,"range_end":23,"freed_ids":[]}"#,
-        ),
-    ] {
-        replay(&rt, &mut ids, &[Free(id, NeverAllocated(id))]);
-        assert_fields(&rt, &ids, fields);
-        take_all(&rt, &mut ids, id, taken);
-    }
-    Ok(())
+fn test_free_id_never_allocated_boundary(rt: HostRuntime) {
+    let calls = &[
+        Free(5, NeverAllocated(5)),
+        Fields(r#"{"range_base":5,"next_id":5,"range_end":23,"freed_ids":[]}"#),
+        TakeAll(5, 7),
+        Free(8, NeverAllocated(8)),
+        Fields(r#"{"range_base":5,"next_id":8,"range_end":23,"freed_ids":[]}"#),
+        TakeAll(8, 8),
+    ];
+    replay_in(&rt, 5, 23, calls);
 }
 
 #[test]
-fn test_is_allocated(rt: HostRuntime) -> std::result::Result<(), Fail> {
-    let mut ids = IdAllocator::new(rt.alloc(), 5, 23)?;
-    let calls = [
+fn test_is_allocated(rt: HostRuntime) {
+    let calls = &[
         Holds(4, false),
         Holds(24, false),
         Holds(10, false),
@@ -183,41 +194,38 @@ fn test_is_allocated(rt: HostRuntime) -> std::result::Result<(), Fail> {
         Allocate(Id(5)),
         Holds(5, true),
     ];
-    replay(&rt, &mut ids, &calls);
-    Ok(())
+    replay_in(&rt, 5, 23, calls);
 }
 
+/// The greatest two ids.
+const LOW: u32 = 4294967294;
+
+const HIGH: u32 = 4294967295;
+
 #[test]
-fn test_is_allocated_full_range(rt: HostRuntime) -> std::result::Result<(), Fail> {
-    let (low, high) = (4294967294, 4294967295);
-    let mut ids = IdAllocator::new(rt.alloc(), low, high)?;
-    let calls = [
-        Holds(low, false),
-        Holds(high, false),
-        Allocate(Id(low)),
-        Holds(low, true),
-        Holds(high, false),
-        Allocate(Id(high)),
-        Holds(low, true),
-        Holds(high, true),
+fn test_is_allocated_full_range(rt: HostRuntime) {
+    let calls = &[
+        Holds(LOW, false),
+        Holds(HIGH, false),
+        Allocate(Id(LOW)),
+        Holds(LOW, true),
+        Holds(HIGH, false),
+        Allocate(Id(HIGH)),
+        Holds(LOW, true),
+        Holds(HIGH, true),
+        Fields(r#"{"range_base":4294967294,"next_id":null,"range_end":4294967295,"freed_ids":[]}"#),
+        Free(HIGH, Id(HIGH)),
+        Holds(HIGH, false),
+        Holds(LOW, true),
     ];
-    replay(&rt, &mut ids, &calls);
-    let all_taken =
-        r#"{"range_base":4294967294,"next_id":null,"range_end":4294967295,"freed_ids":[]}"#;
-    assert_fields(&rt, &ids, all_taken);
-
-    let calls = [Free(high, Id(high)), Holds(high, false), Holds(low, true)];
-    replay(&rt, &mut ids, &calls);
-    Ok(())
+    replay_in(&rt, LOW, HIGH, calls);
 }
 
 #[test]
-fn test_is_allocated_with_freed(rt: HostRuntime) -> std::result::Result<(), Fail> {
-    let mut ids = IdAllocator::new(rt.alloc(), 5, 23)?;
-    take_all(&rt, &mut ids, 5, 6);
-    let two_taken = r#"{"range_base":5,"next_id":7,"range_end":23,"freed_ids":[]}"#;
-    assert_fields(&rt, &ids, two_taken);
-    let calls = [
+fn test_is_allocated_with_freed(rt: HostRuntime) {
+    let calls = &[
+        TakeAll(5, 6),
+        Fields(r#"{"range_base":5,"next_id":7,"range_end":23,"freed_ids":[]}"#),
         Holds(6, true),
         Holds(7, false),
         Free(5, Id(5)),
@@ -225,36 +233,49 @@ fn test_is_allocated_with_freed(rt: HostRuntime) -> std::result::Result<(), Fail
         Holds(6, true),
         Holds(7, false),
     ];
-    replay(&rt, &mut ids, &calls);
-    Ok(())
+    replay_in(&rt, 5, 23, calls);
 }
 
 #[test]
-fn greatest_id_alone(rt: HostRuntime) -> std::result::Result<(), Fail> {
-    let id = 4294967295;
-    let mut ids = IdAllocator::new(rt.alloc(), id, id)?;
-    let calls = [
-        Free(id, NeverAllocated(id)),
-        Allocate(Id(id)),
+fn greatest_id_alone(rt: HostRuntime) {
+    let calls = &[
+        Free(HIGH, NeverAllocated(HIGH)),
+        Allocate(Id(HIGH)),
         Allocate(Overflow),
         Peek(Overflow),
-        Free(id, Id(id)),
-        Holds(id, false),
-        Peek(Id(id)),
-        Allocate(Id(id)),
+        Free(HIGH, Id(HIGH)),
+        Holds(HIGH, false),
+        Peek(Id(HIGH)),
+        Allocate(Id(HIGH)),
         Allocate(Overflow),
     ];
-    replay(&rt, &mut ids, &calls);
-    Ok(())
+    replay_in(&rt, HIGH, HIGH, calls);
+}
+
+/// The greatest id alone, taken and given back.
+fn take_greatest(rt: &(impl Abort + AllocGlobal)) {
+    let mut ids = made(rt, u32::MAX, u32::MAX);
+    let calls = &[Allocate(Id(u32::MAX)), Peek(Overflow), Allocate(Overflow)];
+    replay(rt, &mut ids, calls);
+    // An id given back for the first time asks for memory: what a run without memory is known by.
+    let answer = ids.free_id(u32::MAX);
+    let is_so = match &answer {
+        Ok(id) => *id == u32::MAX,
+        Err(Error::OutOfMemory) => true,
+        Err(_) => false,
+    };
+    expect_so(rt, is_so, &answer);
 }
 
 #[test]
-fn without_memory(rt: HostRuntime) -> std::result::Result<(), Fail> {
-    let mut ids = IdAllocator::new(rt.alloc(), 5, 9)?;
-    take_all(&rt, &mut ids, 5, 8);
-    let given_back = [Free(6, Id(6)), Free(7, Id(7))];
-    replay(&rt, &mut ids, &given_back);
-    let calls = [
+fn without_memory(rt: HostRuntime) {
+    let mut ids = made(&rt, 5, 9);
+    replay(
+        &rt,
+        &mut ids,
+        &[TakeAll(5, 8), Free(6, Id(6)), Free(7, Id(7))],
+    );
+    let calls = &[
         Free(4, OutOfRange(4)),
         Free(9, NeverAllocated(9)),
         Free(6, AlreadyReleased(6)),
@@ -270,57 +291,62 @@ fn without_memory(rt: HostRuntime) -> std::result::Result<(), Fail> {
         Allocate(NotAvailable),
     ];
     end_of_memory(rt.alloc());
-    replay(&rt, &mut ids, &calls);
+    replay(&rt, &mut ids, calls);
+    expect_no_range(&rt, 23, 5);
+    take_greatest(&rt);
+}
 
-    let refused = IdAllocator::new(rt.alloc(), 23, 5);
-    assert_eq!(rt; refused.err(), Some(Error::InvalidRange(23, 5)));
-    let mut last = IdAllocator::new(rt.alloc(), u32::MAX, u32::MAX)?;
-    let calls = [Allocate(Id(u32::MAX)), Peek(Overflow), Allocate(Overflow)];
-    replay(&rt, &mut last, &calls);
-    // An id given back for the first time asks for memory: what a run without memory is known by.
-    let answer = last.free_id(u32::MAX);
-    assert!(rt; answer == Err(Error::OutOfMemory) || answer == Ok(u32::MAX));
-    Ok(())
+/// Clones an allocator: the clone answers alike, or memory is refused. Nothing changes either way.
+fn clone_or_refuse(rt: &(impl Abort + AllocGlobal), ids: &IdAllocator) {
+    let before = answers(ids);
+    balance(rt.alloc());
+    let is_so = match ids.try_clone(rt.alloc()) {
+        Ok(clone) => answers(&clone) == before,
+        Err(Error::OutOfMemory) => true,
+        Err(_) => false,
+    };
+    expect_so(rt, is_so, &"a whole clone or none");
+    balance(rt.alloc());
+    expect_so(rt, answers(ids) == before, &"the same ids");
 }
 
 #[test]
-fn cloned_whole_or_not_at_all(rt: HostRuntime) -> std::result::Result<(), Fail> {
-    let mut ids = IdAllocator::new(rt.alloc(), 5, 23)?;
-    take_all(&rt, &mut ids, 5, 7);
-    assert_eq!(rt; give_back(&rt, &mut ids, 6), Ok(6));
-    let before = answers(&ids);
-    balance(rt.alloc());
-    match ids.try_clone(rt.alloc()) {
-        Ok(clone) => assert!(rt; answers(&clone) == before),
-        Err(error) => assert_eq!(rt; error, Error::OutOfMemory),
-    }
-    balance(rt.alloc());
-    assert!(rt; answers(&ids) == before);
-    let mut clone = match ids.try_clone(rt.alloc()) {
-        Err(Error::OutOfMemory) => ids.try_clone(rt.alloc())?,
-        answer => answer?,
-    };
-    take_all(&rt, &mut clone, 6, 6);
-    take_all(&rt, &mut clone, 8, 8);
-    assert_eq!(rt; ids.allocate_id(), Ok(6));
-    Ok(())
+fn cloned_whole_or_not_at_all(rt: HostRuntime) {
+    let mut ids = made(&rt, 5, 23);
+    replay(&rt, &mut ids, &[TakeAll(5, 7), Free(6, Id(6))]);
+    clone_or_refuse(&rt, &ids);
+    let mut clone = cloned(&rt, &ids);
+    replay(&rt, &mut clone, &[TakeAll(6, 6), TakeAll(8, 8)]);
+    replay(&rt, &mut ids, &[Allocate(Id(6))]);
+}
+
+/// What is written of an allocator that holds twelve ids is read, and answers alike.
+fn write_and_read(rt: &(impl Abort + AllocGlobal), ids: &IdAllocator) {
+    let again = read_ids(rt, &saved_ids(rt, ids)).expect(rt, "it states ids");
+    let is_so = answers(&again) == answers(ids) && again.held_count() == 12;
+    expect_so(rt, is_so, &"the same twelve ids");
 }
 
 /// A clone without ids given back; then twelve given back, one by one, written and read.
 #[test]
-fn memory_for_twelve_ids(rt: HostRuntime) -> std::result::Result<(), Fail> {
-    let mut ids = IdAllocator::new(rt.alloc(), 0, 23)?;
+fn memory_for_twelve_ids(rt: HostRuntime) {
+    let mut ids = made(&rt, 0, 23);
     take_all(&rt, &mut ids, 0, 23);
-    let mut clone = match ids.try_clone(rt.alloc()) {
-        Err(Error::OutOfMemory) => ids.try_clone(rt.alloc())?,
-        answer => answer?,
-    };
-    assert_eq!(rt; clone.allocate_id(), Err(Error::ResourceNotAvailable));
-    for number in 0..12u32 {
-        assert_eq!(rt; give_back(&rt, &mut ids, number * 2), Ok(number * 2));
-    }
-    let again = read_ids(&rt, &saved_ids(&rt, &ids))?;
-    assert!(rt; answers(&again) == answers(&ids));
-    assert_eq!(rt; again.held_count(), 12);
-    Ok(())
+    replay(&rt, &mut cloned(&rt, &ids), &[Allocate(NotAvailable)]);
+    let calls = &[
+        Free(0, Id(0)),
+        Free(2, Id(2)),
+        Free(4, Id(4)),
+        Free(6, Id(6)),
+        Free(8, Id(8)),
+        Free(10, Id(10)),
+        Free(12, Id(12)),
+        Free(14, Id(14)),
+        Free(16, Id(16)),
+        Free(18, Id(18)),
+        Free(20, Id(20)),
+        Free(22, Id(22)),
+    ];
+    replay(&rt, &mut ids, calls);
+    write_and_read(&rt, &ids);
 }

@@ -1,14 +1,14 @@
 //! What is long or deep. Each test ends in seconds where its calls take the time that they should, and
 //! is stopped at the limit of a test where one of them takes its square, or goes down a value as deep
 //! as that goes. tests/refused_memory passes over these, and runs the deep ones on a small stack.
-use crate::fixtures::{hold, made, parsed, read, read_ids, read_repaired, saved, saved_ids};
-use serde_json::{Value, json};
-use std::alloc::{AllocError, Global};
+use crate::fixtures::{
+    Reader, chain, cloned, expect_refused, expect_same, expect_space, hold, items, made, parsed,
+    put, range, read, read_ids, read_repaired, saved, saved_ids,
+};
+use serde_json::Value;
 use std::cmp::Ordering;
 use std::process::Abort;
-use std::test::Fail;
-use vm_allocator::allocation_engine::NodeState;
-use vm_allocator::{AddressAllocator, AllocPolicy, IdAllocator, RangeInclusive, ValueError};
+use vm_allocator::{AddressAllocator, AllocPolicy, IdAllocator};
 use vm_devices::DeviceManager;
 
 /// How many ranges, ids or devices are held.
@@ -19,6 +19,9 @@ const MANY_IDS: u32 = 100_000;
 
 /// How deep a value is nested.
 const DEPTH: u64 = 1_000_000;
+
+/// What a call that is refused is said to lack.
+const ENOUGH: &str = "there is enough memory";
 
 /// Each even address of a space is held, from the first on or from the last on.
 fn half_held(rt: &(impl Abort + AllocGlobal), rises: bool) -> AddressAllocator {
@@ -32,165 +35,180 @@ fn half_held(rt: &(impl Abort + AllocGlobal), rises: bool) -> AddressAllocator {
 }
 
 #[test]
-fn ranges_compared_and_saved(rt: HostRuntime) -> std::result::Result<(), Fail> {
+fn ranges_compared_and_saved(rt: HostRuntime) {
     let first = half_held(&rt, true);
     let second = half_held(&rt, false);
-    assert!(rt; first == second && first.cmp(&second) == Ordering::Equal);
-    assert_eq!(rt; first.partial_cmp(&second), Some(Ordering::Equal));
-    let clone = first.try_clone(rt.alloc())?;
-    assert!(rt; clone == second);
+    let order = (first.cmp(&second), first.partial_cmp(&second));
+    let equal = (Ordering::Equal, Some(Ordering::Equal));
+    assert!(rt; first == second && order == equal);
+    assert!(rt; cloned(&rt, &first) == second);
     let value = saved(&rt, &first);
-    assert!(rt; read(&rt, &value)? == second);
-    assert!(rt; read_repaired(&rt, &value)? == second);
-    Ok(())
+    expect_space(&rt, read(&rt, &value), &second, "read");
+    expect_space(&rt, read_repaired(&rt, &value), &second, "repaired");
 }
 
 #[test]
-fn ranges_looked_up(rt: HostRuntime) -> std::result::Result<(), Fail> {
+fn ranges_looked_up(rt: HostRuntime) {
     let mut space = half_held(&rt, true);
     let mut start = 0;
     for range in space.held_ranges() {
-        assert_eq!(rt; (range.start(), range.end()), (start, start));
+        expect_same(&rt, &(range.start(), range.end()), &(start, start), &"held");
         start = start.saturating_add(2);
     }
-    assert_eq!(rt; (start, space.held_count()), (2 * MANY, MANY));
+    expect_same(
+        &rt,
+        &(start, space.held_count()),
+        &(2 * MANY, MANY),
+        &"held",
+    );
     for address in 0..2 * MANY {
-        let range = RangeInclusive::new(address, address)?;
-        assert_eq!(rt; space.holds(&range), address % 2 == 0, "{address}");
+        let is_held = space.holds(&range(&rt, address, address));
+        expect_same(&rt, &is_held, &(address % 2 == 0), &address);
     }
     for number in 0..MANY {
-        let range = RangeInclusive::new(2 * number, 2 * number)?;
-        assert_eq!(rt; space.free_counted(&range).0, Ok(()), "{number}");
+        let (answer, _) = space.free_counted(&range(&rt, 2 * number, 2 * number));
+        expect_same(&rt, &answer, &Ok(()), &number);
         assert!(rt; space.height() <= 20 && (space.base(), space.end()) == (0, 2 * MANY - 1));
     }
     let (answer, _) = space.allocate_counted(rt.alloc(), 2 * MANY, 1, AllocPolicy::LastMatch);
     assert!(rt; answer.is_ok());
-    Ok(())
+}
+
+/// Takes so many ids, which go by `step`, up from 0.
+fn take_ids(rt: &impl Abort, ids: &mut IdAllocator, count: u32, step: u32) {
+    for number in 0..count {
+        let want = Ok(step.saturating_mul(number));
+        expect_same(rt, &ids.allocate_id(), &want, &number);
+    }
 }
 
 #[test]
-fn ids_looked_up_and_saved(rt: HostRuntime) -> std::result::Result<(), Fail> {
-    let mut ids = IdAllocator::new(rt.alloc(), 0, 2 * MANY_IDS)?;
-    for id in 0..2 * MANY_IDS {
-        assert_eq!(rt; ids.allocate_id(), Ok(id));
-    }
+fn ids_looked_up_and_saved(rt: HostRuntime) {
+    let mut ids = IdAllocator::new(rt.alloc(), 0, 2 * MANY_IDS).expect(&rt, ENOUGH);
+    take_ids(&rt, &mut ids, 2 * MANY_IDS, 1);
     for number in 0..MANY_IDS {
-        ids.free_id(2 * number)?;
-        assert_eq!(rt; ids.peek_id(), Ok(0));
+        assert!(rt; ids.free_id(2 * number).is_ok() && ids.peek_id() == Ok(0));
     }
-    let clone = ids.try_clone(rt.alloc())?;
-    let mut again = read_ids(&rt, &saved_ids(&rt, &clone))?;
+    let clone = ids.try_clone(rt.alloc()).expect(&rt, ENOUGH);
+    let mut again = read_ids(&rt, &saved_ids(&rt, &clone)).expect(&rt, ENOUGH);
     for id in 0..2 * MANY_IDS {
-        assert_eq!(rt; again.is_allocated(id), id % 2 == 1, "{id}");
-        assert_eq!(rt; again.held_count(), MANY);
+        let answers = (again.is_allocated(id), again.held_count());
+        expect_same(&rt, &answers, &(id % 2 == 1, MANY), &id);
     }
-    for number in 0..MANY_IDS {
-        assert_eq!(rt; again.allocate_id(), Ok(2 * number));
-    }
-    Ok(())
+    take_ids(&rt, &mut again, MANY_IDS, 2);
+}
+
+/// What reading a written manager gives.
+fn saved_and_read(rt: &(impl Abort + AllocGlobal), devices: &DeviceManager) -> DeviceManager {
+    let value = devices.to_value(rt.alloc()).expect(rt, ENOUGH);
+    DeviceManager::from_value(rt.alloc(), &value).expect(rt, ENOUGH)
 }
 
 #[test]
-fn devices_looked_up_and_saved(rt: HostRuntime) -> std::result::Result<(), Fail> {
-    let mut devices = DeviceManager::new(rt.alloc(), 0, MANY_IDS, 0, 16 * MANY)?;
+fn devices_looked_up_and_saved(rt: HostRuntime) {
+    let devices = DeviceManager::new(rt.alloc(), 0, MANY_IDS, 0, 16 * MANY);
+    let mut devices = devices.expect(&rt, ENOUGH);
     for id in 0..MANY_IDS {
-        let slot = devices.reserve(rt.alloc(), 16, 16, AllocPolicy::FirstMatch)?;
-        assert_eq!(rt; (slot.id, slot.range.start()), (id, 16 * u64::from(id)));
+        let slot = devices.reserve(rt.alloc(), 16, 16, AllocPolicy::FirstMatch);
+        let slot = slot.expect(&rt, ENOUGH);
+        assert!(rt; (slot.id, slot.range.start()) == (id, 16 * u64::from(id)));
     }
-    let value = devices.to_value(rt.alloc())?;
-    let mut again = DeviceManager::from_value(rt.alloc(), &value)?;
+    let mut again = saved_and_read(&rt, &devices);
     for id in 0..MANY_IDS {
-        assert!(rt;
-            again.slot(id) == devices.slot(id) && again.slot(id).is_some(),
-            "{id}"
-        );
+        let slot = again.slot(id);
+        assert!(rt; slot.is_some() && slot == devices.slot(id));
     }
     for id in 0..MANY_IDS {
-        again.release(id)?;
+        assert!(rt; again.release(id).is_ok());
     }
     assert!(rt; again.slot(0).is_none());
-    Ok(())
 }
 
-/// A tree of nodes that go deep to the left or to the right.
-fn deep_tree(alloc: Global, is_left: bool) -> std::result::Result<Value, AllocError> {
-    let mut node = Value::Null;
-    for level in 0..DEPTH {
-        let (left, right) = if is_left {
-            (node, Value::Null)
-        } else {
-            (Value::Null, node)
-        };
-        let key = json!(in alloc; {"start": level, "end": level})?;
-        node =
-            json!(in alloc; {"key": key, "node_state": "Allocated", "left": left, "right": right, "height": 1})?;
-    }
-    Ok(node)
-}
+/// What a tree goes deep with.
+const NODE: &str =
+    r#"{"key":{"start":0,"end":0},"node_state":"Allocated","left":null,"right":null,"height":1}"#;
 
 /// A list in a list, and so on.
-fn deep_list(alloc: Global) -> std::result::Result<Value, AllocError> {
+fn deep_list(rt: &(impl Abort + AllocGlobal)) -> Value {
     let mut list = Value::Null;
     for _ in 0..DEPTH {
-        list = json!(in alloc; [list])?;
+        let mut outer = parsed(rt, "[null]");
+        put(rt, &mut outer, "/0", list);
+        list = outer;
     }
-    Ok(list)
+    list
 }
 
-/// Values with a part that is deep in its place: no reader accepts one.
-const PLACES: [(&str, &str); 9] = [
-    ("null", ""),
-    (r#"{"start":16,"end":19}"#, "/start"),
-    (IDS, "/next_id"),
-    (IDS, "/freed_ids"),
-    (ALLOCATOR, "/address_space"),
-    (ALLOCATOR, "/interval_tree/root"),
-    (ALLOCATOR, "/interval_tree/root/key"),
-    (MANAGER, "/mmio_allocator/interval_tree/root/right"),
-    (MANAGER, "/slots"),
+/// Values of which none is accepted by a reader with a deep part at its place of `PLACES`.
+const VALUES: &str = r#"[
+    null,
+    {"start":16,"end":19},
+    {"range_base":5,"next_id":7,"range_end":23,"freed_ids":[5]},
+    {"range_base":5,"next_id":7,"range_end":23,"freed_ids":[5]},
+    {"address_space":{"start":16,"end":19},"interval_tree":{"root":{
+        "key":{"start":16,"end":19},"node_state":"Free","left":null,"right":null,"height":1}}},
+    {"address_space":{"start":16,"end":19},"interval_tree":{"root":{
+        "key":{"start":16,"end":19},"node_state":"Free","left":null,"right":null,"height":1}}},
+    {"address_space":{"start":16,"end":19},"interval_tree":{"root":{
+        "key":{"start":16,"end":19},"node_state":"Free","left":null,"right":null,"height":1}}},
+    {"version":1,
+        "id_allocator":{"range_base":0,"next_id":1,"range_end":1,"freed_ids":[0]},
+        "mmio_allocator":{"address_space":{"start":16,"end":19},"interval_tree":{"root":{
+        "key":{"start":16,"end":19},"node_state":"Free","left":null,"right":null,"height":1}}},"slots":[]},
+    {"version":1,
+        "id_allocator":{"range_base":0,"next_id":1,"range_end":1,"freed_ids":[0]},
+        "mmio_allocator":{"address_space":{"start":16,"end":19},"interval_tree":{"root":{
+        "key":{"start":16,"end":19},"node_state":"Free","left":null,"right":null,"height":1}}},"slots":[]}]"#;
+
+/// One place in each of `VALUES`.
+const PLACES: [&str; 9] = [
+    "/0",
+    "/1/start",
+    "/2/next_id",
+    "/3/freed_ids",
+    "/4/address_space",
+    "/5/interval_tree/root",
+    "/6/interval_tree/root/key",
+    "/7/mmio_allocator/interval_tree/root/right",
+    "/8/slots",
 ];
 
-const IDS: &str = r#"{"range_base":5,"next_id":7,"range_end":23,"freed_ids":[5]}"#;
-
-const ALLOCATOR: &str = r#"{"address_space":{"start":16,"end":19},"interval_tree":{"root":{
-    "key":{"start":16,"end":19},"node_state":"Free","left":null,"right":null,"height":1}}}"#;
-
-const MANAGER: &str = r#"{"version":1,
-    "id_allocator":{"range_base":0,"next_id":1,"range_end":1,"freed_ids":[0]},
-    "mmio_allocator":{"address_space":{"start":16,"end":19},"interval_tree":{"root":{
-    "key":{"start":16,"end":19},"node_state":"Free","left":null,"right":null,"height":1}}},"slots":[]}"#;
+/// Every reader that there is.
+const READERS: [Reader; 6] = [
+    Reader::Range,
+    Reader::State,
+    Reader::Space,
+    Reader::Repaired,
+    Reader::Ids,
+    Reader::Manager,
+];
 
 /// No reader accepts the value.
-fn assert_refused(rt: &(impl Abort + AllocGlobal), value: &Value, place: &str) {
-    let refused = Some(ValueError::NotAState);
-    let state = NodeState::from_value(rt.alloc(), value).err();
-    let range = RangeInclusive::from_value(rt.alloc(), value).err();
-    assert!(rt; state == refused && range == refused, "{place}");
-    let ids = IdAllocator::from_value(rt.alloc(), value).err();
-    let manager = DeviceManager::from_value(rt.alloc(), value).err();
-    assert!(rt; ids == refused && manager == refused, "{place}");
-    let strict = AddressAllocator::from_value(rt.alloc(), value).err();
-    let repaired = AddressAllocator::from_value_repaired(rt.alloc(), value).err();
-    assert!(rt; strict == refused && repaired == refused, "{place}");
+fn refuse_by_all(rt: &(impl Abort + AllocGlobal), value: Option<&Value>, place: &str) {
+    let value = value.expect(rt, "there is a value");
+    for reader in READERS {
+        expect_refused(rt, reader, value, &place);
+    }
 }
 
 /// No reader accepts a value with this part, wherever it stands. The part is taken apart level by
 /// level at the end: to drop it whole would take a frame of the stack for each.
 fn refuse_with(rt: &(impl Abort + AllocGlobal), part: Value, inner: &str) {
     let mut deep = part;
-    for (text, place) in PLACES {
-        let mut value = parsed(rt, text);
-        if let Some(there) = value.pointer_mut(place) {
-            *there = deep;
-        }
-        assert_refused(rt, &value, place);
-        deep = match value.pointer_mut(place) {
-            Some(there) => there.take(),
-            None => Value::Null,
-        };
-        assert!(rt; !deep.is_null(), "{place}");
+    let mut values = parsed(rt, VALUES);
+    for (number, place) in PLACES.iter().enumerate() {
+        put(rt, &mut values, place, deep);
+        refuse_by_all(rt, items(rt, &values).get(number), place);
+        deep = taken(rt, &mut values, place);
     }
     take_apart(deep, inner);
+}
+
+/// The part in that place of a value, which it leaves.
+fn taken(rt: &impl Abort, value: &mut Value, place: &str) -> Value {
+    let there = value.pointer_mut(place).expect(rt, "it has the place");
+    assert!(rt; !there.is_null(), "{place}");
+    there.take()
 }
 
 /// Drops a deep value level by level.
@@ -206,9 +224,9 @@ fn take_apart(deep: Value, inner: &str) {
 }
 
 #[test]
-fn a_million_deep_on_a_small_stack(rt: HostRuntime) -> std::result::Result<(), Fail> {
-    refuse_with(&rt, deep_tree(rt.alloc(), true)?, "/left");
-    refuse_with(&rt, deep_tree(rt.alloc(), false)?, "/right");
-    refuse_with(&rt, deep_list(rt.alloc())?, "/0");
-    Ok(())
+fn a_million_deep_on_a_small_stack(rt: HostRuntime) {
+    for side in ["/left", "/right"] {
+        refuse_with(&rt, chain(&rt, NODE, DEPTH, 0, side), side);
+    }
+    refuse_with(&rt, deep_list(&rt), "/0");
 }

@@ -1,7 +1,8 @@
 //! Ranges, constraints, and errors with their texts.
-use std::alloc::{AllocError, Global};
+use crate::fixtures::{expect_same, range};
 use std::cmp::Ordering;
-use std::test::Fail;
+use std::fmt::Display;
+use std::process::Abort;
 use vm_allocator::allocation_engine::NodeState;
 use vm_allocator::{
     AllocPolicy, Constraint, DEFAULT_CONSTRAINT_ALIGN, Error, RangeInclusive, ValueError,
@@ -10,121 +11,159 @@ use vm_devices::DeviceSlot;
 
 const MAX: u64 = u64::MAX;
 
-#[test]
-fn test_new_range(rt: HostRuntime) -> std::result::Result<(), Fail> {
-    assert_eq!(rt; RangeInclusive::new(2, 1), Err(Error::InvalidRange(2, 1)));
-    assert_eq!(rt;
-        RangeInclusive::new(0, MAX),
-        Err(Error::InvalidRange(0, MAX))
-    );
-    assert_eq!(rt; RangeInclusive::new(0, 0x100)?.len(), 0x101);
-    Ok(())
-}
-
-#[test]
-fn test_range_upper_bound(rt: HostRuntime) -> std::result::Result<(), Fail> {
-    assert_eq!(rt; RangeInclusive::new(1, MAX)?.len(), MAX);
-    assert_eq!(rt; RangeInclusive::new(0, MAX - 1)?.len(), MAX);
-    assert_eq!(rt; RangeInclusive::new(MAX, MAX)?.len(), 1);
-    Ok(())
-}
-
-#[test]
-fn test_range_overlaps(rt: HostRuntime) -> std::result::Result<(), Fail> {
-    let range = RangeInclusive::new(1, 4)?;
-    assert_eq!(rt; range.len(), 4);
-    for (start, end, want) in [(4, 6, true), (2, 3, true), (5, 6, false)] {
-        let other = RangeInclusive::new(start, end)?;
-        assert_eq!(rt; range.overlaps(&other), want, "{start} to {end}");
-        assert_eq!(rt; other.overlaps(&range), want, "{start} to {end}");
+/// Each range has this length, or is none for this reason.
+fn expect_lengths(rt: &impl Abort, rows: &[(u64, u64, std::result::Result<u64, Error>)]) {
+    for (start, end, want) in rows {
+        let length = match RangeInclusive::new(*start, *end) {
+            Ok(range) => Ok(range.len()),
+            Err(error) => Err(error),
+        };
+        expect_same(rt, &length, want, &(*start, *end));
     }
-    let wide = RangeInclusive::new(0, 0x100)?;
-    assert!(rt; wide.overlaps(&RangeInclusive::new(0x99, 0x150)?));
-    Ok(())
 }
 
 #[test]
-fn test_range_contain(rt: HostRuntime) -> std::result::Result<(), Fail> {
-    let range = RangeInclusive::new(2, 6)?;
-    for (start, end, want) in [
-        (2, 3, true),
-        (3, 4, true),
-        (5, 6, true),
-        (1, 2, false),
-        (1, 3, false),
-        (1, 7, false),
-        (6, 7, false),
-        (7, 8, false),
-    ] {
-        let other = RangeInclusive::new(start, end)?;
-        assert_eq!(rt; range.contains(&other), want, "{start} to {end}");
+fn test_new_range(rt: HostRuntime) {
+    let rows = [
+        (2, 1, Err(Error::InvalidRange(2, 1))),
+        (0, MAX, Err(Error::InvalidRange(0, MAX))),
+        (0, 0x100, Ok(0x101)),
+    ];
+    expect_lengths(&rt, &rows);
+}
+
+#[test]
+fn test_range_upper_bound(rt: HostRuntime) {
+    let rows = [(1, MAX, Ok(MAX)), (0, MAX - 1, Ok(MAX)), (MAX, MAX, Ok(1))];
+    expect_lengths(&rt, &rows);
+}
+
+#[test]
+fn test_range_overlaps(rt: HostRuntime) {
+    let rows = [
+        ((1, 4), (4, 6), true),
+        ((1, 4), (2, 3), true),
+        ((1, 4), (5, 6), false),
+        ((0, 0x100), (0x99, 0x150), true),
+    ];
+    for ((start, end), other, want) in rows {
+        let first = range(&rt, start, end);
+        let second = range(&rt, other.0, other.1);
+        let answers = (first.overlaps(&second), second.overlaps(&first));
+        expect_same(&rt, &answers, &(want, want), &(first, second));
     }
-    let wide = RangeInclusive::new(0, 0x100)?;
-    assert!(rt; wide.contains(&RangeInclusive::new(0x50, 0x80)?));
-    Ok(())
+    expect_lengths(&rt, &[(1, 4, Ok(4))]);
 }
 
 #[test]
-fn test_range_ord(rt: HostRuntime) -> std::result::Result<(), Fail> {
-    let low = RangeInclusive::new(1, 3)?;
-    let middle = RangeInclusive::new(1, 4)?;
-    let same = RangeInclusive::new(1, 4)?;
-    let high = RangeInclusive::new(1, 5)?;
-    let later = RangeInclusive::new(2, 2)?;
-    assert!(rt; low < middle);
-    assert_eq!(rt; middle, same);
-    assert!(rt; middle < high);
-    assert!(rt; high < later);
-    assert_eq!(rt; middle.cmp(&same), Ordering::Equal);
-    Ok(())
-}
-
-#[test]
-fn test_getters(rt: HostRuntime) -> std::result::Result<(), Fail> {
-    let range = RangeInclusive::new(3, 5)?;
-    assert_eq!(rt; range.start(), 3);
-    assert_eq!(rt; range.end(), 5);
-    Ok(())
-}
-
-#[test]
-fn constraint_getter(rt: HostRuntime) -> std::result::Result<(), Fail> {
-    let unaligned = Constraint::new(0x1000, 0x1000, AllocPolicy::ExactMatch(0xC));
-    assert_eq!(rt; unaligned, Err(Error::UnalignedAddress));
-    let constraint = Constraint::new(0x1000, 0x1000, AllocPolicy::default())?;
-    assert_eq!(rt; constraint.align(), 0x1000);
-    assert_eq!(rt; constraint.size(), 0x1000);
-    Ok(())
-}
-
-#[test]
-fn constraints(rt: HostRuntime) -> std::result::Result<(), Fail> {
-    for (size, align, policy, want) in [
-        (4, 3, AllocPolicy::LastMatch, Error::InvalidAlignment),
-        (4, 4, AllocPolicy::ExactMatch(3), Error::UnalignedAddress),
-        (4, 3, AllocPolicy::ExactMatch(1), Error::InvalidAlignment),
-        (0, 3, AllocPolicy::FirstMatch, Error::InvalidSize(0)),
-        (0, 4, AllocPolicy::ExactMatch(3), Error::InvalidSize(0)),
-    ] {
-        let answer = Constraint::new(size, align, policy);
-        assert_eq!(rt; answer, Err(want), "{size} at {align} by {policy:?}");
+fn test_range_contain(rt: HostRuntime) {
+    let rows = [
+        ((2, 6), (2, 3), true),
+        ((2, 6), (3, 4), true),
+        ((2, 6), (5, 6), true),
+        ((2, 6), (1, 2), false),
+        ((2, 6), (1, 3), false),
+        ((2, 6), (1, 7), false),
+        ((2, 6), (6, 7), false),
+        ((2, 6), (7, 8), false),
+        ((0, 0x100), (0x50, 0x80), true),
+    ];
+    for ((start, end), other, want) in rows {
+        let first = range(&rt, start, end);
+        let second = range(&rt, other.0, other.1);
+        expect_same(&rt, &first.contains(&second), &want, &(first, second));
     }
-    let constraint = Constraint::new(4, DEFAULT_CONSTRAINT_ALIGN, AllocPolicy::FirstMatch)?;
-    assert_eq!(rt; (constraint.size(), constraint.align()), (4, 4));
-    assert_eq!(rt; AllocPolicy::default(), AllocPolicy::FirstMatch);
-    Ok(())
+}
+
+#[test]
+fn test_range_ord(rt: HostRuntime) {
+    let rows = [
+        ((1, 3), (1, 4), Ordering::Less),
+        ((1, 4), (1, 4), Ordering::Equal),
+        ((1, 4), (1, 5), Ordering::Less),
+        ((1, 5), (2, 2), Ordering::Less),
+    ];
+    for ((start, end), other, want) in rows {
+        let first = range(&rt, start, end);
+        let second = range(&rt, other.0, other.1);
+        let answers = (first < second, first == second, first.cmp(&second));
+        let wanted = (want == Ordering::Less, want == Ordering::Equal, want);
+        expect_same(&rt, &answers, &wanted, &(first, second));
+    }
+}
+
+#[test]
+fn test_getters(rt: HostRuntime) {
+    let range = range(&rt, 3, 5);
+    expect_same(&rt, &(range.start(), range.end()), &(3, 5), &range);
+}
+
+/// A request, its fields, and why it is none.
+type Request = (
+    u64,
+    u64,
+    AllocPolicy,
+    std::result::Result<(u64, u64), Error>,
+);
+
+/// Each request has this size and this alignment, or is none for this reason.
+fn expect_requests(rt: &impl Abort, rows: &[Request]) {
+    for (size, align, policy, want) in rows {
+        let got = match Constraint::new(*size, *align, *policy) {
+            Ok(constraint) => Ok((constraint.size(), constraint.align())),
+            Err(error) => Err(error),
+        };
+        expect_same(rt, &got, want, policy);
+    }
+}
+
+#[test]
+fn constraint_getter(rt: HostRuntime) {
+    let unaligned = Err(Error::UnalignedAddress);
+    let rows = [
+        (0x1000, 0x1000, AllocPolicy::ExactMatch(0xC), unaligned),
+        (0x1000, 0x1000, AllocPolicy::default(), Ok((0x1000, 0x1000))),
+    ];
+    expect_requests(&rt, &rows);
+}
+
+#[test]
+fn constraints(rt: HostRuntime) {
+    let default = DEFAULT_CONSTRAINT_ALIGN;
+    let rows = [
+        (4, 3, AllocPolicy::LastMatch, Err(Error::InvalidAlignment)),
+        (
+            4,
+            4,
+            AllocPolicy::ExactMatch(3),
+            Err(Error::UnalignedAddress),
+        ),
+        (
+            4,
+            3,
+            AllocPolicy::ExactMatch(1),
+            Err(Error::InvalidAlignment),
+        ),
+        (0, 3, AllocPolicy::FirstMatch, Err(Error::InvalidSize(0))),
+        (0, 4, AllocPolicy::ExactMatch(3), Err(Error::InvalidSize(0))),
+        (4, default, AllocPolicy::FirstMatch, Ok((4, 4))),
+    ];
+    expect_requests(&rt, &rows);
+    assert!(rt; AllocPolicy::default() == AllocPolicy::FirstMatch);
 }
 
 /// The text of an error. A second try stands for a run in which one request for memory is refused.
-fn text_of(alloc: Global, error: &Error) -> std::result::Result<String, AllocError> {
-    match error.to_string(alloc) {
-        Ok(text) => Ok(text),
-        Err(_) => error.to_string(alloc),
+fn text_of<T: Display>(rt: &(impl Abort + AllocGlobal), error: &T) -> String {
+    match error.to_string(rt.alloc()) {
+        Ok(text) => text,
+        Err(_) => error
+            .to_string(rt.alloc())
+            .expect(rt, "memory is refused once"),
     }
 }
 
 #[test]
-fn texts_of_errors(rt: HostRuntime) -> std::result::Result<(), Fail> {
+fn texts_of_errors(rt: HostRuntime) {
     let rows = [
         (
             Error::Overflow,
@@ -157,49 +196,52 @@ fn texts_of_errors(rt: HostRuntime) -> std::result::Result<(), Fail> {
         (Error::OutOfMemory, "There is not enough memory."),
     ];
     for (error, want) in &rows {
-        assert_eq!(rt; text_of(rt.alloc(), error)?.as_str(), *want);
+        expect_same(&rt, &text_of(&rt, error).as_str(), want, error);
     }
-    Ok(())
 }
 
 #[test]
-fn texts_of_errors_with_ranges(rt: HostRuntime) -> std::result::Result<(), Fail> {
-    let range = RangeInclusive::new(1, 2)?;
-    let text = text_of(rt.alloc(), &Error::Overlap(range, range))?;
-    assert!(rt; text.as_str().starts_with("Addresses are overlapping."));
-    assert!(rt; text.as_str().contains(" intersects with existing "));
-    let held = Error::InvalidStateTransition(range, NodeState::Allocated);
-    let text = text_of(rt.alloc(), &held)?;
-    let start = "Invalid state transition for node ";
-    assert!(rt; text.as_str().starts_with(start));
-    assert!(rt; text.as_str().contains(" from "));
-    assert!(rt; text.as_str().ends_with(" to NodeState::Free"));
-    Ok(())
+fn texts_of_errors_with_ranges(rt: HostRuntime) {
+    let range = range(&rt, 1, 2);
+    let rows = [
+        (
+            Error::Overlap(range, range),
+            "Addresses are overlapping.",
+            " intersects with existing ",
+            "",
+        ),
+        (
+            Error::InvalidStateTransition(range, NodeState::Allocated),
+            "Invalid state transition for node ",
+            " from ",
+            " to NodeState::Free",
+        ),
+    ];
+    for (error, start, within, end) in &rows {
+        let text = text_of(&rt, error);
+        let text = text.as_str();
+        assert!(rt; text.starts_with(*start) && text.contains(*within) && text.ends_with(*end));
+    }
 }
 
 #[test]
-fn texts_of_value_errors(rt: HostRuntime) -> std::result::Result<(), Fail> {
+fn texts_of_value_errors(rt: HostRuntime) {
     let rows = [
         (ValueError::NotAState, "The value states no valid object."),
         (ValueError::OutOfMemory, "There is not enough memory."),
     ];
     for (error, want) in &rows {
-        let text = match error.to_string(rt.alloc()) {
-            Ok(text) => text,
-            Err(_) => error.to_string(rt.alloc())?,
-        };
-        assert_eq!(rt; text.as_str(), *want);
+        expect_same(&rt, &text_of(&rt, error).as_str(), want, error);
     }
-    assert!(rt; ValueError::NotAState == ValueError::NotAState);
-    assert!(rt; ValueError::NotAState != ValueError::OutOfMemory);
-    Ok(())
+    let (not_a_state, out_of_memory) = (ValueError::NotAState, ValueError::OutOfMemory);
+    assert!(rt; not_a_state == ValueError::NotAState && not_a_state != out_of_memory);
 }
 
 /// By the kind of error first, and then by its fields.
 #[test]
-fn errors_rise(rt: HostRuntime) -> std::result::Result<(), Fail> {
-    let (low, middle) = (RangeInclusive::new(1, 2)?, RangeInclusive::new(1, 3)?);
-    let high = RangeInclusive::new(2, 2)?;
+fn errors_rise(rt: HostRuntime) {
+    let (low, middle) = (range(&rt, 1, 2), range(&rt, 1, 3));
+    let high = range(&rt, 2, 2);
     let rising = [
         Error::Overflow,
         Error::OutOfRange(0),
@@ -227,53 +269,42 @@ fn errors_rise(rt: HostRuntime) -> std::result::Result<(), Fail> {
     ];
     for (i, first) in rising.iter().enumerate() {
         for (j, second) in rising.iter().enumerate() {
-            assert_eq!(rt; first.cmp(second), i.cmp(&j), "{i} and {j}");
-            assert_eq!(rt; first == second, i == j, "{i} and {j}");
+            let answers = (first.cmp(second), first == second);
+            expect_same(&rt, &answers, &(i.cmp(&j), i == j), &(i, j));
         }
     }
-    Ok(())
+}
+
+/// The request of this size, alignment and policy.
+fn request(rt: &impl Abort, size: u64, align: u64, policy: AllocPolicy) -> Constraint {
+    Constraint::new(size, align, policy).expect(rt, "it is a request")
 }
 
 /// Policies, requests and devices are equal where all their fields are.
 #[test]
-fn fields_compared(rt: HostRuntime) -> std::result::Result<(), Fail> {
-    let (low, high) = (RangeInclusive::new(1, 2)?, RangeInclusive::new(1, 3)?);
+fn fields_compared(rt: HostRuntime) {
     let rows = [
-        (
-            4,
-            4,
-            AllocPolicy::FirstMatch,
-            DeviceSlot { id: 1, range: low },
-        ),
-        (
-            8,
-            4,
-            AllocPolicy::LastMatch,
-            DeviceSlot { id: 2, range: low },
-        ),
-        (
-            4,
-            8,
-            AllocPolicy::ExactMatch(8),
-            DeviceSlot { id: 1, range: high },
-        ),
-        (
-            4,
-            4,
-            AllocPolicy::ExactMatch(16),
-            DeviceSlot { id: 2, range: high },
-        ),
+        (4, 4, AllocPolicy::FirstMatch, 1, 2),
+        (8, 4, AllocPolicy::LastMatch, 2, 2),
+        (4, 8, AllocPolicy::ExactMatch(8), 1, 3),
+        (4, 4, AllocPolicy::ExactMatch(16), 2, 3),
     ];
-    for (i, (size, align, policy, device)) in rows.iter().enumerate() {
-        let request = Constraint::new(*size, *align, *policy)?;
-        for (j, (other_size, other_align, other_policy, other_device)) in rows.iter().enumerate() {
-            let other = Constraint::new(*other_size, *other_align, *other_policy)?;
-            assert_eq!(rt; request == other, i == j, "{i} and {j}");
-            assert_eq!(rt; policy == other_policy, i == j, "{i} and {j}");
-            assert_eq!(rt; device == other_device, i == j, "{i} and {j}");
+    for (i, (size, align, policy, id, end)) in rows.iter().enumerate() {
+        let first = request(&rt, *size, *align, *policy);
+        let device = DeviceSlot {
+            id: *id,
+            range: range(&rt, 1, *end),
+        };
+        for (j, (size, align, other_policy, id, end)) in rows.iter().enumerate() {
+            let second = request(&rt, *size, *align, *other_policy);
+            let other = DeviceSlot {
+                id: *id,
+                range: range(&rt, 1, *end),
+            };
+            let answers = (first == second, policy == other_policy, device == other);
+            expect_same(&rt, &answers, &(i == j, i == j, i == j), &(i, j));
         }
-        let first_match = Constraint::new(*size, *align, AllocPolicy::FirstMatch)?;
-        assert_eq!(rt; request == first_match, i == 0, "{i} with another policy");
+        let first_match = request(&rt, *size, *align, AllocPolicy::FirstMatch);
+        expect_same(&rt, &(first == first_match), &(i == 0), &i);
     }
-    Ok(())
 }

@@ -5,11 +5,11 @@ ghost use Rattle.vm_allocator.specs.Range.{address_count};
 ghost use Rattle.vm_allocator.specs.Allocator.{state_of};
 ghost use Rattle.vm_allocator.specs.Ids.{IsHeld};
 
-use crate::fixtures::made;
+use crate::fixtures::{expect_so, made, range};
 use crate::plugging::replugged;
 use crate::windows::{restored, windows};
 use std::alloc::Global;
-use std::test::Fail;
+use std::process::Abort;
 use vm_allocator::{AddressAllocator, AllocPolicy, Error, IdAllocator, RangeInclusive, Result};
 
 /// A bar, which has to lie at a multiple of its size.
@@ -47,47 +47,72 @@ fn take_interrupt(numbers: &mut IdAllocator) -> Result<u32>
     numbers.allocate_id()
 }
 
-#[test]
+/// Two windows, each in its place.
+fn use_windows(rt: &(impl Abort + AllocGlobal)) {
+    let both = match windows(rt.alloc()) {
+        Err(Error::OutOfMemory) => windows(rt.alloc()),
+        answer => answer,
+    };
+    let (first, second) = both.expect(rt, "there is room");
+    let are_there = first.start() == 0xD000_0000 && second.start() == 0xD000_1000;
+    expect_so(rt, are_there, &"both windows");
+}
+
+/// A gap written and read.
+fn use_restored(rt: &(impl Abort + AllocGlobal), gap: &AddressAllocator) {
+    let empty = match restored(rt.alloc(), gap) {
+        Ok(empty) => empty,
+        Err(_) => restored(rt.alloc(), gap).expect(rt, "memory is refused once"),
+    };
+    expect_so(rt, empty == *gap, &"the same gap");
+}
+
+/// A bar in a gap.
+fn use_bar(rt: &(impl Abort + AllocGlobal), gap: &mut AddressAllocator) {
+    let bar = match place_bar(rt.alloc(), gap, 0x10_0000) {
+        Err(Error::OutOfMemory) => place_bar(rt.alloc(), gap, 0x10_0000),
+        answer => answer,
+    };
+    let want = Ok(range(rt, 0xE010_0000, 0xE01F_FFFF));
+    expect_so(rt, bar == want, &bar);
+}
+
+/// A slot of a memory, plugged out and in.
 #[tactic(auto, using(vm_allocator::proofs::Callers::callers))]
-fn uses(rt: HostRuntime) -> std::result::Result<(), Fail> {
-    let (first, second) = match windows(rt.alloc()) {
-        Err(Error::OutOfMemory) => windows(rt.alloc())?,
-        answer => answer?,
-    };
-    assert_eq!(rt; (first.start(), second.start()), (0xD000_0000, 0xD000_1000));
+fn use_memory(rt: &(impl Abort + AllocGlobal)) {
+    let mut memory = made(rt, 0x1_0000_0000, 0x4000_0000);
+    let slot = memory
+        .allocate(rt.alloc(), 0x4000_0000, 0x1000, AllocPolicy::LastMatch)
+        .expect(rt, "there is room");
+    let again = replug(rt.alloc(), &mut memory, &slot);
+    expect_so(rt, again == Ok(slot), &again);
+}
 
-    let mut gap = made(&rt, 0xE000_1000, 0xFF_F000);
-    let empty = match restored(rt.alloc(), &gap) {
-        Err(_) => restored(rt.alloc(), &gap)?,
-        answer => answer?,
-    };
-    assert!(rt; empty == gap);
-    let bar = match place_bar(rt.alloc(), &mut gap, 0x10_0000) {
-        Err(Error::OutOfMemory) => place_bar(rt.alloc(), &mut gap, 0x10_0000)?,
-        answer => answer?,
-    };
-    assert_eq!(rt; (bar.start(), bar.end()), (0xE010_0000, 0xE01F_FFFF));
-
-    let mut memory = made(&rt, 0x1_0000_0000, 0x4000_0000);
-    let slot = memory.allocate(rt.alloc(), 0x4000_0000, 0x1000, AllocPolicy::LastMatch)?;
-    assert_eq!(rt; replug(rt.alloc(), &mut memory, &slot), Ok(slot));
-
-    let mut numbers = IdAllocator::new(rt.alloc(), 5, 23)?;
-    assert_eq!(rt; take_interrupt(&mut numbers), Ok(5));
-    assert_eq!(rt; take_interrupt(&mut numbers), Ok(6));
-    Ok(())
+/// The first two numbers for devices.
+fn use_numbers(rt: &(impl Abort + AllocGlobal)) {
+    let mut numbers = IdAllocator::new(rt.alloc(), 5, 23).expect(rt, "it is a range");
+    expect_so(rt, take_interrupt(&mut numbers) == Ok(5), &"5");
+    expect_so(rt, take_interrupt(&mut numbers) == Ok(6), &"6");
 }
 
 #[test]
-fn replugs(rt: HostRuntime) -> std::result::Result<(), Fail> {
-    let (first, again) = match replugged(rt.alloc()) {
-        Err(Error::OutOfMemory) => replugged(rt.alloc())?,
-        answer => answer?,
+fn uses(rt: HostRuntime) {
+    use_windows(&rt);
+    let mut gap = made(&rt, 0xE000_1000, 0xFF_F000);
+    use_restored(&rt, &gap);
+    use_bar(&rt, &mut gap);
+    use_memory(&rt);
+    use_numbers(&rt);
+}
+
+#[test]
+fn replugs(rt: HostRuntime) {
+    let both = match replugged(rt.alloc()) {
+        Err(Error::OutOfMemory) => replugged(rt.alloc()),
+        answer => answer,
     };
-    assert_eq!(rt;
-        (first.id, first.range.start(), first.range.end()),
-        (0, 0xD000_0000, 0xD000_0FFF)
-    );
-    assert_eq!(rt; again, first);
-    Ok(())
+    let (first, again) = both.expect(&rt, "there is room");
+    let window = range(&rt, 0xD000_0000, 0xD000_0FFF);
+    expect_so(&rt, first.id == 0 && first.range == window, &first);
+    expect_so(&rt, again == first, &again);
 }

@@ -20,6 +20,11 @@ impl<T> Vec<T> {
         self.0.push(value);
         Ok(())
     }
+
+    /// The values.
+    pub fn as_slice(&self) -> &[T] {
+        &self.0
+    }
 }
 
 impl<T> From<alloc::vec::Vec<T>> for Vec<T> {

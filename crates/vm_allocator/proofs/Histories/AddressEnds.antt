@@ -1,12 +1,12 @@
 -- Where a history ends: in a clone, or in a state that others end in.
 use Rattle.std.proofs.Common.{List, [], ◌∷◌, ◌++◌, refl, subst, inl, inr, Ok}
-use Rattle.vm_allocator.specs.Address.{AddressState}
-use Rattle.vm_allocator.specs.Values.TreeValues.{StatesAddresses}
+use Rattle.vm_engine.specs.Address.{AddressState}
+use Rattle.vm_allocator.specs.Values.AllocatorValues.{StatesAddresses}
 use Rattle.vm_allocator.specs.Values.RepairedValues.{StatesRepaired}
 use Rattle.vm_allocator.specs.Histories.AddressHistories.{Call, Cloning, IsHistoryFrom}
 use Rattle.vm_allocator.specs.Laws.HistoryLaws.{CloneIsReached, ReadIsReached, OneEndIsEqual, ReleaseMakesEqual, OrderOfReleasesMakesEqual}
-use Rattle.vm_allocator.proofs.Answers.CloneAnswers.{clone_is}
-use Rattle.vm_allocator.proofs.Comparing.StateOrders.{equal_states}
+use Rattle.vm_engine.proofs.Answers.CloneAnswers.{clone_is}
+use Rattle.vm_engine.proofs.Comparing.StateOrders.{equal_states}
 use Rattle.vm_allocator.proofs.Histories.AlongHistories.{alike_state, release_undoes}
 use Rattle.vm_allocator.proofs.Histories.Releases.{order_is_free}
 

@@ -1,22 +1,22 @@
 -- What holds along every history of an address allocator.
 use Rattle.std.proofs.Common.{◌≡◌, ◌⊎◌, ◌↔◌, List, [], ◌∷◌, suc, refl, sym, ap, ◌∙◌, arith, inl, inr, ⊎_elim, subst, Result}
 use Rattle.std.specs.List.{Contains}
-use Rattle.vm_allocator.specs.Range.{Range, span}
-use Rattle.vm_allocator.specs.Address.{AddressState, IsPlace, IsAddressState}
-use Rattle.vm_allocator.specs.Request.{Request}
-use Rattle.vm_allocator.specs.Answer.{Allocates, Frees}
+use Rattle.vm_engine.specs.Range.{Range, span}
+use Rattle.vm_engine.specs.Address.{AddressState, IsPlace, IsAddressState}
+use Rattle.vm_engine.specs.Request.{Request}
+use Rattle.vm_engine.specs.Answer.{Allocates, Frees}
 use Rattle.vm_allocator.specs.Histories.AddressHistories.{Call, Allocation, Release, Cloning, IsCallFrom, IsHistoryFrom, Begins, Reached, WasGiven, WasStated}
 use Rattle.vm_allocator.specs.Laws.HistoryLaws.{HeldAreGood, AreAlike, StateDecides, ReleaseUndoes}
-use Rattle.vm_allocator.specs.declared.error.Error.{Error}
-use Rattle.vm_allocator.proofs.Blocks.PlainWords.{IsHeld, contains_held, held_contains}
-use Rattle.vm_allocator.proofs.Answers.Outcomes.{IsRefused}
+use Rattle.vm_engine.specs.declared.error.Error.{Error}
+use Rattle.vm_engine.proofs.Blocks.PlainWords.{IsHeld, contains_held, held_contains}
+use Rattle.vm_engine.proofs.Answers.Outcomes.{IsRefused}
 use Rattle.vm_allocator.proofs.Reading.ReadAllocators.{stated_state}
 use Rattle.vm_allocator.proofs.Repairing.RepairedReading.{repaired_state}
-use Rattle.vm_allocator.proofs.Answers.CloneAnswers.{cloning_keeps}
-use Rattle.vm_allocator.proofs.Answers.Once.{allocates_once, frees_once}
-use Rattle.vm_allocator.proofs.Blocks.HeldSets.{same_ranges_held}
-use Rattle.vm_allocator.proofs.Blocks.HeldChanges.{held_with, held_without}
-use Rattle.vm_allocator.proofs.Answers.AddressAnswers.{IsGiven, outcome, allocated_state, freed_state, made_is, made_state, lie_apart, freeing_undoes}
+use Rattle.vm_engine.proofs.Answers.CloneAnswers.{cloning_keeps}
+use Rattle.vm_engine.proofs.Answers.Once.{allocates_once, frees_once}
+use Rattle.vm_engine.proofs.Blocks.HeldSets.{same_ranges_held}
+use Rattle.vm_engine.proofs.Blocks.HeldChanges.{held_with, held_without}
+use Rattle.vm_engine.proofs.Answers.AddressAnswers.{IsGiven, outcome, allocated_state, freed_state, made_is, made_state, lie_apart, freeing_undoes}
 
 -- ---- every state that is reached is one
 call_state : (old new : AddressState) (call : Call) → IsCallFrom old call new → IsAddressState old → IsAddressState new

@@ -1,21 +1,21 @@
 -- What every call of a history returns.
 use Rattle.std.proofs.Common.{◌≡◌, ◌≢◌, ℕ, ◌+◌, ◌-◌, ◌<◌, arith, sym, ap, ◌∙◌, ◌⊎◌, ⊎_elim, subst, Result, Ok, Err}
 use Rattle.std.proofs.lemmas.Bool.{cases_eq}
-use Rattle.vm_allocator.specs.Range.{Range, MAX, IsIn, span}
-use Rattle.vm_allocator.specs.Address.{AddressState, IsPlace, IsAddressState}
-use Rattle.vm_allocator.specs.Request.{Request, request_for, IsRequest, ByConstraint, MakesConstraint}
-use Rattle.vm_allocator.specs.Answer.{IsChosen, ByStart, ByExactStart, ByPlace, Takes, Grants, Allocates, Frees}
+use Rattle.vm_engine.specs.Range.{Range, MAX, IsIn, span}
+use Rattle.vm_engine.specs.Address.{AddressState, IsPlace, IsAddressState}
+use Rattle.vm_engine.specs.Request.{Request, request_for, IsRequest, ByConstraint, MakesConstraint}
+use Rattle.vm_engine.specs.Answer.{IsChosen, ByStart, ByExactStart, ByPlace, Takes, Grants, Allocates, Frees}
 use Rattle.vm_allocator.specs.Laws.HistoryLaws.{FirstIsLeast, LastIsGreatest, ExactIsNamed, IsRefusedInOrder, IsAnswered, PlacesAnswer, RefusalsChangeNothing}
-use Rattle.vm_allocator.specs.declared.error.Error.{Error}
-use Rattle.vm_allocator.specs.declared.error.Error.TheVariants.{Overflow, ResourceNotAvailable}
-use Rattle.vm_allocator.specs.declared.constraint.AllocPolicy.{AllocPolicy}
-use Rattle.vm_allocator.specs.declared.constraint.AllocPolicy.TheVariants.{FirstMatch, LastMatch, ExactMatch}
-use Rattle.vm_allocator.proofs.Answers.TwoFacts.{if_same, unless_same}
-use Rattle.vm_allocator.proofs.Blocks.PlainWords.{held_contains}
-use Rattle.vm_allocator.proofs.Blocks.HeldSets.{held_lies}
-use Rattle.vm_allocator.proofs.Answers.Once.{chosen_place}
-use Rattle.vm_allocator.proofs.Answers.Filling.{otherwise, given, faulty, lacking, clear_not_held, request_grants, allocates_chosen}
-use Rattle.vm_allocator.proofs.Answers.Outcomes.{allocates_outcome}
+use Rattle.vm_engine.specs.declared.error.Error.{Error}
+use Rattle.vm_engine.specs.declared.error.Error.TheVariants.{Overflow, ResourceNotAvailable}
+use Rattle.vm_engine.specs.declared.constraint.AllocPolicy.{AllocPolicy}
+use Rattle.vm_engine.specs.declared.constraint.AllocPolicy.TheVariants.{FirstMatch, LastMatch, ExactMatch}
+use Rattle.vm_engine.proofs.Answers.TwoFacts.{if_same, unless_same}
+use Rattle.vm_engine.proofs.Blocks.PlainWords.{held_contains}
+use Rattle.vm_engine.proofs.Blocks.HeldSets.{held_lies}
+use Rattle.vm_engine.proofs.Answers.Once.{chosen_place}
+use Rattle.vm_engine.proofs.Answers.Filling.{otherwise, given, faulty, lacking, clear_not_held, request_grants, allocates_chosen}
+use Rattle.vm_engine.proofs.Answers.Outcomes.{allocates_outcome}
 use Rattle.vm_allocator.proofs.Histories.AlongHistories.{reached_state}
 
 -- ---- a range that was given starts at the chosen place

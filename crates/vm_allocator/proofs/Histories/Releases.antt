@@ -5,14 +5,14 @@ use Rattle.std.proofs.lemmas.Map.Keys.{IsDistinct-IsPermutation}
 use Rattle.std.specs.List.{Contains, AllByRecursion, IsDistinct}
 use Rattle.std.specs.List.Sorted.{IsPermutation}
 use Rattle.std.proofs.lemmas.List.Sorted.{Contains-permutation, IsPermutation-sym}
-use Rattle.vm_allocator.specs.Range.{Range}
-use Rattle.vm_allocator.specs.Address.{AddressState, IsAddressState, releasing, without_range}
+use Rattle.vm_engine.specs.Range.{Range}
+use Rattle.vm_engine.specs.Address.{AddressState, IsAddressState, releasing, without_range}
 use Rattle.vm_allocator.specs.Histories.AddressHistories.{IsHistoryFrom, Reached, releases}
 use Rattle.vm_allocator.specs.Laws.HistoryLaws.{OrderOfReleasesIsFree}
-use Rattle.vm_allocator.proofs.Blocks.PlainWords.{IsHeld, contains_held, held_contains}
-use Rattle.vm_allocator.proofs.Blocks.HeldSets.{one_start}
-use Rattle.vm_allocator.proofs.Blocks.HeldChanges.{held_without, not_held_without, others_held}
-use Rattle.vm_allocator.proofs.Answers.AddressAnswers.{freed_held, freed_state, releases_held}
+use Rattle.vm_engine.proofs.Blocks.PlainWords.{IsHeld, contains_held, held_contains}
+use Rattle.vm_engine.proofs.Blocks.HeldSets.{one_start}
+use Rattle.vm_engine.proofs.Blocks.HeldChanges.{held_without, not_held_without, others_held}
+use Rattle.vm_engine.proofs.Answers.AddressAnswers.{freed_held, freed_state, releases_held}
 use Rattle.vm_allocator.proofs.Histories.AlongHistories.{history_state, reached_state, same_members, same_state}
 
 -- what is held once ranges are given back: those from before but for them

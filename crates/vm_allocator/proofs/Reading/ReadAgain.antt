@@ -2,16 +2,16 @@
 use Rattle.std.proofs.Common.{ap, inl, inr, refl, Ok, Err}
 use Rattle.serde_json.specs.View.{view}
 use Rattle.serde_json.specs.Data.{Data}
-use Rattle.vm_allocator.specs.Values.RangeValues.{StatesRange, StatesState}
-use Rattle.vm_allocator.specs.Values.TreeValues.{StatesAllocator}
-use Rattle.vm_allocator.specs.Values.IdValues.{StatesIds}
+use Rattle.vm_engine.specs.Values.RangeValues.{StatesRange, StatesState}
+use Rattle.vm_allocator.specs.Values.AllocatorValues.{StatesAllocator}
+use Rattle.vm_ids.specs.IdValues.{StatesIds}
 use Rattle.vm_allocator.specs.Values.RepairedValues.{StatesRepaired}
 use Rattle.vm_allocator.specs.Laws.ValueLaws.{StatesOne, ReadsWritten, ReadsAlike}
-use Rattle.vm_allocator.specs.declared.saved.ValueError.TheVariants.{NotAState, OutOfMemory}
-use Rattle.vm_allocator.proofs.Reading.ReadRanges.{one_range}
-use Rattle.vm_allocator.proofs.Reading.ReadStates.{one_state}
+use Rattle.vm_engine.specs.declared.saved.ValueError.TheVariants.{NotAState, OutOfMemory}
+use Rattle.vm_engine.proofs.Reading.ReadRanges.{one_range}
+use Rattle.vm_engine.proofs.Reading.ReadStates.{one_state}
 use Rattle.vm_allocator.proofs.Reading.ReadAllocators.{one_allocator}
-use Rattle.vm_allocator.proofs.Reading.ReadIdStates.{one_stated}
+use Rattle.vm_ids.proofs.ReadIdStates.{one_stated}
 use Rattle.vm_allocator.proofs.Repairing.RepairedReading.{one_repaired, strict_repaired}
 
 pub one_range_stated : StatesOne StatesRange

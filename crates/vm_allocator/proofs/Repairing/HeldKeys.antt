@@ -3,15 +3,15 @@ use Rattle.std.proofs.Common.{◌≡◌, ℕ, ◌-◌, ◌≤◌, List, [], ◌�
 use Rattle.std.proofs.lemmas.List.{append_assoc, append-nil}
 use Rattle.std.proofs.lemmas.Option.{same_Some}
 use Rattle.serde_json.specs.Data.{Data}
-use Rattle.vm_allocator.specs.Range.{Range}
-use Rattle.vm_allocator.specs.Address.{AddressState}
-use Rattle.vm_allocator.specs.Tree.Block.{Block}
-use Rattle.vm_allocator.specs.Tree.Blocks.{range_if_held, held_of}
-use Rattle.vm_allocator.specs.Tree.Shape.{Shape, Tip, Fork, blocks, height_of}
-use Rattle.vm_allocator.specs.Checks.ValueChecks.{NodeData, node_data}
-use Rattle.vm_allocator.specs.Values.RepairedValues.{HasNodes}
+use Rattle.vm_engine.specs.Range.{Range}
+use Rattle.vm_engine.specs.Address.{AddressState}
+use Rattle.vm_engine.specs.Tree.Block.{Block}
+use Rattle.vm_engine.specs.Tree.Blocks.{range_if_held, held_of}
+use Rattle.vm_engine.specs.Tree.Shape.{Shape, Tip, Fork, blocks, height_of}
+use Rattle.vm_engine.specs.Checks.ValueChecks.{NodeData, node_data}
+use Rattle.vm_engine.specs.Values.TreeValues.{HasNodes}
 use Rattle.vm_allocator.specs.Checks.RepairChecks.{adding, CanAdd, HasNodesToAdd, CanAddNodes, AddsNodes}
-use Rattle.vm_allocator.proofs.Reading.ReadNodes.{no_data, fork_is, none_tip, one_tree}
+use Rattle.vm_engine.proofs.Reading.ReadNodes.{no_data, fork_is, none_tip, one_tree}
 use Rattle.vm_allocator.proofs.Repairing.AddedKeys.{adding_both, can_below, can_above}
 
 held_node : (xs : List Block) (b : Block) (ys : List Block) → held_of (xs ++ b ∷ ys) ≡ held_of xs ++ (range_if_held b.state b.key ++ held_of ys)

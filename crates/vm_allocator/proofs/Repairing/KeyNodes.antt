@@ -3,14 +3,14 @@ use Rattle.std.proofs.Common.{◌≡◌, ℕ, zero, suc, ◌≤◌, true, false,
 use Rattle.serde_json.specs.Data.{Data}
 use Rattle.serde_json.specs.Find.{as_null}
 use Rattle.vm_values.proofs.Steps.{and_then_some, if_some}
-use Rattle.vm_allocator.specs.Tree.Shape.{Shape, Tip, Fork, blocks, height_of}
-use Rattle.vm_allocator.specs.Checks.ValueChecks.{NodeData, node_data, after_all}
-use Rattle.vm_allocator.specs.Values.RepairedValues.{HasNodes}
+use Rattle.vm_engine.specs.Tree.Shape.{Shape, Tip, Fork, blocks, height_of}
+use Rattle.vm_engine.specs.Checks.ValueChecks.{NodeData, node_data, after_all}
+use Rattle.vm_engine.specs.Values.TreeValues.{HasNodes}
 use Rattle.vm_allocator.specs.Checks.RepairChecks.{extended, row_of_node, row_found}
 use Rattle.vm_allocator.specs.declared.saved.repaired.Row.{Row}
-use Rattle.vm_allocator.proofs.Reading.Fronts.{after_three, cut_in_three}
-use Rattle.vm_allocator.proofs.Reading.ReadNodes.{over_sides, fork_is}
-use Rattle.vm_allocator.proofs.Reading.ReadTrees.{null_of, not_null}
+use Rattle.vm_engine.proofs.Reading.Fronts.{after_three, cut_in_three}
+use Rattle.vm_engine.proofs.Reading.ReadNodes.{over_sides, fork_is}
+use Rattle.vm_engine.proofs.Reading.ReadTrees.{null_of, not_null}
 
 -- nodes that the value has, whose blocks stand between two rows
 pub record IsFound (end depth : ℕ) (d : Data) (row last : Row) (s : Shape) : Type 0 where

@@ -4,23 +4,24 @@ use Rattle.std.proofs.lemmas.Option.{same_Some}
 use Rattle.serde_json.specs.Data.{Data}
 use Rattle.vm_values.proofs.FieldSteps.{field_map}
 use Rattle.vm_values.proofs.Steps.{and_then_some, if_some}
-use Rattle.vm_allocator.specs.Range.{Range, IsRange, address_count}
-use Rattle.vm_allocator.specs.Address.{AddressState, StandInOrder, IsAddressState}
-use Rattle.vm_allocator.specs.Answer.{FEWEST_TOO_DEEP, Makes}
-use Rattle.vm_allocator.specs.Tree.Blocks.{held_of, TilesSpace}
-use Rattle.vm_allocator.specs.Tree.Shape.{Shape, blocks, height_of}
+use Rattle.vm_engine.specs.Range.{Range, IsRange, address_count}
+use Rattle.vm_engine.specs.Address.{AddressState, StandInOrder, IsAddressState}
+use Rattle.vm_engine.specs.Answer.{FEWEST_TOO_DEEP, Makes}
+use Rattle.vm_engine.specs.Tree.Blocks.{held_of, TilesSpace}
+use Rattle.vm_engine.specs.Tree.Shape.{Shape, blocks, height_of}
 use Rattle.vm_allocator.specs.Allocator.{SpaceInTree}
-use Rattle.vm_allocator.specs.Values.TreeValues.{StatesShape, StatesTree, StatesAllocator, StatesAddresses}
-use Rattle.vm_allocator.specs.Checks.ValueChecks.{parts_found}
-use Rattle.vm_allocator.specs.Values.RepairedValues.{MAX_HEIGHT_REPAIRED, HasNodes, StatesRepaired}
+use Rattle.vm_engine.specs.Values.TreeValues.{StatesSpaceTree, HasNodes}
+use Rattle.vm_allocator.specs.Values.AllocatorValues.{StatesTree, StatesAllocator, StatesAddresses}
+use Rattle.vm_allocator.specs.Checks.AllocatorChecks.{parts_found}
+use Rattle.vm_allocator.specs.Values.RepairedValues.{MAX_HEIGHT_REPAIRED, StatesRepaired}
 use Rattle.vm_allocator.specs.Checks.RepairChecks.{row_found, row_of, repaired_found, adding, CanAdd, CanAddNodes, AddsNodes}
-use Rattle.vm_allocator.specs.declared.allocation_engine.NodeState.TheVariants.{Allocated}
+use Rattle.vm_engine.specs.declared.allocation_engine.NodeState.TheVariants.{Allocated}
 use Rattle.vm_allocator.specs.declared.saved.repaired.Row.{Row}
-use Rattle.vm_allocator.proofs.Answers.AddressAnswers.{made_is}
-use Rattle.vm_allocator.proofs.Blocks.BlockStates.{tiles_keys, keys_in_order}
-use Rattle.vm_allocator.proofs.Reading.ReadNodes.{shape_nodes, one_tree, keys_stated}
+use Rattle.vm_engine.proofs.Answers.AddressAnswers.{made_is}
+use Rattle.vm_engine.proofs.Blocks.BlockStates.{tiles_keys, keys_in_order}
+use Rattle.vm_engine.proofs.Reading.ReadNodes.{shape_nodes, one_tree, keys_stated}
 use Rattle.vm_allocator.proofs.Reading.AllocatorParts.{HasParts, parts_stated, parts_are, one_root}
-use Rattle.vm_allocator.proofs.Reading.ReadAllocators.{stated_ends}
+use Rattle.vm_allocator.proofs.Reading.ReadAllocators.{root_of, stated_ends}
 use Rattle.vm_allocator.proofs.Repairing.Rows.{in_row, row_in}
 use Rattle.vm_allocator.proofs.Repairing.KeyNodes.{sound, complete}
 
@@ -106,21 +107,25 @@ repaired_state d state p =
     record { space = range; in_order = subst (λ (hs : List Range). StandInOrder state.space.start hs state.space.end) p.held in_order }
 
 -- what is read without repairs is read to the same state with them, where no split of it can be refused for depth
-strict_tree : (d : Data) (s : Shape) → StatesTree d (λ v. StatesShape v s) → StatesTree d (λ v. HasNodes v s)
-strict_tree d s t = record { one_field = t.one_field; root = field_map (codes "root") d (λ v. StatesShape v s) (λ v. HasNodes v s) (λ v. shape_nodes s v) t.root }
+strict_tree : (d : Data) (a : SpaceInTree) → StatesTree d (λ v. StatesSpaceTree v a.space a.tree) → StatesTree d (λ v. HasNodes v a.tree)
+strict_tree d a t = record {
+  one_field = t.one_field;
+  root = field_map (codes "root") d (λ v. StatesSpaceTree v a.space a.tree) (λ v. HasNodes v a.tree) (λ v p. shape_nodes a.tree v p.stated) t.root;
+}
 
 strict_with : (d : Data) (a : SpaceInTree) → StatesAllocator d a → length (held_of (blocks a.tree)) ≤ FEWEST_TOO_DEEP → StatesRepaired d (state_with a.space a.tree)
 unfolding TilesSpace
 strict_with d a p few =
-    let nested = p.nested in
+    let root = (root_of d a p).2 in
+    let nested = root.nested in
     record {
       tree = a.tree;
       two_fields = p.two_fields;
       address_space = p.address_space;
-      interval_tree = field_map (codes "interval_tree") d (λ v. StatesTree v (λ r. StatesShape r a.tree)) (λ v. StatesTree v (λ r. HasNodes r a.tree)) (λ v. strict_tree v a.tree) p.interval_tree;
+      interval_tree = field_map (codes "interval_tree") d (λ v. StatesTree v (λ r. StatesSpaceTree r a.space a.tree)) (λ v. StatesTree v (λ r. HasNodes r a.tree)) (λ v. strict_tree v a) p.interval_tree;
       nested = omega arith;
-      keys = tiles_keys Allocated a.space.start a.space.end (blocks a.tree) p.blocks.tiles;
-      below = p.blocks.below;
+      keys = tiles_keys Allocated a.space.start a.space.end (blocks a.tree) root.blocks.tiles;
+      below = root.blocks.below;
       few = few;
       held = refl;
     }

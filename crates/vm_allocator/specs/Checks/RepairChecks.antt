@@ -3,14 +3,16 @@
 use Rattle.std.specs.Prelude.{◌≡◌, ℕ, zero, suc, ◌+◌, ◌≤◌, ◌&&◌, ◌||◌, Bool, nat_lt, nat_le, if◌then◌else◌, List, ◌++◌, length, Option, Some, None, is_some, option_and_then}
 use Rattle.serde_json.specs.Data.{Data}
 use Rattle.serde_json.specs.Find.{as_null}
-use Rattle.vm_allocator.specs.Range.{Range, MAX}
-use Rattle.vm_allocator.specs.Address.{AddressState, IsAddressState}
-use Rattle.vm_allocator.specs.Answer.{FEWEST_TOO_DEEP}
-use Rattle.vm_allocator.specs.Tree.Block.{Block, is_free}
-use Rattle.vm_allocator.specs.Tree.Blocks.{held_of}
-use Rattle.vm_allocator.specs.Tree.Shape.{Shape, blocks, height_of}
-use Rattle.vm_allocator.specs.Checks.ValueChecks.{node_data, parts_found}
-use Rattle.vm_allocator.specs.Values.RepairedValues.{MAX_HEIGHT_REPAIRED, HasNodes}
+use Rattle.vm_engine.specs.Range.{Range, MAX}
+use Rattle.vm_engine.specs.Address.{AddressState, IsAddressState}
+use Rattle.vm_engine.specs.Answer.{FEWEST_TOO_DEEP}
+use Rattle.vm_engine.specs.Tree.Block.{Block, is_free}
+use Rattle.vm_engine.specs.Tree.Blocks.{held_of}
+use Rattle.vm_engine.specs.Tree.Shape.{Shape, blocks, height_of}
+use Rattle.vm_engine.specs.Checks.ValueChecks.{node_data}
+use Rattle.vm_allocator.specs.Checks.AllocatorChecks.{parts_found}
+use Rattle.vm_allocator.specs.Values.RepairedValues.{MAX_HEIGHT_REPAIRED}
+use Rattle.vm_engine.specs.Values.TreeValues.{HasNodes}
 use Rattle.vm_allocator.specs.declared.saved.repaired.Row.{Row}
 
 -- a block may stand behind the row, in a space that ends there: its key starts behind the row and ends in the space, and

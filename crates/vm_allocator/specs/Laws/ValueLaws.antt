@@ -3,13 +3,13 @@ use Rattle.std.specs.Prelude.{◌≡◌, ◌≤◌, ◌⊎◌, length, Result, O
 use Rattle.serde_json.specs.Data.{Data}
 use Rattle.serde_json.specs.View.{view}
 use Rattle.serde_json.specs.declared.value.Value.{Value}
-use Rattle.vm_allocator.specs.Address.{AddressState}
-use Rattle.vm_allocator.specs.Answer.{FEWEST_TOO_DEEP}
-use Rattle.vm_allocator.specs.Values.TreeValues.{StatesAddresses}
+use Rattle.vm_engine.specs.Address.{AddressState}
+use Rattle.vm_engine.specs.Answer.{FEWEST_TOO_DEEP}
+use Rattle.vm_allocator.specs.Values.AllocatorValues.{StatesAddresses}
 use Rattle.vm_allocator.specs.Values.RepairedValues.{StatesRepaired}
-use Rattle.vm_allocator.specs.Saving.{Saves, Reads}
-use Rattle.vm_allocator.specs.declared.saved.ValueError.{ValueError}
-use Rattle.vm_allocator.specs.declared.saved.ValueError.TheVariants.{OutOfMemory}
+use Rattle.vm_engine.specs.Saving.{Saves, Reads}
+use Rattle.vm_engine.specs.declared.saved.ValueError.{ValueError}
+use Rattle.vm_engine.specs.declared.saved.ValueError.TheVariants.{OutOfMemory}
 
 -- a value states one object at most
 abbrev pub StatesOne : {X : Type 0} → (Data → X → Type 0) → Type 0

@@ -1,23 +1,19 @@
 -- The saved values of address allocators that are read with repairs: those of the Rust crate vm-allocator 0.1.4, which
 -- may have lost a tree, left free neighbours apart or kept gaps between the keys.
 use Rattle.std.specs.Prelude.{◌≡◌, ℕ, ◌≤◌, length, codes, Some}
-use Rattle.serde_json.specs.Data.{Data, null}
+use Rattle.serde_json.specs.Data.{Data}
 use Rattle.vm_values.specs.Fields.{field_count, FieldIs}
-use Rattle.vm_allocator.specs.Address.{AddressState}
-use Rattle.vm_allocator.specs.Answer.{FEWEST_TOO_DEEP}
-use Rattle.vm_allocator.specs.Tree.Blocks.{held_of, AreKeysIn, AreBelowMax}
-use Rattle.vm_allocator.specs.Tree.Shape.{Shape, Tip, Fork, blocks, height_of}
-use Rattle.vm_allocator.specs.Values.RangeValues.{StatesRange}
-use Rattle.vm_allocator.specs.Values.TreeValues.{StatesNode, StatesTree}
+use Rattle.vm_engine.specs.Address.{AddressState}
+use Rattle.vm_engine.specs.Answer.{FEWEST_TOO_DEEP}
+use Rattle.vm_engine.specs.Tree.Blocks.{held_of, AreKeysIn, AreBelowMax}
+use Rattle.vm_engine.specs.Tree.Shape.{Shape, blocks, height_of}
+use Rattle.vm_engine.specs.Values.RangeValues.{StatesRange}
+use Rattle.vm_engine.specs.Values.TreeValues.{HasNodes}
+use Rattle.vm_allocator.specs.Values.AllocatorValues.{StatesTree}
 
 -- no tree that the Rust crate saves is higher
 abbrev pub MAX_HEIGHT_REPAIRED : ℕ
 MAX_HEIGHT_REPAIRED = 50
-
--- the value has the nodes of the tree, whatever whole numbers are their heights: null where there is no node
-abbrev pub HasNodes : Data → Shape → Type 0
-HasNodes d Tip = d ≡ null
-HasNodes d (Fork l b r) = (h : ℕ) × StatesNode d b (λ v. HasNodes v l) (λ v. HasNodes v r) h
 
 -- The value is an object of a space and a tree alone; the tree has any nodes or none, is not too high, and its keys stand
 -- in order in the space. None of those held ends at MAX, and they are so few that no split of them can be refused for

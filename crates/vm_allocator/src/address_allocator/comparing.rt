@@ -7,7 +7,7 @@ ghost use Rattle.std.specs.Ordering.{on, eq_by_cmp, as_partial_cmp};
 ghost use Rattle.std.specs.declared.cmp.Ordering.TheVariants.{Equal};
 ghost use Rattle.std.proofs.lemmas.Cmp.{on_total};
 ghost use Rattle.vm_allocator.specs.Allocator.{state_of};
-ghost use Rattle.vm_allocator.specs.Comparison.{state_cmp, state_cmp-total, AreEqual};
+ghost use Rattle.vm_engine.specs.Comparison.{state_cmp, state_cmp-total, AreEqual};
 
 use super::AddressAllocator;
 use std::cmp::Ordering;
@@ -19,7 +19,7 @@ impl PartialEq for AddressAllocator {
 
     /// Whether the spaces and the held ranges are the same. It takes no memory and stops at the first
     /// difference.
-    #[tactic(auto, using(crate::proofs::Comparing::StateOrders::allocators_compared))]
+    #[tactic(auto, using(vm_engine::proofs::Comparing::StateOrders::allocators_compared))]
     fn eq(&self, other: &AddressAllocator) -> bool
         ensures equal { IsTrue result ↔ AreEqual (state_of self.now) (state_of other.now) }
         ensures order { result ≡ eq_by_cmp state_cmp (state_of self.now) (state_of other.now) }
@@ -57,7 +57,7 @@ impl Ord for AddressAllocator {
     /// By the space, then by the first blocks that differ: by start, then by end, then by state, where
     /// clear is less. An allocator whose blocks are a beginning of the other's is less. It takes no
     /// memory and stops at the first difference.
-    #[tactic(auto, using(crate::proofs::Comparing::StateOrders::allocators_compared))]
+    #[tactic(auto, using(vm_engine::proofs::Comparing::StateOrders::allocators_compared))]
     fn cmp(&self, other: &AddressAllocator) -> Ordering
         ensures order { result ≡ state_cmp (state_of self.now) (state_of other.now) }
         ensures equal { (result ≡ Equal) ↔ AreEqual (state_of self.now) (state_of other.now) }

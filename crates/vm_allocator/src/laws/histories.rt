@@ -1,6 +1,6 @@
 //! Laws of whole histories: every list of calls of an address allocator, from one on that was made or
 //! read, clones made on the way among them.
-ghost use Rattle.vm_allocator.specs.Values.TreeValues.{StatesAddresses};
+ghost use Rattle.vm_allocator.specs.Values.AllocatorValues.{StatesAddresses};
 ghost use Rattle.vm_allocator.specs.Values.RepairedValues.{StatesRepaired};
 ghost use Rattle.vm_allocator.specs.Laws.HistoryLaws.{
   FirstIsLeast,

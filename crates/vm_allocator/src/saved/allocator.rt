@@ -1,36 +1,27 @@
 //! The saved form of an address allocator.
-ghost use Rattle.std.specs.Prelude.{◌≡◌, IfOk, is_some, option_map};
+ghost use Rattle.std.specs.Prelude.{◌≡◌, IfOk, option_map};
 ghost use Rattle.serde_json.specs.View.{view};
-ghost use Rattle.vm_allocator.specs.Address.{IsAddressState};
+ghost use Rattle.vm_engine.specs.Address.{IsAddressState};
+ghost use Rattle.vm_engine.specs.Saving.{Saves, Reads};
 ghost use Rattle.vm_allocator.specs.Allocator.{state_of, made_state};
-ghost use Rattle.vm_allocator.specs.Values.TreeValues.{StatesAllocator, StatesAddresses};
-ghost use Rattle.vm_allocator.specs.Checks.ValueParts.{AllocatorParts};
-ghost use Rattle.vm_allocator.specs.Checks.ValueChecks.{allocator_found, parts_found, root_found, root_fitting};
-ghost use Rattle.vm_allocator.specs.Saving.{Saves, Reads};
+ghost use Rattle.vm_allocator.specs.Values.AllocatorValues.{StatesAllocator, StatesAddresses};
+ghost use Rattle.vm_allocator.specs.Checks.AllocatorChecks.{AllocatorParts, parts_found, root_found};
 
-use super::ValueError;
-use super::fields::range_in;
-use super::tree::{Front, build, check};
 use crate::address_allocator::AddressAllocator;
-use crate::allocation_engine::node::walks::saving::save;
-use crate::allocation_engine::{IntervalTree, NodeState};
-use crate::error::Result;
-use crate::range::RangeInclusive;
 use serde_json::{Value, json};
 use std::alloc::{AllocError, Global};
+use vm_engine::allocation_engine::IntervalTree;
+use vm_engine::{RangeInclusive, Result, ValueError, range_in};
 use vm_values::has_fields;
-
-/// No node of a saved tree is nested deeper, since no tree of an allocator is higher.
-const MOST_NESTED: u64 = 49;
 
 impl AddressAllocator {
     /// The value that states the allocator: its space, and its tree node for node. `OutOfMemory` where
     /// there is no memory for it.
-    #[tactic(auto, using(crate::proofs::Reading::Writing::allocators))]
+    #[tactic(auto, using(crate::proofs::Reading::WrittenAllocators::allocators))]
     pub fn to_value(&self, alloc: Global) -> Result<Value>
         ensures { Saves (λ d. StatesAllocator d self.now) result }
     {
-        let root = save(self.interval_tree.root(), alloc)?;
+        let root = self.interval_tree.to_root_value(alloc)?;
         let space = self.address_space.to_value(alloc)?;
         Ok(save_allocator(alloc, space, root)?)
     }
@@ -43,15 +34,13 @@ impl AddressAllocator {
         ensures nodes { Reads (StatesAllocator (view value.now)) result }
         ensures state { IfOk result (λ allocator. IsAddressState (state_of allocator)) }
     {
-        let Some(checked) = check_allocator(value) else {
+        let Some(parts) = parts_of(value) else {
             return Err(ValueError::NotAState);
         };
-        let Ok(root) = build(checked.root, MOST_NESTED, alloc) else {
-            return Err(ValueError::OutOfMemory);
-        };
+        let interval_tree = IntervalTree::from_root_value(alloc, &parts.space, parts.root)?;
         Ok(AddressAllocator {
-            address_space: checked.space,
-            interval_tree: IntervalTree { root },
+            address_space: parts.space,
+            interval_tree,
         })
     }
 }
@@ -86,19 +75,6 @@ pub(super) fn parts_of(value: &Value) -> Option<SavedAllocator<'_>>
     Some(SavedAllocator { space, root })
 }
 
-/// The space that a value states, and the root of its tree; both are checked.
-fn check_allocator(value: &Value) -> Option<SavedAllocator<'_>>
-    ensures { option_map (λ c. (c.space, view c.root.now)) result ≡ allocator_found (view value.now) }
-{
-    let Some(parts) = parts_of(value) else {
-        return None;
-    };
-    if !fits(&parts.space, parts.root) {
-        return None;
-    }
-    Some(parts)
-}
-
 /// The root of a tree's value.
 fn root_of(tree: &Value) -> Option<&Value>
     ensures { option_map (λ v. view v.now) result ≡ root_found (view tree.now) }
@@ -107,18 +83,4 @@ fn root_of(tree: &Value) -> Option<&Value>
         return None;
     }
     tree.get("root")
-}
-
-/// Whether the tree of this root is one, with blocks from the start to the end of the space.
-fn fits(space: &RangeInclusive, root: &Value) -> bool
-    ensures { result ≡ is_some (root_fitting space.now (view root.now)) }
-{
-    let before = Front {
-        next: space.start().into(),
-        before: NodeState::Allocated,
-    };
-    let Some(found) = check(root, MOST_NESTED, before) else {
-        return false;
-    };
-    found.front.next == u128::from(space.end()) + 1
 }

@@ -2,23 +2,19 @@
 //! among it: a check of the whole value without memory, and the holding of its keys.
 ghost use Rattle.std.specs.Prelude.{◌≡◌, ◌+◌, IfOk, IfErr, OnOk, option_map};
 ghost use Rattle.serde_json.specs.View.{view};
-ghost use Rattle.vm_allocator.specs.Address.{IsAddressState};
+ghost use Rattle.vm_engine.specs.Address.{IsAddressState};
 ghost use Rattle.vm_allocator.specs.Allocator.{state_of, made_state};
-ghost use Rattle.vm_allocator.specs.Tree.Blocks.{range_if_held};
-ghost use Rattle.vm_allocator.specs.Saving.{Reads};
+ghost use Rattle.vm_engine.specs.Tree.Blocks.{range_if_held};
+ghost use Rattle.vm_engine.specs.Saving.{Reads};
 ghost use Rattle.vm_allocator.specs.Values.RepairedValues.{StatesRepaired};
 ghost use Rattle.vm_allocator.specs.Checks.RepairChecks.{extended, row_found, repaired_found, adding, CanAdd, CanAddNodes, AddsNodes};
 
-use super::ValueError;
 use super::allocator::{SavedAllocator, parts_of};
-use super::fields::node_of;
 use crate::address_allocator::AddressAllocator;
-use crate::allocation_engine::NodeState;
-use crate::constraint::AllocPolicy;
-use crate::error::{Error, Result};
-use crate::range::RangeInclusive;
 use serde_json::Value;
 use std::alloc::Global;
+use vm_engine::allocation_engine::NodeState;
+use vm_engine::{AllocPolicy, Error, RangeInclusive, Result, ValueError, node_of};
 
 /// No node is nested deeper, since no tree of the Rust crate is higher.
 const MOST_NESTED: u64 = 50;

@@ -239,3 +239,62 @@ pub const SPACE_BESIDE_IDS: Rows = &[
     ("space 0 0", "error underflow"),
     ("id", "id 5"),
 ];
+
+/// Lines that ask for memory or change something, each with its answer, a line that tells whether
+/// anything changed, and the answer to that before.
+pub const LINES_AGAIN: &[(&str, &str, &str, &str)] = &[
+    ("space 16 4", "done", "first 1 1", "error no-space"),
+    (
+        "first 1 1",
+        "range 16 16",
+        "free 16 16",
+        "error not-available",
+    ),
+    (
+        "first 3 1",
+        "range 17 19",
+        "free 17 19",
+        "error not-available",
+    ),
+    ("free 16 16", "done", "exact 1 1 16", "error state 16 16"),
+    ("space 32 4", "done", "exact 3 1 17", "error state 17 19"),
+    ("ids 5 9", "done", "id", "error no-ids"),
+    ("id", "id 5", "has 5", "no"),
+    ("id", "id 6", "has 6", "no"),
+    ("unid 5", "id 5", "has 5", "yes"),
+    ("has 5", "no", "has 6", "yes"),
+    ("id", "id 5", "has 5", "no"),
+    ("id", "id 7", "has 7", "no"),
+    ("manager 0 1 16 4", "done", "device 1 1", "error no-manager"),
+    (
+        "device 1 1",
+        "device 0 16 16",
+        "undevice 0",
+        "error never-allocated 0",
+    ),
+    (
+        "device 2 1",
+        "device 1 17 18",
+        "undevice 1",
+        "error never-allocated 1",
+    ),
+    ("undevice 0", "done", "device 1 1", "error not-available"),
+    (
+        "device 1 1",
+        "device 0 16 16",
+        "undevice 0",
+        "error never-allocated 0",
+    ),
+    (
+        "manager 0 0 32 4",
+        "done",
+        "device 1 1",
+        "error not-available",
+    ),
+    (
+        "device 4 1",
+        "device 0 32 35",
+        "undevice 0",
+        "error never-allocated 0",
+    ),
+];

@@ -3,7 +3,7 @@
 use super::*;
 
 /// Ranges of one length, evenly apart.
-#[derive(Clone, Copy, Debug)]
+#[derive(Clone, Copy)]
 struct Stretch {
     /// The first one's start.
     start: u64,
@@ -21,18 +21,7 @@ const NONE: Stretch = Stretch {
     size: 0,
 };
 
-/// Single addresses.
-fn single(start: u64, number: u64, apart: u64) -> Stretch {
-    Stretch {
-        start,
-        number,
-        apart,
-        size: 1,
-    }
-}
-
 /// A space cut up, and what two searches in it answer and enter at most.
-#[derive(Clone, Copy, Debug)]
 struct Row {
     /// The base and the size.
     space: (u64, u64),
@@ -58,59 +47,52 @@ impl Stretch {
             } else {
                 Free(start, end)
             };
-            let mut answer = call.ask(space, rt.alloc(), Plain);
-            if answer == Err(Error::OutOfMemory) {
-                answer = call.ask(space, rt.alloc(), Plain);
-            }
-            assert_eq!(rt; answer, Ok((start, end)), "{call:?}");
+            expect_same(rt, &ask_again(rt, space, call), &Ok((start, end)), &call);
         }
     }
 }
 
 impl Row {
-    fn meets(self, rt: &(impl Abort + AllocGlobal)) {
+    fn meets(&self, rt: &(impl Abort + AllocGlobal)) {
         let mut space = made(rt, self.space.0, self.space.1);
-        for stretch in self.held {
+        for stretch in &self.held {
             stretch.change(rt, &mut space, true);
         }
         self.freed.change(rt, &mut space, false);
-        for (policy, want) in [(FirstMatch, self.first), (LastMatch, self.last)] {
-            let most = self
-                .most
-                .0
-                .saturating_mul(space.height())
-                .saturating_add(self.most.1);
-            let (mut answer, mut count) = space.allocate_counted(
-                rt.alloc(),
-                self.size,
-                self.alignment,
-                policy,
-            );
-            if answer == Err(Error::OutOfMemory) {
-                (answer, count) = space.allocate_counted(
-                    rt.alloc(),
-                    self.size,
-                    self.alignment,
-                    policy,
-                );
-            }
-            let answer = match answer {
-                Ok(range) => Ok((range.start(), range.end())),
-                Err(error) => Err(error),
-            };
-            assert_eq!(rt; answer, want.answer(), "{policy:?} of {self:?}");
-            assert!(rt; count <= most, "{count} entered by {policy:?} of {self:?}");
-        }
+        self.search(rt, &mut space, First(self.size, self.alignment), self.first);
+        self.search(rt, &mut space, Last(self.size, self.alignment), self.last);
+    }
+
+    /// Does one of the searches.
+    fn search(
+        &self,
+        rt: &(impl Abort + AllocGlobal),
+        space: &mut AddressAllocator,
+        call: Call,
+        want: Want,
+    ) {
+        let levels = self.most.0.saturating_mul(space.height());
+        let most = levels.saturating_add(self.most.1);
+        expect_counted(rt, call, &count_again(rt, space, call), want, (0, most));
     }
 }
 
 #[test]
 fn aligned_places_are_found_at_once(rt: HostRuntime) {
-    let rows = [
+    let rows = &[
         // No address of the space is a multiple: no gap is looked into.
         Row {
             space: (1, 0x1000),
-            held: [single(1, 0x800, 2), NONE, NONE],
+            held: [
+                Stretch {
+                    start: 1,
+                    number: 0x800,
+                    apart: 2,
+                    size: 1,
+                },
+                NONE,
+                NONE,
+            ],
             freed: NONE,
             size: 1,
             alignment: 0x2000,
@@ -122,7 +104,12 @@ fn aligned_places_are_found_at_once(rt: HostRuntime) {
         Row {
             space: (1, 48),
             held: [
-                single(15, 2, 33),
+                Stretch {
+                    start: 15,
+                    number: 2,
+                    apart: 33,
+                    size: 1,
+                },
                 Stretch {
                     start: 17,
                     number: 2,
@@ -141,8 +128,22 @@ fn aligned_places_are_found_at_once(rt: HostRuntime) {
         // The 127 gaps below are long enough and odd.
         Row {
             space: (0, 0x1000),
-            held: [single(0, 0x100, 1), NONE, NONE],
-            freed: single(1, 0x80, 2),
+            held: [
+                Stretch {
+                    start: 0,
+                    number: 0x100,
+                    apart: 1,
+                    size: 1,
+                },
+                NONE,
+                NONE,
+            ],
+            freed: Stretch {
+                start: 1,
+                number: 0x80,
+                apart: 2,
+                size: 1,
+            },
             size: 1,
             alignment: 2,
             first: Range(0x100, 0x100),

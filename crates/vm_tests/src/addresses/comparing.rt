@@ -4,12 +4,12 @@ use crate::fixtures::{balance, holds_just, saved};
 use std::cmp::Ordering;
 
 /// The allocator that the calls lead to.
-fn reached(rt: &(impl Abort + AllocGlobal), calls: &[Call]) -> Result<AddressAllocator> {
+fn reached(rt: &(impl Abort + AllocGlobal), calls: &[Call]) -> AddressAllocator {
     let mut space = made(rt, 0, 1);
     for call in calls {
-        ask(rt, &mut space, *call)?;
+        expect_so(rt, ask(rt, &mut space, *call).is_ok(), call);
     }
-    Ok(space)
+    space
 }
 
 /// [1, 1] and [6, 6] held in [0, 7], by two calls.
@@ -34,59 +34,83 @@ const ALL_BUT_TWO: [Call; 15] = [
     Free(4, 4),
 ];
 
-#[test]
-fn compared_by_state(rt: HostRuntime) -> std::result::Result<(), Fail> {
-    let fresh = [Space(0, 16)];
-    let front_held = [Space(0, 16), Exact(4, 1, 0)];
-    let all_held = [Space(0, 16), Exact(16, 1, 0)];
-    let rows = [
-        (&fresh[..], &[Space(0, 17)][..], Ordering::Less),
-        (&front_held[..], &fresh[..], Ordering::Less),
-        (&all_held[..], &fresh[..], Ordering::Greater),
-        (&TWO_HELD[..], &ALL_BUT_TWO[..], Ordering::Equal),
-    ];
-    for (first, second, want) in rows {
-        let first = reached(&rt, first)?;
-        let second = reached(&rt, second)?;
-        assert_eq!(rt; first.cmp(&second), want);
-        assert_eq!(rt; second.cmp(&first), want.reverse());
-        assert_eq!(rt; first.partial_cmp(&second), Some(want));
-        assert_eq!(rt; first == second, want == Ordering::Equal);
-    }
-    Ok(())
+/// Whether two allocators compare so, whichever is asked.
+fn compare_so(first: &AddressAllocator, second: &AddressAllocator, want: Ordering) -> bool {
+    first.cmp(second) == want
+        && second.cmp(first) == want.reverse()
+        && first.partial_cmp(second) == Some(want)
+        && (first == second) == (want == Ordering::Equal)
+}
+
+/// The two allocators that calls lead to compare so.
+fn expect_order(rt: &(impl Abort + AllocGlobal), first: &[Call], second: &[Call], want: Ordering) {
+    let is_so = compare_so(&reached(rt, first), &reached(rt, second), want);
+    expect_so(rt, is_so, &want);
 }
 
 #[test]
-fn equal_ones_answer_alike(rt: HostRuntime) -> std::result::Result<(), Fail> {
-    for calls in [&TWO_HELD[..], &ALL_BUT_TWO[..]] {
-        let mut space = reached(&rt, calls)?;
-        assert!(rt; holds_just(&space, &[(1, 1), (6, 6)]));
-        assert_eq!(rt; ask(&rt, &mut space, First(4, 1)), Ok((2, 5)));
-        assert!(rt; holds_just(&space, &[(1, 1), (2, 5), (6, 6)]));
-    }
-    Ok(())
+fn compared_by_state(rt: HostRuntime) {
+    let fresh = &[Space(0, 16)];
+    let front_held = &[Space(0, 16), Exact(4, 1, 0)];
+    let all_held = &[Space(0, 16), Exact(16, 1, 0)];
+    expect_order(&rt, fresh, &[Space(0, 17)], Ordering::Less);
+    expect_order(&rt, front_held, fresh, Ordering::Less);
+    expect_order(&rt, all_held, fresh, Ordering::Greater);
+    expect_order(&rt, &TWO_HELD, &ALL_BUT_TWO, Ordering::Equal);
+}
+
+/// The allocator that the calls lead to holds [1, 1] and [6, 6], and next the four between them.
+fn expect_two_held(rt: &(impl Abort + AllocGlobal), calls: &[Call]) {
+    let mut space = reached(rt, calls);
+    expect_so(rt, holds_just(&space, &[(1, 1), (6, 6)]), &"two are held");
+    replay(rt, &mut space, &[(First(4, 1), Range(2, 5))]);
+    let three_held = holds_just(&space, &[(1, 1), (2, 5), (6, 6)]);
+    expect_so(rt, three_held, &"three are held");
 }
 
 #[test]
-fn cloned_whole_or_not_at_all(rt: HostRuntime) -> std::result::Result<(), Fail> {
-    let mut space = reached(&rt, &ALL_BUT_TWO)?;
-    let before = reached(&rt, &ALL_BUT_TWO)?;
+fn equal_ones_answer_alike(rt: HostRuntime) {
+    expect_two_held(&rt, &TWO_HELD);
+    expect_two_held(&rt, &ALL_BUT_TWO);
+}
+
+/// Whether two allocators are the same, node for node.
+fn are_same(
+    rt: &(impl Abort + AllocGlobal),
+    one: &AddressAllocator,
+    other: &AddressAllocator,
+) -> bool {
+    one == other && saved(rt, one) == saved(rt, other)
+}
+
+/// Clones an allocator: the clone is the same, node for node, or nothing has changed since `before`.
+fn clone_or_refuse(
+    rt: &(impl Abort + AllocGlobal),
+    space: &AddressAllocator,
+    before: &AddressAllocator,
+) {
+    let is_so = match space.try_clone(rt.alloc()) {
+        Ok(clone) => are_same(rt, &clone, space),
+        Err(Error::OutOfMemory) => space == before,
+        Err(_) => false,
+    };
+    expect_so(rt, is_so, &"a whole clone or none");
+}
+
+/// A clone is an allocator of its own.
+fn clone_and_change(rt: &(impl Abort + AllocGlobal), space: &mut AddressAllocator) {
+    let before = cloned(rt, space);
+    expect_so(rt, before == *space, &"a clone");
+    replay(rt, space, &[(First(4, 1), Range(2, 5))]);
+    expect_so(rt, holds_just(&before, &[(1, 1), (6, 6)]), &"two are held");
+}
+
+#[test]
+fn cloned_whole_or_not_at_all(rt: HostRuntime) {
+    let mut space = reached(&rt, &ALL_BUT_TWO);
+    let before = reached(&rt, &ALL_BUT_TWO);
     balance(rt.alloc());
-    match space.try_clone(rt.alloc()) {
-        Ok(clone) => {
-            assert!(rt; clone == space);
-            assert!(rt; saved(&rt, &clone) == saved(&rt, &space));
-        }
-        Err(error) => {
-            assert_eq!(rt; error, Error::OutOfMemory);
-            assert!(rt; space == before);
-        }
-    }
+    clone_or_refuse(&rt, &space, &before);
     balance(rt.alloc());
-    // A clone is an allocator of its own.
-    let before = cloned(&rt, &space);
-    assert!(rt; before == space);
-    ask(&rt, &mut space, First(4, 1))?;
-    assert!(rt; holds_just(&before, &[(1, 1), (6, 6)]));
-    Ok(())
+    clone_and_change(&rt, &mut space);
 }

@@ -3,8 +3,7 @@ use super::*;
 
 #[test]
 fn ends_of_all_addresses(rt: HostRuntime) {
-    let mut space = made(&rt, 1, MAX);
-    let rows = [
+    let rows = &[
         (Last(1, 1), Overflow),
         (Last(1, 2), Range(LAST, LAST)),
         (Free(LAST, LAST), Range(LAST, LAST)),
@@ -45,5 +44,5 @@ fn ends_of_all_addresses(rt: HostRuntime) {
         (Space(0x1000, 0x1000), Range(0x1000, 0x1FFF)),
         (Exact(MAX, 1, 0x1FFF), Overflow),
     ];
-    replay(&rt, &mut space, &rows);
+    replay_in(&rt, 1, MAX, rows);
 }

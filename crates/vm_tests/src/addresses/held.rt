@@ -1,9 +1,10 @@
 //! Which ranges are held, and how many.
 use super::*;
+use crate::fixtures::range;
 use Row::{Ask, Count, Holds};
 
 /// A call with the answer that it has to have, or what has to be so in between.
-#[derive(Clone, Copy, Debug)]
+#[derive(Clone, Copy)]
 enum Row {
     Ask(Call, Want),
     /// The first and the last address of a range, and whether it is held.
@@ -61,17 +62,16 @@ const ROWS: [Row; 41] = [
 ];
 
 #[test]
-fn held_or_not(rt: HostRuntime) -> std::result::Result<(), Fail> {
+fn held_or_not(rt: HostRuntime) {
     let mut space = made(&rt, 0, 8);
-    for row in &ROWS {
+    for (number, row) in ROWS.iter().enumerate() {
         match *row {
-            Ask(call, want) => assert_eq!(rt; ask(&rt, &mut space, call), want.answer(), "{row:?}"),
+            Ask(call, want) => replay(&rt, &mut space, &[(call, want)]),
             Holds(start, end, want) => {
-                let range = RangeInclusive::new(start, end)?;
-                assert_eq!(rt; space.holds(&range), want, "{row:?}");
+                let range = range(&rt, start, end);
+                expect_same(&rt, &space.holds(&range), &want, &range);
             }
-            Count(want) => assert_eq!(rt; space.held_count(), want, "{row:?}"),
+            Count(want) => expect_same(&rt, &space.held_count(), &want, &number),
         }
     }
-    Ok(())
 }

@@ -31,13 +31,26 @@ fn placed(rt: &(impl Abort + AllocGlobal), addresses: &Addresses) -> AddressAllo
         let range = addresses.held_range(number);
         let (start, end) = range.expect(rt, "as many ranges are held");
         let size = end.saturating_sub(start).saturating_add(1);
-        let mut answer = Exact(size, 1, start).ask(&mut space, rt.alloc(), Plain);
-        if answer == Err(Error::OutOfMemory) {
-            answer = Exact(size, 1, start).ask(&mut space, rt.alloc(), Plain);
-        }
-        assert_eq!(rt; answer, Ok((start, end)));
+        let call = Exact(size, 1, start);
+        expect_same(
+            rt,
+            &ask_again(rt, &mut space, call),
+            &Ok((start, end)),
+            &call,
+        );
     }
     space
+}
+
+/// Just what is held among these addresses is held in the space, before or after a call.
+fn expect_alike(
+    rt: &(impl Abort + AllocGlobal),
+    space: &AddressAllocator,
+    addresses: &Addresses,
+    number: u64,
+) {
+    let is_alike = *space == placed(rt, addresses);
+    expect_so(rt, is_alike, &("alike at call", number));
 }
 
 #[test]
@@ -50,17 +63,14 @@ fn long_run(rt: HostRuntime) {
         let found = addresses.answer(asked);
         let (call, want) = (call_of(asked), want_of(asked, found));
         let mut answer = call.ask(&mut space, rt.alloc(), Plain);
-        if answer == Err(Error::OutOfMemory) {
-            assert!(rt;
-                space == placed(&rt, &addresses),
-                "call {number} is refused"
-            );
+        if let Err(Error::OutOfMemory) = answer {
+            expect_alike(&rt, &space, &addresses, number);
             answer = call.ask(&mut space, rt.alloc(), Plain);
         }
-        assert_eq!(rt; answer, want.answer(), "call {number}, {call:?}");
+        expect_same(&rt, &answer, &want.answer(), &(number, call));
         addresses.change(asked, found);
         if number % 100 == 0 {
-            assert!(rt; space == placed(&rt, &addresses), "after call {number}");
+            expect_alike(&rt, &space, &addresses, number);
         }
     }
 }

@@ -4,7 +4,7 @@ use super::*;
 #[test]
 fn splits_by_each_policy(rt: HostRuntime) {
     let mut space = made(&rt, 0, 16);
-    let rows = [
+    let rows = &[
         // One box: for what is left behind, before, behind.
         (First(4, 1), Range(0, 3)),
         (Last(4, 1), Range(12, 15)),
@@ -15,7 +15,8 @@ fn splits_by_each_policy(rt: HostRuntime) {
         (Space(0, 0x1000), Range(0, 0xFFF)),
         (Exact(0x100, 0x100, 0x500), Range(0x500, 0x5FF)),
     ];
-    replay(&rt, &mut space, &rows);
-    assert_eq!(rt; (space.height(), block_count(&rt, &space)), (2, 3));
-    assert!(rt; space.held_count() == 1 && is_low(&space, 1));
+    replay(&rt, &mut space, rows);
+    let is_split = space.height() == 2 && block_count(&rt, &space) == 3;
+    let one_held = space.held_count() == 1 && is_low(&space, 1);
+    expect_so(&rt, is_split && one_held, &"one is held, in three blocks");
 }

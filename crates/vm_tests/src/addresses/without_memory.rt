@@ -1,6 +1,6 @@
 //! What asks for no memory. tests/refused_memory refuses every request after `end_of_memory`.
 use super::*;
-use crate::fixtures::{end_of_memory, holds_just};
+use crate::fixtures::{end_of_memory, holds_just, range};
 use std::cmp::Ordering;
 
 /// Does the calls in turn, each with the answer that it has to have, memory or not.
@@ -12,35 +12,46 @@ fn replay(
 ) {
     for (call, want) in rows {
         let answer = call.ask(space, rt.alloc(), form);
-        assert_eq!(rt; answer, want.answer(), "{form:?} {call:?}");
+        expect_same(rt, &answer, &want.answer(), call);
     }
 }
 
 /// The allocator of [0, 15] in which [2, 3], [6, 7] and [10, 11] are held.
 fn three_held(rt: &(impl Abort + AllocGlobal)) -> AddressAllocator {
     let mut space = made(rt, 0, 16);
-    let rows = [
+    let rows = &[
         (Exact(2, 1, 2), Range(2, 3)),
         (Exact(2, 1, 6), Range(6, 7)),
         (Exact(2, 1, 10), Range(10, 11)),
     ];
-    super::replay(rt, &mut space, &rows);
+    super::replay(rt, &mut space, rows);
     space
 }
 
 /// A split, which asks for memory once: what a run without memory is known by.
 fn split(rt: &(impl Abort + AllocGlobal), space: &mut AddressAllocator) {
     let answer = First(1, 1).ask(space, rt.alloc(), Plain);
-    assert!(rt;
-        answer == Err(Error::OutOfMemory) || answer == Ok((0, 0)),
-        "{answer:?}"
-    );
+    let is_so = match &answer {
+        Ok(ends) => *ends == (0, 0),
+        Err(Error::OutOfMemory) => true,
+        Err(_) => false,
+    };
+    expect_so(rt, is_so, &answer);
 }
 
-#[test]
-fn filled_and_given_back(rt: HostRuntime) -> std::result::Result<(), Fail> {
-    let mut spaces = [(three_held(&rt), Plain), (three_held(&rt), Counted)];
-    let rows = [
+/// The calls that only read: two allocators are equal, and hold these three ranges.
+fn look_up(rt: &impl Abort, space: &AddressAllocator, other: &AddressAllocator) {
+    let are_equal = space == other && space.cmp(other) == Ordering::Equal;
+    expect_so(rt, are_equal, &"both are equal");
+    let are_held = holds_just(space, &[(2, 3), (6, 7), (10, 11)]);
+    expect_so(rt, are_held, &"these three are held");
+    let is_whole = space.holds(&range(rt, 6, 7)) && !space.holds(&range(rt, 6, 6));
+    expect_so(rt, is_whole && space.held_count() == 3, &"three whole ones");
+}
+
+/// Fills the space of three held ranges, and gives all back.
+fn fill(rt: &(impl Abort + AllocGlobal), space: &mut AddressAllocator, form: Form) {
+    let rows = &[
         (First(2, 1), Range(0, 1)),
         (Last(4, 1), Range(12, 15)),
         (Exact(2, 1, 8), Range(8, 9)),
@@ -54,27 +65,26 @@ fn filled_and_given_back(rt: HostRuntime) -> std::result::Result<(), Fail> {
         (First(16, 1), Range(0, 15)),
         (Free(0, 15), Range(0, 15)),
     ];
+    replay(rt, space, form, rows);
+    let is_whole = space.base() == 0 && space.end() == 15 && space.height() == 1;
+    expect_so(rt, is_whole, &"one clear block");
+}
+
+#[test]
+fn filled_and_given_back(rt: HostRuntime) {
+    let mut plain = three_held(&rt);
+    let mut counted = three_held(&rt);
     end_of_memory(rt.alloc());
-    let [(plain, _), (counted, _)] = &spaces;
-    assert!(rt; plain == counted && plain.cmp(counted) == Ordering::Equal);
-    assert!(rt; holds_just(plain, &[(2, 3), (6, 7), (10, 11)]));
-    assert!(rt;
-        plain.holds(&RangeInclusive::new(6, 7)?) && !plain.holds(&RangeInclusive::new(6, 6)?)
-    );
-    assert_eq!(rt; plain.held_count(), 3);
-    for (space, form) in &mut spaces {
-        replay(&rt, space, *form, &rows);
-        assert_eq!(rt; (space.base(), space.end(), space.height()), (0, 15, 1));
-    }
-    let [(space, _), _] = &mut spaces;
-    split(&rt, space);
-    Ok(())
+    look_up(&rt, &plain, &counted);
+    fill(&rt, &mut plain, Plain);
+    fill(&rt, &mut counted, Counted);
+    split(&rt, &mut plain);
 }
 
 #[test]
 fn refused(rt: HostRuntime) {
     let mut space = three_held(&rt);
-    let rows = [
+    let rows = &[
         (Space(16, 0), Underflow),
         (Space(MAX, 2), Overflow),
         (First(0, 3), NoSize),
@@ -93,15 +103,15 @@ fn refused(rt: HostRuntime) {
         (Free(16, 17), NotAvailable),
     ];
     let mut highest = made(&rt, MAX - 15, 16);
-    let ending_at_max = [
+    let ending_at_max = &[
         (Last(1, 1), Overflow),
         (Exact(2, 1, LAST), Overflow),
         (First(16, 1), Overflow),
     ];
     end_of_memory(rt.alloc());
-    for form in [Plain, Counted] {
-        replay(&rt, &mut space, form, &rows);
-        replay(&rt, &mut highest, form, &ending_at_max);
-    }
+    replay(&rt, &mut space, Plain, rows);
+    replay(&rt, &mut highest, Plain, ending_at_max);
+    replay(&rt, &mut space, Counted, rows);
+    replay(&rt, &mut highest, Counted, ending_at_max);
     split(&rt, &mut space);
 }

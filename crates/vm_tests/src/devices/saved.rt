@@ -1,8 +1,6 @@
 //! Managers written and read, and values of strangers.
 use super::*;
 use crate::fixtures::{balance, parsed};
-use std::alloc::AllocError;
-use std::test::Fail;
 use vm_allocator::ValueError;
 
 mod hostile;
@@ -56,67 +54,96 @@ fn read(
     }
 }
 
+/// The manager that a value states, which states one.
+fn read_good(rt: &(impl Abort + AllocGlobal), value: &Value) -> DeviceManager {
+    read(rt, value).expect(rt, "it states a manager")
+}
+
+/// Reads a value: its second device has the last 2,048 addresses, or memory is refused.
+fn read_or_refuse(rt: &(impl Abort + AllocGlobal), value: &Value) {
+    let is_so = match DeviceManager::from_value(rt.alloc(), value) {
+        Ok(devices) => look_up(&devices, 1) == Some((1, 6144, 8191)),
+        Err(ValueError::OutOfMemory) => true,
+        Err(_) => false,
+    };
+    expect_so(rt, is_so, &"both devices or none");
+}
+
 #[test]
 fn read_whole_or_not_at_all(rt: HostRuntime) {
     let value = parsed(&rt, TWO_DEVICES);
     balance(rt.alloc());
-    match DeviceManager::from_value(rt.alloc(), &value) {
-        Ok(devices) => assert_eq!(rt; slot_of(&devices, 1), Some((6144, 8191))),
-        Err(error) => assert_eq!(rt; error, ValueError::OutOfMemory),
-    }
+    read_or_refuse(&rt, &value);
     balance(rt.alloc());
 }
 
-#[test]
-fn devices_written_and_read(rt: HostRuntime) -> std::result::Result<(), Fail> {
-    let mut devices = made(&rt, (0, 1), 4096, 4096);
-    let first = [(First(2048, 2048), Device(0, 4096, 6143))];
-    replay(&rt, &mut devices, &first);
-    let before = Parts::of(&rt, &devices);
-    let value = saved_devices(&rt, &devices);
-    assert!(rt; before.are_of(&rt, &devices), "writing changes nothing");
-    let mut again = read(&rt, &value)?;
-    assert!(rt;
-        before.are_of(&rt, &again),
-        "what is read is what was written"
-    );
-    assert_eq!(rt; slot_of(&again, 0), Some((4096, 6143)));
-    replay(&rt, &mut again, &[(First(1, 1), Device(1, 6144, 6144))]);
-    Ok(())
+/// The manager that is read from what is written of another, which stays as it is.
+fn written_and_read(rt: &(impl Abort + AllocGlobal), devices: &DeviceManager) -> DeviceManager {
+    let before = Parts::of(rt, devices);
+    let value = saved_devices(rt, devices);
+    before.expect_of(rt, devices);
+    let again = read_good(rt, &value);
+    before.expect_of(rt, &again);
+    again
 }
 
 #[test]
-fn devices_that_values_state(rt: HostRuntime) -> std::result::Result<(), Fail> {
-    let low = Some((4096, 6143));
-    let high = Some((6144, 8191));
-    for (text, slots, want) in [
-        (ONE_DEVICE, (low, None), Device(1, 6144, 6144)),
-        (OTHER_ORDER, (low, None), Device(1, 6144, 6144)),
-        (TWO_DEVICES, (low, high), NotAvailable),
-        (TWO_CROSSED, (high, low), NotAvailable),
-        (NO_DEVICE, (None, None), Device(0, 4096, 4096)),
-    ] {
-        let value = parsed(&rt, text);
-        let mut devices = read(&rt, &value)?;
-        let found = (slot_of(&devices, 0), slot_of(&devices, 1));
-        assert_eq!(rt; found, slots, "{text}");
-        assert!(rt; saved_devices(&rt, &devices) == value, "{text}");
-        replay(&rt, &mut devices, &[(First(1, 1), want)]);
-    }
-    Ok(())
+fn devices_written_and_read(rt: HostRuntime) {
+    let mut devices = made(&rt, (0, 1), 4096, 4096);
+    let first = &[(First(2048, 2048), Device(0, 4096, 6143))];
+    replay(&rt, &mut devices, first);
+    let rows = &[
+        (LookUp(0), Device(0, 4096, 6143)),
+        (First(1, 1), Device(1, 6144, 6144)),
+    ];
+    replay(&rt, &mut written_and_read(&rt, &devices), rows);
+}
+
+/// A text states a manager, of which the same is written, and which answers these calls.
+fn expect_manager(rt: &(impl Abort + AllocGlobal), text: &str, rows: &[(Call, Want)]) {
+    let value = parsed(rt, text);
+    let mut devices = read_good(rt, &value);
+    expect_so(rt, saved_devices(rt, &devices) == value, &text);
+    replay(rt, &mut devices, rows);
+}
+
+#[test]
+fn devices_that_values_state(rt: HostRuntime) {
+    let low = &[
+        (LookUp(0), Device(0, 4096, 6143)),
+        (LookUp(1), Gone),
+        (First(1, 1), Device(1, 6144, 6144)),
+    ];
+    let both = &[
+        (LookUp(0), Device(0, 4096, 6143)),
+        (LookUp(1), Device(1, 6144, 8191)),
+        (First(1, 1), NotAvailable),
+    ];
+    let crossed = &[
+        (LookUp(0), Device(0, 6144, 8191)),
+        (LookUp(1), Device(1, 4096, 6143)),
+        (First(1, 1), NotAvailable),
+    ];
+    let none = &[
+        (LookUp(0), Gone),
+        (LookUp(1), Gone),
+        (First(1, 1), Device(0, 4096, 4096)),
+    ];
+    expect_manager(&rt, ONE_DEVICE, low);
+    expect_manager(&rt, OTHER_ORDER, low);
+    expect_manager(&rt, TWO_DEVICES, both);
+    expect_manager(&rt, TWO_CROSSED, crossed);
+    expect_manager(&rt, NO_DEVICE, none);
 }
 
 /// Twelve devices, written and read one by one.
 #[test]
-fn memory_for_twelve_devices(rt: HostRuntime) -> std::result::Result<(), Fail> {
+fn memory_for_twelve_devices(rt: HostRuntime) {
     let mut devices = made(&rt, (0, 11), 0, 0x1000);
     for id in 0..12u32 {
-        let start = u64::from(id) * 16;
-        let want = Device(id, start, start + 15);
-        ask_again(&rt, &mut devices, First(16, 16), want);
-        devices = read(&rt, &saved_devices(&rt, &devices))?;
+        reserve_sixteen(&rt, &mut devices, id, u64::from(id) * 16);
+        devices = read_good(&rt, &saved_devices(&rt, &devices));
     }
-    assert_eq!(rt; slot_of(&devices, 11), Some((176, 191)));
+    ask_again(&rt, &mut devices, LookUp(11), Device(11, 176, 191));
     ask_again(&rt, &mut devices, First(16, 16), NotAvailable);
-    Ok(())
 }

@@ -2,29 +2,41 @@
 use super::*;
 use crate::fixtures::end_of_memory;
 
+/// Calls that ask for no memory, each with the answer that it has to have.
+fn replay_refused(
+    rt: &(impl Abort + AllocGlobal),
+    devices: &mut DeviceManager,
+    rows: &[(Call, Want)],
+) {
+    for (call, want) in rows {
+        expect_same(rt, &call.ask(devices, rt.alloc()), &want.answer(), call);
+    }
+}
+
+/// Giving an id back for the first time asks for memory: what a run without memory is known by.
+fn release_first(rt: &impl Abort, devices: &mut DeviceManager) {
+    let is_so = match devices.release(0) {
+        Ok(()) | Err(Error::OutOfMemory) => true,
+        Err(_) => false,
+    };
+    expect_so(rt, is_so, &"a release");
+}
+
 #[test]
 fn looked_up_or_refused(rt: HostRuntime) {
     let mut devices = made(&rt, (0, 1), 0x1000, 0x1000);
-    replay(
-        &rt,
-        &mut devices,
-        &[(First(0x800, 1), Device(0, 0x1000, 0x17FF))],
-    );
-    end_of_memory(rt.alloc());
-    assert_eq!(rt; slot_of(&devices, 0), Some((0x1000, 0x17FF)));
-    assert_eq!(rt; slot_of(&devices, 1), None);
-    let refused = [
+    let reserved = &[(First(0x800, 1), Device(0, 0x1000, 0x17FF))];
+    replay(&rt, &mut devices, reserved);
+    let rows = &[
+        (LookUp(0), Device(0, 0x1000, 0x17FF)),
+        (LookUp(1), Gone),
         (First(0, 1), NoSize),
         (First(0x801, 1), NotAvailable),
         (Exact(4, 4, 0x1801), Unaligned),
         (Release(1), NeverAllocated(1)),
     ];
-    for (call, want) in refused {
-        assert_eq!(rt; call.ask(&mut devices, rt.alloc()), want.answer());
-    }
-    let answer = DeviceManager::new(rt.alloc(), 2, 1, 0, 0);
-    assert_eq!(rt; answer.err(), Some(Error::InvalidRange(2, 1)));
-    // Giving an id back for the first time asks for memory: what a run without memory is known by.
-    let answer = devices.release(0);
-    assert!(rt; answer == Err(Error::OutOfMemory) || answer == Ok(()));
+    end_of_memory(rt.alloc());
+    replay_refused(&rt, &mut devices, rows);
+    expect_no_manager(&rt, (2, 1), 0, 0, Error::InvalidRange(2, 1));
+    release_first(&rt, &mut devices);
 }

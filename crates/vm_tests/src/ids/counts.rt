@@ -1,11 +1,6 @@
 //! How many ids are held.
 use super::*;
 
-/// The greatest two ids.
-const LOW: u32 = 4294967294;
-
-const HIGH: u32 = 4294967295;
-
 /// Of a range in the middle.
 const MIDDLE: [Call; 16] = [
     Count(0),
@@ -53,20 +48,15 @@ const ALL: [Call; 5] = [
     Count(4294967294),
 ];
 
+/// The allocator that holds all ids that there are.
+fn all_held(rt: &(impl Abort + AllocGlobal)) -> IdAllocator {
+    let text = r#"{"range_base":0,"next_id":null,"range_end":4294967295,"freed_ids":[]}"#;
+    read_ids(rt, &parsed(rt, text)).expect(rt, "it states ids")
+}
+
 #[test]
-fn counts(rt: HostRuntime) -> std::result::Result<(), Fail> {
-    let middle = IdAllocator::new(rt.alloc(), 5, 23)?;
-    let last = IdAllocator::new(rt.alloc(), LOW, HIGH)?;
-    let all = read_ids(
-        &rt,
-        &parsed(
-            &rt,
-            r#"{"range_base":0,"next_id":null,"range_end":4294967295,"freed_ids":[]}"#,
-        ),
-    )?;
-    let mut tables = [(middle, &MIDDLE[..]), (last, &LAST[..]), (all, &ALL[..])];
-    for (ids, calls) in &mut tables {
-        replay(&rt, ids, calls);
-    }
-    Ok(())
+fn counts(rt: HostRuntime) {
+    replay_in(&rt, 5, 23, &MIDDLE);
+    replay_in(&rt, LOW, HIGH, &LAST);
+    replay(&rt, &mut all_held(&rt), &ALL);
 }

@@ -5,12 +5,16 @@ use super::*;
 pub(super) const FRESH: &str = r#"{"address_space":{"start":16,"end":19},"interval_tree":{"root":{
     "key":{"start":16,"end":19},"node_state":"Free","left":null,"right":null,"height":1}}}"#;
 
+/// The allocator is written as this text states it, and read again.
+fn expect_written(rt: &(impl Abort + AllocGlobal), space: &AddressAllocator, text: &str) {
+    let value = saved(rt, space);
+    assert!(rt; value == parsed(rt, text), "{text}");
+    expect_space(rt, read(rt, &value), space, text);
+}
+
 #[test]
-fn fresh_space(rt: HostRuntime) -> std::result::Result<(), Fail> {
-    let space = made(&rt, 16, 4);
-    let value = saved(&rt, &space);
-    assert!(rt; value == parsed(&rt, FRESH));
-    assert!(rt; read(&rt, &value)? == space);
+fn fresh_space(rt: HostRuntime) {
+    expect_written(&rt, &made(&rt, 16, 4), FRESH);
     for text in [
         // Another height, a field more, no node, two free neighbours.
         r#"{"address_space":{"start":16,"end":19},"interval_tree":{"root":{
@@ -24,7 +28,6 @@ fn fresh_space(rt: HostRuntime) -> std::result::Result<(), Fail> {
     ] {
         assert_refused(&rt, text);
     }
-    Ok(())
 }
 
 /// [0, 4095], with [1280, 1535] held.
@@ -49,16 +52,12 @@ fn one_held(rt: &(impl Abort + AllocGlobal)) -> AddressAllocator {
 }
 
 #[test]
-fn one_range_held(rt: HostRuntime) -> std::result::Result<(), Fail> {
-    let space = one_held(&rt);
-    let value = saved(&rt, &space);
-    assert!(rt; value == parsed(&rt, ONE_HELD));
-    assert!(rt; read(&rt, &value)? == space);
+fn one_range_held(rt: HostRuntime) {
+    expect_written(&rt, &one_held(&rt), ONE_HELD);
     let all_held = parsed(&rt, ALL_HELD);
-    let full = read(&rt, &all_held)?;
+    let full = read(&rt, &all_held).expect(&rt, ALL_HELD);
     assert!(rt; holds_just(&full, &[(0, 1279), (1280, 1535), (1536, 4095)]));
     assert!(rt; saved(&rt, &full) == all_held);
-    Ok(())
 }
 
 #[test]
@@ -105,45 +104,57 @@ fn blocks_that_are_none_of_a_space(rt: HostRuntime) {
 }
 
 #[test]
-fn by_way_of_a_text(rt: HostRuntime) -> std::result::Result<(), Fail> {
+fn by_way_of_a_text(rt: HostRuntime) {
     let space = one_held(&rt);
-    let text = text_of(&rt, &saved(&rt, &space));
-    let again = read(&rt, &parsed(&rt, &text))?;
-    assert!(rt; again == space);
-    assert!(rt; saved(&rt, &again) == saved(&rt, &space));
-    Ok(())
+    let value = saved(&rt, &space);
+    let text = text_of(&rt, &value);
+    let again = read(&rt, &parsed(&rt, &text)).expect(&rt, "the text states the allocator");
+    assert!(rt; again == space && saved(&rt, &again) == value);
 }
 
 #[test]
 fn read_whole_or_not_at_all(rt: HostRuntime) {
     let value = parsed(&rt, ONE_HELD);
     balance(rt.alloc());
-    match AddressAllocator::from_value(rt.alloc(), &value) {
-        Ok(space) => assert!(rt; holds_just(&space, &[(1280, 1535)])),
-        Err(error) => assert_eq!(rt; error, ValueError::OutOfMemory),
-    }
+    let answer = AddressAllocator::from_value(rt.alloc(), &value);
+    expect_held_or_no_memory(&rt, answer, &[(1280, 1535)]);
     balance(rt.alloc());
 }
 
-#[test]
-fn ranges_and_states(rt: HostRuntime) -> std::result::Result<(), Fail> {
-    let range = RangeInclusive::new(16, 19)?;
-    let value = match range.to_value(rt.alloc()) {
+/// The value that states a range.
+fn saved_range(rt: &(impl Abort + AllocGlobal), range: &RangeInclusive) -> Value {
+    match range.to_value(rt.alloc()) {
         Ok(value) => value,
-        Err(_) => range.to_value(rt.alloc())?,
-    };
+        Err(_) => range
+            .to_value(rt.alloc())
+            .expect(rt, "memory is refused once"),
+    }
+}
+
+/// The value that states a state of a node.
+fn saved_state(rt: &(impl Abort + AllocGlobal), state: NodeState) -> Value {
+    match state.to_value(rt.alloc()) {
+        Ok(value) => value,
+        Err(_) => state
+            .to_value(rt.alloc())
+            .expect(rt, "memory is refused once"),
+    }
+}
+
+#[test]
+fn ranges_and_states(rt: HostRuntime) {
+    let range = range(&rt, 16, 19);
+    let value = saved_range(&rt, &range);
     assert!(rt; value == parsed(&rt, r#"{"start":16,"end":19}"#));
-    assert_eq!(rt; RangeInclusive::from_value(rt.alloc(), &value)?, range);
+    let again = RangeInclusive::from_value(rt.alloc(), &value);
+    expect_same(&rt, &again, &Ok(range), &"range");
     for (state, text) in [
         (NodeState::Free, r#""Free""#),
         (NodeState::Allocated, r#""Allocated""#),
     ] {
-        let value = match state.to_value(rt.alloc()) {
-            Ok(value) => value,
-            Err(_) => state.to_value(rt.alloc())?,
-        };
-        assert!(rt; value == parsed(&rt, text), "{text}");
-        assert_eq!(rt; NodeState::from_value(rt.alloc(), &value)?, state);
+        let value = saved_state(&rt, state);
+        assert!(rt; value == parsed(&rt, text));
+        let again = NodeState::from_value(rt.alloc(), &value);
+        expect_same(&rt, &again, &Ok(state), &text);
     }
-    Ok(())
 }

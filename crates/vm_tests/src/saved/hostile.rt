@@ -1,47 +1,37 @@
 //! Values of strangers.
 use super::*;
-use serde_json::json;
 use std::alloc::AllocError;
+
+/// Values of fields that are no whole numbers, numbers that are no range, other fields, and other kinds
+/// of values.
+const NO_RANGES: &str = r#"[
+    {"start":16,"end":18446744073709551616},
+    {"start":16,"end":19.0},
+    {"start":16,"end":1.9e1},
+    {"start":-1,"end":19},
+    {"start":16,"end":-0},
+    {"start":16,"end":"19"},
+    {"start":16,"end":null},
+    {"start":16,"end":[19]},
+    {"start":true,"end":19},
+    {"start":19,"end":16},
+    {"start":0,"end":18446744073709551615},
+    {"start":16,"End":19},
+    {"start":16},
+    {"start":16,"end":19,"len":4},
+    [16,19],
+    "Free",
+    16,
+    null,
+    {}]"#;
+
+/// Values that state no state of a node.
+const NO_STATES: &str = r#"["free", "Free ", "", ["Free"], {"Free":null}, 0, false]"#;
 
 #[test]
 fn no_whole_numbers(rt: HostRuntime) {
-    for text in [
-        r#"{"start":16,"end":18446744073709551616}"#,
-        r#"{"start":16,"end":19.0}"#,
-        r#"{"start":16,"end":1.9e1}"#,
-        r#"{"start":-1,"end":19}"#,
-        r#"{"start":16,"end":-0}"#,
-        r#"{"start":16,"end":"19"}"#,
-        r#"{"start":16,"end":null}"#,
-        r#"{"start":16,"end":[19]}"#,
-        r#"{"start":true,"end":19}"#,
-        // Numbers that are no range, other fields, and other kinds of values.
-        r#"{"start":19,"end":16}"#,
-        r#"{"start":0,"end":18446744073709551615}"#,
-        r#"{"start":16,"End":19}"#,
-        r#"{"start":16}"#,
-        r#"{"start":16,"end":19,"len":4}"#,
-        r#"[16,19]"#,
-        r#""Free""#,
-        r#"16"#,
-        r#"null"#,
-        r#"{}"#,
-    ] {
-        let answer = RangeInclusive::from_value(rt.alloc(), &parsed(&rt, text));
-        assert_eq!(rt; answer, Err(ValueError::NotAState), "{text}");
-    }
-    for text in [
-        r#""free""#,
-        r#""Free ""#,
-        r#""""#,
-        r#"["Free"]"#,
-        r#"{"Free":null}"#,
-        "0",
-        "false",
-    ] {
-        let answer = NodeState::from_value(rt.alloc(), &parsed(&rt, text));
-        assert_eq!(rt; answer, Err(ValueError::NotAState), "{text}");
-    }
+    refuse_each(&rt, Reader::Range, &parsed(&rt, NO_RANGES));
+    refuse_each(&rt, Reader::State, &parsed(&rt, NO_STATES));
 }
 
 /// What the reader of texts makes of a field that stands twice is its own; the value has one of them.
@@ -49,8 +39,8 @@ fn no_whole_numbers(rt: HostRuntime) {
 fn doubled_fields(rt: HostRuntime) {
     let value = parsed(&rt, r#"{"start":16,"end":19,"end":17,"start":15}"#);
     if let Ok(range) = RangeInclusive::from_value(rt.alloc(), &value) {
-        assert!(rt; range.start() == 15 || range.start() == 16);
-        assert!(rt; range.end() == 17 || range.end() == 19);
+        let (start, end) = (range.start(), range.end());
+        assert!(rt; (start == 15 || start == 16) && (end == 17 || end == 19));
     }
 }
 
@@ -64,41 +54,22 @@ fn brackets(alloc: std::alloc::Global) -> std::result::Result<String, AllocError
 }
 
 #[test]
-fn deep_texts(rt: HostRuntime) -> std::result::Result<(), Fail> {
+fn deep_texts(rt: HostRuntime) {
     let text = match brackets(rt.alloc()) {
         Ok(text) => text,
-        Err(_) => brackets(rt.alloc())?,
+        Err(_) => brackets(rt.alloc()).expect(&rt, "memory is refused once"),
     };
     if let Ok(value) = Value::from_str(rt.alloc(), &text) {
         assert!(rt; read(&rt, &value).is_err());
     }
-    Ok(())
 }
 
-/// A value with a node in a node, and so on for that many levels.
-fn nested(alloc: std::alloc::Global, levels: u64) -> std::result::Result<Value, AllocError> {
-    let mut node = Value::Null;
-    for level in 0..levels {
-        let key = json!(in alloc; {"start": level, "end": level})?;
-        node =
-            json!(in alloc; {"key": key, "node_state": "Allocated", "left": null, "right": node, "height": 1})?;
-    }
-    let space = json!(in alloc; {"start": 0u64, "end": levels})?;
-    json!(in alloc; {"address_space": space, "interval_tree": {"root": node}})
-}
-
+/// A node in a node, and so on for that many levels.
 #[test]
-fn deep_values(rt: HostRuntime) -> std::result::Result<(), Fail> {
+fn deep_values(rt: HostRuntime) {
     for levels in [50, 51, 200] {
-        let value = match nested(rt.alloc(), levels) {
-            Ok(value) => value,
-            Err(_) => nested(rt.alloc(), levels)?,
-        };
-        assert_eq!(rt;
-            read(&rt, &value).err(),
-            Some(ValueError::NotAState),
-            "{levels}"
-        );
+        let root = chain(&rt, HELD_NODE, levels, 0, "/right");
+        let value = with_root(&rt, levels, root);
+        expect_no_state(&rt, read(&rt, &value), &levels);
     }
-    Ok(())
 }

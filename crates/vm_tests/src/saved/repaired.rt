@@ -1,8 +1,6 @@
 //! Address allocators that are read with repairs.
 use super::allocators::{FRESH, ONE_HELD};
 use super::*;
-use serde_json::json;
-use std::alloc::{AllocError, Global};
 
 /// What a value states when it is read with repairs: the base and the size of the space, and the ranges
 /// held in it.
@@ -17,8 +15,7 @@ fn with_held(
 ) -> AddressAllocator {
     let mut space = made(rt, base, size);
     for (start, end) in held {
-        let range = RangeInclusive::new(*start, *end).expect(rt, "it is a range");
-        hold(rt, &mut space, *start, range.len());
+        hold(rt, &mut space, *start, range(rt, *start, *end).len());
     }
     space
 }
@@ -28,10 +25,9 @@ pub(super) fn assert_repaired(rt: &(impl Abort + AllocGlobal), text: &str, want:
     assert_refused(rt, text);
     let answer = read_repaired(rt, &parsed(rt, text));
     match want {
-        None => assert_eq!(rt; answer.err(), Some(ValueError::NotAState), "{text}"),
+        None => expect_no_state(rt, answer, &text),
         Some((base, size, held)) => {
-            let want = with_held(rt, base, size, held);
-            assert!(rt; answer.is_ok_and(|space| space == want), "{text}");
+            expect_space(rt, answer, &with_held(rt, base, size, held), text);
         }
     }
 }
@@ -98,74 +94,44 @@ const ONE_BETWEEN_GAPS: &str = r#"{"address_space":{"start":16,"end":19},"interv
     "key":{"start":17,"end":17},"node_state":"Allocated","left":null,"right":null,"height":7}}}"#;
 
 #[test]
-fn repaired_to_blocks(rt: HostRuntime) -> std::result::Result<(), Fail> {
-    let space = read_repaired(&rt, &parsed(&rt, ONE_BETWEEN_GAPS))?;
-    assert_eq!(rt; block_count(&rt, &space), 3);
-    assert_eq!(rt; space.height(), 2);
-    Ok(())
+fn repaired_to_blocks(rt: HostRuntime) {
+    let space = read_repaired(&rt, &parsed(&rt, ONE_BETWEEN_GAPS));
+    let space = space.expect(&rt, ONE_BETWEEN_GAPS);
+    let counts = (block_count(&rt, &space), space.height());
+    expect_same(&rt, &counts, &(3, 2), &"blocks and height");
 }
 
-/// Which child of each key of a chain the next one is.
-#[derive(Clone, Copy, Debug, PartialEq, Eq)]
-enum Side {
-    Left,
-    Right,
-}
+/// A held node with a wrong height.
+const FLAT_NODE: &str =
+    r#"{"key":{"start":0,"end":0},"node_state":"Allocated","left":null,"right":null,"height":0}"#;
 
-/// A value with that many keys of one address, from 0 on, all held, each a child of the one before or,
-/// to the left, of the one after.
-fn chain(alloc: Global, keys: u64, side: Side) -> std::result::Result<Value, AllocError> {
-    let mut node = Value::Null;
-    for number in 0..keys {
-        let is_left = side == Side::Left;
-        let at = if is_left {
-            number
-        } else {
-            keys.saturating_sub(number).saturating_sub(1)
-        };
-        let (left, right) = if is_left {
-            (node, Value::Null)
-        } else {
-            (Value::Null, node)
-        };
-        let key = json!(in alloc; {"start": at, "end": at})?;
-        node =
-            json!(in alloc; {"key": key, "node_state": "Allocated", "left": left, "right": right, "height": 0})?;
+/// The allocator of the addresses from 0 on, so many, each held alone.
+fn each_held(rt: &(impl Abort + AllocGlobal), size: u64) -> AddressAllocator {
+    let mut space = made(rt, 0, size);
+    for start in 0..size {
+        hold(rt, &mut space, start, 1);
     }
-    let space = json!(in alloc; {"start": 0, "end": keys.saturating_sub(1)})?;
-    json!(in alloc; {"address_space": space, "interval_tree": {"root": node}})
+    space
 }
 
-/// What reading a chain answers: `NotAState`, but for one that is no deeper than 50 and read with
-/// repairs.
-fn expect_chain(rt: &(impl Abort + AllocGlobal), keys: u64, side: Side) {
-    let value = match chain(rt.alloc(), keys, side) {
-        Ok(value) => value,
-        Err(_) => chain(rt.alloc(), keys, side).expect(rt, "memory is refused once"),
-    };
-    let refused = Some(ValueError::NotAState);
-    assert_eq!(rt; read(rt, &value).err(), refused, "{keys} to {side:?}");
+/// What reading a chain of keys of one address, from 0 on, answers: `NotAState`, but for one that is no
+/// deeper than 50 and read with repairs. `first` is the innermost key.
+fn expect_chain(rt: &(impl Abort + AllocGlobal), keys: u64, first: u64, side: &str) {
+    let root = chain(rt, FLAT_NODE, keys, first, side);
+    let value = with_root(rt, keys.saturating_sub(1), root);
+    expect_no_state(rt, read(rt, &value), &(keys, side));
     let answer = read_repaired(rt, &value);
     if keys > 50 {
-        assert_eq!(rt; answer.err(), refused, "{keys} to {side:?}");
-        return;
+        return expect_no_state(rt, answer, &(keys, side));
     }
-    let mut full = made(rt, 0, keys);
-    for start in 0..keys {
-        hold(rt, &mut full, start, 1);
-    }
-    assert!(rt;
-        answer.is_ok_and(|space| space == full),
-        "{keys} to {side:?}"
-    );
+    expect_space(rt, answer, &each_held(rt, keys), side);
 }
 
 #[test]
 fn chains(rt: HostRuntime) {
-    for side in [Side::Left, Side::Right] {
-        for keys in [1, 50, 51, 200] {
-            expect_chain(&rt, keys, side);
-        }
+    for keys in [1, 50, 51, 200] {
+        expect_chain(&rt, keys, 0, "/left");
+        expect_chain(&rt, keys, keys - 1, "/right");
     }
 }
 
@@ -174,10 +140,8 @@ fn repaired_whole_or_not_at_all(rt: HostRuntime) {
     for (text, held) in [(FRESH, &[][..]), (ONE_HELD, &[(1280, 1535)][..])] {
         let value = parsed(&rt, text);
         balance(rt.alloc());
-        match AddressAllocator::from_value_repaired(rt.alloc(), &value) {
-            Ok(space) => assert!(rt; holds_just(&space, held)),
-            Err(error) => assert_eq!(rt; error, ValueError::OutOfMemory),
-        }
+        let answer = AddressAllocator::from_value_repaired(rt.alloc(), &value);
+        expect_held_or_no_memory(&rt, answer, held);
         balance(rt.alloc());
     }
 }

@@ -226,8 +226,20 @@ const EVERY_SECOND_FREED: &str =
 /// Ids 5 to 23: seven taken, 6 and 9 given back.
 const IDS: &str = r#"{"range_base":5,"next_id":12,"range_end":23,"freed_ids":[6,9]}"#;
 
+/// The text states an allocator with so many ranges held, these among the first ones, and is what the
+/// allocator is written as.
+fn expect_read(rt: &(impl Abort + AllocGlobal), text: &str, count: u64, first: &[(u64, u64)]) {
+    let value = parsed(rt, text);
+    let space = read(rt, &value).expect(rt, text);
+    expect_same(rt, &space.held_count(), &count, &text);
+    for (held, want) in space.held_ranges().zip(first) {
+        expect_same(rt, &(held.start(), held.end()), want, &text);
+    }
+    assert!(rt; saved(rt, &space) == value);
+}
+
 #[test]
-fn read_as_the_other_crate_wrote(rt: HostRuntime) -> std::result::Result<(), Fail> {
+fn read_as_the_other_crate_wrote(rt: HostRuntime) {
     let windows = [
         (3489660928, 3489665023),
         (3489665024, 3489669119),
@@ -245,21 +257,10 @@ fn read_as_the_other_crate_wrote(rt: HostRuntime) -> std::result::Result<(), Fai
         (1114348, 1114351),
         (1146960, 1146963),
     ];
-    for (text, count, first) in [
-        (FRESH_SPACE, 0, &[][..]),
-        (THREE_WINDOWS, 3, &windows[..]),
-        (SIXTY_SLOTS, 60, &slots[..]),
-        (EVERY_SECOND_FREED, 30, &every_second[..]),
-    ] {
-        let value = parsed(&rt, text);
-        let space = read(&rt, &value)?;
-        assert_eq!(rt; space.held_count(), count, "{text}");
-        for (held, want) in space.held_ranges().zip(first) {
-            assert_eq!(rt; (held.start(), held.end()), *want, "{text}");
-        }
-        assert!(rt; saved(&rt, &space) == value, "{text}");
-    }
-    Ok(())
+    expect_read(&rt, FRESH_SPACE, 0, &[]);
+    expect_read(&rt, THREE_WINDOWS, 3, &windows);
+    expect_read(&rt, SIXTY_SLOTS, 60, &slots);
+    expect_read(&rt, EVERY_SECOND_FREED, 30, &every_second);
 }
 
 #[test]
@@ -276,13 +277,12 @@ fn faults_of_the_other_crate(rt: HostRuntime) {
 }
 
 #[test]
-fn ids_of_the_other_crate(rt: HostRuntime) -> std::result::Result<(), Fail> {
+fn ids_of_the_other_crate(rt: HostRuntime) {
     let value = parsed(&rt, IDS);
-    let ids = read_ids(&rt, &value)?;
+    let ids = read_ids(&rt, &value).expect(&rt, IDS);
     for id in 0..32 {
         let held = [5, 7, 8, 10, 11].contains(&id);
-        assert_eq!(rt; ids.is_allocated(id), held, "{id}");
+        expect_same(&rt, &ids.is_allocated(id), &held, &id);
     }
     assert!(rt; saved_ids(&rt, &ids) == value);
-    Ok(())
 }

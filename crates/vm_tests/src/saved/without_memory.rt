@@ -1,73 +1,71 @@
-//! What asks for no memory. tests/refused_memory refuses every request after `end_of_memory`.
+//! What asks for no memory. tests/refused_memory refuses every later request after `end_of_memory`.
 use super::*;
 
-/// An allocator whose tree has one node.
-const ONE_NODE: &str = r#"{"address_space":{"start":16,"end":19},"interval_tree":{"root":{
-    "key":{"start":16,"end":19},"node_state":"Allocated","left":null,"right":null,"height":1}}}"#;
+/// A value that each reader accepts, and lists of values that one reader refuses. For ids these are, after
+/// other kinds of values, ids given back of which the last was never handed out, and ids given back with
+/// a next id past the range, before it, or missing, or with no range.
+const VALUES: &str = r#"{
+    "range":{"start":16,"end":19},
+    "state":"Allocated",
+    "ids":{"range_base":5,"next_id":8,"range_end":23,"freed_ids":[]},
+    "one_node":{"address_space":{"start":16,"end":19},"interval_tree":{"root":{
+        "key":{"start":16,"end":19},"node_state":"Allocated","left":null,"right":null,"height":1}}},
+    "no_range":["Allocated"],
+    "no_state":[{"start":16,"end":19}],
+    "space_longer_than_tree":[
+        {"start":16,"end":19},
+        "Allocated",
+        {"address_space":{"start":16,"end":20},"interval_tree":{"root":{
+            "key":{"start":16,"end":19},"node_state":"Allocated","left":null,"right":null,"height":1}}},
+        {"range_base":5,"next_id":8,"range_end":23,"freed_ids":[]}],
+    "space_shorter_than_key":[
+        {"start":16,"end":19},
+        "Allocated",
+        {"address_space":{"start":16,"end":18},"interval_tree":{"root":{
+            "key":{"start":16,"end":19},"node_state":"Allocated","left":null,"right":null,"height":1}}},
+        {"range_base":5,"next_id":8,"range_end":23,"freed_ids":[]}],
+    "no_ids":[
+        {"start":16,"end":19},
+        "Allocated",
+        {"address_space":{"start":16,"end":19},"interval_tree":{"root":{
+            "key":{"start":16,"end":19},"node_state":"Allocated","left":null,"right":null,"height":1}}},
+        {"range_base":5,"next_id":8,"range_end":23,"freed_ids":[5,6,7,8]},
+        {"range_base":5,"next_id":25,"range_end":23,"freed_ids":[6,7]},
+        {"range_base":5,"next_id":4,"range_end":23,"freed_ids":[6,7]},
+        {"range_base":5,"next_id":null,"range_end":23,"freed_ids":[6,7]},
+        {"range_base":23,"next_id":24,"range_end":5,"freed_ids":[23]}]}"#;
 
-/// The same, but for a space that is longer than the tree.
-const TOO_SHORT: &str = r#"{"address_space":{"start":16,"end":20},"interval_tree":{"root":{
-    "key":{"start":16,"end":19},"node_state":"Allocated","left":null,"right":null,"height":1}}}"#;
+/// What a value has under that name.
+fn value_of<'v>(rt: &impl Abort, values: &'v Value, name: &str) -> &'v Value {
+    values.get(name).expect(rt, "there is a value of that name")
+}
 
-/// The same, but for a space that is shorter than the key.
-const TOO_LONG: &str = r#"{"address_space":{"start":16,"end":18},"interval_tree":{"root":{
-    "key":{"start":16,"end":19},"node_state":"Allocated","left":null,"right":null,"height":1}}}"#;
-
-/// Ids given back of which the last was never handed out.
-const NEVER_HANDED_OUT: &str =
-    r#"{"range_base":5,"next_id":8,"range_end":23,"freed_ids":[5,6,7,8]}"#;
-
-/// Ids given back, and a next id past the range, before it, or missing, or no range.
-const WRONG_NEXT: [&str; 4] = [
-    r#"{"range_base":5,"next_id":25,"range_end":23,"freed_ids":[6,7]}"#,
-    r#"{"range_base":5,"next_id":4,"range_end":23,"freed_ids":[6,7]}"#,
-    r#"{"range_base":5,"next_id":null,"range_end":23,"freed_ids":[6,7]}"#,
-    r#"{"range_base":23,"next_id":24,"range_end":5,"freed_ids":[23]}"#,
-];
-
-/// An id allocator with no id given back.
-const NONE_FREED: &str = r#"{"range_base":5,"next_id":8,"range_end":23,"freed_ids":[]}"#;
+/// Each of these readers accepts its value.
+fn expect_accepted(rt: &(impl Abort + AllocGlobal), values: &Value) {
+    let got = RangeInclusive::from_value(rt.alloc(), value_of(rt, values, "range"));
+    expect_same(rt, &got, &Ok(range(rt, 16, 19)), &"range");
+    let got = NodeState::from_value(rt.alloc(), value_of(rt, values, "state"));
+    expect_same(rt, &got, &Ok(NodeState::Allocated), &"state");
+    let ids = IdAllocator::from_value(rt.alloc(), value_of(rt, values, "ids"));
+    assert!(rt; ids.expect(rt, "it needs no memory").is_allocated(7));
+}
 
 #[test]
 fn checked(rt: HostRuntime) {
-    let range = parsed(&rt, r#"{"start":16,"end":19}"#);
-    let state = parsed(&rt, r#""Allocated""#);
-    let too_short = parsed(&rt, TOO_SHORT);
-    let too_long = parsed(&rt, TOO_LONG);
-    let never_handed_out = parsed(&rt, NEVER_HANDED_OUT);
-    let wrong_next = WRONG_NEXT.map(|text| parsed(&rt, text));
-    let none_freed = parsed(&rt, NONE_FREED);
-    let one_node = parsed(&rt, ONE_NODE);
+    let values = parsed(&rt, VALUES);
     end_of_memory(rt.alloc());
-    let answer = RangeInclusive::from_value(rt.alloc(), &range);
-    assert!(rt; answer.is_ok_and(|range| (range.start(), range.end()) == (16, 19)));
-    let answer = NodeState::from_value(rt.alloc(), &state);
-    assert_eq!(rt; answer, Ok(NodeState::Allocated));
-    let answer = RangeInclusive::from_value(rt.alloc(), &state);
-    assert_eq!(rt; answer, Err(ValueError::NotAState));
-    let answer = NodeState::from_value(rt.alloc(), &range);
-    assert_eq!(rt; answer, Err(ValueError::NotAState));
-    for value in [&range, &state, &too_short, &none_freed] {
-        let answer = AddressAllocator::from_value(rt.alloc(), value);
-        assert_eq!(rt; answer.err(), Some(ValueError::NotAState));
+    expect_accepted(&rt, &values);
+    for (reader, name) in [
+        (Reader::Range, "no_range"),
+        (Reader::State, "no_state"),
+        (Reader::Space, "space_longer_than_tree"),
+        (Reader::Repaired, "space_shorter_than_key"),
+        (Reader::Ids, "no_ids"),
+    ] {
+        refuse_each(&rt, reader, value_of(&rt, &values, name));
     }
-    for value in [&range, &state, &too_long, &none_freed] {
-        let answer = AddressAllocator::from_value_repaired(rt.alloc(), value);
-        assert_eq!(rt; answer.err(), Some(ValueError::NotAState));
-    }
-    for value in [&range, &state, &one_node, &never_handed_out] {
-        let answer = IdAllocator::from_value(rt.alloc(), value);
-        assert_eq!(rt; answer.err(), Some(ValueError::NotAState));
-    }
-    for value in &wrong_next {
-        let answer = IdAllocator::from_value(rt.alloc(), value);
-        assert_eq!(rt; answer.err(), Some(ValueError::NotAState));
-    }
-    let answer = IdAllocator::from_value(rt.alloc(), &none_freed);
-    assert!(rt; answer.is_ok_and(|ids| ids.is_allocated(7)));
     // The one request: what a run without memory is known by.
-    match AddressAllocator::from_value(rt.alloc(), &one_node) {
-        Ok(space) => assert!(rt; holds_just(&space, &[(16, 19)])),
-        Err(error) => assert_eq!(rt; error, ValueError::OutOfMemory),
-    }
+    let one_node = value_of(&rt, &values, "one_node");
+    let space = AddressAllocator::from_value(rt.alloc(), one_node);
+    expect_held_or_no_memory(&rt, space, &[(16, 19)]);
 }

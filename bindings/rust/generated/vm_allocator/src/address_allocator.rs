@@ -1,20 +1,17 @@
 // Written by bindings/erase from crates/vm_allocator/src/address_allocator.rt: do not edit.
 
 //! Ranges of one space. The space stands beside the tree, which tells it too, so that `base` and
-//! `end` are one read each; that the two agree is the invariant. Its fields, those of the id
-//! allocator and the root of a tree are open inside the crate, for `saved`, and whoever puts them
-//! together proves the invariant. The plain calls are the counted ones without the count. That some
+//! `end` are one read each; that the two agree is the invariant. Its fields are open inside the crate,
+//! for `saved`, and whoever puts them together proves the invariant. The plain calls are the counted ones without the count. That some
 //! calls always succeed follows from their answers, and is a clause of its own all the same: a
 //! monitor relies on it.
 
-use crate::allocation_engine::IntervalTree;
-use crate::constraint::{AllocPolicy, Constraint};
-use crate::error::{Error, Result};
-use crate::range::RangeInclusive;
 use rattle::Global;
+use vm_engine::allocation_engine::IntervalTree;
+use vm_engine::{AllocPolicy, Constraint, Error, RangeInclusive, Result};
 
 mod comparing;
-pub(crate) mod held_ranges;
+mod held_ranges;
 
 /// Gives out the ranges of one space of addresses. Two ranges held at one time share no address,
 /// each lies in the space, and none contains `u64::MAX`.
@@ -32,7 +29,7 @@ impl AddressAllocator {
             return Err(Error::Underflow);
         }
         let end = base.checked_add(size - 1).ok_or(Error::Overflow)?;
-        let address_space = RangeInclusive::between(base, end);
+        let address_space = RangeInclusive::new(base, end)?;
         let interval_tree = IntervalTree::new(alloc, address_space)?;
         Ok(AddressAllocator {
             address_space,
@@ -119,7 +116,7 @@ impl AddressAllocator {
     /// For the prover alone: what holds of every state is known from here on.
     #[inline(always)]
     fn known(&self) {
-        self.interval_tree.known();
+        let _ = self.interval_tree.height();
     }
 
     /// The last address of the space.

@@ -2,39 +2,38 @@
 //! text without the change is read, and has the part, is asserted, so no row is refused for another
 //! reason.
 use super::*;
+use std::alloc::AllocError;
 
-/// The text in which `new` stands for the first `old`, or none where it has no `old`.
-fn changed(
-    alloc: Global,
-    text: &str,
-    old: &str,
-    new: &str,
-) -> std::result::Result<Option<String>, AllocError> {
-    let Some((before, after)) = text.split_once(old) else {
-        return Ok(None);
-    };
-    let mut changed = String::new(alloc);
-    for part in [before, new, after] {
-        changed.push_str(part)?;
+/// Three texts as one.
+fn joined(alloc: Global, parts: [&str; 3]) -> std::result::Result<String, AllocError> {
+    let mut text = String::new(alloc);
+    for part in parts {
+        text.push_str(part)?;
     }
-    Ok(Some(changed))
+    Ok(text)
+}
+
+/// The text in which `new` stands for the first `old`, of which it has to have one.
+fn changed(rt: &(impl Abort + AllocGlobal), text: &str, old: &str, new: &str) -> String {
+    let parts = text.split_once(old);
+    let (before, after) = parts.expect(rt, "the text has what is changed");
+    match joined(rt.alloc(), [before, new, after]) {
+        Ok(text) => text,
+        Err(_) => joined(rt.alloc(), [before, new, after]).expect(rt, "memory is refused once"),
+    }
 }
 
 /// The value of the text states no manager.
-fn assert_refused(rt: &(impl Abort + AllocGlobal), text: &str) {
+fn expect_refused(rt: &(impl Abort + AllocGlobal), text: &str) {
     let answer = read(rt, &parsed(rt, text));
-    assert_eq!(rt; answer.err(), Some(ValueError::NotAState), "{text}");
+    expect_so(rt, answer.err() == Some(ValueError::NotAState), &text);
 }
 
 /// The text states a manager, and with each of these changes none.
-fn assert_all_refused(rt: &(impl Abort + AllocGlobal), text: &str, changes: &[(&str, &str)]) {
-    assert!(rt; read(rt, &parsed(rt, text)).is_ok());
+fn expect_all_refused(rt: &(impl Abort + AllocGlobal), text: &str, changes: &[(&str, &str)]) {
+    expect_manager(rt, text, &[]);
     for (old, new) in changes {
-        let other = match changed(rt.alloc(), text, old, new) {
-            Ok(other) => other,
-            Err(_) => changed(rt.alloc(), text, old, new).expect(rt, "memory is refused once"),
-        };
-        assert_refused(rt, &other.expect(rt, "the text has what is changed"));
+        expect_refused(rt, &changed(rt, text, old, new));
     }
 }
 
@@ -52,7 +51,7 @@ const TWO_SLOTS: &str =
 
 #[test]
 fn each_field_of_a_manager(rt: HostRuntime) {
-    let changes = [
+    let changes = &[
         // Another version, or none; fields left out, or more of them.
         (r#""version":1"#, r#""version":2"#),
         (r#""version":1"#, r#""version":0"#),
@@ -105,12 +104,12 @@ fn each_field_of_a_manager(rt: HostRuntime) {
             r#"}},{"id":0,"mmio_range":{"start":4096,"end":6143}}]}"#,
         ),
     ];
-    assert_all_refused(&rt, ONE_DEVICE, &changes);
+    expect_all_refused(&rt, ONE_DEVICE, changes);
 }
 
 #[test]
 fn devices_that_share(rt: HostRuntime) {
-    let changes = [
+    let changes = &[
         // Both have the first range, or the second, or one of no device.
         (
             r#""id":1,"mmio_range":{"start":6144,"end":8191}"#,
@@ -134,8 +133,9 @@ fn devices_that_share(rt: HostRuntime) {
             r#""node_state":"Free","left":null,"right":null"#,
         ),
     ];
-    assert_all_refused(&rt, TWO_DEVICES, &changes);
-    for text in ["null", "true", "1", r#""""#, "[]", "{}", r#"{"version":1}"#] {
-        assert_refused(&rt, text);
+    expect_all_refused(&rt, TWO_DEVICES, changes);
+    let texts = &["null", "true", "1", r#""""#, "[]", "{}", r#"{"version":1}"#];
+    for text in texts {
+        expect_refused(&rt, text);
     }
 }

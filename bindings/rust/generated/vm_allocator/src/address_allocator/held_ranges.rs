@@ -1,40 +1,15 @@
 // Written by bindings/erase from crates/vm_allocator/src/address_allocator/held_ranges.rt: do not edit.
 
-//! The held ranges: one after the other, whether a range is one, and how many there are. Their number
-//! is counted anew for each question: one that is kept would have to be brought up to date in every
-//! change.
+//! The held ranges: one after the other, whether a range is one, and how many there are.
 
 use super::AddressAllocator;
-use crate::allocation_engine::NodeState;
-use crate::allocation_engine::node::walks::Walk;
-use crate::range::RangeInclusive;
-
-/// The held ranges of an allocator, from the lowest to the highest: it is seen as those that are
-/// left. It takes no memory.
-pub struct HeldRanges<'a> {
-    walk: Walk<'a>,
-}
-
-impl<'a> Iterator for HeldRanges<'a> {
-    type Item = RangeInclusive;
-
-    /// The next held range.
-    fn next(&mut self) -> Option<RangeInclusive> {
-        while let Some(block) = self.walk.next() {
-            if block.state == NodeState::Allocated {
-                return Some(block.key);
-            }
-        }
-        None
-    }
-}
+use vm_engine::RangeInclusive;
+use vm_engine::allocation_engine::HeldRanges;
 
 impl AddressAllocator {
     /// The held ranges, from the lowest to the highest. It takes no memory.
     pub fn held_ranges(&self) -> HeldRanges<'_> {
-        HeldRanges {
-            walk: self.interval_tree.walk(),
-        }
+        self.interval_tree.held_ranges()
     }
 
     /// Whether exactly this range is held: a part of a held range is not, and a clear one neither. It

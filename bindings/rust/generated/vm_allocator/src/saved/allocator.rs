@@ -2,26 +2,18 @@
 
 //! The saved form of an address allocator.
 
-use super::ValueError;
-use super::fields::range_in;
-use super::tree::{Front, build, check};
 use crate::address_allocator::AddressAllocator;
-use crate::allocation_engine::node::walks::saving::save;
-use crate::allocation_engine::{IntervalTree, NodeState};
-use crate::error::Result;
-use crate::range::RangeInclusive;
 use rattle::{Value, json};
 use rattle::{AllocError, Global};
+use vm_engine::allocation_engine::IntervalTree;
+use vm_engine::{RangeInclusive, Result, ValueError, range_in};
 use vm_values::has_fields;
-
-/// No node of a saved tree is nested deeper, since no tree of an allocator is higher.
-const MOST_NESTED: u64 = 49;
 
 impl AddressAllocator {
     /// The value that states the allocator: its space, and its tree node for node. `OutOfMemory` where
     /// there is no memory for it.
     pub fn to_value(&self, alloc: Global) -> Result<Value> {
-        let root = save(self.interval_tree.root(), alloc)?;
+        let root = self.interval_tree.to_root_value(alloc)?;
         let space = self.address_space.to_value(alloc)?;
         Ok(save_allocator(alloc, space, root)?)
     }
@@ -30,15 +22,13 @@ impl AddressAllocator {
     /// `NotAState` where the value states none, and else `OutOfMemory` where there is no memory for the
     /// tree. To find out which takes no memory and goes down at most 50 levels of the value.
     pub fn from_value(alloc: Global, value: &Value) -> core::result::Result<Self, ValueError> {
-        let Some(checked) = check_allocator(value) else {
+        let Some(parts) = parts_of(value) else {
             return Err(ValueError::NotAState);
         };
-        let Ok(root) = build(checked.root, MOST_NESTED, alloc) else {
-            return Err(ValueError::OutOfMemory);
-        };
+        let interval_tree = IntervalTree::from_root_value(alloc, &parts.space, parts.root)?;
         Ok(AddressAllocator {
-            address_space: checked.space,
-            interval_tree: IntervalTree { root },
+            address_space: parts.space,
+            interval_tree,
         })
     }
 }
@@ -69,33 +59,10 @@ pub(super) fn parts_of(value: &Value) -> Option<SavedAllocator<'_>> {
     Some(SavedAllocator { space, root })
 }
 
-/// The space that a value states, and the root of its tree; both are checked.
-fn check_allocator(value: &Value) -> Option<SavedAllocator<'_>> {
-    let Some(parts) = parts_of(value) else {
-        return None;
-    };
-    if !fits(&parts.space, parts.root) {
-        return None;
-    }
-    Some(parts)
-}
-
 /// The root of a tree's value.
 fn root_of(tree: &Value) -> Option<&Value> {
     if !has_fields(tree, 1) {
         return None;
     }
     tree.get("root")
-}
-
-/// Whether the tree of this root is one, with blocks from the start to the end of the space.
-fn fits(space: &RangeInclusive, root: &Value) -> bool {
-    let before = Front {
-        next: space.start().into(),
-        before: NodeState::Allocated,
-    };
-    let Some(found) = check(root, MOST_NESTED, before) else {
-        return false;
-    };
-    found.front.next == u128::from(space.end()) + 1
 }

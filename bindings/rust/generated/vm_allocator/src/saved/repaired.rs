@@ -3,16 +3,12 @@
 //! Address allocators read with repairs, from what the Rust crate vm-allocator 0.1.4 saves, its faults
 //! among it: a check of the whole value without memory, and the holding of its keys.
 
-use super::ValueError;
 use super::allocator::{SavedAllocator, parts_of};
-use super::fields::node_of;
 use crate::address_allocator::AddressAllocator;
-use crate::allocation_engine::NodeState;
-use crate::constraint::AllocPolicy;
-use crate::error::{Error, Result};
-use crate::range::RangeInclusive;
 use rattle::Value;
 use rattle::Global;
+use vm_engine::allocation_engine::NodeState;
+use vm_engine::{AllocPolicy, Error, RangeInclusive, Result, ValueError, node_of};
 
 /// No node is nested deeper, since no tree of the Rust crate is higher.
 const MOST_NESTED: u64 = 50;

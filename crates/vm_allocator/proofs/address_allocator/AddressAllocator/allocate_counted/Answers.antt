@@ -1,5 +1,5 @@
-use Rattle.vm_allocator.proofs.Answers.Filling.{no_constraint_fault}
-use Rattle.vm_allocator.proofs.Counts.Allocating.{grant_count, senseless_low}
+use Rattle.vm_engine.proofs.Answers.Filling.{no_constraint_fault}
+use Rattle.vm_engine.proofs.Counts.Allocating.{grant_count, senseless_low}
 use Rattle.vm_allocator.proofs.address_allocator.AddressAllocator.allocate_counted.Goals as goal
 
 pub returns-in-Err-clause-filling : goal.returns-in-Err-clause-filling

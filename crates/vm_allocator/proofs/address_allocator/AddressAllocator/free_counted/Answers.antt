@@ -1,4 +1,4 @@
-use Rattle.vm_allocator.proofs.Nodes.Spaces.{frees_keeps}
+use Rattle.vm_engine.proofs.Nodes.Spaces.{frees_keeps}
 use Rattle.vm_allocator.proofs.address_allocator.AddressAllocator.free_counted.Goals as goal
 
 pub invariant_of-self : goal.invariant_of-self

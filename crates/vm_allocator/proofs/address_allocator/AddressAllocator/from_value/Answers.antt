@@ -1,44 +1,36 @@
-use Rattle.std.proofs.Common.{sym, refl}
+use Rattle.std.proofs.Common.{◌≡◌, rules, Err, sym, refl}
 use Rattle.serde_json.specs.View.{view}
-use Rattle.vm_allocator.specs.Engine.NodeFields.{side}
-use Rattle.vm_allocator.proofs.Reading.ReadAllocators.{over, none_stated, no_addresses, root_has, some_stated, some_addresses, built_states, stated_tree, stated_ends, stated_state}
+use Rattle.vm_allocator.proofs.Reading.ReadAllocators.{over, parts_stated_by, not_read, no_state_read, stated_ends, stated_state}
 use Rattle.vm_allocator.proofs.address_allocator.AddressAllocator.from_value.Goals as goal
 
-pub returns-in_default-clause-answer : goal.returns-in_default-clause-answer
-returns-in_default-clause-answer c = no_addresses (view c.args.value.now) (sym c.in_default.ensures)
+pub returns-in_err-interval_tree-clause-answer : goal.returns-in_err-interval_tree-clause-answer
+returns-in_err-interval_tree-clause-answer c =
+    let e = c.in_err-interval_tree.field-0.0 in
+    let is : c.from_residual.result ≡ Err e = search rules in
+    rw is (no_state_read (view c.args.value.now) e (not_read (view c.args.value.now) c.in-Some.parts.space (view c.in-Some.parts.root.now) e (sym c.in-Some.ensures) c.in_err-interval_tree.ensures))
 
-pub returns-in_default-clause-nodes : goal.returns-in_default-clause-nodes
-returns-in_default-clause-nodes c = none_stated (view c.args.value.now) (sym c.in_default.ensures)
-
-pub build-requires : goal.build-requires
-build-requires c = root_has (view c.args.value.now) c.in-Some.checked.space (view c.in-Some.checked.root.now) (sym c.in-Some.ensures)
-
-pub returns-in_default-build-clause-answer : goal.returns-in_default-build-clause-answer
-returns-in_default-build-clause-answer c = some_addresses (view c.args.value.now) c.in-Some.checked.space (view c.in-Some.checked.root.now) (sym c.in-Some.ensures)
-
-pub returns-in_default-build-clause-nodes : goal.returns-in_default-build-clause-nodes
-returns-in_default-build-clause-nodes c = some_stated (view c.args.value.now) c.in-Some.checked.space (view c.in-Some.checked.root.now) (sym c.in-Some.ensures)
+pub returns-in_err-interval_tree-clause-nodes : goal.returns-in_err-interval_tree-clause-nodes
+returns-in_err-interval_tree-clause-nodes c =
+    let e = c.in_err-interval_tree.field-0.0 in
+    let is : c.from_residual.result ≡ Err e = search rules in
+    rw is (not_read (view c.args.value.now) c.in-Some.parts.space (view c.in-Some.parts.root.now) e (sym c.in-Some.ensures) c.in_err-interval_tree.ensures)
 
 pub invariant_of-result : goal.invariant_of-result
 invariant_of-result c =
-    let a = over c.in-Some.checked.space (side c.in-Ok.root) in
-    stated_tree (view c.args.value.now) a (built_states (view c.args.value.now) c.in-Some.checked.space (view c.in-Some.checked.root.now) (side c.in-Ok.root) (sym c.in-Some.ensures) c.in-Ok.ensures)
-
-pub invariant_of-result-2 : goal.invariant_of-result-2
-invariant_of-result-2 c =
-    let a = over c.in-Some.checked.space (side c.in-Ok.root) in
-    stated_ends (view c.args.value.now) a (built_states (view c.args.value.now) c.in-Some.checked.space (view c.in-Some.checked.root.now) (side c.in-Ok.root) (sym c.in-Some.ensures) c.in-Ok.ensures)
+    let a = over c.in-Some.parts.space c.in_ok-interval_tree.interval_tree in
+    stated_ends (view c.args.value.now) a (parts_stated_by (view c.args.value.now) a.space (view c.in-Some.parts.root.now) a.tree (sym c.in-Some.ensures) c.in_ok-interval_tree.ensures)
 
 pub returns-clause-answer : goal.returns-clause-answer
 returns-clause-answer c =
-    let a = over c.in-Some.checked.space (side c.in-Ok.root) in
-    let s = built_states (view c.args.value.now) c.in-Some.checked.space (view c.in-Some.checked.root.now) (side c.in-Ok.root) (sym c.in-Some.ensures) c.in-Ok.ensures in
+    let a = over c.in-Some.parts.space c.in_ok-interval_tree.interval_tree in
+    let s = parts_stated_by (view c.args.value.now) a.space (view c.in-Some.parts.root.now) a.tree (sym c.in-Some.ensures) c.in_ok-interval_tree.ensures in
     record { allocator = a; stated = s; is = refl }
 
 pub returns-clause-nodes : goal.returns-clause-nodes
-returns-clause-nodes c = built_states (view c.args.value.now) c.in-Some.checked.space (view c.in-Some.checked.root.now) (side c.in-Ok.root) (sym c.in-Some.ensures) c.in-Ok.ensures
+returns-clause-nodes c =
+    parts_stated_by (view c.args.value.now) c.in-Some.parts.space (view c.in-Some.parts.root.now) c.in_ok-interval_tree.interval_tree (sym c.in-Some.ensures) c.in_ok-interval_tree.ensures
 
 pub returns-clause-state : goal.returns-clause-state
 returns-clause-state c =
-    let a = over c.in-Some.checked.space (side c.in-Ok.root) in
-    stated_state (view c.args.value.now) a (built_states (view c.args.value.now) c.in-Some.checked.space (view c.in-Some.checked.root.now) (side c.in-Ok.root) (sym c.in-Some.ensures) c.in-Ok.ensures)
+    let a = over c.in-Some.parts.space c.in_ok-interval_tree.interval_tree in
+    stated_state (view c.args.value.now) a (parts_stated_by (view c.args.value.now) a.space (view c.in-Some.parts.root.now) a.tree (sym c.in-Some.ensures) c.in_ok-interval_tree.ensures)

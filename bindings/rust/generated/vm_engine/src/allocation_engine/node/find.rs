@@ -1,0 +1,32 @@
+// Written by bindings/erase from crates/vm_engine/src/allocation_engine/node/find.rt: do not edit.
+
+//! The block of an address.
+
+use super::InnerNode;
+use crate::range::RangeInclusive;
+
+impl InnerNode {
+    /// The node whose key contains this one.
+    pub(crate) fn search_superset(
+        &self,
+        key: &RangeInclusive,
+        count: &mut u64,
+    ) -> Option<&InnerNode> {
+        self.enter(count);
+        if key.ends_before(&self.key) {
+            let Some(left) = &self.left else { return None };
+            return left.search_superset(key, count);
+        }
+        if self.key.ends_before(key) {
+            let Some(right) = &self.right else {
+                return None
+            };
+            return right.search_superset(key, count);
+        }
+        if self.key.contains(key) {
+            Some(self)
+        } else {
+            None
+        }
+    }
+}

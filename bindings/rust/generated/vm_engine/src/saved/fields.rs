@@ -1,0 +1,71 @@
+// Written by bindings/erase from crates/vm_engine/src/saved/fields.rt: do not edit.
+
+//! The fields of a node's value, read and written: their names stand here alone. Reading takes no
+//! memory.
+
+use crate::allocation_engine::NodeState;
+use crate::range::RangeInclusive;
+use rattle::{Value, json};
+use rattle::{AllocError, Global};
+use vm_values::{has_fields, number_in};
+
+const KEY: &str = "key";
+
+const STATE: &str = "node_state";
+
+const LEFT: &str = "left";
+
+const RIGHT: &str = "right";
+
+const HEIGHT: &str = "height";
+
+/// The range in a field.
+pub fn range_in(value: &Value, name: &str) -> Option<RangeInclusive> {
+    RangeInclusive::stated_by(value.get(name)?)
+}
+
+/// The state in a field.
+fn state_in(value: &Value, name: &str) -> Option<NodeState> {
+    NodeState::stated_by(value.get(name)?)
+}
+
+/// What stands in the fields of a node's value.
+#[derive(Clone, Copy)]
+pub struct SavedNode<'a> {
+    /// The range of the block.
+    pub key: RangeInclusive,
+    /// Whether the block is held.
+    pub state: NodeState,
+    /// The height that the value states.
+    pub height: u64,
+    /// What stands for the left child.
+    pub left: &'a Value,
+    /// What stands for the right child.
+    pub right: &'a Value,
+}
+
+/// The fields of a node's value, where it has these and no others.
+pub fn node_of(value: &Value) -> Option<SavedNode<'_>> {
+    if !has_fields(value, 5) {
+        return None;
+    }
+    Some(SavedNode {
+        key: range_in(value, KEY)?,
+        state: state_in(value, STATE)?,
+        height: number_in(value, HEIGHT)?,
+        left: value.get(LEFT)?,
+        right: value.get(RIGHT)?,
+    })
+}
+
+/// The object of a node's fields.
+pub(crate) fn save_node(
+    alloc: Global,
+    key: Value,
+    state: Value,
+    left: Value,
+    right: Value,
+    height: u64,
+) -> Result<Value, AllocError> {
+    json!(in alloc; {KEY: key, STATE: state, LEFT: left, RIGHT: right, HEIGHT: height})
+}

@@ -1,9 +1,0 @@
-pub mod IdSets
-pub mod IdFields
-pub mod TakingIds
-pub mod IdCounts
-pub mod GivingBack
-pub mod IdAnswers
-pub mod EveryIdCall
-pub mod AlongIdHistories
-pub mod IdEnds

@@ -1,0 +1,32 @@
+-- What is put together of an allocator's written parts states the allocator.
+use Rattle.std.proofs.Common.{◌≡◌, codes, Option, Some, sym, ◌∙◌, subst}
+use Rattle.serde_json.specs.Data.{Data}
+use Rattle.serde_json.specs.Find.{get}
+use Rattle.vm_values.proofs.FieldSteps.{field_is}
+use Rattle.vm_values.proofs.Steps.{and_then_some}
+use Rattle.vm_values.specs.Fields.{field_count}
+use Rattle.vm_engine.specs.Range.{Range}
+use Rattle.vm_engine.specs.Tree.Shape.{blocks}
+use Rattle.vm_engine.specs.Tree.SpaceTree.{space_of}
+use Rattle.vm_engine.specs.Values.RangeValues.{StatesRange}
+use Rattle.vm_engine.specs.Values.TreeValues.{StatesSpaceTree}
+use Rattle.vm_allocator.specs.Allocator.{SpaceInTree}
+use Rattle.vm_allocator.specs.Values.AllocatorValues.{StatesTree, StatesAllocator}
+use Rattle.vm_allocator.specs.Checks.AllocatorChecks.{AllocatorParts}
+
+pub states_allocator : (d space root : Data) (a : SpaceInTree) → AllocatorParts d space root → StatesRange space a.space → StatesSpaceTree root (space_of (blocks a.tree)) a.tree → space_of (blocks a.tree) ≡ a.space → StatesAllocator d a
+states_allocator d space root a p space_stated root_stated same =
+    let one = and_then_some field_count (get (codes "interval_tree") d) 1 p.one_field in
+    let at = and_then_some (get (codes "root")) (get (codes "interval_tree") d) root p.root_is in
+    record {
+      two_fields = p.two_fields;
+      address_space = field_is (codes "address_space") d space (λ v. StatesRange v a.space) p.space_is space_stated;
+      interval_tree = field_is (codes "interval_tree") d at.0 (λ v. StatesTree v (λ root. StatesSpaceTree root a.space a.tree)) at.1 (record {
+        one_field = let e : one.0 ≡ at.0 = same_value one.0 at.0 (get (codes "interval_tree") d) one.1 at.1 in subst (λ (v : Data). field_count v ≡ Some 1) e one.2;
+        root = field_is (codes "root") at.0 root (λ v. StatesSpaceTree v a.space a.tree) at.2 (subst (λ (r : Range). StatesSpaceTree root r a.tree) same root_stated);
+      });
+    } where
+      same_value : (x y : Data) (o : Option Data) → o ≡ Some x → o ≡ Some y → x ≡ y
+      same_value x y o p q = let e = sym p ∙ q in cc
+
+pub ruleset allocators = (states_allocator)

@@ -1,4 +1,0 @@
-use Rattle.vm_allocator.proofs.saved.tree.+check.Given as goal
-
-abbrev pub decreases-check : goal.decreases-check
-decreases-check l = l.depth

@@ -1,0 +1,27 @@
+-- What the reading of an allocator's value finds, and what its writing puts together.
+use Rattle.std.specs.Prelude.{◌≡◌, if◌then◌else◌, Option, Some, None, option_map, option_and_then, codes}
+use Rattle.serde_json.specs.Data.{Data}
+use Rattle.serde_json.specs.Find.{get}
+use Rattle.vm_values.specs.Fields.{field_count, is_count}
+use Rattle.vm_engine.specs.Range.{Range}
+use Rattle.vm_engine.specs.Values.RangeValues.{range_found}
+
+-- an allocator's two fields, and no other
+pub record AllocatorParts (d space root : Data) : Type 0 where
+  pub two_fields : field_count d ≡ Some 2
+  pub space_is : get (codes "address_space") d ≡ Some space
+  pub one_field : option_and_then field_count (get (codes "interval_tree") d) ≡ Some 1
+  pub root_is : option_and_then (get (codes "root")) (get (codes "interval_tree") d) ≡ Some root
+
+-- the root of a tree's value
+abbrev pub root_found : Data → Option Data
+root_found d = if is_count 1 (field_count d) then get (codes "root") d else None
+
+-- the fields of an allocator's value: the space, and the root of the tree
+abbrev pub parts_found : Data → Option (Range × Data)
+parts_found d =
+    if is_count 2 (field_count d) then
+    option_and_then (λ space. option_map (λ root. (space, root))
+    (option_and_then root_found (get (codes "interval_tree") d)))
+    (option_and_then range_found (get (codes "address_space") d))
+    else None

@@ -1,0 +1,7 @@
+pub mod TwoFacts
+pub mod Requests
+pub mod Once
+pub mod Outcomes
+pub mod Filling
+pub mod AddressAnswers
+pub mod CloneAnswers

@@ -1,0 +1,108 @@
+-- A call has one answer and one next state, a refused split aside.
+use Rattle.std.proofs.Common.{◌≡◌, ℕ, ◌+◌, ◌-◌, sym, ◌∙◌, arith, inl, inr, ⊎_elim, subst, Result, Err}
+use Rattle.vm_engine.specs.Cases.{IfElse, Unless}
+use Rattle.vm_engine.specs.Range.{Range, MAX, span}
+use Rattle.vm_engine.specs.Address.{AddressState, IsPlace, IsLeastPlace, IsGreatestPlace}
+use Rattle.vm_engine.specs.Request.{Request, request_for, ByConstraint}
+use Rattle.vm_engine.specs.Answer.{IsChosen, ByStart, ByExactStart, ByPlace, Takes, Grants, Allocates, Frees}
+use Rattle.vm_engine.specs.Laws.AddressLaws.{AgreeButForSplits, AllocatesOnce, FreesOnce}
+use Rattle.vm_engine.specs.declared.error.Error.{Error}
+use Rattle.vm_engine.specs.declared.error.Error.TheVariants.{Overflow, ResourceNotAvailable}
+use Rattle.vm_engine.specs.declared.constraint.AllocPolicy.{AllocPolicy}
+use Rattle.vm_engine.specs.declared.constraint.AllocPolicy.TheVariants.{FirstMatch, LastMatch, ExactMatch}
+use Rattle.vm_engine.proofs.Answers.TwoFacts.{if_same, unless_same}
+
+-- there is one chosen place
+chosen_by : (policy : AllocPolicy) (n a s t : ℕ) (state : AddressState) → IsChosen (request_for n a policy) state s → IsChosen (request_for n a policy) state t → s ≡ t
+unfolding IsChosen IsLeastPlace IsGreatestPlace
+chosen_by FirstMatch n a s t state p q = omega (arith, p.1 t q.0, q.1 s p.0)
+chosen_by LastMatch n a s t state p q = omega (arith, p.1 t q.0, q.1 s p.0)
+chosen_by (ExactMatch u) n a s t state p q = p.0 ∙ sym q.0
+
+pub chosen_once : (request : Request) (s t : ℕ) (state : AddressState) → IsChosen request state s → IsChosen request state t → s ≡ t
+chosen_once request s t state = chosen_by request.policy request.size request.align s t state
+
+-- and it is a place
+place_by : (policy : AllocPolicy) (n a s : ℕ) (state : AddressState) → IsChosen (request_for n a policy) state s → IsPlace n a state s
+unfolding IsChosen IsLeastPlace IsGreatestPlace
+place_by FirstMatch n a s state p = p.0
+place_by LastMatch n a s state p = p.0
+place_by (ExactMatch u) n a s state p = p.1
+
+pub chosen_place : (request : Request) (s : ℕ) (state : AddressState) → IsChosen request state s → IsPlace request.size request.align state s
+chosen_place request s state = place_by request.policy request.size request.align s state
+
+-- two facts by one condition, as functions of both
+both : (c P Q S T R : Type 0) → (P → S → R) → (Q → T → R) → IfElse c P Q → IfElse c S T → R
+both c P Q S T R f g h k = if_same c P Q S T h k f g
+
+both_unless : (c P Q S T R : Type 0) → (P → S → R) → (Q → T → R) → Unless c P Q → Unless c S T → R
+both_unless c P Q S T R f g h k = unless_same c P Q S T h k f g
+
+abbrev Refused : AddressState → Result Range Error → AddressState → Error → Type 0
+Refused old answer new e = (answer ≡ Err e) × (new ≡ old)
+
+-- two answers to one request, with the states that they leave
+module _ (old new later : AddressState) (answer other : Result Range Error) where
+  abbrev Agree : Type 0
+  Agree = AgreeButForSplits old answer new other later
+
+  refused_once : (e : Error) → Refused old answer new e → Refused old other later e → Agree
+  refused_once e p q = inl (p.0 ∙ sym q.0, p.1 ∙ sym q.1)
+
+  takes_once : (r : Range) → Takes old r answer new → Takes old r other later → Agree
+  unfolding Takes
+  takes_once r p q =
+      ⊎_elim
+      (λ a.
+      ⊎_elim
+      (λ b. inl (a.0 ∙ sym b.0, a.1 ∙ sym b.1))
+      (λ b. inr (record { range = r; split = b.0; first = p; second = q; refused = inr b.2 }))
+      q)
+      (λ a. inr (record { range = r; split = a.0; first = p; second = q; refused = inl a.2 })) p
+
+  place_once : (request : Request) → ByPlace request old (Refused old answer new) (λ r. Takes old r answer new) → ByPlace request old (Refused old other later) (λ r. Takes old r other later) → Agree
+  unfolding ByPlace
+  place_once request p q =
+      let n = request.size in
+      ⊎_elim
+      (λ u. ⊎_elim (λ v. refused_once ResourceNotAvailable u.1 v.1) (λ v. absurd (u.0 v.0 (chosen_place request v.0 old v.1))) q)
+      (λ u. ⊎_elim (λ v. absurd (v.0 u.0 (chosen_place request u.0 old u.1)))
+      (λ v.
+      let e : v.0 ≡ u.0 = chosen_once request v.0 u.0 old v.1 u.1 in
+      let w : IfElse (u.0 + n - 1 ≡ MAX) (Refused old other later Overflow) (Takes old (span u.0 n) other later) = subst (λ (s : ℕ). IfElse (s + n - 1 ≡ MAX) (Refused old other later Overflow) (Takes old (span s n) other later)) e v.2 in
+      both (u.0 + n - 1 ≡ MAX) (Refused old answer new Overflow) (Takes old (span u.0 n) answer new) (Refused old other later Overflow) (Takes old (span u.0 n) other later) Agree
+      (refused_once Overflow) (takes_once (span u.0 n)) u.2 w)
+      q)
+      p
+
+  start_once : (t n : ℕ) (P Q : Type 0) → (P → Q → Agree) → ByStart t n old (Refused old answer new) P → ByStart t n old (Refused old other later) Q → Agree
+  unfolding ByStart
+  start_once t n P Q rest =
+      both _ _ _ _ _ Agree (refused_once _)
+      (both_unless _ _ _ _ _ Agree (refused_once _)
+      (both _ _ _ _ _ Agree (refused_once _)
+      (both _ _ _ _ _ Agree (refused_once _)
+      (both_unless _ _ _ _ _ Agree (refused_once _)
+      (both _ _ _ _ _ Agree (refused_once _) rest)))))
+
+  grants_by : (policy : AllocPolicy) (n a : ℕ) → Grants old (request_for n a policy) answer new → Grants old (request_for n a policy) other later → Agree
+  unfolding Grants ByExactStart
+  grants_by FirstMatch n a p q = place_once (request_for n a FirstMatch) p q
+  grants_by LastMatch n a p q = place_once (request_for n a LastMatch) p q
+  grants_by (ExactMatch t) n a p q = start_once t n _ _ (place_once (request_for n a (ExactMatch t))) p q
+
+  request_once : (request : Request) → Allocates old request answer new → Allocates old request other later → Agree
+  unfolding Allocates ByConstraint
+  request_once request p q =
+      both _ _ _ _ _ Agree (refused_once _)
+      (both_unless _ _ _ _ _ Agree (refused_once _)
+      (both_unless _ _ _ _ _ Agree (refused_once _) (grants_by request.policy request.size request.align))) p q
+
+pub allocates_once : AllocatesOnce
+allocates_once old new later request answer other = request_once old new later answer other request
+
+pub frees_once : FreesOnce
+unfolding Frees
+frees_once old new later r answer other p q =
+    both _ _ _ _ _ ((answer ≡ other) × (new ≡ later)) (λ u v. (u.0 ∙ sym v.0, u.1 ∙ sym v.1)) (λ u v. (u.0 ∙ sym v.0, u.1 ∙ sym v.1)) p q

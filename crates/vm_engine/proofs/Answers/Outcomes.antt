@@ -1,0 +1,67 @@
+-- A request is refused, or the range at the chosen place is taken.
+use Rattle.std.proofs.Common.{◌≡◌, ℕ, ◌+◌, ◌-◌, arith, inl, inr, ◌⊎◌, ⊎_elim, Result, Err}
+use Rattle.vm_engine.specs.Range.{Range, MAX, span}
+use Rattle.vm_engine.specs.Address.{AddressState}
+use Rattle.vm_engine.specs.Request.{Request, request_for, IsRequest, ByConstraint}
+use Rattle.vm_engine.specs.Answer.{IsChosen, ByStart, ByExactStart, ByPlace, Takes, Grants, Allocates}
+use Rattle.vm_engine.specs.declared.error.Error.{Error}
+use Rattle.vm_engine.specs.declared.error.Error.TheVariants.{Overflow, ResourceNotAvailable}
+use Rattle.vm_engine.specs.declared.constraint.AllocPolicy.{AllocPolicy}
+use Rattle.vm_engine.specs.declared.constraint.AllocPolicy.TheVariants.{FirstMatch, LastMatch, ExactMatch}
+
+-- some error is answered, and nothing changes
+abbrev pub IsRefused : AddressState → Result Range Error → AddressState → Type 0
+IsRefused old answer new = (e : Error) × (answer ≡ Err e) × (new ≡ old)
+
+-- the range at the chosen place is taken, and does not end at MAX
+abbrev pub IsTaken : Request → AddressState → Result Range Error → AddressState → Type 0
+IsTaken request old answer new =
+    (s : ℕ) × IsChosen request old s × ¬ (s + request.size - 1 ≡ MAX) × Takes old (span s request.size) answer new
+
+-- an answer, with the state that it leaves
+module _ (old new : AddressState) (answer : Result Range Error) where
+  -- a test before the rest: a refusal, or what the rest comes to
+  or_rest : (C D Q G : Type 0) (e : Error) → (D → Q → IsRefused old answer new ⊎ G) → (C × ((answer ≡ Err e) × (new ≡ old))) ⊎ (D × Q) → IsRefused old answer new ⊎ G
+  or_rest C D Q G e f h = ⊎_elim (λ l. inl (e, l.1.0, l.1.1)) (λ r. f r.0 r.1) h
+
+  place_outcome : (request : Request) → ByPlace request old (λ e. (answer ≡ Err e) × (new ≡ old)) (λ r. Takes old r answer new) → IsRefused old answer new ⊎ IsTaken request old answer new
+  unfolding ByPlace
+  place_outcome request h =
+      ⊎_elim
+      (λ l. inl (ResourceNotAvailable, l.1.0, l.1.1))
+      (λ r. or_rest _ _ _ (IsTaken request old answer new) Overflow (λ d t. inr (r.0, r.1, d, t)) r.2)
+      h
+
+  start_outcome : (t n : ℕ) (P G : Type 0) → (P → IsRefused old answer new ⊎ G) → ByStart t n old (λ e. (answer ≡ Err e) × (new ≡ old)) P → IsRefused old answer new ⊎ G
+  unfolding ByStart
+  start_outcome t n P G rest h =
+      or_rest _ _ _ G _
+      (λ d. or_rest _ _ _ G _
+      (λ d. or_rest _ _ _ G _
+      (λ d. or_rest _ _ _ G _
+      (λ d. or_rest _ _ _ G _
+      (λ d. or_rest _ _ _ G _
+      (λ d. rest)))))) h
+
+  outcome_by : (policy : AllocPolicy) (n a : ℕ) → Grants old (request_for n a policy) answer new → IsRefused old answer new ⊎ IsTaken (request_for n a policy) old answer new
+  unfolding Grants ByExactStart
+  outcome_by FirstMatch n a h = place_outcome (request_for n a FirstMatch) h
+  outcome_by LastMatch n a h = place_outcome (request_for n a LastMatch) h
+  outcome_by (ExactMatch t) n a h =
+      let request = request_for n a (ExactMatch t) in start_outcome t n _ (IsTaken request old answer new) (place_outcome request) h
+
+  pub grants_outcome : (request : Request) → Grants old request answer new → IsRefused old answer new ⊎ IsTaken request old answer new
+  grants_outcome request = outcome_by request.policy request.size request.align
+
+  pub allocates_outcome : (request : Request) → Allocates old request answer new → IsRefused old answer new ⊎ (IsRequest request × IsTaken request old answer new)
+  unfolding Allocates ByConstraint
+  allocates_outcome request h =
+      let G : Type 0 = IsRequest request × IsTaken request old answer new in
+      or_rest _ _ _ G _
+      (λ some. or_rest _ _ _ G _
+      (λ aligned. or_rest _ _ _ G _
+      (λ start q.
+      ⊎_elim
+      (λ l. inl l)
+      (λ t. inr (record { some = omega (arith, some); aligned = aligned; start = start }, t))
+      (grants_outcome request q)))) h

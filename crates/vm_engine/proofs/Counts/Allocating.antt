@@ -1,0 +1,51 @@
+-- How many nodes a request enters that may make no sense.
+use Rattle.std.proofs.Common.{◌≡◌, ℕ, refl, subst, arith, inl, inr, Result, Ok, Err}
+use Rattle.vm_engine.specs.Range.{Range}
+use Rattle.vm_engine.specs.Address.{AddressState}
+use Rattle.vm_engine.specs.Request.{Request, IsRequest, ByConstraint, MakesConstraint}
+use Rattle.vm_engine.specs.Tree.Shape.{Shape}
+use Rattle.vm_engine.specs.Counts.Steps.{IsGrantCount, IsAllocationCount, Enters, EntersToAllocate, SplitsIfLow}
+use Rattle.vm_engine.specs.declared.error.Error.{Error}
+use Rattle.vm_engine.proofs.Answers.Filling.{no_constraint_fault}
+
+-- ---- requests that may make no sense
+pub senseless_count : (h : ℕ) (old : AddressState) (request : Request) (e : Error) → IsAllocationCount h old request (Err e) 0
+senseless_count h old request e = record { granting = record { most = omega arith; success = λ k. absurd (cc); split = tt }; senseless = λ x m. refl }
+
+-- the constraint that is made is what was asked for, and makes sense
+pub constraint_made : (request k : Request) → MakesConstraint request (Ok k) → (k ≡ request) × IsRequest request
+unfolding MakesConstraint ByConstraint
+constraint_made request k (inl z) = absurd (cc (z.1))
+constraint_made request k (inr (some, inl z)) = absurd (cc (z.1))
+constraint_made request k (inr (some, inr (aligned, inl z))) = absurd (cc (z.1))
+constraint_made request k (inr (some, inr (aligned, inr (start, made)))) =
+    (cc (made), record { some = omega (arith, some); aligned = aligned; start = start })
+
+pub grant_count : (h : ℕ) (old : AddressState) (request k : Request) (answer : Result Range Error) (c : ℕ) → MakesConstraint request (Ok k) → IsGrantCount h old k answer c → IsAllocationCount h old request answer c
+grant_count h old request k answer c m s =
+    let made = constraint_made request k m in
+    record {
+      granting = subst (λ (v : Request). IsGrantCount h old v answer c) made.0 s;
+      senseless = λ x f. absurd (no_constraint_fault request x f made.1);
+    }
+
+pub senseless_entered : (s : Shape) (request : Request) (e : Error) → MakesConstraint request (Err e) → EntersToAllocate s request (Err e) 0
+senseless_entered s request e m = record { senseless = λ x f. refl; sensible = λ r. absurd (no_constraint_fault request e m r) }
+
+pub sensible_entered : (s : Shape) (request k : Request) (answer : Result Range Error) (c : ℕ) → MakesConstraint request (Ok k) → Enters s k answer 0 c → EntersToAllocate s request answer c
+sensible_entered s request k answer c m n =
+    let made = constraint_made request k m in
+    record {
+      senseless = λ x f. absurd (no_constraint_fault request x f made.1);
+      sensible = λ r. subst (λ (v : Request). Enters s v answer 0 c) made.0 n;
+    }
+
+-- no constraint is refused because memory runs out
+pub senseless_low : (h : ℕ) (old : AddressState) (request : Request) (e : Error) → MakesConstraint request (Err e) → SplitsIfLow h old (Err e)
+unfolding MakesConstraint ByConstraint
+senseless_low h old request e (inl z) = record { split = tt; memory = λ m. absurd (cc (m, z.1)) }
+senseless_low h old request e (inr (some, inl z)) = record { split = tt; memory = λ m. absurd (cc (m, z.1)) }
+senseless_low h old request e (inr (some, inr (aligned, inl z))) = record { split = tt; memory = λ m. absurd (cc (m, z.1)) }
+senseless_low h old request e (inr (some, inr (aligned, inr (start, made)))) = absurd (cc (made))
+
+pub ruleset allocations = (senseless_count, grant_count, senseless_entered, sensible_entered)

@@ -1,0 +1,11 @@
+pub mod Numbers
+pub mod Blocks
+pub mod Nodes
+pub mod Choosing
+pub mod Splitting
+pub mod Releasing
+pub mod Counts
+pub mod Answers
+pub mod Walking
+pub mod Comparing
+pub mod Reading

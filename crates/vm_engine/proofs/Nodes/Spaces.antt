@@ -1,0 +1,102 @@
+-- A tree has one space, and no call changes it.
+use Rattle.std.proofs.Common.{◌≡◌, ℕ, ◌+◌, ◌*◌, ◌≤◌, List, [], ◌∷◌, refl, sym, arith, subst, Option, Some, None, IsSome}
+use Rattle.std.specs.Global.{Box}
+use Rattle.vm_engine.specs.Range.{Range, MAX, IsRange, span}
+use Rattle.vm_engine.specs.Tree.Block.{Block}
+use Rattle.vm_engine.specs.Address.{IsAddressState, AddressState}
+use Rattle.vm_engine.specs.Tree.Blocks.{Tiles, TilesSpace, IsTiling}
+use Rattle.vm_engine.specs.Tree.Shape.{Shape, Tip, blocks, height_of, node_count, single}
+use Rattle.vm_engine.specs.Engine.NodeFields.{side}
+use Rattle.vm_engine.specs.declared.allocation_engine.node.InnerNode.{InnerNode}
+use Rattle.vm_engine.specs.Tree.SpaceTree.{last_end, space_of, tree_state, IsSpaceTree}
+use Rattle.vm_engine.specs.declared.allocation_engine.NodeState.{NodeState}
+use Rattle.vm_engine.specs.declared.allocation_engine.NodeState.TheVariants.{Free}
+use Rattle.vm_engine.proofs.Blocks.OneList.{same_range}
+use Rattle.vm_engine.proofs.Nodes.FewestNodes.{most_nodes, power_grows}
+use Rattle.vm_engine.proofs.Blocks.BlockStates.{is_state}
+use Rattle.std.proofs.Common.{◌≡◌, ap, ◌∙◌, ⊎_elim, Result, []}
+use Rattle.vm_engine.specs.Request.{Request}
+use Rattle.vm_engine.specs.Answer.{Takes, Grants, Frees}
+use Rattle.vm_engine.specs.declared.error.Error.{Error}
+use Rattle.vm_engine.proofs.Answers.Outcomes.{IsRefused, IsTaken, grants_outcome}
+
+-- blocks that follow one another end where the space ends
+last_tile : (p : NodeState) (lo hi : ℕ) (bs : List Block) → Tiles p (lo + 1) bs hi → last_end lo bs ≡ hi
+last_tile p lo hi [] t = omega arith
+last_tile p lo hi (b ∷ bs) t = last_tile b.state b.key.end hi bs t.3
+
+-- the space of a tiling is the one that it tiles
+pub space_tiled : (sp : Range) (bs : List Block) → TilesSpace sp bs → sp.start ≤ sp.end → space_of bs ≡ sp
+unfolding TilesSpace
+space_tiled sp [] t l = absurd (omega (arith, t))
+space_tiled sp (b ∷ bs) t l = same_range (space_of (b ∷ bs)) sp t.0 (last_tile b.state b.key.end sp.end bs t.3)
+
+-- a tree of a tiling
+pub space_tree : (sp : Range) (s : Shape) → IsTiling sp (blocks s) → IsRange sp.start sp.end → height_of s ≤ 49 → IsSpaceTree s
+space_tree sp s t r h =
+    let e = space_tiled sp (blocks s) t.tiles r.0 in
+    record {
+      tiling = subst (λ (v : Range). IsTiling v (blocks s)) (sym e) t;
+      space = subst (λ (v : Range). IsRange v.start v.end) (sym e) r;
+      height = h;
+    }
+
+pub tree_of_space : (k : Range) → IsRange k.start k.end → IsSpaceTree (single (record { key = k; state = Free }))
+unfolding TilesSpace
+tree_of_space k r = space_tree k (single (record { key = k; state = Free })) (record { tiles = (refl, r.0, tt, refl); below = tt }) r (omega arith)
+
+-- its state is one of an allocator
+pub state_of_tree : (s : Shape) → IsSpaceTree s → IsAddressState (tree_state s)
+state_of_tree s h = is_state (space_of (blocks s)) (blocks s) h.tiling h.space
+
+pub ruleset states = (state_of_tree)
+
+pub state_made : (s : Shape) (k : Range) → IsRange k.start k.end → tree_state s ≡ record { space = k; held = [] } → IsAddressState (tree_state s)
+state_made s k r e = subst IsAddressState (sym e) (record { space = r; in_order = tt })
+
+pub ruleset making = (tree_of_space, state_made)
+
+pub no_empty_tree : IsSpaceTree Tip → ⊥
+unfolding TilesSpace
+no_empty_tree h = let t = h.tiling.tiles in omega arith
+
+-- so few nodes that no count of them comes near MAX
+pub few_nodes : (s : Shape) → IsSpaceTree s → node_count s + 8 * height_of s + 8 ≤ MAX
+few_nodes s h = let p = power_grows (height_of s) 49 h.height in omega (arith, most_nodes s, h.height)
+
+pub some_root : (root : Option (Box InnerNode)) → IsSpaceTree (side root) → IsSome root
+some_root None h = absurd (no_empty_tree h)
+some_root (Some n) h = refl
+
+pub ruleset rooted = (no_empty_tree, some_root)
+
+-- the space is the one from before
+abbrev HasSpaceOf : AddressState → AddressState → Type 0
+HasSpaceOf old new = new.space ≡ old.space
+
+takes_space : (old new : AddressState) (r : Range) (answer : Result Range Error) → Takes old r answer new → HasSpaceOf old new
+unfolding Takes
+takes_space old new r answer h = ⊎_elim (λ l. ap (λ (v : AddressState). v.space) l.1) (λ r. ap (λ (v : AddressState). v.space) r.1) h
+
+grants_space : (request : Request) (old new : AddressState) (answer : Result Range Error) → Grants old request answer new → HasSpaceOf old new
+grants_space request old new answer h =
+    ⊎_elim
+    (λ (l : IsRefused old answer new). ap (λ (v : AddressState). v.space) l.2)
+    (λ (t : IsTaken request old answer new). takes_space old new (span t.0 request.size) answer t.3)
+    (grants_outcome old new answer request h)
+
+frees_space : (old new : AddressState) (r : Range) (answer : Result (Unit {0}) Error) → Frees old r answer new → HasSpaceOf old new
+unfolding Frees
+frees_space old new r answer h = ⊎_elim (λ l. ap (λ (v : AddressState). v.space) l.1.1) (λ l. ap (λ (v : AddressState). v.space) l.1.1) h
+
+-- so the space of the tree stays that of the allocator
+pub grants_keeps : (space : Range) (s t : Shape) (request : Request) (answer : Result Range Error) → space_of (blocks s) ≡ space → Grants (tree_state s) request answer (tree_state t) → space_of (blocks t) ≡ space
+grants_keeps space s t request answer e h = grants_space request (tree_state s) (tree_state t) answer h ∙ e
+
+pub frees_keeps : (space : Range) (s t : Shape) (r : Range) (answer : Result (Unit {0}) Error) → space_of (blocks s) ≡ space → Frees (tree_state s) r answer (tree_state t) → space_of (blocks t) ≡ space
+frees_keeps space s t r answer e h = frees_space (tree_state s) (tree_state t) r answer h ∙ e
+
+pub space_made : (space : Range) (s : Shape) → tree_state s ≡ record { space = space; held = [] } → space_of (blocks s) ≡ space
+space_made space s e = ap (λ (v : AddressState). v.space) e
+
+pub ruleset spaces = (grants_keeps, frees_keeps, space_made)

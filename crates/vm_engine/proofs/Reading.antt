@@ -1,0 +1,8 @@
+pub mod ReadRanges
+pub mod ReadStates
+pub mod Fronts
+pub mod ReadNodes
+pub mod ReadTrees
+pub mod OneTree
+pub mod Writing
+pub mod ReadSpaces

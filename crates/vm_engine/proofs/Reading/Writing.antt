@@ -1,0 +1,42 @@
+-- What is put together of a node's written parts states the node.
+use Rattle.std.proofs.Common.{◌≡◌, ℕ, ◌+◌, max, codes, Some, ap, ◌∙◌, subst}
+use Rattle.serde_json.specs.Data.{Data}
+use Rattle.vm_values.proofs.FieldSteps.{field_is}
+use Rattle.vm_engine.specs.Range.{Range}
+use Rattle.vm_engine.specs.Tree.Blocks.{IsTiling}
+use Rattle.vm_engine.specs.Tree.Shape.{Shape, Tip, Fork, blocks, height_of, IsTree}
+use Rattle.vm_engine.specs.Tree.SpaceTree.{space_of, IsSpaceTree}
+use Rattle.vm_engine.specs.Values.RangeValues.{StatesRange, StatesState}
+use Rattle.vm_engine.specs.Values.TreeValues.{StatesShape, StatesSpaceTree}
+use Rattle.vm_engine.specs.Checks.ValueParts.{NodeParts}
+use Rattle.vm_engine.specs.declared.allocation_engine.NodeState.{NodeState}
+use Rattle.vm_engine.proofs.Nodes.Spaces.{no_empty_tree}
+
+pub states_fork : (d key state left right : Data) (h : ℕ) (k : Range) (s : NodeState) (l r : Shape) → NodeParts d key state left right h → StatesRange key k → StatesState state s → StatesShape left l → StatesShape right r → h ≡ max (height_of l) (height_of r) + 1 →
+    StatesShape d (Fork l (record { key = k; state = s }) r)
+states_fork d key state left right h k s l r p key_stated state_stated left_stated right_stated e = record {
+  five_fields = p.five_fields;
+  key = field_is (codes "key") d key (λ v. StatesRange v k) p.key_is key_stated;
+  node_state = field_is (codes "node_state") d state (λ v. StatesState v s) p.state_is state_stated;
+  left = field_is (codes "left") d left (λ v. StatesShape v l) p.left_is left_stated;
+  right = field_is (codes "right") d right (λ v. StatesShape v r) p.right_is right_stated;
+  height = p.height_is ∙ ap Some e;
+}
+
+pub ruleset nodes = (states_fork)
+
+some_node : (s : Shape) → IsSpaceTree s → s ≡ Tip → ⊥
+some_node s t e = no_empty_tree (subst IsSpaceTree e t)
+
+-- and the value of a tree of a space states it
+pub states_tree : (d : Data) (s : Shape) → StatesShape d s → IsSpaceTree s → IsTree s → StatesSpaceTree d (space_of (blocks s)) s
+states_tree d s stated tree ordered = record {
+  stated = stated;
+  some_node = some_node s tree;
+  nested = tree.height;
+  ordered = ordered.ordered;
+  balanced = ordered.balanced;
+  blocks = tree.tiling;
+}
+
+pub ruleset trees = (states_tree)

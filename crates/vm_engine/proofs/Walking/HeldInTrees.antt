@@ -1,0 +1,54 @@
+-- What is held in a tree: by its key, and how many.
+use Rattle.std.proofs.Common.{◌≡◌, ◌+◌, ◌^◌, ◌<◌, ◌≤◌, List, [], ◌∷◌, ◌++◌, length, refl, sym, ap, ◌∙◌, arith, append_assoc, length-append, ⊎_elim, ◌↔◌, Bool, IsTrue, Some}
+use Rattle.vm_engine.specs.Range.{Range}
+use Rattle.vm_engine.specs.Tree.Block.{Block, held_block}
+use Rattle.vm_engine.specs.Tree.Blocks.{range_if_held, held_of}
+use Rattle.vm_engine.specs.Tree.Shape.{Shape, Fork, MAX_HEIGHT, blocks, height_of}
+use Rattle.vm_engine.specs.declared.allocation_engine.NodeState.TheVariants.{Free, Allocated}
+use Rattle.vm_engine.proofs.Blocks.Gaps.{state_cases}
+use Rattle.vm_engine.proofs.Blocks.OneList.{held_of-free, held_of-held, same_block}
+use Rattle.vm_engine.proofs.Nodes.TreeEdits.{some_same}
+use Rattle.vm_engine.proofs.Nodes.FewestNodes.{most_nodes, node_count-blocks, power_grows}
+
+-- ---- how many
+held_of-append : (xs ys : List Block) → held_of (xs ++ ys) ≡ held_of xs ++ held_of ys
+held_of-append [] ys = refl
+held_of-append (b ∷ bs) ys =
+    ap (λ (v : List Range). range_if_held b.state b.key ++ v) (held_of-append bs ys)
+    ∙ sym (append_assoc (range_if_held b.state b.key) (held_of bs) (held_of ys))
+
+length-held_of : (xs ys : List Block) → length (held_of (xs ++ ys)) ≡ length (held_of xs) + length (held_of ys)
+length-held_of xs ys = ap length (held_of-append xs ys) ∙ length-append (held_of xs) (held_of ys)
+
+pub held_fork-free : (l : Shape) (b : Block) (r : Shape) → b.state ≡ Free → length (held_of (blocks (Fork l b r))) ≡ length (held_of (blocks l)) + length (held_of (blocks r))
+held_fork-free l b r e = length-held_of (blocks l) (b ∷ blocks r) ∙ ap (λ (v : List Range). length (held_of (blocks l)) + length v) (held_of-free b (blocks r) e)
+
+pub held_fork-held : (l : Shape) (b : Block) (r : Shape) → b.state ≡ Allocated → length (held_of (blocks (Fork l b r))) ≡ length (held_of (blocks l)) + length (held_of (blocks r)) + 1
+held_fork-held l b r e =
+    let both = length-held_of (blocks l) (b ∷ blocks r) in
+    let own = ap length (held_of-held b (blocks r) e) in
+    omega (arith, both, own)
+
+held_of-few : (bs : List Block) → length (held_of bs) ≤ length bs
+held_of-few [] = omega arith
+held_of-few (b ∷ bs) =
+    let rest = held_of-few bs in
+    ⊎_elim
+    (λ (e : b.state ≡ Free). let own = ap length (held_of-free b bs e) in omega (arith, own, rest))
+    (λ (e : b.state ≡ Allocated). let own = ap length (held_of-held b bs e) in omega (arith, own, rest))
+    (state_cases b.state)
+
+-- fewer are held than a tree of the greatest height has nodes
+pub few_held : (s : Shape) → height_of s ≤ MAX_HEIGHT → length (held_of (blocks s)) < 2 ^ MAX_HEIGHT
+few_held s h =
+    omega (arith, held_of-few (blocks s), node_count-blocks s, most_nodes s, power_grows (height_of s) MAX_HEIGHT h)
+
+pub ruleset held_numbers = (held_fork-free, held_fork-held, few_held)
+
+-- ---- by its key
+-- the node with the key holds its block, or no block with the key is held
+pub held_here : (b : Block) (k : Range) (t : Bool) → k ≡ b.key → (IsTrue t ↔ (b.state ≡ Allocated)) → IsTrue t ↔ (Some b ≡ Some (held_block k))
+held_here b k t e h = (
+  λ s. ap Some (same_block b (held_block k) (sym e) (h.0 s)),
+  λ s. h.1 (ap (λ (v : Block). v.state) (some_same b (held_block k) s)),
+)

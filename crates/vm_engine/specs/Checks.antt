@@ -1,0 +1,2 @@
+pub mod ValueChecks
+pub mod ValueParts

@@ -1,0 +1,95 @@
+-- What the check of a saved value finds, part by part, in the order in which it looks. The lemmas of proofs/Reading say
+-- that this is what the value states.
+use Rattle.std.specs.Prelude.{ℕ, zero, suc, ◌+◌, max, Bool, not, ◌&&◌, ◌||◌, ◌==◌, nat_lt, nat_le, if◌then◌else◌, List, [], ◌∷◌, Option, Some, None, is_some, option_map, option_and_then, codes, bytes_eq}
+use Rattle.serde_json.specs.Data.{Data}
+use Rattle.serde_json.specs.Find.{get, as_null, as_str}
+use Rattle.vm_values.specs.Fields.{field_count, is_count}
+use Rattle.vm_values.specs.Numbers.{number_in}
+use Rattle.vm_engine.specs.Range.{Range, MAX}
+use Rattle.vm_engine.specs.Tree.Block.{Block, is_free}
+use Rattle.vm_engine.specs.Tree.Shape.{MAX_HEIGHT}
+use Rattle.vm_engine.specs.Values.RangeValues.{range_found}
+use Rattle.vm_engine.specs.declared.allocation_engine.NodeState.{NodeState}
+use Rattle.vm_engine.specs.declared.allocation_engine.NodeState.TheVariants.{Free, Allocated}
+use Rattle.vm_engine.specs.declared.saved.tree.Front.{Front}
+use Rattle.vm_engine.specs.declared.saved.tree.Checked.{Checked}
+
+-- the state of this name
+abbrev pub state_named : Option (List ℕ) → Option NodeState
+state_named None = None
+state_named (Some t) =
+    if bytes_eq t (codes "Free") then Some Free
+    else (if bytes_eq t (codes "Allocated") then Some Allocated else None)
+
+-- the state that a value states
+abbrev pub state_found : Data → Option NodeState
+state_found d = state_named (as_str d)
+
+-- what stands in the fields of a node's value
+pub record NodeData : Type 0 where
+  pub block : Block
+  pub height : ℕ
+  pub left : Data
+  pub right : Data
+
+-- the fields of a node's value
+abbrev pub node_data : Data → Option NodeData
+node_data d =
+    if is_count 5 (field_count d) then
+    option_and_then (λ key. option_and_then (λ state. option_and_then (λ height. option_and_then (λ left.
+    option_map (λ right.
+    record { block = record { key = key; state = state }; height = height; left = left; right = right })
+    (get (codes "right") d))
+    (get (codes "left") d))
+    (number_in (codes "height") d))
+    (option_and_then state_found (get (codes "node_state") d)))
+    (option_and_then range_found (get (codes "key") d))
+    else None
+
+-- what some blocks, one after the other, make of something, where each may be refused
+abbrev pub after_all : {S : Type 0} → (S → Block → Option S) → List Block → S → Option S
+after_all step [] s = Some s
+after_all step (b ∷ bs) s = option_and_then (after_all step bs) (step s b)
+
+-- a block may stand right behind the front: it starts there, is not the second free one in a row, and if held ends
+-- below MAX
+abbrev pub follows : Front → Block → Bool
+follows front b =
+    (b.key.start == front.next) &&
+    (not (is_free front.before && is_free b.state) && (is_free b.state || nat_lt b.key.end MAX))
+
+-- the front behind one more block
+abbrev pub behind : Front → Block → Option Front
+behind front b = if follows front b then Some (record { next = b.key.end + 1; before = b.state }) else None
+
+-- the height is that of a node over children of heights l and r that are close
+abbrev pub is_true_height : ℕ → ℕ → ℕ → Bool
+is_true_height l r h = (nat_le l (r + 1) && nat_le r (l + 1)) && (h == max l r + 1)
+
+-- what is found of a node, where `below` finds what is in a child
+abbrev pub node_found : (Data → Front → Option Checked) → Data → Front → Option Checked
+node_found below d front =
+    option_and_then (λ node. option_and_then (λ left. option_and_then (λ middle. option_and_then (λ right.
+    if is_true_height left.height right.height node.height then
+    Some (record { height = node.height; front = right.front })
+    else None)
+    (below node.right middle))
+    (behind left.front node.block))
+    (below node.left front))
+    (node_data d)
+
+-- what is found of a tree of nodes nested at most that deep: its height, and the front behind its blocks
+unfoldable pub tree_found : ℕ → Data → Front → Option Checked
+tree_found zero d front = if is_some (as_null d) then Some (record { height = 0; front = front }) else None
+tree_found (suc depth) d front =
+    if is_some (as_null d) then Some (record { height = 0; front = front }) else node_found (tree_found depth) d front
+
+-- the front before the first block of a space
+abbrev pub front_of : Range → Front
+front_of space = record { next = space.start; before = Allocated }
+
+-- what is found of a tree whose blocks end as the space does
+abbrev pub tree_fitting : Range → Data → Option Checked
+tree_fitting space d =
+    option_and_then (λ found. if found.front.next == space.end + 1 then Some found else None)
+    (tree_found MAX_HEIGHT d (front_of space))

@@ -1,0 +1,48 @@
+-- What a change of a tree answers where it may be refused.
+use Rattle.std.specs.Prelude.{◌≡◌, ◌⊎◌, if◌then◌else◌, nat_lt, Option, Some, None, List, Result, Ok, Err, [], ◌∷◌}
+use Rattle.vm_engine.specs.Range.{Range, Overlaps}
+use Rattle.vm_engine.specs.Tree.BlockList.{IsClearOf, insert_block, replace_block}
+use Rattle.vm_engine.specs.Tree.Block.{Block}
+use Rattle.vm_engine.specs.Tree.Shape.{Shape, Tip, Fork, blocks}
+use Rattle.vm_engine.specs.Engine.Changes.{Grows}
+use Rattle.vm_engine.specs.declared.allocation_engine.node.kept.Change.TheVariants.{Height}
+use Rattle.vm_engine.specs.declared.error.Error.{Error}
+use Rattle.vm_engine.specs.declared.error.Error.TheVariants.{ResourceNotAvailable, InvalidStateTransition, Overlap, OutOfMemory}
+use Rattle.vm_engine.specs.declared.allocation_engine.NodeState.{NodeState}
+use Rattle.vm_engine.specs.declared.allocation_engine.NodeState.TheVariants.{Free, Allocated}
+
+-- a key that overlaps none is one more, and the tree at most one higher
+pub record Inserts (old : Shape) (key : Range) (state : NodeState) (new : Shape) : Type 0 where
+  pub clear : IsClearOf key (blocks old)
+  pub blocks : blocks new ≡ insert_block (record { key = key; state = state }) (blocks old)
+  pub grows : Grows old new Height
+
+-- the range overlaps the key that it met, or none of the blocks' keys where it met none
+unfoldable pub TellsOverlap : Range → Option Range → List Block → Type 0
+TellsOverlap k None bs = IsClearOf k bs
+TellsOverlap k (Some met) bs = Overlaps k met
+
+-- the first key that a range overlaps on the way down from the root: to the left of a key that starts above the
+-- range, and to the right of one that ends below it
+abbrev pub first_met : Range → Shape → Option Range
+first_met k Tip = None
+first_met k (Fork l b r) =
+    if nat_lt k.end b.key.start then first_met k l
+    else if nat_lt b.key.end k.start then first_met k r
+    else Some b.key
+
+-- a key that overlaps is refused for the first key that it meets on the way down, and any other only where memory runs out
+unfoldable pub RefusesKey : Range → Shape → Error → Type 0
+RefusesKey k s e =
+    ((met : Range) × (first_met k s ≡ Some met) × Overlaps k met × (e ≡ Overlap k met))
+    ⊎ (IsClearOf k (blocks s) × (e ≡ OutOfMemory))
+
+-- a free block is marked as held, and a held one is refused
+unfoldable pub MarksBlock : NodeState → Range → Result (Unit {0}) Error → Shape → Shape → Type 0
+MarksBlock Free k answer old new = (answer ≡ Ok tt) × (blocks new ≡ replace_block k (record { key = k; state = Allocated } ∷ []) (blocks old))
+MarksBlock Allocated k answer old new = (answer ≡ Err (InvalidStateTransition k Allocated)) × (new ≡ old)
+
+-- what marking the block with this key answers, by the block that is there
+unfoldable pub Marks : Option Block → Range → Result (Unit {0}) Error → Shape → Shape → Type 0
+Marks None k answer old new = (answer ≡ Err ResourceNotAvailable) × (new ≡ old)
+Marks (Some b) k answer old new = MarksBlock b.state k answer old new

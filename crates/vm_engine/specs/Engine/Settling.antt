@@ -1,0 +1,62 @@
+-- What becomes of a node once one of its children has changed.
+use Rattle.std.specs.Prelude.{◌≡◌, ℕ, ◌+◌, max, Option, None, IsSome}
+use Rattle.std.specs.Global.{Box}
+use Rattle.vm_engine.specs.Tree.Block.{Block, free_length}
+use Rattle.vm_engine.specs.Tree.Multiples.{free_alignments}
+use Rattle.vm_engine.specs.Tree.Shape.{Shape, height_of, max_free_of, alignments_of, DifferByAtMost, root_block}
+use Rattle.vm_engine.specs.Engine.Changes.{KeepsHeight, KeepsRoom, IsLeaf, CanBalance, Balances}
+use Rattle.vm_engine.specs.Engine.NodeFields.{side}
+use Rattle.vm_engine.specs.declared.allocation_engine.node.InnerNode.{InnerNode}
+use Rattle.vm_engine.specs.declared.allocation_engine.node.kept.Change.{Change}
+use Rattle.vm_engine.specs.declared.allocation_engine.node.kept.Change.TheVariants.{Height}
+use Rattle.vm_engine.specs.declared.allocation_engine.node.kept.Kept.{Kept}
+use Rattle.vm_engine.specs.declared.allocation_engine.node.kept.Room.{Room}
+use Rattle.vm_engine.specs.declared.allocation_engine.node.balance.Settled.{Settled}
+use Rattle.vm_engine.specs.declared.allocation_engine.node.balance.Settled.TheVariants.{Stands, Leans}
+
+-- what is kept of a tree
+abbrev pub IsKeptOf : Shape → Kept → Type 0
+IsKeptOf s kept =
+    (kept.height ≡ height_of s) × (kept.room.longest ≡ max_free_of s) × (kept.room.alignments ≡ alignments_of s)
+
+-- the room of a node's tree, from that of its sides and of its own block
+abbrev pub IsRoomOver : Room → Room → Room → ℕ → ℕ → Type 0
+IsRoomOver left right own longest count =
+    (longest ≡ max (max left.longest right.longest) own.longest)
+    × (count ≡ max (max left.alignments right.alignments) own.alignments)
+
+-- a node's sides, and what it keeps, which may be stale
+pub record Open : Type 0 where
+  pub left : Option (Box InnerNode)
+  pub right : Option (Box InnerNode)
+  pub height : ℕ
+  pub longest : ℕ
+  pub alignments : ℕ
+
+-- It stands: the children stay, close in height, what the node keeps is true, and what changed of that is told. It leans:
+-- the children are taken out, and a node without children is left.
+abbrev pub IsSettled : Block → Open → Settled → Open → Type 0
+IsSettled own old (Stands told) new =
+    (new.left ≡ old.left) × (new.right ≡ old.right)
+    × DifferByAtMost 1 (height_of (side old.left)) (height_of (side old.right))
+    × (new.height ≡ max (height_of (side old.left)) (height_of (side old.right)) + 1)
+    × (new.longest ≡ max (max (max_free_of (side old.left)) (max_free_of (side old.right))) (free_length own))
+    × (new.alignments ≡ max (max (alignments_of (side old.left)) (alignments_of (side old.right))) (free_alignments own))
+    × KeepsHeight told old.height new.height
+    × KeepsRoom told old.longest new.longest
+    × KeepsRoom told old.alignments new.alignments
+IsSettled own old (Leans first second) new =
+    (first ≡ old.left) × (second ≡ old.right) × (new.left ≡ None) × (new.right ≡ None) × (new.height ≡ 1)
+    × (new.longest ≡ free_length own)
+    × (new.alignments ≡ free_alignments own)
+
+-- a node that leans is there without children, and can be balanced over them
+abbrev pub CanFinish : Settled → Option (Box InnerNode) → Type 0
+CanFinish (Stands told) at = Unit {0}
+CanFinish (Leans left right) at = IsSome at × IsLeaf (side at) × CanBalance (side left) (root_block (side at)) (side right)
+
+-- one that stands stays, and one that leans is balanced
+abbrev pub Finishes : Settled → Option (Box InnerNode) → Option (Box InnerNode) → Change → Type 0
+Finishes (Stands told) old new change = (new ≡ old) × (change ≡ told)
+Finishes (Leans left right) old new change =
+    IsSome new × Balances (side left) (root_block (side old)) (side right) (side new) × (change ≡ Height)

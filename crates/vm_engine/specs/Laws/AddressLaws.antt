@@ -1,0 +1,129 @@
+-- What follows from the definitions alone, for one call of an address allocator.
+use Rattle.std.specs.Prelude.{◌≡◌, ◌≢◌, ℕ, ◌<◌, ◌≤◌, ◌⊎◌, ◌↔◌, true, List, length, Result, Ok}
+use Rattle.std.specs.List.{All, AllPairs, Contains}
+use Rattle.std.specs.declared.cmp.Ordering.TheVariants.{Equal}
+use Rattle.vm_engine.specs.Range.{Range, MAX, Overlaps, Covers}
+use Rattle.vm_engine.specs.RangeOrder.{range_cmp}
+use Rattle.vm_engine.specs.Address.{AddressState, IsClear, LeavesClear, IsAddressState}
+use Rattle.vm_engine.specs.Tree.Block.{Block, free_length}
+use Rattle.vm_engine.specs.Engine.Fit.{HasNoFit}
+use Rattle.vm_engine.specs.Alignment.{IsAlignment}
+use Rattle.vm_engine.specs.Counts.GapSearch.{is_futile, futile_gaps, is_cramped, cramped_gaps}
+use Rattle.vm_engine.specs.Tree.Multiples.{HasMultiple, multiples_in}
+use Rattle.vm_engine.specs.Request.{Request}
+use Rattle.vm_engine.specs.Answer.{IsSplitRefusal, Takes, Allocates, Frees, Makes}
+use Rattle.vm_engine.specs.declared.error.Error.{Error}
+use Rattle.vm_engine.specs.declared.allocation_engine.NodeState.TheVariants.{Free}
+
+-- two answers and the states that they leave come from one range, which leaves a clear address beside it: each is the
+-- range taken or a split refused, and one of them at least is refused
+pub record DifferBySplit (old : AddressState) (answer : Result Range Error) (new : AddressState)
+    (other : Result Range Error) (later : AddressState) : Type 0 where
+  pub range : Range
+  pub split : LeavesClear old range
+  pub first : Takes old range answer new
+  pub second : Takes old range other later
+  pub refused : IsSplitRefusal old answer ⊎ IsSplitRefusal old other
+
+-- two answers and the states that they leave are one, but where a split is refused
+abbrev pub AgreeButForSplits : AddressState →
+    Result Range Error → AddressState → Result Range Error → AddressState → Type 0
+AgreeButForSplits old answer new other later =
+    ((answer ≡ other) × (new ≡ later)) ⊎ DifferBySplit old answer new other later
+
+-- a request has one answer and one next state, a split that is refused aside
+abbrev pub AllocatesOnce : Type 0
+AllocatesOnce =
+    (old new later : AddressState) (request : Request) (answer other : Result Range Error) →
+    Allocates old request answer new → Allocates old request other later →
+    AgreeButForSplits old answer new other later
+
+-- giving a range back has one answer and one next state
+abbrev pub FreesOnce : Type 0
+FreesOnce =
+    (old new later : AddressState) (r : Range) (answer other : Result (Unit {0}) Error) →
+    Frees old r answer new → Frees old r other later → (answer ≡ other) × (new ≡ later)
+
+-- a new allocator has the state of one, and each call keeps that
+pub record StateIsKept : Type 0 where
+  pub made : (base size : ℕ) (state : AddressState) →
+      size ≤ MAX → Makes base size (Ok state) → IsAddressState state
+  pub allocated : (old new : AddressState) (request : Request) (answer : Result Range Error) →
+      IsAddressState old → Allocates old request answer new → IsAddressState new
+  pub freed : (old new : AddressState) (r : Range) (answer : Result (Unit {0}) Error) →
+      IsAddressState old → Frees old r answer new → IsAddressState new
+
+-- the held ranges have no address in common, lie in the space, and do not contain MAX
+pub record LieApart (state : AddressState) : Type 0 where
+  pub apart : (r s : Range) → Contains state.held r → Contains state.held s → Overlaps r s → r ≡ s
+  pub inside : (r : Range) → Contains state.held r → (r.start ≤ r.end) × Covers state.space r
+  pub below : (r : Range) → Contains state.held r → r.end < MAX
+
+-- the held ranges lie apart in each state of an allocator
+abbrev pub HeldLieApart : Type 0
+HeldLieApart = (state : AddressState) → IsAddressState state → LieApart state
+
+-- the range was clear, is held in the new state, and nothing else changes
+pub record AddsRange (old new : AddressState) (r : Range) : Type 0 where
+  pub clear : (x : ℕ) → r.start ≤ x → x ≤ r.end → IsClear old x
+  pub space : new.space ≡ old.space
+  pub held : (q : Range) → Contains new.held q ↔ (Contains old.held q ⊎ (q ≡ r))
+
+-- the range was held, is held no more in the new state, and nothing else changes
+pub record DropsRange (old new : AddressState) (r : Range) : Type 0 where
+  pub was : Contains old.held r
+  pub space : new.space ≡ old.space
+  pub held : (q : Range) → Contains new.held q ↔ (Contains old.held q × (q ≢ r))
+
+-- a request that gets a range adds it
+abbrev pub AllocatingAddsRange : Type 0
+AllocatingAddsRange =
+    (old new : AddressState) (request : Request) (r : Range) →
+    IsAddressState old → Allocates old request (Ok r) new → AddsRange old new r
+
+-- a range given back is taken away
+abbrev pub FreeingDropsRange : Type 0
+FreeingDropsRange =
+    (old new : AddressState) (r : Range) →
+    IsAddressState old → Frees old r (Ok tt) new → DropsRange old new r
+
+-- giving back what was just given succeeds, and leaves the state from before
+abbrev pub FreeingUndoes : Type 0
+FreeingUndoes =
+    (old mid new : AddressState) (request : Request) (r : Range) (answer : Result (Unit {0}) Error) →
+    IsAddressState old → Allocates old request (Ok r) mid → Frees mid r answer new → (answer ≡ Ok tt) × (new ≡ old)
+
+-- a gap is counted as futile exactly where it is long enough, and no place for the addresses lies in it
+abbrev pub FutileIsTold : Type 0
+FutileIsTold = (n a : ℕ) (b : Block) → 0 < a → (is_futile n a b ≡ true) ↔ ((n ≤ free_length b) × HasNoFit n a b)
+
+-- each gap that is long enough has a place at alignment 1
+abbrev pub NoneIsFutileAtOne : Type 0
+NoneIsFutileAtOne = (state : AddressState) (request : Request) → 0 < request.size → request.align ≡ 1 → futile_gaps state request ≡ 0
+
+-- a list of held ranges, no two the same, has as many as are held exactly if each held range is in it
+abbrev pub CountTellsAll : Type 0
+CountTellsAll =
+    (state : AddressState) (list : List Range) → IsAddressState state →
+    AllPairs (λ r s. r ≢ s) list → All (Contains state.held) list →
+    (length list ≡ length state.held) ↔ ((r : Range) → Contains state.held r → Contains list r)
+
+-- a gap is counted as cramped exactly where a multiple of the alignment lies in it, and no place for the addresses does
+abbrev pub CrampedIsTold : Type 0
+CrampedIsTold =
+    (n a : ℕ) (b : Block) → 0 < a →
+    (is_cramped n a b ≡ true) ↔ ((b.state ≡ Free) × HasMultiple a b.key × HasNoFit n a b)
+
+-- each cramped gap has a multiple of the alignment to itself, so there are no more than the space has
+abbrev pub CrampedAreFew : Type 0
+CrampedAreFew =
+    (state : AddressState) (request : Request) → IsAddressState state → IsAlignment request.align →
+    cramped_gaps state request ≤ multiples_in request.align state.space
+
+-- overlapping goes both ways, each range covers itself and what a covered one covers, and the order finds two ranges
+-- equal just where they are one
+pub record RangesAreSets : Type 0 where
+  pub symmetric : (r s : Range) → Overlaps r s → Overlaps s r
+  pub reflexive : (r : Range) → Covers r r
+  pub transitive : (r s t : Range) → Covers r s → Covers s t → Covers r t
+  pub equal : (r s : Range) → (range_cmp r s ≡ Equal) ↔ (r ≡ s)

@@ -1,0 +1,16 @@
+pub mod Cases
+pub mod Range
+pub mod Address
+pub mod Request
+pub mod Alignment
+pub mod Answer
+pub mod RangeOrder
+pub mod Comparison
+pub mod Cloning
+pub mod Saving
+pub mod Tree
+pub mod Counts
+pub mod Laws
+pub mod Values
+pub mod Checks
+pub mod Engine

@@ -1,0 +1,42 @@
+-- A block of a space: a held range of addresses, or a gap between them.
+use Rattle.std.specs.Prelude.{◌≡◌, ℕ, Bool, true, false, if◌then◌else◌, refl}
+use Rattle.std.specs.Coded.{Coded, code_by, coded×, coded_bool}
+use Rattle.vm_engine.specs.Range.{Range, range_code, address_count}
+use Rattle.vm_engine.specs.declared.allocation_engine.NodeState.{NodeState}
+use Rattle.vm_engine.specs.declared.allocation_engine.NodeState.TheVariants.{Free, Allocated}
+
+-- the addresses of a block, and whether it is held
+pub record Block : Type 0 where
+  pub key : Range
+  pub state : NodeState
+
+-- whether no one holds the block
+abbrev pub is_free : NodeState → Bool
+is_free Free = true
+is_free Allocated = false
+
+abbrev state_if_free : Bool → NodeState
+state_if_free free = if free then Free else Allocated
+
+pub state_if_free-is_free : (s : NodeState) → state_if_free (is_free s) ≡ s
+state_if_free-is_free Free = refl
+state_if_free-is_free Allocated = refl
+
+abbrev pub state_code : Coded NodeState
+state_code = code_by Bool coded_bool is_free state_if_free state_if_free-is_free
+
+-- a block is stored as the pair of its range and its state
+abbrev pub block_code : Coded Block
+block_code = code_by (Range × NodeState) (coded× range_code state_code) (λ b. (b.key, b.state)) (λ p. record { key = p.0; state = p.1 }) (λ _. refl)
+
+-- how many clear addresses a block has: all of a free one, none of a held one
+abbrev pub free_length : Block → ℕ
+free_length b = if is_free b.state then address_count b.key else 0
+
+-- a held block of this range
+abbrev pub held_block : Range → Block
+held_block k = record { key = k; state = Allocated }
+
+-- a free block of this range
+abbrev pub free_block : Range → Block
+free_block k = record { key = k; state = Free }

@@ -1,0 +1,2 @@
+pub mod RangeValues
+pub mod TreeValues

@@ -1,0 +1,60 @@
+//! A block of a space.
+ghost use Rattle.std.proofs.Common.{rules};
+ghost use Rattle.std.specs.Cmp.{partial_order_from_own_ties};
+ghost use Rattle.std.specs.Cmp.Rules.{comparing};
+ghost use Rattle.std.specs.Ordering.{as_partial_cmp};
+ghost use Rattle.vm_engine.specs.Comparison.{block_cmp, block_cmp-total};
+
+use super::NodeState;
+use crate::range::RangeInclusive;
+use std::cmp::Ordering;
+use std::marker::Model;
+
+/// A range of addresses, and whether it is held. Blocks are ordered by start, then by end, then by
+/// state.
+#[derive(Clone, Copy, Debug, PartialEq, Eq)]
+pub(crate) struct Block {
+    pub(crate) key: RangeInclusive,
+    pub(crate) state: NodeState,
+}
+
+impl Model for Block {
+    ghost use Rattle.vm_engine.specs.Tree.Block.{Block, block_code};
+
+    ghost Value = { Block };
+
+    ghost coded = { block_code };
+
+    ghost view = { λ a. record { key = a.key; state = a.state } };
+
+    ghost inverse = { λ d. record { key = d.key; state = d.state } };
+}
+
+impl Ord for Block {
+    ghost cmp = { block_cmp };
+
+    ghost total = { Prim.search (comparing, block_cmp-total, rules) };
+
+    ghost matches_partial_cmp = { Prim.search (comparing, rules) };
+
+    ghost matches_eq = { Prim.search (comparing, block_cmp-total, rules) };
+
+    /// By start, then by end, then by state.
+    fn cmp(&self, other: &Block) -> Ordering {
+        match self.key.cmp(&other.key) {
+            Ordering::Equal => self.state.cmp(&other.state),
+            unequal => unequal,
+        }
+    }
+}
+
+impl PartialOrd for Block {
+    ghost partial_cmp = { as_partial_cmp block_cmp };
+
+    ghost laws = { partial_order_from_own_ties (Prim.search (comparing, block_cmp-total, rules)) (Prim.search (comparing, block_cmp-total, rules)) };
+
+    /// As `cmp` compares.
+    fn partial_cmp(&self, other: &Block) -> Option<Ordering> {
+        Some(self.cmp(other))
+    }
+}

@@ -1,0 +1,251 @@
+//! Rotations to the left and to the right, and `settle`, the one tail of each change of a child.
+//! Nothing here calls itself, and nothing takes memory.
+//!
+//! `settle` takes the fields of a node one by one, since a node may not be handed on whole while what
+//! it keeps is stale, and a record of what is kept would make a node larger. It returns what became
+//! of it (`Settled`) instead of rotating, since the caller still has it open: once it is closed,
+//! `finish` does the rest, and one lemma says what both make of it (`finished`). It stands in line:
+//! never inlined it costs 5 to 10 % of the instructions of every input, since the fields then go as
+//! addresses; the rotation alone as a cold function makes no difference. A rotation changes nodes in
+//! place: to take them apart and put them together again reads better, and costs 1.5 to 3 %.
+ghost use Rattle.std.specs.Prelude.{◌≡◌, ◌+◌, ◌<◌, ◌≤◌, ◌^◌, ◌++◌, ◌∷◌, max, IsSome};
+ghost use Rattle.vm_engine.specs.Tree.BlockList.{IsOrderedFrom};
+ghost use Rattle.vm_engine.specs.Tree.Shape.{Fork, blocks, height_of, single, root_block, IsTree, DifferByAtMost};
+ghost use Rattle.vm_engine.specs.Engine.Changes.{IsLeaf, CanBalance, Balances};
+ghost use Rattle.vm_engine.specs.Engine.NodeFields.{side};
+ghost use Rattle.vm_engine.specs.Engine.Settling.{IsSettled, CanFinish, Finishes};
+
+use super::kept::{Change, kept_of, kept_over, renew_room, room_of};
+use super::{Child, InnerNode, height};
+use crate::allocation_engine::NodeState;
+use crate::range::RangeInclusive;
+
+/// What becomes of a node once one of its children has changed.
+#[derive(Drop)]
+pub(super) enum Settled {
+    /// Its children are close in height; this changed of what it keeps.
+    Stands(Change),
+    /// Its children differ by two, and are taken out of it: the left one and the right one.
+    Leans(Child, Child),
+}
+
+impl Settled {
+    /// Balances the node at a place where it leans; says what changed there.
+    #[inline(always)]
+    pub(super) fn finish(self, at: &mut Child) -> Change
+        requires { CanFinish self at.old }
+        ensures { Finishes self at.old at.new result }
+    {
+        match self {
+            Settled::Stands(change) => change,
+            Settled::Leans(left, right) => rebalance(at, left, right),
+        }
+    }
+}
+
+/// Brings what a node keeps up to date, or takes its children out where they are to be balanced.
+#[inline(always)]
+#[tactic(auto, using(crate::proofs::Nodes::SettledNodes::keeping))]
+pub(super) fn settle(
+    left: &mut Child,
+    right: &mut Child,
+    key: &RangeInclusive,
+    node_state: NodeState,
+    kept_height: &mut u64,
+    max_free: &mut u64,
+    alignments: &mut u8,
+) -> Settled
+    requires { max (height_of (side left.old)) (height_of (side right.old)) + 1 < 2 ^ 64 }
+    ensures settled { IsSettled (record { key = key.now; state = node_state })
+        (record {
+          left = left.old;
+          right = right.old;
+          height = kept_height.old;
+          longest = max_free.old;
+          alignments = alignments.old;
+        })
+        result
+        (record {
+          left = left.new;
+          right = right.new;
+          height = kept_height.new;
+          longest = max_free.new;
+          alignments = alignments.new;
+        }) }
+    ensures left { IsTree (side left.old) }
+    ensures right { IsTree (side right.old) }
+{
+    let first = kept_of(left);
+    let second = kept_of(right);
+    if first.height > second.height + 1 || second.height > first.height + 1 {
+        let own = room_of(key, node_state);
+        *kept_height = 1;
+        *max_free = own.longest;
+        *alignments = own.alignments;
+        return Settled::Leans(left.take(), right.take());
+    }
+    let own = room_of(key, node_state);
+    let change = renew_room(first.room, second.room, own, max_free, alignments);
+    let height = first.height.max(second.height) + 1;
+    if height == *kept_height {
+        return Settled::Stands(change);
+    }
+    *kept_height = height;
+    Settled::Stands(Change::Height)
+}
+
+impl InnerNode {
+    /// Takes the children out of the node, the left one and the right one.
+    #[inline(always)]
+    pub(super) fn strip(&mut self) -> (Child, Child)
+        ensures shape { self.old ≡ Fork (side result.0) (root_block self.old) (side result.1) }
+        ensures middle { self.new ≡ single (root_block self.old) }
+        ensures tree { IsTree self.old }
+        ensures height_fits { height_of self.old < 2 ^ 64 }
+    {
+        let sides = (self.left.take(), self.right.take());
+        let own = room_of(&self.key, self.node_state);
+        self.height = 1;
+        self.max_free = own.longest;
+        self.alignments = own.alignments;
+        sides
+    }
+}
+
+/// A node with these sides, whose heights differ by at most one.
+pub(super) fn fork(left: Child, mut middle: Box<InnerNode>, right: Child) -> Box<InnerNode>
+    requires leaf { IsLeaf middle.value }
+    requires ordered { IsOrderedFrom 0 (blocks (side left) ++ root_block middle.value ∷ blocks (side right)) }
+    requires close { DifferByAtMost 1 (height_of (side left)) (height_of (side right)) }
+    requires height_fits { max (height_of (side left)) (height_of (side right)) + 1 < 2 ^ 64 }
+    ensures shape { result.value ≡ Fork (side left) (root_block middle.value) (side right) }
+    ensures tree { IsTree result.value }
+{
+    let open = &mut *middle;
+    open.left = left;
+    open.right = right;
+    let kept = kept_over(&open.left, &open.right, &open.key, open.node_state);
+    open.height = kept.height;
+    open.max_free = kept.room.longest;
+    open.alignments = kept.room.alignments;
+    middle
+}
+
+/// Rotates to the right, where the left side is two levels higher: once, or twice where the inner
+/// grandchild is the higher.
+#[tactic(auto, using(crate::proofs::Blocks::BlockOrder::rotations))]
+fn rotate_right(mut left: Box<InnerNode>, middle: Box<InnerNode>, right: Child) -> Box<InnerNode>
+    requires leaf { IsLeaf middle.value }
+    requires ordered { IsOrderedFrom 0 (blocks left.value ++ root_block middle.value ∷ blocks (side right)) }
+    requires two_higher { height_of left.value ≡ height_of (side right) + 2 }
+    requires height_fits { height_of left.value + 1 < 2 ^ 64 }
+    ensures tree { IsTree result.value }
+    ensures blocks { blocks result.value ≡ blocks left.value ++ root_block middle.value ∷ blocks (side right) }
+    ensures not_lower { height_of left.value ≤ height_of result.value }
+    ensures at_most_one_higher { height_of result.value ≤ height_of left.value + 1 }
+{
+    let higher = &mut *left;
+    let inner = higher.right.take();
+    if height(&higher.left) >= height(&inner) {
+        higher.right = Some(fork(inner, middle, right));
+        let kept = kept_over(&higher.left, &higher.right, &higher.key, higher.node_state);
+        higher.height = kept.height;
+        higher.max_free = kept.room.longest;
+        higher.alignments = kept.room.alignments;
+        return left;
+    }
+    let Some(mut inner) = inner else {
+        unreachable!()
+    };
+    let top = &mut *inner;
+    higher.right = top.left.take();
+    let kept = kept_over(&higher.left, &higher.right, &higher.key, higher.node_state);
+    higher.height = kept.height;
+    higher.max_free = kept.room.longest;
+    higher.alignments = kept.room.alignments;
+    let after = top.right.take();
+    top.left = Some(left);
+    top.right = Some(fork(after, middle, right));
+    let kept = kept_over(&top.left, &top.right, &top.key, top.node_state);
+    top.height = kept.height;
+    top.max_free = kept.room.longest;
+    top.alignments = kept.room.alignments;
+    inner
+}
+
+/// Rotates to the left, where the right side is two levels higher: the mirror image.
+#[tactic(auto, using(crate::proofs::Blocks::BlockOrder::rotations))]
+fn rotate_left(left: Child, middle: Box<InnerNode>, mut right: Box<InnerNode>) -> Box<InnerNode>
+    requires leaf { IsLeaf middle.value }
+    requires ordered { IsOrderedFrom 0 (blocks (side left) ++ root_block middle.value ∷ blocks right.value) }
+    requires two_higher { height_of right.value ≡ height_of (side left) + 2 }
+    requires height_fits { height_of right.value + 1 < 2 ^ 64 }
+    ensures tree { IsTree result.value }
+    ensures blocks { blocks result.value ≡ blocks (side left) ++ root_block middle.value ∷ blocks right.value }
+    ensures not_lower { height_of right.value ≤ height_of result.value }
+    ensures at_most_one_higher { height_of result.value ≤ height_of right.value + 1 }
+{
+    let higher = &mut *right;
+    let inner = higher.left.take();
+    if height(&higher.right) >= height(&inner) {
+        higher.left = Some(fork(left, middle, inner));
+        let kept = kept_over(&higher.left, &higher.right, &higher.key, higher.node_state);
+        higher.height = kept.height;
+        higher.max_free = kept.room.longest;
+        higher.alignments = kept.room.alignments;
+        return right;
+    }
+    let Some(mut inner) = inner else {
+        unreachable!()
+    };
+    let top = &mut *inner;
+    higher.left = top.right.take();
+    let kept = kept_over(&higher.left, &higher.right, &higher.key, higher.node_state);
+    higher.height = kept.height;
+    higher.max_free = kept.room.longest;
+    higher.alignments = kept.room.alignments;
+    let before = top.left.take();
+    top.right = Some(right);
+    top.left = Some(fork(left, middle, before));
+    let kept = kept_over(&top.left, &top.right, &top.key, top.node_state);
+    top.height = kept.height;
+    top.max_free = kept.room.longest;
+    top.alignments = kept.room.alignments;
+    inner
+}
+
+/// A node with these sides, whose heights differ by at most two.
+pub(super) fn balance(left: Child, middle: Box<InnerNode>, right: Child) -> Box<InnerNode>
+    requires leaf { IsLeaf middle.value }
+    requires sides { CanBalance (side left) (root_block middle.value) (side right) }
+    ensures { Balances (side left) (root_block middle.value) (side right) result.value }
+{
+    let left_height = height(&left);
+    let right_height = height(&right);
+    if left_height > right_height + 1 {
+        let Some(left) = left else { unreachable!() };
+        return rotate_right(left, middle, right);
+    }
+    if right_height > left_height + 1 {
+        let Some(right) = right else { unreachable!() };
+        return rotate_left(left, middle, right);
+    }
+    fork(left, middle, right)
+}
+
+/// Puts a node with these sides, whose heights differ by at most two, in the place of one without
+/// children. The height there may be another one, which it tells.
+fn rebalance(at: &mut Child, left: Child, right: Child) -> Change
+    requires some { IsSome at.old }
+    requires leaf { IsLeaf (side at.old) }
+    requires sides { CanBalance (side left) (root_block (side at.old)) (side right) }
+    ensures some { IsSome at.new }
+    ensures balanced { Balances (side left) (root_block (side at.old)) (side right) (side at.new) }
+    ensures told { result ≡ Change.Height }
+{
+    let Some(middle) = at.take() else {
+        unreachable!()
+    };
+    *at = Some(balance(left, middle, right));
+    Change::Height
+}

@@ -1,0 +1,96 @@
+//! A block changed in place.
+ghost use Rattle.std.specs.Prelude.{◌≡◌, ◌+◌, ◌≤◌, IsSome};
+ghost use Rattle.vm_engine.specs.Range.{MAX};
+ghost use Rattle.vm_engine.specs.Tree.BlockList.{IsOrderedFrom, with_block, find_key};
+ghost use Rattle.vm_engine.specs.Tree.Shape.{blocks, height_of, root_block};
+ghost use Rattle.vm_engine.specs.Engine.Changes.{KeepsShape};
+ghost use Rattle.vm_engine.specs.Counts.Ways.{way_to};
+ghost use Rattle.vm_engine.specs.Engine.NodeFields.{side};
+
+use super::kept::{kept_of, refresh_room, room_of};
+use super::{Child, InnerNode};
+use crate::allocation_engine::NodeState;
+use crate::range::RangeInclusive;
+use std::cmp::Ordering;
+
+impl InnerNode {
+    /// Gives this node another key, which keeps its place in the order, and another state; says
+    /// whether what is kept here changed.
+    #[tactic(auto, using(crate::proofs::Nodes::Rewriting::rewritings))]
+    pub(super) fn rewrite_here(&mut self, key: RangeInclusive, node_state: NodeState) -> bool
+        requires { IsOrderedFrom 0 (with_block (root_block self.old).key key node_state (blocks self.old)) }
+        ensures blocks { blocks self.new ≡ with_block (root_block self.old).key key node_state (blocks self.old) }
+        ensures keeps { KeepsShape self.old self.new result }
+    {
+        let (left, right) = (kept_of(&self.left).room, kept_of(&self.right).room);
+        self.key = key;
+        self.node_state = node_state;
+        let own = room_of(&key, node_state);
+        refresh_room(left, right, own, &mut self.max_free, &mut self.alignments)
+    }
+
+    /// Gives the node with key `at` another key, which keeps its place in the order, and another
+    /// state; says whether what is kept here changed. It takes no memory.
+    #[tactic(auto, using(crate::proofs::Nodes::Rewriting::rewritings, crate::proofs::Counts::WayCases::ways_to))]
+    fn rewrite(
+        &mut self,
+        at: &RangeInclusive,
+        key: RangeInclusive,
+        node_state: NodeState,
+        count: &mut u64,
+    ) -> bool
+        requires known { IsSome (find_key at.now (blocks self.old)) }
+        requires ordered { IsOrderedFrom 0 (with_block at.now key node_state (blocks self.old)) }
+        requires count_fits { count.old + height_of self.old ≤ MAX }
+        ensures blocks { blocks self.new ≡ with_block at.now key node_state (blocks self.old) }
+        ensures keeps { KeepsShape self.old self.new result }
+        ensures count { count.new ≡ count.old + way_to at.now self.old }
+    {
+        self.enter(count);
+        let changed = match self.key.order(at) {
+            Ordering::Equal => return self.rewrite_here(key, node_state),
+            Ordering::Greater => {
+                let Some(left) = &mut self.left else {
+                    unreachable!()
+                };
+                left.rewrite(at, key, node_state, count)
+            }
+            Ordering::Less => {
+                let Some(right) = &mut self.right else {
+                    unreachable!()
+                };
+                right.rewrite(at, key, node_state, count)
+            }
+        };
+        if !changed {
+            return false;
+        }
+        let own = room_of(&self.key, self.node_state);
+        refresh_room(
+            kept_of(&self.left).room,
+            kept_of(&self.right).room,
+            own,
+            &mut self.max_free,
+            &mut self.alignments,
+        )
+    }
+}
+
+/// Rewrites the node with key `old` below the node at a place.
+pub(crate) fn rewrite_at(
+    at: &mut Child,
+    old: &RangeInclusive,
+    key: RangeInclusive,
+    node_state: NodeState,
+    count: &mut u64,
+)
+    requires known { IsSome (find_key old.now (blocks (side at.old))) }
+    requires ordered { IsOrderedFrom 0 (with_block old.now key node_state (blocks (side at.old))) }
+    requires count_fits { count.old + height_of (side at.old) ≤ MAX }
+    ensures blocks { blocks (side at.new) ≡ with_block old.now key node_state (blocks (side at.old)) }
+    ensures height { height_of (side at.new) ≡ height_of (side at.old) }
+    ensures count { count.new ≡ count.old + way_to old.now (side at.old) }
+{
+    let Some(tree) = at else { unreachable!() };
+    tree.rewrite(old, key, node_state, count);
+}

@@ -1,0 +1,73 @@
+//! Laws of single calls of an address allocator, and of ranges.
+ghost use Rattle.vm_engine.specs.Laws.AddressLaws.{
+  AllocatesOnce,
+  FreesOnce,
+  StateIsKept,
+  HeldLieApart,
+  AllocatingAddsRange,
+  FreeingDropsRange,
+  FreeingUndoes,
+  FutileIsTold,
+  NoneIsFutileAtOne,
+  CountTellsAll,
+  CrampedIsTold,
+  CrampedAreFew,
+  RangesAreSets,
+};
+
+/// The state of an allocator decides its answer to a request and the state after it, the refusal of
+/// a split for memory or for depth aside.
+#[tactic(auto, using(crate::proofs::Answers::Once::allocates_once))]
+fn allocates_once()
+    ensures { AllocatesOnce }
+{}
+
+/// The state of an allocator decides its answer to a range given back and the state after it.
+#[tactic(auto, using(crate::proofs::Answers::Once::frees_once))]
+fn frees_once()
+    ensures { FreesOnce }
+{}
+
+/// Each call leaves the state of an allocator, and in such a state the held ranges have no address in
+/// common, lie in the space and do not contain `u64::MAX`.
+#[tactic(auto, using(crate::proofs::Answers::AddressAnswers::kept))]
+fn states_are_kept()
+    ensures kept { StateIsKept }
+    ensures apart { HeldLieApart }
+{}
+
+/// What a range that is taken or given back changes.
+#[tactic(auto, using(crate::proofs::Answers::AddressAnswers::changes))]
+fn one_range_changes()
+    ensures takes { AllocatingAddsRange }
+    ensures gives_back { FreeingDropsRange }
+    ensures undone { FreeingUndoes }
+{}
+
+/// The test by which futile gaps are counted tells the truth, and at alignment 1 there are none.
+#[tactic(auto, using(crate::proofs::Counts::Futile::futile))]
+fn futile_gaps_are_told()
+    ensures told { FutileIsTold }
+    ensures none { NoneIsFutileAtOne }
+{}
+
+/// As many different held ranges as are held are all of them.
+#[tactic(auto, using(crate::proofs::Blocks::HeldLists::listings))]
+fn counts_tell_all()
+    ensures { CountTellsAll }
+{}
+
+/// The test by which cramped gaps are counted tells the truth, and there are at most as many as
+/// multiples of the alignment in the space.
+#[tactic(auto, using(crate::proofs::Counts::Cramped::cramped))]
+fn cramped_gaps_are_told()
+    ensures told { CrampedIsTold }
+    ensures few { CrampedAreFew }
+{}
+
+/// Overlapping is symmetric, containing reflexive and transitive, and the order of ranges agrees with
+/// their equality.
+#[tactic(auto, using(crate::proofs::Comparing::Orders::ranges_are_sets))]
+fn ranges_are_sets()
+    ensures { RangesAreSets }
+{}

@@ -1,0 +1,88 @@
+//! The fields of a node's value, read and written: their names stand here alone. Reading takes no
+//! memory.
+ghost use Rattle.std.specs.Prelude.{◌≡◌, IfOk, option_map, option_and_then};
+ghost use Rattle.serde_json.specs.View.{view};
+ghost use Rattle.serde_json.specs.Find.{get};
+ghost use Rattle.vm_engine.specs.Values.RangeValues.{range_found};
+ghost use Rattle.vm_engine.specs.Checks.ValueParts.{NodeParts};
+ghost use Rattle.vm_engine.specs.Checks.ValueChecks.{state_found, node_data};
+
+use crate::allocation_engine::NodeState;
+use crate::range::RangeInclusive;
+use serde_json::{Value, json};
+use std::alloc::{AllocError, Global};
+use vm_values::{has_fields, number_in};
+
+const KEY: &str = "key";
+
+const STATE: &str = "node_state";
+
+const LEFT: &str = "left";
+
+const RIGHT: &str = "right";
+
+const HEIGHT: &str = "height";
+
+/// The range in a field.
+pub fn range_in(value: &Value, name: &str) -> Option<RangeInclusive>
+    ensures { result ≡ option_and_then range_found (get name.now (view value.now)) }
+{
+    RangeInclusive::stated_by(value.get(name)?)
+}
+
+/// The state in a field.
+fn state_in(value: &Value, name: &str) -> Option<NodeState>
+    ensures { result ≡ option_and_then state_found (get name.now (view value.now)) }
+{
+    NodeState::stated_by(value.get(name)?)
+}
+
+/// What stands in the fields of a node's value.
+#[derive(Clone, Copy)]
+pub struct SavedNode<'a> {
+    /// The range of the block.
+    pub key: RangeInclusive,
+    /// Whether the block is held.
+    pub state: NodeState,
+    /// The height that the value states.
+    pub height: u64,
+    /// What stands for the left child.
+    pub left: &'a Value,
+    /// What stands for the right child.
+    pub right: &'a Value,
+}
+
+/// The fields of a node's value, where it has these and no others.
+pub fn node_of(value: &Value) -> Option<SavedNode<'_>>
+    ensures { option_map (λ n. record {
+      block = record { key = n.key; state = n.state };
+      height = n.height;
+      left = view n.left.now;
+      right = view n.right.now;
+    }) result ≡ node_data (view value.now) }
+{
+    if !has_fields(value, 5) {
+        return None;
+    }
+    Some(SavedNode {
+        key: range_in(value, KEY)?,
+        state: state_in(value, STATE)?,
+        height: number_in(value, HEIGHT)?,
+        left: value.get(LEFT)?,
+        right: value.get(RIGHT)?,
+    })
+}
+
+/// The object of a node's fields.
+pub(crate) fn save_node(
+    alloc: Global,
+    key: Value,
+    state: Value,
+    left: Value,
+    right: Value,
+    height: u64,
+) -> Result<Value, AllocError>
+    ensures { IfOk result (λ node. NodeParts (view node) (view key) (view state) (view left) (view right) height) }
+{
+    json!(in alloc; {KEY: key, STATE: state, LEFT: left, RIGHT: right, HEIGHT: height})
+}
