@@ -3,7 +3,6 @@ pub mod Histories
 pub mod Laws
 pub mod Values
 pub mod Checks
-
 -- What the public clauses cite of the crates below: a caller names it by this crate.
 pub use Rattle.vm_engine.specs.Cases
 pub use Rattle.vm_engine.specs.Range
