@@ -16,12 +16,13 @@ import erase
 SAME = "the same output"
 Edit = collections.namedtuple("Edit", "what file old new outcome")
 
-RANGE = "vm_engine/src/range.rt"
+RANGE = "vm_ranges/src/range.rt"
 IDS = "vm_ids/src/saved.rt"
 WALKS = "vm_engine/src/allocation_engine/node/walks.rt"
 COMPARING = "vm_allocator/src/address_allocator/comparing.rt"
-ERROR = "vm_engine/src/error.rt"
-LIBRARY = "vm_engine/src/lib.rt"
+ERROR = "vm_ranges/src/error.rt"
+CONSTRAINT = "vm_ranges/src/constraint.rt"
+LIBRARY = "vm_ranges/src/lib.rt"
 LAWS = "vm_ids/src/laws/ids.rt"
 PROGRAM = "vm_replay/src/main.rt"
 CLAUSE = "ensures { result ≡ address_count self.now }"
@@ -164,7 +165,7 @@ EDITS = [
     Edit("another type of an iterator", WALKS, "    type Item = Block;", "    const ITEM: u64 = 1;", "an item 'const'"),
     item("documentation of the file behind an item", "//! More.", "documentation of the file behind an item"),
     # What a caller in plain Rust could break.
-    Edit("a public function with a requires", RANGE, "    pub(crate) fn between", "    pub fn between", "a 'requires' of 'between'"),
+    Edit("a public function with a requires", CONSTRAINT, "fn is_start_aligned(", "pub fn is_start_aligned(", "a 'requires' of 'is_start_aligned'"),
     Edit("a public method of a trait with a requires", RANGE, "    fn partial_cmp(&self, other: &RangeInclusive) -> Option<Ordering> {",
          "    fn partial_cmp(&self, other: &RangeInclusive) -> Option<Ordering>\n        requires { 0 ≡ 0 }\n    {", "a 'requires' of 'partial_cmp'"),
     Edit("a public field of a type with an invariant", RANGE, "    start: u64,\n    end", "    pub start: u64,\n    end",

@@ -3,19 +3,19 @@ use Rattle.std.proofs.Common.{◌≡◌, ℕ, ◌+◌, ◌-◌, ◌%◌, List, [
 use Rattle.std.specs.List.{Contains}
 use Rattle.serde_json.specs.Data.{Data}
 use Rattle.vm_values.proofs.NumberSets.{inserted_here}
-use Rattle.vm_engine.specs.Range.{Range, IsIn, Overlaps, address_count, span}
+use Rattle.vm_ranges.specs.Range.{Range, IsIn, Overlaps, address_count, span}
 use Rattle.vm_engine.specs.Address.{AddressState, AreClear, IsPlace, IsAddressState, holding, releasing, without_range}
-use Rattle.vm_engine.specs.Alignment.{IsAlignment}
-use Rattle.vm_engine.specs.Request.{Request, request_for, IsRequest, IsStartAligned}
+use Rattle.vm_ranges.specs.Alignment.{IsAlignment}
+use Rattle.vm_ranges.specs.Request.{Request, request_for, IsRequest, IsStartAligned}
 use Rattle.vm_engine.specs.Answer.{IsChosen, IsSplitRefusal, Takes, Allocates, Frees}
 use Rattle.vm_ids.specs.Ids.{IdState, IsIdState, IsHeld, IsLeastNotHeld, holding_id, ByLeastNotHeld, AllocatesId}
 use Rattle.vm_allocator.specs.Allocator.{SpaceInTree, state_of}
 use Rattle.vm_allocator.specs.Values.AllocatorValues.{StatesAllocator, StatesAddresses}
 use Rattle.vm_ids.specs.IdValues.{StatesIds}
-use Rattle.vm_engine.specs.declared.error.Error.{Error}
-use Rattle.vm_engine.specs.declared.error.Error.TheVariants.{Overflow, OutOfMemory}
-use Rattle.vm_engine.specs.declared.constraint.AllocPolicy.{AllocPolicy}
-use Rattle.vm_engine.specs.declared.constraint.AllocPolicy.TheVariants.{ExactMatch}
+use Rattle.vm_ranges.specs.declared.error.Error.{Error}
+use Rattle.vm_ranges.specs.declared.error.Error.TheVariants.{Overflow, OutOfMemory}
+use Rattle.vm_ranges.specs.declared.constraint.AllocPolicy.{AllocPolicy}
+use Rattle.vm_ranges.specs.declared.constraint.AllocPolicy.TheVariants.{ExactMatch}
 use Rattle.vm_engine.proofs.Blocks.PlainWords.{IsHeldAddress, IsHeld as IsHeldRange, contains_held, held_contains, all_miss, none_holds, held_address}
 use Rattle.vm_engine.proofs.Blocks.HeldSets.{held_lies, one_held}
 use Rattle.vm_engine.proofs.Blocks.HeldChanges.{held_now, held_without, not_held_without}
@@ -29,7 +29,7 @@ use Rattle.vm_ids.proofs.ReadIdStates.{one_stated, stated_state as stated_ids}
 pub use Rattle.vm_engine.proofs.Blocks.HeldLists.{ranges_listed}
 pub use Rattle.vm_ids.proofs.IdCounts.{ids_listed}
 -- the range that a value states is what is found of it
-pub use Rattle.vm_engine.proofs.Reading.ReadRanges.{found-states, states-found}
+pub use Rattle.vm_ranges.proofs.ReadRanges.{found-states, states-found}
 
 -- a range that was given: as long as was asked, from a multiple of the alignment on, clear before and held after
 pub record IsGiven (old : AddressState) (request : Request) (r : Range) (new : AddressState) : Type 0 where

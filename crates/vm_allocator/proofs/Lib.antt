@@ -1,3 +1,4 @@
+pub mod Decisions
 pub mod Answers
 pub mod Histories
 pub mod Reading

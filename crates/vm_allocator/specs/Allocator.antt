@@ -1,7 +1,7 @@
 -- What an address allocator is seen as, and the state that it stands for.
 use Rattle.std.specs.Prelude.{Result, Ok, Err, refl}
 use Rattle.std.specs.Coded.{Coded, code_by, coded×}
-use Rattle.vm_engine.specs.Range.{Range, range_code}
+use Rattle.vm_ranges.specs.Range.{Range, range_code}
 use Rattle.vm_engine.specs.Address.{AddressState}
 use Rattle.vm_engine.specs.Tree.Shape.{Shape}
 use Rattle.vm_engine.specs.Tree.ShapeCode.{shape_code}

@@ -1,15 +1,15 @@
 //! Ranges of one space. The space stands beside the tree, which tells it too, so that `base` and
 //! `end` are one read each; that the two agree is the invariant. Its fields are open inside the crate,
-//! for `saved`, and whoever puts them together proves the invariant. The plain calls are the counted ones without the count. That some
-//! calls always succeed follows from their answers, and is a clause of its own all the same: a
-//! monitor relies on it.
+//! for `saved`, and whoever puts them together proves the invariant. The plain calls are the counted
+//! ones without the count. That some calls always succeed follows from their answers, and is a clause
+//! of its own all the same: a monitor relies on it.
 ghost use Rattle.std.specs.Prelude.{ℕ, ◌≡◌, OnErr, IfOk, IsOk};
 ghost use Rattle.std.specs.List.{Contains};
 ghost use Rattle.vm_engine.specs.Address.{IsAddressState};
-ghost use Rattle.vm_engine.specs.Request.{request_for};
+ghost use Rattle.vm_ranges.specs.Request.{request_for};
 ghost use Rattle.vm_engine.specs.Answer.{Allocates, FillsGap, Frees, Makes};
 ghost use Rattle.vm_allocator.specs.Allocator.{state_of, made_state};
-ghost use Rattle.vm_engine.specs.Cloning.{Clones};
+ghost use Rattle.vm_ranges.specs.Cloning.{Clones};
 ghost use Rattle.vm_engine.specs.Tree.Shape.{height_of};
 ghost use Rattle.vm_engine.specs.Counts.GapSearch.{SearchesGaps, SearchesAligned};
 ghost use Rattle.vm_engine.specs.Counts.Steps.{EntersToAllocate, EntersToFree, IsAllocationCount, IsReleaseCount, IsBalancedTreeOf, SplitsIfLow};
@@ -17,7 +17,7 @@ ghost use Rattle.vm_engine.specs.Counts.Steps.{EntersToAllocate, EntersToFree, I
 use std::alloc::Global;
 use std::marker::Model;
 use vm_engine::allocation_engine::IntervalTree;
-use vm_engine::{AllocPolicy, Constraint, Error, RangeInclusive, Result};
+use vm_ranges::{AllocPolicy, Constraint, Error, RangeInclusive, Result};
 
 mod comparing;
 mod held_ranges;

@@ -1,11 +1,11 @@
 -- What a caller wants to know of devices that it reserved.
 use Rattle.std.proofs.Common.{◌≡◌, ℕ, ◌%◌, sym, ap, ⊎_elim, subst, Result, Ok, Err, IfOk}
-use Rattle.vm_engine.specs.Range.{Overlaps, address_count}
+use Rattle.vm_ranges.specs.Range.{Overlaps, address_count}
 use Rattle.vm_engine.specs.Address.{holding}
-use Rattle.vm_engine.specs.Request.{Request, request_for}
+use Rattle.vm_ranges.specs.Request.{Request, request_for}
 use Rattle.vm_engine.specs.Answer.{Allocates}
-use Rattle.vm_engine.specs.declared.error.Error.{Error}
-use Rattle.vm_engine.specs.declared.constraint.AllocPolicy.{AllocPolicy}
+use Rattle.vm_ranges.specs.declared.error.Error.{Error}
+use Rattle.vm_ranges.specs.declared.constraint.AllocPolicy.{AllocPolicy}
 use Rattle.vm_allocator.proofs.Callers.{given_aligned, given_long, given_apart}
 use Rattle.vm_devices.specs.declared.device_slot.DeviceSlot.{DeviceSlot}
 use Rattle.vm_devices.specs.Devices.{DeviceState, IsDevice, IsDeviceState, Reserves, Releases}

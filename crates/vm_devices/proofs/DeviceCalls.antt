@@ -4,13 +4,13 @@ use Rattle.std.specs.Ordering.{nat_cmp}
 use Rattle.std.specs.BTreeMap.{BTreeMap, IsEmpty, IsUnchanged, Updates}
 use Rattle.std.specs.FinMap as map
 use Rattle.std.specs.List.{Contains}
-use Rattle.vm_engine.specs.Range.{Range}
+use Rattle.vm_ranges.specs.Range.{Range}
 use Rattle.vm_engine.specs.Address.{AddressState, releasing}
-use Rattle.vm_engine.specs.Request.{Request}
+use Rattle.vm_ranges.specs.Request.{Request}
 use Rattle.vm_engine.specs.Answer.{Allocates, Frees, Makes}
 use Rattle.vm_ids.specs.Ids.{IdState, IsHeld, MakesIds, ByLeastNotHeld, PeeksId, AllocatesId, FreesId, releasing_id}
-use Rattle.vm_engine.specs.declared.error.Error.{Error}
-use Rattle.vm_engine.specs.declared.error.Error.TheVariants.{Overflow, ResourceNotAvailable, NeverAllocated, OutOfMemory}
+use Rattle.vm_ranges.specs.declared.error.Error.{Error}
+use Rattle.vm_ranges.specs.declared.error.Error.TheVariants.{Overflow, ResourceNotAvailable, NeverAllocated, OutOfMemory}
 use Rattle.vm_engine.proofs.Answers.AddressAnswers.{freeing_undoes}
 use Rattle.vm_allocator.proofs.Answers.EveryAddressCall.{every_call}
 use Rattle.vm_allocator.proofs.Callers.{given}

@@ -3,7 +3,7 @@ use Rattle.std.proofs.Common.{◌≡◌, ◌≢◌, ℕ, ◌<◌, ◌⊎◌, Lis
 use Rattle.std.proofs.lemmas.Bool.{cases_eq}
 use Rattle.std.specs.Ordering.{nat_cmp}
 use Rattle.std.specs.FinMap as map
-use Rattle.vm_engine.specs.Range.{Range, MAX, Overlaps, Covers}
+use Rattle.vm_ranges.specs.Range.{Range, MAX, Overlaps, Covers}
 use Rattle.vm_engine.specs.Address.{holding}
 use Rattle.vm_engine.specs.Answer.{Allocates}
 use Rattle.vm_ids.specs.Ids.{IsOfRange}

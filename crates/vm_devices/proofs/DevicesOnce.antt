@@ -1,13 +1,13 @@
 -- A call of a manager has one answer, where memory suffices and few ranges are held.
 use Rattle.std.proofs.Common.{◌≡◌, ◌≢◌, ℕ, ◌<◌, ◌⊎◌, length, sym, ap, ◌∙◌, ⊎_elim, subst, Option, Some, None, MatchOption, Result, Ok, Err}
 use Rattle.std.specs.FinMap as map
-use Rattle.vm_engine.specs.Range.{Range}
+use Rattle.vm_ranges.specs.Range.{Range}
 use Rattle.vm_engine.specs.Address.{AddressState}
-use Rattle.vm_engine.specs.Request.{Request}
+use Rattle.vm_ranges.specs.Request.{Request}
 use Rattle.vm_engine.specs.Answer.{FEWEST_TOO_DEEP, Makes}
 use Rattle.vm_ids.specs.Ids.{IdState}
-use Rattle.vm_engine.specs.declared.error.Error.{Error}
-use Rattle.vm_engine.specs.declared.error.Error.TheVariants.{NeverAllocated, OutOfMemory}
+use Rattle.vm_ranges.specs.declared.error.Error.{Error}
+use Rattle.vm_ranges.specs.declared.error.Error.TheVariants.{NeverAllocated, OutOfMemory}
 use Rattle.vm_allocator.proofs.Answers.Amply.{placed_once, made_once}
 use Rattle.vm_ids.proofs.IdAnswers.{making_is_determined, by_same_least}
 use Rattle.vm_devices.specs.declared.device_slot.DeviceSlot.{DeviceSlot}

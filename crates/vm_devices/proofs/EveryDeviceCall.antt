@@ -2,13 +2,13 @@
 use Rattle.std.proofs.Common.{◌≡◌, ◌≢◌, ℕ, List, [], ◌∷◌, refl, ap, inl, inr, Option, Some, None, Result, Ok, Err}
 use Rattle.std.proofs.lemmas.List.Elements.{All-nil, All-cons}
 use Rattle.std.specs.FinMap as map
-use Rattle.vm_engine.specs.Range.{Range}
+use Rattle.vm_ranges.specs.Range.{Range}
 use Rattle.vm_engine.specs.Address.{AddressState}
-use Rattle.vm_engine.specs.Request.{Request}
+use Rattle.vm_ranges.specs.Request.{Request}
 use Rattle.vm_engine.specs.Answer.{Allocates}
 use Rattle.vm_ids.specs.Ids.{IdState, IsLeastNotHeld, ByLeastNotHeld, PeeksId}
-use Rattle.vm_engine.specs.declared.error.Error.{Error}
-use Rattle.vm_engine.specs.declared.error.Error.TheVariants.{Overflow, ResourceNotAvailable, NeverAllocated, OutOfMemory}
+use Rattle.vm_ranges.specs.declared.error.Error.{Error}
+use Rattle.vm_ranges.specs.declared.error.Error.TheVariants.{Overflow, ResourceNotAvailable, NeverAllocated, OutOfMemory}
 use Rattle.vm_allocator.proofs.Answers.Amply.{makes_ids_no_memory}
 use Rattle.vm_allocator.proofs.Answers.EveryAddressCall.{every_call}
 use Rattle.vm_ids.proofs.EveryIdCall.{every_call as every_id_call}

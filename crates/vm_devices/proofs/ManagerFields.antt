@@ -6,14 +6,14 @@ use Rattle.vm_values.specs.Lists.{StatesItems}
 use Rattle.vm_values.proofs.Lists.{in_list}
 use Rattle.vm_values.proofs.FieldSteps.{true-count, in_field}
 use Rattle.vm_values.specs.Fields.{field_count}
-use Rattle.vm_engine.specs.Range.{Range}
+use Rattle.vm_ranges.specs.Range.{Range}
 use Rattle.vm_engine.specs.Address.{AddressState}
 use Rattle.vm_ids.specs.Ids.{IdState}
 use Rattle.vm_allocator.specs.Values.AllocatorValues.{StatesAddresses}
 use Rattle.vm_ids.specs.IdValues.{StatesIds}
-use Rattle.vm_engine.specs.Saving.{Reads}
-use Rattle.vm_engine.specs.declared.saved.ValueError.{ValueError}
-use Rattle.vm_engine.specs.declared.saved.ValueError.TheVariants.{NotAState, OutOfMemory}
+use Rattle.vm_ranges.specs.Saving.{Reads}
+use Rattle.vm_ranges.specs.declared.saved.ValueError.{ValueError}
+use Rattle.vm_ranges.specs.declared.saved.ValueError.TheVariants.{NotAState, OutOfMemory}
 use Rattle.vm_devices.specs.Devices.{DeviceState}
 use Rattle.vm_devices.specs.Saved.{StatesDevice, StatesList, StatesManager, ReadsInParts}
 use Rattle.vm_devices.specs.SavedChecks.{rising_devices, FindsDevices, manager_found}

@@ -5,11 +5,11 @@ use Rattle.std.specs.List.{Contains}
 use Rattle.std.specs.Ordering.{nat_cmp}
 use Rattle.std.specs.FinMap as map
 use Rattle.std.specs.FinSet as set
-use Rattle.vm_engine.specs.Range.{Range, MAX}
+use Rattle.vm_ranges.specs.Range.{Range, MAX}
 use Rattle.vm_engine.specs.Address.{AddressState}
 use Rattle.vm_engine.specs.Answer.{Makes}
 use Rattle.vm_ids.specs.Ids.{MAX_ID, IdState, IsHeld, MakesIds, fresh_ids}
-use Rattle.vm_engine.specs.declared.error.Error.{Error}
+use Rattle.vm_ranges.specs.declared.error.Error.{Error}
 use Rattle.vm_engine.proofs.Answers.AddressAnswers.{made_is, state_is_kept}
 use Rattle.vm_ids.proofs.IdAnswers.{id_states_are_kept}
 use Rattle.vm_devices.proofs.Pairs.{none_there}

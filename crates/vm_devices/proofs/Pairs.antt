@@ -3,9 +3,9 @@ use Rattle.std.proofs.Common.{◌≡◌, ℕ, ◌↔◌, refl, sym, ap, ◌∙�
 use Rattle.std.proofs.lemmas.Bool.{cases_eq}
 use Rattle.std.specs.List.{Contains}
 use Rattle.std.specs.FinMap as map
-use Rattle.vm_engine.specs.Range.{Range}
+use Rattle.vm_ranges.specs.Range.{Range}
 use Rattle.vm_engine.specs.Address.{holding, releasing}
-use Rattle.vm_engine.specs.Request.{Request}
+use Rattle.vm_ranges.specs.Request.{Request}
 use Rattle.vm_engine.specs.Answer.{Allocates, Frees}
 use Rattle.vm_engine.specs.Laws.AddressLaws.{AddsRange, DropsRange}
 use Rattle.vm_ids.specs.Ids.{IsHeld, AllocatesId, FreesId, holding_id, releasing_id}

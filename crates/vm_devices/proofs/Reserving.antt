@@ -1,13 +1,13 @@
 -- The answers to one call of a manager, case by case.
 use Rattle.std.proofs.Common.{◌≡◌, ℕ, refl, sym, inl, inr, ◌⊎◌, ⊎_elim, subst, Option, Some, None, MatchOption, Result, Ok, Err}
 use Rattle.std.specs.FinMap as map
-use Rattle.vm_engine.specs.Range.{Range}
+use Rattle.vm_ranges.specs.Range.{Range}
 use Rattle.vm_engine.specs.Address.{AddressState, holding}
-use Rattle.vm_engine.specs.Request.{Request}
+use Rattle.vm_ranges.specs.Request.{Request}
 use Rattle.vm_engine.specs.Answer.{Allocates}
 use Rattle.vm_ids.specs.Ids.{IsLeastNotHeld, ByLeastNotHeld, AllocatesId, holding_id}
-use Rattle.vm_engine.specs.declared.error.Error.{Error}
-use Rattle.vm_engine.specs.declared.error.Error.TheVariants.{NeverAllocated, OutOfMemory}
+use Rattle.vm_ranges.specs.declared.error.Error.{Error}
+use Rattle.vm_ranges.specs.declared.error.Error.TheVariants.{NeverAllocated, OutOfMemory}
 use Rattle.vm_allocator.proofs.Callers.{given}
 use Rattle.vm_devices.specs.declared.device_slot.DeviceSlot.{DeviceSlot}
 use Rattle.vm_devices.specs.Devices.{DeviceState, IsDevice, IsDeviceState, with_device, without_device, Pairs, Reserves, Releases}

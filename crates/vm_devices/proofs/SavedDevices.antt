@@ -19,8 +19,8 @@ use Rattle.vm_values.proofs.NumberSteps.{u32_in-some, some-u32}
 use Rattle.vm_values.proofs.Steps.{and_then_some, map_some, if_some}
 use Rattle.vm_values.specs.Fields.{field_count, is_count}
 use Rattle.vm_values.specs.Numbers.{u32_in}
-use Rattle.vm_engine.specs.Range.{Range}
-use Rattle.vm_engine.specs.Values.RangeValues.{StatesRange, range_found}
+use Rattle.vm_ranges.specs.Range.{Range}
+use Rattle.vm_ranges.specs.RangeValues.{StatesRange, range_found}
 use Rattle.vm_allocator.proofs.Callers.{found-states, states-found}
 use Rattle.vm_devices.specs.Saved.{StatesDevice}
 use Rattle.vm_devices.specs.SavedChecks.{device_found, rising_devices}

@@ -6,7 +6,7 @@ use Rattle.std.specs.Cmp.{nat_cmp_total, unsigned_tied, eq_by_cmp_equiv}
 use Rattle.std.specs.Map.{lookup}
 use Rattle.std.specs.BTreeMap.{BTreeMap, is_at, IsEmpty, Updates}
 use Rattle.std.specs.FinMap as map
-use Rattle.vm_engine.specs.Range.{Range}
+use Rattle.vm_ranges.specs.Range.{Range}
 
 -- ---- a map with one more key, and with one less
 module _ (m : map.FinMap nat_cmp Range) (k : ℕ) where

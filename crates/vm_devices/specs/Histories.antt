@@ -2,11 +2,11 @@
 use Rattle.std.specs.Prelude.{◌≡◌, ℕ, ◌%◌, ◌≤◌, ◌⊎◌, List, [], ◌∷◌, Result, Ok, Err}
 use Rattle.std.specs.List.{Contains}
 use Rattle.serde_json.specs.Data.{Data}
-use Rattle.vm_engine.specs.Range.{Range, MAX, span}
-use Rattle.vm_engine.specs.Request.{Request}
+use Rattle.vm_ranges.specs.Range.{Range, MAX, span}
+use Rattle.vm_ranges.specs.Request.{Request}
 use Rattle.vm_ids.specs.Ids.{MAX_ID}
-use Rattle.vm_engine.specs.declared.error.Error.{Error}
-use Rattle.vm_engine.specs.declared.error.Error.TheVariants.{OutOfMemory}
+use Rattle.vm_ranges.specs.declared.error.Error.{Error}
+use Rattle.vm_ranges.specs.declared.error.Error.TheVariants.{OutOfMemory}
 use Rattle.vm_devices.specs.declared.device_slot.DeviceSlot.{DeviceSlot}
 use Rattle.vm_devices.specs.Devices.{DeviceState, IsDevice, MakesManager, Reserves, Releases}
 use Rattle.vm_devices.specs.Saved.{StatesManager}

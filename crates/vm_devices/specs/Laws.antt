@@ -2,15 +2,15 @@
 use Rattle.std.specs.Prelude.{◌≡◌, ◌≢◌, ℕ, ◌<◌, ◌≤◌, ◌⊎◌, List, map, length, Result, Ok, Err}
 use Rattle.std.specs.List.{All}
 use Rattle.serde_json.specs.Data.{Data}
-use Rattle.vm_engine.specs.Range.{Range, MAX, Overlaps, Covers, address_count}
-use Rattle.vm_engine.specs.Request.{Request, request_for}
+use Rattle.vm_ranges.specs.Range.{Range, MAX, Overlaps, Covers, address_count}
+use Rattle.vm_ranges.specs.Request.{Request, request_for}
 use Rattle.vm_engine.specs.Answer.{FEWEST_TOO_DEEP}
 use Rattle.vm_ids.specs.Ids.{IsOfRange}
-use Rattle.vm_engine.specs.declared.error.Error.{Error}
-use Rattle.vm_engine.specs.declared.error.Error.TheVariants.{Overflow, OutOfMemory}
-use Rattle.vm_engine.specs.declared.saved.ValueError.{ValueError}
-use Rattle.vm_engine.specs.declared.saved.ValueError.TheVariants as unread
-use Rattle.vm_engine.specs.declared.constraint.AllocPolicy.TheVariants.{ExactMatch}
+use Rattle.vm_ranges.specs.declared.error.Error.{Error}
+use Rattle.vm_ranges.specs.declared.error.Error.TheVariants.{Overflow, OutOfMemory}
+use Rattle.vm_ranges.specs.declared.saved.ValueError.{ValueError}
+use Rattle.vm_ranges.specs.declared.saved.ValueError.TheVariants as unread
+use Rattle.vm_ranges.specs.declared.constraint.AllocPolicy.TheVariants.{ExactMatch}
 use Rattle.vm_devices.specs.declared.device_slot.DeviceSlot.{DeviceSlot}
 use Rattle.vm_devices.specs.Devices.{DeviceState, IsDevice, IsDeviceState, MakesManager, Reserves, Releases}
 use Rattle.vm_devices.specs.Saved.{StatesManager, ReadsInParts}

@@ -10,12 +10,12 @@ use Rattle.serde_json.specs.Find.{get, as_array}
 use Rattle.serde_json.specs.Events.{items_len}
 use Rattle.vm_values.specs.Fields.{field_count, is_count}
 use Rattle.vm_values.specs.Numbers.{number_in, u32_in}
-use Rattle.vm_engine.specs.Range.{Range}
+use Rattle.vm_ranges.specs.Range.{Range}
 use Rattle.vm_engine.specs.Address.{AddressState}
 use Rattle.vm_ids.specs.Ids.{IdState, IsHeld, held_count}
-use Rattle.vm_engine.specs.declared.saved.ValueError.{ValueError}
-use Rattle.vm_engine.specs.declared.saved.ValueError.TheVariants.{NotAState, OutOfMemory}
-use Rattle.vm_engine.specs.Values.RangeValues.{range_found}
+use Rattle.vm_ranges.specs.declared.saved.ValueError.{ValueError}
+use Rattle.vm_ranges.specs.declared.saved.ValueError.TheVariants.{NotAState, OutOfMemory}
+use Rattle.vm_ranges.specs.RangeValues.{range_found}
 
 -- the device that a value states
 abbrev pub device_found : Data → Option (ℕ × Range)

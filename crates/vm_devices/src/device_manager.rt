@@ -2,7 +2,7 @@
 //! what may be refused comes first, and what follows it is always done.
 ghost use Rattle.std.specs.Prelude.{◌≡◌, OnErr, IfOk};
 ghost use Rattle.std.specs.FinMap as map;
-ghost use Rattle.vm_engine.specs.Request.{request_for};
+ghost use Rattle.vm_ranges.specs.Request.{request_for};
 ghost use Rattle.vm_devices.specs.Devices.{IsDeviceState, MakesManager, Reserves, Releases};
 
 use crate::device_slot::DeviceSlot;

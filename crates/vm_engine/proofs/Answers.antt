@@ -1,7 +1,5 @@
-pub mod TwoFacts
 pub mod Requests
 pub mod Once
 pub mod Outcomes
 pub mod Filling
 pub mod AddressAnswers
-pub mod CloneAnswers

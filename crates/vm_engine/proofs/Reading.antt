@@ -1,5 +1,3 @@
-pub mod ReadRanges
-pub mod ReadStates
 pub mod Fronts
 pub mod ReadNodes
 pub mod ReadTrees

@@ -2,7 +2,7 @@
 use Rattle.std.specs.Prelude.{◌≡◌, ℕ, ◌+◌, ◌%◌, ◌<◌, ◌≤◌, ◌⊎◌, List, [], ◌∷◌, if◌then◌else◌, nat_lt, nat_eq, refl}
 use Rattle.std.specs.List.{All}
 use Rattle.std.specs.Coded.{Coded, code_by, coded×, coded_list}
-use Rattle.vm_engine.specs.Range.{Range, range_code, MAX, IsRange, IsIn}
+use Rattle.vm_ranges.specs.Range.{Range, range_code, MAX, IsRange, IsIn}
 
 -- a space and the ranges held in it, from the lowest to the highest
 pub record AddressState : Type 0 where

@@ -1,13 +1,13 @@
 -- What a call of an address allocator answers, and the state that it leaves.
 use Rattle.std.specs.Prelude.{◌≡◌, ℕ, ◌+◌, ◌-◌, ◌<◌, ◌≤◌, ◌⊎◌, Result, Ok, Err, [], length}
 use Rattle.std.specs.List.{Contains}
-use Rattle.vm_engine.specs.Cases.{IfElse, Unless}
-use Rattle.vm_engine.specs.Range.{Range, MAX, IsRange, IsIn, span}
+use Rattle.vm_ranges.specs.Cases.{IfElse, Unless}
+use Rattle.vm_ranges.specs.Range.{Range, MAX, IsIn, span}
 use Rattle.vm_engine.specs.Address.{AddressState, AreClear, IsPlace, IsLeastPlace, IsGreatestPlace, LeavesClear, holding, releasing}
-use Rattle.vm_engine.specs.Request.{Request, ByPolicy, IsRequest, ByConstraint}
-use Rattle.vm_engine.specs.declared.error.Error.{Error}
-use Rattle.vm_engine.specs.declared.error.Error.TheVariants.{InvalidRange, Overflow, ResourceNotAvailable, InvalidStateTransition, Underflow, OutOfMemory}
-use Rattle.vm_engine.specs.declared.allocation_engine.NodeState.TheVariants.{Allocated}
+use Rattle.vm_ranges.specs.Request.{Request, ByPolicy, IsRequest, ByConstraint}
+use Rattle.vm_ranges.specs.declared.error.Error.{Error}
+use Rattle.vm_ranges.specs.declared.error.Error.TheVariants.{Overflow, ResourceNotAvailable, InvalidStateTransition, Underflow, OutOfMemory}
+use Rattle.vm_ranges.specs.declared.state.NodeState.TheVariants.{Allocated}
 
 -- the place that the policy of the request chooses
 unfoldable pub IsChosen : Request → AddressState → ℕ → Type 0
@@ -89,9 +89,3 @@ Makes base size answer =
     IfElse (size ≡ 0) (answer ≡ Err Underflow) (
     IfElse (MAX < base + size - 1) (answer ≡ Err Overflow)
     ((answer ≡ Ok (record { space = span base size; held = [] })) ⊎ (answer ≡ Err OutOfMemory)))
-
--- the answer to making a range
-abbrev pub MakesRange : ℕ → ℕ → Result Range Error → Type 0
-MakesRange start end answer =
-    Unless (IsRange start end) (answer ≡ Err (InvalidRange start end))
-    (answer ≡ Ok (record { start = start; end = end }))

@@ -6,13 +6,12 @@ use Rattle.std.specs.Ordering.{nat_cmp, on, then_cmp, ordering_reverse}
 use Rattle.std.specs.Cmp.{IsTotalOrder}
 use Rattle.std.specs.Cmp.Lexicographic.{slice_cmp}
 use Rattle.std.proofs.lemmas.Cmp.{lists_total, then_total, on_total, nat_cmp_total}
-use Rattle.vm_engine.specs.Range.{Range}
-use Rattle.vm_engine.specs.RangeOrder.{range_cmp}
+use Rattle.vm_ranges.specs.RangeOrder.{range_cmp, range_cmp-total}
 use Rattle.vm_engine.specs.Tree.Block.{Block}
 use Rattle.vm_engine.specs.Tree.Blocks.{blocks_of}
 use Rattle.vm_engine.specs.Address.{AddressState}
-use Rattle.vm_engine.specs.declared.allocation_engine.NodeState.{NodeState}
-use Rattle.vm_engine.specs.declared.allocation_engine.NodeState.TheVariants.{Free, Allocated}
+use Rattle.vm_ranges.specs.declared.state.NodeState.{NodeState}
+use Rattle.vm_ranges.specs.declared.state.NodeState.TheVariants.{Free, Allocated}
 
 -- where a state stands: Free is less
 abbrev pub rank : NodeState → ℕ
@@ -52,9 +51,6 @@ abbrev pub OrderAgreesWithEquality : Type 0
 OrderAgreesWithEquality = (a b : AddressState) → (state_cmp a b ≡ Equal) ↔ AreEqual a b
 
 -- these orders are total, as they are made of total ones
-pub range_cmp-total : IsTotalOrder range_cmp
-range_cmp-total = then_total (on_total (λ (r : Range). r.start) nat_cmp_total) (on_total (λ (r : Range). r.end) nat_cmp_total)
-
 pub block_cmp-total : IsTotalOrder block_cmp
 block_cmp-total =
     then_total (on_total (λ (b : Block). b.key) range_cmp-total) (on_total (λ (b : Block). rank b.state) nat_cmp_total)

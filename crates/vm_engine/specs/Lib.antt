@@ -1,13 +1,6 @@
-pub mod Cases
-pub mod Range
 pub mod Address
-pub mod Request
-pub mod Alignment
 pub mod Answer
-pub mod RangeOrder
 pub mod Comparison
-pub mod Cloning
-pub mod Saving
 pub mod Tree
 pub mod Counts
 pub mod Laws

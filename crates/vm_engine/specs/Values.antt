@@ -1,2 +1,1 @@
-pub mod RangeValues
 pub mod TreeValues

@@ -1,58 +1,8 @@
-//! How addresses are aligned, and how a space is cut into blocks.
-ghost use Rattle.std.specs.Prelude.{◌≡◌, ◌↔◌, IsTrue};
-ghost use Rattle.vm_engine.specs.Alignment.{AlignsDown, AlignsUp};
-
+//! How a space is cut into blocks, and the tree that holds them.
 mod block;
+pub(crate) mod ends;
 pub(crate) mod interval_tree;
 pub(crate) mod node;
 
-use crate::error::{Error, Result};
 pub use interval_tree::IntervalTree;
 pub use interval_tree::held_ranges::HeldRanges;
-
-/// Whether a block is held. `Free` is less.
-#[derive(Clone, Copy, Debug, PartialEq, Eq, PartialOrd, Ord)]
-pub enum NodeState {
-    /// No one holds the block.
-    Free,
-    /// Someone holds the block.
-    Allocated,
-}
-
-impl NodeState {
-    /// Whether no one holds the block.
-    fn is_free(&self) -> bool
-        ensures { IsTrue result ↔ (self.now ≡ NodeState.Free) }
-    {
-        *self == NodeState::Free
-    }
-}
-
-/// The greatest multiple of the alignment that is the address or less. `InvalidAlignment` where the
-/// alignment is no power of two.
-#[tactic(auto, using(crate::proofs::Numbers::Alignments::aligns))]
-pub fn align_down(address: u64, alignment: u64) -> Result<u64>
-    ensures { AlignsDown address alignment result }
-{
-    if !alignment.is_power_of_two() {
-        return Err(Error::InvalidAlignment);
-    }
-    Ok(address & !(alignment - 1))
-}
-
-/// The least multiple of the alignment that is the address or more. In this order: an alignment of 0
-/// is `InvalidAlignment`, an address + alignment - 1 past `u64::MAX` is `Overflow`, and an alignment
-/// that is no power of two is `InvalidAlignment`.
-#[tactic(auto, using(crate::proofs::Numbers::Alignments::aligns))]
-pub fn align_up(address: u64, alignment: u64) -> Result<u64>
-    ensures { AlignsUp address alignment result }
-{
-    if alignment == 0 {
-        return Err(Error::InvalidAlignment);
-    }
-    let last = address.checked_add(alignment - 1).ok_or(Error::Overflow)?;
-    align_down(last, alignment)
-}
-
-#[cfg(test)]
-mod tests;

@@ -1,16 +1,8 @@
-//! What the allocators of a virtual machine monitor stand on: ranges of addresses, what is asked for,
-//! why it is refused, and the balanced tree that holds the blocks of a space.
+//! The balanced tree that holds the blocks of a space.
 #![tactic(auto)]
 
 pub mod allocation_engine;
-mod constraint;
-mod error;
 mod laws;
-mod range;
 mod saved;
 
-pub use constraint::{AllocPolicy, Constraint, DEFAULT_CONSTRAINT_ALIGN};
-pub use error::{Error, Result};
-pub use range::RangeInclusive;
-pub use saved::ValueError;
-pub use saved::fields::{SavedNode, node_of, range_in};
+pub use saved::fields::{SavedNode, node_of};

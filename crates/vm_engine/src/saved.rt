@@ -1,33 +1,6 @@
-//! Saved values: what is written of ranges, states and allocators as a `Value`, and read again. A value
-//! may come from a stranger. It is read only where it states an object: it has exactly the fields that
-//! it should, and all that has to hold of them holds. The order of the fields says nothing. No request
-//! for memory comes before the last of the value has been looked at.
-ghost use Rattle.std.specs.Prelude.{◌≡◌};
-ghost use Rattle.vm_engine.specs.declared.saved.ValueError.TheVariants.{OutOfMemory};
-
+//! Saved values of trees, written and read. A value may come from a stranger. It is read only where it
+//! states a tree: each node has exactly the fields that it should, and all that has to hold of them
+//! holds. The order of the fields says nothing. No request for memory comes before the last of the value
+//! has been looked at.
 pub(crate) mod fields;
-mod range;
-mod state;
 mod tree;
-
-use std::alloc::AllocError;
-use thiserror::Error;
-
-/// Why a saved value is not read.
-#[derive(Debug, Drop, PartialEq, Eq, Error)]
-pub enum ValueError {
-    /// The value states no object of the type.
-    #[error("The value states no valid object.")]
-    NotAState,
-    /// The value states an object, and a request for memory was refused.
-    #[error("There is not enough memory.")]
-    OutOfMemory,
-}
-
-impl From<AllocError> for ValueError {
-    ghost from_gives = { λ _ e. e ≡ OutOfMemory };
-
-    fn from(_error: AllocError) -> ValueError {
-        ValueError::OutOfMemory
-    }
-}

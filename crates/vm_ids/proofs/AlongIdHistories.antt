@@ -9,8 +9,8 @@ use Rattle.vm_values.proofs.NumberSets.{same_test}
 use Rattle.vm_ids.specs.Ids.{IdState, IsHeld, IsLeastNotHeld, IsIdState, fresh_ids, MakesIds, ByLeastNotHeld, AllocatesId, FreesId}
 use Rattle.vm_ids.specs.IdHistories.{IdCall, Allocation, Release, Cloning, IsIdCallFrom, IsIdHistoryFrom, AreIdsMade, AreIdsRead, is_held_after, is_out_after}
 use Rattle.vm_ids.specs.IdHistoryLaws.{EachIsLeastNotHeld, NoIdIsHeldTwice, HeldIsOut, StatesAreOfIds}
-use Rattle.vm_engine.specs.declared.error.Error.{Error}
-use Rattle.vm_engine.proofs.Answers.CloneAnswers.{cloning_keeps}
+use Rattle.vm_ranges.specs.declared.error.Error.{Error}
+use Rattle.vm_ranges.proofs.CloneAnswers.{cloning_keeps}
 use Rattle.vm_ids.proofs.ReadIdStates.{stated_state}
 use Rattle.vm_ids.proofs.IdAnswers.{id_states_are_kept, allocating_adds, freeing_drops}
 

@@ -4,12 +4,12 @@ use Rattle.std.proofs.lemmas.Bool.{cases_eq, cases_Bool, both_ways}
 use Rattle.std.proofs.lemmas.List.Elements.{All-nil, All-cons}
 use Rattle.std.specs.FinSet as set
 use Rattle.vm_ids.specs.Ids.{MAX_ID, IdState, IsOfRange, IsHandedOut, IsHeld, IsNotHeld, IsLeastNotHeld, AreAllHeld, fresh_ids, holding_id, releasing_id, MakesIds, ByLeastNotHeld, AllocatesId, PeeksId, FreesId}
-use Rattle.vm_engine.specs.Cloning.{Clones}
+use Rattle.vm_ranges.specs.Cloning.{Clones}
 use Rattle.vm_ids.specs.IdHistories.{Allocation, Release, Cloning, IdAsked, Allocate, Free, Clone, RunsOutOfMemory}
 use Rattle.vm_ids.specs.IdHistoryLaws.{EveryIdCallIsAnswered, EveryIdListHasHistory}
-use Rattle.vm_engine.specs.declared.error.Error.{Error}
-use Rattle.vm_engine.specs.declared.error.Error.TheVariants.{OutOfMemory, Overflow, ResourceNotAvailable, InvalidRange, OutOfRange, NeverAllocated, AlreadyReleased}
-use Rattle.vm_engine.proofs.Numbers.Decisions.{Decided, decided_both, decided_below, decided_up_to, least_or_none}
+use Rattle.vm_ranges.specs.declared.error.Error.{Error}
+use Rattle.vm_ranges.specs.declared.error.Error.TheVariants.{OutOfMemory, Overflow, ResourceNotAvailable, InvalidRange, OutOfRange, NeverAllocated, AlreadyReleased}
+use Rattle.vm_ranges.proofs.Decisions.{Decided, decided_both, decided_below, decided_up_to, least_or_none}
 
 -- ---- what is decided of an id
 decided_held : (state : IdState) (i : ℕ) → Decided (IsHeld state i)

@@ -7,7 +7,7 @@ use Rattle.std.specs.BTreeSet.{BTreeSet, contains, Updates, IsUnchanged}
 use Rattle.std.specs.FinSet as set
 use Rattle.vm_values.proofs.NumberSets.{same_members, removed_other, from_removed, changed_here, changed_other}
 use Rattle.vm_ids.specs.Ids.{IdState, IsOfRange, IsHandedOut, releasing_id, FreesId, bound_of, held_of, ids_of, AreIds}
-use Rattle.vm_engine.specs.declared.error.Error.TheVariants.{OutOfRange, AlreadyReleased, NeverAllocated, OutOfMemory}
+use Rattle.vm_ranges.specs.declared.error.Error.TheVariants.{OutOfRange, AlreadyReleased, NeverAllocated, OutOfMemory}
 use Rattle.vm_ids.proofs.IdSets.{held_from, from_held}
 use Rattle.vm_ids.proofs.IdFields.{holds, holds_not}
 use Rattle.vm_ids.proofs.TakingIds.{takes_same, same_ids}

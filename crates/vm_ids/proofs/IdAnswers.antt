@@ -6,9 +6,9 @@ use Rattle.std.specs.FinSet as set
 use Rattle.vm_values.proofs.NumberSets.{inserted_here, inserted_other, from_inserted, removed_other, from_removed}
 use Rattle.vm_ids.specs.Ids.{MAX_ID, IdState, IsHandedOut, IsHeld, IsLeastNotHeld, AreAllHeld, IsIdState, fresh_ids, holding_id, releasing_id, MakesIds, ByLeastNotHeld, AllocatesId, PeeksId, FreesId}
 use Rattle.vm_ids.specs.IdLaws.{MakingIsDetermined, AllocatingIsDetermined, PeekingForetells, FreeingIsDetermined, IdStateIsKept, AddsId, DropsId, AllocatingAdds, FreeingDrops}
-use Rattle.vm_engine.specs.declared.error.Error.{Error}
-use Rattle.vm_engine.specs.declared.error.Error.TheVariants.{Overflow, ResourceNotAvailable, OutOfMemory}
-use Rattle.vm_engine.proofs.Answers.TwoFacts.{if_same, unless_same}
+use Rattle.vm_ranges.specs.declared.error.Error.{Error}
+use Rattle.vm_ranges.specs.declared.error.Error.TheVariants.{Overflow, ResourceNotAvailable, OutOfMemory}
+use Rattle.vm_ranges.proofs.TwoFacts.{if_same, unless_same}
 
 -- One answer.
 

@@ -14,7 +14,7 @@ use Rattle.std.specs.FinSet as set
 use Rattle.vm_values.proofs.NumberSets.{tied_here, tied_is, apart_not_tied, same_members, removed_other}
 use Rattle.vm_ids.specs.Ids.{IdState, IsHeld, held_count, bound_of, held_of, ids_of, AreIds}
 use Rattle.vm_ids.specs.IdLaws.{IdCountTellsAll}
-use Rattle.vm_engine.proofs.Numbers.Listed.{Differ, listed_is, each_listed}
+use Rattle.vm_ranges.proofs.Listed.{Differ, listed_is, each_listed}
 use Rattle.vm_ids.proofs.IdSets.{in_row, bound_above}
 
 -- ---- a set of numbers that differ

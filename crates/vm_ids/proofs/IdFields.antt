@@ -8,7 +8,7 @@ use Rattle.std.specs.List.{AllZip}
 use Rattle.std.proofs.lemmas.List.Elements.{same_from_all_zip}
 use Rattle.vm_values.proofs.NumberSets.{same_members}
 use Rattle.vm_ids.specs.Ids.{IdState, IsHandedOut, IsHeld, fresh_ids, MakesIds, bound_of, held_of, ids_of, AreIds, IsIdState}
-use Rattle.vm_engine.specs.declared.error.Error.TheVariants.{InvalidRange}
+use Rattle.vm_ranges.specs.declared.error.Error.TheVariants.{InvalidRange}
 use Rattle.vm_ids.proofs.IdSets.{from_held, from_holds, holds_of, bound_fits, bound_above}
 
 -- Making.

@@ -15,8 +15,7 @@ use Rattle.vm_values.proofs.FieldSteps.{field_is}
 use Rattle.vm_values.proofs.NumberSets.{same_members, tied_is}
 use Rattle.vm_ids.specs.Ids.{IdState, IsIdState, AreIds, bound_of, ids_of}
 use Rattle.vm_ids.specs.IdValues.{IdFields, HasIdFields, AreIdFields, AreIdsOf, StatesNext, StatesList, StatesIds}
-use Rattle.vm_ids.specs.IdChecks.{IdParts}
-use Rattle.vm_ids.specs.IdChecks.{rising, ids_found}
+use Rattle.vm_ids.specs.IdChecks.{IdParts, rising, ids_found}
 use Rattle.vm_ids.proofs.IdSets.{holds_from, from_holds}
 use Rattle.vm_ids.proofs.IdFields.{is_state}
 use Rattle.vm_ids.proofs.ReadIds.{Found, fields_of, checks, passes, one_fields}

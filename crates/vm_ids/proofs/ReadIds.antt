@@ -14,7 +14,7 @@ use Rattle.vm_values.specs.Numbers.{whole_number, u32_from, u32_in}
 use Rattle.vm_ids.specs.Ids.{MAX_ID, bound_of, IsNext}
 use Rattle.vm_ids.specs.IdValues.{IdFields, StatesNext, StatesNumber, StatesList, HasIdFields, AreIdFields}
 use Rattle.vm_ids.specs.IdChecks.{rising, next_found, is_next, ids_found}
-use Rattle.vm_engine.proofs.Reading.ReadTrees.{null_of}
+use Rattle.vm_values.proofs.Nulls.{null_of}
 use Rattle.vm_ids.proofs.RisingNumbers.{some_of, one_list}
 use Rattle.vm_ids.proofs.RisingBounds.{rising-states, states-rising, sorted, within, rise}
 

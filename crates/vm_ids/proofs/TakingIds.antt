@@ -9,8 +9,8 @@ use Rattle.std.specs.BTreeSet.{BTreeSet, btree_set_len, contains, Updates, IsLow
 use Rattle.std.specs.FinSet as set
 use Rattle.vm_values.proofs.NumberSets.{same_members, inserted_here, inserted_other, from_inserted, changed_here, changed_other}
 use Rattle.vm_ids.specs.Ids.{MAX_ID, IdState, IsHeld, IsNotHeld, IsLeastNotHeld, AreAllHeld, holding_id, ByLeastNotHeld, AllocatesId, PeeksId, bound_of, held_of, ids_of, NextId, AreIds}
-use Rattle.vm_engine.specs.declared.error.Error.{Error}
-use Rattle.vm_engine.specs.declared.error.Error.TheVariants.{Overflow, ResourceNotAvailable}
+use Rattle.vm_ranges.specs.declared.error.Error.{Error}
+use Rattle.vm_ranges.specs.declared.error.Error.TheVariants.{Overflow, ResourceNotAvailable}
 use Rattle.vm_ids.proofs.IdSets.{held_from, from_held, holds_from, from_holds, bound_fits}
 
 -- The least id that is not held.

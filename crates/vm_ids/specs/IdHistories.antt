@@ -2,11 +2,11 @@
 use Rattle.std.specs.Prelude.{◌≡◌, ℕ, ◌≤◌, ◌⊎◌, Bool, true, false, if◌then◌else◌, nat_eq, List, [], ◌∷◌, Result, Ok, Err}
 use Rattle.std.specs.Result.{result_unwrap_or}
 use Rattle.serde_json.specs.Data.{Data}
-use Rattle.vm_engine.specs.Cloning.{Clones}
+use Rattle.vm_ranges.specs.Cloning.{Clones}
 use Rattle.vm_ids.specs.IdValues.{StatesIds}
 use Rattle.vm_ids.specs.Ids.{MAX_ID, IdState, MakesIds, AllocatesId, FreesId}
-use Rattle.vm_engine.specs.declared.error.Error.{Error}
-use Rattle.vm_engine.specs.declared.error.Error.TheVariants.{OutOfMemory}
+use Rattle.vm_ranges.specs.declared.error.Error.{Error}
+use Rattle.vm_ranges.specs.declared.error.Error.TheVariants.{OutOfMemory}
 
 -- a call with its answer: an id asked for, one given back, or the making of a clone
 pub data IdCall : Type 0 where

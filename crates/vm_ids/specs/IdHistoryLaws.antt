@@ -4,11 +4,11 @@ use Rattle.std.specs.List.{All, Contains}
 use Rattle.std.specs.FinSet as set
 use Rattle.serde_json.specs.Data.{Data}
 use Rattle.vm_ids.specs.Ids.{IdState, IsHeld, IsLeastNotHeld, IsIdState, MakesIds, AllocatesId, PeeksId, FreesId}
-use Rattle.vm_engine.specs.Cloning.{Clones}
+use Rattle.vm_ranges.specs.Cloning.{Clones}
 use Rattle.vm_ids.specs.IdValues.{StatesIds}
 use Rattle.vm_ids.specs.IdHistories.{IdCall, Allocation, Release, Cloning, IdAsked, id_asked_by, RunsOutOfMemory, IsIdHistoryFrom, AreIdsMade, AreIdsReached, is_out_after}
-use Rattle.vm_engine.specs.declared.error.Error.{Error}
-use Rattle.vm_engine.specs.declared.error.Error.TheVariants.{OutOfMemory}
+use Rattle.vm_ranges.specs.declared.error.Error.{Error}
+use Rattle.vm_ranges.specs.declared.error.Error.TheVariants.{OutOfMemory}
 
 -- each id given is the least that is not held, and is held from then on
 unfoldable pub EachIsLeastNotHeld : Type 0

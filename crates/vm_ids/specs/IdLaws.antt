@@ -2,8 +2,8 @@
 use Rattle.std.specs.Prelude.{◌≡◌, ◌≢◌, ℕ, ◌≤◌, ◌⊎◌, ◌↔◌, List, length, Result, Ok, Err}
 use Rattle.std.specs.List.{All, AllPairs, Contains}
 use Rattle.vm_ids.specs.Ids.{MAX_ID, IdState, IsHandedOut, IsHeld, held_count, IsIdState, holding_id, MakesIds, AllocatesId, PeeksId, FreesId}
-use Rattle.vm_engine.specs.declared.error.Error.{Error}
-use Rattle.vm_engine.specs.declared.error.Error.TheVariants.{OutOfMemory}
+use Rattle.vm_ranges.specs.declared.error.Error.{Error}
+use Rattle.vm_ranges.specs.declared.error.Error.TheVariants.{OutOfMemory}
 
 -- two ways to make an allocator of one range answer the same
 abbrev pub MakingIsDetermined : Type 0

@@ -1,7 +1,7 @@
 //! Ids of one range: those handed out so far lie below the next one, and those given back stand in a
 //! set, the least first. Only giving back and cloning ask for memory.
 ghost use Rattle.std.specs.Prelude.{◌≡◌, ℕ, ◌≤◌, ◌⊎◌, ◌↔◌, IsTrue, IsOk, OnErr, Ok, Err};
-ghost use Rattle.vm_engine.specs.Cloning.{Clones};
+ghost use Rattle.vm_ranges.specs.Cloning.{Clones};
 ghost use Rattle.vm_ids.specs.Ids.{
   MakesIds,
   AllocatesId,
@@ -20,7 +20,7 @@ ghost use Rattle.vm_ids.specs.Ids.{
 use std::alloc::Global;
 use std::collections::BTreeSet;
 use std::marker::Model;
-use vm_engine::{Error, Result};
+use vm_ranges::{Error, Result};
 
 /// Gives out the ids of a range, each to one holder at a time.
 #[derive(Debug, Drop)]

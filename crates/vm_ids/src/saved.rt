@@ -8,13 +8,13 @@ ghost use Rattle.vm_values.specs.Numbers.{u32_from, u32_in};
 ghost use Rattle.vm_ids.specs.Ids.{IsIdState, bound_of};
 ghost use Rattle.vm_ids.specs.IdValues.{StatesNext, StatesList, StatesIds};
 ghost use Rattle.vm_ids.specs.IdChecks.{rising, next_found, is_next, ids_found, IdParts};
-ghost use Rattle.vm_engine.specs.Saving.{Saves, Reads};
+ghost use Rattle.vm_ranges.specs.Saving.{Saves, Reads};
 
 use crate::id_allocator::{IdAllocator, bound_of};
 use serde_json::{Value, json};
 use std::alloc::{AllocError, Global};
 use std::collections::BTreeSet;
-use vm_engine::{Result, ValueError};
+use vm_ranges::{Result, ValueError};
 use vm_values::{has_fields, list_in, u32_from, u32_in};
 
 impl IdAllocator {

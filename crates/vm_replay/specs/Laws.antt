@@ -1,7 +1,7 @@
 -- What follows from the definitions alone.
 use Rattle.std.specs.Prelude.{◌≡◌, ◌≢◌, ℕ, ◌<◌, List, [], ◌∷◌, ◌++◌, length, IfSome}
 use Rattle.vm_engine.specs.Answer.{FEWEST_TOO_DEEP}
-use Rattle.vm_engine.specs.declared.error.Error.TheVariants.{OutOfMemory}
+use Rattle.vm_ranges.specs.declared.error.Error.TheVariants.{OutOfMemory}
 use Rattle.vm_replay.specs.Commands.{command_of}
 use Rattle.vm_replay.specs.Lines.{newline}
 use Rattle.vm_replay.specs.Machines.{Machine, start, Does}

@@ -2,15 +2,15 @@
 -- libraries ensure.
 use Rattle.std.specs.Prelude.{◌≡◌, ◌↔◌, ℕ, Bool, IsTrue, Option, Some, None, Result, Ok, Err, MatchOption, refl}
 use Rattle.std.specs.Coded.{Coded, code_by, coded×, coded_option}
-use Rattle.vm_engine.specs.Cases.{Unless}
-use Rattle.vm_engine.specs.Range.{Range, IsRange}
+use Rattle.vm_ranges.specs.Cases.{Unless}
+use Rattle.vm_ranges.specs.Range.{Range, IsRange}
 use Rattle.vm_engine.specs.Address.{AddressState, address_state_code}
 use Rattle.vm_engine.specs.Answer.{Allocates, Frees, Makes}
-use Rattle.vm_engine.specs.Request.{Request}
+use Rattle.vm_ranges.specs.Request.{Request}
 use Rattle.vm_ids.specs.Ids.{IdState, id_state_code, IsHeld, MakesIds, AllocatesId, FreesId}
-use Rattle.vm_engine.specs.declared.constraint.AllocPolicy.TheVariants.{FirstMatch, LastMatch, ExactMatch}
-use Rattle.vm_engine.specs.declared.error.Error.{Error}
-use Rattle.vm_engine.specs.declared.error.Error.TheVariants.{InvalidRange}
+use Rattle.vm_ranges.specs.declared.constraint.AllocPolicy.TheVariants.{FirstMatch, LastMatch, ExactMatch}
+use Rattle.vm_ranges.specs.declared.error.Error.{Error}
+use Rattle.vm_ranges.specs.declared.error.Error.TheVariants.{InvalidRange}
 use Rattle.vm_devices.specs.declared.device_slot.DeviceSlot.{DeviceSlot}
 use Rattle.vm_devices.specs.Devices.{DeviceState, device_state_code, MakesManager, Reserves, Releases as ReleasesDevice}
 use Rattle.vm_replay.specs.Replies.{done_or_refused, given_or_refused, id_or_refused, device_or_refused}

@@ -1,6 +1,6 @@
 //! What ended lines have made, and the line that has begun. A line is read where it lies in its
 //! piece; only one that began in an earlier piece is kept.
-ghost use Rattle.std.specs.Prelude.{◌≡◌, ◌++◌, ◌∷◌, [], ◌+◌, ◌<◌, ℕ, List, length, Some};
+ghost use Rattle.std.specs.Prelude.{◌≡◌, ◌++◌, [], ◌+◌, ◌<◌, ℕ, List, length, Some};
 ghost use Rattle.vm_replay.specs.Machines.{start};
 ghost use Rattle.vm_replay.specs.Sessions.{Ends, asked_by, line_after, with_more, has_begun};
 

@@ -241,8 +241,7 @@ pub(crate) fn expect_refused(
 
 /// No value of the list states something to this reader.
 pub(crate) fn refuse_each(rt: &(impl Abort + AllocGlobal), reader: Reader, list: &Value) {
-    let values = list.as_array().expect(rt, "it is a list");
-    for (number, value) in values.iter().enumerate() {
+    for (number, value) in items(rt, list).iter().enumerate() {
         expect_refused(rt, reader, value, &number);
     }
 }

@@ -4,3 +4,4 @@ pub mod NumberSteps
 pub mod Items
 pub mod NumberSets
 pub mod Lists
+pub mod Nulls

@@ -1,13 +1,13 @@
 -- Where memory suffices and few ranges are held, a call has one answer; which calls no want of memory refuses.
 use Rattle.std.proofs.Common.{◌≡◌, ◌≢◌, ℕ, ◌<◌, length, sym, ◌∙◌, arith, inl, inr, ⊎_elim, Result, Err}
-use Rattle.vm_engine.specs.Range.{Range}
+use Rattle.vm_ranges.specs.Range.{Range}
 use Rattle.vm_engine.specs.Address.{AddressState}
-use Rattle.vm_engine.specs.Request.{Request}
+use Rattle.vm_ranges.specs.Request.{Request}
 use Rattle.vm_engine.specs.Answer.{FEWEST_TOO_DEEP, IsSplitRefusal, Allocates, Frees, Makes}
 use Rattle.vm_ids.specs.Ids.{IdState, ByLeastNotHeld, AllocatesId, MakesIds}
-use Rattle.vm_engine.specs.declared.error.Error.{Error}
-use Rattle.vm_engine.specs.declared.error.Error.TheVariants.{OutOfMemory}
-use Rattle.vm_engine.proofs.Answers.TwoFacts.{if_same}
+use Rattle.vm_ranges.specs.declared.error.Error.{Error}
+use Rattle.vm_ranges.specs.declared.error.Error.TheVariants.{OutOfMemory}
+use Rattle.vm_ranges.proofs.TwoFacts.{if_same}
 use Rattle.vm_engine.proofs.Answers.Once.{allocates_once}
 
 -- ---- one answer

@@ -2,21 +2,22 @@
 use Rattle.std.proofs.Common.{◌≡◌, ◌≢◌, ℕ, ◌+◌, ◌-◌, ◌<◌, ◌⊎◌, List, [], ◌∷◌, refl, ap, arith, inl, inr, ⊎_elim, Result, Ok, Err}
 use Rattle.std.proofs.lemmas.Bool.{cases_eq}
 use Rattle.std.specs.List.{Contains}
-use Rattle.vm_engine.specs.Cases.{IfElse, Unless}
-use Rattle.vm_engine.specs.Range.{Range, MAX, span}
+use Rattle.vm_ranges.specs.Cases.{IfElse, Unless}
+use Rattle.vm_ranges.specs.Range.{Range, MAX, span}
 use Rattle.vm_engine.specs.Address.{AddressState, AreClear, IsPlace, IsLeastPlace, IsGreatestPlace, holding, releasing}
-use Rattle.vm_engine.specs.Request.{Request, request_for, IsStartAligned, ByConstraint}
+use Rattle.vm_ranges.specs.Request.{Request, request_for, IsStartAligned, ByConstraint}
 use Rattle.vm_engine.specs.Answer.{IsChosen, ByStart, ByExactStart, ByPlace, Takes, Grants, Allocates, Frees, Makes}
-use Rattle.vm_engine.specs.Cloning.{Clones}
+use Rattle.vm_ranges.specs.Cloning.{Clones}
 use Rattle.vm_allocator.specs.Histories.AddressHistories.{Allocation, Release, Cloning, Asked, Allocate, Free, Clone, RunsOutOfMemory}
 use Rattle.vm_allocator.specs.Laws.HistoryLaws.{EveryCallIsAnswered, EveryListHasHistory}
-use Rattle.vm_engine.specs.declared.error.Error.{Error}
-use Rattle.vm_engine.specs.declared.error.Error.TheVariants.{OutOfMemory, Overflow, ResourceNotAvailable, Underflow, InvalidStateTransition, InvalidSize, InvalidAlignment, UnalignedAddress}
-use Rattle.vm_engine.specs.declared.allocation_engine.NodeState.TheVariants.{Allocated}
-use Rattle.vm_engine.specs.declared.constraint.AllocPolicy.{AllocPolicy}
-use Rattle.vm_engine.specs.declared.constraint.AllocPolicy.TheVariants.{FirstMatch, LastMatch, ExactMatch}
+use Rattle.vm_ranges.specs.declared.error.Error.{Error}
+use Rattle.vm_ranges.specs.declared.error.Error.TheVariants.{OutOfMemory, Overflow, ResourceNotAvailable, Underflow, InvalidStateTransition, InvalidSize, InvalidAlignment, UnalignedAddress}
+use Rattle.vm_ranges.specs.declared.state.NodeState.TheVariants.{Allocated}
+use Rattle.vm_ranges.specs.declared.constraint.AllocPolicy.{AllocPolicy}
+use Rattle.vm_ranges.specs.declared.constraint.AllocPolicy.TheVariants.{FirstMatch, LastMatch, ExactMatch}
 use Rattle.std.proofs.lemmas.List.Elements.{All-nil, All-cons}
-use Rattle.vm_engine.proofs.Numbers.Decisions.{Decided, decided_below, decided_all_clear, decided_place, decided_inside, decided_held, decided_alignment, decided_start, least_or_none, greatest_or_none}
+use Rattle.vm_ranges.proofs.Decisions.{Decided, decided_below, decided_alignment, decided_start, least_or_none, greatest_or_none}
+use Rattle.vm_allocator.proofs.Decisions.{decided_all_clear, decided_place, decided_inside, decided_held}
 
 -- ---- an answer by the tests of a relation
 -- some answer and next state, not out of memory, fit the relation

@@ -1,10 +1,10 @@
 -- A space with nothing held.
 use Rattle.std.proofs.Common.{◌≡◌, ℕ, ◌+◌, ◌-◌, ◌<◌, ◌≤◌, [], ◌∷◌, refl, ap, ◌∙◌, arith, inl, inr, Ok, Err}
-use Rattle.vm_engine.specs.Range.{Range, MAX}
+use Rattle.vm_ranges.specs.Range.{Range, MAX}
 use Rattle.vm_engine.specs.Answer.{Makes}
 use Rattle.vm_engine.specs.Tree.Blocks.{blocks_state, TilesSpace, IsTiling}
-use Rattle.vm_engine.specs.declared.error.Error.TheVariants.{Overflow, Underflow, OutOfMemory}
-use Rattle.vm_engine.specs.declared.allocation_engine.NodeState.TheVariants.{Free}
+use Rattle.vm_ranges.specs.declared.error.Error.TheVariants.{Overflow, Underflow, OutOfMemory}
+use Rattle.vm_ranges.specs.declared.state.NodeState.TheVariants.{Free}
 
 pub makes_none : (base size : ℕ) → size ≡ 0 → Makes base size (Err Underflow)
 unfolding Makes

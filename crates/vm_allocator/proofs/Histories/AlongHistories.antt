@@ -1,18 +1,18 @@
 -- What holds along every history of an address allocator.
 use Rattle.std.proofs.Common.{◌≡◌, ◌⊎◌, ◌↔◌, List, [], ◌∷◌, suc, refl, sym, ap, ◌∙◌, arith, inl, inr, ⊎_elim, subst, Result}
 use Rattle.std.specs.List.{Contains}
-use Rattle.vm_engine.specs.Range.{Range, span}
+use Rattle.vm_ranges.specs.Range.{Range, span}
 use Rattle.vm_engine.specs.Address.{AddressState, IsPlace, IsAddressState}
-use Rattle.vm_engine.specs.Request.{Request}
+use Rattle.vm_ranges.specs.Request.{Request}
 use Rattle.vm_engine.specs.Answer.{Allocates, Frees}
 use Rattle.vm_allocator.specs.Histories.AddressHistories.{Call, Allocation, Release, Cloning, IsCallFrom, IsHistoryFrom, Begins, Reached, WasGiven, WasStated}
 use Rattle.vm_allocator.specs.Laws.HistoryLaws.{HeldAreGood, AreAlike, StateDecides, ReleaseUndoes}
-use Rattle.vm_engine.specs.declared.error.Error.{Error}
+use Rattle.vm_ranges.specs.declared.error.Error.{Error}
 use Rattle.vm_engine.proofs.Blocks.PlainWords.{IsHeld, contains_held, held_contains}
 use Rattle.vm_engine.proofs.Answers.Outcomes.{IsRefused}
 use Rattle.vm_allocator.proofs.Reading.ReadAllocators.{stated_state}
 use Rattle.vm_allocator.proofs.Repairing.RepairedReading.{repaired_state}
-use Rattle.vm_engine.proofs.Answers.CloneAnswers.{cloning_keeps}
+use Rattle.vm_ranges.proofs.CloneAnswers.{cloning_keeps}
 use Rattle.vm_engine.proofs.Answers.Once.{allocates_once, frees_once}
 use Rattle.vm_engine.proofs.Blocks.HeldSets.{same_ranges_held}
 use Rattle.vm_engine.proofs.Blocks.HeldChanges.{held_with, held_without}

@@ -5,7 +5,7 @@ use Rattle.std.proofs.lemmas.Map.Keys.{IsDistinct-IsPermutation}
 use Rattle.std.specs.List.{Contains, AllByRecursion, IsDistinct}
 use Rattle.std.specs.List.Sorted.{IsPermutation}
 use Rattle.std.proofs.lemmas.List.Sorted.{Contains-permutation, IsPermutation-sym}
-use Rattle.vm_engine.specs.Range.{Range}
+use Rattle.vm_ranges.specs.Range.{Range}
 use Rattle.vm_engine.specs.Address.{AddressState, IsAddressState, releasing, without_range}
 use Rattle.vm_allocator.specs.Histories.AddressHistories.{IsHistoryFrom, Reached, releases}
 use Rattle.vm_allocator.specs.Laws.HistoryLaws.{OrderOfReleasesIsFree}

@@ -6,11 +6,11 @@ use Rattle.serde_json.specs.Find.{get}
 use Rattle.vm_values.proofs.FieldSteps.{count-true, true-count, in_field, field_is}
 use Rattle.vm_values.proofs.Steps.{and_then_some, map_some, if_some}
 use Rattle.vm_values.specs.Fields.{field_count, FieldIs, is_count}
-use Rattle.vm_engine.specs.Range.{Range, IsRange}
-use Rattle.vm_engine.specs.Values.RangeValues.{StatesRange, range_found}
+use Rattle.vm_ranges.specs.Range.{Range, IsRange}
+use Rattle.vm_ranges.specs.RangeValues.{StatesRange, range_found}
 use Rattle.vm_allocator.specs.Values.AllocatorValues.{StatesTree}
 use Rattle.vm_allocator.specs.Checks.AllocatorChecks.{root_found, parts_found}
-use Rattle.vm_engine.proofs.Reading.ReadRanges as ranges
+use Rattle.vm_ranges.proofs.ReadRanges as ranges
 
 -- the value is an object of this space and a tree alone: what stands for the root
 pub record HasParts (d : Data) (space : Range) (Root : Data → Type 0) : Type 0 where

@@ -2,14 +2,14 @@
 use Rattle.std.proofs.Common.{◌≡◌, Some, Err, refl, sym, ap, ◌∙◌, subst}
 use Rattle.std.proofs.lemmas.Option.{same_Some}
 use Rattle.serde_json.specs.Data.{Data}
-use Rattle.vm_engine.specs.Range.{Range, IsRange}
-use Rattle.vm_engine.specs.Address.{AddressState, IsAddressState}
+use Rattle.vm_ranges.specs.Range.{Range, IsRange}
+use Rattle.vm_engine.specs.Address.{IsAddressState}
 use Rattle.vm_engine.specs.Tree.Shape.{Shape, blocks}
 use Rattle.vm_engine.specs.Tree.SpaceTree.{space_of, IsSpaceTree}
-use Rattle.vm_engine.specs.Saving.{Reads}
+use Rattle.vm_ranges.specs.Saving.{Reads}
 use Rattle.vm_engine.specs.Values.TreeValues.{StatesSpaceTree}
-use Rattle.vm_engine.specs.declared.saved.ValueError.{ValueError}
-use Rattle.vm_engine.specs.declared.saved.ValueError.TheVariants.{NotAState, OutOfMemory}
+use Rattle.vm_ranges.specs.declared.saved.ValueError.{ValueError}
+use Rattle.vm_ranges.specs.declared.saved.ValueError.TheVariants.{NotAState, OutOfMemory}
 use Rattle.vm_engine.proofs.Nodes.Spaces.{space_tiled, state_of_tree}
 use Rattle.vm_engine.proofs.Reading.OneTree.{one_shape}
 use Rattle.vm_engine.proofs.Reading.ReadSpaces.{stated_tree}

@@ -5,10 +5,10 @@ use Rattle.serde_json.specs.Find.{get}
 use Rattle.vm_values.proofs.FieldSteps.{field_is}
 use Rattle.vm_values.proofs.Steps.{and_then_some}
 use Rattle.vm_values.specs.Fields.{field_count}
-use Rattle.vm_engine.specs.Range.{Range}
+use Rattle.vm_ranges.specs.Range.{Range}
 use Rattle.vm_engine.specs.Tree.Shape.{blocks}
 use Rattle.vm_engine.specs.Tree.SpaceTree.{space_of}
-use Rattle.vm_engine.specs.Values.RangeValues.{StatesRange}
+use Rattle.vm_ranges.specs.RangeValues.{StatesRange}
 use Rattle.vm_engine.specs.Values.TreeValues.{StatesSpaceTree}
 use Rattle.vm_allocator.specs.Allocator.{SpaceInTree}
 use Rattle.vm_allocator.specs.Values.AllocatorValues.{StatesTree, StatesAllocator}

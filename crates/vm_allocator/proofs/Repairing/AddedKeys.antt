@@ -2,18 +2,18 @@
 use Rattle.std.proofs.Common.{◌≡◌, ◌≢◌, ◌⊎◌, ℕ, ◌+◌, ◌-◌, ◌<◌, ◌≤◌, List, [], ◌∷◌, ◌++◌, length, refl, sym, ap, ◌∙◌, subst, arith, inl, inr, ⊎_elim, Result, Ok, Err}
 use Rattle.std.proofs.lemmas.Bool.{le-ltb}
 use Rattle.std.proofs.lemmas.List.{append_assoc, append-nil, length-append}
-use Rattle.vm_engine.specs.Range.{Range, MAX, IsIn, span, address_count}
-use Rattle.vm_engine.specs.Alignment.{IsAlignment}
+use Rattle.vm_ranges.specs.Range.{Range, MAX, IsIn, span, address_count}
+use Rattle.vm_ranges.specs.Alignment.{IsAlignment}
 use Rattle.vm_engine.specs.Address.{AddressState, IsPlace, AreClear, StandInOrder, IsAddressState, with_range}
-use Rattle.vm_engine.specs.Request.{Request, request_for, IsRequest, IsStartAligned}
+use Rattle.vm_ranges.specs.Request.{Request, request_for, IsRequest, IsStartAligned}
 use Rattle.vm_engine.specs.Answer.{FEWEST_TOO_DEEP, IsChosen, Takes, Allocates}
 use Rattle.vm_engine.specs.Tree.Blocks.{range_if_held}
 use Rattle.vm_allocator.specs.Checks.RepairChecks.{adding, CanAdd}
-use Rattle.vm_engine.specs.declared.allocation_engine.NodeState.{NodeState}
-use Rattle.vm_engine.specs.declared.allocation_engine.NodeState.TheVariants.{Free, Allocated}
-use Rattle.vm_engine.specs.declared.error.Error.{Error}
-use Rattle.vm_engine.specs.declared.error.Error.TheVariants.{OutOfMemory}
-use Rattle.vm_engine.specs.declared.constraint.AllocPolicy.TheVariants.{ExactMatch}
+use Rattle.vm_ranges.specs.declared.state.NodeState.{NodeState}
+use Rattle.vm_ranges.specs.declared.state.NodeState.TheVariants.{Free, Allocated}
+use Rattle.vm_ranges.specs.declared.error.Error.{Error}
+use Rattle.vm_ranges.specs.declared.error.Error.TheVariants.{OutOfMemory}
+use Rattle.vm_ranges.specs.declared.constraint.AllocPolicy.TheVariants.{ExactMatch}
 use Rattle.vm_engine.proofs.Blocks.PlainWords.{IsHeld, IsHeldAddress, all_miss}
 use Rattle.vm_engine.proofs.Blocks.HeldSets.{held_lies, later_above}
 use Rattle.vm_engine.proofs.Answers.Filling.{otherwise, allocates_chosen}

@@ -10,7 +10,7 @@ use Rattle.vm_allocator.specs.Checks.RepairChecks.{extended, row_of_node, row_fo
 use Rattle.vm_allocator.specs.declared.saved.repaired.Row.{Row}
 use Rattle.vm_engine.proofs.Reading.Fronts.{after_three, cut_in_three}
 use Rattle.vm_engine.proofs.Reading.ReadNodes.{over_sides, fork_is}
-use Rattle.vm_engine.proofs.Reading.ReadTrees.{null_of, not_null}
+use Rattle.vm_values.proofs.Nulls.{null_of, not_null}
 
 -- nodes that the value has, whose blocks stand between two rows
 pub record IsFound (end depth : ℕ) (d : Data) (row last : Row) (s : Shape) : Type 0 where

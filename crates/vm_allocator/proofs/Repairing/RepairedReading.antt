@@ -1,10 +1,10 @@
 -- The check of a whole value finds just the values that state an allocator when read with repairs.
-use Rattle.std.proofs.Common.{◌≡◌, ℕ, ◌+◌, ◌-◌, ◌≤◌, true, cond, List, [], length, Option, Some, None, is_some, codes, refl, sym, ap, ◌∙◌, subst, arith, true≢false, Ok}
+use Rattle.std.proofs.Common.{◌≡◌, ℕ, ◌+◌, ◌-◌, ◌≤◌, true, cond, List, [], length, Some, None, is_some, codes, refl, sym, ap, ◌∙◌, subst, arith, true≢false, Ok}
 use Rattle.std.proofs.lemmas.Option.{same_Some}
 use Rattle.serde_json.specs.Data.{Data}
 use Rattle.vm_values.proofs.FieldSteps.{field_map}
 use Rattle.vm_values.proofs.Steps.{and_then_some, if_some}
-use Rattle.vm_engine.specs.Range.{Range, IsRange, address_count}
+use Rattle.vm_ranges.specs.Range.{Range, IsRange, address_count}
 use Rattle.vm_engine.specs.Address.{AddressState, StandInOrder, IsAddressState}
 use Rattle.vm_engine.specs.Answer.{FEWEST_TOO_DEEP, Makes}
 use Rattle.vm_engine.specs.Tree.Blocks.{held_of, TilesSpace}
@@ -15,11 +15,12 @@ use Rattle.vm_allocator.specs.Values.AllocatorValues.{StatesTree, StatesAllocato
 use Rattle.vm_allocator.specs.Checks.AllocatorChecks.{parts_found}
 use Rattle.vm_allocator.specs.Values.RepairedValues.{MAX_HEIGHT_REPAIRED, StatesRepaired}
 use Rattle.vm_allocator.specs.Checks.RepairChecks.{row_found, row_of, repaired_found, adding, CanAdd, CanAddNodes, AddsNodes}
-use Rattle.vm_engine.specs.declared.allocation_engine.NodeState.TheVariants.{Allocated}
+use Rattle.vm_ranges.specs.declared.state.NodeState.TheVariants.{Allocated}
 use Rattle.vm_allocator.specs.declared.saved.repaired.Row.{Row}
 use Rattle.vm_engine.proofs.Answers.AddressAnswers.{made_is}
 use Rattle.vm_engine.proofs.Blocks.BlockStates.{tiles_keys, keys_in_order}
 use Rattle.vm_engine.proofs.Reading.ReadNodes.{shape_nodes, one_tree, keys_stated}
+use Rattle.vm_engine.proofs.Reading.ReadSpaces.{some_of}
 use Rattle.vm_allocator.proofs.Reading.AllocatorParts.{HasParts, parts_stated, parts_are, one_root}
 use Rattle.vm_allocator.proofs.Reading.ReadAllocators.{root_of, stated_ends}
 use Rattle.vm_allocator.proofs.Repairing.Rows.{in_row, row_in}
@@ -64,10 +65,6 @@ checked_root d space root last parts e =
         range = (parts_are d space (λ v. HasNodes v f.0) all).3;
       },
     )
-
-some_of : {A : Type 0} (o : Option A) → is_some o ≡ true → (a : A) × (o ≡ Some a)
-some_of None e = absurd (cc)
-some_of (Some a) e = (a, refl)
 
 checks : (d : Data) (space : Range) (root : Data) → repaired_found d ≡ Some (space, root) → (s : Shape) × IsChecked d space root s
 checks d space root e =

@@ -3,8 +3,8 @@ use Rattle.std.specs.Prelude.{◌≡◌, if◌then◌else◌, Option, Some, None
 use Rattle.serde_json.specs.Data.{Data}
 use Rattle.serde_json.specs.Find.{get}
 use Rattle.vm_values.specs.Fields.{field_count, is_count}
-use Rattle.vm_engine.specs.Range.{Range}
-use Rattle.vm_engine.specs.Values.RangeValues.{range_found}
+use Rattle.vm_ranges.specs.Range.{Range}
+use Rattle.vm_ranges.specs.RangeValues.{range_found}
 
 -- an allocator's two fields, and no other
 pub record AllocatorParts (d space root : Data) : Type 0 where

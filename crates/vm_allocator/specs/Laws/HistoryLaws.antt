@@ -3,18 +3,18 @@ use Rattle.std.specs.Prelude.{◌≡◌, ◌≢◌, ℕ, ◌+◌, ◌-◌, ◌<�
 use Rattle.std.specs.List.{All, Contains}
 use Rattle.std.specs.List.Sorted.{IsPermutation}
 use Rattle.serde_json.specs.Data.{Data}
-use Rattle.vm_engine.specs.Range.{Range, MAX, IsIn, span}
+use Rattle.vm_ranges.specs.Range.{Range, MAX, IsIn, span}
 use Rattle.vm_engine.specs.Address.{AddressState, AreClear, IsPlace, IsLeastPlace, IsGreatestPlace, IsAddressState}
-use Rattle.vm_engine.specs.Request.{Request, request_for, IsRequest, MakesConstraint}
+use Rattle.vm_ranges.specs.Request.{Request, request_for, IsRequest, MakesConstraint}
 use Rattle.vm_engine.specs.Answer.{IsChosen, Takes, Allocates, Frees, Makes}
 use Rattle.vm_engine.specs.Laws.AddressLaws.{AgreeButForSplits, LieApart}
-use Rattle.vm_engine.specs.Cloning.{Clones}
+use Rattle.vm_ranges.specs.Cloning.{Clones}
 use Rattle.vm_engine.specs.Comparison.{AreEqual}
 use Rattle.vm_allocator.specs.Histories.AddressHistories.{Call, Cloning, Asked, asked_by, RunsOutOfMemory, IsHistoryFrom, IsReached, Reached, WasGiven, WasStated, releases}
-use Rattle.vm_engine.specs.declared.error.Error.{Error}
-use Rattle.vm_engine.specs.declared.error.Error.TheVariants.{Overflow, ResourceNotAvailable, InvalidStateTransition, OutOfMemory}
-use Rattle.vm_engine.specs.declared.allocation_engine.NodeState.TheVariants.{Allocated}
-use Rattle.vm_engine.specs.declared.constraint.AllocPolicy.TheVariants.{FirstMatch, LastMatch, ExactMatch}
+use Rattle.vm_ranges.specs.declared.error.Error.{Error}
+use Rattle.vm_ranges.specs.declared.error.Error.TheVariants.{Overflow, ResourceNotAvailable, InvalidStateTransition, OutOfMemory}
+use Rattle.vm_ranges.specs.declared.state.NodeState.TheVariants.{Allocated}
+use Rattle.vm_ranges.specs.declared.constraint.AllocPolicy.TheVariants.{FirstMatch, LastMatch, ExactMatch}
 
 -- a range that FirstMatch gave starts at the least place of the state before
 abbrev pub FirstIsLeast : Type 0

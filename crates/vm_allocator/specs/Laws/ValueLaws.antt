@@ -7,9 +7,9 @@ use Rattle.vm_engine.specs.Address.{AddressState}
 use Rattle.vm_engine.specs.Answer.{FEWEST_TOO_DEEP}
 use Rattle.vm_allocator.specs.Values.AllocatorValues.{StatesAddresses}
 use Rattle.vm_allocator.specs.Values.RepairedValues.{StatesRepaired}
-use Rattle.vm_engine.specs.Saving.{Saves, Reads}
-use Rattle.vm_engine.specs.declared.saved.ValueError.{ValueError}
-use Rattle.vm_engine.specs.declared.saved.ValueError.TheVariants.{OutOfMemory}
+use Rattle.vm_ranges.specs.Saving.{Saves, Reads}
+use Rattle.vm_ranges.specs.declared.saved.ValueError.{ValueError}
+use Rattle.vm_ranges.specs.declared.saved.ValueError.TheVariants.{OutOfMemory}
 
 -- a value states one object at most
 abbrev pub StatesOne : {X : Type 0} → (Data → X → Type 0) → Type 0

@@ -7,7 +7,7 @@ use Rattle.vm_engine.specs.Address.{AddressState}
 use Rattle.vm_engine.specs.Answer.{FEWEST_TOO_DEEP}
 use Rattle.vm_engine.specs.Tree.Blocks.{held_of, AreKeysIn, AreBelowMax}
 use Rattle.vm_engine.specs.Tree.Shape.{Shape, blocks, height_of}
-use Rattle.vm_engine.specs.Values.RangeValues.{StatesRange}
+use Rattle.vm_ranges.specs.RangeValues.{StatesRange}
 use Rattle.vm_engine.specs.Values.TreeValues.{HasNodes}
 use Rattle.vm_allocator.specs.Values.AllocatorValues.{StatesTree}
 

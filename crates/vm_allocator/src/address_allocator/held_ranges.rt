@@ -4,8 +4,8 @@ ghost use Rattle.std.specs.List.{Contains};
 ghost use Rattle.vm_allocator.specs.Allocator.{state_of};
 
 use super::AddressAllocator;
-use vm_engine::RangeInclusive;
 use vm_engine::allocation_engine::HeldRanges;
+use vm_ranges::RangeInclusive;
 
 impl AddressAllocator {
     /// The held ranges, from the lowest to the highest. It takes no memory.

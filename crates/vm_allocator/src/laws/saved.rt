@@ -1,5 +1,5 @@
 //! Laws of saved values.
-ghost use Rattle.vm_engine.specs.Values.RangeValues.{StatesRange, StatesState};
+ghost use Rattle.vm_ranges.specs.RangeValues.{StatesRange, StatesState};
 ghost use Rattle.vm_allocator.specs.Values.AllocatorValues.{StatesAllocator};
 ghost use Rattle.vm_allocator.specs.Values.RepairedValues.{StatesRepaired};
 ghost use Rattle.vm_ids.specs.IdValues.{StatesIds};

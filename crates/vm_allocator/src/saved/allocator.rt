@@ -2,7 +2,7 @@
 ghost use Rattle.std.specs.Prelude.{◌≡◌, IfOk, option_map};
 ghost use Rattle.serde_json.specs.View.{view};
 ghost use Rattle.vm_engine.specs.Address.{IsAddressState};
-ghost use Rattle.vm_engine.specs.Saving.{Saves, Reads};
+ghost use Rattle.vm_ranges.specs.Saving.{Saves, Reads};
 ghost use Rattle.vm_allocator.specs.Allocator.{state_of, made_state};
 ghost use Rattle.vm_allocator.specs.Values.AllocatorValues.{StatesAllocator, StatesAddresses};
 ghost use Rattle.vm_allocator.specs.Checks.AllocatorChecks.{AllocatorParts, parts_found, root_found};
@@ -11,7 +11,7 @@ use crate::address_allocator::AddressAllocator;
 use serde_json::{Value, json};
 use std::alloc::{AllocError, Global};
 use vm_engine::allocation_engine::IntervalTree;
-use vm_engine::{RangeInclusive, Result, ValueError, range_in};
+use vm_ranges::{RangeInclusive, Result, ValueError, range_in};
 use vm_values::has_fields;
 
 impl AddressAllocator {

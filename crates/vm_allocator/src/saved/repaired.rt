@@ -5,7 +5,7 @@ ghost use Rattle.serde_json.specs.View.{view};
 ghost use Rattle.vm_engine.specs.Address.{IsAddressState};
 ghost use Rattle.vm_allocator.specs.Allocator.{state_of, made_state};
 ghost use Rattle.vm_engine.specs.Tree.Blocks.{range_if_held};
-ghost use Rattle.vm_engine.specs.Saving.{Reads};
+ghost use Rattle.vm_ranges.specs.Saving.{Reads};
 ghost use Rattle.vm_allocator.specs.Values.RepairedValues.{StatesRepaired};
 ghost use Rattle.vm_allocator.specs.Checks.RepairChecks.{extended, row_found, repaired_found, adding, CanAdd, CanAddNodes, AddsNodes};
 
@@ -13,8 +13,8 @@ use super::allocator::{SavedAllocator, parts_of};
 use crate::address_allocator::AddressAllocator;
 use serde_json::Value;
 use std::alloc::Global;
-use vm_engine::allocation_engine::NodeState;
-use vm_engine::{AllocPolicy, Error, RangeInclusive, Result, ValueError, node_of};
+use vm_engine::node_of;
+use vm_ranges::{AllocPolicy, Error, NodeState, RangeInclusive, Result, ValueError};
 
 /// No node is nested deeper, since no tree of the Rust crate is higher.
 const MOST_NESTED: u64 = 50;

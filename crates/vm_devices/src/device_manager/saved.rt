@@ -2,7 +2,7 @@
 //! come from a stranger; it is read only where all of this fits together.
 ghost use Rattle.std.specs.Prelude.{◌≡◌, IfOk, option_map};
 ghost use Rattle.serde_json.specs.View.{view, items_view};
-ghost use Rattle.vm_engine.specs.Saving.{Saves};
+ghost use Rattle.vm_ranges.specs.Saving.{Saves};
 ghost use Rattle.vm_devices.specs.Devices.{IsDeviceState};
 ghost use Rattle.vm_devices.specs.Saved.{StatesManager, ReadsInParts};
 ghost use Rattle.vm_devices.specs.SavedChecks.{manager_found, ManagerParts};

@@ -1,16 +1,16 @@
 -- What one call of an address allocator does to its state.
 use Rattle.std.proofs.Common.{◌≡◌, ◌≢◌, ℕ, ◌+◌, ◌-◌, ◌<◌, ◌≤◌, ◌⊎◌, ◌↔◌, List, [], refl, sym, ap, ◌∙◌, arith, inl, inr, ⊎_elim, subst, Result, Ok}
 use Rattle.std.specs.List.{Contains}
-use Rattle.vm_engine.specs.Range.{Range, MAX, Overlaps, span}
+use Rattle.vm_ranges.specs.Range.{Range, MAX, Overlaps, span}
 use Rattle.vm_engine.specs.Address.{AddressState, IsPlace, IsAddressState, holding, releasing, with_range, without_range}
-use Rattle.vm_engine.specs.Request.{Request}
+use Rattle.vm_ranges.specs.Request.{Request}
 use Rattle.vm_engine.specs.Answer.{Takes, Allocates, Frees, Makes}
 use Rattle.vm_engine.specs.Laws.AddressLaws.{HeldLieApart, StateIsKept, AddsRange, AllocatingAddsRange, FreeingDropsRange, FreeingUndoes}
-use Rattle.vm_engine.specs.declared.error.Error.{Error}
-use Rattle.vm_engine.specs.declared.error.Error.TheVariants.{Overflow, OutOfMemory}
+use Rattle.vm_ranges.specs.declared.error.Error.{Error}
+use Rattle.vm_ranges.specs.declared.error.Error.TheVariants.{Overflow, OutOfMemory}
 use Rattle.vm_engine.proofs.Blocks.PlainWords.{IsHeld, contains_held, held_contains, none_holds}
 use Rattle.vm_engine.proofs.Answers.Outcomes.{IsRefused, allocates_outcome}
-use Rattle.vm_engine.proofs.Numbers.RangeCalls.{covers}
+use Rattle.vm_ranges.proofs.RangeCalls.{covers}
 use Rattle.vm_engine.proofs.Answers.Once.{chosen_place}
 use Rattle.vm_engine.proofs.Blocks.HeldChanges.{Misses, in_order_with, held_with, held_now, still_held_with, in_order_without, without_with, held_without, not_held_without, others_held}
 use Rattle.vm_engine.proofs.Blocks.HeldSets.{held_lies, one_held}

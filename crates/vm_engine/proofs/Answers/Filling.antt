@@ -1,15 +1,15 @@
 -- What fills its gap, and what is held, is never refused.
 use Rattle.std.proofs.Common.{◌≡◌, ℕ, ◌+◌, ◌-◌, ◌<◌, ◌≤◌, arith, refl, inl, ⊎_elim, subst, Result, Err, IsOk}
 use Rattle.std.specs.List.{Contains}
-use Rattle.vm_engine.specs.Cases.{IfElse, Unless}
-use Rattle.vm_engine.specs.Range.{Range, MAX, IsIn, span}
+use Rattle.vm_ranges.specs.Cases.{IfElse, Unless}
+use Rattle.vm_ranges.specs.Range.{Range, MAX, IsIn, span}
 use Rattle.vm_engine.specs.Address.{AddressState, AreClear, IsPlace}
-use Rattle.vm_engine.specs.Request.{Request, request_for, IsRequest, ByConstraint, MakesConstraint}
+use Rattle.vm_ranges.specs.Request.{Request, request_for, IsRequest, ByConstraint, MakesConstraint}
 use Rattle.vm_engine.specs.Answer.{IsChosen, ByStart, ByExactStart, ByPlace, Takes, Grants, Allocates, FillsGap, Frees}
-use Rattle.vm_engine.specs.declared.error.Error.{Error}
-use Rattle.vm_engine.specs.declared.error.Error.TheVariants.{Overflow}
-use Rattle.vm_engine.specs.declared.constraint.AllocPolicy.{AllocPolicy}
-use Rattle.vm_engine.specs.declared.constraint.AllocPolicy.TheVariants.{FirstMatch, LastMatch, ExactMatch}
+use Rattle.vm_ranges.specs.declared.error.Error.{Error}
+use Rattle.vm_ranges.specs.declared.error.Error.TheVariants.{Overflow}
+use Rattle.vm_ranges.specs.declared.constraint.AllocPolicy.{AllocPolicy}
+use Rattle.vm_ranges.specs.declared.constraint.AllocPolicy.TheVariants.{FirstMatch, LastMatch, ExactMatch}
 use Rattle.vm_engine.proofs.Blocks.PlainWords.{held_contains, none_holds, held_address}
 use Rattle.vm_engine.proofs.Answers.Once.{chosen_once, chosen_place}
 

@@ -1,11 +1,11 @@
 -- The state of blocks is one of an allocator.
 use Rattle.std.proofs.Common.{ℕ, ◌+◌, ◌≤◌, List, [], ◌∷◌, ◌++◌, arith, cond, eqb, true, false}
-use Rattle.vm_engine.specs.Range.{Range, IsRange}
+use Rattle.vm_ranges.specs.Range.{Range, IsRange}
 use Rattle.vm_engine.specs.Tree.Block.{Block}
 use Rattle.vm_engine.specs.Address.{without_range, StandInOrder, IsAddressState}
 use Rattle.vm_engine.specs.Tree.Blocks.{Tiles, range_if_held, held_of, blocks_state, TilesSpace, AreKeysIn, IsTiling, AreBelowMax}
-use Rattle.vm_engine.specs.declared.allocation_engine.NodeState.{NodeState}
-use Rattle.vm_engine.specs.declared.allocation_engine.NodeState.TheVariants.{Free, Allocated}
+use Rattle.vm_ranges.specs.declared.state.NodeState.{NodeState}
+use Rattle.vm_ranges.specs.declared.state.NodeState.TheVariants.{Free, Allocated}
 use Rattle.vm_engine.proofs.Blocks.Gaps.{tiles_end}
 
 pub below_without : (r : Range) (hs : List Range) → AreBelowMax hs → AreBelowMax (without_range r hs)

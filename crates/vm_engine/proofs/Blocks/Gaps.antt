@@ -1,12 +1,12 @@
 -- Clear addresses in a row lie in one free block.
 use Rattle.std.proofs.Common.{◌≡◌, ℕ, ◌+◌, ◌<◌, ◌≤◌, List, [], ◌∷◌, ◌++◌, refl, sym, ◌∙◌, arith, inl, inr, ◌⊎◌, ⊎_elim}
 use Rattle.std.proofs.lemmas.Bool.{cases_lt}
-use Rattle.vm_engine.specs.Range.{Range, IsIn}
+use Rattle.vm_ranges.specs.Range.{Range, IsIn}
 use Rattle.vm_engine.specs.Tree.Block.{Block}
 use Rattle.vm_engine.specs.Tree.Blocks.{NotBothFree, Tiles, range_if_held, held_of}
 use Rattle.vm_engine.proofs.Blocks.PlainWords.{IsHeldAddress}
-use Rattle.vm_engine.specs.declared.allocation_engine.NodeState.{NodeState}
-use Rattle.vm_engine.specs.declared.allocation_engine.NodeState.TheVariants.{Free, Allocated}
+use Rattle.vm_ranges.specs.declared.state.NodeState.{NodeState}
+use Rattle.vm_ranges.specs.declared.state.NodeState.TheVariants.{Free, Allocated}
 
 pub state_cases : (st : NodeState) → (st ≡ Free) ⊎ (st ≡ Allocated)
 state_cases Free = inl refl

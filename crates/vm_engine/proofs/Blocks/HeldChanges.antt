@@ -1,7 +1,7 @@
 -- Held ranges with one more, and with one less.
 use Rattle.std.proofs.Common.{◌≡◌, ℕ, ◌+◌, ◌<◌, ◌≤◌, ◌⊎◌, List, [], ◌∷◌, refl, sym, ap, ◌∙◌, arith, inl, inr, ⊎_elim, eq-eqb}
 use Rattle.std.proofs.lemmas.Bool.{cases_lt, lt-ltb, le-ltb, cases_eq, ne_eqb}
-use Rattle.vm_engine.specs.Range.{Range, MAX, IsIn}
+use Rattle.vm_ranges.specs.Range.{Range, MAX, IsIn}
 use Rattle.vm_engine.specs.Address.{with_range, without_range, StandInOrder}
 use Rattle.vm_engine.proofs.Blocks.PlainWords.{IsHeldAddress, IsHeld}
 use Rattle.vm_engine.proofs.Blocks.BlockStates.{in_order_from}

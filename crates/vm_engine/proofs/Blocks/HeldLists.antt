@@ -9,15 +9,14 @@ use Rattle.std.specs.Bool.{Decides}
 use Rattle.std.specs.Cmp.{IsEquivalence}
 use Rattle.std.specs.List.{Contains}
 use Rattle.std.specs.Ordering.{eq_by_cmp}
-use Rattle.vm_engine.specs.Range.{Range}
-use Rattle.vm_engine.specs.RangeOrder.{range_cmp}
+use Rattle.vm_ranges.specs.Range.{Range}
+use Rattle.vm_ranges.specs.RangeOrder.{range_cmp, range_cmp-total}
 use Rattle.vm_engine.specs.Address.{StandInOrder}
-use Rattle.vm_engine.specs.Comparison.{range_cmp-total}
 use Rattle.vm_engine.specs.Laws.AddressLaws.{CountTellsAll}
-use Rattle.vm_engine.proofs.Numbers.Listed.{Differ, AreAtMost, listed_is, each_listed}
+use Rattle.vm_ranges.proofs.Listed.{Differ, AreAtMost, listed_is, each_listed}
 use Rattle.vm_engine.proofs.Blocks.PlainWords.{held_contains}
 use Rattle.vm_engine.proofs.Blocks.HeldSets.{later_above}
-use Rattle.vm_engine.proofs.Comparing.Orders.{range_cmp-exact}
+use Rattle.vm_ranges.proofs.RangeOrders.{range_cmp-exact}
 
 abbrev same : Range → Range → Bool
 same = eq_by_cmp range_cmp

@@ -1,6 +1,6 @@
 -- Held ranges in order, as a set.
 use Rattle.std.proofs.Common.{◌≡◌, ℕ, ◌+◌, ◌<◌, ◌≤◌, ◌↔◌, List, [], ◌∷◌, refl, sym, ap, ◌∙◌, arith, inl, inr, ⊎_elim, subst}
-use Rattle.vm_engine.specs.Range.{Range, MAX, IsIn}
+use Rattle.vm_ranges.specs.Range.{Range, MAX, IsIn}
 use Rattle.vm_engine.specs.Address.{StandInOrder}
 use Rattle.vm_engine.proofs.Blocks.PlainWords.{IsHeld}
 

@@ -1,11 +1,11 @@
 -- One state has one list of blocks.
 use Rattle.std.proofs.Common.{◌≡◌, ℕ, ◌+◌, ◌*◌, ◌≤◌, List, [], ◌∷◌, ◌++◌, length, ap, ◌∙◌, arith, ⊎_elim}
-use Rattle.vm_engine.specs.Range.{Range}
+use Rattle.vm_ranges.specs.Range.{Range}
 use Rattle.vm_engine.specs.Tree.Block.{Block}
 use Rattle.vm_engine.specs.Address.{AddressState}
 use Rattle.vm_engine.specs.Tree.Blocks.{Tiles, range_if_held, held_of, IsBlocksOf}
-use Rattle.vm_engine.specs.declared.allocation_engine.NodeState.{NodeState}
-use Rattle.vm_engine.specs.declared.allocation_engine.NodeState.TheVariants.{Free, Allocated}
+use Rattle.vm_ranges.specs.declared.state.NodeState.{NodeState}
+use Rattle.vm_ranges.specs.declared.state.NodeState.TheVariants.{Free, Allocated}
 use Rattle.vm_engine.proofs.Blocks.Gaps.{state_cases, not_both}
 
 pub held_of-free : (b : Block) (bs : List Block) → b.state ≡ Free → held_of (b ∷ bs) ≡ held_of bs
@@ -13,12 +13,6 @@ held_of-free b bs e = ap (λ (s : NodeState). range_if_held s b.key ++ held_of b
 
 pub held_of-held : (b : Block) (bs : List Block) → b.state ≡ Allocated → held_of (b ∷ bs) ≡ b.key ∷ held_of bs
 held_of-held b bs e = ap (λ (s : NodeState). range_if_held s b.key ++ held_of bs) e
-
-pub same_range : (x y : Range) → x.start ≡ y.start → x.end ≡ y.end → x ≡ y
-same_range x y p q =
-    let f : ℕ → ℕ → Range = λ s e. record { start = s; end = e } in
-    let g : f x.start x.end ≡ f y.start x.end = ap (λ v. f v x.end) p in
-    g ∙ ap (λ v. f y.start v) q
 
 pub same_block : (x y : Block) → x.key ≡ y.key → x.state ≡ y.state → x ≡ y
 same_block x y p q =

@@ -3,7 +3,7 @@ use Rattle.std.proofs.Common.{◌≡◌, ℕ, ◌<◌, zero, suc, List, [], ◌�
 use Rattle.std.specs.List.{All, Contains}
 use Rattle.std.specs.Prelude.{slice_index_or}
 use Rattle.std.proofs.lemmas.List.Elements.{All-head, All-tail, All-cons, All-nil}
-use Rattle.vm_engine.specs.Range.{Range, IsIn}
+use Rattle.vm_ranges.specs.Range.{Range, IsIn}
 
 -- an address of one of the ranges
 abbrev pub IsHeldAddress : List Range → ℕ → Type 0

@@ -1,15 +1,15 @@
 -- A block that goes, or that others replace.
 use Rattle.std.proofs.Common.{◌≡◌, ℕ, ◌+◌, ◌<◌, ◌≤◌, true, false, cond, eqb, List, [], ◌∷◌, ◌++◌, refl, ap, ◌∙◌, subst, sym, append_assoc, arith, inl, inr, ◌⊎◌, Some, None, ⊎_elim}
 use Rattle.std.proofs.lemmas.Bool.{eq-eqb, ne_eqb, eqb-true, and_parts}
-use Rattle.vm_engine.specs.Range.{Range}
-use Rattle.vm_engine.specs.RangeOrder.{Before, same_range}
+use Rattle.vm_ranges.specs.Range.{Range}
+use Rattle.vm_ranges.specs.RangeOrder.{Before, same_range}
 use Rattle.vm_engine.specs.Tree.Block.{Block}
 use Rattle.vm_engine.specs.Tree.BlockList.{IsOrderedFrom, replace_block, find_key}
 use Rattle.vm_engine.specs.Tree.Shape.{Shape, Fork, blocks, IsTree}
 use Rattle.vm_engine.specs.Engine.Changes.{LeavesIfAbsent}
 use Rattle.vm_engine.specs.declared.allocation_engine.node.kept.Change.{Change}
 use Rattle.vm_engine.specs.declared.allocation_engine.node.kept.Change.TheVariants.{Nothing}
-use Rattle.vm_engine.proofs.Numbers.RangeCalls.{before_parts, starts_low}
+use Rattle.vm_ranges.proofs.RangeCalls.{before_parts, starts_low}
 use Rattle.vm_engine.proofs.Blocks.BlockOrder.{ordered_middle, ordered_weaken, ordered_drop}
 
 pub same_range_start : (a b : Range) → (a.start ≡ b.start → ⊥) → same_range a b ≡ false

@@ -2,14 +2,14 @@
 use Rattle.std.proofs.Common.{◌≡◌, ℕ, ◌+◌, ◌-◌, ◌*◌, ◌%◌, ◌^◌, ◌<◌, ◌≤◌, ap, ◌∙◌, arith, ⊎_elim, subst, Ok, Err}
 use Rattle.std.proofs.lemmas.Nat.{pow-add}
 use Rattle.std.proofs.Math.Nat.{mul-add-mod_self_right, zero-mod}
-use Rattle.vm_engine.specs.Range.{Range, MAX}
+use Rattle.vm_ranges.specs.Range.{Range, MAX}
 use Rattle.vm_engine.specs.Tree.Block.{Block}
-use Rattle.vm_engine.specs.Alignment.{IsAlignment, AlignsDown, AlignsUp, IsGreatestMultiple, IsLeastMultiple}
+use Rattle.vm_ranges.specs.Alignment.{IsAlignment, AlignsDown, AlignsUp, IsGreatestMultiple, IsLeastMultiple}
 use Rattle.vm_engine.specs.Engine.Fit.{HasNoFit, IsLeastFit, IsGreatestFit}
-use Rattle.vm_engine.specs.declared.error.Error.{Error}
-use Rattle.vm_engine.specs.declared.allocation_engine.NodeState.{NodeState}
-use Rattle.vm_engine.specs.declared.allocation_engine.NodeState.TheVariants.{Free, Allocated}
-use Rattle.vm_engine.proofs.Numbers.Power.{gap, alignment_pos}
+use Rattle.vm_ranges.specs.declared.error.Error.{Error}
+use Rattle.vm_ranges.specs.declared.state.NodeState.{NodeState}
+use Rattle.vm_ranges.specs.declared.state.NodeState.TheVariants.{Free, Allocated}
+use Rattle.vm_ranges.proofs.Power.{gap, alignment_pos}
 
 -- each alignment divides the number past MAX
 whole : (a : ℕ) → IsAlignment a → 18446744073709551616 % a ≡ 0

@@ -1,21 +1,22 @@
 -- From the block with a named start to the answer of a request.
 use Rattle.std.proofs.Common.{◌≡◌, ℕ, ◌+◌, ◌-◌, ◌%◌, ◌<◌, ◌≤◌, ◌∷◌, ◌++◌, Some, None, refl, sym, ap, ◌∙◌, arith, inl, inr, ⊎_elim, subst, Result, Ok, Err}
-use Rattle.vm_engine.specs.Range.{Range, MAX, span, at_address}
+use Rattle.vm_ranges.specs.Range.{Range, MAX, span, at_address}
 use Rattle.vm_engine.specs.Tree.Block.{Block, free_block}
 use Rattle.vm_engine.specs.Address.{AddressState}
-use Rattle.vm_engine.specs.Request.{Request, IsRequest, IsStartAligned}
+use Rattle.vm_ranges.specs.Request.{Request, IsRequest, IsStartAligned}
 use Rattle.vm_engine.specs.Answer.{Takes, Grants}
 use Rattle.vm_engine.specs.Tree.BlockList.{find_superset}
 use Rattle.vm_engine.specs.Tree.Shape.{Shape, blocks}
 use Rattle.vm_engine.specs.Tree.SpaceTree.{space_of, tree_state, IsSpaceTree, HoldingGrants, Chooses, ExactIn}
-use Rattle.vm_engine.specs.declared.error.Error.{Error}
-use Rattle.vm_engine.specs.declared.error.Error.TheVariants.{Overflow, ResourceNotAvailable, InvalidStateTransition}
-use Rattle.vm_engine.specs.declared.allocation_engine.NodeState.{NodeState}
-use Rattle.vm_engine.specs.declared.allocation_engine.NodeState.TheVariants.{Free, Allocated}
-use Rattle.vm_engine.specs.declared.constraint.AllocPolicy.{AllocPolicy}
-use Rattle.vm_engine.specs.declared.constraint.AllocPolicy.TheVariants.{ExactMatch}
+use Rattle.vm_ranges.specs.declared.error.Error.{Error}
+use Rattle.vm_ranges.specs.declared.error.Error.TheVariants.{Overflow, ResourceNotAvailable, InvalidStateTransition}
+use Rattle.vm_ranges.specs.declared.state.NodeState.{NodeState}
+use Rattle.vm_ranges.specs.declared.state.NodeState.TheVariants.{Free, Allocated}
+use Rattle.vm_ranges.specs.declared.constraint.AllocPolicy.{AllocPolicy}
+use Rattle.vm_ranges.specs.declared.constraint.AllocPolicy.TheVariants.{ExactMatch}
 use Rattle.vm_engine.specs.declared.allocation_engine.interval_tree.placing.Choice.{Choice}
-use Rattle.vm_engine.proofs.Blocks.OneList.{same_range, same_block}
+use Rattle.vm_engine.proofs.Blocks.OneList.{same_block}
+use Rattle.vm_ranges.proofs.RangeCalls.{same_range}
 use Rattle.vm_engine.proofs.Nodes.TreeEdits.{address_cut, address_missed}
 use Rattle.vm_engine.proofs.Answers.Requests.{with_policy}
 use Rattle.vm_engine.proofs.Choosing.NamedStart.{named, IsWithin, exact_at_max, exact_outside, exact_over, exact_held, exact_other, exact_short, exact_at_end, exact_taken}

@@ -3,23 +3,23 @@ use Rattle.std.proofs.Common.{◌≡◌, ℕ, ◌+◌, ◌-◌, ◌%◌, ◌<◌
 use Rattle.std.specs.List.{All}
 use Rattle.std.proofs.lemmas.List.Elements.{All-head, All-tail}
 use Rattle.std.proofs.lemmas.Bool.{cases_lt}
-use Rattle.vm_engine.specs.Cases.{IfElse, Unless}
-use Rattle.vm_engine.specs.Range.{Range, MAX, IsIn, span}
+use Rattle.vm_ranges.specs.Cases.{IfElse, Unless}
+use Rattle.vm_ranges.specs.Range.{Range, MAX, IsIn, span}
 use Rattle.vm_engine.specs.Tree.Block.{Block}
 use Rattle.vm_engine.specs.Address.{AddressState, AreClear, IsPlace}
-use Rattle.vm_engine.specs.Request.{Request, request_for}
+use Rattle.vm_ranges.specs.Request.{Request, request_for}
 use Rattle.vm_engine.specs.Answer.{IsChosen, ByStart, ByExactStart, ByPlace, Takes, Grants}
 use Rattle.vm_engine.specs.Tree.Blocks.{Tiles, held_of, blocks_state, TilesSpace}
-use Rattle.vm_engine.specs.declared.error.Error.{Error}
-use Rattle.vm_engine.specs.declared.error.Error.TheVariants.{Overflow, ResourceNotAvailable, InvalidStateTransition}
-use Rattle.vm_engine.specs.declared.allocation_engine.NodeState.{NodeState}
-use Rattle.vm_engine.specs.declared.allocation_engine.NodeState.TheVariants.{Free, Allocated}
-use Rattle.vm_engine.specs.declared.constraint.AllocPolicy.TheVariants.{ExactMatch}
+use Rattle.vm_ranges.specs.declared.error.Error.{Error}
+use Rattle.vm_ranges.specs.declared.error.Error.TheVariants.{Overflow, ResourceNotAvailable, InvalidStateTransition}
+use Rattle.vm_ranges.specs.declared.state.NodeState.{NodeState}
+use Rattle.vm_ranges.specs.declared.state.NodeState.TheVariants.{Free, Allocated}
+use Rattle.vm_ranges.specs.declared.constraint.AllocPolicy.TheVariants.{ExactMatch}
 use Rattle.vm_engine.proofs.Blocks.PlainWords.{IsHeld, contains_held, held_contains, held_address, all_miss, none_holds}
 use Rattle.vm_engine.proofs.Blocks.Gaps.{InFreeBlock, free_is_clear, in_free_block, state_cases, held_within, tiles_end}
-use Rattle.vm_engine.proofs.Blocks.OneList.{held_of-free, held_of-held, same_range}
-use Rattle.vm_engine.proofs.Splitting.Taking.{starts_after}
-use Rattle.vm_engine.proofs.Splitting.Taking.{in_block}
+use Rattle.vm_engine.proofs.Blocks.OneList.{held_of-free, held_of-held}
+use Rattle.vm_ranges.proofs.RangeCalls.{same_range}
+use Rattle.vm_engine.proofs.Splitting.Taking.{starts_after, in_block}
 
 -- the request for n addresses from t on, which a is to divide
 abbrev pub named : ℕ → ℕ → ℕ → Request

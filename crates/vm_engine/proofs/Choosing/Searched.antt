@@ -1,20 +1,20 @@
 -- From the first or the last fit of a tree to the answer of a request.
 use Rattle.std.proofs.Common.{Option, Some, None, IfSome, ◌≡◌, ℕ, ◌+◌, ◌-◌, ◌<◌, List, ◌∷◌, ◌++◌, refl, sym, arith, inl, inr, ◌⊎◌, ⊎_elim, subst, Result, Ok, Err}
 use Rattle.std.specs.List.{All}
-use Rattle.vm_engine.specs.Range.{Range, MAX, span}
+use Rattle.vm_ranges.specs.Range.{Range, MAX, span}
 use Rattle.vm_engine.specs.Tree.Block.{Block, free_block}
 use Rattle.vm_engine.specs.Address.{AddressState, IsPlace, IsLeastPlace, IsGreatestPlace}
-use Rattle.vm_engine.specs.Request.{Request, request_for, IsRequest}
+use Rattle.vm_ranges.specs.Request.{Request, request_for, IsRequest}
 use Rattle.vm_engine.specs.Answer.{IsChosen, ByExactStart, ByPlace, Takes, Grants}
 use Rattle.vm_engine.specs.Engine.Fit.{HasNoFit, IsLeastFit, IsGreatestFit}
 use Rattle.vm_engine.specs.Engine.BlockEdits.{IsTakenFrom, HasRoom}
 use Rattle.vm_engine.specs.Engine.Place.{IsFirstFit, IsLastFit, FindsFirst, FindsLast}
 use Rattle.vm_engine.specs.Tree.Shape.{Shape, blocks}
 use Rattle.vm_engine.specs.Tree.SpaceTree.{ChoosesAt, space_of, tree_state, IsSpaceTree, IsChoice, HoldingGrants, Chooses, ChoosesBelowMax}
-use Rattle.vm_engine.specs.declared.error.Error.{Error}
-use Rattle.vm_engine.specs.declared.error.Error.TheVariants.{Overflow, ResourceNotAvailable}
-use Rattle.vm_engine.specs.declared.constraint.AllocPolicy.{AllocPolicy}
-use Rattle.vm_engine.specs.declared.constraint.AllocPolicy.TheVariants.{FirstMatch, LastMatch, ExactMatch}
+use Rattle.vm_ranges.specs.declared.error.Error.{Error}
+use Rattle.vm_ranges.specs.declared.error.Error.TheVariants.{Overflow, ResourceNotAvailable}
+use Rattle.vm_ranges.specs.declared.constraint.AllocPolicy.{AllocPolicy}
+use Rattle.vm_ranges.specs.declared.constraint.AllocPolicy.TheVariants.{FirstMatch, LastMatch, ExactMatch}
 use Rattle.vm_engine.specs.declared.allocation_engine.node.places.Place.{Place}
 use Rattle.vm_engine.specs.declared.allocation_engine.interval_tree.placing.Choice.{Choice}
 use Rattle.vm_engine.proofs.Answers.Requests.{with_policy}

@@ -1,11 +1,11 @@
 -- How many nodes a request enters that may make no sense.
 use Rattle.std.proofs.Common.{◌≡◌, ℕ, refl, subst, arith, inl, inr, Result, Ok, Err}
-use Rattle.vm_engine.specs.Range.{Range}
+use Rattle.vm_ranges.specs.Range.{Range}
 use Rattle.vm_engine.specs.Address.{AddressState}
-use Rattle.vm_engine.specs.Request.{Request, IsRequest, ByConstraint, MakesConstraint}
+use Rattle.vm_ranges.specs.Request.{Request, IsRequest, ByConstraint, MakesConstraint}
 use Rattle.vm_engine.specs.Tree.Shape.{Shape}
 use Rattle.vm_engine.specs.Counts.Steps.{IsGrantCount, IsAllocationCount, Enters, EntersToAllocate, SplitsIfLow}
-use Rattle.vm_engine.specs.declared.error.Error.{Error}
+use Rattle.vm_ranges.specs.declared.error.Error.{Error}
 use Rattle.vm_engine.proofs.Answers.Filling.{no_constraint_fault}
 
 -- ---- requests that may make no sense

@@ -2,7 +2,7 @@
 use Rattle.std.specs.Prelude.{not, nat_eq}
 use Rattle.std.proofs.Common.{◌≡◌, ℕ, ◌+◌, ◌-◌, ◌%◌, ◌<◌, ◌≤◌, zero, suc, true, false, cond, List, [], ◌∷◌, length, refl, sym, ap, ◌∙◌, arith, ⊎_elim, eq-eqb}
 use Rattle.std.proofs.lemmas.Bool.{and_parts, lt-ltb, le-ltb, cases_lt, not-true}
-use Rattle.vm_engine.specs.Range.{Range}
+use Rattle.vm_ranges.specs.Range.{Range}
 use Rattle.vm_engine.specs.Address.{StandInOrder}
 use Rattle.vm_engine.specs.Tree.Block.{is_free, free_block, held_block}
 use Rattle.vm_engine.specs.Tree.Blocks.{gap_before, blocks_between, blocks_of}
@@ -14,7 +14,7 @@ use Rattle.vm_engine.specs.Counts.Ways.{has_fit}
 use Rattle.vm_engine.proofs.Counts.SearchedGaps.{among_append}
 use Rattle.vm_engine.proofs.Counts.Searching.{fit_found, no_fit_missed, free_if_true}
 use Rattle.vm_engine.proofs.Numbers.MultiplesBetween.{multiple_told}
-use Rattle.vm_engine.proofs.Numbers.Power.{alignment_pos}
+use Rattle.vm_ranges.proofs.Power.{alignment_pos}
 
 pub cramped_is_told : CrampedIsTold
 unfolding is_cramped has_aligned HasNoFit

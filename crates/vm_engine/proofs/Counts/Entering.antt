@@ -8,17 +8,17 @@ use Rattle.std.proofs.lemmas.Nat.{pow_pos}
 use Rattle.std.proofs.lemmas.List.Elements.{All-nil, All-cons}
 use Rattle.std.proofs.lemmas.List.Folds.{list_any-append}
 use Rattle.std.proofs.lemmas.Bool.{and_parts, or_parts, leb-true, le-leb, lt-leb, cases_lt, false_from_ne_true}
-use Rattle.vm_engine.specs.Alignment.{IsAlignment}
+use Rattle.vm_ranges.specs.Alignment.{IsAlignment}
 use Rattle.vm_engine.specs.Tree.Block.{Block, is_free, free_length}
 use Rattle.vm_engine.specs.Engine.Fit.{HasNoFit}
 use Rattle.vm_engine.specs.Tree.Multiples.{HasMultiple, has_multiple, has_aligned, alignment_count, free_alignments}
 use Rattle.vm_engine.specs.Tree.Shape.{Shape, Tip, Fork, blocks, max_free_of, alignments_of}
 use Rattle.vm_engine.specs.Counts.Ways.{is_searched}
-use Rattle.vm_engine.specs.declared.allocation_engine.NodeState.{NodeState}
-use Rattle.vm_engine.specs.declared.allocation_engine.NodeState.TheVariants.{Free, Allocated}
+use Rattle.vm_ranges.specs.declared.state.NodeState.{NodeState}
+use Rattle.vm_ranges.specs.declared.state.NodeState.TheVariants.{Free, Allocated}
 use Rattle.vm_engine.proofs.Choosing.PlaceSearch.{none_of}
 use Rattle.vm_engine.proofs.Numbers.MultiplesBetween.{multiple_told, count_told, exponent_by_trailing}
-use Rattle.vm_engine.proofs.Numbers.Power.{alignment_pos}
+use Rattle.vm_ranges.proofs.Power.{alignment_pos}
 
 -- ---- the count of a tree tells whether a multiple lies in one of its free blocks
 own_aligned : (k : ℕ) (b : Block) → k < 64 → k < free_alignments b → has_aligned (2 ^ k) b ≡ true

@@ -2,22 +2,22 @@
 use Rattle.std.proofs.Common.{◌≡◌, ℕ, ◌+◌, ◌-◌, ◌*◌, ◌%◌, ◌<◌, ◌≤◌, min, Bool, true, false, leb, List, [], ◌∷◌, length, refl, subst, arith, inl, inr, ⊎_elim, Result, Ok, Err}
 use Rattle.std.specs.List.{list_any, filter}
 use Rattle.std.proofs.lemmas.Bool.{and_parts, leb-true, cases_lt, false_from_ne_true}
-use Rattle.vm_engine.specs.Range.{Range}
+use Rattle.vm_ranges.specs.Range.{Range}
 use Rattle.vm_engine.specs.Tree.Block.{Block, is_free}
 use Rattle.vm_engine.specs.Address.{AddressState, IsPlace}
-use Rattle.vm_engine.specs.Alignment.{IsLeastMultiple}
+use Rattle.vm_ranges.specs.Alignment.{IsLeastMultiple}
 use Rattle.vm_engine.specs.Answer.{ByExactStart, ByPlace, Takes, Grants}
 use Rattle.vm_engine.specs.Counts.GapSearch.{is_futile, futile_gaps, is_cramped, cramped_gaps, IsGapSearchCount, SearchesAmong, SearchesGaps, SearchesAligned}
-use Rattle.vm_engine.specs.Request.{Request, request_for, IsRequest, MakesConstraint}
+use Rattle.vm_ranges.specs.Request.{Request, request_for, IsRequest, MakesConstraint}
 use Rattle.vm_engine.specs.Tree.Shape.{Shape, blocks, height_of, leaf_of}
 use Rattle.vm_engine.specs.Tree.SpaceTree.{space_of, tree_state, IsSpaceTree}
 use Rattle.vm_engine.specs.Counts.Steps.{Enters, IsHeldIn}
 use Rattle.vm_engine.specs.Counts.Ways.{multiple_from, has_fit, way_of_search}
 use Rattle.vm_engine.specs.Engine.BlockEdits.{before_part, after_part}
-use Rattle.vm_engine.specs.declared.error.Error.{Error}
-use Rattle.vm_engine.specs.declared.error.Error.TheVariants.{ResourceNotAvailable}
-use Rattle.vm_engine.specs.declared.constraint.AllocPolicy.{AllocPolicy}
-use Rattle.vm_engine.specs.declared.constraint.AllocPolicy.TheVariants.{FirstMatch, LastMatch, ExactMatch}
+use Rattle.vm_ranges.specs.declared.error.Error.{Error}
+use Rattle.vm_ranges.specs.declared.error.Error.TheVariants.{ResourceNotAvailable}
+use Rattle.vm_ranges.specs.declared.constraint.AllocPolicy.{AllocPolicy}
+use Rattle.vm_ranges.specs.declared.constraint.AllocPolicy.TheVariants.{FirstMatch, LastMatch, ExactMatch}
 use Rattle.vm_engine.proofs.Blocks.Gaps.{InFreeBlock}
 use Rattle.vm_engine.proofs.Choosing.Places.{block_place}
 use Rattle.vm_engine.proofs.Comparing.Tilings.{tree_blocks}
@@ -28,7 +28,7 @@ use Rattle.vm_engine.proofs.Nodes.Spaces.{spaces}
 use Rattle.vm_engine.proofs.Counts.CarvingWays.{way_to_carve_at_most}
 use Rattle.vm_engine.proofs.Counts.SearchedGaps.{HasOneInVain, futile_in_vain, cramped_in_vain, first_in_vain, first_to_place, last_in_vain, last_to_place}
 use Rattle.vm_engine.proofs.Counts.Searching.{least_from, free_if_true}
-use Rattle.vm_engine.proofs.Numbers.Power.{alignment_pos}
+use Rattle.vm_ranges.proofs.Power.{alignment_pos}
 use Rattle.vm_engine.proofs.Splitting.Taking.{as_blocks}
 
 -- ---- where there is no place no block has a fit

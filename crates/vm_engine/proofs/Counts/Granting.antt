@@ -1,9 +1,9 @@
 -- How many nodes a request enters.
 use Rattle.std.proofs.Common.{◌≡◌, ◌≢◌, ℕ, ◌+◌, ◌*◌, ◌<◌, ◌≤◌, Bool, true, false, cond, eqb, refl, sym, subst, arith, inl, inr, ⊎_elim, Result, Ok, Err, OnOk, IfOk, length, ◌⊎◌}
 use Rattle.std.proofs.lemmas.Bool.{lt-ltb}
-use Rattle.vm_engine.specs.Range.{Range, MAX, at_address}
+use Rattle.vm_ranges.specs.Range.{Range, MAX, at_address}
 use Rattle.vm_engine.specs.Address.{AddressState, LeavesClear}
-use Rattle.vm_engine.specs.Request.{Request}
+use Rattle.vm_ranges.specs.Request.{Request}
 use Rattle.vm_engine.specs.Answer.{Takes}
 use Rattle.vm_engine.specs.Tree.Block.{free_block}
 use Rattle.vm_engine.specs.Engine.BlockEdits.{before_part, after_part, IsTakenFrom, LeavesPart}
@@ -11,10 +11,10 @@ use Rattle.vm_engine.specs.Tree.Shape.{Shape, Tip, Fork, blocks, height_of, node
 use Rattle.vm_engine.specs.Counts.Ways.{way_across, way_by, way_of_search, way_to_carve, way_to_hold, way_if_held}
 use Rattle.vm_engine.specs.Tree.SpaceTree.{space_of, tree_state, most_searched, IsSpaceTree, IsChoice}
 use Rattle.vm_engine.specs.Counts.Steps.{most_entered, IsGrantCount, IsHeldIn, Enters, SplitsIfLow, TOO_HIGH}
-use Rattle.vm_engine.specs.declared.error.Error.{Error}
-use Rattle.vm_engine.specs.declared.error.Error.TheVariants.{OutOfMemory}
-use Rattle.vm_engine.specs.declared.constraint.AllocPolicy.{AllocPolicy}
-use Rattle.vm_engine.specs.declared.constraint.AllocPolicy.TheVariants.{FirstMatch, LastMatch, ExactMatch}
+use Rattle.vm_ranges.specs.declared.error.Error.{Error}
+use Rattle.vm_ranges.specs.declared.error.Error.TheVariants.{OutOfMemory}
+use Rattle.vm_ranges.specs.declared.constraint.AllocPolicy.{AllocPolicy}
+use Rattle.vm_ranges.specs.declared.constraint.AllocPolicy.TheVariants.{FirstMatch, LastMatch, ExactMatch}
 use Rattle.vm_engine.specs.declared.allocation_engine.interval_tree.placing.Choice.{Choice}
 use Rattle.vm_engine.proofs.Splitting.Taking.{as_blocks}
 use Rattle.vm_engine.proofs.Blocks.OneList.{few_blocks}

@@ -1,18 +1,17 @@
 -- What leaves nothing of its block leaves no clear address beside it.
 use Rattle.std.proofs.Common.{◌≡◌, ℕ, ◌+◌, ◌<◌, ◌≤◌, List, [], ◌∷◌, ◌++◌, sym, subst, arith, inl, inr, ⊎_elim}
 use Rattle.std.proofs.lemmas.Bool.{cases_lt}
-use Rattle.vm_engine.specs.Range.{Range}
+use Rattle.vm_ranges.specs.Range.{Range}
 use Rattle.vm_engine.specs.Tree.Block.{Block}
 use Rattle.vm_engine.specs.Address.{LeavesClear}
 use Rattle.vm_engine.specs.Tree.Blocks.{Tiles, TilesSpace, held_of, blocks_state}
 use Rattle.vm_engine.specs.Engine.BlockEdits.{IsTakenFrom, LeavesPart}
-use Rattle.vm_engine.specs.declared.allocation_engine.NodeState.{NodeState}
-use Rattle.vm_engine.specs.declared.allocation_engine.NodeState.TheVariants.{Free, Allocated}
+use Rattle.vm_ranges.specs.declared.state.NodeState.{NodeState}
+use Rattle.vm_ranges.specs.declared.state.NodeState.TheVariants.{Free, Allocated}
 use Rattle.vm_engine.proofs.Blocks.PlainWords.{IsHeldAddress, none_holds}
 use Rattle.vm_engine.proofs.Blocks.Gaps.{InFreeBlock, in_free_block, free_is_clear}
 use Rattle.vm_engine.proofs.Choosing.Places.{above}
-use Rattle.vm_engine.proofs.Splitting.Taking.{starts_after}
-use Rattle.vm_engine.proofs.Splitting.Taking.{in_block}
+use Rattle.vm_engine.proofs.Splitting.Taking.{starts_after, in_block}
 
 -- ---- what leaves nothing of its block leaves no clear address beside it
 -- no free block reaches into another from below, nor from above

@@ -1,12 +1,12 @@
 -- How many nodes giving a range back enters.
 use Rattle.std.proofs.Common.{◌≡◌, ℕ, ◌+◌, ◌≤◌, Option, Some, None, subst, arith, Result, Ok, Err}
-use Rattle.vm_engine.specs.Range.{Range}
+use Rattle.vm_ranges.specs.Range.{Range}
 use Rattle.vm_engine.specs.Tree.Shape.{Shape, Tip, Fork, blocks, height_of}
 use Rattle.vm_engine.specs.Engine.Release.{neighbours}
 use Rattle.vm_engine.specs.Counts.Ways.{way_around, way_if}
 use Rattle.vm_engine.specs.Tree.SpaceTree.{IsSpaceTree}
 use Rattle.vm_engine.specs.Counts.Steps.{IsReleaseCount, IsWayBack, EntersToFree}
-use Rattle.vm_engine.specs.declared.error.Error.{Error}
+use Rattle.vm_ranges.specs.declared.error.Error.{Error}
 use Rattle.vm_engine.specs.declared.allocation_engine.node.neighbours.Neighbours.{Neighbours}
 use Rattle.vm_engine.proofs.Nodes.Spaces.{few_nodes, no_empty_tree}
 use Rattle.vm_engine.proofs.Counts.WayBounds.{way_to_at_most, way_to_remove_at_most, way_around_at_most}

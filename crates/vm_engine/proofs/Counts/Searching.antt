@@ -5,17 +5,17 @@ use Rattle.std.specs.List.{All, list_any}
 use Rattle.std.proofs.lemmas.List.Elements.{All-head, All-tail}
 use Rattle.std.proofs.lemmas.List.Folds.{list_any-append}
 use Rattle.std.proofs.lemmas.Bool.{and_parts, leb-true, le-leb, false_from_ne_true}
-use Rattle.vm_engine.specs.Alignment.{IsAlignment, IsLeastMultiple}
+use Rattle.vm_ranges.specs.Alignment.{IsAlignment, IsLeastMultiple}
 use Rattle.vm_engine.specs.Tree.Block.{Block, is_free, free_block}
 use Rattle.vm_engine.specs.Engine.Fit.{IsFit, HasNoFit, IsLeastFit, IsGreatestFit}
 use Rattle.vm_engine.specs.Engine.Place.{IsFirstFit, IsLastFit}
 use Rattle.vm_engine.specs.Tree.Shape.{Shape, Tip, Fork, blocks, height_of, node_count}
 use Rattle.vm_engine.specs.Counts.Ways.{multiple_from, has_fit, is_searched, way_of_first, way_of_last}
-use Rattle.vm_engine.specs.declared.allocation_engine.NodeState.{NodeState}
-use Rattle.vm_engine.specs.declared.allocation_engine.NodeState.TheVariants.{Free, Allocated}
+use Rattle.vm_ranges.specs.declared.state.NodeState.{NodeState}
+use Rattle.vm_ranges.specs.declared.state.NodeState.TheVariants.{Free, Allocated}
 use Rattle.vm_engine.specs.declared.allocation_engine.node.places.Place.{Place}
 use Rattle.vm_engine.proofs.Counts.Entering.{none_unless_searched}
-use Rattle.vm_engine.proofs.Numbers.Power.{alignment_pos, greatest_multiple, least_multiple}
+use Rattle.vm_ranges.proofs.Power.{alignment_pos, greatest_multiple, least_multiple}
 
 -- ---- the test tells whether a block has a fit
 pub least_from : (a x : ℕ) → 0 < a → IsLeastMultiple a x (multiple_from a x)

@@ -1,11 +1,11 @@
 -- How many nodes the ways through a tree enter at most.
 use Rattle.std.proofs.Common.{ℕ, ◌+◌, ◌-◌, ◌*◌, ◌≤◌, Bool, true, false, cond, arith, ltb}
-use Rattle.vm_engine.specs.Range.{Range}
-use Rattle.vm_engine.specs.RangeOrder.{same_range, comes_first}
+use Rattle.vm_ranges.specs.Range.{Range}
+use Rattle.vm_ranges.specs.RangeOrder.{same_range, comes_first}
 use Rattle.vm_engine.specs.Tree.Shape.{Shape, Tip, Fork, height_of, IsBalanced, IsTree}
 use Rattle.vm_engine.specs.Counts.Ways.{way_down, way_to, way_across, way_to_first, way_to_last, way_to_join, way_to_remove, way_beside, way_around}
-use Rattle.vm_engine.specs.declared.allocation_engine.NodeState.{NodeState}
-use Rattle.vm_engine.specs.declared.allocation_engine.NodeState.TheVariants.{Free, Allocated}
+use Rattle.vm_ranges.specs.declared.state.NodeState.{NodeState}
+use Rattle.vm_ranges.specs.declared.state.NodeState.TheVariants.{Free, Allocated}
 use Rattle.vm_engine.proofs.Counts.WayCases.{search_at_max, search_named, ways_around}
 
 -- ---- at most

@@ -1,15 +1,15 @@
 -- How many nodes the ways through a tree enter, case by case.
 use Rattle.std.proofs.Common.{◌≡◌, ◌≢◌, ℕ, ◌+◌, ◌<◌, true, false, refl, sym, arith, inl, inr, ⊎_elim}
 use Rattle.std.proofs.lemmas.Bool.{lt-ltb, le-ltb, eq-eqb, ne_eqb}
-use Rattle.vm_engine.specs.Range.{Range, MAX, at_address}
-use Rattle.vm_engine.specs.RangeOrder.{Before, StartsBefore, StartsAtOrAfter, EndsBefore, ReachesStartOf, comes_first}
+use Rattle.vm_ranges.specs.Range.{Range, MAX, at_address}
+use Rattle.vm_ranges.specs.RangeOrder.{Before, StartsBefore, StartsAtOrAfter, EndsBefore, ReachesStartOf, comes_first}
 use Rattle.vm_engine.specs.Tree.Block.{Block}
 use Rattle.vm_engine.specs.Tree.Shape.{Shape, Tip, Fork}
 use Rattle.vm_engine.specs.Counts.Ways.{way_down, way_to, way_across, way_to_first, way_to_last, way_to_join, way_to_remove, way_around, way_of_first, way_of_last, way_of_search}
-use Rattle.vm_engine.specs.Request.{Request}
-use Rattle.vm_engine.specs.declared.constraint.AllocPolicy.TheVariants.{FirstMatch, LastMatch, ExactMatch}
-use Rattle.vm_engine.specs.declared.allocation_engine.NodeState.TheVariants.{Free, Allocated}
-use Rattle.vm_engine.proofs.Numbers.RangeCalls.{before_parts}
+use Rattle.vm_ranges.specs.Request.{Request}
+use Rattle.vm_ranges.specs.declared.constraint.AllocPolicy.TheVariants.{FirstMatch, LastMatch, ExactMatch}
+use Rattle.vm_ranges.specs.declared.state.NodeState.TheVariants.{Free, Allocated}
+use Rattle.vm_ranges.proofs.RangeCalls.{before_parts}
 use Rattle.vm_engine.proofs.Blocks.Replacement.{same_range_before, same_range_self}
 
 pub before_first : (a b : Range) → Before a b → comes_first a b ≡ true

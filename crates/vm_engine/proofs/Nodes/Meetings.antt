@@ -4,14 +4,14 @@ use Rattle.std.proofs.lemmas.Bool.{lt-ltb, le-ltb, cases_lt}
 use Rattle.std.specs.Prelude.{◌↔◌}
 use Rattle.std.specs.List.{All}
 use Rattle.std.proofs.lemmas.List.Elements.{All-nil, All-cons, All-head, All-tail}
-use Rattle.vm_engine.specs.Range.{Range, Overlaps}
-use Rattle.vm_engine.specs.RangeOrder.{EndsBefore, ReachesStartOf, IsInOrder, Apart}
+use Rattle.vm_ranges.specs.Range.{Range, Overlaps}
+use Rattle.vm_ranges.specs.RangeOrder.{EndsBefore, ReachesStartOf, IsInOrder, Apart}
 use Rattle.vm_engine.specs.Tree.Block.{Block}
 use Rattle.vm_engine.specs.Tree.BlockList.{IsOrderedFrom, IsClearOf}
 use Rattle.vm_engine.specs.Tree.Shape.{Shape, Fork, blocks, IsTree}
 use Rattle.vm_engine.specs.Engine.NodeAnswer.{first_met, TellsOverlap}
 use Rattle.vm_engine.proofs.Blocks.BlockOrder.{ordered_middle}
-use Rattle.vm_engine.proofs.Numbers.RangeCalls.{meet, apart_below, apart_above}
+use Rattle.vm_ranges.proofs.RangeCalls.{meet, apart_below, apart_above}
 
 pub met_in_left : (s l : Shape) (x : Block) (r : Shape) (k : Range) → s ≡ Fork l x r → EndsBefore k x.key → first_met k s ≡ first_met k l
 unfolding EndsBefore

@@ -1,7 +1,7 @@
 -- A node whose one side changed in place.
 use Rattle.std.proofs.Common.{◌≡◌, ◌++◌, ◌∷◌, [], refl}
-use Rattle.vm_engine.specs.Range.{Range}
-use Rattle.vm_engine.specs.RangeOrder.{Before, StartsBefore, StartsAtOrAfter, IsInOrder}
+use Rattle.vm_ranges.specs.Range.{Range}
+use Rattle.vm_ranges.specs.RangeOrder.{Before, StartsBefore, StartsAtOrAfter, IsInOrder}
 use Rattle.vm_engine.specs.Tree.Block.{Block}
 use Rattle.vm_engine.specs.Tree.BlockList.{IsOrderedFrom, IsClearOf, insert_block, replace_block}
 use Rattle.vm_engine.specs.Tree.Shape.{Shape, Fork, blocks, height_of, IsTree, DifferByAtMost}

@@ -1,7 +1,7 @@
 -- A tree has one space, and no call changes it.
-use Rattle.std.proofs.Common.{◌≡◌, ℕ, ◌+◌, ◌*◌, ◌≤◌, List, [], ◌∷◌, refl, sym, arith, subst, Option, Some, None, IsSome}
+use Rattle.std.proofs.Common.{◌≡◌, ℕ, ◌+◌, ◌*◌, ◌≤◌, List, [], ◌∷◌, refl, sym, arith, subst, Option, Some, None, IsSome, ap, ◌∙◌, ⊎_elim, Result}
 use Rattle.std.specs.Global.{Box}
-use Rattle.vm_engine.specs.Range.{Range, MAX, IsRange, span}
+use Rattle.vm_ranges.specs.Range.{Range, MAX, IsRange, span}
 use Rattle.vm_engine.specs.Tree.Block.{Block}
 use Rattle.vm_engine.specs.Address.{IsAddressState, AddressState}
 use Rattle.vm_engine.specs.Tree.Blocks.{Tiles, TilesSpace, IsTiling}
@@ -9,15 +9,14 @@ use Rattle.vm_engine.specs.Tree.Shape.{Shape, Tip, blocks, height_of, node_count
 use Rattle.vm_engine.specs.Engine.NodeFields.{side}
 use Rattle.vm_engine.specs.declared.allocation_engine.node.InnerNode.{InnerNode}
 use Rattle.vm_engine.specs.Tree.SpaceTree.{last_end, space_of, tree_state, IsSpaceTree}
-use Rattle.vm_engine.specs.declared.allocation_engine.NodeState.{NodeState}
-use Rattle.vm_engine.specs.declared.allocation_engine.NodeState.TheVariants.{Free}
-use Rattle.vm_engine.proofs.Blocks.OneList.{same_range}
+use Rattle.vm_ranges.specs.declared.state.NodeState.{NodeState}
+use Rattle.vm_ranges.specs.declared.state.NodeState.TheVariants.{Free}
+use Rattle.vm_ranges.proofs.RangeCalls.{same_range}
 use Rattle.vm_engine.proofs.Nodes.FewestNodes.{most_nodes, power_grows}
 use Rattle.vm_engine.proofs.Blocks.BlockStates.{is_state}
-use Rattle.std.proofs.Common.{◌≡◌, ap, ◌∙◌, ⊎_elim, Result, []}
-use Rattle.vm_engine.specs.Request.{Request}
+use Rattle.vm_ranges.specs.Request.{Request}
 use Rattle.vm_engine.specs.Answer.{Takes, Grants, Frees}
-use Rattle.vm_engine.specs.declared.error.Error.{Error}
+use Rattle.vm_ranges.specs.declared.error.Error.{Error}
 use Rattle.vm_engine.proofs.Answers.Outcomes.{IsRefused, IsTaken, grants_outcome}
 
 -- blocks that follow one another end where the space ends

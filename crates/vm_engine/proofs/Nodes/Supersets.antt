@@ -1,8 +1,8 @@
 -- The block whose key contains a range.
 use Rattle.std.proofs.Common.{◌≡◌, ℕ, ◌+◌, ◌<◌, ◌≤◌, true, false, cond, leb, List, [], ◌∷◌, ◌++◌, refl, ap, ◌∙◌, arith, Some, None}
 use Rattle.std.proofs.lemmas.Bool.{and_parts, leb-true, le-leb, false_from_ne_true}
-use Rattle.vm_engine.specs.Range.{Range, Covers}
-use Rattle.vm_engine.specs.RangeOrder.{EndsBefore, ReachesStartOf, IsInOrder, covers}
+use Rattle.vm_ranges.specs.Range.{Range, Covers}
+use Rattle.vm_ranges.specs.RangeOrder.{EndsBefore, ReachesStartOf, IsInOrder, covers}
 use Rattle.vm_engine.specs.Tree.Block.{Block}
 use Rattle.vm_engine.specs.Tree.BlockList.{IsOrderedFrom, find_superset}
 use Rattle.vm_engine.specs.Tree.Shape.{Shape, Fork, blocks, IsTree}

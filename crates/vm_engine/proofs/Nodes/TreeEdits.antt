@@ -3,13 +3,13 @@ use Rattle.std.proofs.Common.{◌≡◌, ℕ, ◌+◌, ◌<◌, ◌≤◌, true,
 use Rattle.std.specs.List.{All}
 use Rattle.std.proofs.lemmas.List.Elements.{All-cons, All-nil}
 use Rattle.std.proofs.lemmas.Bool.{lt-ltb, le-ltb, and_parts, eqb-true, leb-true, le-leb}
-use Rattle.vm_engine.specs.Range.{Range, IsIn, at_address}
-use Rattle.vm_engine.specs.RangeOrder.{same_range, covers}
+use Rattle.vm_ranges.specs.Range.{Range, IsIn, at_address}
+use Rattle.vm_ranges.specs.RangeOrder.{same_range, covers}
 use Rattle.vm_engine.specs.Tree.Block.{Block}
 use Rattle.vm_engine.specs.Tree.Blocks.{Tiles}
 use Rattle.vm_engine.specs.Tree.BlockList.{IsOrderedFrom, IsClearOf, insert_block, find_superset}
-use Rattle.vm_engine.specs.declared.allocation_engine.NodeState.{NodeState}
-use Rattle.vm_engine.proofs.Blocks.OneList.{same_range as ranges_same}
+use Rattle.vm_ranges.specs.declared.state.NodeState.{NodeState}
+use Rattle.vm_ranges.proofs.RangeCalls.{same_range as ranges_same}
 
 -- blocks that follow one another are in order
 pub tiles_ordered : (p : NodeState) (lo hi : ℕ) (bs : List Block) → Tiles p lo bs hi → IsOrderedFrom lo bs

@@ -5,9 +5,9 @@ use Rattle.std.proofs.lemmas.Bool.{cases_lt}
 use Rattle.std.proofs.lemmas.Nat.{xor_shr, le-div, div_below, pow_pos, mul-le, div-add-mod'}
 use Rattle.std.proofs.lemmas.Nat.Bits.{same_from_bits, bit_at_xor, bit_at-zero, bit_at-lt}
 use Rattle.std.proofs.Math.Nat.{add-mul, lt-div-mul-add}
-use Rattle.vm_engine.specs.Range.{Range}
+use Rattle.vm_ranges.specs.Range.{Range}
 use Rattle.vm_engine.specs.Tree.Multiples.{HasMultiple}
-use Rattle.vm_engine.proofs.Numbers.Power.{less_remainder}
+use Rattle.vm_ranges.proofs.Power.{less_remainder}
 
 same_from_xor : (a b : ℕ) → bit_xor a b ≡ 0 → a ≡ b
 same_from_xor a b none =

@@ -5,11 +5,11 @@ use Rattle.std.proofs.lemmas.Bool.{cases_lt, cases_eq, le-leb, leb-true}
 use Rattle.std.proofs.lemmas.Nat.{pow_pos, mod-pow-add}
 use Rattle.std.proofs.lemmas.Nat.Bits.{bit_at-trailing_zeros, bit_at-pow_other}
 use Rattle.std.proofs.Math.Nat.{pow-suc, zero-mod}
-use Rattle.vm_engine.specs.Range.{Range}
-use Rattle.vm_engine.specs.Alignment.{IsAlignment, IsGreatestMultiple}
+use Rattle.vm_ranges.specs.Range.{Range}
+use Rattle.vm_ranges.specs.Alignment.{IsAlignment, IsGreatestMultiple}
 use Rattle.vm_engine.specs.Tree.Multiples.{HasMultiple, has_multiple, alignments_below, alignment_count}
 use Rattle.vm_engine.proofs.Numbers.Highest.{powers_up_to, xor_pos_before}
-use Rattle.vm_engine.proofs.Numbers.Power.{alignment_pos, alignment_below, greatest_multiple}
+use Rattle.vm_ranges.proofs.Power.{alignment_pos, alignment_below, greatest_multiple}
 
 -- ---- the test tells whether a multiple lies in the range
 pub multiple_told : (a : ℕ) (r : Range) → 0 < a → (has_multiple a r ≡ true) ↔ HasMultiple a r

@@ -9,13 +9,12 @@ use Rattle.vm_values.specs.Fields.{field_count, is_count}
 use Rattle.vm_values.specs.Numbers.{number_in}
 use Rattle.vm_engine.specs.Tree.Block.{Block}
 use Rattle.vm_engine.specs.Tree.Shape.{Shape, Tip, Fork, blocks, height_of}
-use Rattle.vm_engine.specs.Values.RangeValues.{StatesRange, StatesState, range_found}
-use Rattle.vm_engine.specs.Values.TreeValues.{StatesNode, StatesShape}
-use Rattle.vm_engine.specs.Values.TreeValues.{HasNodes}
-use Rattle.vm_engine.specs.Checks.ValueChecks.{NodeData, state_found, node_data}
+use Rattle.vm_ranges.specs.RangeValues.{StatesRange, StatesState, range_found, state_found}
+use Rattle.vm_engine.specs.Values.TreeValues.{StatesNode, StatesShape, HasNodes}
+use Rattle.vm_engine.specs.Checks.ValueChecks.{NodeData, node_data}
 use Rattle.vm_engine.proofs.Reading.Fronts.{AreKeys, keys-append}
-use Rattle.vm_engine.proofs.Reading.ReadRanges as ranges
-use Rattle.vm_engine.proofs.Reading.ReadStates as states
+use Rattle.vm_ranges.proofs.ReadRanges as ranges
+use Rattle.vm_ranges.proofs.ReadStates as states
 
 -- what is found in the fields stands there
 node_stated : (d : Data) (n : NodeData) → node_data d ≡ Some n → StatesNode d n.block (λ v. v ≡ n.left) (λ v. v ≡ n.right) n.height

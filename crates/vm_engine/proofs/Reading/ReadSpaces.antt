@@ -1,17 +1,16 @@
 -- The check of a value finds just the trees of the space that values state.
-use Rattle.std.proofs.Common.{◌≡◌, ◌+◌, true, eqb, Some, None, Option, is_some, refl, sym, ap, ◌∙◌, subst, arith, true≢false, false}
+use Rattle.std.proofs.Common.{◌≡◌, ◌+◌, true, eqb, Some, None, Option, is_some, refl, sym, ◌∙◌, subst, arith, true≢false, false}
 use Rattle.std.proofs.lemmas.Bool.{eqb-true, eq-eqb}
-use Rattle.std.proofs.lemmas.Option.{same_Some}
 use Rattle.serde_json.specs.Data.{Data}
 use Rattle.vm_values.proofs.Steps.{and_then_some, if_some}
-use Rattle.vm_engine.specs.Range.{Range, IsRange}
+use Rattle.vm_ranges.specs.Range.{Range, IsRange}
 use Rattle.vm_engine.specs.Tree.Blocks.{TilesSpace}
 use Rattle.vm_engine.specs.Tree.Shape.{Shape, Tip, MAX_HEIGHT, blocks}
 use Rattle.vm_engine.specs.Tree.SpaceTree.{IsSpaceTree}
 use Rattle.vm_engine.specs.Values.TreeValues.{StatesShape, StatesSpaceTree}
 use Rattle.vm_engine.specs.Checks.ValueParts.{IsShapeWithin, HasShapeWithin}
 use Rattle.vm_engine.specs.Checks.ValueChecks.{tree_found, front_of, tree_fitting}
-use Rattle.vm_engine.specs.declared.allocation_engine.NodeState.TheVariants.{Allocated}
+use Rattle.vm_ranges.specs.declared.state.NodeState.TheVariants.{Allocated}
 use Rattle.vm_engine.specs.declared.saved.tree.Checked.{Checked}
 use Rattle.vm_engine.proofs.Blocks.BlockOrder.{ordered_weaken}
 use Rattle.vm_engine.proofs.Nodes.Spaces.{space_tree}
@@ -53,7 +52,7 @@ checked_tree d space range found e ends =
       },
     )
 
-some_of : {A : Type 0} (o : Option A) → is_some o ≡ true → (a : A) × (o ≡ Some a)
+pub some_of : {A : Type 0} (o : Option A) → is_some o ≡ true → (a : A) × (o ≡ Some a)
 some_of None e = absurd (cc)
 some_of (Some a) e = (a, refl)
 

@@ -2,8 +2,9 @@
 use Rattle.std.proofs.Common.{◌≡◌, ℕ, zero, suc, ◌+◌, ◌≤◌, max, true, false, cond, ◌&&◌, eqb, leb, Some, is_some, refl, sym, ap, ◌∙◌, subst, arith}
 use Rattle.std.proofs.lemmas.Bool.{and_parts, eqb-true, eq-eqb, leb-true, le-leb}
 use Rattle.std.proofs.lemmas.Option.{same_Some}
-use Rattle.serde_json.specs.Data.{Data, null, boolean, number, string, array, object}
+use Rattle.serde_json.specs.Data.{Data, null}
 use Rattle.serde_json.specs.Find.{as_null}
+use Rattle.vm_values.proofs.Nulls.{null_of, not_null}
 use Rattle.vm_values.proofs.Steps.{and_then_some, if_some}
 use Rattle.vm_values.specs.Fields.{field_count}
 use Rattle.vm_engine.specs.Tree.Shape.{Shape, Tip, Fork, blocks, height_of, IsBalanced}
@@ -16,24 +17,8 @@ use Rattle.vm_engine.proofs.Reading.ReadNodes.{over_sides, node_is}
 
 -- Nulls.
 
-pub null_of : (d : Data) → is_some (as_null d) ≡ true → d ≡ null
-null_of null e = refl
-null_of (boolean b) e = absurd (cc)
-null_of (number n) e = absurd (cc)
-null_of (string s) e = absurd (cc)
-null_of (array ds) e = absurd (cc)
-null_of (object ms) e = absurd (cc)
-
 no_fields : (d : Data) (n : ℕ) → d ≡ null → field_count d ≡ Some n → ⊥
 no_fields d n z e = let f : field_count null ≡ Some n = subst (λ (v : Data). field_count v ≡ Some n) z e in cc
-
-pub not_null : (d : Data) (n : ℕ) → field_count d ≡ Some n → is_some (as_null d) ≡ false
-not_null null n e = absurd (cc)
-not_null (boolean b) n e = refl
-not_null (number x) n e = refl
-not_null (string s) n e = refl
-not_null (array ds) n e = refl
-not_null (object ms) n e = refl
 
 -- Heights.
 

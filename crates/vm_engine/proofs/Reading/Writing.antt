@@ -2,14 +2,13 @@
 use Rattle.std.proofs.Common.{◌≡◌, ℕ, ◌+◌, max, codes, Some, ap, ◌∙◌, subst}
 use Rattle.serde_json.specs.Data.{Data}
 use Rattle.vm_values.proofs.FieldSteps.{field_is}
-use Rattle.vm_engine.specs.Range.{Range}
-use Rattle.vm_engine.specs.Tree.Blocks.{IsTiling}
+use Rattle.vm_ranges.specs.Range.{Range}
 use Rattle.vm_engine.specs.Tree.Shape.{Shape, Tip, Fork, blocks, height_of, IsTree}
 use Rattle.vm_engine.specs.Tree.SpaceTree.{space_of, IsSpaceTree}
-use Rattle.vm_engine.specs.Values.RangeValues.{StatesRange, StatesState}
+use Rattle.vm_ranges.specs.RangeValues.{StatesRange, StatesState}
 use Rattle.vm_engine.specs.Values.TreeValues.{StatesShape, StatesSpaceTree}
 use Rattle.vm_engine.specs.Checks.ValueParts.{NodeParts}
-use Rattle.vm_engine.specs.declared.allocation_engine.NodeState.{NodeState}
+use Rattle.vm_ranges.specs.declared.state.NodeState.{NodeState}
 use Rattle.vm_engine.proofs.Nodes.Spaces.{no_empty_tree}
 
 pub states_fork : (d key state left right : Data) (h : ℕ) (k : Range) (s : NodeState) (l r : Shape) → NodeParts d key state left right h → StatesRange key k → StatesState state s → StatesShape left l → StatesShape right r → h ≡ max (height_of l) (height_of r) + 1 →

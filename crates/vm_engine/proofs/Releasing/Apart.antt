@@ -1,6 +1,6 @@
 -- The blocks before and after a held one, with the free one beside it apart.
 use Rattle.std.proofs.Common.{◌≡◌, ℕ, ◌+◌, ◌≤◌, List, [], ◌∷◌, ◌++◌, Option, Some, None, refl, sym, ap, ◌∙◌, arith, subst, append_assoc, append-nil}
-use Rattle.vm_engine.specs.Range.{Range, IsRange}
+use Rattle.vm_ranges.specs.Range.{Range, IsRange}
 use Rattle.vm_engine.specs.Tree.Block.{Block, free_block, held_block}
 use Rattle.vm_engine.specs.Address.{releasing}
 use Rattle.vm_engine.specs.Tree.Blocks.{NotBothFree, Tiles, TilesSpace, IsBlocksOf}
@@ -8,8 +8,8 @@ use Rattle.vm_engine.specs.Tree.Shape.{Shape, blocks}
 use Rattle.vm_engine.specs.Tree.SpaceTree.{space_of, tree_state, IsSpaceTree}
 use Rattle.vm_engine.specs.Engine.Release.{HasHeld, key_if_free, last_free, first_free, free_if, end_with, joined, IsAround}
 use Rattle.vm_engine.specs.declared.allocation_engine.node.neighbours.Neighbours.{Neighbours}
-use Rattle.vm_engine.specs.declared.allocation_engine.NodeState.{NodeState}
-use Rattle.vm_engine.specs.declared.allocation_engine.NodeState.TheVariants.{Free, Allocated}
+use Rattle.vm_ranges.specs.declared.state.NodeState.{NodeState}
+use Rattle.vm_ranges.specs.declared.state.NodeState.TheVariants.{Free, Allocated}
 use Rattle.vm_engine.proofs.Blocks.Gaps.{tiles_end}
 use Rattle.vm_engine.proofs.Blocks.OneList.{same_block}
 use Rattle.vm_engine.proofs.Releasing.Joining.{with_free, join_if, EndsHeld, blocks_freed, blocks_freed_before}

@@ -1,13 +1,13 @@
 -- A released range joined with what is clear beside it.
 use Rattle.std.proofs.Common.{◌≡◌, ℕ, ◌+◌, ◌<◌, ◌≤◌, List, [], ◌∷◌, ◌++◌, refl, sym, ap, ◌∙◌, arith, inl, inr, ◌⊎◌, ⊎_elim, subst, eq-eqb}
 use Rattle.std.proofs.lemmas.Bool.{ne_eqb}
-use Rattle.vm_engine.specs.Range.{Range}
+use Rattle.vm_ranges.specs.Range.{Range}
 use Rattle.vm_engine.specs.Tree.Block.{Block, free_block}
 use Rattle.vm_engine.specs.Address.{AddressState, without_range, releasing}
 use Rattle.vm_engine.specs.Tree.Blocks.{NotBothFree, Tiles, range_if_held, held_of, IsBlocksOf}
 use Rattle.vm_engine.proofs.Blocks.PlainWords.{IsHeld}
-use Rattle.vm_engine.specs.declared.allocation_engine.NodeState.{NodeState}
-use Rattle.vm_engine.specs.declared.allocation_engine.NodeState.TheVariants.{Free, Allocated}
+use Rattle.vm_ranges.specs.declared.state.NodeState.{NodeState}
+use Rattle.vm_ranges.specs.declared.state.NodeState.TheVariants.{Free, Allocated}
 use Rattle.vm_engine.proofs.Blocks.Gaps.{state_cases}
 use Rattle.vm_engine.proofs.Blocks.OneList.{held_of-free, held_of-held}
 use Rattle.vm_engine.proofs.Splitting.Taking.{starts_after}

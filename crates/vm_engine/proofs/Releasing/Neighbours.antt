@@ -1,12 +1,12 @@
 -- A held block and the free ones beside it, in a tree.
 use Rattle.std.proofs.Common.{◌≡◌, ℕ, ◌+◌, ◌<◌, ◌≤◌, true, false, cond, List, [], ◌∷◌, ◌++◌, Option, None, refl, ap, ◌∙◌, arith, inl, inr}
-use Rattle.vm_engine.specs.Range.{Range}
-use Rattle.vm_engine.specs.RangeOrder.{Before, same_range}
+use Rattle.vm_ranges.specs.Range.{Range}
+use Rattle.vm_ranges.specs.RangeOrder.{Before, same_range}
 use Rattle.vm_engine.specs.Tree.Block.{Block}
 use Rattle.vm_engine.specs.Tree.BlockList.{IsOrderedFrom}
 use Rattle.vm_engine.specs.Tree.Shape.{Shape, Fork, blocks, IsTree}
 use Rattle.vm_engine.specs.Engine.Release.{key_if_free, last_free, first_free, if_held, neighbours}
-use Rattle.vm_engine.proofs.Numbers.RangeCalls.{starts_low}
+use Rattle.vm_ranges.proofs.RangeCalls.{starts_low}
 use Rattle.vm_engine.proofs.Blocks.BlockOrder.{ordered_middle}
 use Rattle.vm_engine.proofs.Blocks.Replacement.{same_range_start, same_range_before, same_range_self}
 

@@ -1,7 +1,7 @@
 -- A held block of a tree that becomes free and wider.
 use Rattle.std.proofs.Common.{◌≡◌, [], ◌∷◌, refl, sym, ◌∙◌, arith}
-use Rattle.vm_engine.specs.Range.{Range}
-use Rattle.vm_engine.specs.RangeOrder.{Before}
+use Rattle.vm_ranges.specs.Range.{Range}
+use Rattle.vm_ranges.specs.RangeOrder.{Before}
 use Rattle.vm_engine.specs.Tree.Block.{Block, free_length, free_block, held_block}
 use Rattle.vm_engine.specs.Tree.Multiples.{free_alignments}
 use Rattle.vm_engine.specs.Tree.Shape.{Shape, Tip, Fork, blocks, IsTree}

@@ -1,7 +1,7 @@
 -- A range taken from a free block of a tree, node by node.
 use Rattle.std.proofs.Common.{◌≡◌, ℕ, ◌+◌, List, [], ◌∷◌, ◌++◌, refl, sym, ap, ◌∙◌, subst, append_assoc, append-nil}
-use Rattle.vm_engine.specs.RangeOrder.{Before}
-use Rattle.vm_engine.specs.Range.{Range}
+use Rattle.vm_ranges.specs.RangeOrder.{Before}
+use Rattle.vm_ranges.specs.Range.{Range}
 use Rattle.vm_engine.specs.Tree.Block.{Block}
 use Rattle.vm_engine.specs.Tree.BlockList.{IsOrderedFrom, IsClearOf, insert_block, insert_all, AreClearOf, replace_block}
 use Rattle.vm_engine.specs.Tree.Shape.{Shape, Fork, blocks, height_of, single, root_block, IsTree, DifferByAtMost}

@@ -2,7 +2,7 @@
 use Rattle.std.proofs.Common.{◌≡◌, ◌+◌, ◌-◌, ◌<◌, ◌≤◌, suc, List, [], ◌∷◌, ◌++◌, length, refl, sym, ap, ◌∙◌, arith, inl, inr, ⊎_elim, subst, cond, ltb, true, false, Ok, Err, IsSome}
 use Rattle.std.proofs.lemmas.Bool.{cases_lt, le-ltb}
 use Rattle.vm_engine.specs.Engine.NodeFields.{side}
-use Rattle.vm_engine.specs.Range.{Range}
+use Rattle.vm_ranges.specs.Range.{Range}
 use Rattle.vm_engine.specs.Tree.Block.{Block, free_block, held_block}
 use Rattle.vm_engine.specs.Address.{LeavesClear, holding}
 use Rattle.vm_engine.specs.Answer.{FEWEST_TOO_DEEP, Takes}
@@ -14,11 +14,10 @@ use Rattle.vm_engine.specs.Tree.SpaceTree.{space_of, tree_state, IsSpaceTree, Is
 use Rattle.vm_engine.specs.Engine.Carving.{with_split, AreLeaves, CanCarve, IsRest}
 use Rattle.vm_engine.specs.declared.allocation_engine.node.carve.Rest.{Rest}
 use Rattle.vm_engine.specs.Counts.Fibonacci.{fibonacci, fibonacci_pair}
-use Rattle.vm_engine.specs.declared.error.Error.TheVariants.{Overflow, OutOfMemory}
-use Rattle.vm_engine.specs.declared.allocation_engine.NodeState.TheVariants.{Allocated}
+use Rattle.vm_ranges.specs.declared.error.Error.TheVariants.{Overflow, OutOfMemory}
+use Rattle.vm_ranges.specs.declared.state.NodeState.TheVariants.{Allocated}
 use Rattle.vm_engine.specs.declared.allocation_engine.interval_tree.placing.Choice.{Choice}
-use Rattle.vm_engine.proofs.Splitting.Taking.{tiles_carved, blocks_carved}
-use Rattle.vm_engine.proofs.Splitting.Taking.{leaves_clear, as_blocks, below_with}
+use Rattle.vm_engine.proofs.Splitting.Taking.{tiles_carved, blocks_carved, leaves_clear, as_blocks, below_with}
 use Rattle.vm_engine.proofs.Blocks.BlockOrder.{ordered_weaken}
 use Rattle.vm_engine.proofs.Blocks.Replacement.{replace_middle, find_middle}
 use Rattle.vm_engine.proofs.Nodes.TreeEdits.{tiles_ordered}

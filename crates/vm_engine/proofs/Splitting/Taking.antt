@@ -1,18 +1,16 @@
 -- A range taken from a free block, and what is left beside it.
-use Rattle.std.proofs.Common.{◌≡◌, ℕ, ◌+◌, ◌-◌, ◌<◌, ◌≤◌, List, [], ◌∷◌, ◌++◌, true, false, cond, ltb, refl, sym, ap, ◌∙◌, arith, ⊎_elim, subst}
+use Rattle.std.proofs.Common.{◌≡◌, ℕ, ◌+◌, ◌-◌, ◌<◌, ◌≤◌, List, [], ◌∷◌, ◌++◌, true, false, cond, ltb, refl, sym, ap, ◌∙◌, arith, ⊎_elim, subst, inl, inr}
 use Rattle.std.proofs.lemmas.Bool.{cases_lt, lt-ltb, le-ltb}
-use Rattle.vm_engine.specs.Range.{Range, MAX}
+use Rattle.vm_ranges.specs.Range.{Range, MAX}
 use Rattle.vm_engine.specs.Tree.Block.{Block}
 use Rattle.vm_engine.specs.Address.{AddressState, with_range, holding, LeavesClear}
 use Rattle.vm_engine.specs.Tree.Blocks.{NotBothFree, Tiles, held_of, IsBlocksOf, blocks_state, TilesSpace, AreBelowMax}
 use Rattle.vm_engine.specs.Engine.BlockEdits.{after_part, parts, IsTakenFrom, LeavesPart}
-use Rattle.vm_engine.specs.declared.allocation_engine.NodeState.{NodeState}
-use Rattle.vm_engine.specs.declared.allocation_engine.NodeState.TheVariants.{Free, Allocated}
-use Rattle.vm_engine.proofs.Blocks.Gaps.{state_cases}
+use Rattle.vm_ranges.specs.declared.state.NodeState.{NodeState}
+use Rattle.vm_ranges.specs.declared.state.NodeState.TheVariants.{Free, Allocated}
+use Rattle.vm_engine.proofs.Blocks.Gaps.{state_cases, InFreeBlock, free_is_clear}
 use Rattle.vm_engine.proofs.Blocks.OneList.{held_of-free, held_of-held}
-use Rattle.std.proofs.Common.{◌≡◌, ℕ, ◌+◌, ◌-◌, ◌<◌, ◌≤◌, List, [], ◌∷◌, ◌++◌, refl, sym, arith, inl, inr, ⊎_elim, subst, cond, ltb, true, false}
 use Rattle.vm_engine.proofs.Blocks.PlainWords.{all_miss}
-use Rattle.vm_engine.proofs.Blocks.Gaps.{InFreeBlock, free_is_clear}
 
 before_held : (p : NodeState) (lo hi : ℕ) (bs : List Block) → Tiles p lo bs hi → Tiles Allocated lo bs hi
 before_held p lo hi [] t = t

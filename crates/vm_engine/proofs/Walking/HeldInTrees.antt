@@ -1,10 +1,10 @@
 -- What is held in a tree: by its key, and how many.
 use Rattle.std.proofs.Common.{◌≡◌, ◌+◌, ◌^◌, ◌<◌, ◌≤◌, List, [], ◌∷◌, ◌++◌, length, refl, sym, ap, ◌∙◌, arith, append_assoc, length-append, ⊎_elim, ◌↔◌, Bool, IsTrue, Some}
-use Rattle.vm_engine.specs.Range.{Range}
+use Rattle.vm_ranges.specs.Range.{Range}
 use Rattle.vm_engine.specs.Tree.Block.{Block, held_block}
 use Rattle.vm_engine.specs.Tree.Blocks.{range_if_held, held_of}
 use Rattle.vm_engine.specs.Tree.Shape.{Shape, Fork, MAX_HEIGHT, blocks, height_of}
-use Rattle.vm_engine.specs.declared.allocation_engine.NodeState.TheVariants.{Free, Allocated}
+use Rattle.vm_ranges.specs.declared.state.NodeState.TheVariants.{Free, Allocated}
 use Rattle.vm_engine.proofs.Blocks.Gaps.{state_cases}
 use Rattle.vm_engine.proofs.Blocks.OneList.{held_of-free, held_of-held, same_block}
 use Rattle.vm_engine.proofs.Nodes.TreeEdits.{some_same}

@@ -1,29 +1,17 @@
 -- What the check of a saved value finds, part by part, in the order in which it looks. The lemmas of proofs/Reading say
 -- that this is what the value states.
-use Rattle.std.specs.Prelude.{ℕ, zero, suc, ◌+◌, max, Bool, not, ◌&&◌, ◌||◌, ◌==◌, nat_lt, nat_le, if◌then◌else◌, List, [], ◌∷◌, Option, Some, None, is_some, option_map, option_and_then, codes, bytes_eq}
+use Rattle.std.specs.Prelude.{ℕ, zero, suc, ◌+◌, max, Bool, not, ◌&&◌, ◌||◌, ◌==◌, nat_lt, nat_le, if◌then◌else◌, List, [], ◌∷◌, Option, Some, None, is_some, option_map, option_and_then, codes}
 use Rattle.serde_json.specs.Data.{Data}
-use Rattle.serde_json.specs.Find.{get, as_null, as_str}
+use Rattle.serde_json.specs.Find.{get, as_null}
 use Rattle.vm_values.specs.Fields.{field_count, is_count}
 use Rattle.vm_values.specs.Numbers.{number_in}
-use Rattle.vm_engine.specs.Range.{Range, MAX}
+use Rattle.vm_ranges.specs.Range.{Range, MAX}
 use Rattle.vm_engine.specs.Tree.Block.{Block, is_free}
 use Rattle.vm_engine.specs.Tree.Shape.{MAX_HEIGHT}
-use Rattle.vm_engine.specs.Values.RangeValues.{range_found}
-use Rattle.vm_engine.specs.declared.allocation_engine.NodeState.{NodeState}
-use Rattle.vm_engine.specs.declared.allocation_engine.NodeState.TheVariants.{Free, Allocated}
+use Rattle.vm_ranges.specs.RangeValues.{range_found, state_found}
+use Rattle.vm_ranges.specs.declared.state.NodeState.TheVariants.{Allocated}
 use Rattle.vm_engine.specs.declared.saved.tree.Front.{Front}
 use Rattle.vm_engine.specs.declared.saved.tree.Checked.{Checked}
-
--- the state of this name
-abbrev pub state_named : Option (List ℕ) → Option NodeState
-state_named None = None
-state_named (Some t) =
-    if bytes_eq t (codes "Free") then Some Free
-    else (if bytes_eq t (codes "Allocated") then Some Allocated else None)
-
--- the state that a value states
-abbrev pub state_found : Data → Option NodeState
-state_found d = state_named (as_str d)
 
 -- what stands in the fields of a node's value
 pub record NodeData : Type 0 where

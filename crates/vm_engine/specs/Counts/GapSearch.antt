@@ -2,16 +2,16 @@
 -- the state, by tests, so that a clause needs no number as a further argument; a law says that each test tells the truth.
 use Rattle.std.specs.Prelude.{◌≡◌, ℕ, ◌+◌, ◌*◌, ◌≤◌, ◌&&◌, not, min, nat_le, Bool, List, length, Result, Err}
 use Rattle.std.specs.List.{filter}
-use Rattle.vm_engine.specs.Range.{Range}
+use Rattle.vm_ranges.specs.Range.{Range}
 use Rattle.vm_engine.specs.Tree.Block.{Block, free_length}
 use Rattle.vm_engine.specs.Tree.Multiples.{has_aligned}
 use Rattle.vm_engine.specs.Address.{AddressState}
 use Rattle.vm_engine.specs.Tree.Blocks.{blocks_of}
-use Rattle.vm_engine.specs.Request.{Request, ByPolicy}
+use Rattle.vm_ranges.specs.Request.{Request, ByPolicy}
 use Rattle.vm_engine.specs.Counts.Ways.{has_fit}
 use Rattle.vm_engine.specs.Counts.Steps.{most_on_ways}
-use Rattle.vm_engine.specs.declared.error.Error.{Error}
-use Rattle.vm_engine.specs.declared.error.Error.TheVariants.{ResourceNotAvailable}
+use Rattle.vm_ranges.specs.declared.error.Error.{Error}
+use Rattle.vm_ranges.specs.declared.error.Error.TheVariants.{ResourceNotAvailable}
 
 -- whether a block is a gap that is long enough for n addresses, and has no place for them at a multiple of a
 unfoldable pub is_futile : ℕ → ℕ → Block → Bool

@@ -1,20 +1,20 @@
 -- How many nodes of a balanced tree a call enters.
 use Rattle.std.specs.Prelude.{◌≡◌, ℕ, ◌+◌, ◌*◌, ◌^◌, ◌<◌, ◌≤◌, List, ◌∷◌, ◌++◌, Some, None, Result, IfOk, IsOk, OnOk, OnErr, Err, length}
-use Rattle.vm_engine.specs.Range.{Range}
+use Rattle.vm_ranges.specs.Range.{Range}
 use Rattle.vm_engine.specs.Tree.Block.{Block, free_block}
 use Rattle.vm_engine.specs.Address.{AddressState, LeavesClear}
 use Rattle.vm_engine.specs.Tree.Blocks.{IsBlocksOf}
-use Rattle.vm_engine.specs.Request.{Request, IsRequest, MakesConstraint}
+use Rattle.vm_ranges.specs.Request.{Request, IsRequest, MakesConstraint}
 use Rattle.vm_engine.specs.Tree.Shape.{Shape, MAX_HEIGHT, blocks, height_of, node_count, IsBalanced}
 use Rattle.vm_engine.specs.Engine.BlockEdits.{IsTakenFrom}
 use Rattle.vm_engine.specs.Engine.Release.{neighbours, without_if}
 use Rattle.vm_engine.specs.Counts.Ways.{way_of_search, way_to_hold, way_to, way_around, way_if}
 use Rattle.vm_engine.specs.declared.allocation_engine.node.neighbours.Neighbours.{Neighbours}
 use Rattle.vm_engine.specs.Counts.Fibonacci.{fibonacci}
-use Rattle.vm_engine.specs.declared.error.Error.{Error}
-use Rattle.vm_engine.specs.declared.error.Error.TheVariants.{OutOfMemory}
-use Rattle.vm_engine.specs.declared.constraint.AllocPolicy.{AllocPolicy}
-use Rattle.vm_engine.specs.declared.constraint.AllocPolicy.TheVariants.{FirstMatch, LastMatch, ExactMatch}
+use Rattle.vm_ranges.specs.declared.error.Error.{Error}
+use Rattle.vm_ranges.specs.declared.error.Error.TheVariants.{OutOfMemory}
+use Rattle.vm_ranges.specs.declared.constraint.AllocPolicy.{AllocPolicy}
+use Rattle.vm_ranges.specs.declared.constraint.AllocPolicy.TheVariants.{FirstMatch, LastMatch, ExactMatch}
 
 -- A balanced tree of the blocks of the state, in order. It has at least as many nodes as a balanced tree of its height
 -- must have, and at most two for each held range and one more.

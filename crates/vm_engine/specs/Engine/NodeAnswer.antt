@@ -1,15 +1,15 @@
 -- What a change of a tree answers where it may be refused.
 use Rattle.std.specs.Prelude.{◌≡◌, ◌⊎◌, if◌then◌else◌, nat_lt, Option, Some, None, List, Result, Ok, Err, [], ◌∷◌}
-use Rattle.vm_engine.specs.Range.{Range, Overlaps}
+use Rattle.vm_ranges.specs.Range.{Range, Overlaps}
 use Rattle.vm_engine.specs.Tree.BlockList.{IsClearOf, insert_block, replace_block}
 use Rattle.vm_engine.specs.Tree.Block.{Block}
 use Rattle.vm_engine.specs.Tree.Shape.{Shape, Tip, Fork, blocks}
 use Rattle.vm_engine.specs.Engine.Changes.{Grows}
 use Rattle.vm_engine.specs.declared.allocation_engine.node.kept.Change.TheVariants.{Height}
-use Rattle.vm_engine.specs.declared.error.Error.{Error}
-use Rattle.vm_engine.specs.declared.error.Error.TheVariants.{ResourceNotAvailable, InvalidStateTransition, Overlap, OutOfMemory}
-use Rattle.vm_engine.specs.declared.allocation_engine.NodeState.{NodeState}
-use Rattle.vm_engine.specs.declared.allocation_engine.NodeState.TheVariants.{Free, Allocated}
+use Rattle.vm_ranges.specs.declared.error.Error.{Error}
+use Rattle.vm_ranges.specs.declared.error.Error.TheVariants.{ResourceNotAvailable, InvalidStateTransition, Overlap, OutOfMemory}
+use Rattle.vm_ranges.specs.declared.state.NodeState.{NodeState}
+use Rattle.vm_ranges.specs.declared.state.NodeState.TheVariants.{Free, Allocated}
 
 -- a key that overlaps none is one more, and the tree at most one higher
 pub record Inserts (old : Shape) (key : Range) (state : NodeState) (new : Shape) : Type 0 where

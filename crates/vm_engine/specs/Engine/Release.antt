@@ -1,12 +1,12 @@
 -- A held block that is given back, between what stands before and after it.
 use Rattle.std.specs.Prelude.{◌≡◌, ℕ, if◌then◌else◌, List, [], ◌∷◌, ◌++◌, Option, Some, None}
-use Rattle.vm_engine.specs.Range.{Range, IsRange}
+use Rattle.vm_ranges.specs.Range.{Range, IsRange}
 use Rattle.vm_engine.specs.Tree.Block.{Block, free_block, held_block}
 use Rattle.vm_engine.specs.Tree.BlockList.{IsOrderedFrom, replace_block}
-use Rattle.vm_engine.specs.RangeOrder.{same_range}
+use Rattle.vm_ranges.specs.RangeOrder.{same_range}
 use Rattle.vm_engine.specs.declared.allocation_engine.node.neighbours.Neighbours.{Neighbours}
-use Rattle.vm_engine.specs.declared.allocation_engine.NodeState.{NodeState}
-use Rattle.vm_engine.specs.declared.allocation_engine.NodeState.TheVariants.{Free, Allocated}
+use Rattle.vm_ranges.specs.declared.state.NodeState.{NodeState}
+use Rattle.vm_ranges.specs.declared.state.NodeState.TheVariants.{Free, Allocated}
 
 -- the range of a block that is free
 abbrev pub key_if_free : NodeState → Range → Option Range

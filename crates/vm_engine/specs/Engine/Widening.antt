@@ -1,11 +1,11 @@
 -- A held block made free and given more addresses.
 use Rattle.std.specs.Prelude.{◌≡◌, List, Some, max}
-use Rattle.vm_engine.specs.Range.{Range}
+use Rattle.vm_ranges.specs.Range.{Range}
 use Rattle.vm_engine.specs.Tree.Block.{Block, free_length, free_block, held_block}
 use Rattle.vm_engine.specs.Tree.BlockList.{IsOrderedFrom, with_block, find_key}
 use Rattle.vm_engine.specs.Tree.Multiples.{free_alignments}
 use Rattle.vm_engine.specs.Tree.Shape.{Shape, blocks, height_of, max_free_of, alignments_of, IsTree}
-use Rattle.vm_engine.specs.declared.allocation_engine.NodeState.TheVariants.{Free}
+use Rattle.vm_ranges.specs.declared.state.NodeState.TheVariants.{Free}
 
 -- one of the blocks is held and has the key, and with the free range in its place they are in order
 pub record CanWiden (bs : List Block) (key range : Range) : Type 0 where

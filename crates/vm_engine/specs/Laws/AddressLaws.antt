@@ -1,19 +1,17 @@
 -- What follows from the definitions alone, for one call of an address allocator.
 use Rattle.std.specs.Prelude.{◌≡◌, ◌≢◌, ℕ, ◌<◌, ◌≤◌, ◌⊎◌, ◌↔◌, true, List, length, Result, Ok}
 use Rattle.std.specs.List.{All, AllPairs, Contains}
-use Rattle.std.specs.declared.cmp.Ordering.TheVariants.{Equal}
-use Rattle.vm_engine.specs.Range.{Range, MAX, Overlaps, Covers}
-use Rattle.vm_engine.specs.RangeOrder.{range_cmp}
+use Rattle.vm_ranges.specs.Range.{Range, MAX, Overlaps, Covers}
 use Rattle.vm_engine.specs.Address.{AddressState, IsClear, LeavesClear, IsAddressState}
 use Rattle.vm_engine.specs.Tree.Block.{Block, free_length}
 use Rattle.vm_engine.specs.Engine.Fit.{HasNoFit}
-use Rattle.vm_engine.specs.Alignment.{IsAlignment}
+use Rattle.vm_ranges.specs.Alignment.{IsAlignment}
 use Rattle.vm_engine.specs.Counts.GapSearch.{is_futile, futile_gaps, is_cramped, cramped_gaps}
 use Rattle.vm_engine.specs.Tree.Multiples.{HasMultiple, multiples_in}
-use Rattle.vm_engine.specs.Request.{Request}
+use Rattle.vm_ranges.specs.Request.{Request}
 use Rattle.vm_engine.specs.Answer.{IsSplitRefusal, Takes, Allocates, Frees, Makes}
-use Rattle.vm_engine.specs.declared.error.Error.{Error}
-use Rattle.vm_engine.specs.declared.allocation_engine.NodeState.TheVariants.{Free}
+use Rattle.vm_ranges.specs.declared.error.Error.{Error}
+use Rattle.vm_ranges.specs.declared.state.NodeState.TheVariants.{Free}
 
 -- two answers and the states that they leave come from one range, which leaves a clear address beside it: each is the
 -- range taken or a split refused, and one of them at least is refused
@@ -119,11 +117,3 @@ abbrev pub CrampedAreFew : Type 0
 CrampedAreFew =
     (state : AddressState) (request : Request) → IsAddressState state → IsAlignment request.align →
     cramped_gaps state request ≤ multiples_in request.align state.space
-
--- overlapping goes both ways, each range covers itself and what a covered one covers, and the order finds two ranges
--- equal just where they are one
-pub record RangesAreSets : Type 0 where
-  pub symmetric : (r s : Range) → Overlaps r s → Overlaps s r
-  pub reflexive : (r : Range) → Covers r r
-  pub transitive : (r s t : Range) → Covers r s → Covers s t → Covers r t
-  pub equal : (r s : Range) → (range_cmp r s ≡ Equal) ↔ (r ≡ s)

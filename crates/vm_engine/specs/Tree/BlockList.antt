@@ -1,9 +1,9 @@
 -- Lists of blocks, from the lowest to the highest.
 use Rattle.std.specs.Prelude.{ℕ, ◌+◌, ◌≤◌, if◌then◌else◌, nat_lt, List, [], ◌∷◌, ◌++◌, Option, Some, None}
-use Rattle.vm_engine.specs.Range.{Range}
-use Rattle.vm_engine.specs.RangeOrder.{Apart, same_range, covers}
+use Rattle.vm_ranges.specs.Range.{Range}
+use Rattle.vm_ranges.specs.RangeOrder.{Apart, same_range, covers}
 use Rattle.vm_engine.specs.Tree.Block.{Block}
-use Rattle.vm_engine.specs.declared.allocation_engine.NodeState.{NodeState}
+use Rattle.vm_ranges.specs.declared.state.NodeState.{NodeState}
 
 -- each key has its ends in order and starts after the key before it ends, the first at lo or above
 abbrev pub IsOrderedFrom : ℕ → List Block → Type 0

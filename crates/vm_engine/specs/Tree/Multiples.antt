@@ -1,6 +1,6 @@
 -- Multiples of an alignment in ranges and blocks.
 use Rattle.std.specs.Prelude.{◌≡◌, ℕ, zero, suc, ◌+◌, ◌-◌, ◌%◌, ◌^◌, ◌&&◌, if◌then◌else◌, nat_eq, nat_le, Bool}
-use Rattle.vm_engine.specs.Range.{Range, IsIn}
+use Rattle.vm_ranges.specs.Range.{Range, IsIn}
 use Rattle.vm_engine.specs.Tree.Block.{Block, is_free}
 
 -- a multiple of a lies in the range

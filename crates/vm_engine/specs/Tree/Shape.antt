@@ -3,7 +3,7 @@ use Rattle.std.specs.Prelude.{ℕ, ◌+◌, ◌≤◌, max, List, [], ◌∷◌,
 use Rattle.vm_engine.specs.Tree.Block.{Block, free_length}
 use Rattle.vm_engine.specs.Tree.BlockList.{IsOrderedFrom}
 use Rattle.vm_engine.specs.Tree.Multiples.{free_alignments}
-use Rattle.vm_engine.specs.declared.allocation_engine.NodeState.TheVariants.{Free}
+use Rattle.vm_ranges.specs.declared.state.NodeState.TheVariants.{Free}
 
 -- nothing, or a block between a left and a right side
 pub data Shape : Type 0 where

@@ -1,20 +1,20 @@
 -- A tree whose blocks are those of a space.
 use Rattle.std.specs.Prelude.{◌≡◌, ℕ, ◌+◌, ◌-◌, ◌<◌, ◌≤◌, ◌⊎◌, List, [], ◌∷◌, ◌++◌, Option, MatchOption, Result, Ok, Err, MatchResult}
-use Rattle.vm_engine.specs.Cases.{IfElse}
-use Rattle.vm_engine.specs.Range.{Range, MAX, IsRange, span}
+use Rattle.vm_ranges.specs.Cases.{IfElse}
+use Rattle.vm_ranges.specs.Range.{Range, MAX, IsRange, span}
 use Rattle.vm_engine.specs.Tree.Block.{Block, free_block}
 use Rattle.vm_engine.specs.Address.{AddressState}
-use Rattle.vm_engine.specs.Request.{Request}
+use Rattle.vm_ranges.specs.Request.{Request}
 use Rattle.vm_engine.specs.Answer.{Takes, Grants}
 use Rattle.vm_engine.specs.Tree.Blocks.{blocks_state, IsTiling}
 use Rattle.vm_engine.specs.Engine.BlockEdits.{parts, IsTakenFrom}
 use Rattle.vm_engine.specs.Tree.Shape.{Shape, MAX_HEIGHT, blocks, height_of, node_count}
-use Rattle.vm_engine.specs.declared.error.Error.{Error}
-use Rattle.vm_engine.specs.declared.error.Error.TheVariants.{Overflow, ResourceNotAvailable, InvalidStateTransition, OutOfMemory}
-use Rattle.vm_engine.specs.declared.allocation_engine.NodeState.{NodeState}
-use Rattle.vm_engine.specs.declared.allocation_engine.NodeState.TheVariants.{Free, Allocated}
-use Rattle.vm_engine.specs.declared.constraint.AllocPolicy.{AllocPolicy}
-use Rattle.vm_engine.specs.declared.constraint.AllocPolicy.TheVariants.{FirstMatch, LastMatch, ExactMatch}
+use Rattle.vm_ranges.specs.declared.error.Error.{Error}
+use Rattle.vm_ranges.specs.declared.error.Error.TheVariants.{Overflow, ResourceNotAvailable, InvalidStateTransition, OutOfMemory}
+use Rattle.vm_ranges.specs.declared.state.NodeState.{NodeState}
+use Rattle.vm_ranges.specs.declared.state.NodeState.TheVariants.{Free, Allocated}
+use Rattle.vm_ranges.specs.declared.constraint.AllocPolicy.{AllocPolicy}
+use Rattle.vm_ranges.specs.declared.constraint.AllocPolicy.TheVariants.{FirstMatch, LastMatch, ExactMatch}
 use Rattle.vm_engine.specs.declared.allocation_engine.interval_tree.placing.Choice.{Choice}
 use Rattle.vm_engine.specs.declared.allocation_engine.node.places.Place.{Place}
 

@@ -3,12 +3,12 @@ use Rattle.std.specs.Prelude.{◌≡◌, ◌≢◌, ℕ, ◌+◌, ◌≤◌, max
 use Rattle.serde_json.specs.Data.{Data, null}
 use Rattle.vm_values.specs.Fields.{field_count, FieldIs}
 use Rattle.vm_values.specs.Numbers.{number_in}
-use Rattle.vm_engine.specs.Range.{Range}
+use Rattle.vm_ranges.specs.Range.{Range}
 use Rattle.vm_engine.specs.Tree.Block.{Block}
 use Rattle.vm_engine.specs.Tree.Blocks.{IsTiling}
 use Rattle.vm_engine.specs.Tree.BlockList.{IsOrderedFrom}
 use Rattle.vm_engine.specs.Tree.Shape.{Shape, Tip, Fork, MAX_HEIGHT, blocks, height_of, IsBalanced}
-use Rattle.vm_engine.specs.Values.RangeValues.{StatesRange, StatesState}
+use Rattle.vm_ranges.specs.RangeValues.{StatesRange, StatesState}
 
 -- the value is an object of a node's five fields alone: the block, what stands for each child, and the height
 pub record StatesNode (d : Data) (block : Block) (Left Right : Data → Type 0) (h : ℕ) : Type 0 where

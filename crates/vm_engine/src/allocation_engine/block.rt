@@ -5,10 +5,9 @@ ghost use Rattle.std.specs.Cmp.Rules.{comparing};
 ghost use Rattle.std.specs.Ordering.{as_partial_cmp};
 ghost use Rattle.vm_engine.specs.Comparison.{block_cmp, block_cmp-total};
 
-use super::NodeState;
-use crate::range::RangeInclusive;
 use std::cmp::Ordering;
 use std::marker::Model;
+use vm_ranges::{NodeState, RangeInclusive};
 
 /// A range of addresses, and whether it is held. Blocks are ordered by start, then by end, then by
 /// state.

@@ -8,21 +8,19 @@
 ghost use Rattle.std.specs.Prelude.{◌≡◌, OnErr, IfOk};
 ghost use Rattle.vm_engine.specs.Address.{IsAddressState};
 ghost use Rattle.vm_engine.specs.Answer.{Grants, Frees};
-ghost use Rattle.vm_engine.specs.Cloning.{Clones};
+ghost use Rattle.vm_ranges.specs.Cloning.{Clones};
 ghost use Rattle.vm_engine.specs.Tree.Shape.{blocks, height_of, IsTree};
 ghost use Rattle.vm_engine.specs.Counts.GapSearch.{SearchesGaps, SearchesAligned};
 ghost use Rattle.vm_engine.specs.Counts.Steps.{Enters, EntersToFree, IsBalancedTreeOf, IsGrantCount, IsReleaseCount, SplitsIfLow};
 ghost use Rattle.vm_engine.specs.Tree.SpaceTree.{tree_state, IsSpaceTree, MakesTree};
 
-use super::NodeState;
 use super::node::walks::Walk;
 use super::node::walks::copying::copy;
 use super::node::{Child, InnerNode};
-use crate::constraint::Constraint;
-use crate::error::Result;
-use crate::range::RangeInclusive;
+use crate::allocation_engine::ends::known;
 use std::alloc::Global;
 use std::marker::Model;
+use vm_ranges::{Constraint, NodeState, RangeInclusive, Result};
 
 mod comparing;
 pub(crate) mod held_ranges;
@@ -61,7 +59,7 @@ impl IntervalTree {
         ensures answer { MakesTree key result }
         ensures state { IfOk result (λ tree. IsAddressState (tree_state tree)) }
     {
-        key.known();
+        known(&key);
         let node = Box::new(alloc, InnerNode::new(key, NodeState::Free))?;
         Ok(IntervalTree { root: Some(node) })
     }

@@ -3,7 +3,7 @@
 //! that its blocks, its height and its balance are functions of that value, and 'unchanged' is an
 //! equation.
 ghost use Rattle.std.specs.Prelude.{◌≡◌, ◌+◌, ◌<◌, ◌≤◌, ◌^◌, ◌↔◌, max, IsNone, MatchResult};
-ghost use Rattle.vm_engine.specs.Range.{MAX};
+ghost use Rattle.vm_ranges.specs.Range.{MAX};
 ghost use Rattle.vm_engine.specs.Tree.Shape.{Tip, Fork, height_of, single, root_block, IsTree};
 ghost use Rattle.vm_engine.specs.Engine.NodeFields.{side};
 
@@ -25,11 +25,9 @@ pub(crate) mod widen;
 
 use self::balance::fork;
 use self::kept::room_of;
-use crate::allocation_engine::NodeState;
-use crate::error::{Error, Result};
-use crate::range::RangeInclusive;
 use std::alloc::Global;
 use std::marker::Model;
+use vm_ranges::{Error, NodeState, RangeInclusive, Result};
 
 /// A node of the tree, with the tree below it: keys in order without an address in common, the
 /// heights of its children at most one apart, its own height kept, the length of the longest free block

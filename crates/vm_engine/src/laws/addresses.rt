@@ -1,4 +1,4 @@
-//! Laws of single calls of an address allocator, and of ranges.
+//! Laws of single calls of an address allocator.
 ghost use Rattle.vm_engine.specs.Laws.AddressLaws.{
   AllocatesOnce,
   FreesOnce,
@@ -12,7 +12,6 @@ ghost use Rattle.vm_engine.specs.Laws.AddressLaws.{
   CountTellsAll,
   CrampedIsTold,
   CrampedAreFew,
-  RangesAreSets,
 };
 
 /// The state of an allocator decides its answer to a request and the state after it, the refusal of
@@ -63,11 +62,4 @@ fn counts_tell_all()
 fn cramped_gaps_are_told()
     ensures told { CrampedIsTold }
     ensures few { CrampedAreFew }
-{}
-
-/// Overlapping is symmetric, containing reflexive and transitive, and the order of ranges agrees with
-/// their equality.
-#[tactic(auto, using(crate::proofs::Comparing::Orders::ranges_are_sets))]
-fn ranges_are_sets()
-    ensures { RangesAreSets }
 {}

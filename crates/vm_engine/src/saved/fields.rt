@@ -1,16 +1,13 @@
 //! The fields of a node's value, read and written: their names stand here alone. Reading takes no
 //! memory.
-ghost use Rattle.std.specs.Prelude.{◌≡◌, IfOk, option_map, option_and_then};
+ghost use Rattle.std.specs.Prelude.{◌≡◌, IfOk, option_map};
 ghost use Rattle.serde_json.specs.View.{view};
-ghost use Rattle.serde_json.specs.Find.{get};
-ghost use Rattle.vm_engine.specs.Values.RangeValues.{range_found};
 ghost use Rattle.vm_engine.specs.Checks.ValueParts.{NodeParts};
-ghost use Rattle.vm_engine.specs.Checks.ValueChecks.{state_found, node_data};
+ghost use Rattle.vm_engine.specs.Checks.ValueChecks.{node_data};
 
-use crate::allocation_engine::NodeState;
-use crate::range::RangeInclusive;
 use serde_json::{Value, json};
 use std::alloc::{AllocError, Global};
+use vm_ranges::{NodeState, RangeInclusive, range_in, state_in};
 use vm_values::{has_fields, number_in};
 
 const KEY: &str = "key";
@@ -22,20 +19,6 @@ const LEFT: &str = "left";
 const RIGHT: &str = "right";
 
 const HEIGHT: &str = "height";
-
-/// The range in a field.
-pub fn range_in(value: &Value, name: &str) -> Option<RangeInclusive>
-    ensures { result ≡ option_and_then range_found (get name.now (view value.now)) }
-{
-    RangeInclusive::stated_by(value.get(name)?)
-}
-
-/// The state in a field.
-fn state_in(value: &Value, name: &str) -> Option<NodeState>
-    ensures { result ≡ option_and_then state_found (get name.now (view value.now)) }
-{
-    NodeState::stated_by(value.get(name)?)
-}
 
 /// What stands in the fields of a node's value.
 #[derive(Clone, Copy)]

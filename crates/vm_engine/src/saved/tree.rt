@@ -2,22 +2,21 @@
 ghost use Rattle.std.specs.Prelude.{◌≡◌, ◌≤◌, ◌+◌, ◌<◌, ◌^◌, IfOk, IfSome, is_some};
 ghost use Rattle.serde_json.specs.View.{view};
 ghost use Rattle.vm_engine.specs.Engine.NodeFields.{side};
-ghost use Rattle.vm_engine.specs.Saving.{Saves, Reads};
+ghost use Rattle.vm_ranges.specs.Saving.{Saves, Reads};
 ghost use Rattle.vm_engine.specs.Tree.Shape.{blocks};
 ghost use Rattle.vm_engine.specs.Tree.SpaceTree.{space_of};
 ghost use Rattle.vm_engine.specs.Values.TreeValues.{StatesShape, StatesSpaceTree};
 ghost use Rattle.vm_engine.specs.Checks.ValueParts.{HasShapeWithin};
 ghost use Rattle.vm_engine.specs.Checks.ValueChecks.{behind, is_true_height, tree_found, tree_fitting};
 
-use super::ValueError;
 use super::fields::node_of;
+use crate::allocation_engine::IntervalTree;
+use crate::allocation_engine::ends::known;
 use crate::allocation_engine::node::walks::saving::save;
 use crate::allocation_engine::node::{Child, InnerNode};
-use crate::allocation_engine::{IntervalTree, NodeState};
-use crate::error::Result;
-use crate::range::RangeInclusive;
 use serde_json::Value;
 use std::alloc::Global;
+use vm_ranges::{NodeState, RangeInclusive, Result, ValueError};
 
 /// No node of a saved tree is nested deeper, since no tree of an allocator is higher.
 const MOST_NESTED: u64 = 49;
@@ -41,7 +40,7 @@ impl IntervalTree {
     ) -> std::result::Result<Self, ValueError>
         ensures { Reads (StatesSpaceTree (view value.now) space.now) result }
     {
-        space.known();
+        known(space);
         if !fits(space, value) {
             return Err(ValueError::NotAState);
         }

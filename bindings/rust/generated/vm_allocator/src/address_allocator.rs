@@ -2,13 +2,13 @@
 
 //! Ranges of one space. The space stands beside the tree, which tells it too, so that `base` and
 //! `end` are one read each; that the two agree is the invariant. Its fields are open inside the crate,
-//! for `saved`, and whoever puts them together proves the invariant. The plain calls are the counted ones without the count. That some
-//! calls always succeed follows from their answers, and is a clause of its own all the same: a
-//! monitor relies on it.
+//! for `saved`, and whoever puts them together proves the invariant. The plain calls are the counted
+//! ones without the count. That some calls always succeed follows from their answers, and is a clause
+//! of its own all the same: a monitor relies on it.
 
 use rattle::Global;
 use vm_engine::allocation_engine::IntervalTree;
-use vm_engine::{AllocPolicy, Constraint, Error, RangeInclusive, Result};
+use vm_ranges::{AllocPolicy, Constraint, Error, RangeInclusive, Result};
 
 mod comparing;
 mod held_ranges;

@@ -13,7 +13,5 @@ mod saved;
 
 pub use address_allocator::AddressAllocator;
 pub use vm_engine::allocation_engine::HeldRanges;
-pub use vm_engine::{
-    AllocPolicy, Constraint, DEFAULT_CONSTRAINT_ALIGN, Error, RangeInclusive, Result, ValueError,
-};
+pub use vm_ranges::{AllocPolicy, Constraint, DEFAULT_CONSTRAINT_ALIGN, Error, RangeInclusive, Result, ValueError};
 pub use vm_ids::IdAllocator;

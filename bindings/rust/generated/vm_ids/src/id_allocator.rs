@@ -5,7 +5,7 @@
 
 use rattle::Global;
 use rattle::BTreeSet;
-use vm_engine::{Error, Result};
+use vm_ranges::{Error, Result};
 
 /// Gives out the ids of a range, each to one holder at a time.
 #[derive(Debug)]

@@ -7,7 +7,7 @@ use crate::id_allocator::{IdAllocator, bound_of};
 use rattle::{Value, json};
 use rattle::{AllocError, Global};
 use rattle::BTreeSet;
-use vm_engine::{Result, ValueError};
+use vm_ranges::{Result, ValueError};
 use vm_values::{has_fields, list_in, u32_from, u32_in};
 
 impl IdAllocator {

@@ -3,7 +3,7 @@ ghost use Rattle.std.specs.Prelude.{IfOk};
 ghost use Rattle.std.specs.FinSet as set;
 ghost use Rattle.serde_json.specs.View.{items_view};
 ghost use Rattle.vm_allocator.specs.Allocator.{state_of};
-ghost use Rattle.vm_engine.specs.Cases.{Tells};
+ghost use Rattle.vm_ranges.specs.Cases.{Tells};
 ghost use Rattle.vm_devices.specs.SavedChecks.{AreAsMany, AreHeldApart};
 
 use serde_json::Value;

@@ -4,8 +4,8 @@ ghost use Rattle.std.specs.List.Sorted.{IsStrictlySortedBy};
 ghost use Rattle.std.specs.Map.{keys_of};
 ghost use Rattle.std.specs.Ordering.{nat_cmp};
 ghost use Rattle.serde_json.specs.View.{view, items_view};
-ghost use Rattle.vm_engine.specs.Saving.{Saves};
-ghost use Rattle.vm_engine.specs.Values.RangeValues.{range_found};
+ghost use Rattle.vm_ranges.specs.Saving.{Saves};
+ghost use Rattle.vm_ranges.specs.RangeValues.{range_found};
 ghost use Rattle.vm_devices.specs.Saved.{StatesDevice, StatesList};
 ghost use Rattle.vm_devices.specs.SavedChecks.{device_found, FindsDevices, DeviceParts};
 

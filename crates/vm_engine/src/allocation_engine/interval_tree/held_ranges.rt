@@ -7,11 +7,10 @@ ghost use Rattle.std.specs.Iterator.{YieldsFirst, item_count};
 ghost use Rattle.vm_engine.specs.Tree.SpaceTree.{tree_state};
 
 use super::IntervalTree;
-use crate::allocation_engine::NodeState;
 use crate::allocation_engine::node::walks::Walk;
 use crate::allocation_engine::node::walks::held::{count_held, has_held};
-use crate::range::RangeInclusive;
 use std::marker::Model;
+use vm_ranges::{NodeState, RangeInclusive};
 
 /// The held ranges of a space, from the lowest to the highest: it is seen as those that are
 /// left. It takes no memory.
@@ -22,7 +21,7 @@ pub struct HeldRanges<'a> {
 
 impl<'a> Model for HeldRanges<'a> {
     ghost use Rattle.std.specs.Prelude.{List};
-    ghost use Rattle.vm_engine.specs.Range.{Range};
+    ghost use Rattle.vm_ranges.specs.Range.{Range};
     ghost use Rattle.vm_engine.specs.Tree.Blocks.{held_of};
 
     ghost Value = { List Range };

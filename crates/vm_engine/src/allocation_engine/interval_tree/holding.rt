@@ -1,11 +1,11 @@
 //! How a range is held: what fills its free block is marked in place, and what does not is split
 //! from it, with all memory asked for before the first change.
 ghost use Rattle.std.specs.Prelude.{◌≡◌, ◌+◌, ◌*◌, ◌<◌, ◌≤◌, Err, IfOk, IfErr, IfSome, OnErr, OnOk};
-ghost use Rattle.vm_engine.specs.Range.{MAX};
+ghost use Rattle.vm_ranges.specs.Range.{MAX};
 ghost use Rattle.vm_engine.specs.Answer.{Takes};
 ghost use Rattle.vm_engine.specs.Tree.Block.{free_block};
 ghost use Rattle.vm_engine.specs.Engine.BlockEdits.{IsTakenFrom, LeavesPart, before_part, after_part};
-ghost use Rattle.vm_engine.specs.Cases.{Tells};
+ghost use Rattle.vm_ranges.specs.Cases.{Tells};
 ghost use Rattle.vm_engine.specs.Engine.Carving.{IsRest};
 ghost use Rattle.vm_engine.specs.Tree.Shape.{blocks, height_of, single, leaf_of};
 ghost use Rattle.vm_engine.specs.Engine.Changes.{IsLeaf};
@@ -16,13 +16,12 @@ ghost use Rattle.vm_engine.specs.Counts.Ways.{way_if_held};
 
 use super::IntervalTree;
 use super::placing::Choice;
-use crate::allocation_engine::NodeState;
+use crate::allocation_engine::ends::{between, known};
 use crate::allocation_engine::node::carve::{Cut, Rest, carve_at};
 use crate::allocation_engine::node::rewrite::rewrite_at;
 use crate::allocation_engine::node::{Child, InnerNode};
-use crate::error::{Error, Result};
-use crate::range::RangeInclusive;
 use std::alloc::Global;
+use vm_ranges::{Error, NodeState, RangeInclusive, Result};
 
 /// The height from which on no split is made, so that two more nodes never make a tree too high.
 const TOO_HIGH: u64 = 48;
@@ -95,11 +94,11 @@ fn leaf_before(alloc: Global, choice: &Choice) -> Result<Child>
     ensures leaf { IfOk result (λ leaf. IfSome leaf (λ n. IsLeaf n.value)) }
     ensures error { IfErr result (λ error. error ≡ Error.OutOfMemory) }
 {
-    choice.key.known();
+    known(&choice.key);
     if choice.key.start() >= choice.range.start() {
         return Ok(None);
     }
-    let key = RangeInclusive::between(choice.key.start(), choice.range.start() - 1);
+    let key = between(choice.key.start(), choice.range.start() - 1);
     free_leaf(alloc, key)
 }
 
@@ -110,11 +109,11 @@ fn leaf_after(alloc: Global, choice: &Choice) -> Result<Child>
     ensures leaf { IfOk result (λ leaf. IfSome leaf (λ n. IsLeaf n.value)) }
     ensures error { IfErr result (λ error. error ≡ Error.OutOfMemory) }
 {
-    choice.key.known();
+    known(&choice.key);
     if choice.range.end() >= choice.key.end() {
         return Ok(None);
     }
-    let key = RangeInclusive::between(choice.range.end() + 1, choice.key.end());
+    let key = between(choice.range.end() + 1, choice.key.end());
     free_leaf(alloc, key)
 }
 

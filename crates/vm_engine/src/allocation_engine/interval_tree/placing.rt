@@ -1,20 +1,18 @@
 //! Where a request is placed: the least, the greatest or the named place, and the free block that
 //! has it.
 ghost use Rattle.std.specs.Prelude.{◌≡◌, ◌≢◌, ◌+◌, ◌<◌, ◌≤◌, IfErr, IfSome};
-ghost use Rattle.vm_engine.specs.Range.{MAX};
+ghost use Rattle.vm_ranges.specs.Range.{MAX};
 ghost use Rattle.vm_engine.specs.Tree.Block.{free_block};
 ghost use Rattle.vm_engine.specs.Engine.BlockEdits.{HasRoom};
 ghost use Rattle.vm_engine.specs.Tree.Shape.{height_of, node_count};
 ghost use Rattle.vm_engine.specs.Tree.SpaceTree.{Chooses, ChoosesAt, ExactIn};
 ghost use Rattle.vm_engine.specs.Counts.Ways.{way_of_search};
-ghost use Rattle.vm_engine.specs.declared.constraint.AllocPolicy.TheVariants.{ExactMatch};
+ghost use Rattle.vm_ranges.specs.declared.constraint.AllocPolicy.TheVariants.{ExactMatch};
 
 use super::IntervalTree;
-use crate::allocation_engine::NodeState;
+use crate::allocation_engine::ends::{between, known};
 use crate::allocation_engine::node::places::{Place, first_place, last_place};
-use crate::constraint::{AllocPolicy, Constraint};
-use crate::error::{Error, Result};
-use crate::range::RangeInclusive;
+use vm_ranges::{AllocPolicy, Constraint, Error, NodeState, RangeInclusive, Result};
 
 /// A range to hold, and the free block that it is taken from.
 #[derive(Clone, Copy)]
@@ -64,7 +62,7 @@ impl IntervalTree {
             return Err(Error::Overflow);
         }
         let size = constraint.size();
-        let first = RangeInclusive::between(start, start);
+        let first = between(start, start);
         let Some(node) = self.root().search_superset(&first, count) else {
             return Err(Error::ResourceNotAvailable);
         };
@@ -87,14 +85,14 @@ fn choice_at(found: Option<Place>, size: u64) -> Result<Choice>
     let Some(place) = found else {
         return Err(Error::ResourceNotAvailable);
     };
-    place.key.known();
+    known(&place.key);
     let last = place.start + (size - 1);
     if last == u64::MAX {
         return Err(Error::Overflow);
     }
     Ok(Choice {
         key: place.key,
-        range: RangeInclusive::between(place.start, last),
+        range: between(place.start, last),
     })
 }
 
@@ -124,7 +122,7 @@ fn exact_in(key: RangeInclusive, state: NodeState, start: u64, last: u64) -> Res
             }
             Ok(Choice {
                 key,
-                range: RangeInclusive::between(start, last),
+                range: between(start, last),
             })
         }
     }

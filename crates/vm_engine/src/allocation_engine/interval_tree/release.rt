@@ -2,7 +2,7 @@
 //! block is widened by one more, free again. To take all three out in one descent would ask for a
 //! proof by cases on which of them stands above which, and for two removals on one way back up.
 ghost use Rattle.std.specs.Prelude.{◌≡◌, ◌+◌, ◌*◌, ◌≤◌, OnErr};
-ghost use Rattle.vm_engine.specs.Range.{MAX, IsRange};
+ghost use Rattle.vm_ranges.specs.Range.{MAX, IsRange};
 ghost use Rattle.vm_engine.specs.Answer.{Frees};
 ghost use Rattle.vm_engine.specs.Engine.Release.{IsAround, joined, rejoined, without_if, start_with, end_with};
 ghost use Rattle.vm_engine.specs.Tree.Shape.{blocks, height_of};
@@ -12,12 +12,12 @@ ghost use Rattle.vm_engine.specs.Counts.Steps.{EntersToFree, IsWayBack};
 ghost use Rattle.vm_engine.specs.Counts.Ways.{way_if};
 
 use super::IntervalTree;
+use crate::allocation_engine::ends::between;
 use crate::allocation_engine::node::Child;
 use crate::allocation_engine::node::neighbours::Neighbours;
 use crate::allocation_engine::node::remove::delete_at;
 use crate::allocation_engine::node::widen::widen;
-use crate::error::{Error, Result};
-use crate::range::RangeInclusive;
+use vm_ranges::{Error, RangeInclusive, Result};
 
 impl IntervalTree {
     /// `free`, which adds the nodes that it enters to a counter at 0.
@@ -65,7 +65,7 @@ fn joined(key: &RangeInclusive, beside: &Neighbours) -> RangeInclusive
         None => key.end(),
         Some(after) => after.end(),
     };
-    RangeInclusive::between(start, end)
+    between(start, end)
 }
 
 /// Removes the node with a key, if there is such a key.

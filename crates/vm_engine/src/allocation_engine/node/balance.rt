@@ -17,8 +17,7 @@ ghost use Rattle.vm_engine.specs.Engine.Settling.{IsSettled, CanFinish, Finishes
 
 use super::kept::{Change, kept_of, kept_over, renew_room, room_of};
 use super::{Child, InnerNode, height};
-use crate::allocation_engine::NodeState;
-use crate::range::RangeInclusive;
+use vm_ranges::{NodeState, RangeInclusive};
 
 /// What becomes of a node once one of its children has changed.
 #[derive(Drop)]

@@ -6,7 +6,7 @@
 //! inlined), which takes 2 % off. Heights are looked at on the way back up only where one may have
 //! changed, which takes 3 % off.
 ghost use Rattle.std.specs.Prelude.{◌≡◌, ◌+◌, ◌*◌, ◌<◌, ◌≤◌, IfSome, IsSome};
-ghost use Rattle.vm_engine.specs.Range.{MAX};
+ghost use Rattle.vm_ranges.specs.Range.{MAX};
 ghost use Rattle.vm_engine.specs.Tree.BlockList.{insert_all, AreClearOf};
 ghost use Rattle.vm_engine.specs.Engine.Carving.{with_split, AreLeaves, CanCarve};
 ghost use Rattle.vm_engine.specs.Tree.Shape.{MAX_HEIGHT, blocks, height_of, root_block};
@@ -18,9 +18,9 @@ use super::balance::settle;
 use super::kept::{Change, kept_of, renew_room, room_of};
 use super::link::link_at;
 use super::{Child, InnerNode, known};
-use crate::allocation_engine::NodeState;
-use crate::range::RangeInclusive;
+use crate::allocation_engine::ends::order;
 use std::cmp::Ordering;
+use vm_ranges::{NodeState, RangeInclusive};
 
 /// What is left of a free block before and after a range, a leaf each.
 #[derive(Drop)]
@@ -124,7 +124,7 @@ pub(crate) fn carve_at(at: &mut Child, cut: &mut Cut, count: &mut u64) -> Change
     let Some(tree) = at else { unreachable!() };
     let tree: &mut InnerNode = tree;
     tree.enter(count);
-    let change = match tree.key.order(&cut.key) {
+    let change = match order(&tree.key, &cut.key) {
         Ordering::Equal => return carve_here(at, cut.range, cut.rest.take(), count),
         Ordering::Greater => carve_at(&mut tree.left, cut, count),
         Ordering::Less => carve_at(&mut tree.right, cut, count),

@@ -1,13 +1,14 @@
 //! The block of an address.
 ghost use Rattle.std.specs.Prelude.{◌≡◌, ◌+◌, ◌≤◌};
 ghost use Rattle.std.specs.Option.{option_map};
-ghost use Rattle.vm_engine.specs.Range.{MAX};
+ghost use Rattle.vm_ranges.specs.Range.{MAX};
 ghost use Rattle.vm_engine.specs.Tree.BlockList.{find_superset};
 ghost use Rattle.vm_engine.specs.Tree.Shape.{blocks, height_of, root_block};
 ghost use Rattle.vm_engine.specs.Counts.Ways.{way_across};
 
 use super::InnerNode;
-use crate::range::RangeInclusive;
+use crate::allocation_engine::ends::ends_before;
+use vm_ranges::RangeInclusive;
 
 impl InnerNode {
     /// The node whose key contains this one.
@@ -22,11 +23,11 @@ impl InnerNode {
         ensures count { count.new ≡ count.old + way_across key.now self.now }
     {
         self.enter(count);
-        if key.ends_before(&self.key) {
+        if ends_before(key, &self.key) {
             let Some(left) = &self.left else { return None };
             return left.search_superset(key, count);
         }
-        if self.key.ends_before(key) {
+        if ends_before(&self.key, key) {
             let Some(right) = &self.right else {
                 return None
             };

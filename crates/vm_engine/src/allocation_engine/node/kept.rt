@@ -17,8 +17,7 @@ ghost use Rattle.vm_engine.specs.Engine.NodeFields.{side};
 ghost use Rattle.vm_engine.specs.Engine.Settling.{IsKeptOf, IsRoomOver};
 
 use super::Child;
-use crate::allocation_engine::NodeState;
-use crate::range::RangeInclusive;
+use vm_ranges::{NodeState, RangeInclusive};
 
 /// What the free blocks of a tree, or one block alone, have room for.
 #[derive(Clone, Copy, Debug)]

@@ -1,6 +1,6 @@
 //! A leaf added to a tree, on one way down and back up.
 ghost use Rattle.std.specs.Prelude.{◌≡◌, ◌+◌, ◌<◌, ◌≤◌, IsSome};
-ghost use Rattle.vm_engine.specs.Range.{MAX};
+ghost use Rattle.vm_ranges.specs.Range.{MAX};
 ghost use Rattle.vm_engine.specs.Tree.BlockList.{IsClearOf, insert_block};
 ghost use Rattle.vm_engine.specs.Tree.Shape.{MAX_HEIGHT, blocks, height_of, root_block};
 ghost use Rattle.vm_engine.specs.Engine.Changes.{IsLeaf, Grows};
@@ -10,6 +10,7 @@ ghost use Rattle.vm_engine.specs.Engine.NodeFields.{side};
 use super::balance::settle;
 use super::kept::Change;
 use super::{Child, InnerNode};
+use crate::allocation_engine::ends::starts_before;
 
 /// Adds a leaf at a place, below the node there if there is one; says what changed there.
 #[tactic(auto, using(crate::proofs::Blocks::BlockOrder::links, crate::proofs::Nodes::SideChange::places, crate::proofs::Counts::WayCases::ways_down))]
@@ -30,7 +31,7 @@ pub(super) fn link_at(at: &mut Child, leaf: Box<InnerNode>, count: &mut u64) -> 
     };
     let tree: &mut InnerNode = tree;
     tree.enter(count);
-    let change = if key.starts_before(&tree.key) {
+    let change = if starts_before(&key, &tree.key) {
         link_at(&mut tree.left, leaf, count)
     } else {
         link_at(&mut tree.right, leaf, count)

@@ -3,7 +3,7 @@
 //! it is a loop once compiled: a quarter of the instructions of a search that carried both free
 //! ranges back up.
 ghost use Rattle.std.specs.Prelude.{◌≡◌, ◌+◌, ◌*◌, ◌≤◌, Option, Some, None};
-ghost use Rattle.vm_engine.specs.Range.{MAX, Range};
+ghost use Rattle.vm_ranges.specs.Range.{MAX, Range};
 ghost use Rattle.vm_engine.specs.Tree.Shape.{blocks, height_of, root_block};
 ghost use Rattle.vm_engine.specs.Counts.Ways.{way_to_first, way_to_last, way_around};
 ghost use Rattle.vm_engine.specs.Engine.NodeFields.{side};
@@ -11,9 +11,9 @@ ghost use Rattle.vm_engine.specs.Engine.Beside.{free_key_of, free_keys, if_found
 ghost use Rattle.vm_engine.specs.Engine.Release.{last_free, first_free, neighbours};
 
 use super::{Child, InnerNode};
-use crate::allocation_engine::NodeState;
-use crate::range::RangeInclusive;
+use crate::allocation_engine::ends::order;
 use std::cmp::Ordering;
+use vm_ranges::{NodeState, RangeInclusive};
 
 /// The free blocks right beside a held one.
 #[derive(Clone, Copy)]
@@ -120,7 +120,7 @@ impl InnerNode {
         ensures count { count.new ≡ count.old + way_around key.now self.now }
     {
         self.enter(count);
-        match key.order(&self.key) {
+        match order(key, &self.key) {
             Ordering::Less => {
                 let Some(left) = &self.left else { return false };
                 beside.after = Some(self);

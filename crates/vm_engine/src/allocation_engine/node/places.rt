@@ -6,8 +6,8 @@
 //! 40 to 80 % more time. None calls what begins the search, since whatever comes back to itself has
 //! to count a node.
 ghost use Rattle.std.specs.Prelude.{◌≡◌, ◌+◌, ◌<◌, ◌≤◌, true, false, None, MatchOption};
-ghost use Rattle.vm_engine.specs.Range.{MAX};
-ghost use Rattle.vm_engine.specs.Alignment.{IsAlignment};
+ghost use Rattle.vm_ranges.specs.Range.{MAX};
+ghost use Rattle.vm_ranges.specs.Alignment.{IsAlignment};
 ghost use Rattle.vm_engine.specs.Engine.Fit.{FindsLeastFit, FindsGreatestFit};
 ghost use Rattle.vm_engine.specs.Engine.Place.{FindsFirst, FindsLast};
 ghost use Rattle.vm_engine.specs.Tree.Shape.{blocks, node_count};
@@ -15,8 +15,7 @@ ghost use Rattle.vm_engine.specs.Counts.Ways.{is_searched, way_of_first, way_of_
 ghost use Rattle.vm_engine.specs.Engine.NodeFields.{side};
 
 use super::{Child, InnerNode};
-use crate::allocation_engine::{NodeState, align_down, align_up};
-use crate::range::RangeInclusive;
+use vm_ranges::{NodeState, RangeInclusive, align_down, align_up};
 
 /// A start in a free block.
 #[derive(Clone, Copy, Debug)]

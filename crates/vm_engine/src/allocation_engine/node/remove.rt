@@ -2,7 +2,7 @@
 //! (`delete_root`, never inlined): together they would save twice as many registers at each level, 4
 //! % of the instructions of `exact`.
 ghost use Rattle.std.specs.Prelude.{◌≡◌, ◌+◌, ◌<◌, ◌≤◌, ◌^◌, ◌++◌, [], ◌∷◌, ◌↔◌, max, IsNone, IsSome};
-ghost use Rattle.vm_engine.specs.Range.{MAX};
+ghost use Rattle.vm_ranges.specs.Range.{MAX};
 ghost use Rattle.vm_engine.specs.Tree.BlockList.{IsOrderedFrom, replace_block};
 ghost use Rattle.vm_engine.specs.Tree.Shape.{Shape, Tip, Fork, blocks, height_of, root_block, DifferByAtMost};
 ghost use Rattle.vm_engine.specs.Engine.Changes.{IsLeaf, Joins, Shrinks, LeavesIfAbsent};
@@ -12,8 +12,9 @@ ghost use Rattle.vm_engine.specs.Engine.NodeFields.{side};
 use super::balance::{balance, settle};
 use super::kept::Change;
 use super::{Child, InnerNode, known};
-use crate::range::RangeInclusive;
+use crate::allocation_engine::ends::order;
 use std::cmp::Ordering;
+use vm_ranges::RangeInclusive;
 
 /// Takes the node with the least key out from below the node at a place; says what changed
 /// there.
@@ -113,7 +114,7 @@ pub(crate) fn delete_at(at: &mut Child, key: &RangeInclusive, count: &mut u64) -
     };
     let tree: &mut InnerNode = tree;
     tree.enter(count);
-    let change = match tree.key.order(key) {
+    let change = match order(&tree.key, key) {
         Ordering::Equal => {
             let Some(node) = at.take() else {
                 unreachable!()

@@ -1,6 +1,6 @@
 //! A block changed in place.
 ghost use Rattle.std.specs.Prelude.{◌≡◌, ◌+◌, ◌≤◌, IsSome};
-ghost use Rattle.vm_engine.specs.Range.{MAX};
+ghost use Rattle.vm_ranges.specs.Range.{MAX};
 ghost use Rattle.vm_engine.specs.Tree.BlockList.{IsOrderedFrom, with_block, find_key};
 ghost use Rattle.vm_engine.specs.Tree.Shape.{blocks, height_of, root_block};
 ghost use Rattle.vm_engine.specs.Engine.Changes.{KeepsShape};
@@ -9,9 +9,9 @@ ghost use Rattle.vm_engine.specs.Engine.NodeFields.{side};
 
 use super::kept::{kept_of, refresh_room, room_of};
 use super::{Child, InnerNode};
-use crate::allocation_engine::NodeState;
-use crate::range::RangeInclusive;
+use crate::allocation_engine::ends::order;
 use std::cmp::Ordering;
+use vm_ranges::{NodeState, RangeInclusive};
 
 impl InnerNode {
     /// Gives this node another key, which keeps its place in the order, and another state; says
@@ -47,7 +47,7 @@ impl InnerNode {
         ensures count { count.new ≡ count.old + way_to at.now self.old }
     {
         self.enter(count);
-        let changed = match self.key.order(at) {
+        let changed = match order(&self.key, at) {
             Ordering::Equal => return self.rewrite_here(key, node_state),
             Ordering::Greater => {
                 let Some(left) = &mut self.left else {

@@ -2,7 +2,7 @@
 //! allocator makes none of them, and the tests that every search tree has to pass make them all.
 ghost use Rattle.std.specs.Prelude.{◌≡◌, ◌+◌, ◌*◌, ◌<◌, ◌≤◌, [], ◌↔◌, None, IsNone, IfOk, IfErr, OnOk, OnErr};
 ghost use Rattle.std.specs.Option.{option_map};
-ghost use Rattle.vm_engine.specs.Range.{MAX};
+ghost use Rattle.vm_ranges.specs.Range.{MAX};
 ghost use Rattle.vm_engine.specs.Tree.BlockList.{IsClearOf, insert_block, replace_block, find_key};
 ghost use Rattle.vm_engine.specs.Tree.Shape.{MAX_HEIGHT, Tip, blocks, height_of, root_block, IsTree};
 ghost use Rattle.vm_engine.specs.Engine.Changes.{IsLeaf, Grows, Shrinks};
@@ -12,13 +12,12 @@ ghost use Rattle.vm_engine.specs.Engine.NodeFields.{side};
 
 use super::kept::{Change, kept_of, refresh_room, room_of};
 use super::link::link_at;
-use super::remove::{delete_at, join};
+use super::remove::delete_at;
 use super::{InnerNode, known};
-use crate::allocation_engine::NodeState;
-use crate::error::{Error, Result};
-use crate::range::RangeInclusive;
+use crate::allocation_engine::ends::{ends_before, order};
 use std::alloc::Global;
 use std::cmp::Ordering;
+use vm_ranges::{Error, NodeState, RangeInclusive, Result};
 
 impl InnerNode {
     /// The tree with one more leaf, whose key overlaps none of the tree's. It takes no memory.
@@ -98,7 +97,7 @@ impl InnerNode {
         ensures count { count.new ≡ count.old + way_to key.now self.now }
     {
         self.enter(count);
-        match key.order(&self.key) {
+        match order(key, &self.key) {
             Ordering::Equal => Some(self),
             Ordering::Less => {
                 let Some(left) = &self.left else { return None };
@@ -122,11 +121,11 @@ impl InnerNode {
         ensures count { count.new ≡ count.old + way_across new.now self.now }
     {
         self.enter(count);
-        if new.ends_before(&self.key) {
+        if ends_before(new, &self.key) {
             let Some(left) = &self.left else { return None };
             return left.first_met(new, count);
         }
-        if self.key.ends_before(new) {
+        if ends_before(&self.key, new) {
             let Some(right) = &self.right else {
                 return None
             };
@@ -146,7 +145,7 @@ impl InnerNode {
         ensures count { count.new ≡ count.old + way_to key.now self.old }
     {
         self.enter(count);
-        let answer = match self.key.order(key) {
+        let answer = match order(&self.key, key) {
             Ordering::Equal => return self.mark_here(),
             Ordering::Greater => {
                 let Some(left) = &mut self.left else {

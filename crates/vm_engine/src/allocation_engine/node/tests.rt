@@ -2,9 +2,9 @@
 use super::walks::copying::copy;
 use super::walks::shapes::same;
 use super::*;
-use crate::error::Error;
 use std::alloc::Global;
 use std::process::Abort;
+use vm_ranges::Error;
 
 type Inserted = std::result::Result<Box<InnerNode>, (Error, Box<InnerNode>)>;
 

@@ -7,7 +7,7 @@
 //! release, and so: `exact` 2001, 2087, 1891, `devices` 1775, 1742, 1620, `mixed` 2206, 2247, 2105.
 //! One descent enters fewer nodes and has a way back wherever blocks are joined.
 ghost use Rattle.std.specs.Prelude.{◌≡◌, ◌+◌, ◌≤◌};
-ghost use Rattle.vm_engine.specs.Range.{MAX};
+ghost use Rattle.vm_ranges.specs.Range.{MAX};
 ghost use Rattle.vm_engine.specs.Tree.Block.{free_length, free_block};
 ghost use Rattle.vm_engine.specs.Tree.Multiples.{free_alignments};
 ghost use Rattle.vm_engine.specs.Tree.Shape.{blocks, height_of};
@@ -17,9 +17,9 @@ ghost use Rattle.vm_engine.specs.Engine.NodeFields.{side};
 
 use super::kept::{Room, raise_room, room_of};
 use super::{Child, InnerNode};
-use crate::allocation_engine::NodeState;
-use crate::range::RangeInclusive;
+use crate::allocation_engine::ends::order;
 use std::cmp::Ordering;
+use vm_ranges::{NodeState, RangeInclusive};
 
 /// Makes the held block of a key free and gives it a range, which keeps its place in the order, below
 /// the node at a place. `room` is what the range has room for once it is free.
@@ -42,7 +42,7 @@ fn widen_at(
     let tree: &mut InnerNode = tree;
     tree.enter(count);
     raise_room(&mut tree.max_free, &mut tree.alignments, room);
-    match tree.key.order(held) {
+    match order(&tree.key, held) {
         Ordering::Equal => {
             tree.key = *range;
             tree.node_state = NodeState::Free;

@@ -3,8 +3,8 @@
 //! The held ranges: one after the other, whether a range is one, and how many there are.
 
 use super::AddressAllocator;
-use vm_engine::RangeInclusive;
 use vm_engine::allocation_engine::HeldRanges;
+use vm_ranges::RangeInclusive;
 
 impl AddressAllocator {
     /// The held ranges, from the lowest to the highest. It takes no memory.

@@ -6,7 +6,7 @@ use crate::address_allocator::AddressAllocator;
 use rattle::{Value, json};
 use rattle::{AllocError, Global};
 use vm_engine::allocation_engine::IntervalTree;
-use vm_engine::{RangeInclusive, Result, ValueError, range_in};
+use vm_ranges::{RangeInclusive, Result, ValueError, range_in};
 use vm_values::has_fields;
 
 impl AddressAllocator {

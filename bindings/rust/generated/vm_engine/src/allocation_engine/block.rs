@@ -2,9 +2,8 @@
 
 //! A block of a space.
 
-use super::NodeState;
-use crate::range::RangeInclusive;
 use core::cmp::Ordering;
+use vm_ranges::{NodeState, RangeInclusive};
 
 /// A range of addresses, and whether it is held. Blocks are ordered by start, then by end, then by
 /// state.

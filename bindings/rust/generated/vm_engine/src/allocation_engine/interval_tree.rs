@@ -9,14 +9,12 @@
 //! 49 has fewer than 2^49 nodes, is shown once, and no caller has a condition.
 
 use rattle::Box;
-use super::NodeState;
 use super::node::walks::Walk;
 use super::node::walks::copying::copy;
 use super::node::{Child, InnerNode};
-use crate::constraint::Constraint;
-use crate::error::Result;
-use crate::range::RangeInclusive;
+use crate::allocation_engine::ends::known;
 use rattle::Global;
+use vm_ranges::{Constraint, NodeState, RangeInclusive, Result};
 
 mod comparing;
 pub(crate) mod held_ranges;
@@ -34,7 +32,7 @@ impl IntervalTree {
     /// The tree of the space `key`, with nothing held. `OutOfMemory` where there is no memory for its
     /// one node.
     pub fn new(alloc: Global, key: RangeInclusive) -> Result<Self> {
-        key.known();
+        known(&key);
         let node = Box::new(alloc, InnerNode::new(key, NodeState::Free))?;
         Ok(IntervalTree { root: Some(node) })
     }

@@ -21,10 +21,8 @@ pub(crate) mod widen;
 
 use self::balance::fork;
 use self::kept::room_of;
-use crate::allocation_engine::NodeState;
-use crate::error::{Error, Result};
-use crate::range::RangeInclusive;
 use rattle::Global;
+use vm_ranges::{Error, NodeState, RangeInclusive, Result};
 
 /// A node of the tree, with the tree below it: keys in order without an address in common, the
 /// heights of its children at most one apart, its own height kept, the length of the longest free block

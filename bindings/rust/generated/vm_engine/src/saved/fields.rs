@@ -3,10 +3,9 @@
 //! The fields of a node's value, read and written: their names stand here alone. Reading takes no
 //! memory.
 
-use crate::allocation_engine::NodeState;
-use crate::range::RangeInclusive;
 use rattle::{Value, json};
 use rattle::{AllocError, Global};
+use vm_ranges::{NodeState, RangeInclusive, range_in, state_in};
 use vm_values::{has_fields, number_in};
 
 const KEY: &str = "key";
@@ -18,16 +17,6 @@ const LEFT: &str = "left";
 const RIGHT: &str = "right";
 
 const HEIGHT: &str = "height";
-
-/// The range in a field.
-pub fn range_in(value: &Value, name: &str) -> Option<RangeInclusive> {
-    RangeInclusive::stated_by(value.get(name)?)
-}
-
-/// The state in a field.
-fn state_in(value: &Value, name: &str) -> Option<NodeState> {
-    NodeState::stated_by(value.get(name)?)
-}
 
 /// What stands in the fields of a node's value.
 #[derive(Clone, Copy)]

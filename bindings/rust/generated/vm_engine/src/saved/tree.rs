@@ -2,15 +2,14 @@
 
 //! The saved form of a tree: the check of a value, which takes no memory, and the building of the tree.
 
-use super::ValueError;
 use super::fields::node_of;
+use crate::allocation_engine::IntervalTree;
+use crate::allocation_engine::ends::known;
 use crate::allocation_engine::node::walks::saving::save;
 use crate::allocation_engine::node::{Child, InnerNode};
-use crate::allocation_engine::{IntervalTree, NodeState};
-use crate::error::Result;
-use crate::range::RangeInclusive;
 use rattle::Value;
 use rattle::Global;
+use vm_ranges::{NodeState, RangeInclusive, Result, ValueError};
 
 /// No node of a saved tree is nested deeper, since no tree of an allocator is higher.
 const MOST_NESTED: u64 = 49;
@@ -29,7 +28,7 @@ impl IntervalTree {
         space: &RangeInclusive,
         value: &Value,
     ) -> core::result::Result<Self, ValueError> {
-        space.known();
+        known(space);
         if !fits(space, value) {
             return Err(ValueError::NotAState);
         }

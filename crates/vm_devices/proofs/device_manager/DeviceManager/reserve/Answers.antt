@@ -1,6 +1,6 @@
 use Rattle.std.proofs.Common.{◌≡◌, ap, ◌∙◌, Err, rules}
 use Rattle.vm_allocator.specs.Allocator.{state_of}
-use Rattle.vm_engine.specs.Request.{request_for}
+use Rattle.vm_ranges.specs.Request.{request_for}
 use Rattle.vm_devices.specs.declared.device_slot.DeviceSlot.{DeviceSlot}
 use Rattle.vm_devices.specs.Devices.{devices_of}
 use Rattle.vm_devices.proofs.DeviceCalls.{Parts, IsUndone, Comes, range_refused, table_refused, undone, come, come_state}

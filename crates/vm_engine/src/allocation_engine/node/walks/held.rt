@@ -8,10 +8,10 @@ ghost use Rattle.vm_engine.specs.Tree.Block.{held_block};
 ghost use Rattle.vm_engine.specs.Tree.Shape.{MAX_HEIGHT, blocks, height_of};
 ghost use Rattle.vm_engine.specs.Engine.NodeFields.{side};
 
-use crate::allocation_engine::NodeState;
+use crate::allocation_engine::ends::order;
 use crate::allocation_engine::node::{Child, InnerNode};
-use crate::range::RangeInclusive;
 use std::cmp::Ordering;
+use vm_ranges::{NodeState, RangeInclusive};
 
 /// Whether a held block has this key, by one way down.
 pub(crate) fn has_held(tree: &Child, key: &RangeInclusive) -> bool
@@ -19,7 +19,7 @@ pub(crate) fn has_held(tree: &Child, key: &RangeInclusive) -> bool
 {
     let Some(node) = tree else { return false };
     let node: &InnerNode = node;
-    match key.order(&node.key) {
+    match order(key, &node.key) {
         Ordering::Less => has_held(&node.left, key),
         Ordering::Greater => has_held(&node.right, key),
         Ordering::Equal => node.node_state == NodeState::Allocated,

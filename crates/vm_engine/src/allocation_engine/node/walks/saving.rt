@@ -1,13 +1,13 @@
 //! The saved form of trees.
 ghost use Rattle.vm_engine.specs.Tree.Shape.{IsTree};
 ghost use Rattle.vm_engine.specs.Values.TreeValues.{StatesShape};
-ghost use Rattle.vm_engine.specs.Saving.{Saves};
+ghost use Rattle.vm_ranges.specs.Saving.{Saves};
 
 use crate::allocation_engine::node::InnerNode;
-use crate::error::Result;
 use crate::saved::fields::save_node;
 use serde_json::Value;
 use std::alloc::Global;
+use vm_ranges::Result;
 
 /// The value that has the tree, node for node. `OutOfMemory` where there is no memory for it.
 #[tactic(auto, using(crate::proofs::Reading::Writing::nodes))]

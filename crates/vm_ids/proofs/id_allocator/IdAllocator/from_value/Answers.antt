@@ -1,6 +1,6 @@
 use Rattle.std.proofs.Common.{◌≡◌, sym, Err, rules}
 use Rattle.serde_json.specs.View.{view, items_view}
-use Rattle.vm_engine.specs.declared.saved.ValueError.TheVariants.{OutOfMemory}
+use Rattle.vm_ranges.specs.declared.saved.ValueError.TheVariants.{OutOfMemory}
 use Rattle.vm_ids.proofs.ReadIdStates.{none_stated, some_stated, built_ids, built_states, stated_state}
 use Rattle.vm_ids.proofs.id_allocator.IdAllocator.from_value.Goals as goal
 

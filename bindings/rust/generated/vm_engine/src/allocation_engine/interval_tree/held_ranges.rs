@@ -5,10 +5,9 @@
 //! change.
 
 use super::IntervalTree;
-use crate::allocation_engine::NodeState;
 use crate::allocation_engine::node::walks::Walk;
 use crate::allocation_engine::node::walks::held::{count_held, has_held};
-use crate::range::RangeInclusive;
+use vm_ranges::{NodeState, RangeInclusive};
 
 /// The held ranges of a space, from the lowest to the highest: it is seen as those that are
 /// left. It takes no memory.

@@ -6,13 +6,12 @@
 use rattle::Box;
 use super::IntervalTree;
 use super::placing::Choice;
-use crate::allocation_engine::NodeState;
+use crate::allocation_engine::ends::{between, known};
 use crate::allocation_engine::node::carve::{Cut, Rest, carve_at};
 use crate::allocation_engine::node::rewrite::rewrite_at;
 use crate::allocation_engine::node::{Child, InnerNode};
-use crate::error::{Error, Result};
-use crate::range::RangeInclusive;
 use rattle::Global;
+use vm_ranges::{Error, NodeState, RangeInclusive, Result};
 
 /// The height from which on no split is made, so that two more nodes never make a tree too high.
 const TOO_HIGH: u64 = 48;
@@ -65,21 +64,21 @@ fn rest_of(alloc: Global, choice: &Choice) -> Result<Rest> {
 
 /// A leaf for what is left of the free block before the range.
 fn leaf_before(alloc: Global, choice: &Choice) -> Result<Child> {
-    choice.key.known();
+    known(&choice.key);
     if choice.key.start() >= choice.range.start() {
         return Ok(None);
     }
-    let key = RangeInclusive::between(choice.key.start(), choice.range.start() - 1);
+    let key = between(choice.key.start(), choice.range.start() - 1);
     free_leaf(alloc, key)
 }
 
 /// A leaf for what is left of the free block after the range.
 fn leaf_after(alloc: Global, choice: &Choice) -> Result<Child> {
-    choice.key.known();
+    known(&choice.key);
     if choice.range.end() >= choice.key.end() {
         return Ok(None);
     }
-    let key = RangeInclusive::between(choice.range.end() + 1, choice.key.end());
+    let key = between(choice.range.end() + 1, choice.key.end());
     free_leaf(alloc, key)
 }
 

@@ -5,12 +5,12 @@
 //! proof by cases on which of them stands above which, and for two removals on one way back up.
 
 use super::IntervalTree;
+use crate::allocation_engine::ends::between;
 use crate::allocation_engine::node::Child;
 use crate::allocation_engine::node::neighbours::Neighbours;
 use crate::allocation_engine::node::remove::delete_at;
 use crate::allocation_engine::node::widen::widen;
-use crate::error::{Error, Result};
-use crate::range::RangeInclusive;
+use vm_ranges::{Error, RangeInclusive, Result};
 
 impl IntervalTree {
     /// `free`, which adds the nodes that it enters to a counter at 0.
@@ -41,7 +41,7 @@ fn joined(key: &RangeInclusive, beside: &Neighbours) -> RangeInclusive {
         None => key.end(),
         Some(after) => after.end(),
     };
-    RangeInclusive::between(start, end)
+    between(start, end)
 }
 
 /// Removes the node with a key, if there is such a key.

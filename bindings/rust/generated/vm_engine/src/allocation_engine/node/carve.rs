@@ -12,9 +12,9 @@ use super::balance::settle;
 use super::kept::{Change, kept_of, renew_room, room_of};
 use super::link::link_at;
 use super::{Child, InnerNode, known};
-use crate::allocation_engine::NodeState;
-use crate::range::RangeInclusive;
+use crate::allocation_engine::ends::order;
 use core::cmp::Ordering;
+use vm_ranges::{NodeState, RangeInclusive};
 
 /// What is left of a free block before and after a range, a leaf each.
 pub(crate) struct Rest {
@@ -83,7 +83,7 @@ pub(crate) fn carve_at(at: &mut Child, cut: &mut Cut, count: &mut u64) -> Change
     let Some(tree) = at else { unreachable!() };
     let tree: &mut InnerNode = tree;
     tree.enter(count);
-    let change = match tree.key.order(&cut.key) {
+    let change = match order(&tree.key, &cut.key) {
         Ordering::Equal => return carve_here(at, cut.range, cut.rest.take(), count),
         Ordering::Greater => carve_at(&mut tree.left, cut, count),
         Ordering::Less => carve_at(&mut tree.right, cut, count),

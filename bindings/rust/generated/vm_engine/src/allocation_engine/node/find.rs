@@ -3,7 +3,8 @@
 //! The block of an address.
 
 use super::InnerNode;
-use crate::range::RangeInclusive;
+use crate::allocation_engine::ends::ends_before;
+use vm_ranges::RangeInclusive;
 
 impl InnerNode {
     /// The node whose key contains this one.
@@ -13,11 +14,11 @@ impl InnerNode {
         count: &mut u64,
     ) -> Option<&InnerNode> {
         self.enter(count);
-        if key.ends_before(&self.key) {
+        if ends_before(key, &self.key) {
             let Some(left) = &self.left else { return None };
             return left.search_superset(key, count);
         }
-        if self.key.ends_before(key) {
+        if ends_before(&self.key, key) {
             let Some(right) = &self.right else {
                 return None
             };

@@ -12,8 +12,7 @@
 //! time.
 
 use super::Child;
-use crate::allocation_engine::NodeState;
-use crate::range::RangeInclusive;
+use vm_ranges::{NodeState, RangeInclusive};
 
 /// What the free blocks of a tree, or one block alone, have room for.
 #[derive(Clone, Copy, Debug)]

@@ -6,6 +6,7 @@ use rattle::Box;
 use super::balance::settle;
 use super::kept::Change;
 use super::{Child, InnerNode};
+use crate::allocation_engine::ends::starts_before;
 
 /// Adds a leaf at a place, below the node there if there is one; says what changed there.
 pub(super) fn link_at(at: &mut Child, leaf: Box<InnerNode>, count: &mut u64) -> Change {
@@ -16,7 +17,7 @@ pub(super) fn link_at(at: &mut Child, leaf: Box<InnerNode>, count: &mut u64) -> 
     };
     let tree: &mut InnerNode = tree;
     tree.enter(count);
-    let change = if key.starts_before(&tree.key) {
+    let change = if starts_before(&key, &tree.key) {
         link_at(&mut tree.left, leaf, count)
     } else {
         link_at(&mut tree.right, leaf, count)

@@ -6,9 +6,9 @@
 //! ranges back up.
 
 use super::{Child, InnerNode};
-use crate::allocation_engine::NodeState;
-use crate::range::RangeInclusive;
+use crate::allocation_engine::ends::order;
 use core::cmp::Ordering;
+use vm_ranges::{NodeState, RangeInclusive};
 
 /// The free blocks right beside a held one.
 #[derive(Clone, Copy)]
@@ -87,7 +87,7 @@ impl InnerNode {
         count: &mut u64,
     ) -> bool {
         self.enter(count);
-        match key.order(&self.key) {
+        match order(key, &self.key) {
             Ordering::Less => {
                 let Some(left) = &self.left else { return false };
                 beside.after = Some(self);

@@ -9,8 +9,7 @@
 //! to count a node.
 
 use super::{Child, InnerNode};
-use crate::allocation_engine::{NodeState, align_down, align_up};
-use crate::range::RangeInclusive;
+use vm_ranges::{NodeState, RangeInclusive, align_down, align_up};
 
 /// A start in a free block.
 #[derive(Clone, Copy, Debug)]

@@ -8,8 +8,9 @@ use rattle::Box;
 use super::balance::{balance, settle};
 use super::kept::Change;
 use super::{Child, InnerNode, known};
-use crate::range::RangeInclusive;
+use crate::allocation_engine::ends::order;
 use core::cmp::Ordering;
+use vm_ranges::RangeInclusive;
 
 /// Takes the node with the least key out from below the node at a place; says what changed
 /// there.
@@ -77,7 +78,7 @@ pub(crate) fn delete_at(at: &mut Child, key: &RangeInclusive, count: &mut u64) -
     };
     let tree: &mut InnerNode = tree;
     tree.enter(count);
-    let change = match tree.key.order(key) {
+    let change = match order(&tree.key, key) {
         Ordering::Equal => {
             let Some(node) = at.take() else {
                 unreachable!()

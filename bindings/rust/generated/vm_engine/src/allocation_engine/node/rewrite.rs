@@ -4,9 +4,9 @@
 
 use super::kept::{kept_of, refresh_room, room_of};
 use super::{Child, InnerNode};
-use crate::allocation_engine::NodeState;
-use crate::range::RangeInclusive;
+use crate::allocation_engine::ends::order;
 use core::cmp::Ordering;
+use vm_ranges::{NodeState, RangeInclusive};
 
 impl InnerNode {
     /// Gives this node another key, which keeps its place in the order, and another state; says
@@ -29,7 +29,7 @@ impl InnerNode {
         count: &mut u64,
     ) -> bool {
         self.enter(count);
-        let changed = match self.key.order(at) {
+        let changed = match order(&self.key, at) {
             Ordering::Equal => return self.rewrite_here(key, node_state),
             Ordering::Greater => {
                 let Some(left) = &mut self.left else {

@@ -6,13 +6,12 @@
 use rattle::Box;
 use super::kept::{Change, kept_of, refresh_room, room_of};
 use super::link::link_at;
-use super::remove::{delete_at, join};
+use super::remove::delete_at;
 use super::{InnerNode, known};
-use crate::allocation_engine::NodeState;
-use crate::error::{Error, Result};
-use crate::range::RangeInclusive;
+use crate::allocation_engine::ends::{ends_before, order};
 use rattle::Global;
 use core::cmp::Ordering;
+use vm_ranges::{Error, NodeState, RangeInclusive, Result};
 
 impl InnerNode {
     /// The tree with one more leaf, whose key overlaps none of the tree's. It takes no memory.
@@ -62,7 +61,7 @@ impl InnerNode {
     /// The node with exactly this key.
     pub(crate) fn search(&self, key: &RangeInclusive, count: &mut u64) -> Option<&InnerNode> {
         self.enter(count);
-        match key.order(&self.key) {
+        match order(key, &self.key) {
             Ordering::Equal => Some(self),
             Ordering::Less => {
                 let Some(left) = &self.left else { return None };
@@ -80,11 +79,11 @@ impl InnerNode {
     /// The first key that a new one overlaps on the way down.
     fn first_met(&self, new: &RangeInclusive, count: &mut u64) -> Option<RangeInclusive> {
         self.enter(count);
-        if new.ends_before(&self.key) {
+        if ends_before(new, &self.key) {
             let Some(left) = &self.left else { return None };
             return left.first_met(new, count);
         }
-        if self.key.ends_before(new) {
+        if ends_before(&self.key, new) {
             let Some(right) = &self.right else {
                 return None
             };
@@ -97,7 +96,7 @@ impl InnerNode {
     /// and `Allocated`, an absent one `ResourceNotAvailable`; both change nothing.
     pub(crate) fn mark_as_allocated(&mut self, key: &RangeInclusive, count: &mut u64) -> Result<()> {
         self.enter(count);
-        let answer = match self.key.order(key) {
+        let answer = match order(&self.key, key) {
             Ordering::Equal => return self.mark_here(),
             Ordering::Greater => {
                 let Some(left) = &mut self.left else {

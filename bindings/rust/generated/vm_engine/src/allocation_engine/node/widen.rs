@@ -11,9 +11,9 @@
 
 use super::kept::{Room, raise_room, room_of};
 use super::{Child, InnerNode};
-use crate::allocation_engine::NodeState;
-use crate::range::RangeInclusive;
+use crate::allocation_engine::ends::order;
 use core::cmp::Ordering;
+use vm_ranges::{NodeState, RangeInclusive};
 
 /// Makes the held block of a key free and gives it a range, which keeps its place in the order, below
 /// the node at a place. `room` is what the range has room for once it is free.
@@ -28,7 +28,7 @@ fn widen_at(
     let tree: &mut InnerNode = tree;
     tree.enter(count);
     raise_room(&mut tree.max_free, &mut tree.alignments, room);
-    match tree.key.order(held) {
+    match order(&tree.key, held) {
         Ordering::Equal => {
             tree.key = *range;
             tree.node_state = NodeState::Free;

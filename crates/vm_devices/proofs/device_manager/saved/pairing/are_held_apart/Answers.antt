@@ -4,7 +4,7 @@ use Rattle.std.specs.Ordering.{nat_cmp}
 use Rattle.std.specs.BTreeSet.{contains}
 use Rattle.std.specs.FinSet as set
 use Rattle.vm_allocator.specs.Allocator.{state_of}
-use Rattle.vm_engine.specs.Range.{Range}
+use Rattle.vm_ranges.specs.Range.{Range}
 use Rattle.vm_devices.specs.SavedChecks.{AreHeldApart}
 use Rattle.vm_devices.proofs.Apart.{IsAt, one_apart, one_twice}
 use Rattle.vm_devices.proofs.device_manager.saved.pairing.are_held_apart.Goals as goal

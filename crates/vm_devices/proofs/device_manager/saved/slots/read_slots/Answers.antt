@@ -1,5 +1,5 @@
 use Rattle.std.proofs.Common.{ℕ, ◌≤◌, sym, arith}
-use Rattle.vm_engine.specs.Range.{Range}
+use Rattle.vm_ranges.specs.Range.{Range}
 use Rattle.vm_devices.proofs.SavedDevices.{one_more}
 use Rattle.vm_devices.proofs.device_manager.saved.slots.read_slots.Goals as goal
 

@@ -1,5 +1,5 @@
 use Rattle.std.proofs.Common.{◌≡◌, refl, rules}
-use Rattle.vm_engine.specs.Range.{Covers}
+use Rattle.vm_ranges.specs.Range.{Covers}
 use Rattle.vm_engine.specs.Tree.BlockList.{find_superset}
 use Rattle.vm_engine.specs.Tree.Shape.{blocks}
 use Rattle.vm_engine.specs.Engine.NodeFields.{side, shape_of}

@@ -1,13 +1,12 @@
 use Rattle.std.proofs.Common.{arith, refl, ◌≡◌}
 use Rattle.std.proofs.lemmas.Grind.{common_steps}
 use Rattle.vm_engine.proofs.Nodes.SettledNodes.{finished}
-use Rattle.vm_engine.proofs.Splitting.CarvedTrees.{carvings}
+use Rattle.vm_engine.proofs.Splitting.CarvedTrees.{carvings, before_clear, after_clear}
 use Rattle.vm_engine.proofs.Counts.CarvingWays.{ways_to_carve, link_bounds}
-use Rattle.vm_engine.specs.declared.allocation_engine.NodeState.TheVariants.{Allocated}
+use Rattle.vm_ranges.specs.declared.state.NodeState.TheVariants.{Allocated}
 use Rattle.vm_engine.specs.Tree.Shape.{blocks}
 use Rattle.vm_engine.specs.Tree.Block.{held_block}
 use Rattle.vm_engine.specs.Engine.NodeFields.{side, shape_of}
-use Rattle.vm_engine.proofs.Splitting.CarvedTrees.{before_clear, after_clear}
 use Rattle.vm_engine.proofs.allocation_engine.node.carve.carve_here.Goals as goal
 
 pub link_if-requires-clause-clear : goal.link_if-requires-clause-clear

@@ -4,8 +4,8 @@
 
 use rattle::Box;
 use crate::allocation_engine::node::InnerNode;
-use crate::error::{Error, Result};
 use rattle::Global;
+use vm_ranges::{Error, Result};
 
 /// A copy of a tree, node for node, with what each node keeps. `OutOfMemory` where there is no memory
 /// for one of them; those that were made are given back then.

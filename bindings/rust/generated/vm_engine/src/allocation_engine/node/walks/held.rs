@@ -4,16 +4,16 @@
 //! promised of either, so neither takes the counter: one more place that makes one would weaken the
 //! rule on it.
 
-use crate::allocation_engine::NodeState;
+use crate::allocation_engine::ends::order;
 use crate::allocation_engine::node::{Child, InnerNode};
-use crate::range::RangeInclusive;
 use core::cmp::Ordering;
+use vm_ranges::{NodeState, RangeInclusive};
 
 /// Whether a held block has this key, by one way down.
 pub(crate) fn has_held(tree: &Child, key: &RangeInclusive) -> bool {
     let Some(node) = tree else { return false };
     let node: &InnerNode = node;
-    match key.order(&node.key) {
+    match order(key, &node.key) {
         Ordering::Less => has_held(&node.left, key),
         Ordering::Greater => has_held(&node.right, key),
         Ordering::Equal => node.node_state == NodeState::Allocated,

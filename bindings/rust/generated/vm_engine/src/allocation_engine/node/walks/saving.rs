@@ -3,10 +3,10 @@
 //! The saved form of trees.
 
 use crate::allocation_engine::node::InnerNode;
-use crate::error::Result;
 use crate::saved::fields::save_node;
 use rattle::Value;
 use rattle::Global;
+use vm_ranges::Result;
 
 /// The value that has the tree, node for node. `OutOfMemory` where there is no memory for it.
 pub(crate) fn save(tree: &InnerNode, alloc: Global) -> Result<Value> {

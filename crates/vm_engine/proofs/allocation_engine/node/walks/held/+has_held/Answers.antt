@@ -3,7 +3,7 @@ use Rattle.vm_engine.specs.Tree.Block.{Block}
 use Rattle.vm_engine.specs.Tree.BlockList.{find_key}
 use Rattle.vm_engine.specs.Tree.Shape.{blocks}
 use Rattle.vm_engine.specs.Engine.NodeFields.{side, shape_of}
-use Rattle.vm_engine.specs.declared.allocation_engine.NodeState.TheVariants.{Allocated}
+use Rattle.vm_ranges.specs.declared.state.NodeState.TheVariants.{Allocated}
 use Rattle.vm_engine.proofs.Blocks.Replacement.{find_in_left, find_in_right, find_in_middle}
 use Rattle.vm_engine.proofs.Walking.HeldInTrees.{held_here}
 use Rattle.vm_engine.proofs.allocation_engine.node.walks.held.+has_held.Goals as goal

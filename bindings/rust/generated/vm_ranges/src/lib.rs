@@ -1,0 +1,25 @@
+// Written by bindings/erase from crates/vm_ranges/src/lib.rt: do not edit.
+
+//! Ranges of addresses, the states of blocks, what is asked of an allocator and why it is refused, and
+//! the saved forms of ranges and states.
+
+#![forbid(unsafe_code)]
+// What only proofs and tests use is kept as it is.
+#![allow(dead_code, unused_assignments, unused_imports, unused_variables)]
+#![no_std]
+
+mod alignment;
+mod constraint;
+mod error;
+mod range;
+mod saved;
+mod state;
+
+pub use alignment::{align_down, align_up};
+pub use constraint::{AllocPolicy, Constraint, DEFAULT_CONSTRAINT_ALIGN};
+pub use error::{Error, Result};
+pub use range::RangeInclusive;
+pub use saved::ValueError;
+pub use saved::range::range_in;
+pub use saved::state::state_in;
+pub use state::NodeState;

@@ -1,8 +1,0 @@
--- What cloning answers.
-use Rattle.std.specs.Prelude.{◌≡◌, ◌⊎◌, Result, Ok, Err}
-use Rattle.vm_engine.specs.declared.error.Error.{Error}
-use Rattle.vm_engine.specs.declared.error.Error.TheVariants.{OutOfMemory}
-
--- what is cloned once more, or no memory for it
-abbrev pub Clones : {X : Type 0} → X → Result X Error → Type 0
-Clones original answer = (answer ≡ Ok original) ⊎ (answer ≡ Err OutOfMemory)

@@ -1,0 +1,11 @@
+pub mod TwoFacts
+pub mod CloneAnswers
+pub mod Listed
+pub mod Decisions
+pub mod Power
+pub mod Alignments
+pub mod RangeCalls
+pub mod RangeOrders
+pub mod Requests
+pub mod ReadRanges
+pub mod ReadStates

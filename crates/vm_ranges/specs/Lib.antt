@@ -1,0 +1,10 @@
+pub mod Cases
+pub mod Range
+pub mod RangeOrder
+pub mod Making
+pub mod Alignment
+pub mod Request
+pub mod Cloning
+pub mod Saving
+pub mod RangeValues
+pub mod RangeLaws

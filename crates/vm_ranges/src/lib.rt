@@ -1,0 +1,20 @@
+//! Ranges of addresses, the states of blocks, what is asked of an allocator and why it is refused, and
+//! the saved forms of ranges and states.
+#![tactic(auto)]
+
+mod alignment;
+mod constraint;
+mod error;
+mod laws;
+mod range;
+mod saved;
+mod state;
+
+pub use alignment::{align_down, align_up};
+pub use constraint::{AllocPolicy, Constraint, DEFAULT_CONSTRAINT_ALIGN};
+pub use error::{Error, Result};
+pub use range::RangeInclusive;
+pub use saved::ValueError;
+pub use saved::range::range_in;
+pub use saved::state::state_in;
+pub use state::NodeState;

@@ -1,0 +1,123 @@
+//! Ranges of addresses. Their order is written by hand and not derived, so that the contract of `cmp`
+//! names it: by start, then by end.
+ghost use Rattle.std.specs.Prelude.{◌≡◌, ◌↔◌, IsTrue};
+ghost use Rattle.std.proofs.Common.{rules};
+ghost use Rattle.std.specs.Cmp.{partial_order_from_own_ties};
+ghost use Rattle.std.specs.Cmp.Rules.{comparing};
+ghost use Rattle.std.specs.Ordering.{as_partial_cmp};
+ghost use Rattle.vm_ranges.specs.Making.{MakesRange};
+ghost use Rattle.vm_ranges.specs.Range.{IsRange, address_count, Overlaps, Covers};
+ghost use Rattle.vm_ranges.specs.RangeOrder.{range_cmp};
+
+use crate::error::{Error, Result};
+use std::cmp::Ordering;
+use std::marker::Model;
+
+/// A closed range of addresses: its start, its end and all between them. It is never empty and
+/// never all of the 2^64 addresses, so its length fits a `u64`. Ranges are ordered by start, then
+/// by end.
+#[derive(Clone, Copy, Debug, PartialEq, Eq, Hash)]
+pub struct RangeInclusive {
+    start: u64,
+    end: u64,
+}
+
+impl Model for RangeInclusive {
+    ghost use Rattle.vm_ranges.specs.Range.{Range, IsRange, range_code};
+
+    ghost Value = { Range };
+
+    ghost coded = { range_code };
+
+    ghost view = { λ a. record { start = a.start; end = a.end } };
+
+    ghost invariant = { λ a. IsRange a.start a.end };
+
+    ghost inverse = { λ d. record { start = d.start; end = d.end } };
+}
+
+impl RangeInclusive {
+    /// The range from `start` to `end`. `InvalidRange(start, end)` where the start is past the
+    /// end, or where they are 0 and `u64::MAX`.
+    pub fn new(start: u64, end: u64) -> Result<Self>
+        ensures { MakesRange start end result }
+    {
+        if start > end || (start == 0 && end == u64::MAX) {
+            return Err(Error::InvalidRange(start, end));
+        }
+        Ok(RangeInclusive { start, end })
+    }
+
+    /// How many addresses the range has.
+    #[allow(clippy::len_without_is_empty)]
+    pub fn len(&self) -> u64
+        ensures { result ≡ address_count self.now }
+    {
+        1 + (self.end - self.start)
+    }
+
+    /// Whether some address lies in both ranges.
+    #[tactic(auto, using(crate::proofs::RangeCalls::meetings))]
+    pub fn overlaps(&self, other: &RangeInclusive) -> bool
+        ensures { IsTrue result ↔ Overlaps self.now other.now }
+    {
+        other.start <= self.end && self.start <= other.end
+    }
+
+    /// Whether every address of `other` lies in the range.
+    #[tactic(auto, using(crate::proofs::RangeCalls::coverings))]
+    pub fn contains(&self, other: &RangeInclusive) -> bool
+        ensures { IsTrue result ↔ Covers self.now other.now }
+    {
+        other.start >= self.start && other.end <= self.end
+    }
+
+    /// The first address.
+    pub fn start(&self) -> u64
+        ensures value { result ≡ self.now.start }
+        ensures range { IsRange self.now.start self.now.end }
+    {
+        self.start
+    }
+
+    /// The last address.
+    pub fn end(&self) -> u64
+        ensures value { result ≡ self.now.end }
+        ensures range { IsRange self.now.start self.now.end }
+    {
+        self.end
+    }
+}
+
+impl Ord for RangeInclusive {
+    ghost cmp = { range_cmp };
+
+    ghost total = { Prim.search (comparing, rules) };
+
+    ghost matches_partial_cmp = { Prim.search (comparing, rules) };
+
+    ghost matches_eq = { Prim.search (comparing, rules) };
+
+    /// By start, then by end. It stops at the first difference.
+    #[tactic(auto, using(crate::proofs::RangeOrders::by_order, crate::proofs::RangeCalls::orders))]
+    fn cmp(&self, other: &RangeInclusive) -> Ordering {
+        if self.start < other.start {
+            return Ordering::Less;
+        }
+        if other.start < self.start {
+            return Ordering::Greater;
+        }
+        Ord::cmp(&self.end, &other.end)
+    }
+}
+
+impl PartialOrd for RangeInclusive {
+    ghost partial_cmp = { as_partial_cmp range_cmp };
+
+    ghost laws = { partial_order_from_own_ties (Prim.search (comparing, rules)) (Prim.search (comparing, rules)) };
+
+    /// By start, then by end.
+    fn partial_cmp(&self, other: &RangeInclusive) -> Option<Ordering> {
+        Some(self.cmp(other))
+    }
+}

@@ -1,0 +1,53 @@
+//! The saved form of a range.
+ghost use Rattle.std.specs.Prelude.{◌≡◌, ◌≢◌, IfErr, option_and_then};
+ghost use Rattle.serde_json.specs.View.{view};
+ghost use Rattle.serde_json.specs.Find.{get};
+ghost use Rattle.vm_ranges.specs.RangeValues.{StatesRange, range_found};
+ghost use Rattle.vm_ranges.specs.Saving.{Saves, Reads};
+
+use super::ValueError;
+use crate::error::Result;
+use crate::range::RangeInclusive;
+use serde_json::{Value, json};
+use std::alloc::Global;
+use vm_values::{has_fields, number_in};
+
+impl RangeInclusive {
+    /// The value that states the range: an object of `start` and `end`. `OutOfMemory` where there is no
+    /// memory for it.
+    #[tactic(auto)]
+    pub fn to_value(&self, alloc: Global) -> Result<Value>
+        ensures { Saves (λ d. StatesRange d self.now) result }
+    {
+        Ok(json!(in alloc; {"start": self.start(), "end": self.end()})?)
+    }
+
+    /// The range that a value states. `NotAState` where it states none. It takes no memory.
+    #[tactic(auto, using(crate::proofs::ReadRanges::read))]
+    pub fn from_value(_alloc: Global, value: &Value) -> std::result::Result<Self, ValueError>
+        ensures answer { Reads (StatesRange (view value.now)) result }
+        ensures no_memory { IfErr result (λ error. error ≢ ValueError.OutOfMemory) }
+    {
+        RangeInclusive::stated_by(value).ok_or(ValueError::NotAState)
+    }
+
+    /// The range that a value states.
+    #[tactic(auto, using(crate::proofs::ReadRanges::made))]
+    fn stated_by(value: &Value) -> Option<RangeInclusive>
+        ensures { result ≡ range_found (view value.now) }
+    {
+        if !has_fields(value, 2) {
+            return None;
+        }
+        let start = number_in(value, "start")?;
+        let end = number_in(value, "end")?;
+        RangeInclusive::new(start, end).ok()
+    }
+}
+
+/// The range in a field.
+pub fn range_in(value: &Value, name: &str) -> Option<RangeInclusive>
+    ensures { result ≡ option_and_then range_found (get name.now (view value.now)) }
+{
+    RangeInclusive::stated_by(value.get(name)?)
+}
