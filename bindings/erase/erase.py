@@ -369,6 +369,7 @@ class File(Tokens):
             if folder:
                 self.allow(folder, name, index)
                 self.imported[self.tokens[index].text] = name
+                self.crate.asks_for_std |= bool(folder[0] and folder[0].startswith("std::"))
             else:
                 self.import_of_crate(first, index)
         if folder and folder[0] and folder[0] != name:
@@ -577,7 +578,7 @@ class File(Tokens):
 
     def plain(self):
         """The text of the file in Rust."""
-        no_std, names = "" if self.crate.is_program else "#![no_std]\n", ", ".join(sorted(self.from_prelude))
+        no_std, names = "" if self.crate.asks_for_std else "#![no_std]\n", ", ".join(sorted(self.from_prelude))
         inserted = CRATE_ATTRIBUTES + no_std + "\n" if self.is_root else ""
         if self.of_tests:
             inserted += FOR_TESTS
@@ -626,6 +627,7 @@ class Crate:
         self.stands_on, self.used = project.libraries[name], set()
         self.folder = os.path.join(project.folder, "crates", name, "src")
         self.is_program = os.path.exists(os.path.join(self.folder, "main.rt"))
+        self.asks_for_std = self.is_program
         self.root = os.path.join(self.folder, "main.rt" if self.is_program else "lib.rt")
         self.names, self.functions, self.guarded = set(), set(), set()  # guarded: types with ghosts
         self.files = {}

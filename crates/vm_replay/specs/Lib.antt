@@ -1,13 +1,1 @@
-pub mod Numbers
-pub mod Words
-pub mod Commands
-pub mod Reading
-pub mod Lines
-pub mod Replies
-pub mod Printing
-pub mod Machines
-pub mod Runs
-pub mod Sessions
-pub mod Moving
 pub mod Status
-pub mod Laws

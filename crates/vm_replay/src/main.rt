@@ -5,21 +5,11 @@
 ghost use Rattle.std.specs.Prelude.{◌≡◌};
 ghost use Rattle.vm_replay.specs.Status.{status_of};
 
-mod buffer;
-mod command;
-mod laws;
-mod machine;
-mod newline;
-mod number;
-mod reply;
-mod run;
-mod session;
 #[cfg(test)]
 mod tests;
-mod words;
 
-use run::{RunError, run};
 use std::process::ExitCode;
+use vm_lines::run::{RunError, run};
 
 /// The status that the program ends with.
 fn status(outcome: Result<(), RunError>) -> u8

@@ -7,11 +7,6 @@ mod long_run;
 mod refused_requests;
 mod rows;
 
-use crate::buffer::Buffer;
-use crate::command::{LONGEST_LINE, parse};
-use crate::machine::Machine;
-use crate::reply::write_reply;
-use crate::run::{RunError, run};
 use crate::status;
 use device_rows::{MANAGER_BESIDE_OTHERS, PROGRAM_DEVICES, REFUSALS_OF_DEVICES, WORDS_ON_DEVICES};
 use rows::{
@@ -24,6 +19,8 @@ use std::io;
 use std::io::{ErrorKind, Read, Write};
 use std::process::Abort;
 use std::str::from_utf8;
+use vm_lines::run::{RunError, run};
+use vm_lines::{Buffer, LONGEST_LINE, Machine, parse, reply_text};
 
 const ROOM: usize = 16384;
 
@@ -498,10 +495,7 @@ fn statuses(rt: HostRuntime) {
 /// Answers one line.
 fn answer(rt: &impl Abort, alloc: Global, machine: &mut Machine, line: &str) -> Buffer {
     assert!(rt; line.len() <= LONGEST_LINE);
-    let reply = machine.answer(alloc, parse(line.as_bytes()));
-    let mut output = Buffer::new();
-    write_reply(&mut output, reply);
-    output
+    reply_text(machine.answer(alloc, parse(line.as_bytes())))
 }
 
 /// Ends the test where the answer to a line is another.

@@ -13,5 +13,7 @@ mod saved;
 
 pub use address_allocator::AddressAllocator;
 pub use vm_engine::allocation_engine::HeldRanges;
-pub use vm_ranges::{AllocPolicy, Constraint, DEFAULT_CONSTRAINT_ALIGN, Error, RangeInclusive, Result, ValueError};
 pub use vm_ids::IdAllocator;
+pub use vm_ranges::{
+    AllocPolicy, Constraint, DEFAULT_CONSTRAINT_ALIGN, Error, RangeInclusive, Result, ValueError,
+};

@@ -8,18 +8,8 @@
 #![allow(dead_code, unused_assignments, unused_imports, unused_variables)]
 
 use rattle::HostRuntime;
-mod buffer;
-mod command;
-mod machine;
-mod newline;
-mod number;
-mod reply;
-mod run;
-mod session;
-mod words;
-
-use run::{RunError, run};
 use std::process::ExitCode;
+use vm_lines::{RunError, run};
 
 /// The status that the program ends with.
 fn status(outcome: Result<(), RunError>) -> u8 {

@@ -1,0 +1,162 @@
+// Written by bindings/erase from crates/vm_lines/src/command.rt: do not edit.
+
+//! What a line asks for: each first word is of a space, of ids or of devices.
+
+use crate::words::{behind, ids_and_numbers, one_id, three_numbers, two_ids, two_numbers};
+
+/// A longer line is not in the language.
+pub const LONGEST_LINE: usize = 120;
+
+/// What a line asks for.
+#[derive(Clone, Copy, Debug, PartialEq, Eq)]
+pub enum Command {
+    /// An allocator for the space of `size` addresses from `base` on.
+    Space {
+        base: u64,
+        size: u64,
+    },
+    /// The first place for `size` addresses at a multiple of `alignment`.
+    First {
+        size: u64,
+        alignment: u64,
+    },
+    /// The last place for `size` addresses at a multiple of `alignment`.
+    Last {
+        size: u64,
+        alignment: u64,
+    },
+    /// The place of the `size` addresses from `start` on, a multiple of `alignment`.
+    Exact {
+        size: u64,
+        alignment: u64,
+        start: u64,
+    },
+    /// The release of the range from `start` to `end`.
+    Free {
+        start: u64,
+        end: u64,
+    },
+    /// An allocator for the ids from `range_base` to `range_end`.
+    Ids {
+        range_base: u32,
+        range_end: u32,
+    },
+    /// The least id that is not held.
+    Id,
+    /// The release of an id.
+    Unid {
+        id: u32,
+    },
+    /// Whether an id is held.
+    Has {
+        id: u32,
+    },
+    /// A manager of devices, for the ids from `id_lo` to `id_hi` and the `size` addresses from
+    /// `base` on.
+    Manager {
+        id_lo: u32,
+        id_hi: u32,
+        base: u64,
+        size: u64,
+    },
+    /// A device: the least id that is not held, and the first place for `size` addresses at a
+    /// multiple of `alignment`.
+    Device {
+        size: u64,
+        alignment: u64,
+    },
+    /// The release of the device with this id.
+    Undevice {
+        id: u32,
+    },
+}
+
+/// What a line asks for. `None` where it is not in the language.
+#[inline(always)]
+pub fn parse(line: &[u8]) -> Option<Command> {
+    if line.len() > LONGEST_LINE {
+        return None;
+    }
+    if let Some(command) = parse_on_space(line) {
+        return Some(command);
+    }
+    if let Some(command) = parse_on_ids(line) {
+        return Some(command);
+    }
+    parse_on_devices(line)
+}
+
+/// What a line asks of a space.
+#[inline(always)]
+fn parse_on_space(line: &[u8]) -> Option<Command> {
+    if let Some(rest) = behind(b"space ", line) {
+        let (base, size) = two_numbers(rest)?;
+        return Some(Command::Space { base, size });
+    }
+    if let Some(rest) = behind(b"first ", line) {
+        let (size, alignment) = two_numbers(rest)?;
+        return Some(Command::First { size, alignment });
+    }
+    if let Some(rest) = behind(b"last ", line) {
+        let (size, alignment) = two_numbers(rest)?;
+        return Some(Command::Last { size, alignment });
+    }
+    if let Some(rest) = behind(b"exact ", line) {
+        let (size, alignment, start) = three_numbers(rest)?;
+        return Some(Command::Exact {
+            size,
+            alignment,
+            start,
+        });
+    }
+    if let Some(rest) = behind(b"free ", line) {
+        let (start, end) = two_numbers(rest)?;
+        return Some(Command::Free { start, end });
+    }
+    None
+}
+
+/// What a line asks of ids.
+fn parse_on_ids(line: &[u8]) -> Option<Command> {
+    if let Some(rest) = behind(b"ids ", line) {
+        let (range_base, range_end) = two_ids(rest)?;
+        return Some(Command::Ids {
+            range_base,
+            range_end,
+        });
+    }
+    if let Some(rest) = behind(b"unid ", line) {
+        let id = one_id(rest)?;
+        return Some(Command::Unid { id });
+    }
+    if let Some(rest) = behind(b"has ", line) {
+        let id = one_id(rest)?;
+        return Some(Command::Has { id });
+    }
+    if line == b"id".as_slice() {
+        return Some(Command::Id);
+    }
+    None
+}
+
+/// What a line asks of devices.
+fn parse_on_devices(line: &[u8]) -> Option<Command> {
+    if let Some(rest) = behind(b"device ", line) {
+        let (size, alignment) = two_numbers(rest)?;
+        return Some(Command::Device { size, alignment });
+    }
+    if let Some(rest) = behind(b"undevice ", line) {
+        let id = one_id(rest)?;
+        return Some(Command::Undevice { id });
+    }
+    if let Some(rest) = behind(b"manager ", line) {
+        let ((id_lo, id_hi), (base, size)) = ids_and_numbers(rest)?;
+        return Some(Command::Manager {
+            id_lo,
+            id_hi,
+            base,
+            size,
+        });
+    }
+    None
+}

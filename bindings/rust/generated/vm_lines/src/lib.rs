@@ -1,0 +1,23 @@
+// Written by bindings/erase from crates/vm_lines/src/lib.rt: do not edit.
+
+//! Lines that ask an allocator or a manager of devices for something, and the line that answers each.
+
+#![forbid(unsafe_code)]
+// What only proofs and tests use is kept as it is.
+#![allow(dead_code, unused_assignments, unused_imports, unused_variables)]
+
+mod buffer;
+mod command;
+mod machine;
+mod newline;
+mod number;
+mod reply;
+mod run;
+mod session;
+mod words;
+
+pub use buffer::Buffer;
+pub use command::{Command, LONGEST_LINE, parse};
+pub use machine::Machine;
+pub use reply::{Reply, reply_text};
+pub use run::{RunError, run};

@@ -1,0 +1,81 @@
+// Written by bindings/erase from crates/vm_lines/src/number.rt: do not edit.
+
+//! The number at the beginning of a text, up to the first byte that is no digit. Nineteen digits fit
+//! 64 bits whichever they are, so the twentieth alone is added with a check.
+
+/// No number of the language has more digits, and none of 64 bits needs more.
+pub(crate) const MOST_DIGITS: usize = 20;
+
+/// So many digits say a number of 64 bits, whichever they are.
+const SAFE_DIGITS: usize = 19;
+
+/// So many bytes are looked at together, where there are as many.
+const CHUNK: usize = 8;
+
+const BASE: u64 = 10;
+
+/// The number that the digits at the beginning of a text say, and how many digits they are.
+#[inline(always)]
+pub(crate) fn number_ahead(text: &[u8]) -> Option<(u64, usize)> {
+    let (value, count) = safe_value(text);
+    if count == 0 {
+        return None;
+    }
+    if count == SAFE_DIGITS {
+        return with_last_digit(value, text);
+    }
+    Some((value, count))
+}
+
+/// The value of the digits at the beginning of a text, of the first `SAFE_DIGITS` if they are more, and
+/// how many digits that are.
+#[inline(always)]
+fn safe_value(text: &[u8]) -> (u64, usize) {
+    let (mut value, mut count) = chunk_value(text);
+    let most = text.len().min(SAFE_DIGITS);
+    while count < most && text[count].is_ascii_digit() {
+        value = value * BASE + u64::from(text[count] - b'0');
+        count += 1;
+    }
+    (value, count)
+}
+
+/// The value of the first `CHUNK` bytes of a text, where all are digits, and how many digits that is.
+#[inline(always)]
+fn chunk_value(text: &[u8]) -> (u64, usize) {
+    match text.first_chunk() {
+        Some(front) if are_digits(front) => (value_of(front), CHUNK),
+        _ => (0, 0),
+    }
+}
+
+/// Whether all of these bytes are digits. It looks at each, so that they can be compared together.
+#[inline(always)]
+fn are_digits(front: &[u8; CHUNK]) -> bool {
+    let mut all = true;
+    for i in 0..CHUNK {
+        all &= front[i].is_ascii_digit();
+    }
+    all
+}
+
+/// The value of these digits.
+#[inline(always)]
+fn value_of(digits: &[u8; CHUNK]) -> u64 {
+    let mut value = 0u64;
+    for i in 0..CHUNK {
+        value = value * BASE + u64::from(digits[i] - b'0');
+    }
+    value
+}
+
+/// The number of a text whose first `SAFE_DIGITS` digits have this value, if it has one more or none.
+#[inline(always)]
+fn with_last_digit(value: u64, text: &[u8]) -> Option<(u64, usize)> {
+    let (last, more) = safe_value(&text[SAFE_DIGITS..]);
+    match more {
+        0 => Some((value, SAFE_DIGITS)),
+        1 => Some((value.checked_mul(BASE)?.checked_add(last)?, MOST_DIGITS)),
+        _ => None,
+    }
+}

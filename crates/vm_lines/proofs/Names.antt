@@ -1,0 +1,86 @@
+-- What a line asks, by what it does not begin with.
+use Rattle.std.proofs.Common.{◌≡◌, ◌≢◌, ℕ, Bool, true, false, List, [], ◌∷◌, ◌++◌, Option, None, refl, sym, ap, ◌∙◌, append_assoc}
+use Rattle.std.specs.Prelude.{codes, if◌then◌else◌}
+use Rattle.std.specs.Str.{bytes_eq}
+use Rattle.std.specs.List.{join_with_byte}
+use Rattle.std.proofs.lemmas.List.Splits.{join_with_byte-slice_split}
+use Rattle.std.proofs.lemmas.Slice.Eq.{bytes_eq-Decides}
+use Rattle.vm_lines.specs.Commands.{asked_of_space, asked_of_ids, asked_of_devices}
+use Rattle.vm_lines.specs.Words.{blank, words_of, alone}
+use Rattle.vm_lines.specs.declared.command.Command.{Command}
+use Rattle.vm_lines.specs.declared.command.Command.TheVariants.{Id}
+use Rattle.vm_lines.proofs.Splitting.{begins_with}
+
+-- a text does not begin so
+abbrev pub BeginsNot : List ℕ → List ℕ → Type 0
+BeginsNot front text = (rest : List ℕ) → text ≢ front ++ rest
+
+-- then the name stands alone, if at all
+alone_so : (name text word : List ℕ) (words : List (List ℕ)) → words_of text ≡ word ∷ words
+    → BeginsNot (name ++ blank ∷ []) text → word ≡ name → words ≡ []
+alone_so name text word [] e h same = refl
+alone_so name text word (next ∷ more) e h same =
+    let begins = begins_with text word next more e in
+    absurd (h begins.0 (begins.1 ∙ ap (λ w. w ++ blank ∷ begins.0) same ∙ sym (append_assoc name (blank ∷ []) begins.0)))
+
+-- what is asked by another name
+other_name : (word name : List ℕ) (found other : Option Command) → (word ≡ name → found ≡ other)
+    → (if bytes_eq word name then found else other) ≡ other
+other_name word name found other same = step (bytes_eq word name) refl
+  where
+    step : (b : Bool) → bytes_eq word name ≡ b → (if b then found else other) ≡ other
+    step true e = same ((bytes_eq-Decides word name).0 e)
+    step false e = refl
+
+-- a name that stands alone, if at all, asks for nothing
+skip : (word name : List ℕ) (words : List (List ℕ)) (found other : Option Command) → (word ≡ name → words ≡ [])
+    → (word ≡ name → words ≡ [] → found ≡ other) → (if bytes_eq word name then found else other) ≡ other
+skip word name words found other alone none = other_name word name found other (λ same. none same (alone same))
+
+-- a line that begins with none of these names asks for nothing of a space
+pub none_of_space : (line : List ℕ) → BeginsNot (codes "space ") line → BeginsNot (codes "first ") line
+    → BeginsNot (codes "last ") line → BeginsNot (codes "exact ") line → BeginsNot (codes "free ") line
+    → asked_of_space (words_of line) ≡ None
+none_of_space line space first last exact free = step (words_of line) refl
+  where
+    step : (parts : List (List ℕ)) → words_of line ≡ parts → asked_of_space parts ≡ None
+    step [] e = refl
+    step (word ∷ words) e =
+        skip word (codes "space") words _ _ (alone_so (codes "space") line word words e space) (λ w n. rw (w, n) refl)
+        ∙ skip word (codes "first") words _ _ (alone_so (codes "first") line word words e first) (λ w n. rw (w, n) refl)
+        ∙ skip word (codes "last") words _ _ (alone_so (codes "last") line word words e last) (λ w n. rw (w, n) refl)
+        ∙ skip word (codes "exact") words _ _ (alone_so (codes "exact") line word words e exact) (λ w n. rw (w, n) refl)
+        ∙ skip word (codes "free") words _ _ (alone_so (codes "free") line word words e free) (λ w n. rw n refl)
+
+-- a word alone is the line
+alone_is : (line word : List ℕ) → words_of line ≡ word ∷ [] → line ≡ word
+alone_is line word e = sym (join_with_byte-slice_split blank line) ∙ ap (join_with_byte blank) e
+
+-- a line that begins with none of these, and is not the name that stands alone, asks for nothing of ids
+pub none_of_ids : (line : List ℕ) → BeginsNot (codes "ids ") line → BeginsNot (codes "unid ") line
+    → BeginsNot (codes "has ") line → line ≢ codes "id" → asked_of_ids (words_of line) ≡ None
+none_of_ids line ids unid has id = step (words_of line) refl
+  where
+    id_none : (word : List ℕ) (words : List (List ℕ)) → words_of line ≡ word ∷ words → word ≡ codes "id" → alone Id words ≡ None
+    id_none word [] e same = absurd (id (alone_is line word e ∙ same))
+    id_none word (next ∷ more) e same = refl
+
+    step : (parts : List (List ℕ)) → words_of line ≡ parts → asked_of_ids parts ≡ None
+    step [] e = refl
+    step (word ∷ words) e =
+        skip word (codes "ids") words _ _ (alone_so (codes "ids") line word words e ids) (λ w n. rw (w, n) refl)
+        ∙ other_name word (codes "id") _ _ (λ w. id_none word words e w ∙ rw w refl)
+        ∙ skip word (codes "unid") words _ _ (alone_so (codes "unid") line word words e unid) (λ w n. rw (w, n) refl)
+        ∙ skip word (codes "has") words _ _ (alone_so (codes "has") line word words e has) (λ w n. rw n refl)
+
+-- a line that begins with none of these asks for nothing of devices
+pub none_of_devices : (line : List ℕ) → BeginsNot (codes "manager ") line → BeginsNot (codes "device ") line
+    → BeginsNot (codes "undevice ") line → asked_of_devices (words_of line) ≡ None
+none_of_devices line manager device undevice = step (words_of line) refl
+  where
+    step : (parts : List (List ℕ)) → words_of line ≡ parts → asked_of_devices parts ≡ None
+    step [] e = refl
+    step (word ∷ words) e =
+        skip word (codes "manager") words _ _ (alone_so (codes "manager") line word words e manager) (λ w n. rw (w, n) refl)
+        ∙ skip word (codes "device") words _ _ (alone_so (codes "device") line word words e device) (λ w n. rw (w, n) refl)
+        ∙ skip word (codes "undevice") words _ _ (alone_so (codes "undevice") line word words e undevice) (λ w n. rw n refl)

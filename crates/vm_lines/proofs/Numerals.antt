@@ -1,0 +1,133 @@
+-- Numbers, digit by digit.
+use Rattle.std.proofs.Common.{◌≡◌, ℕ, ◌+◌, ◌-◌, ◌*◌, ◌^◌, ◌<◌, ◌≤◌, Bool, true, false, List, [], ◌∷◌, ◌++◌, length, take, drop, get_or, Some, None, zero, suc, min, refl, sym, arith, length-take, length-drop}
+use Rattle.std.specs.List.{list_all}
+use Rattle.std.proofs.lemmas.Bool.Decides.{nat_tests}
+use Rattle.std.proofs.lemmas.Grind.{pow_more}
+use Rattle.std.proofs.lemmas.List.{take_more, take_all, get_or-drop}
+use Rattle.std.proofs.lemmas.List.Elements.{All-get_or}
+use Rattle.std.proofs.lemmas.List.Sums.{prefix_len-le-length, AllPass-from_list_all}
+use Rattle.std.proofs.Math.Nat.{pow-le-pow_right}
+use Rattle.vm_lines.specs.Numbers.{value_from, is_digit, digit_zero, number_of}
+use Rattle.vm_lines.specs.Reading.{digits_ahead}
+
+-- Values.
+
+-- one more digit
+value_push : (before digit : ℕ) (digits : List ℕ)
+    → value_from before (digits ++ digit ∷ []) ≡ value_from before digits * 10 + (digit - digit_zero)
+value_push before digit [] = refl
+value_push before digit (first ∷ digits) = value_push (before * 10 + (first - digit_zero)) digit digits
+
+pub value_more : (text : List ℕ) (i : ℕ) → i < length text
+    → value_from 0 (take (i + 1) text) ≡ value_from 0 (take i text) * 10 + (get_or text i 0 - digit_zero)
+value_more text i h = rw (take_more text i 0 h) (value_push 0 (get_or text i 0) (take i text))
+
+-- the first digit alone
+value_one : (text : List ℕ) → 0 < length text → value_from 0 (take 1 text) ≡ get_or text 0 0 - digit_zero
+value_one [] h = absurd (omega arith)
+value_one (digit ∷ text) h = omega arith
+
+-- the value of so few digits fits
+pub next_below : (value count digit : ℕ) → value < 10 ^ count → digit ≤ 9 → value * 10 + digit < 10 ^ (count + 1)
+next_below value count digit h d = rw (pow_more 10 count) (omega arith)
+
+pub next_fits : (value count : ℕ) → value < 10 ^ count → count < 19 → value * 10 + 9 < 2 ^ 64
+next_fits value count h few =
+    let l : 10 ^ count ≤ 1000000000000000000 = pow-le-pow_right (omega arith) (let f : count ≤ 18 = omega arith in f) in
+    omega (arith, l)
+
+-- Digits at the beginning.
+
+-- the first of the digits are digits
+all_digits : (text : List ℕ) (n : ℕ) → n ≤ digits_ahead text → list_all is_digit (take n text) ≡ true
+all_digits text zero h = refl
+all_digits [] (suc n) h = refl
+all_digits (x ∷ xs) (suc n) h = step (is_digit x) refl (all_digits xs n)
+  where
+    step : (b : Bool) → is_digit x ≡ b → (n ≤ digits_ahead xs → list_all is_digit (take n xs) ≡ true)
+        → list_all is_digit (take (suc n) (x ∷ xs)) ≡ true
+    step true e all = let rest : n ≤ digits_ahead xs = omega (arith, rw e at h) in rw (e, all rest)
+    step false e all = absurd (omega (arith, rw e at h))
+
+-- each of some digits is one
+pub digit_at : (digits : List ℕ) (i : ℕ) → i < length digits → list_all is_digit digits ≡ true
+    → is_digit (get_or digits i 0) ≡ true
+digit_at digits i h all = All-get_or (λ x. is_digit x ≡ true) digits i 0 h (AllPass-from_list_all is_digit digits all)
+
+-- the digits behind some of them
+pub ahead_drop : (text : List ℕ) (n : ℕ) → n ≤ digits_ahead text → digits_ahead text ≡ n + digits_ahead (drop n text)
+ahead_drop text zero h = omega arith
+ahead_drop [] (suc n) h = absurd (omega arith)
+ahead_drop (x ∷ xs) (suc n) h = step (is_digit x) refl (ahead_drop xs n)
+  where
+    step : (b : Bool) → is_digit x ≡ b → (n ≤ digits_ahead xs → digits_ahead xs ≡ n + digits_ahead (drop n xs))
+        → digits_ahead (x ∷ xs) ≡ suc n + digits_ahead (drop n xs)
+    step true e more = let rest : n ≤ digits_ahead xs = omega (arith, rw e at h) in rw e (omega (arith, more rest))
+    step false e more = absurd (omega (arith, rw e at h))
+
+pub ahead_within : (text : List ℕ) → digits_ahead text ≤ length text
+ahead_within text = prefix_len-le-length is_digit text
+
+-- Numbers.
+
+-- what so few digits say, where it fits
+pub number_is : (text : List ℕ) (n value : ℕ) → n ≤ digits_ahead text → 0 < n → n ≤ 20 → value ≡ value_from 0 (take n text)
+    → value < 2 ^ 64 → number_of (take n text) ≡ Some value
+number_is text n value h some few is fits =
+    let all = all_digits text n h in
+    let long : length (take n text) ≡ n = omega (arith, length-take n text, prefix_len-le-length is_digit text) in
+    rw (long, all, sym is) (grind (arith, nat_tests))
+
+-- no digit says nothing
+pub number_none : (text : List ℕ) → number_of (take 0 text) ≡ None
+number_none text = refl
+
+-- digits that say too much, or are too many, say nothing
+pub number_large : (text : List ℕ) (n : ℕ) → 2 ^ 64 ≤ value_from 0 (take n text) → number_of (take n text) ≡ None
+number_large text n large = grind (arith, nat_tests)
+
+-- The last digit, behind nineteen.
+
+-- what stands behind nineteen bytes
+abbrev pub behind : List ℕ → List ℕ
+behind text = take (length text - 19) (drop 19 text)
+
+behind_is : (text : List ℕ) → behind text ≡ drop 19 text
+behind_is text = take_all (length text - 19) (drop 19 text) (omega (arith, length-drop 19 text))
+
+-- how many digits there are in all
+ahead_is : (text : List ℕ) (more : ℕ) → 19 ≤ digits_ahead text → more ≡ min (digits_ahead (behind text)) 19 → more < 19
+    → digits_ahead text ≡ 19 + more
+ahead_is text more h is few = omega (arith, ahead_drop text 19 h, rw (behind_is text) at is)
+
+-- what twenty say
+value_last : (text : List ℕ) (value last : ℕ) → 19 < length text → value ≡ value_from 0 (take 19 text)
+    → last ≡ value_from 0 (take 1 (behind text)) → value_from 0 (take 20 text) ≡ value * 10 + last
+value_last text value last h is one =
+    let digit = value_one (drop 19 text) (omega (arith, length-drop 19 text)) in
+    let same : get_or (drop 19 text) 0 0 ≡ get_or text 19 0 = get_or-drop 19 text 0 0 in
+    omega (arith, value_more text 19 h, is, rw (behind_is text) at one, digit, same)
+
+pub last_none : (text : List ℕ) (value more : ℕ) → 19 ≤ digits_ahead text → value ≡ value_from 0 (take 19 text) → value < 2 ^ 64
+    → more ≡ min (digits_ahead (behind text)) 19 → more ≡ 0
+    → (number_of (take (digits_ahead text) text) ≡ Some value) × (19 ≡ digits_ahead text)
+last_none text value more h is fits count none =
+    let n : digits_ahead text ≡ 19 = omega (arith, ahead_is text more h count) in
+    (rw n (number_is text 19 value h (omega arith) (omega arith) is fits), sym n)
+
+pub last_one : (text : List ℕ) (value more last : ℕ) → 19 ≤ digits_ahead text → value ≡ value_from 0 (take 19 text)
+    → more ≡ min (digits_ahead (behind text)) 19 → more ≡ 1 → last ≡ value_from 0 (take 1 (behind text))
+    → value * 10 + last < 2 ^ 64
+    → (number_of (take (digits_ahead text) text) ≡ Some (value * 10 + last)) × (20 ≡ digits_ahead text)
+last_one text value more last h is count one digit fits =
+    let n : digits_ahead text ≡ 20 = omega (arith, ahead_is text more h count) in
+    let all = value_last text value last (omega (arith, ahead_within text)) is digit in
+    (rw n (number_is text 20 (value * 10 + last) (omega arith) (omega arith) (omega arith) (sym all) fits), sym n)
+
+pub last_large : (text : List ℕ) (value more last : ℕ) → 19 ≤ digits_ahead text → value ≡ value_from 0 (take 19 text)
+    → more ≡ min (digits_ahead (behind text)) 19 → more ≡ 1 → last ≡ value_from 0 (take 1 (behind text))
+    → 2 ^ 64 ≤ value * 10 + last → number_of (take (digits_ahead text) text) ≡ None
+last_large text value more last h is count one digit large =
+    let n : digits_ahead text ≡ 20 = omega (arith, ahead_is text more h count) in
+    let all = value_last text value last (omega (arith, ahead_within text)) is digit in
+    rw n (number_large text 20 (omega (arith, all)))

@@ -1,0 +1,90 @@
+-- The words of a line and the parts of a piece, by where the first byte between them stands.
+use Rattle.std.proofs.Common.{◌≡◌, ◌≢◌, ℕ, ◌+◌, ◌-◌, ◌<◌, ◌≤◌, Bool, true, false, List, [], ◌∷◌, length, take, drop, Some, None, ◌==◌, refl, arith, rules, ◌++◌, get_or, length-drop, sym, ⊎_elim, ap, ◌∙◌}
+use Rattle.std.specs.Prelude.{position}
+use Rattle.std.specs.List.{position_or_len, slice_split, after_first}
+use Rattle.std.proofs.lemmas.List.Splits.{slice_split_first, length-slice_split}
+use Rattle.std.proofs.lemmas.Bool.{cases_lt}
+use Rattle.std.proofs.lemmas.Bool.Decides.{nat_tests}
+use Rattle.std.proofs.lemmas.List.{take_all}
+use Rattle.std.proofs.lemmas.List.Prefix.{front_fits, front_reads, front_from_reads}
+use Rattle.std.proofs.lemmas.List.Sums.{split_at_first, passes_at_first}
+use Rattle.std.proofs.lemmas.Grind.{common_steps}
+use Rattle.vm_lines.specs.Lines.{newline, parts_of}
+use Rattle.vm_lines.specs.Words.{blank, words_of}
+
+-- a text, cut at each such byte
+abbrev cut_at : ℕ → List ℕ → List (List ℕ)
+cut_at c text = slice_split (λ byte. byte == c) text
+
+-- where the first such byte stands
+some_below : (c : ℕ) (text : List ℕ) (i : ℕ) → position (λ byte. byte == c) text ≡ Some i
+    → (i < length text) × (position_or_len (λ byte. byte == c) text ≡ i)
+some_below c text i e = search (rules, common_steps)
+
+-- a text with such a byte
+cut_some : (c : ℕ) (text : List ℕ) (i : ℕ) → position (λ byte. byte == c) text ≡ Some i
+    → cut_at c text ≡ take i text ∷ cut_at c (take (length text - (i + 1)) (drop (i + 1) text))
+cut_some c text i e = let h = some_below c text i e in search (rules, common_steps, slice_split_first (λ byte. byte == c) text 0 (omega arith))
+
+-- a text with no such byte is one part
+none_step : (c : ℕ) (xs : List ℕ) → length xs ≤ position_or_len (λ byte. byte == c) xs → cut_at c xs ≡ xs ∷ []
+none_step c [] h = refl
+none_step c (x ∷ xs) h = none_cons c x xs (x == c) refl (none_step c xs) h
+  where
+    none_cons : (c x : ℕ) (xs : List ℕ) (b : Bool) → (x == c) ≡ b
+        → (length xs ≤ position_or_len (λ byte. byte == c) xs → cut_at c xs ≡ xs ∷ [])
+        → length (x ∷ xs) ≤ position_or_len (λ byte. byte == c) (x ∷ xs) → cut_at c (x ∷ xs) ≡ (x ∷ xs) ∷ []
+    none_cons c x xs true e ih h = absurd (omega (arith, rw e at h))
+    none_cons c x xs false e ih h = let k : length xs ≤ position_or_len (λ byte. byte == c) xs = omega (arith, rw e at h) in rw (e, ih k)
+
+cut_none : (c : ℕ) (text : List ℕ) → position (λ byte. byte == c) text ≡ None → cut_at c text ≡ text ∷ []
+cut_none c text e = none_step c text (grind (arith, nat_tests))
+
+-- the first word of a text with a blank, and the words behind it
+pub words_some : (line : List ℕ) (i : ℕ) → position (λ byte. byte == blank) line ≡ Some i
+    → words_of line ≡ take i line ∷ words_of (take (length line - (i + 1)) (drop (i + 1) line))
+words_some line i e = cut_some blank line i e
+
+-- the words of a text with no blank
+pub words_none : (line : List ℕ) → position (λ byte. byte == blank) line ≡ None → words_of line ≡ line ∷ []
+words_none line e = cut_none blank line e
+
+-- a text of some words begins with the first and a blank
+pub begins_with : (text word next : List ℕ) (more : List (List ℕ)) → words_of text ≡ word ∷ next ∷ more
+    → (rest : List ℕ) × (text ≡ word ++ blank ∷ rest)
+begins_with text word next more e =
+    let m = position_or_len (λ byte. byte == blank) text in
+    ⊎_elim (λ within.
+    let first = slice_split_first (λ byte. byte == blank) text 0 within in
+    let is : word ≡ take m text = cc in
+    let ends : get_or text m 0 ≡ blank = let there = passes_at_first (λ byte. byte == blank) text 0 within in grind (arith, nat_tests) in
+    let rest = after_first (λ byte. byte == blank) text in
+    (rest, split_at_first (λ byte. byte == blank) text 0 within ∙ ap (λ byte. take m text ++ byte ∷ rest) ends ∙ ap (λ w. w ++ blank ∷ rest) (sym is)))
+    (λ all. absurd (let alone = words_none text (grind (arith, nat_tests)) in cc))
+    (cases_lt m (length text))
+
+-- whether a text begins so
+pub too_short : (text front rest : List ℕ) → length text < length front → text ≢ front ++ rest
+too_short text front rest h e = omega (arith, front_fits text front rest e)
+
+pub begins_else : (text front rest : List ℕ) (i : ℕ) → i < length front → get_or text i 0 ≢ get_or front i 0 → text ≢ front ++ rest
+begins_else text front rest i within differs e = differs (front_reads 0 text front rest e i within)
+
+pub begins_so : (text front : List ℕ) → length front ≤ length text
+    → ((i : ℕ) → i < length front → get_or text i 0 ≡ get_or front i 0)
+    → text ≡ front ++ take (length text - length front) (drop (length front) text)
+begins_so text front fits same =
+    rw (take_all (length text - length front) (drop (length front) text) (omega (arith, length-drop (length front) text))) (front_from_reads 0 text front fits same)
+
+-- the first part of a piece with a newline, and the parts behind it
+pub parts_some : (piece : List ℕ) (i : ℕ) → position (λ byte. byte == newline) piece ≡ Some i
+    → parts_of piece ≡ take i piece ∷ parts_of (take (length piece - (i + 1)) (drop (i + 1) piece))
+parts_some piece i e = cut_some newline piece i e
+
+-- the parts of a piece with no newline
+pub parts_none : (piece : List ℕ) → position (λ byte. byte == newline) piece ≡ None → parts_of piece ≡ piece ∷ []
+parts_none piece e = cut_none newline piece e
+
+-- a text has a word
+pub some_words : (text : List ℕ) → 0 < length (words_of text)
+some_words text = omega (arith, length-slice_split (λ byte. byte == blank) text)

@@ -1,0 +1,9 @@
+use Rattle.std.proofs.Common.{refl}
+use Rattle.vm_lines.specs.Machines.{Does, OnDevices}
+use Rattle.vm_lines.proofs.machine.Machine.release_device.Goals as goal
+
+pub returns : goal.returns
+unfolding Does OnDevices
+returns c =
+    rw (← c.self.view_is, c.in-Some.is)
+    (c.release.new.self, (c.release.result, c.release.ensures.answer, c.done_or_refused.ensures), refl)

@@ -1,0 +1,9 @@
+use Rattle.std.proofs.Common.{refl}
+use Rattle.vm_lines.specs.Machines.{Does, OnDevices}
+use Rattle.vm_lines.proofs.machine.Machine.reserve.Goals as goal
+
+pub returns : goal.returns
+unfolding Does OnDevices
+returns c =
+    rw (← c.self.view_is, c.in-Some.is)
+    (c.reserve.new.self, (c.reserve.result, c.reserve.ensures.answer, c.device_or_refused.ensures), refl)

@@ -1,0 +1,14 @@
+use Rattle.std.proofs.Common.{◌<◌, ◌^◌, arith, rules}
+use Rattle.std.specs.Prelude.{codes}
+use Rattle.vm_lines.proofs.Decimals.{id_behind}
+use Rattle.vm_lines.proofs.reply.write_device.Goals as goal
+
+pub push_pair-requires : goal.push_pair-requires
+push_pair-requires c =
+    let fits : c.into.result < 2 ^ 32 = search rules in
+    omega (arith, c.requires, id_behind c.args.output.now (codes "device ") c.push_all.new.self c.push_number.new.self c.push.new.self c.into.result 32 fits c.push_all.ensures c.push_number.ensures.text c.push.ensures)
+
+pub returns-clause-room : goal.returns-clause-room
+returns-clause-room c =
+    let fits : c.into.result < 2 ^ 32 = search rules in
+    omega (arith, c.push_pair.ensures.room, id_behind c.args.output.now (codes "device ") c.push_all.new.self c.push_number.new.self c.push.new.self c.into.result 32 fits c.push_all.ensures c.push_number.ensures.text c.push.ensures)

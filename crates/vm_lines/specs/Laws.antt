@@ -1,0 +1,57 @@
+-- What follows from the definitions alone.
+use Rattle.std.specs.Prelude.{◌≡◌, ◌≢◌, ℕ, ◌<◌, List, [], ◌∷◌, ◌++◌, length, IfSome}
+use Rattle.vm_engine.specs.Answer.{FEWEST_TOO_DEEP}
+use Rattle.vm_ranges.specs.declared.error.Error.TheVariants.{OutOfMemory}
+use Rattle.vm_lines.specs.Commands.{command_of}
+use Rattle.vm_lines.specs.Lines.{newline}
+use Rattle.vm_lines.specs.Machines.{Machine, start, Does}
+use Rattle.vm_lines.specs.Replies.{text_of}
+use Rattle.vm_lines.specs.Runs.{MayAnswer}
+use Rattle.vm_lines.specs.declared.reply.Reply.{Reply}
+use Rattle.vm_lines.specs.declared.reply.Reply.TheVariants.{Refused}
+
+-- so few ranges are held, by lines on the space and by devices, that no split is refused for the depth of a tree
+abbrev pub HoldsFew : Machine → Type 0
+HoldsFew machine =
+    IfSome machine.space (λ state. length state.held < FEWEST_TOO_DEEP)
+    × IfSome machine.devices (λ state. length state.space.held < FEWEST_TOO_DEEP)
+
+-- As `AreAnswered`, where no line is refused because memory ran out.
+abbrev pub AreAnsweredInMemory : Machine → List (List ℕ) → List ℕ → Machine → Type 0
+AreAnsweredInMemory old [] text new = (text ≡ []) × (new ≡ old)
+AreAnsweredInMemory old (line ∷ lines) text new =
+    (reply : Reply) × (mid : Machine) × (rest : List ℕ)
+    × Does old (command_of line) reply mid
+    × (reply ≢ Refused OutOfMemory)
+    × AreAnsweredInMemory mid lines rest new
+    × (text ≡ text_of reply ++ newline ∷ rest)
+
+-- As `AreAnsweredInMemory`, where few ranges are held before each line.
+abbrev pub AreAnsweredAmply : Machine → List (List ℕ) → List ℕ → Machine → Type 0
+AreAnsweredAmply old [] text new = (text ≡ []) × (new ≡ old)
+AreAnsweredAmply old (line ∷ lines) text new =
+    (reply : Reply) × (mid : Machine) × (rest : List ℕ)
+    × Does old (command_of line) reply mid
+    × (reply ≢ Refused OutOfMemory)
+    × HoldsFew old
+    × AreAnsweredAmply mid lines rest new
+    × (text ≡ text_of reply ++ newline ∷ rest)
+
+-- where few ranges are held, lines have no other text in which none is refused because memory ran out, and leave one
+-- state
+unfoldable pub OneText : Type 0
+OneText =
+    (lines : List (List ℕ)) (text other : List ℕ) (new end : Machine) →
+    AreAnsweredAmply start lines text new → AreAnsweredInMemory start lines other end → (text ≡ other) × (new ≡ end)
+
+-- whatever the lines so far have made, each line has a reply, other than that memory ran out
+unfoldable pub HasReply : Type 0
+HasReply =
+    (old : Machine) (line : List ℕ) →
+    (reply : Reply) × (new : Machine) × Does old (command_of line) reply new × (reply ≢ Refused OutOfMemory)
+
+-- and so the lines of each input have a text in which none is refused because memory ran out
+unfoldable pub HasText : Type 0
+HasText =
+    (lines : List (List ℕ)) →
+    (text : List ℕ) × MayAnswer lines text × ((end : Machine) × AreAnsweredInMemory start lines text end)

@@ -1,0 +1,12 @@
+pub mod Numbers
+pub mod Words
+pub mod Commands
+pub mod Reading
+pub mod Lines
+pub mod Replies
+pub mod Printing
+pub mod Machines
+pub mod Runs
+pub mod Sessions
+pub mod Moving
+pub mod Laws

@@ -1,0 +1,136 @@
+-- What the lines so far have made, and what a further line does to it: by the very relations that the calls of the
+-- libraries ensure.
+use Rattle.std.specs.Prelude.{◌≡◌, ◌↔◌, ℕ, Bool, IsTrue, Option, Some, None, Result, Ok, Err, MatchOption, refl}
+use Rattle.std.specs.Coded.{Coded, code_by, coded×, coded_option}
+use Rattle.vm_ranges.specs.Cases.{Unless}
+use Rattle.vm_ranges.specs.Range.{Range, IsRange}
+use Rattle.vm_engine.specs.Address.{AddressState, address_state_code}
+use Rattle.vm_engine.specs.Answer.{Allocates, Frees, Makes}
+use Rattle.vm_ranges.specs.Request.{Request}
+use Rattle.vm_ids.specs.Ids.{IdState, id_state_code, IsHeld, MakesIds, AllocatesId, FreesId}
+use Rattle.vm_ranges.specs.declared.constraint.AllocPolicy.TheVariants.{FirstMatch, LastMatch, ExactMatch}
+use Rattle.vm_ranges.specs.declared.error.Error.{Error}
+use Rattle.vm_ranges.specs.declared.error.Error.TheVariants.{InvalidRange}
+use Rattle.vm_devices.specs.declared.device_slot.DeviceSlot.{DeviceSlot}
+use Rattle.vm_devices.specs.Devices.{DeviceState, device_state_code, MakesManager, Reserves, Releases as ReleasesDevice}
+use Rattle.vm_lines.specs.Replies.{done_or_refused, given_or_refused, id_or_refused, device_or_refused}
+use Rattle.vm_lines.specs.declared.command.Command.{Command}
+use Rattle.vm_lines.specs.declared.command.Command.TheVariants.{Space, First, Last, Exact, Free, Ids, Id, Unid, Has, Manager, Device, Undevice}
+use Rattle.vm_lines.specs.declared.reply.Reply.{Reply}
+use Rattle.vm_lines.specs.declared.reply.Reply.TheVariants.{Held, NoSpace, NoIds, NoManager, NotInLanguage}
+
+-- what the lines so far have made: the space of the last `space` that was done, the ids of the last `ids`, and the
+-- devices of the last `manager`
+pub record Machine : Type 0 where
+  pub space : Option AddressState
+  pub ids : Option IdState
+  pub devices : Option DeviceState
+
+-- a machine is stored as the tuple of its fields
+abbrev pub machine_code : Coded Machine
+machine_code =
+    code_by (Option AddressState × (Option IdState × Option DeviceState))
+    (coded× (coded_option address_state_code) (coded× (coded_option id_state_code) (coded_option device_state_code)))
+    (λ m. (m.space, (m.ids, m.devices)))
+    (λ p. record { space = p.0; ids = p.1.0; devices = p.1.1 })
+    (λ _. refl)
+
+-- before the first line
+abbrev pub start : Machine
+start = record { space = None; ids = None; devices = None }
+
+-- what is made takes the place of what was there, and what is refused does not
+abbrev pub kept : {A : Type 0} → Result A Error → Option A → Option A
+kept (Ok made) old = Some made
+kept (Err error) old = old
+
+-- the machine with the space that was made, if it was
+abbrev pub with_space : Machine → Result AddressState Error → Machine
+with_space old answer = record old { space = kept answer old.space }
+
+-- with the ids that were made
+abbrev pub with_ids : Machine → Result IdState Error → Machine
+with_ids old answer = record old { ids = kept answer old.ids }
+
+-- with the devices that were made
+abbrev pub with_devices : Machine → Result DeviceState Error → Machine
+with_devices old answer = record old { devices = kept answer old.devices }
+
+-- the line needs this part: where it is absent this is the reply; else this call decides the reply, and the state that is
+-- put back
+abbrev pub OnPart : {S : Type 0} → Option S → (S → Machine) → Reply → Machine → Reply → Machine → (S → S → Type 0) → Type 0
+OnPart {S} part put absent old reply new call =
+    MatchOption part
+    ((reply ≡ absent) × (new ≡ old))
+    (λ state. (later : S) × call state later × (new ≡ put later))
+
+-- the line needs a space: where there is one, this call decides the reply and the state that it leaves
+unfoldable pub OnSpace : Machine → Reply → Machine → (AddressState → AddressState → Type 0) → Type 0
+OnSpace old reply new call = OnPart old.space (λ later. record old { space = Some later }) NoSpace old reply new call
+
+-- the line needs ids: where there are some, this call decides the reply and the state that it leaves
+unfoldable pub OnIds : Machine → Reply → Machine → (IdState → IdState → Type 0) → Type 0
+OnIds old reply new call = OnPart old.ids (λ later. record old { ids = Some later }) NoIds old reply new call
+
+-- the line needs a manager: where there is one, this call decides the reply and the state that it leaves
+unfoldable pub OnDevices : Machine → Reply → Machine → (DeviceState → DeviceState → Type 0) → Type 0
+OnDevices old reply new call =
+    OnPart old.devices (λ later. record old { devices = Some later }) NoManager old reply new call
+
+-- an allocation
+unfoldable pub Places : Machine → Request → Reply → Machine → Type 0
+Places old request reply new =
+    OnSpace old reply new (λ state later.
+    (answer : Result Range Error) × Allocates state request answer later × (reply ≡ given_or_refused answer))
+
+-- the release of what is to be a range
+unfoldable pub FreesRange : AddressState → ℕ → ℕ → Result (Unit {0}) Error → AddressState → Type 0
+FreesRange old start end answer new =
+    Unless (IsRange start end)
+    ((answer ≡ Err (InvalidRange start end)) × (new ≡ old))
+    (Frees old (record { start = start; end = end }) answer new)
+
+-- From old, what is asked may get this reply, and new is what it leaves. None is a line that is not in the language.
+unfoldable pub Does : Machine → Option Command → Reply → Machine → Type 0
+Does old None reply new = (reply ≡ NotInLanguage) × (new ≡ old)
+Does old (Some (Space base size)) reply new =
+    (answer : Result AddressState Error)
+    × Makes base size answer
+    × (reply ≡ done_or_refused answer)
+    × (new ≡ with_space old answer)
+Does old (Some (First size alignment)) reply new =
+    Places old (record { size = size; align = alignment; policy = FirstMatch }) reply new
+Does old (Some (Last size alignment)) reply new =
+    Places old (record { size = size; align = alignment; policy = LastMatch }) reply new
+Does old (Some (Exact size alignment start)) reply new =
+    Places old (record { size = size; align = alignment; policy = ExactMatch start }) reply new
+Does old (Some (Free start end)) reply new =
+    OnSpace old reply new (λ state later.
+    (answer : Result (Unit {0}) Error) × FreesRange state start end answer later × (reply ≡ done_or_refused answer))
+Does old (Some (Ids range_base range_end)) reply new =
+    (answer : Result IdState Error)
+    × MakesIds range_base range_end answer
+    × (reply ≡ done_or_refused answer)
+    × (new ≡ with_ids old answer)
+Does old (Some Id) reply new =
+    OnIds old reply new (λ state later.
+    (answer : Result ℕ Error) × AllocatesId state answer later × (reply ≡ id_or_refused answer))
+Does old (Some (Unid id)) reply new =
+    OnIds old reply new (λ state later.
+    (answer : Result ℕ Error) × FreesId state id answer later × (reply ≡ id_or_refused answer))
+Does old (Some (Has id)) reply new =
+    OnIds old reply new (λ state later.
+    (held : Bool) × (IsTrue held ↔ IsHeld state id) × (reply ≡ Held held) × (later ≡ state))
+Does old (Some (Manager id_lo id_hi base size)) reply new =
+    (answer : Result DeviceState Error)
+    × MakesManager id_lo id_hi base size answer
+    × (reply ≡ done_or_refused answer)
+    × (new ≡ with_devices old answer)
+Does old (Some (Device size alignment)) reply new =
+    OnDevices old reply new (λ state later.
+    (answer : Result DeviceSlot Error)
+    × Reserves state (record { size = size; align = alignment; policy = FirstMatch }) answer later
+    × (reply ≡ device_or_refused answer))
+Does old (Some (Undevice id)) reply new =
+    OnDevices old reply new (λ state later.
+    (answer : Result (Unit {0}) Error) × ReleasesDevice state id answer later × (reply ≡ done_or_refused answer))

@@ -1,0 +1,141 @@
+//! Where answers wait to be written. A number is printed by pairs of digits from a table, and copied
+//! as twenty bytes whatever its length, two moves and no call: with the reading of numbers this took
+//! half of the instructions off that the text of a line costs.
+ghost use Rattle.std.specs.Prelude.{◌≡◌, ◌++◌, ◌∷◌, [], ◌+◌, ◌-◌, ◌/◌, ◌%◌, ◌≤◌, ◌<◌, length, decimal};
+ghost use Rattle.vm_lines.specs.Printing.{written};
+
+use crate::number::MOST_DIGITS;
+use std::marker::Model;
+
+/// How many bytes a buffer has room for.
+pub(crate) const CAPACITY: usize = 4096;
+
+/// Room for the digits of a number, and for as many bytes behind them.
+const DIGITS_ROOM: usize = 40;
+
+/// The two digits of each number below a hundred.
+static PAIRS: [u8; 200] = *b"\
+    0001020304050607080910111213141516171819\
+    2021222324252627282930313233343536373839\
+    4041424344454647484950515253545556575859\
+    6061626364656667686970717273747576777879\
+    8081828384858687888990919293949596979899";
+
+/// Text that waits to be written, in an array of its own.
+#[derive(Drop)]
+pub struct Buffer {
+    bytes: [u8; CAPACITY],
+    length: usize,
+}
+
+impl Model for Buffer {
+    ghost use Rattle.std.specs.Prelude.{◌≤◌, ℕ, List, take};
+    ghost use Rattle.vm_lines.specs.declared.buffer.TheConstants.{CAPACITY};
+
+    ghost Value = { List ℕ };
+
+    ghost view = { λ a. take a.length a.bytes };
+
+    ghost invariant = { λ a. a.length ≤ CAPACITY };
+}
+
+impl Buffer {
+    /// A buffer in which nothing waits.
+    pub(crate) fn new() -> Buffer
+        ensures { result ≡ [] }
+    {
+        Buffer {
+            bytes: [0; CAPACITY],
+            length: 0,
+        }
+    }
+
+    /// How many bytes wait.
+    pub(crate) fn len(&self) -> usize
+        ensures value { result ≡ length self.now }
+        ensures within { length self.now ≤ CAPACITY }
+    {
+        self.length
+    }
+
+    /// What waits.
+    pub fn as_slice(&self) -> &[u8]
+        ensures { result.now ≡ self.now }
+    {
+        &self.bytes[..self.length]
+    }
+
+    /// Lets go of what waits.
+    pub(crate) fn clear(&mut self)
+        ensures { self.new ≡ [] }
+    {
+        self.length = 0;
+    }
+
+    /// Adds one byte.
+    pub(crate) fn push(&mut self, byte: u8)
+        requires { length self.old < CAPACITY }
+        ensures { self.new ≡ self.old ++ byte ∷ [] }
+    {
+        self.bytes[self.length] = byte;
+        self.length += 1;
+    }
+
+    /// Adds a text.
+    pub(crate) fn push_all(&mut self, text: &[u8])
+        requires { length self.old + length text.now ≤ CAPACITY }
+        ensures { self.new ≡ self.old ++ text.now }
+    {
+        let end = self.length + text.len();
+        self.bytes[self.length..end].copy_from_slice(text);
+        self.length = end;
+    }
+
+    /// Adds a number, in decimal.
+    #[tactic(auto, using(crate::proofs::Decimals::long, crate::proofs::Decimals::cut_back))]
+    pub(crate) fn push_number(&mut self, number: u64)
+        requires { length self.old + MOST_DIGITS ≤ CAPACITY }
+        ensures text { self.new ≡ self.old ++ decimal number }
+        ensures room { length self.new ≤ length self.old + MOST_DIGITS }
+    {
+        let mut digits = [0u8; DIGITS_ROOM];
+        let start = write_digits(number, &mut digits);
+        // The same length for each number makes this two moves. What is too much is taken back.
+        self.push_all(&digits[start..start + MOST_DIGITS]);
+        self.length -= start;
+    }
+}
+
+/// Writes the digits of a number before place `MOST_DIGITS`, and tells where they start.
+#[tactic(auto, using(crate::proofs::Decimals::two_long, crate::proofs::Decimals::some_long))]
+fn write_digits(number: u64, digits: &mut [u8; DIGITS_ROOM]) -> usize
+    ensures within { result ≤ MOST_DIGITS }
+    ensures text { written result digits.new ≡ decimal number }
+{
+    let mut start = MOST_DIGITS;
+    let mut rest = number;
+    while rest >= 100 {
+        put_pair(digits, start, (rest % 100) as u8);
+        start -= 2;
+        rest /= 100;
+    }
+    if rest >= 10 {
+        put_pair(digits, start, rest as u8);
+        return start - 2;
+    }
+    digits[start - 1] = b'0' + rest as u8;
+    start - 1
+}
+
+/// Writes two digits right before the place where the others start.
+#[inline(always)]
+fn put_pair(digits: &mut [u8; DIGITS_ROOM], start: usize, pair: u8)
+    requires pair { pair < 100 }
+    requires some { 1 < start }
+    requires within { start ≤ MOST_DIGITS }
+    ensures { written (start - 2) digits.new ≡ (48 + pair / 10) ∷ (48 + pair % 10) ∷ written start digits.old }
+{
+    let place = pair as usize * 2;
+    digits[start - 1] = PAIRS[place + 1];
+    digits[start - 2] = PAIRS[place];
+}

@@ -1,0 +1,216 @@
+//! What a line does to what the lines so far have made: a space, ids, devices.
+ghost use Rattle.std.specs.Prelude.{◌≡◌, Some};
+ghost use Rattle.vm_allocator.specs.Allocator.{state_of};
+ghost use Rattle.vm_lines.specs.Machines.{Places, FreesRange, kept};
+ghost use Rattle.vm_lines.specs.Replies.{done_or_refused};
+
+use crate::command::Command;
+use crate::reply::{Reply, device_or_refused, done_or_refused, given_or_refused, id_or_refused};
+use std::alloc::Global;
+use std::marker::Model;
+use vm_allocator::{AddressAllocator, AllocPolicy, IdAllocator, RangeInclusive, Result};
+use vm_devices::DeviceManager;
+
+/// What the lines so far have made.
+#[derive(Drop)]
+pub struct Machine {
+    space: Option<AddressAllocator>,
+    ids: Option<IdAllocator>,
+    devices: Option<DeviceManager>,
+}
+
+impl Model for Machine {
+    ghost use Rattle.std.specs.Option.{option_map};
+    ghost use Rattle.vm_allocator.specs.Allocator.{state_of};
+    ghost use Rattle.vm_lines.specs.Machines.{Machine, machine_code};
+
+    ghost Value = { Machine };
+
+    ghost coded = { machine_code };
+
+    ghost view = { λ a. record { space = option_map state_of a.space; ids = a.ids; devices = a.devices } };
+}
+
+impl Machine {
+    ghost use Rattle.vm_lines.specs.Machines.{start, Does};
+
+    /// Nothing is made yet.
+    pub fn new() -> Machine
+        ensures { result ≡ start }
+    {
+        Machine {
+            space: None,
+            ids: None,
+            devices: None,
+        }
+    }
+
+    /// Does what a line asks. `None` is a line that is not in the language.
+    #[tactic(auto, unfolding(crate::specs::Machines::Does))]
+    pub fn answer(&mut self, alloc: Global, asked: Option<Command>) -> Reply
+        ensures { Does self.old asked result self.new }
+    {
+        let Some(command) = asked else {
+            return Reply::NotInLanguage;
+        };
+        match command {
+            Command::Space { base, size } => self.make_space(alloc, base, size),
+            Command::First { size, alignment } => {
+                self.place(alloc, size, alignment, AllocPolicy::FirstMatch)
+            }
+            Command::Last { size, alignment } => {
+                self.place(alloc, size, alignment, AllocPolicy::LastMatch)
+            }
+            Command::Exact {
+                size,
+                alignment,
+                start,
+            } => self.place(alloc, size, alignment, AllocPolicy::ExactMatch(start)),
+            Command::Free { start, end } => self.free(start, end),
+            Command::Ids {
+                range_base,
+                range_end,
+            } => self.make_ids(alloc, range_base, range_end),
+            Command::Id => self.take_id(),
+            Command::Unid { id } => self.release_id(id),
+            Command::Has { id } => self.has_id(id),
+            Command::Manager {
+                id_lo,
+                id_hi,
+                base,
+                size,
+            } => self.make_manager(alloc, id_lo, id_hi, base, size),
+            Command::Device { size, alignment } => self.reserve(alloc, size, alignment),
+            Command::Undevice { id } => self.release_device(id),
+        }
+    }
+
+    /// Makes a space, which takes the place of the old one. A refused one does not.
+    #[tactic(auto, unfolding(crate::specs::Machines::Does))]
+    fn make_space(&mut self, alloc: Global, base: u64, size: u64) -> Reply
+        ensures { Does self.old (Some (Command.Space base size)) result self.new }
+    {
+        keep(AddressAllocator::new(alloc, base, size), &mut self.space)
+    }
+
+    /// Holds the `size` addresses at the place that the policy chooses.
+    #[tactic(auto, unfolding(crate::specs::Machines::Places, crate::specs::Machines::OnSpace))]
+    fn place(&mut self, alloc: Global, size: u64, alignment: u64, policy: AllocPolicy) -> Reply
+        ensures { Places self.old (record { size = size; align = alignment; policy = policy }) result self.new }
+    {
+        let Some(space) = &mut self.space else {
+            return Reply::NoSpace;
+        };
+        given_or_refused(space.allocate(alloc, size, alignment, policy))
+    }
+
+    /// Gives a range back.
+    #[tactic(auto, unfolding(crate::specs::Machines::Does, crate::specs::Machines::OnSpace))]
+    fn free(&mut self, start: u64, end: u64) -> Reply
+        ensures { Does self.old (Some (Command.Free start end)) result self.new }
+    {
+        let Some(space) = &mut self.space else {
+            return Reply::NoSpace;
+        };
+        done_or_refused(release(space, start, end))
+    }
+
+    /// Makes ids, which take the place of the old ones. Refused ones do not.
+    #[tactic(auto, unfolding(crate::specs::Machines::Does))]
+    fn make_ids(&mut self, alloc: Global, range_base: u32, range_end: u32) -> Reply
+        ensures { Does self.old (Some (Command.Ids range_base range_end)) result self.new }
+    {
+        keep(
+            IdAllocator::new(alloc, range_base, range_end),
+            &mut self.ids,
+        )
+    }
+
+    /// Holds the least id that is not held.
+    #[tactic(auto, unfolding(crate::specs::Machines::Does, crate::specs::Machines::OnIds))]
+    fn take_id(&mut self) -> Reply
+        ensures { Does self.old (Some Command.Id) result self.new }
+    {
+        let Some(ids) = &mut self.ids else {
+            return Reply::NoIds;
+        };
+        id_or_refused(ids.allocate_id())
+    }
+
+    /// Gives an id back.
+    #[tactic(auto, unfolding(crate::specs::Machines::Does, crate::specs::Machines::OnIds))]
+    fn release_id(&mut self, id: u32) -> Reply
+        ensures { Does self.old (Some (Command.Unid id)) result self.new }
+    {
+        let Some(ids) = &mut self.ids else {
+            return Reply::NoIds;
+        };
+        id_or_refused(ids.free_id(id))
+    }
+
+    /// Tells whether an id is held.
+    #[tactic(auto, unfolding(crate::specs::Machines::Does, crate::specs::Machines::OnIds))]
+    fn has_id(&self, id: u32) -> Reply
+        ensures { Does self.now (Some (Command.Has id)) result self.now }
+    {
+        let Some(ids) = &self.ids else {
+            return Reply::NoIds;
+        };
+        Reply::Held(ids.is_allocated(id))
+    }
+
+    /// Makes a manager, which takes the place of the old one. A refused one does not.
+    #[tactic(auto, unfolding(crate::specs::Machines::Does))]
+    fn make_manager(&mut self, alloc: Global, id_lo: u32, id_hi: u32, base: u64, size: u64) -> Reply
+        ensures { Does self.old (Some (Command.Manager id_lo id_hi base size)) result self.new }
+    {
+        let made = DeviceManager::new(alloc, id_lo, id_hi, base, size);
+        keep(made, &mut self.devices)
+    }
+
+    /// Holds the least id that is not held, and `size` addresses at the first place, for one device.
+    #[tactic(auto, unfolding(crate::specs::Machines::Does, crate::specs::Machines::OnDevices))]
+    fn reserve(&mut self, alloc: Global, size: u64, alignment: u64) -> Reply
+        ensures { Does self.old (Some (Command.Device size alignment)) result self.new }
+    {
+        let Some(devices) = &mut self.devices else {
+            return Reply::NoManager;
+        };
+        device_or_refused(devices.reserve(alloc, size, alignment, AllocPolicy::FirstMatch))
+    }
+
+    /// Gives back the id and the range of a device.
+    #[tactic(auto, unfolding(crate::specs::Machines::Does, crate::specs::Machines::OnDevices))]
+    fn release_device(&mut self, id: u32) -> Reply
+        ensures { Does self.old (Some (Command.Undevice id)) result self.new }
+    {
+        let Some(devices) = &mut self.devices else {
+            return Reply::NoManager;
+        };
+        done_or_refused(devices.release(id))
+    }
+}
+
+/// Keeps what was made, in the place of what was there. What was refused leaves that.
+#[inline(always)]
+fn keep<T: Drop>(made: Result<T>, part: &mut Option<T>) -> Reply
+    ensures reply { result ≡ done_or_refused made }
+    ensures part { part.new ≡ kept made part.old }
+{
+    match made {
+        Ok(new) => {
+            *part = Some(new);
+            Reply::Done
+        }
+        Err(error) => Reply::Refused(error),
+    }
+}
+
+/// Gives back the range from `start` to `end`. `InvalidRange(start, end)` where that is none.
+#[tactic(auto, unfolding(crate::specs::Machines::FreesRange))]
+fn release(space: &mut AddressAllocator, start: u64, end: u64) -> Result<()>
+    ensures { FreesRange (state_of space.old) start end result (state_of space.new) }
+{
+    let range = RangeInclusive::new(start, end)?;
+    space.free(&range)
+}

@@ -1,0 +1,116 @@
+//! What ended lines have made, and the line that has begun. A line is read where it lies in its
+//! piece; only one that began in an earlier piece is kept.
+ghost use Rattle.std.specs.Prelude.{◌≡◌, ◌++◌, [], ◌+◌, ◌<◌, ℕ, List, length, Some};
+ghost use Rattle.vm_lines.specs.Machines.{start};
+ghost use Rattle.vm_lines.specs.Sessions.{Ends, asked_by, line_after, with_more, has_begun};
+
+use crate::buffer::{Buffer, CAPACITY};
+use crate::command::{Command, LONGEST_LINE, parse};
+use crate::machine::Machine;
+use crate::reply::{LONGEST_REPLY, write_reply};
+use std::alloc::Global;
+use std::marker::Model;
+
+/// What the lines so far have made, and the line that has begun.
+#[derive(Drop)]
+pub(crate) struct Session {
+    machine: Machine,
+    line: [u8; LONGEST_LINE],
+    filled: usize,
+    is_too_long: bool,
+}
+
+impl Model for Session {
+    ghost use Rattle.std.specs.Prelude.{◌≡◌, ◌≤◌, Some, None, if◌then◌else◌, length, take};
+    ghost use Rattle.vm_lines.specs.Sessions.{Session, session_code};
+    ghost use Rattle.vm_lines.specs.declared.command.TheConstants.{LONGEST_LINE};
+
+    ghost Value = { Session };
+
+    ghost coded = { session_code };
+
+    ghost view = { λ a. record {
+      machine = a.machine;
+      line = if a.is_too_long then None else Some (take a.filled a.line);
+    } };
+
+    ghost invariant = { λ a. (a.filled ≤ LONGEST_LINE) × (length a.line ≡ LONGEST_LINE) };
+}
+
+impl Session {
+    /// Before the first byte of the input.
+    pub(crate) fn new() -> Session
+        ensures { result ≡ record { machine = start; line = Some [] } }
+    {
+        Session {
+            machine: Machine::new(),
+            line: [0; LONGEST_LINE],
+            filled: 0,
+            is_too_long: false,
+        }
+    }
+
+    /// Ends the line that has begun, of which these are the last bytes, and writes the answer to it.
+    pub(crate) fn end_line(&mut self, alloc: Global, last: &[u8], output: &mut Buffer)
+        requires { length output.old + LONGEST_REPLY < CAPACITY }
+        ensures { (text : List ℕ)
+            × Ends (with_more self.old last.now) text self.new
+            × (output.new ≡ output.old ++ text) }
+    {
+        let asked = self.take_line(last);
+        let reply = self.machine.answer(alloc, asked);
+        write_reply(output, reply);
+        output.push(b'\n');
+    }
+
+    /// Tells what the line asks of which these are the last bytes. After that no line has begun.
+    fn take_line(&mut self, last: &[u8]) -> Option<Command>
+        ensures asked { result ≡ asked_by (line_after self.old.line last.now) }
+        ensures machine { self.new.machine ≡ self.old.machine }
+        ensures line { self.new.line ≡ Some [] }
+    {
+        if !self.has_begun() {
+            return parse(last);
+        }
+        self.keep(last);
+        self.take_kept()
+    }
+
+    /// Tells what the line asks of which all bytes are kept. After that no line has begun.
+    #[cold]
+    fn take_kept(&mut self) -> Option<Command>
+        ensures asked { result ≡ asked_by self.old.line }
+        ensures machine { self.new.machine ≡ self.old.machine }
+        ensures line { self.new.line ≡ Some [] }
+    {
+        let asked = if self.is_too_long {
+            None
+        } else {
+            parse(&self.line[..self.filled])
+        };
+        self.filled = 0;
+        self.is_too_long = false;
+        asked
+    }
+
+    /// Takes more bytes of the line that has begun.
+    pub(crate) fn keep(&mut self, bytes: &[u8])
+        ensures machine { self.new.machine ≡ self.old.machine }
+        ensures line { self.new.line ≡ line_after self.old.line bytes.now }
+    {
+        if self.is_too_long || bytes.len() > LONGEST_LINE - self.filled {
+            self.is_too_long = true;
+            return;
+        }
+        let end = self.filled + bytes.len();
+        self.line[self.filled..end].copy_from_slice(bytes);
+        self.filled = end;
+    }
+
+    /// Whether some of a line has come.
+    pub(crate) fn has_begun(&self) -> bool
+        ensures { result ≡ has_begun self.now.line }
+    {
+        self.is_too_long || self.filled > 0
+    }
+}

@@ -1,0 +1,107 @@
+//! The words of a line: whether it begins with a name, and the numbers and ids behind that. The four
+//! numbers of `manager` are read as three are, and two of them then taken as ids.
+ghost use Rattle.std.specs.Prelude.{◌≡◌, ◌≢◌, ◌++◌, ℕ, List, None, Some, MatchOption};
+ghost use Rattle.std.specs.Option.{option_copied};
+ghost use Rattle.vm_lines.specs.Numbers.{number_of, id_of};
+ghost use Rattle.vm_lines.specs.Words.{words_of, words_behind, one_in, two_in, three_in, four_in};
+ghost use Rattle.vm_lines.specs.Reading.{number_first};
+
+use crate::number::number_ahead;
+
+/// What stands behind the beginning of a text, where the text begins so.
+#[inline(always)]
+#[tactic(auto, using(crate::proofs::Splitting::too_short, crate::proofs::Splitting::begins_else, crate::proofs::Splitting::begins_so))]
+pub(crate) fn behind<'a, const N: usize>(front: &[u8; N], text: &'a [u8]) -> Option<&'a [u8]>
+    ensures { MatchOption result
+        ((rest : List ℕ) → text.now ≢ front.now ++ rest)
+        (λ rest. text.now ≡ front.now ++ rest.now) }
+{
+    if text.len() < N {
+        return None;
+    }
+    for i in 0..N {
+        if text[i] != front[i] {
+            return None;
+        }
+    }
+    Some(&text[N..])
+}
+
+/// The number that the first word of a text says, and what stands after the space behind it.
+#[inline(always)]
+#[tactic(auto, using(crate::proofs::FirstNumber::first_numbers))]
+fn first_number(text: &[u8]) -> Option<(u64, Option<&[u8]>)>
+    ensures { MatchOption result
+        (number_first (words_of text.now) ≡ None)
+        (λ found. number_first (words_of text.now) ≡ Some (found.0, words_behind (option_copied found.1))) }
+{
+    let (number, count) = number_ahead(text)?;
+    if count == text.len() {
+        return Some((number, None));
+    }
+    if text[count] != b' ' {
+        return None;
+    }
+    Some((number, Some(&text[count + 1..])))
+}
+
+/// The number that the word of a text says, where it is one.
+#[inline(always)]
+#[tactic(auto, using(crate::proofs::FirstNumber::one_numbers, crate::proofs::Splitting::some_words))]
+fn one_number(text: &[u8]) -> Option<u64>
+    ensures { result ≡ one_in number_of (words_of text.now) }
+{
+    let (number, rest) = first_number(text)?;
+    if rest.is_some() {
+        return None;
+    }
+    Some(number)
+}
+
+/// The numbers that the words of a text say, where they are two.
+#[tactic(auto, using(crate::proofs::FirstNumber::two_none, crate::proofs::FirstNumber::two_some))]
+pub(crate) fn two_numbers(text: &[u8]) -> Option<(u64, u64)>
+    ensures { result ≡ two_in number_of (words_of text.now) }
+{
+    let (first, rest) = first_number(text)?;
+    Some((first, one_number(rest?)?))
+}
+
+/// The numbers that the words of a text say, where they are three.
+#[inline(always)]
+#[tactic(auto, using(crate::proofs::FirstNumber::three_none, crate::proofs::FirstNumber::three_some))]
+pub(crate) fn three_numbers(text: &[u8]) -> Option<(u64, u64, u64)>
+    ensures { result ≡ three_in number_of (words_of text.now) }
+{
+    let (first, rest) = first_number(text)?;
+    let (second, third) = two_numbers(rest?)?;
+    Some((first, second, third))
+}
+
+/// The id that the word of a text says, where it is one.
+#[tactic(auto, using(crate::proofs::IdNumbers::one_id))]
+pub(crate) fn one_id(text: &[u8]) -> Option<u32>
+    ensures { result ≡ one_in id_of (words_of text.now) }
+{
+    u32::try_from(one_number(text)?).ok()
+}
+
+/// The ids that the words of a text say, where they are two.
+#[tactic(auto, using(crate::proofs::IdNumbers::two_ids))]
+pub(crate) fn two_ids(text: &[u8]) -> Option<(u32, u32)>
+    ensures { result ≡ two_in id_of (words_of text.now) }
+{
+    let (first, second) = two_numbers(text)?;
+    Some((u32::try_from(first).ok()?, u32::try_from(second).ok()?))
+}
+
+/// The two ids and the two numbers that the words of a text say, where they are four.
+#[tactic(auto, using(crate::proofs::IdNumbers::four_none, crate::proofs::IdNumbers::four_some))]
+pub(crate) fn ids_and_numbers(text: &[u8]) -> Option<((u32, u32), (u64, u64))>
+    ensures { result ≡ four_in id_of number_of (words_of text.now) }
+{
+    let (first, rest) = first_number(text)?;
+    let (second, third, fourth) = three_numbers(rest?)?;
+    let ids = (u32::try_from(first).ok()?, u32::try_from(second).ok()?);
+    Some((ids, (third, fourth)))
+}

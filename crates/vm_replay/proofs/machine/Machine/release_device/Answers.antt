@@ -1,9 +1,0 @@
-use Rattle.std.proofs.Common.{refl}
-use Rattle.vm_replay.specs.Machines.{Does, OnDevices}
-use Rattle.vm_replay.proofs.machine.Machine.release_device.Goals as goal
-
-pub returns : goal.returns
-unfolding Does OnDevices
-returns c =
-    rw (← c.self.view_is, c.in-Some.is)
-    (c.release.new.self, (c.release.result, c.release.ensures.answer, c.done_or_refused.ensures), refl)

@@ -1,9 +1,0 @@
-use Rattle.std.proofs.Common.{refl}
-use Rattle.vm_replay.specs.Machines.{Does, OnDevices}
-use Rattle.vm_replay.proofs.machine.Machine.reserve.Goals as goal
-
-pub returns : goal.returns
-unfolding Does OnDevices
-returns c =
-    rw (← c.self.view_is, c.in-Some.is)
-    (c.reserve.new.self, (c.reserve.result, c.reserve.ensures.answer, c.device_or_refused.ensures), refl)
