@@ -12,7 +12,7 @@ mod machine;
 mod newline;
 mod number;
 mod reply;
-mod run;
+pub mod run;
 mod session;
 mod words;
 
@@ -20,4 +20,3 @@ pub use buffer::Buffer;
 pub use command::{Command, LONGEST_LINE, parse};
 pub use machine::Machine;
 pub use reply::{Reply, reply_text};
-pub use run::{RunError, run};
