@@ -3,6 +3,7 @@ use super::walks::copying::copy;
 use super::walks::shapes::same;
 use super::*;
 use std::alloc::Global;
+use std::fmt::Debug;
 use std::process::Abort;
 use vm_ranges::Error;
 
@@ -10,6 +11,11 @@ type Inserted = std::result::Result<Box<InnerNode>, (Error, Box<InnerNode>)>;
 
 /// The first and the last address of a key.
 type Key = (u64, u64);
+
+/// Ends the test where an answer is not the one that it has to be; `of` says of what.
+fn expect_same<T: PartialEq + Debug>(rt: &impl Abort, got: &T, want: &T, of: &impl Debug) {
+    assert!(rt; got == want, "{of:?}: {got:?} where {want:?} is due");
+}
 
 fn range(rt: &impl Abort, key: Key) -> RangeInclusive {
     RangeInclusive::new(key.0, key.1).expect(rt, "a range")
@@ -49,7 +55,7 @@ fn inserted(rt: &impl Abort, alloc: Global, tree: Box<InnerNode>, key: Key) -> B
     match insert(rt, alloc, tree, key) {
         Ok(tree) => tree,
         Err((error, tree)) => {
-            assert_eq!(rt; error, Error::OutOfMemory);
+            expect_same(rt, &error, &Error::OutOfMemory, &key);
             let tree = Some(tree);
             assert!(rt; same(&tree, &before));
             let Some(tree) = tree else { unreachable!() };
@@ -68,12 +74,12 @@ fn tree_of(rt: &impl Abort, alloc: Global, first: Key, keys: &[Key]) -> Box<Inne
     tree
 }
 
-/// What inserting a key that overlaps is refused with; the tree handed back is the one from before.
-fn refusal(rt: &impl Abort, alloc: Global, tree: Box<InnerNode>, key: Key) -> Error {
+/// Inserting a key is refused since it overlaps another; the tree handed back is the one from before.
+fn expect_overlap(rt: &impl Abort, alloc: Global, tree: Box<InnerNode>, key: Key, met: Key) {
     let before = copied(rt, alloc, &tree);
     let (error, tree) = insert(rt, alloc, tree, range(rt, key)).expect_err(rt, "the key overlaps");
+    expect_same(rt, &error, &Error::Overlap(range(rt, key), range(rt, met)), &key);
     assert!(rt; same(&Some(tree), &before));
-    error
 }
 
 /// The tree without a key, where others are left.
@@ -94,6 +100,17 @@ fn found(rt: &impl Abort, tree: &InnerNode, key: Key) -> Option<(NodeState, bool
     let _ = tree.height();
     let node = tree.search(&range(rt, key), &mut 0)?;
     Some((node.state(), node.height() == 1))
+}
+
+/// The tree has this key, at a leaf, in this state.
+fn expect_leaf(rt: &impl Abort, tree: &InnerNode, key: Key, state: NodeState) {
+    expect_same(rt, &found(rt, tree, key), &Some((state, true)), &key);
+}
+
+/// The tree has this key at its root, and this height.
+fn expect_root(rt: &impl Abort, tree: &InnerNode, key: Key, height: u64, of: &impl Debug) {
+    expect_same(rt, &tree.key(), &range(rt, key), of);
+    expect_same(rt, &tree.height(), &height, of);
 }
 
 /// The key that contains another one.
@@ -134,7 +151,7 @@ fn test_search(rt: HostRuntime) {
         ((0x200, 0x250), None),
         ((0x111, 0x1FE), None),
     ] {
-        assert_eq!(rt; found(&rt, &tree, key), want, "for {key:?}");
+        expect_same(&rt, &found(&rt, &tree, key), &want, &key);
     }
 }
 
@@ -153,7 +170,7 @@ fn test_search_superset(rt: HostRuntime) {
         ((0x300, 0x301), None),
         ((0x1FF, 0x300), None),
     ] {
-        assert_eq!(rt; superset(&rt, &tree, key), want, "for {key:?}");
+        expect_same(&rt, &superset(&rt, &tree, key), &want, &key);
     }
 }
 
@@ -170,7 +187,7 @@ fn test_tree_insert_balanced(rt: HostRuntime) {
     let _ = tree.height();
     let tree = InnerNode::delete_root(tree, &mut 0).expect(&rt, "four keys are left");
     assert!(rt; is_balanced(&tree));
-    assert_eq!(rt; found(&rt, &tree, first), None);
+    expect_same(&rt, &found(&rt, &tree, first), &None, &first);
 
     let keys = [
         (0x100, 0x110),
@@ -195,25 +212,16 @@ fn test_tree_insert_intersect_negative(rt: HostRuntime) {
     let (first, high, low) = ((0x100, 0x200), (0x201, 0x2FF), (0x90, 0x9F));
     let (in_high, in_low) = ((0x201, 0x2FE), (0x90, 0x9E));
     let tree = tree_of(&rt, rt.alloc(), first, &[high]);
-    assert_eq!(rt;
-        refusal(&rt, rt.alloc(), tree, in_high),
-        Error::Overlap(range(&rt, in_high), range(&rt, high))
-    );
+    expect_overlap(&rt, rt.alloc(), tree, in_high, high);
     let tree = tree_of(&rt, rt.alloc(), first, &[high, low]);
-    assert_eq!(rt;
-        refusal(&rt, rt.alloc(), tree, in_low),
-        Error::Overlap(range(&rt, in_low), range(&rt, low))
-    );
+    expect_overlap(&rt, rt.alloc(), tree, in_low, low);
 }
 
 #[test]
 fn test_tree_insert_duplicate_negative(rt: HostRuntime) {
     let key = (0x100, 0x200);
     let tree = tree_of(&rt, rt.alloc(), key, &[]);
-    assert_eq!(rt;
-        refusal(&rt, rt.alloc(), tree, key),
-        Error::Overlap(range(&rt, key), range(&rt, key))
-    );
+    expect_overlap(&rt, rt.alloc(), tree, key, key);
 }
 
 #[test]
@@ -223,7 +231,8 @@ fn test_tree_mark_as_allocated_invalid_transition(rt: HostRuntime) {
     let _ = tree.height();
     let key = range(&rt, key);
     let error = Error::InvalidStateTransition(key, NodeState::Allocated);
-    assert_eq!(rt; tree.mark_as_allocated(&key, &mut 0), Err(error));
+    let result = tree.mark_as_allocated(&key, &mut 0);
+    expect_same(&rt, &result, &Err(error), &key);
 }
 
 #[test]
@@ -232,7 +241,7 @@ fn test_tree_mark_as_allocated_resource_not_available(rt: HostRuntime) {
     for key in [(0x111, 0x112), (0x90, 0x92)] {
         let _ = tree.height();
         let result = tree.mark_as_allocated(&range(&rt, key), &mut 0);
-        assert_eq!(rt; result, Err(Error::ResourceNotAvailable), "for {key:?}");
+        expect_same(&rt, &result, &Err(Error::ResourceNotAvailable), &key);
     }
 }
 
@@ -241,9 +250,10 @@ fn test_tree_mark_as_allocated(rt: HostRuntime) {
     let key = (0x200, 0x2FF);
     let mut tree = tree_of(&rt, rt.alloc(), (0x100, 0x110), &[key]);
     let _ = tree.height();
-    assert_eq!(rt; found(&rt, &tree, key), Some((NodeState::Free, true)));
-    assert_eq!(rt; tree.mark_as_allocated(&range(&rt, key), &mut 0), Ok(()));
-    assert_eq!(rt; found(&rt, &tree, key), Some((NodeState::Allocated, true)));
+    expect_leaf(&rt, &tree, key, NodeState::Free);
+    let result = tree.mark_as_allocated(&range(&rt, key), &mut 0);
+    expect_same(&rt, &result, &Ok(()), &key);
+    expect_leaf(&rt, &tree, key, NodeState::Allocated);
 }
 
 #[test]
@@ -253,12 +263,11 @@ fn test_tree_delete(rt: HostRuntime) {
     let tree = deleted(&rt, tree, first);
     let tree = inserted(&rt, rt.alloc(), tree, first);
     let tree = inserted(&rt, rt.alloc(), tree, low);
-    assert_eq!(rt; found(&rt, &tree, low), Some((NodeState::Free, true)));
-    assert_eq!(rt; found(&rt, &tree, high), Some((NodeState::Free, true)));
+    expect_leaf(&rt, &tree, low, NodeState::Free);
+    expect_leaf(&rt, &tree, high, NodeState::Free);
     let tree = deleted(&rt, tree, first);
     let tree = deleted(&rt, tree, high);
-    assert_eq!(rt; tree.key(), range(&rt, low));
-    assert_eq!(rt; tree.height(), 1);
+    expect_root(&rt, &tree, low, 1, &low);
 }
 
 #[test]
@@ -273,8 +282,7 @@ fn orders_of_three_keys(rt: HostRuntime) {
         [c, b, a],
     ] {
         let tree = tree_of(&rt, rt.alloc(), x, &[y, z]);
-        assert_eq!(rt; tree.key(), range(&rt, b), "after {x:?}, {y:?}, {z:?}");
-        assert_eq!(rt; tree.height(), 2, "after {x:?}, {y:?}, {z:?}");
+        expect_root(&rt, &tree, b, 2, &(x, y, z));
     }
 }
 
@@ -282,15 +290,15 @@ fn orders_of_three_keys(rt: HostRuntime) {
 fn rising_keys(rt: HostRuntime) {
     let keys = [(2, 2), (3, 3), (4, 4), (5, 5), (6, 6), (7, 7)];
     let tree = tree_of(&rt, rt.alloc(), (1, 1), &keys);
-    assert_eq!(rt; tree.height(), 3);
+    expect_same(&rt, &tree.height(), &3, &"the height");
     let tree = deleted(&rt, tree, (4, 4));
-    assert_eq!(rt; tree.height(), 3);
+    expect_same(&rt, &tree.height(), &3, &"the height without 4");
     let before = copied(&rt, rt.alloc(), &tree);
     let tree = Some(deleted(&rt, tree, (9, 9)));
     assert!(rt; same(&tree, &before));
     let mut starts = [0; 8];
-    assert_eq!(rt; write_starts(&tree, &mut starts, 0), 6);
-    assert_eq!(rt; starts, [1, 2, 3, 5, 6, 7, 0, 0]);
+    expect_same(&rt, &write_starts(&tree, &mut starts, 0), &6, &"the keys");
+    assert!(rt; starts == [1, 2, 3, 5, 6, 7, 0, 0]);
 }
 
 #[test]
@@ -298,8 +306,7 @@ fn free_key_between_others(rt: HostRuntime) {
     let keys = [(20, 20), (30, 30)];
     let tree = tree_of(&rt, rt.alloc(), (10, 10), &keys);
     let tree = inserted(&rt, rt.alloc(), tree, (5, 8));
-    assert_eq!(rt; found(&rt, &tree, (5, 8)), Some((NodeState::Free, true)));
+    expect_leaf(&rt, &tree, (5, 8), NodeState::Free);
     let tree = tree_of(&rt, rt.alloc(), (10, 10), &keys);
-    let error = Error::Overlap(range(&rt, (25, 30)), range(&rt, (30, 30)));
-    assert_eq!(rt; refusal(&rt, rt.alloc(), tree, (25, 30)), error);
+    expect_overlap(&rt, rt.alloc(), tree, (25, 30), (30, 30));
 }
