@@ -1,2 +1,1 @@
-pub mod ValueChecks
 pub mod ValueParts

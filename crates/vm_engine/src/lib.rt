@@ -4,5 +4,3 @@
 pub mod allocation_engine;
 mod laws;
 mod saved;
-
-pub use saved::fields::{SavedNode, node_of};

@@ -7,4 +7,6 @@ pub mod Request
 pub mod Cloning
 pub mod Saving
 pub mod RangeValues
+pub mod Block
+pub mod NodeChecks
 pub mod RangeLaws

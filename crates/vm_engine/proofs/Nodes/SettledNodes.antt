@@ -1,7 +1,7 @@
 -- What a node keeps, where it is told what changed of it.
 use Rattle.std.proofs.Common.{◌≡◌, ℕ, ◌∷◌, ◌++◌, Option, refl, ap, arith}
 use Rattle.std.specs.Global.{Box}
-use Rattle.vm_engine.specs.Tree.Block.{Block}
+use Rattle.vm_ranges.specs.Block.{Block}
 use Rattle.vm_engine.specs.Tree.BlockList.{IsOrderedFrom}
 use Rattle.vm_engine.specs.Tree.Shape.{Shape, Fork, blocks, height_of, max_free_of, alignments_of, IsTree}
 use Rattle.vm_engine.specs.Engine.Changes.{IsHeightAfterBalance, KeepsHeight, KeepsRoom}

@@ -2,7 +2,7 @@
 use Rattle.std.proofs.Common.{◌≡◌, ◌++◌, ◌∷◌, [], refl}
 use Rattle.vm_ranges.specs.Range.{Range}
 use Rattle.vm_ranges.specs.RangeOrder.{Before, StartsBefore, StartsAtOrAfter, IsInOrder}
-use Rattle.vm_engine.specs.Tree.Block.{Block}
+use Rattle.vm_ranges.specs.Block.{Block}
 use Rattle.vm_engine.specs.Tree.BlockList.{IsOrderedFrom, IsClearOf, insert_block, replace_block}
 use Rattle.vm_engine.specs.Tree.Shape.{Shape, Fork, blocks, height_of, IsTree, DifferByAtMost}
 use Rattle.vm_engine.proofs.Blocks.BlockOrder.{link_in_left, link_in_right}

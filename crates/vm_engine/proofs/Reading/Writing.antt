@@ -7,7 +7,7 @@ use Rattle.vm_engine.specs.Tree.Shape.{Shape, Tip, Fork, blocks, height_of, IsTr
 use Rattle.vm_engine.specs.Tree.SpaceTree.{space_of, IsSpaceTree}
 use Rattle.vm_ranges.specs.RangeValues.{StatesRange, StatesState}
 use Rattle.vm_engine.specs.Values.TreeValues.{StatesShape, StatesSpaceTree}
-use Rattle.vm_engine.specs.Checks.ValueParts.{NodeParts}
+use Rattle.vm_ranges.specs.NodeChecks.{NodeParts}
 use Rattle.vm_ranges.specs.declared.state.NodeState.{NodeState}
 use Rattle.vm_engine.proofs.Nodes.Spaces.{no_empty_tree}
 

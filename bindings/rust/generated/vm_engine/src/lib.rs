@@ -9,5 +9,3 @@
 
 pub mod allocation_engine;
 mod saved;
-
-pub use saved::fields::{SavedNode, node_of};

@@ -78,7 +78,12 @@ fn tree_of(rt: &impl Abort, alloc: Global, first: Key, keys: &[Key]) -> Box<Inne
 fn expect_overlap(rt: &impl Abort, alloc: Global, tree: Box<InnerNode>, key: Key, met: Key) {
     let before = copied(rt, alloc, &tree);
     let (error, tree) = insert(rt, alloc, tree, range(rt, key)).expect_err(rt, "the key overlaps");
-    expect_same(rt, &error, &Error::Overlap(range(rt, key), range(rt, met)), &key);
+    expect_same(
+        rt,
+        &error,
+        &Error::Overlap(range(rt, key), range(rt, met)),
+        &key,
+    );
     assert!(rt; same(&Some(tree), &before));
 }
 

@@ -1,18 +1,14 @@
 // Written by bindings/erase from crates/vm_engine/src/saved/tree.rt: do not edit.
 
-//! The saved form of a tree: the check of a value, which takes no memory, and the building of the tree.
+//! The saved form of a tree: what is checked already is built.
 
-use super::fields::node_of;
 use crate::allocation_engine::IntervalTree;
 use crate::allocation_engine::ends::known;
 use crate::allocation_engine::node::walks::saving::save;
 use crate::allocation_engine::node::{Child, InnerNode};
 use rattle::Value;
 use rattle::Global;
-use vm_ranges::{NodeState, RangeInclusive, Result, ValueError};
-
-/// No node of a saved tree is nested deeper, since no tree of an allocator is higher.
-const MOST_NESTED: u64 = 49;
+use vm_ranges::{MOST_NESTED, RangeInclusive, Result, ValueError, has_tree_of, node_of};
 
 impl IntervalTree {
     /// The value that states the tree, node for node. `OutOfMemory` where there is no memory for it.
@@ -29,7 +25,7 @@ impl IntervalTree {
         value: &Value,
     ) -> core::result::Result<Self, ValueError> {
         known(space);
-        if !fits(space, value) {
+        if !has_tree_of(space, value) {
             return Err(ValueError::NotAState);
         }
         let Ok(root) = build(value, MOST_NESTED, alloc) else {
@@ -37,67 +33,6 @@ impl IntervalTree {
         };
         Ok(IntervalTree { root })
     }
-}
-
-/// Where the blocks met so far end: the next one has to start at `next`, and `before` is the state of
-/// the last one.
-#[derive(Clone, Copy)]
-struct Front {
-    next: u128,
-    before: NodeState,
-}
-
-impl Front {
-    /// The front behind one more block, where it may stand there.
-    fn behind(self, key: &RangeInclusive, state: NodeState) -> Option<Front> {
-        let is_free = state == NodeState::Free;
-        let second_free = self.before == NodeState::Free && is_free;
-        let end = key.end();
-        if u128::from(key.start()) != self.next || second_free || (!is_free && end == u64::MAX) {
-            return None;
-        }
-        Some(Front {
-            next: u128::from(end) + 1,
-            before: state,
-        })
-    }
-}
-
-/// What the check of a tree finds: its height, and the front behind its blocks.
-#[derive(Clone, Copy)]
-struct Checked {
-    height: u64,
-    front: Front,
-}
-
-/// The height of the tree that a value has, and the front behind its blocks. None where it is no tree,
-/// has nodes nested deeper than `depth`, a wrong height, no balance, or a block that may not stand
-/// where it does.
-fn check(value: &Value, depth: u64, front: Front) -> Option<Checked> {
-    if value.is_null() {
-        return Some(Checked { height: 0, front });
-    }
-    if depth == 0 {
-        return None;
-    }
-    let Some(node) = node_of(value) else {
-        return None;
-    };
-    let left = check(node.left, depth - 1, front)?;
-    let middle = left.front.behind(&node.key, node.state)?;
-    let right = check(node.right, depth - 1, middle)?;
-    if !is_true_height(left.height, right.height, node.height) {
-        return None;
-    }
-    Some(Checked {
-        height: node.height,
-        front: right.front,
-    })
-}
-
-/// Whether a node has this height over children of heights that are close.
-fn is_true_height(left: u64, right: u64, height: u64) -> bool {
-    left <= right + 1 && right <= left + 1 && height == left.max(right) + 1
 }
 
 /// The tree that a checked value has, node for node. `OutOfMemory` where there is no memory for one of
@@ -110,16 +45,4 @@ fn build(value: &Value, depth: u64, alloc: Global) -> Result<Child> {
     let right = build(node.right, depth - 1, alloc)?;
     let node = InnerNode::with_children(alloc, left, node.key, node.state, right)?;
     Ok(Some(node))
-}
-
-/// Whether a value has a tree with blocks from the start to the end of the space.
-fn fits(space: &RangeInclusive, value: &Value) -> bool {
-    let before = Front {
-        next: space.start().into(),
-        before: NodeState::Allocated,
-    };
-    let Some(found) = check(value, MOST_NESTED, before) else {
-        return false;
-    };
-    found.front.next == u128::from(space.end()) + 1
 }

@@ -4,10 +4,9 @@ ghost use Rattle.vm_engine.specs.Values.TreeValues.{StatesShape};
 ghost use Rattle.vm_ranges.specs.Saving.{Saves};
 
 use crate::allocation_engine::node::InnerNode;
-use crate::saved::fields::save_node;
 use serde_json::Value;
 use std::alloc::Global;
-use vm_ranges::Result;
+use vm_ranges::{Result, save_node};
 
 /// The value that has the tree, node for node. `OutOfMemory` where there is no memory for it.
 #[tactic(auto, using(crate::proofs::Reading::Writing::nodes))]

@@ -1,5 +1,5 @@
 use Rattle.std.proofs.Common.{◌≡◌, refl, sym, rules, arith, None, IsSome, [], ◌∷◌}
-use Rattle.vm_engine.specs.Tree.Block.{Block}
+use Rattle.vm_ranges.specs.Block.{Block}
 use Rattle.vm_engine.specs.Tree.BlockList.{IsOrderedFrom, find_key, replace_block}
 use Rattle.vm_engine.specs.Tree.Shape.{blocks, IsTree}
 use Rattle.vm_engine.specs.Engine.NodeFields.{side, shape_of}

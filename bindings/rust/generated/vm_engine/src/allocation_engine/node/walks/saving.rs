@@ -3,10 +3,9 @@
 //! The saved form of trees.
 
 use crate::allocation_engine::node::InnerNode;
-use crate::saved::fields::save_node;
 use rattle::Value;
 use rattle::Global;
-use vm_ranges::Result;
+use vm_ranges::{Result, save_node};
 
 /// The value that has the tree, node for node. `OutOfMemory` where there is no memory for it.
 pub(crate) fn save(tree: &InnerNode, alloc: Global) -> Result<Value> {

@@ -1,17 +1,29 @@
 -- What the check of a saved value finds, part by part, in the order in which it looks. The lemmas of proofs/Reading say
 -- that this is what the value states.
-use Rattle.std.specs.Prelude.{ℕ, zero, suc, ◌+◌, max, Bool, not, ◌&&◌, ◌||◌, ◌==◌, nat_lt, nat_le, if◌then◌else◌, List, [], ◌∷◌, Option, Some, None, is_some, option_map, option_and_then, codes}
+use Rattle.std.specs.Prelude.{◌≡◌, ℕ, zero, suc, ◌+◌, max, Bool, not, ◌&&◌, ◌||◌, ◌==◌, nat_lt, nat_le, if◌then◌else◌, List, [], ◌∷◌, Option, Some, None, is_some, option_map, option_and_then, codes}
 use Rattle.serde_json.specs.Data.{Data}
 use Rattle.serde_json.specs.Find.{get, as_null}
 use Rattle.vm_values.specs.Fields.{field_count, is_count}
 use Rattle.vm_values.specs.Numbers.{number_in}
 use Rattle.vm_ranges.specs.Range.{Range, MAX}
-use Rattle.vm_engine.specs.Tree.Block.{Block, is_free}
-use Rattle.vm_engine.specs.Tree.Shape.{MAX_HEIGHT}
+use Rattle.vm_ranges.specs.Block.{Block, is_free}
 use Rattle.vm_ranges.specs.RangeValues.{range_found, state_found}
 use Rattle.vm_ranges.specs.declared.state.NodeState.TheVariants.{Allocated}
-use Rattle.vm_engine.specs.declared.saved.tree.Front.{Front}
-use Rattle.vm_engine.specs.declared.saved.tree.Checked.{Checked}
+use Rattle.vm_ranges.specs.declared.saved.tree.Front.{Front}
+use Rattle.vm_ranges.specs.declared.saved.tree.Checked.{Checked}
+
+-- no node of a saved tree is nested deeper, since no tree of an allocator is higher
+abbrev pub MOST_NESTED : ℕ
+MOST_NESTED = 49
+
+-- a node's five fields, and no other
+pub record NodeParts (d key state left right : Data) (height : ℕ) : Type 0 where
+  pub five_fields : field_count d ≡ Some 5
+  pub key_is : get (codes "key") d ≡ Some key
+  pub state_is : get (codes "node_state") d ≡ Some state
+  pub left_is : get (codes "left") d ≡ Some left
+  pub right_is : get (codes "right") d ≡ Some right
+  pub height_is : number_in (codes "height") d ≡ Some height
 
 -- what stands in the fields of a node's value
 pub record NodeData : Type 0 where
@@ -80,4 +92,4 @@ front_of space = record { next = space.start; before = Allocated }
 abbrev pub tree_fitting : Range → Data → Option Checked
 tree_fitting space d =
     option_and_then (λ found. if found.front.next == space.end + 1 then Some found else None)
-    (tree_found MAX_HEIGHT d (front_of space))
+    (tree_found MOST_NESTED d (front_of space))

@@ -2,12 +2,14 @@
 //! memory.
 ghost use Rattle.std.specs.Prelude.{◌≡◌, IfOk, option_map};
 ghost use Rattle.serde_json.specs.View.{view};
-ghost use Rattle.vm_engine.specs.Checks.ValueParts.{NodeParts};
-ghost use Rattle.vm_engine.specs.Checks.ValueChecks.{node_data};
+ghost use Rattle.vm_ranges.specs.NodeChecks.{NodeParts, node_data};
 
+use crate::range::RangeInclusive;
+use crate::saved::range::range_in;
+use crate::saved::state::state_in;
+use crate::state::NodeState;
 use serde_json::{Value, json};
 use std::alloc::{AllocError, Global};
-use vm_ranges::{NodeState, RangeInclusive, range_in, state_in};
 use vm_values::{has_fields, number_in};
 
 const KEY: &str = "key";
@@ -57,7 +59,7 @@ pub fn node_of(value: &Value) -> Option<SavedNode<'_>>
 }
 
 /// The object of a node's fields.
-pub(crate) fn save_node(
+pub fn save_node(
     alloc: Global,
     key: Value,
     state: Value,

@@ -1,11 +1,14 @@
-// Written by bindings/erase from crates/vm_engine/src/saved/fields.rt: do not edit.
+// Written by bindings/erase from crates/vm_ranges/src/saved/node.rt: do not edit.
 
 //! The fields of a node's value, read and written: their names stand here alone. Reading takes no
 //! memory.
 
+use crate::range::RangeInclusive;
+use crate::saved::range::range_in;
+use crate::saved::state::state_in;
+use crate::state::NodeState;
 use rattle::{Value, json};
 use rattle::{AllocError, Global};
-use vm_ranges::{NodeState, RangeInclusive, range_in, state_in};
 use vm_values::{has_fields, number_in};
 
 const KEY: &str = "key";
@@ -48,7 +51,7 @@ pub fn node_of(value: &Value) -> Option<SavedNode<'_>> {
 }
 
 /// The object of a node's fields.
-pub(crate) fn save_node(
+pub fn save_node(
     alloc: Global,
     key: Value,
     state: Value,

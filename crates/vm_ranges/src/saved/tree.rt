@@ -1,0 +1,102 @@
+//! The check of a saved tree, which takes no memory: block by block and node by node, to the first thing
+//! that is wrong.
+ghost use Rattle.std.specs.Prelude.{◌≡◌, ◌≤◌, ◌+◌, ◌<◌, ◌^◌, IfSome, is_some};
+ghost use Rattle.serde_json.specs.View.{view};
+ghost use Rattle.vm_ranges.specs.NodeChecks.{behind, is_true_height, tree_found, tree_fitting};
+
+use super::node::node_of;
+use crate::range::RangeInclusive;
+use crate::state::NodeState;
+use serde_json::Value;
+
+/// No node of a saved tree is nested deeper, since no tree of an allocator is higher.
+pub const MOST_NESTED: u64 = 49;
+
+/// Whether a value has a tree with blocks from the start to the end of the space. It takes no memory and
+/// goes down at most 50 levels of the value.
+pub fn has_tree_of(space: &RangeInclusive, value: &Value) -> bool
+    ensures { result ≡ is_some (tree_fitting space.now (view value.now)) }
+{
+    let before = Front {
+        next: space.start().into(),
+        before: NodeState::Allocated,
+    };
+    let Some(found) = check(value, MOST_NESTED, before) else {
+        return false;
+    };
+    found.front.next == u128::from(space.end()) + 1
+}
+
+/// Where the blocks met so far end. The lemmas of the crate above speak of it.
+#[derive(Clone, Copy)]
+pub struct Front {
+    /// Where the next block has to start.
+    pub next: u128,
+    /// The state of the last block.
+    pub before: NodeState,
+}
+
+impl Front {
+    /// The front behind one more block, where it may stand there.
+    fn behind(self, key: &RangeInclusive, state: NodeState) -> Option<Front>
+        ensures { result ≡ behind self (record { key = key.now; state = state }) }
+    {
+        let is_free = state == NodeState::Free;
+        let second_free = self.before == NodeState::Free && is_free;
+        let end = key.end();
+        if u128::from(key.start()) != self.next || second_free || (!is_free && end == u64::MAX) {
+            return None;
+        }
+        Some(Front {
+            next: u128::from(end) + 1,
+            before: state,
+        })
+    }
+}
+
+/// What the check of a tree finds. The lemmas of the crate above speak of it.
+#[derive(Clone, Copy)]
+pub struct Checked {
+    /// The height of the tree.
+    pub height: u64,
+    /// The front behind its blocks.
+    pub front: Front,
+}
+
+/// The height of the tree that a value has, and the front behind its blocks. None where it is no tree,
+/// has nodes nested deeper than `depth`, a wrong height, no balance, or a block that may not stand
+/// where it does.
+#[tactic(auto, unfolding(crate::specs::NodeChecks::tree_found))]
+fn check(value: &Value, depth: u64, front: Front) -> Option<Checked>
+    ensures found { result ≡ tree_found depth (view value.now) front }
+    ensures not_deeper { IfSome result (λ found. found.height ≤ depth) }
+{
+    if value.is_null() {
+        return Some(Checked { height: 0, front });
+    }
+    if depth == 0 {
+        return None;
+    }
+    let Some(node) = node_of(value) else {
+        return None;
+    };
+    let left = check(node.left, depth - 1, front)?;
+    let middle = left.front.behind(&node.key, node.state)?;
+    let right = check(node.right, depth - 1, middle)?;
+    if !is_true_height(left.height, right.height, node.height) {
+        return None;
+    }
+    Some(Checked {
+        height: node.height,
+        front: right.front,
+    })
+}
+
+/// Whether a node has this height over children of heights that are close.
+fn is_true_height(left: u64, right: u64, height: u64) -> bool
+    requires left_fits { left + 1 < 2 ^ 64 }
+    requires right_fits { right + 1 < 2 ^ 64 }
+    ensures { result ≡ is_true_height left right height }
+{
+    left <= right + 1 && right <= left + 1 && height == left.max(right) + 1
+}
