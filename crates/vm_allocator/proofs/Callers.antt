@@ -2,16 +2,16 @@
 use Rattle.std.proofs.Common.{◌≡◌, ℕ, ◌+◌, ◌-◌, ◌%◌, List, [], ◌∷◌, ◌<◌, ◌≤◌, ◌⊎◌, arith, refl, sym, ap, ◌∙◌, inl, inr, ⊎_elim, subst, Result, Ok, Err, IfOk, IfErr}
 use Rattle.std.specs.List.{Contains}
 use Rattle.serde_json.specs.Data.{Data}
-use Rattle.vm_values.proofs.NumberSets.{inserted_here}
+use Rattle.vm_ranges.proofs.NumberSets.{inserted_here}
 use Rattle.vm_ranges.specs.Range.{Range, IsIn, Overlaps, address_count, span}
 use Rattle.vm_engine.specs.Address.{AddressState, AreClear, IsPlace, IsAddressState, holding, releasing, without_range}
 use Rattle.vm_ranges.specs.Alignment.{IsAlignment}
 use Rattle.vm_ranges.specs.Request.{Request, request_for, IsRequest, IsStartAligned}
 use Rattle.vm_engine.specs.Answer.{IsChosen, IsSplitRefusal, Takes, Allocates, Frees}
-use Rattle.vm_ids.specs.Ids.{IdState, IsIdState, IsHeld, IsLeastNotHeld, holding_id, ByLeastNotHeld, AllocatesId}
+use Rattle.vm_allocator.specs.Ids.{IdState, IsIdState, IsHeld, IsLeastNotHeld, holding_id, ByLeastNotHeld, AllocatesId}
 use Rattle.vm_allocator.specs.Allocator.{SpaceInTree, state_of}
 use Rattle.vm_allocator.specs.Values.AllocatorValues.{StatesAllocator, StatesAddresses}
-use Rattle.vm_ids.specs.IdValues.{StatesIds}
+use Rattle.vm_allocator.specs.Values.IdValues.{StatesIds}
 use Rattle.vm_ranges.specs.declared.error.Error.{Error}
 use Rattle.vm_ranges.specs.declared.error.Error.TheVariants.{Overflow, OutOfMemory}
 use Rattle.vm_ranges.specs.declared.constraint.AllocPolicy.{AllocPolicy}
@@ -24,10 +24,10 @@ use Rattle.vm_engine.proofs.Answers.Once.{chosen_place}
 use Rattle.vm_engine.proofs.Answers.Filling.{allocates_chosen}
 use Rattle.vm_engine.proofs.Answers.Outcomes.{allocates_outcome}
 use Rattle.vm_allocator.proofs.Reading.ReadAllocators.{one_allocator, stated_state as stated_addresses}
-use Rattle.vm_ids.proofs.ReadIdStates.{one_stated, stated_state as stated_ids}
+use Rattle.vm_allocator.proofs.Ids.ReadIdStates.{one_stated, stated_state as stated_ids}
 -- a list of held ranges or ids, no two the same, has all of them exactly if it has as many as are held
 pub use Rattle.vm_engine.proofs.Blocks.HeldLists.{ranges_listed}
-pub use Rattle.vm_ids.proofs.IdCounts.{ids_listed}
+pub use Rattle.vm_allocator.proofs.Ids.IdCounts.{ids_listed}
 -- the range that a value states is what is found of it
 pub use Rattle.vm_ranges.proofs.ReadRanges.{found-states, states-found}
 

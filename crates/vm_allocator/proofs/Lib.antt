@@ -1,3 +1,4 @@
+pub mod Ids
 pub mod Decisions
 pub mod Answers
 pub mod Histories

@@ -1,2 +1,3 @@
 pub mod RepairChecks
 pub mod AllocatorChecks
+pub mod IdChecks

@@ -1,2 +1,2 @@
 pub mod AddressHistories
-pub use Rattle.vm_ids.specs.IdHistories
+pub mod IdHistories

@@ -1,4 +1,5 @@
 pub mod Allocator
+pub mod Ids
 pub mod Histories
 pub mod Laws
 pub mod Values
@@ -17,4 +18,3 @@ pub use Rattle.vm_engine.specs.Answer
 pub use Rattle.vm_engine.specs.Comparison
 pub use Rattle.vm_engine.specs.Tree
 pub use Rattle.vm_engine.specs.Counts
-pub use Rattle.vm_ids.specs.Ids

@@ -1,3 +1,5 @@
-//! Saved values of address allocators: as they are written, and as the Rust crate wrote them.
+//! Saved values of both allocators as they are written, and those of address allocators as the Rust
+//! crate wrote them.
 mod allocator;
+mod ids;
 mod repaired;

@@ -10,10 +10,10 @@ use Rattle.std.specs.Map.{keys_of, values_of}
 use Rattle.std.specs.Ordering.{nat_cmp}
 use Rattle.std.specs.FinMap as map
 use Rattle.std.specs.FinSet as set
-use Rattle.vm_values.proofs.NumberSets.{inserted_here, inserted_other, from_inserted}
+use Rattle.vm_ranges.proofs.NumberSets.{inserted_here, inserted_other, from_inserted}
 use Rattle.vm_ranges.specs.Range.{Range, Overlaps}
 use Rattle.vm_engine.specs.Address.{AddressState, IsAddressState}
-use Rattle.vm_ids.specs.Ids.{IdState, IsHeld}
+use Rattle.vm_allocator.specs.Ids.{IdState, IsHeld}
 use Rattle.vm_engine.proofs.Answers.AddressAnswers.{lie_apart}
 use Rattle.vm_allocator.proofs.Callers.{ranges_listed, ids_listed}
 use Rattle.vm_devices.specs.Devices.{DeviceState, IsDevice, ArePaired}

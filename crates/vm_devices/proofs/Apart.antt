@@ -6,10 +6,10 @@ use Rattle.std.specs.Ordering.{nat_cmp}
 use Rattle.std.specs.BTreeSet.{BTreeSet, contains, Updates}
 use Rattle.std.specs.FinSet as set
 use Rattle.std.specs.List.{Contains}
-use Rattle.vm_values.proofs.NumberSets.{same_members, inserted_here, inserted_other, from_inserted, changed_here, changed_other}
+use Rattle.vm_ranges.proofs.NumberSets.{same_members, inserted_here, inserted_other, from_inserted, changed_here, changed_other}
 use Rattle.vm_ranges.specs.Range.{Range}
 use Rattle.vm_engine.specs.Address.{AddressState}
-use Rattle.vm_ids.specs.Ids.{IdState, IsHeld}
+use Rattle.vm_allocator.specs.Ids.{IdState, IsHeld}
 use Rattle.vm_devices.specs.SavedChecks.{AreHeldApart}
 
 -- the starts in a set, as a finite set

@@ -7,7 +7,7 @@ use Rattle.serde_json.specs.declared.value.Value.{Value}
 use Rattle.serde_json.proofs.Views.{items_len-items_view}
 use Rattle.vm_ranges.specs.Cases.{Tells}
 use Rattle.vm_engine.specs.Address.{AddressState}
-use Rattle.vm_ids.specs.Ids.{IdState, held_count}
+use Rattle.vm_allocator.specs.Ids.{IdState, held_count}
 use Rattle.vm_devices.specs.SavedChecks.{AreAsMany}
 
 -- a list has as many values as its view has items

@@ -8,13 +8,13 @@ use Rattle.vm_ranges.specs.Range.{Range}
 use Rattle.vm_engine.specs.Address.{AddressState, releasing}
 use Rattle.vm_ranges.specs.Request.{Request}
 use Rattle.vm_engine.specs.Answer.{Allocates, Frees, Makes}
-use Rattle.vm_ids.specs.Ids.{IdState, IsHeld, MakesIds, ByLeastNotHeld, PeeksId, AllocatesId, FreesId, releasing_id}
+use Rattle.vm_allocator.specs.Ids.{IdState, IsHeld, MakesIds, ByLeastNotHeld, PeeksId, AllocatesId, FreesId, releasing_id}
 use Rattle.vm_ranges.specs.declared.error.Error.{Error}
 use Rattle.vm_ranges.specs.declared.error.Error.TheVariants.{Overflow, ResourceNotAvailable, NeverAllocated, OutOfMemory}
 use Rattle.vm_engine.proofs.Answers.AddressAnswers.{freeing_undoes}
 use Rattle.vm_allocator.proofs.Answers.EveryAddressCall.{every_call}
 use Rattle.vm_allocator.proofs.Callers.{given}
-use Rattle.vm_ids.proofs.IdAnswers.{peeking_foretells}
+use Rattle.vm_allocator.proofs.Ids.IdAnswers.{peeking_foretells}
 use Rattle.vm_devices.specs.declared.device_slot.DeviceSlot.{DeviceSlot}
 use Rattle.vm_devices.specs.Devices.{DeviceState, IsDeviceState, IsDevice, devices_of, MakesManager, Reserves, Releases}
 use Rattle.vm_devices.proofs.Tables.{table_with, table_without, no_entries}

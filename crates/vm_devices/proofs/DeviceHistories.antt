@@ -6,7 +6,7 @@ use Rattle.std.specs.FinMap as map
 use Rattle.vm_ranges.specs.Range.{Range, MAX, Overlaps, Covers}
 use Rattle.vm_engine.specs.Address.{holding}
 use Rattle.vm_engine.specs.Answer.{Allocates}
-use Rattle.vm_ids.specs.Ids.{IsOfRange}
+use Rattle.vm_allocator.specs.Ids.{IsOfRange}
 use Rattle.vm_engine.proofs.Answers.AddressAnswers.{lie_apart}
 use Rattle.vm_allocator.proofs.Callers.{given, given_aligned}
 use Rattle.vm_devices.specs.declared.device_slot.DeviceSlot.{DeviceSlot}

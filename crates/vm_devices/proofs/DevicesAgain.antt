@@ -1,19 +1,19 @@
 -- What a released device held is reserved again.
 use Rattle.std.proofs.Common.{◌≡◌, ◌≢◌, ℕ, ◌≤◌, ◌⊎◌, arith, refl, sym, ap, ◌∙◌, inl, inr, ⊎_elim, subst, Option, MatchOption, Result, Ok, Err}
 use Rattle.std.specs.FinMap as map
-use Rattle.vm_values.proofs.NumberSets.{inserted_other, removed_other, from_removed}
+use Rattle.vm_ranges.proofs.NumberSets.{inserted_other, removed_other, from_removed}
 use Rattle.vm_ranges.specs.Range.{Range, address_count}
 use Rattle.vm_engine.specs.Address.{AddressState, holding, releasing}
 use Rattle.vm_ranges.specs.Request.{Request, request_for}
 use Rattle.vm_engine.specs.Answer.{IsSplitRefusal, Allocates}
-use Rattle.vm_ids.specs.Ids.{IdState, IsHeld, IsLeastNotHeld, AreAllHeld, ByLeastNotHeld, holding_id, releasing_id}
+use Rattle.vm_allocator.specs.Ids.{IdState, IsHeld, IsLeastNotHeld, AreAllHeld, ByLeastNotHeld, holding_id, releasing_id}
 use Rattle.vm_ranges.specs.declared.error.Error.{Error}
 use Rattle.vm_ranges.specs.declared.error.Error.TheVariants.{NeverAllocated, OutOfMemory}
 use Rattle.vm_ranges.specs.declared.constraint.AllocPolicy.TheVariants.{ExactMatch}
 use Rattle.vm_allocator.proofs.Callers.{given_held, given_again, frees_held}
 use Rattle.vm_engine.proofs.Answers.Once.{allocates_once}
 use Rattle.vm_engine.proofs.Answers.AddressAnswers.{freeing_undoes}
-use Rattle.vm_ids.proofs.IdAnswers.{one_least}
+use Rattle.vm_allocator.proofs.Ids.IdAnswers.{one_least}
 use Rattle.vm_devices.specs.declared.device_slot.DeviceSlot.{DeviceSlot}
 use Rattle.vm_devices.specs.Devices.{DeviceState, IsDevice, with_device, without_device, Pairs, Reserves, Releases}
 use Rattle.vm_devices.specs.Laws.{IsExcused, ReservedAgain, RangeComesBack}

@@ -5,11 +5,11 @@ use Rattle.vm_ranges.specs.Range.{Range}
 use Rattle.vm_engine.specs.Address.{AddressState}
 use Rattle.vm_ranges.specs.Request.{Request}
 use Rattle.vm_engine.specs.Answer.{FEWEST_TOO_DEEP, Makes}
-use Rattle.vm_ids.specs.Ids.{IdState}
+use Rattle.vm_allocator.specs.Ids.{IdState}
 use Rattle.vm_ranges.specs.declared.error.Error.{Error}
 use Rattle.vm_ranges.specs.declared.error.Error.TheVariants.{NeverAllocated, OutOfMemory}
 use Rattle.vm_allocator.proofs.Answers.Amply.{placed_once, made_once}
-use Rattle.vm_ids.proofs.IdAnswers.{making_is_determined, by_same_least}
+use Rattle.vm_allocator.proofs.Ids.IdAnswers.{making_is_determined, by_same_least}
 use Rattle.vm_devices.specs.declared.device_slot.DeviceSlot.{DeviceSlot}
 use Rattle.vm_devices.specs.Devices.{DeviceState, made_devices, without_device, MakesManager, Pairs, Reserves, Releases}
 use Rattle.vm_devices.specs.Laws.{DevicesDecide}

@@ -11,7 +11,7 @@ use Rattle.std.specs.List.Sorted.{IsStrictlySortedBy}
 use Rattle.std.specs.Map.{keys_of, values_of}
 use Rattle.std.specs.Ordering.{nat_cmp, eq_by_cmp}
 use Rattle.std.specs.FinMap as map
-use Rattle.vm_values.proofs.Items.{less_is}
+use Rattle.vm_ranges.proofs.Items.{less_is}
 use Rattle.vm_ranges.specs.Range.{Range}
 
 -- ---- entries of a list

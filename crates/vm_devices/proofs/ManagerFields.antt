@@ -2,15 +2,15 @@
 use Rattle.std.proofs.Common.{◌≡◌, ℕ, List, Some, None, Err, codes, refl, sym, ◌∙◌, subst}
 use Rattle.std.proofs.lemmas.Option.{same_Some}
 use Rattle.serde_json.specs.Data.{Data, Items}
-use Rattle.vm_values.specs.Lists.{StatesItems}
-use Rattle.vm_values.proofs.Lists.{in_list}
-use Rattle.vm_values.proofs.FieldSteps.{true-count, in_field}
-use Rattle.vm_values.specs.Fields.{field_count}
+use Rattle.vm_ranges.specs.Lists.{StatesItems}
+use Rattle.vm_ranges.proofs.Lists.{in_list}
+use Rattle.vm_ranges.proofs.FieldSteps.{true-count, in_field}
+use Rattle.vm_ranges.specs.Fields.{field_count}
 use Rattle.vm_ranges.specs.Range.{Range}
 use Rattle.vm_engine.specs.Address.{AddressState}
-use Rattle.vm_ids.specs.Ids.{IdState}
+use Rattle.vm_allocator.specs.Ids.{IdState}
 use Rattle.vm_allocator.specs.Values.AllocatorValues.{StatesAddresses}
-use Rattle.vm_ids.specs.IdValues.{StatesIds}
+use Rattle.vm_allocator.specs.Values.IdValues.{StatesIds}
 use Rattle.vm_ranges.specs.Saving.{Reads}
 use Rattle.vm_ranges.specs.declared.saved.ValueError.{ValueError}
 use Rattle.vm_ranges.specs.declared.saved.ValueError.TheVariants.{NotAState, OutOfMemory}

@@ -8,10 +8,10 @@ use Rattle.std.specs.FinSet as set
 use Rattle.vm_ranges.specs.Range.{Range, MAX}
 use Rattle.vm_engine.specs.Address.{AddressState}
 use Rattle.vm_engine.specs.Answer.{Makes}
-use Rattle.vm_ids.specs.Ids.{MAX_ID, IdState, IsHeld, MakesIds, fresh_ids}
+use Rattle.vm_allocator.specs.Ids.{MAX_ID, IdState, IsHeld, MakesIds, fresh_ids}
 use Rattle.vm_ranges.specs.declared.error.Error.{Error}
 use Rattle.vm_engine.proofs.Answers.AddressAnswers.{made_is, state_is_kept}
-use Rattle.vm_ids.proofs.IdAnswers.{id_states_are_kept}
+use Rattle.vm_allocator.proofs.Ids.IdAnswers.{id_states_are_kept}
 use Rattle.vm_devices.proofs.Pairs.{none_there}
 use Rattle.vm_devices.specs.Devices.{DeviceState, IsDeviceState, made_devices, MakesManager}
 

@@ -8,10 +8,10 @@ use Rattle.vm_engine.specs.Address.{holding, releasing}
 use Rattle.vm_ranges.specs.Request.{Request}
 use Rattle.vm_engine.specs.Answer.{Allocates, Frees}
 use Rattle.vm_engine.specs.Laws.AddressLaws.{AddsRange, DropsRange}
-use Rattle.vm_ids.specs.Ids.{IsHeld, AllocatesId, FreesId, holding_id, releasing_id}
-use Rattle.vm_ids.specs.IdLaws.{AddsId, DropsId}
+use Rattle.vm_allocator.specs.Ids.{IsHeld, AllocatesId, FreesId, holding_id, releasing_id}
+use Rattle.vm_allocator.specs.Laws.IdLaws.{AddsId, DropsId}
 use Rattle.vm_engine.proofs.Answers.AddressAnswers.{adds_range, drops_range, state_is_kept}
-use Rattle.vm_ids.proofs.IdAnswers.{id_states_are_kept, allocating_adds, freeing_drops}
+use Rattle.vm_allocator.proofs.Ids.IdAnswers.{id_states_are_kept, allocating_adds, freeing_drops}
 use Rattle.vm_allocator.proofs.Callers.{range_was_free, frees_held, id_was_free}
 use Rattle.vm_devices.specs.Devices.{DeviceState, IsDevice, ArePaired, IsDeviceState, with_device, without_device}
 use Rattle.vm_devices.proofs.Tables.{with_here, with_other, without_here, without_other}

@@ -5,7 +5,7 @@ use Rattle.vm_ranges.specs.Range.{Range}
 use Rattle.vm_engine.specs.Address.{AddressState, holding}
 use Rattle.vm_ranges.specs.Request.{Request}
 use Rattle.vm_engine.specs.Answer.{Allocates}
-use Rattle.vm_ids.specs.Ids.{IsLeastNotHeld, ByLeastNotHeld, AllocatesId, holding_id}
+use Rattle.vm_allocator.specs.Ids.{IsLeastNotHeld, ByLeastNotHeld, AllocatesId, holding_id}
 use Rattle.vm_ranges.specs.declared.error.Error.{Error}
 use Rattle.vm_ranges.specs.declared.error.Error.TheVariants.{NeverAllocated, OutOfMemory}
 use Rattle.vm_allocator.proofs.Callers.{given}

@@ -6,8 +6,8 @@ use Rattle.std.specs.List.Sorted.{IsStrictlySortedBy}
 use Rattle.std.specs.Map.{keys_of}
 use Rattle.std.specs.Ordering.{nat_cmp}
 use Rattle.serde_json.specs.Data.{Items, no_items, item}
-use Rattle.vm_values.proofs.Items.{less}
-use Rattle.vm_values.proofs.Steps.{and_then_some, map_some, if_some}
+use Rattle.vm_ranges.proofs.Items.{less}
+use Rattle.vm_ranges.proofs.Steps.{and_then_some, map_some, if_some}
 use Rattle.vm_ranges.specs.Range.{Range}
 use Rattle.vm_devices.specs.SavedChecks.{device_found, rising_devices}
 use Rattle.vm_devices.proofs.SavedDevices.{RiseFrom}

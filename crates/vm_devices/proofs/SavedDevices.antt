@@ -12,13 +12,13 @@ use Rattle.serde_json.specs.Events.{items_len}
 use Rattle.serde_json.specs.Find.{get}
 use Rattle.serde_json.specs.View.{view, items_view}
 use Rattle.serde_json.specs.declared.value.Value.{Value}
-use Rattle.vm_values.specs.Lists.{StatesItems}
-use Rattle.vm_values.proofs.FieldSteps.{count-true, true-count, in_field, field_is}
-use Rattle.vm_values.proofs.Items.{items_from, less_is}
-use Rattle.vm_values.proofs.NumberSteps.{u32_in-some, some-u32}
-use Rattle.vm_values.proofs.Steps.{and_then_some, map_some, if_some}
-use Rattle.vm_values.specs.Fields.{field_count, is_count}
-use Rattle.vm_values.specs.Numbers.{u32_in}
+use Rattle.vm_ranges.specs.Lists.{StatesItems}
+use Rattle.vm_ranges.proofs.FieldSteps.{count-true, true-count, in_field, field_is}
+use Rattle.vm_ranges.proofs.Items.{items_from, less_is}
+use Rattle.vm_ranges.proofs.NumberSteps.{u32_in-some, some-u32}
+use Rattle.vm_ranges.proofs.Steps.{and_then_some, map_some, if_some}
+use Rattle.vm_ranges.specs.Fields.{field_count, is_count}
+use Rattle.vm_ranges.specs.Numbers.{u32_in}
 use Rattle.vm_ranges.specs.Range.{Range}
 use Rattle.vm_ranges.specs.RangeValues.{StatesRange, range_found}
 use Rattle.vm_allocator.proofs.Callers.{found-states, states-found}

@@ -10,16 +10,16 @@ use Rattle.std.specs.FinMap as map
 use Rattle.std.specs.FinSet as set
 use Rattle.serde_json.specs.Data.{Data, Items}
 use Rattle.serde_json.specs.Find.{get, as_array}
-use Rattle.vm_values.proofs.Lists.{list_stated}
-use Rattle.vm_values.proofs.FieldSteps.{count-true, field_is}
-use Rattle.vm_values.proofs.Steps.{and_then_some, map_some, if_some}
-use Rattle.vm_values.specs.Fields.{field_count, is_count}
-use Rattle.vm_values.specs.Numbers.{number_in}
+use Rattle.vm_ranges.proofs.Lists.{list_stated}
+use Rattle.vm_ranges.proofs.FieldSteps.{count-true, field_is}
+use Rattle.vm_ranges.proofs.Steps.{and_then_some, map_some, if_some}
+use Rattle.vm_ranges.specs.Fields.{field_count, is_count}
+use Rattle.vm_ranges.specs.Numbers.{number_in}
 use Rattle.vm_ranges.specs.Range.{Range}
-use Rattle.vm_ids.specs.Ids.{IdState}
+use Rattle.vm_allocator.specs.Ids.{IdState}
 use Rattle.vm_allocator.specs.Allocator.{SpaceInTree, state_of}
 use Rattle.vm_allocator.specs.Values.AllocatorValues.{StatesAllocator, StatesAddresses}
-use Rattle.vm_ids.specs.IdValues.{StatesIds}
+use Rattle.vm_allocator.specs.Values.IdValues.{StatesIds}
 use Rattle.vm_ranges.specs.declared.saved.ValueError.{ValueError}
 use Rattle.vm_ranges.specs.declared.saved.ValueError.TheVariants.{NotAState, OutOfMemory}
 use Rattle.vm_allocator.proofs.Callers.{ids_again, ids_stated, addresses_again, addresses_stated}

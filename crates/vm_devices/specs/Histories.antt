@@ -4,7 +4,7 @@ use Rattle.std.specs.List.{Contains}
 use Rattle.serde_json.specs.Data.{Data}
 use Rattle.vm_ranges.specs.Range.{Range, MAX, span}
 use Rattle.vm_ranges.specs.Request.{Request}
-use Rattle.vm_ids.specs.Ids.{MAX_ID}
+use Rattle.vm_allocator.specs.Ids.{MAX_ID}
 use Rattle.vm_ranges.specs.declared.error.Error.{Error}
 use Rattle.vm_ranges.specs.declared.error.Error.TheVariants.{OutOfMemory}
 use Rattle.vm_devices.specs.declared.device_slot.DeviceSlot.{DeviceSlot}

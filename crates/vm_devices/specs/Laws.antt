@@ -5,7 +5,7 @@ use Rattle.serde_json.specs.Data.{Data}
 use Rattle.vm_ranges.specs.Range.{Range, MAX, Overlaps, Covers, address_count}
 use Rattle.vm_ranges.specs.Request.{Request, request_for}
 use Rattle.vm_engine.specs.Answer.{FEWEST_TOO_DEEP}
-use Rattle.vm_ids.specs.Ids.{IsOfRange}
+use Rattle.vm_allocator.specs.Ids.{IsOfRange}
 use Rattle.vm_ranges.specs.declared.error.Error.{Error}
 use Rattle.vm_ranges.specs.declared.error.Error.TheVariants.{Overflow, OutOfMemory}
 use Rattle.vm_ranges.specs.declared.saved.ValueError.{ValueError}

@@ -5,14 +5,14 @@ use Rattle.std.specs.Map.{keys_of}
 use Rattle.std.specs.Ordering.{nat_cmp}
 use Rattle.std.specs.FinMap as map
 use Rattle.serde_json.specs.Data.{Data}
-use Rattle.vm_values.specs.Fields.{field_count, FieldIs}
-use Rattle.vm_values.specs.Lists.{StatesListOf}
-use Rattle.vm_values.specs.Numbers.{number_in}
+use Rattle.vm_ranges.specs.Fields.{field_count, FieldIs}
+use Rattle.vm_ranges.specs.Lists.{StatesListOf}
+use Rattle.vm_ranges.specs.Numbers.{number_in}
 use Rattle.vm_ranges.specs.Range.{Range}
-use Rattle.vm_ids.specs.Ids.{MAX_ID}
+use Rattle.vm_allocator.specs.Ids.{MAX_ID}
 use Rattle.vm_ranges.specs.RangeValues.{StatesRange}
 use Rattle.vm_allocator.specs.Values.AllocatorValues.{StatesAddresses}
-use Rattle.vm_ids.specs.IdValues.{StatesIds}
+use Rattle.vm_allocator.specs.Values.IdValues.{StatesIds}
 use Rattle.vm_ranges.specs.declared.saved.ValueError.{ValueError}
 use Rattle.vm_ranges.specs.declared.saved.ValueError.TheVariants.{NotAState, OutOfMemory}
 use Rattle.vm_devices.specs.Devices.{DeviceState, ArePaired}

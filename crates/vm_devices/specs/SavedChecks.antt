@@ -8,11 +8,11 @@ use Rattle.std.specs.FinSet as set
 use Rattle.serde_json.specs.Data.{Data, Items, no_items, item}
 use Rattle.serde_json.specs.Find.{get, as_array}
 use Rattle.serde_json.specs.Events.{items_len}
-use Rattle.vm_values.specs.Fields.{field_count, is_count}
-use Rattle.vm_values.specs.Numbers.{number_in, u32_in}
+use Rattle.vm_ranges.specs.Fields.{field_count, is_count}
+use Rattle.vm_ranges.specs.Numbers.{number_in, u32_in}
 use Rattle.vm_ranges.specs.Range.{Range}
 use Rattle.vm_engine.specs.Address.{AddressState}
-use Rattle.vm_ids.specs.Ids.{IdState, IsHeld, held_count}
+use Rattle.vm_allocator.specs.Ids.{IdState, IsHeld, held_count}
 use Rattle.vm_ranges.specs.declared.saved.ValueError.{ValueError}
 use Rattle.vm_ranges.specs.declared.saved.ValueError.TheVariants.{NotAState, OutOfMemory}
 use Rattle.vm_ranges.specs.RangeValues.{range_found}

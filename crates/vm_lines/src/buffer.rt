@@ -23,7 +23,7 @@ static PAIRS: [u8; 200] = *b"\
 
 /// Text that waits to be written, in an array of its own.
 #[derive(Drop)]
-pub struct Buffer {
+pub(crate) struct Buffer {
     bytes: [u8; CAPACITY],
     length: usize,
 }
@@ -59,7 +59,7 @@ impl Buffer {
     }
 
     /// What waits.
-    pub fn as_slice(&self) -> &[u8]
+    pub(crate) fn as_slice(&self) -> &[u8]
         ensures { result.now ≡ self.now }
     {
         &self.bytes[..self.length]

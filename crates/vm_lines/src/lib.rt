@@ -1,4 +1,6 @@
 //! Lines that ask an allocator or a manager of devices for something, and the line that answers each.
+//! Public is `run` alone: a library carries for the crates above it all that its public types mention,
+//! and a `Command` or a `Reply` mentions most of the libraries below.
 #![tactic(auto)]
 
 mod buffer;
@@ -11,8 +13,3 @@ mod reply;
 pub mod run;
 mod session;
 mod words;
-
-pub use buffer::Buffer;
-pub use command::{Command, LONGEST_LINE, parse};
-pub use machine::Machine;
-pub use reply::{Reply, reply_text};

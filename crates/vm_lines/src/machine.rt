@@ -13,7 +13,7 @@ use vm_devices::DeviceManager;
 
 /// What the lines so far have made.
 #[derive(Drop)]
-pub struct Machine {
+pub(crate) struct Machine {
     space: Option<AddressAllocator>,
     ids: Option<IdAllocator>,
     devices: Option<DeviceManager>,
@@ -35,7 +35,7 @@ impl Machine {
     ghost use Rattle.vm_lines.specs.Machines.{start, Does};
 
     /// Nothing is made yet.
-    pub fn new() -> Machine
+    pub(crate) fn new() -> Machine
         ensures { result ≡ start }
     {
         Machine {
@@ -47,7 +47,7 @@ impl Machine {
 
     /// Does what a line asks. `None` is a line that is not in the language.
     #[tactic(auto, unfolding(crate::specs::Machines::Does))]
-    pub fn answer(&mut self, alloc: Global, asked: Option<Command>) -> Reply
+    pub(crate) fn answer(&mut self, alloc: Global, asked: Option<Command>) -> Reply
         ensures { Does self.old asked result self.new }
     {
         let Some(command) = asked else {

@@ -2,8 +2,9 @@
 //! have names (`AnswersInput`, `AnswersEndedLines`) and are stated for readers and writers that tell
 //! their bytes; they follow from what also holds where nothing is known of the bytes, so that no twin
 //! of `run` is needed.
-ghost use Rattle.std.specs.Prelude.{◌≡◌, ◌++◌, [], ◌+◌, ◌<◌, ℕ, List, length, OnOk, IfErr, IsErrOf};
+ghost use Rattle.std.specs.Prelude.{◌≡◌, ◌++◌, [], ◌+◌, ◌<◌, ℕ, List, length, OnOk, IfErr, IsErrOf, Some};
 ghost use Rattle.std.specs.Io.KnownBytes.{Appends};
+ghost use Rattle.vm_lines.specs.Machines.{start};
 ghost use Rattle.vm_lines.specs.Sessions.{Feeds, Finishes};
 ghost use Rattle.vm_lines.specs.Moving.{Moves};
 ghost use Rattle.vm_lines.specs.Runs.{AnswersInput, AnswersEndedLines};
@@ -39,20 +40,36 @@ pub fn run<R: Read, W: Write>(alloc: Global, reader: &mut R, writer: &mut W) -> 
 {
     let mut session = Session::new();
     let mut output = Buffer::new();
+    answer_pieces(alloc, reader, writer, &mut session, &mut output)
+}
+
+/// Takes piece after piece of the input, from its start.
+fn answer_pieces<R: Read, W: Write>(
+    alloc: Global,
+    reader: &mut R,
+    writer: &mut W,
+    session: &mut Session,
+    output: &mut Buffer,
+) -> Result<(), RunError>
+    requires session { session.old ≡ record { machine = start; line = Some [] } }
+    requires output { output.old ≡ [] }
+    ensures ok { OnOk result (AnswersInput
+        (R.remaining reader.old) (R.remaining reader.new) (W.contents writer.old) (W.contents writer.new)) }
+    ensures read { IsErrOf result RunError.Read → AnswersEndedLines
+        (R.remaining reader.old) (R.remaining reader.new) (W.contents writer.old) (W.contents writer.new) }
+{
     let mut bytes = [0u8; PIECE];
     for _ in 0..u64::MAX {
         match reader.read(&mut bytes) {
             Ok(0) => {
-                finish(alloc, &mut session, &mut output, writer)?;
+                finish(alloc, session, output, writer)?;
                 return Ok(());
             }
-            Ok(count) => {
-                feed_all(alloc, &mut session, &bytes[..count], &mut output, writer)?;
-            }
+            Ok(count) => feed_all(alloc, session, &bytes[..count], output, writer)?,
             Err(_) => break,
         }
     }
-    drain(&mut output, writer)?;
+    drain(output, writer)?;
     Err(RunError::Read)
 }
 

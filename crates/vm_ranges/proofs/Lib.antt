@@ -7,5 +7,12 @@ pub mod Alignments
 pub mod RangeCalls
 pub mod RangeOrders
 pub mod Requests
+pub mod Steps
+pub mod FieldSteps
+pub mod NumberSteps
+pub mod Items
+pub mod NumberSets
+pub mod Lists
+pub mod Nulls
 pub mod ReadRanges
 pub mod ReadStates

@@ -3,10 +3,10 @@ use Rattle.std.proofs.Common.{◌≡◌, ℕ, zero, suc, ◌<◌, Bool, true, fa
 use Rattle.std.proofs.lemmas.Bool.{and_parts, and_from, eq-eqb, ne_eqb, leb-true, ltb-true, le-leb, lt-ltb, or_cases, not-true}
 use Rattle.std.proofs.lemmas.Option.{same_Some}
 use Rattle.serde_json.specs.Data.{Data}
-use Rattle.vm_values.proofs.FieldSteps.{count-true, true-count}
-use Rattle.vm_values.proofs.Steps.{and_then_some, if_some}
-use Rattle.vm_values.specs.Fields.{field_count, is_count}
-use Rattle.vm_values.specs.Numbers.{number_in}
+use Rattle.vm_ranges.proofs.FieldSteps.{count-true, true-count}
+use Rattle.vm_ranges.proofs.Steps.{and_then_some, if_some}
+use Rattle.vm_ranges.specs.Fields.{field_count, is_count}
+use Rattle.vm_ranges.specs.Numbers.{number_in}
 use Rattle.vm_ranges.specs.Range.{Range, MAX, IsRange}
 use Rattle.vm_ranges.specs.Making.{MakesRange}
 use Rattle.vm_ranges.specs.RangeValues.{StatesRange, are_ends, range_between, range_found}

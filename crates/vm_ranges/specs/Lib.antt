@@ -6,6 +6,9 @@ pub mod Alignment
 pub mod Request
 pub mod Cloning
 pub mod Saving
+pub mod Fields
+pub mod Numbers
+pub mod Lists
 pub mod RangeValues
 pub mod Block
 pub mod NodeChecks

@@ -2,8 +2,8 @@
 use Rattle.std.specs.Prelude.{◌≡◌, ℕ, Bool, not, ◌&&◌, ◌||◌, ◌==◌, nat_lt, nat_le, if◌then◌else◌, List, Option, Some, None, option_and_then, codes, bytes_eq}
 use Rattle.serde_json.specs.Data.{Data, string}
 use Rattle.serde_json.specs.Find.{as_str}
-use Rattle.vm_values.specs.Fields.{field_count, is_count}
-use Rattle.vm_values.specs.Numbers.{number_in}
+use Rattle.vm_ranges.specs.Fields.{field_count, is_count}
+use Rattle.vm_ranges.specs.Numbers.{number_in}
 use Rattle.vm_ranges.specs.Range.{Range, MAX, IsRange}
 use Rattle.vm_ranges.specs.declared.state.NodeState.{NodeState}
 use Rattle.vm_ranges.specs.declared.state.NodeState.TheVariants.{Free, Allocated}

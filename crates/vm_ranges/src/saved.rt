@@ -4,7 +4,9 @@
 ghost use Rattle.std.specs.Prelude.{◌≡◌};
 ghost use Rattle.vm_ranges.specs.declared.saved.ValueError.TheVariants.{OutOfMemory};
 
+pub(crate) mod fields;
 pub(crate) mod node;
+pub(crate) mod numbers;
 pub(crate) mod range;
 pub(crate) mod state;
 pub(crate) mod tree;

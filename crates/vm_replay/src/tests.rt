@@ -3,16 +3,15 @@ ghost use Rattle.std.specs.Prelude.{◌≤◌, length};
 
 mod device_rows;
 mod fronts;
-mod long_run;
 mod refused_requests;
 mod rows;
 
 use crate::status;
 use device_rows::{MANAGER_BESIDE_OTHERS, PROGRAM_DEVICES, REFUSALS_OF_DEVICES, WORDS_ON_DEVICES};
 use rows::{
-    ALL_POLICIES, FIRST_PROGRAM, FULL_SPACE, HELD_IDS, LINE_GRAMMAR, LINES_AGAIN,
-    NUMBERS_OF_32_BITS, PLACES_OF_A_START, PROGRAM_IDS, PROGRAM_REFUSALS, REFUSALS_IN_ORDER,
-    REFUSALS_OF_IDS, Rows, SPACE_BESIDE_IDS, WORDS_AND_NUMBERS,
+    ALL_POLICIES, FIRST_PROGRAM, FULL_SPACE, HELD_IDS, LINE_GRAMMAR, NUMBERS_OF_32_BITS,
+    PLACES_OF_A_START, PROGRAM_IDS, PROGRAM_REFUSALS, REFUSALS_IN_ORDER, REFUSALS_OF_IDS, Rows,
+    SPACE_BESIDE_IDS, WORDS_AND_NUMBERS,
 };
 use std::alloc::Global;
 use std::io;
@@ -20,7 +19,6 @@ use std::io::{ErrorKind, Read, Write};
 use std::process::Abort;
 use std::str::from_utf8;
 use vm_lines::run::{RunError, run};
-use vm_lines::{Buffer, LONGEST_LINE, Machine, parse, reply_text};
 
 const ROOM: usize = 16384;
 
@@ -489,32 +487,5 @@ fn statuses(rt: HostRuntime) {
         (Err(RunError::Write), 2),
     ] {
         assert_eq!(rt; status(result), want, "{result:?}");
-    }
-}
-
-/// Answers one line.
-fn answer(rt: &impl Abort, alloc: Global, machine: &mut Machine, line: &str) -> Buffer {
-    assert!(rt; line.len() <= LONGEST_LINE);
-    reply_text(machine.answer(alloc, parse(line.as_bytes())))
-}
-
-/// Ends the test where the answer to a line is another.
-fn expect_shown(rt: &impl Abort, got: &Buffer, want: &str, line: &str) {
-    assert_eq!(rt; shown(got.as_slice()), want, "line '{line}'");
-}
-
-/// A line for which memory ran out changes nothing, and is answered well when it comes again. Beside
-/// each line and its answer stands a line that tells whether anything changed, with its answer before.
-#[test]
-fn a_line_comes_again_when_memory_ran_out(rt: HostRuntime) {
-    let mut machine = Machine::new();
-    for (line, want, look, before) in LINES_AGAIN {
-        let mut got = answer(&rt, rt.alloc(), &mut machine, line);
-        if shown(got.as_slice()) == "error memory" {
-            let now = answer(&rt, rt.alloc(), &mut machine, look);
-            expect_shown(&rt, &now, before, look);
-            got = answer(&rt, rt.alloc(), &mut machine, line);
-        }
-        expect_shown(&rt, &got, want, line);
     }
 }

@@ -1,5 +1,5 @@
-//! Tests of `vm_allocator` and `vm_devices` by their public calls. tests/refused_memory runs each again
-//! and again, with request 1, 2, 3 .. for memory refused.
+//! Tests of `vm_allocator` and `vm_devices` by their public calls, and a long run of lines.
+//! tests/refused_memory runs each again and again, with request 1, 2, 3 .. for memory refused.
 #![tactic(auto)]
 
 #[cfg(test)]
@@ -12,6 +12,8 @@ mod devices;
 mod fixtures;
 #[cfg(test)]
 mod ids;
+#[cfg(test)]
+mod lines;
 #[cfg(test)]
 mod many;
 #[cfg(test)]

@@ -4,7 +4,7 @@ use Rattle.vm_ranges.specs.Range.{Range}
 use Rattle.vm_engine.specs.Address.{AddressState}
 use Rattle.vm_ranges.specs.Request.{Request}
 use Rattle.vm_engine.specs.Answer.{FEWEST_TOO_DEEP, IsSplitRefusal, Allocates, Frees, Makes}
-use Rattle.vm_ids.specs.Ids.{IdState, ByLeastNotHeld, AllocatesId, MakesIds}
+use Rattle.vm_allocator.specs.Ids.{IdState, ByLeastNotHeld, AllocatesId, MakesIds}
 use Rattle.vm_ranges.specs.declared.error.Error.{Error}
 use Rattle.vm_ranges.specs.declared.error.Error.TheVariants.{OutOfMemory}
 use Rattle.vm_ranges.proofs.TwoFacts.{if_same}

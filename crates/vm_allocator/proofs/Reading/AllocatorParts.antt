@@ -3,9 +3,9 @@ use Rattle.std.proofs.Common.{◌≡◌, Some, option_map, option_and_then, code
 use Rattle.std.proofs.lemmas.Option.{same_Some}
 use Rattle.serde_json.specs.Data.{Data}
 use Rattle.serde_json.specs.Find.{get}
-use Rattle.vm_values.proofs.FieldSteps.{count-true, true-count, in_field, field_is}
-use Rattle.vm_values.proofs.Steps.{and_then_some, map_some, if_some}
-use Rattle.vm_values.specs.Fields.{field_count, FieldIs, is_count}
+use Rattle.vm_ranges.proofs.FieldSteps.{count-true, true-count, in_field, field_is}
+use Rattle.vm_ranges.proofs.Steps.{and_then_some, map_some, if_some}
+use Rattle.vm_ranges.specs.Fields.{field_count, FieldIs, is_count}
 use Rattle.vm_ranges.specs.Range.{Range, IsRange}
 use Rattle.vm_ranges.specs.RangeValues.{StatesRange, range_found}
 use Rattle.vm_allocator.specs.Values.AllocatorValues.{StatesTree}

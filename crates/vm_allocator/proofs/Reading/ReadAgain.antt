@@ -4,14 +4,14 @@ use Rattle.serde_json.specs.View.{view}
 use Rattle.serde_json.specs.Data.{Data}
 use Rattle.vm_ranges.specs.RangeValues.{StatesRange, StatesState}
 use Rattle.vm_allocator.specs.Values.AllocatorValues.{StatesAllocator}
-use Rattle.vm_ids.specs.IdValues.{StatesIds}
+use Rattle.vm_allocator.specs.Values.IdValues.{StatesIds}
 use Rattle.vm_allocator.specs.Values.RepairedValues.{StatesRepaired}
 use Rattle.vm_allocator.specs.Laws.ValueLaws.{StatesOne, ReadsWritten, ReadsAlike}
 use Rattle.vm_ranges.specs.declared.saved.ValueError.TheVariants.{NotAState, OutOfMemory}
 use Rattle.vm_ranges.proofs.ReadRanges.{one_range}
 use Rattle.vm_ranges.proofs.ReadStates.{one_state}
 use Rattle.vm_allocator.proofs.Reading.ReadAllocators.{one_allocator}
-use Rattle.vm_ids.proofs.ReadIdStates.{one_stated}
+use Rattle.vm_allocator.proofs.Ids.ReadIdStates.{one_stated}
 use Rattle.vm_allocator.proofs.Repairing.RepairedReading.{one_repaired, strict_repaired}
 
 pub one_range_stated : StatesOne StatesRange

@@ -2,9 +2,9 @@
 use Rattle.std.proofs.Common.{◌≡◌, codes, Option, Some, sym, ◌∙◌, subst}
 use Rattle.serde_json.specs.Data.{Data}
 use Rattle.serde_json.specs.Find.{get}
-use Rattle.vm_values.proofs.FieldSteps.{field_is}
-use Rattle.vm_values.proofs.Steps.{and_then_some}
-use Rattle.vm_values.specs.Fields.{field_count}
+use Rattle.vm_ranges.proofs.FieldSteps.{field_is}
+use Rattle.vm_ranges.proofs.Steps.{and_then_some}
+use Rattle.vm_ranges.specs.Fields.{field_count}
 use Rattle.vm_ranges.specs.Range.{Range}
 use Rattle.vm_engine.specs.Tree.Shape.{blocks}
 use Rattle.vm_engine.specs.Tree.SpaceTree.{space_of}

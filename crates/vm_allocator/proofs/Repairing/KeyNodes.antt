@@ -2,7 +2,7 @@
 use Rattle.std.proofs.Common.{◌≡◌, ℕ, zero, suc, ◌≤◌, true, false, cond, Some, is_some, refl, ap, ◌∙◌, arith}
 use Rattle.serde_json.specs.Data.{Data}
 use Rattle.serde_json.specs.Find.{as_null}
-use Rattle.vm_values.proofs.Steps.{and_then_some, if_some}
+use Rattle.vm_ranges.proofs.Steps.{and_then_some, if_some}
 use Rattle.vm_engine.specs.Tree.Shape.{Shape, Tip, Fork, blocks, height_of}
 use Rattle.vm_ranges.specs.NodeChecks.{NodeData, node_data, after_all}
 use Rattle.vm_engine.specs.Values.TreeValues.{HasNodes}
@@ -10,7 +10,7 @@ use Rattle.vm_allocator.specs.Checks.RepairChecks.{extended, row_of_node, row_fo
 use Rattle.vm_allocator.specs.declared.saved.repaired.Row.{Row}
 use Rattle.vm_engine.proofs.Reading.Fronts.{after_three, cut_in_three}
 use Rattle.vm_engine.proofs.Reading.ReadNodes.{over_sides, fork_is}
-use Rattle.vm_values.proofs.Nulls.{null_of, not_null}
+use Rattle.vm_ranges.proofs.Nulls.{null_of, not_null}
 
 -- nodes that the value has, whose blocks stand between two rows
 pub record IsFound (end depth : ℕ) (d : Data) (row last : Row) (s : Shape) : Type 0 where

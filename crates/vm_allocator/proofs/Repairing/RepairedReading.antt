@@ -2,8 +2,8 @@
 use Rattle.std.proofs.Common.{◌≡◌, ℕ, ◌+◌, ◌-◌, ◌≤◌, true, cond, List, [], length, Some, None, is_some, codes, refl, sym, ap, ◌∙◌, subst, arith, true≢false, Ok}
 use Rattle.std.proofs.lemmas.Option.{same_Some}
 use Rattle.serde_json.specs.Data.{Data}
-use Rattle.vm_values.proofs.FieldSteps.{field_map}
-use Rattle.vm_values.proofs.Steps.{and_then_some, if_some}
+use Rattle.vm_ranges.proofs.FieldSteps.{field_map}
+use Rattle.vm_ranges.proofs.Steps.{and_then_some, if_some}
 use Rattle.vm_ranges.specs.Range.{Range, IsRange, address_count}
 use Rattle.vm_engine.specs.Address.{AddressState, StandInOrder, IsAddressState}
 use Rattle.vm_engine.specs.Answer.{FEWEST_TOO_DEEP, Makes}

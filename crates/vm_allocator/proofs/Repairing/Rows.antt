@@ -2,7 +2,7 @@
 use Rattle.std.proofs.Common.{◌≡◌, ℕ, ◌+◌, ◌≤◌, true, cond, ◌&&◌, ◌||◌, leb, ltb, List, [], ◌∷◌, ◌++◌, length, Some, refl, sym, ap, ◌∙◌, subst, arith}
 use Rattle.std.proofs.lemmas.Bool.{and_parts, and_from, leb-true, ltb-true, le-leb, lt-ltb}
 use Rattle.std.proofs.lemmas.Option.{same_Some}
-use Rattle.vm_values.proofs.Steps.{and_then_some, if_some}
+use Rattle.vm_ranges.proofs.Steps.{and_then_some, if_some}
 use Rattle.vm_ranges.specs.Range.{Range, MAX}
 use Rattle.vm_engine.specs.Answer.{FEWEST_TOO_DEEP}
 use Rattle.vm_ranges.specs.Block.{Block, is_free}

@@ -2,7 +2,7 @@
 use Rattle.std.specs.Prelude.{◌≡◌, if◌then◌else◌, Option, Some, None, option_map, option_and_then, codes}
 use Rattle.serde_json.specs.Data.{Data}
 use Rattle.serde_json.specs.Find.{get}
-use Rattle.vm_values.specs.Fields.{field_count, is_count}
+use Rattle.vm_ranges.specs.Fields.{field_count, is_count}
 use Rattle.vm_ranges.specs.Range.{Range}
 use Rattle.vm_ranges.specs.RangeValues.{range_found}
 

@@ -1,7 +1,7 @@
 -- The saved values of address allocators.
 use Rattle.std.specs.Prelude.{◌≡◌, Some, codes}
 use Rattle.serde_json.specs.Data.{Data}
-use Rattle.vm_values.specs.Fields.{field_count, FieldIs}
+use Rattle.vm_ranges.specs.Fields.{field_count, FieldIs}
 use Rattle.vm_engine.specs.Address.{AddressState}
 use Rattle.vm_ranges.specs.RangeValues.{StatesRange}
 use Rattle.vm_engine.specs.Values.TreeValues.{StatesSpaceTree}

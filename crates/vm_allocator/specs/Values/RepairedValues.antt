@@ -2,7 +2,7 @@
 -- may have lost a tree, left free neighbours apart or kept gaps between the keys.
 use Rattle.std.specs.Prelude.{◌≡◌, ℕ, ◌≤◌, length, codes, Some}
 use Rattle.serde_json.specs.Data.{Data}
-use Rattle.vm_values.specs.Fields.{field_count, FieldIs}
+use Rattle.vm_ranges.specs.Fields.{field_count, FieldIs}
 use Rattle.vm_engine.specs.Address.{AddressState}
 use Rattle.vm_engine.specs.Answer.{FEWEST_TOO_DEEP}
 use Rattle.vm_engine.specs.Tree.Blocks.{held_of, AreKeysIn, AreBelowMax}

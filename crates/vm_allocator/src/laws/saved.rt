@@ -2,7 +2,7 @@
 ghost use Rattle.vm_ranges.specs.RangeValues.{StatesRange, StatesState};
 ghost use Rattle.vm_allocator.specs.Values.AllocatorValues.{StatesAllocator};
 ghost use Rattle.vm_allocator.specs.Values.RepairedValues.{StatesRepaired};
-ghost use Rattle.vm_ids.specs.IdValues.{StatesIds};
+ghost use Rattle.vm_allocator.specs.Values.IdValues.{StatesIds};
 ghost use Rattle.vm_allocator.specs.Laws.ValueLaws.{StatesOne, ReadsWritten, ReadsAlike};
 
 /// A value states one object of a type at most.

@@ -11,8 +11,7 @@ use crate::address_allocator::AddressAllocator;
 use serde_json::{Value, json};
 use std::alloc::{AllocError, Global};
 use vm_engine::allocation_engine::IntervalTree;
-use vm_ranges::{RangeInclusive, Result, ValueError, range_in};
-use vm_values::has_fields;
+use vm_ranges::{RangeInclusive, Result, ValueError, has_fields, range_in};
 
 impl AddressAllocator {
     /// The value that states the allocator: its space, and its tree node for node. `OutOfMemory` where

@@ -16,7 +16,7 @@ use super::DeviceManager;
 use serde_json::{Value, json};
 use std::alloc::{AllocError, Global};
 use vm_allocator::{AddressAllocator, IdAllocator, Result, ValueError};
-use vm_values::{has_fields, list_in, number_in};
+use vm_ranges::{has_fields, list_in, number_in};
 
 /// The version of the saved form.
 const VERSION: u64 = 1;

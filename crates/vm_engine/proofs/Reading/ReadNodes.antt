@@ -3,10 +3,10 @@ use Rattle.std.proofs.Common.{◌≡◌, ℕ, ◌+◌, max, Some, None, codes, o
 use Rattle.std.proofs.lemmas.Option.{same_Some}
 use Rattle.serde_json.specs.Data.{Data, null}
 use Rattle.serde_json.specs.Find.{get}
-use Rattle.vm_values.proofs.FieldSteps.{count-true, true-count, in_field, field_is, field_map}
-use Rattle.vm_values.proofs.Steps.{and_then_some, map_some, if_some}
-use Rattle.vm_values.specs.Fields.{field_count, is_count}
-use Rattle.vm_values.specs.Numbers.{number_in}
+use Rattle.vm_ranges.proofs.FieldSteps.{count-true, true-count, in_field, field_is, field_map}
+use Rattle.vm_ranges.proofs.Steps.{and_then_some, map_some, if_some}
+use Rattle.vm_ranges.specs.Fields.{field_count, is_count}
+use Rattle.vm_ranges.specs.Numbers.{number_in}
 use Rattle.vm_ranges.specs.Block.{Block}
 use Rattle.vm_engine.specs.Tree.Shape.{Shape, Tip, Fork, blocks, height_of}
 use Rattle.vm_ranges.specs.RangeValues.{StatesRange, StatesState, range_found, state_found}

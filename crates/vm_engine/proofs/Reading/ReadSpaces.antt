@@ -2,7 +2,7 @@
 use Rattle.std.proofs.Common.{◌≡◌, ◌+◌, true, eqb, Some, None, Option, is_some, refl, sym, ◌∙◌, subst, arith, true≢false, false}
 use Rattle.std.proofs.lemmas.Bool.{eqb-true, eq-eqb}
 use Rattle.serde_json.specs.Data.{Data}
-use Rattle.vm_values.proofs.Steps.{and_then_some, if_some}
+use Rattle.vm_ranges.proofs.Steps.{and_then_some, if_some}
 use Rattle.vm_ranges.specs.Range.{Range, IsRange}
 use Rattle.vm_engine.specs.Tree.Blocks.{TilesSpace}
 use Rattle.vm_engine.specs.Tree.Shape.{Shape, Tip, MAX_HEIGHT, blocks}

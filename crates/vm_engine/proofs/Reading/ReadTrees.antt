@@ -4,9 +4,9 @@ use Rattle.std.proofs.lemmas.Bool.{and_parts, eqb-true, eq-eqb, leb-true, le-leb
 use Rattle.std.proofs.lemmas.Option.{same_Some}
 use Rattle.serde_json.specs.Data.{Data, null}
 use Rattle.serde_json.specs.Find.{as_null}
-use Rattle.vm_values.proofs.Nulls.{null_of, not_null}
-use Rattle.vm_values.proofs.Steps.{and_then_some, if_some}
-use Rattle.vm_values.specs.Fields.{field_count}
+use Rattle.vm_ranges.proofs.Nulls.{null_of, not_null}
+use Rattle.vm_ranges.proofs.Steps.{and_then_some, if_some}
+use Rattle.vm_ranges.specs.Fields.{field_count}
 use Rattle.vm_engine.specs.Tree.Shape.{Shape, Tip, Fork, blocks, height_of, IsBalanced}
 use Rattle.vm_engine.specs.Values.TreeValues.{StatesShape}
 use Rattle.vm_ranges.specs.NodeChecks.{NodeData, node_data, after_all, behind, is_true_height, node_found, tree_found}

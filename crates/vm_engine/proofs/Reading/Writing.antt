@@ -1,7 +1,7 @@
 -- What is put together of a node's written parts states the node.
 use Rattle.std.proofs.Common.{◌≡◌, ℕ, ◌+◌, max, codes, Some, ap, ◌∙◌, subst}
 use Rattle.serde_json.specs.Data.{Data}
-use Rattle.vm_values.proofs.FieldSteps.{field_is}
+use Rattle.vm_ranges.proofs.FieldSteps.{field_is}
 use Rattle.vm_ranges.specs.Range.{Range}
 use Rattle.vm_engine.specs.Tree.Shape.{Shape, Tip, Fork, blocks, height_of, IsTree}
 use Rattle.vm_engine.specs.Tree.SpaceTree.{space_of, IsSpaceTree}

@@ -1,8 +1,8 @@
 -- The saved values of trees.
 use Rattle.std.specs.Prelude.{◌≡◌, ◌≢◌, ℕ, ◌+◌, ◌≤◌, max, Some, codes}
 use Rattle.serde_json.specs.Data.{Data, null}
-use Rattle.vm_values.specs.Fields.{field_count, FieldIs}
-use Rattle.vm_values.specs.Numbers.{number_in}
+use Rattle.vm_ranges.specs.Fields.{field_count, FieldIs}
+use Rattle.vm_ranges.specs.Numbers.{number_in}
 use Rattle.vm_ranges.specs.Range.{Range}
 use Rattle.vm_ranges.specs.Block.{Block}
 use Rattle.vm_engine.specs.Tree.Blocks.{IsTiling}

@@ -5,12 +5,13 @@ ghost use Rattle.serde_json.specs.View.{view};
 ghost use Rattle.vm_ranges.specs.NodeChecks.{NodeParts, node_data};
 
 use crate::range::RangeInclusive;
+use crate::saved::fields::has_fields;
+use crate::saved::numbers::number_in;
 use crate::saved::range::range_in;
 use crate::saved::state::state_in;
 use crate::state::NodeState;
 use serde_json::{Value, json};
 use std::alloc::{AllocError, Global};
-use vm_values::{has_fields, number_in};
 
 const KEY: &str = "key";
 

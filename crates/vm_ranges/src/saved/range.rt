@@ -5,12 +5,13 @@ ghost use Rattle.serde_json.specs.Find.{get};
 ghost use Rattle.vm_ranges.specs.RangeValues.{StatesRange, range_found};
 ghost use Rattle.vm_ranges.specs.Saving.{Saves, Reads};
 
-use super::ValueError;
 use crate::error::Result;
 use crate::range::RangeInclusive;
+use crate::saved::ValueError;
+use crate::saved::fields::has_fields;
+use crate::saved::numbers::number_in;
 use serde_json::{Value, json};
 use std::alloc::Global;
-use vm_values::{has_fields, number_in};
 
 impl RangeInclusive {
     /// The value that states the range: an object of `start` and `end`. `OutOfMemory` where there is no

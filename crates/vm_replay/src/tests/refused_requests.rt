@@ -26,6 +26,31 @@ const REQUESTS_OF_DEVICES: Columns = &[
     "done\ndevice 0 16 16\ndevice 1 17 19\nerror memory\ndone\ndevice 0 16 16\n",
 ];
 
+/// A line comes again where memory ran out for it: the space of before stands until then.
+const SPACES_AGAIN: Columns = &[
+    "done\ndone\nrange 16 16\nerror state 16 16\ndone\nrange 32 32\ndone\nrange 32 32\n",
+    "error memory\ndone\nrange 16 16\nerror state 16 16\ndone\nrange 32 32\ndone\nrange 32 32\n",
+    "done\nerror memory\nrange 16 16\nerror state 16 16\ndone\nrange 32 32\ndone\nrange 32 32\n",
+    "done\ndone\nerror memory\nrange 16 16\ndone\nrange 32 32\ndone\nrange 32 32\n",
+    "done\ndone\nrange 16 16\nerror state 16 16\nerror memory\nrange 17 17\ndone\nrange 32 32\n",
+    "done\ndone\nrange 16 16\nerror state 16 16\ndone\nerror memory\ndone\nrange 32 32\n",
+    "done\ndone\nrange 16 16\nerror state 16 16\ndone\nrange 32 32\nerror memory\nrange 33 33\n",
+    "done\ndone\nrange 16 16\nerror state 16 16\ndone\nrange 32 32\ndone\nerror memory\n",
+];
+
+/// The same of managers, whose devices ask twice for memory.
+const MANAGERS_AGAIN: Columns = &[
+    "done\ndone\ndevice 0 16 16\ndone\nerror never-allocated 0\ndone\ndevice 0 32 32\n",
+    "error memory\ndone\ndevice 0 16 16\ndone\nerror never-allocated 0\ndone\ndevice 0 32 32\n",
+    "done\nerror memory\ndevice 0 16 16\ndone\nerror never-allocated 0\ndone\ndevice 0 32 32\n",
+    "done\ndone\nerror memory\nerror never-allocated 0\nerror never-allocated 0\ndone\ndevice 0 32 32\n",
+    "done\ndone\nerror memory\nerror never-allocated 0\nerror never-allocated 0\ndone\ndevice 0 32 32\n",
+    "done\ndone\ndevice 0 16 16\nerror memory\ndone\ndone\ndevice 0 32 32\n",
+    "done\ndone\ndevice 0 16 16\ndone\nerror never-allocated 0\nerror memory\ndevice 0 16 16\n",
+    "done\ndone\ndevice 0 16 16\ndone\nerror never-allocated 0\ndone\nerror memory\n",
+    "done\ndone\ndevice 0 16 16\ndone\nerror never-allocated 0\ndone\nerror memory\n",
+];
+
 /// The number of the request that tests/refused_memory refuses.
 fn refused_request(rt: &impl Env) -> Option<usize> {
     let mut digits = [0u8; 20];
@@ -66,4 +91,18 @@ fn request_of_an_id(rt: HostRuntime) {
 fn requests_of_devices(rt: HostRuntime) {
     let input = "manager 0 1 16 4\ndevice 1 1\ndevice 3 1\nundevice 0\nundevice 0\ndevice 1 1\n";
     expect_column(&rt, rt.alloc(), input, REQUESTS_OF_DEVICES);
+}
+
+#[test]
+fn spaces_again(rt: HostRuntime) {
+    let input =
+        "space 16 4\nspace 16 4\nexact 1 1 16\nexact 1 1 16\nspace 32 4\nfirst 1 1\nspace 32 4\nfirst 1 1\n";
+    expect_column(&rt, rt.alloc(), input, SPACES_AGAIN);
+}
+
+#[test]
+fn managers_again(rt: HostRuntime) {
+    let input =
+        "manager 0 1 16 4\nmanager 0 1 16 4\ndevice 1 1\nundevice 0\nundevice 0\nmanager 0 1 32 4\ndevice 1 1\n";
+    expect_column(&rt, rt.alloc(), input, MANAGERS_AGAIN);
 }

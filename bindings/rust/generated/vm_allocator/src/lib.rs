@@ -9,11 +9,12 @@
 
 mod address_allocator;
 pub mod allocation_engine;
+mod id_allocator;
 mod saved;
 
 pub use address_allocator::AddressAllocator;
+pub use id_allocator::IdAllocator;
 pub use vm_engine::allocation_engine::HeldRanges;
-pub use vm_ids::IdAllocator;
 pub use vm_ranges::{
     AllocPolicy, Constraint, DEFAULT_CONSTRAINT_ALIGN, Error, RangeInclusive, Result, ValueError,
 };

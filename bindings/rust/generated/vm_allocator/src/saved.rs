@@ -1,5 +1,7 @@
 // Written by bindings/erase from crates/vm_allocator/src/saved.rt: do not edit.
 
-//! Saved values of address allocators: as they are written, and as the Rust crate wrote them.
+//! Saved values of both allocators as they are written, and those of address allocators as the Rust
+//! crate wrote them.
 mod allocator;
+mod ids;
 mod repaired;

@@ -21,7 +21,7 @@ static PAIRS: [u8; 200] = *b"\
     8081828384858687888990919293949596979899";
 
 /// Text that waits to be written, in an array of its own.
-pub struct Buffer {
+pub(crate) struct Buffer {
     bytes: [u8; CAPACITY],
     length: usize,
 }
@@ -41,7 +41,7 @@ impl Buffer {
     }
 
     /// What waits.
-    pub fn as_slice(&self) -> &[u8] {
+    pub(crate) fn as_slice(&self) -> &[u8] {
         &self.bytes[..self.length]
     }
 

@@ -5,11 +5,11 @@
 use crate::words::{behind, ids_and_numbers, one_id, three_numbers, two_ids, two_numbers};
 
 /// A longer line is not in the language.
-pub const LONGEST_LINE: usize = 120;
+pub(crate) const LONGEST_LINE: usize = 120;
 
 /// What a line asks for.
-#[derive(Clone, Copy, Debug, PartialEq, Eq)]
-pub enum Command {
+#[derive(Clone, Copy)]
+pub(crate) enum Command {
     /// An allocator for the space of `size` addresses from `base` on.
     Space {
         base: u64,
@@ -73,7 +73,7 @@ pub enum Command {
 
 /// What a line asks for. `None` where it is not in the language.
 #[inline(always)]
-pub fn parse(line: &[u8]) -> Option<Command> {
+pub(crate) fn parse(line: &[u8]) -> Option<Command> {
     if line.len() > LONGEST_LINE {
         return None;
     }

@@ -1,6 +1,8 @@
 // Written by bindings/erase from crates/vm_lines/src/lib.rt: do not edit.
 
 //! Lines that ask an allocator or a manager of devices for something, and the line that answers each.
+//! Public is `run` alone: a library carries for the crates above it all that its public types mention,
+//! and a `Command` or a `Reply` mentions most of the libraries below.
 
 #![forbid(unsafe_code)]
 // What only proofs and tests use is kept as it is.
@@ -15,8 +17,3 @@ mod reply;
 pub mod run;
 mod session;
 mod words;
-
-pub use buffer::Buffer;
-pub use command::{Command, LONGEST_LINE, parse};
-pub use machine::Machine;
-pub use reply::{Reply, reply_text};

@@ -9,7 +9,7 @@ use vm_allocator::{AddressAllocator, AllocPolicy, IdAllocator, RangeInclusive, R
 use vm_devices::DeviceManager;
 
 /// What the lines so far have made.
-pub struct Machine {
+pub(crate) struct Machine {
     space: Option<AddressAllocator>,
     ids: Option<IdAllocator>,
     devices: Option<DeviceManager>,
@@ -17,7 +17,7 @@ pub struct Machine {
 
 impl Machine {
     /// Nothing is made yet.
-    pub fn new() -> Machine {
+    pub(crate) fn new() -> Machine {
         Machine {
             space: None,
             ids: None,
@@ -26,7 +26,7 @@ impl Machine {
     }
 
     /// Does what a line asks. `None` is a line that is not in the language.
-    pub fn answer(&mut self, alloc: Global, asked: Option<Command>) -> Reply {
+    pub(crate) fn answer(&mut self, alloc: Global, asked: Option<Command>) -> Reply {
         let Some(command) = asked else {
             return Reply::NotInLanguage;
         };

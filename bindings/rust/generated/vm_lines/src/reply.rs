@@ -11,8 +11,7 @@ use vm_devices::DeviceSlot;
 pub(crate) const LONGEST_REPLY: usize = 61;
 
 /// How a line is answered.
-#[derive(Debug, PartialEq, Eq)]
-pub enum Reply {
+pub(crate) enum Reply {
     /// The call succeeded, and there is no more to tell.
     Done,
     /// This range is held from now on.
@@ -69,13 +68,6 @@ pub(crate) fn device_or_refused(answer: Result<DeviceSlot>) -> Reply {
         Ok(slot) => Reply::Device(slot),
         Err(error) => Reply::Refused(error),
     }
-}
-
-/// How a reply reads.
-pub fn reply_text(reply: Reply) -> Buffer {
-    let mut output = Buffer::new();
-    write_reply(&mut output, reply);
-    output
 }
 
 /// Writes how a reply reads.

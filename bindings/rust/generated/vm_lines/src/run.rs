@@ -31,20 +31,29 @@ pub enum RunError {
 pub fn run<R: Read, W: Write>(alloc: Global, reader: &mut R, writer: &mut W) -> Result<(), RunError> {
     let mut session = Session::new();
     let mut output = Buffer::new();
+    answer_pieces(alloc, reader, writer, &mut session, &mut output)
+}
+
+/// Takes piece after piece of the input, from its start.
+fn answer_pieces<R: Read, W: Write>(
+    alloc: Global,
+    reader: &mut R,
+    writer: &mut W,
+    session: &mut Session,
+    output: &mut Buffer,
+) -> Result<(), RunError> {
     let mut bytes = [0u8; PIECE];
     for _ in 0..u64::MAX {
         match reader.read(&mut bytes) {
             Ok(0) => {
-                finish(alloc, &mut session, &mut output, writer)?;
+                finish(alloc, session, output, writer)?;
                 return Ok(());
             }
-            Ok(count) => {
-                feed_all(alloc, &mut session, &bytes[..count], &mut output, writer)?;
-            }
+            Ok(count) => feed_all(alloc, session, &bytes[..count], output, writer)?,
             Err(_) => break,
         }
     }
-    drain(&mut output, writer)?;
+    drain(output, writer)?;
     Err(RunError::Read)
 }
 

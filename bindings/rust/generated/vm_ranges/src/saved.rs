@@ -4,7 +4,9 @@
 //! come from a stranger. It is read only where it states an object: it has exactly the fields that it
 //! should, and all that has to hold of them holds. The order of the fields says nothing.
 
+pub(crate) mod fields;
 pub(crate) mod node;
+pub(crate) mod numbers;
 pub(crate) mod range;
 pub(crate) mod state;
 pub(crate) mod tree;

@@ -14,7 +14,7 @@ use serde_json::{Value, json};
 use std::alloc::{AllocError, Global};
 use std::collections::BTreeMap;
 use vm_allocator::{Error, RangeInclusive, Result, ValueError};
-use vm_values::{has_fields, u32_in};
+use vm_ranges::{has_fields, u32_in};
 
 /// The list of devices, by rising ids.
 pub(super) fn save_slots(alloc: Global, slots: &BTreeMap<u32, RangeInclusive>) -> Result<Value>

@@ -13,7 +13,7 @@ use super::DeviceManager;
 use rattle::{Value, json};
 use rattle::{AllocError, Global};
 use vm_allocator::{AddressAllocator, IdAllocator, Result, ValueError};
-use vm_values::{has_fields, list_in, number_in};
+use vm_ranges::{has_fields, list_in, number_in};
 
 /// The version of the saved form.
 const VERSION: u64 = 1;

@@ -4,12 +4,13 @@
 //! memory.
 
 use crate::range::RangeInclusive;
+use crate::saved::fields::has_fields;
+use crate::saved::numbers::number_in;
 use crate::saved::range::range_in;
 use crate::saved::state::state_in;
 use crate::state::NodeState;
 use rattle::{Value, json};
 use rattle::{AllocError, Global};
-use vm_values::{has_fields, number_in};
 
 const KEY: &str = "key";
 

@@ -2,12 +2,13 @@
 
 //! The saved form of a range.
 
-use super::ValueError;
 use crate::error::Result;
 use crate::range::RangeInclusive;
+use crate::saved::ValueError;
+use crate::saved::fields::has_fields;
+use crate::saved::numbers::number_in;
 use rattle::{Value, json};
 use rattle::Global;
-use vm_values::{has_fields, number_in};
 
 impl RangeInclusive {
     /// The value that states the range: an object of `start` and `end`. `OutOfMemory` where there is no

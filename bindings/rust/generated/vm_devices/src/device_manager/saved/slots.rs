@@ -8,7 +8,7 @@ use rattle::{Value, json};
 use rattle::{AllocError, Global};
 use rattle::BTreeMap;
 use vm_allocator::{Error, RangeInclusive, Result, ValueError};
-use vm_values::{has_fields, u32_in};
+use vm_ranges::{has_fields, u32_in};
 
 /// The list of devices, by rising ids.
 pub(super) fn save_slots(alloc: Global, slots: &BTreeMap<u32, RangeInclusive>) -> Result<Value> {

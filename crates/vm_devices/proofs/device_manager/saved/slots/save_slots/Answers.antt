@@ -1,5 +1,5 @@
 use Rattle.std.specs.Map.Iter.{deref_pair}
-use Rattle.vm_values.proofs.Lists.{states_more}
+use Rattle.vm_ranges.proofs.Lists.{states_more}
 use Rattle.vm_devices.specs.Saved.{StatesDevice}
 use Rattle.vm_devices.proofs.device_manager.saved.slots.save_slots.Goals as goal
 

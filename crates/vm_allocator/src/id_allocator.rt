@@ -1,0 +1,199 @@
+//! Ids of one range: those handed out so far lie below the next one, and those given back stand in a
+//! set, the least first. Only giving back and cloning ask for memory.
+ghost use Rattle.std.specs.Prelude.{◌≡◌, ℕ, ◌≤◌, ◌⊎◌, ◌↔◌, IsTrue, IsOk, OnErr, Ok, Err};
+ghost use Rattle.vm_ranges.specs.Cloning.{Clones};
+ghost use Rattle.vm_allocator.specs.Ids.{
+  MakesIds,
+  AllocatesId,
+  PeeksId,
+  FreesId,
+  NextId,
+  IsOfRange,
+  IsHandedOut,
+  IsHeld,
+  IsNotHeld,
+  IsIdState,
+  held_count,
+  bound_of,
+};
+
+use std::alloc::Global;
+use std::collections::BTreeSet;
+use std::marker::Model;
+use vm_ranges::{Error, Result};
+
+/// Gives out the ids of a range, each to one holder at a time.
+#[derive(Debug, Drop)]
+pub struct IdAllocator {
+    pub(crate) range_base: u32,
+    // The least id that was never handed out; none where that would pass `u32::MAX`.
+    pub(crate) next_id: Option<u32>,
+    pub(crate) range_end: u32,
+    // The ids that were handed out and are not held any more.
+    pub(crate) freed_ids: BTreeSet<u32>,
+}
+
+impl Model for IdAllocator {
+    ghost use Rattle.vm_allocator.specs.Ids.{IdState, id_state_code, ids_of, AreIds};
+
+    ghost Value = { IdState };
+
+    ghost coded = { id_state_code };
+
+    ghost view = { λ a. ids_of a.range_base a.range_end a.next_id a.freed_ids };
+
+    ghost invariant = { λ a. AreIds a.range_base a.range_end a.next_id a.freed_ids };
+}
+
+/// The next id, where it is one of the range up to `range_end`.
+fn next_of_range(next_id: Option<u32>, range_end: u32) -> Result<u32>
+    ensures { NextId next_id range_end result }
+{
+    match next_id {
+        None => Err(Error::Overflow),
+        Some(id) if id > range_end => Err(Error::ResourceNotAvailable),
+        Some(id) => Ok(id),
+    }
+}
+
+/// The bound of the ids handed out: no id from there on was.
+pub(crate) fn bound_of(next: Option<u32>, end: u32) -> u64
+    ensures { result ≡ bound_of next end }
+{
+    match next {
+        None => u64::from(end) + 1,
+        Some(next) => u64::from(next),
+    }
+}
+
+impl IdAllocator {
+    /// An allocator of the ids from `range_base` to `range_end`, both included, none of them handed
+    /// out yet. `InvalidRange(range_base, range_end)` where the end is below the base. It takes no
+    /// memory.
+    #[tactic(auto, using(crate::proofs::Ids::IdFields::makes))]
+    pub fn new(alloc: Global, range_base: u32, range_end: u32) -> Result<Self>
+        ensures answer { MakesIds range_base range_end result }
+        ensures succeeds { range_base ≤ range_end → IsOk result }
+    {
+        if range_end < range_base {
+            return Err(Error::InvalidRange(range_base.into(), range_end.into()));
+        }
+        Ok(IdAllocator {
+            range_base,
+            next_id: Some(range_base),
+            range_end,
+            freed_ids: BTreeSet::new(alloc),
+        })
+    }
+
+    /// A copy: the same range, held ids and ids ever handed out. `OutOfMemory` where there is no memory
+    /// for it. The ids given back ask the allocator that they came with: their own `clone` promises the
+    /// same set, where a new one would promise the same members.
+    #[tactic(auto, using(crate::proofs::Ids::IdFields::clones))]
+    pub fn try_clone(&self, _alloc: Global) -> Result<Self>
+        ensures { Clones self.now result }
+    {
+        let freed_ids = self.freed_ids.clone()?;
+        Ok(IdAllocator {
+            range_base: self.range_base,
+            next_id: self.next_id,
+            range_end: self.range_end,
+            freed_ids,
+        })
+    }
+
+    /// Takes the least id of the range that is not held. Where all are held, `Overflow` in a range up
+    /// to `u32::MAX`, and else `ResourceNotAvailable`. It takes no memory.
+    #[tactic(auto, using(crate::proofs::Ids::TakingIds::allocates))]
+    pub fn allocate_id(&mut self) -> Result<u32>
+        ensures answer { AllocatesId self.old result self.new }
+        ensures succeeds { (id : ℕ) → IsNotHeld self.old id → IsOk result }
+        ensures unchanged { OnErr result (self.new ≡ self.old) }
+    {
+        if let Some(id) = self.freed_ids.pop_first() {
+            return Ok(id);
+        }
+        let id = next_of_range(self.next_id, self.range_end)?;
+        self.next_id = id.checked_add(1);
+        Ok(id)
+    }
+
+    /// What `allocate_id` would answer, its refusals included; nothing is taken.
+    #[tactic(auto, using(crate::proofs::Ids::TakingIds::peeks, crate::proofs::Ids::IdFields::states))]
+    pub fn peek_id(&self) -> Result<u32>
+        ensures answer { PeeksId self.now result }
+        ensures succeeds { (id : ℕ) → IsNotHeld self.now id → IsOk result }
+        ensures state { IsIdState self.now }
+    {
+        match self.freed_ids.first() {
+            Some(id) => Ok(*id),
+            None => next_of_range(self.next_id, self.range_end),
+        }
+    }
+
+    /// Whether the id is held. No id outside the range is.
+    #[tactic(auto, using(crate::proofs::Ids::IdFields::holdings))]
+    pub fn is_allocated(&self, id: u32) -> bool
+        ensures value { IsTrue result ↔ IsHeld self.now id }
+        ensures state { IsIdState self.now }
+    {
+        self.was_handed_out(id) && !self.freed_ids.contains(&id)
+    }
+
+    /// How many ids are held. It takes no memory, and looks at none of them.
+    #[tactic(auto, using(crate::proofs::Ids::IdCounts::counts))]
+    pub fn held_count(&self) -> u64
+        ensures { result ≡ held_count self.now }
+    {
+        let handed_out = bound_of(self.next_id, self.range_end) - u64::from(self.range_base);
+        handed_out - self.freed_ids.len() as u64
+    }
+
+    /// Gives back an id that is held, and answers it. In this order: `OutOfRange(id)` where it is
+    /// outside the range, `NeverAllocated(id)` where it was never handed out, `AlreadyReleased(id)`
+    /// where it is not held any more, and `OutOfMemory` where a request for memory was refused. A
+    /// refusal changes nothing.
+    #[tactic(auto, using(crate::proofs::Ids::GivingBack::frees))]
+    pub fn free_id(&mut self, id: u32) -> Result<u32>
+        ensures answer { FreesId self.old id result self.new }
+        ensures held { IsHeld self.old id → (result ≡ Ok id) ⊎ (result ≡ Err Error.OutOfMemory) }
+        ensures unchanged { OnErr result (self.new ≡ self.old) }
+    {
+        if !self.id_in_range(id) {
+            return Err(Error::OutOfRange(id));
+        }
+        if !self.was_handed_out(id) {
+            return Err(Error::NeverAllocated(id));
+        }
+        // Only an id that is not in the set yet asks for memory.
+        if self.freed_ids.insert(id)? {
+            Ok(id)
+        } else {
+            Err(Error::AlreadyReleased(id))
+        }
+    }
+
+    /// Whether the id is one of the range.
+    #[tactic(auto, using(crate::proofs::Ids::IdFields::states), unfolding(crate::specs::Ids::ids_of))]
+    fn id_in_range(&self, id: u32) -> bool
+        ensures value { IsTrue result ↔ IsOfRange self.now id }
+        ensures state { IsIdState self.now }
+    {
+        self.range_base <= id && id <= self.range_end
+    }
+
+    /// Whether the id was handed out at some time.
+    #[tactic(auto, using(crate::proofs::Ids::IdFields::states), unfolding(crate::specs::Ids::ids_of))]
+    fn was_handed_out(&self, id: u32) -> bool
+        ensures value { IsTrue result ↔ IsHandedOut self.now id }
+        ensures state { IsIdState self.now }
+    {
+        match self.next_id {
+            Some(next_id) => self.range_base <= id && id < next_id,
+            None => self.id_in_range(id),
+        }
+    }
+}
+
+#[cfg(test)]
+mod tests;

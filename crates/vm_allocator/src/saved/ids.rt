@@ -1,0 +1,184 @@
+//! The saved form of an id allocator.
+ghost use Rattle.std.specs.Prelude.{◌≡◌, ◌≤◌, ◌<◌, ◌+◌, ◌^◌, IfOk, IsSome, Some, is_some, option_map, option_and_then};
+ghost use Rattle.std.specs.List.Sorted.{IsStrictlySortedBy};
+ghost use Rattle.std.specs.Ordering.{nat_cmp};
+ghost use Rattle.serde_json.specs.View.{view, items_view};
+ghost use Rattle.serde_json.specs.Find.{get};
+ghost use Rattle.vm_ranges.specs.Numbers.{u32_from, u32_in};
+ghost use Rattle.vm_allocator.specs.Ids.{IsIdState, bound_of};
+ghost use Rattle.vm_allocator.specs.Values.IdValues.{StatesNext, StatesList, StatesIds};
+ghost use Rattle.vm_allocator.specs.Checks.IdChecks.{rising, next_found, is_next, ids_found, IdParts};
+ghost use Rattle.vm_ranges.specs.Saving.{Saves, Reads};
+
+use crate::id_allocator::{IdAllocator, bound_of};
+use serde_json::{Value, json};
+use std::alloc::{AllocError, Global};
+use std::collections::BTreeSet;
+use vm_ranges::{Result, ValueError, has_fields, list_in, u32_from, u32_in};
+
+impl IdAllocator {
+    /// The value that states the allocator: its range, the next id and the ids given back.
+    /// `OutOfMemory` where there is no memory for it.
+    #[tactic(auto, using(crate::proofs::Ids::ReadIdStates::written))]
+    pub fn to_value(&self, alloc: Global) -> Result<Value>
+        ensures { Saves (λ d. StatesIds d self.now) result }
+    {
+        let next = save_next(self.next_id);
+        let freed = save_ids(alloc, &self.freed_ids)?;
+        Ok(save_parts(alloc, self.range_base, next, self.range_end, freed)?)
+    }
+
+    /// The allocator that a value states: its range, the ids ever handed out and those held.
+    /// `NotAState` where the value states none, and else `OutOfMemory` where there is no memory for the
+    /// ids given back. To find out which takes no memory.
+    pub fn from_value(alloc: Global, value: &Value) -> std::result::Result<Self, ValueError>
+        ensures answer { Reads (StatesIds (view value.now)) result }
+        ensures state { IfOk result (λ ids. IsIdState ids) }
+    {
+        let Some(ids) = check_ids(value) else {
+            return Err(ValueError::NotAState);
+        };
+        let bound = bound_of(ids.next, ids.end);
+        let freed_ids = collect(alloc, ids.freed, ids.base.into(), bound)?;
+        Ok(IdAllocator {
+            range_base: ids.base,
+            next_id: ids.next,
+            range_end: ids.end,
+            freed_ids,
+        })
+    }
+}
+
+/// The value of a next id.
+fn save_next(next: Option<u32>) -> Value
+    ensures { StatesNext (view result) next }
+{
+    match next {
+        None => Value::Null,
+        Some(next) => Value::from(next),
+    }
+}
+
+/// The list of ids given back.
+fn save_ids(alloc: Global, ids: &BTreeSet<u32>) -> std::result::Result<Value, AllocError>
+    ensures answer { IfOk result (λ list. StatesList (view list) ids.now.keys) }
+    ensures rising { IsStrictlySortedBy nat_cmp ids.now.keys }
+{
+    let mut list = Vec::new(alloc);
+    for id in ids.iter() {
+        list.push(Value::from(*id))?;
+    }
+    Ok(Value::from(list))
+}
+
+/// The object of an id allocator's fields.
+fn save_parts(
+    alloc: Global,
+    base: u32,
+    next: Value,
+    end: u32,
+    freed: Value,
+) -> std::result::Result<Value, AllocError>
+    ensures { IfOk result (λ value. IdParts (view value) base (view next) end (view freed)) }
+{
+    json!(in alloc; {"range_base": base, "next_id": next, "range_end": end, "freed_ids": freed})
+}
+
+/// The fields of an id allocator's value; all of them are checked.
+#[derive(Drop)]
+struct CheckedIds<'a> {
+    base: u32,
+    next: Option<u32>,
+    end: u32,
+    freed: &'a Vec<Value>,
+}
+
+/// What the fields of a value say, where it states an id allocator.
+fn check_ids(value: &Value) -> Option<CheckedIds<'_>>
+    ensures { option_map (λ c. (c.base, c.next, c.end, items_view c.freed.now.items)) result
+        ≡ ids_found (view value.now) }
+{
+    if !has_fields(value, 4) {
+        return None;
+    }
+    let base = u32_in(value, "range_base")?;
+    let end = u32_in(value, "range_end")?;
+    let next = next_in(value, "next_id")?;
+    let freed = list_in(value, "freed_ids")?;
+    if base <= end && is_next(next, base, end) && rise(freed, base.into(), bound_of(next, end)) {
+        return Some(CheckedIds {
+            base,
+            next,
+            end,
+            freed,
+        });
+    }
+    None
+}
+
+/// The next id that a value states.
+fn next_of(value: &Value) -> Option<Option<u32>>
+    ensures { result ≡ next_found (view value.now) }
+{
+    if value.is_null() {
+        return Some(None);
+    }
+    Some(Some(u32_from(value.as_u64()?)?))
+}
+
+/// The next id in a field.
+fn next_in(value: &Value, name: &str) -> Option<Option<u32>>
+    ensures { result ≡ option_and_then next_found (get name.now (view value.now)) }
+{
+    next_of(value.get(name)?)
+}
+
+/// Whether this may be the next id of a range.
+fn is_next(next: Option<u32>, base: u32, end: u32) -> bool
+    ensures { result ≡ is_next next base end }
+{
+    match next {
+        None => end == u32::MAX,
+        Some(next) => base <= next && u64::from(next) <= u64::from(end) + 1,
+    }
+}
+
+/// Whether the items are whole numbers that rise from `least` on and stay below `bound`.
+#[tactic(auto, using(crate::proofs::Ids::RisingNumbers::risings))]
+fn rise(list: &[Value], least: u64, bound: u64) -> bool
+    requires { bound < 2 ^ 64 }
+    ensures { result ≡ is_some (rising least bound (items_view list.now)) }
+{
+    let mut next = least;
+    for item in list {
+        let Some(id) = item.as_u64() else {
+            return false;
+        };
+        if id < next || id >= bound {
+            return false;
+        }
+        next = id + 1;
+    }
+    true
+}
+
+/// The set of the numbers, which rise from `least` on and stay below `bound`.
+fn collect(
+    alloc: Global,
+    list: &[Value],
+    least: u64,
+    bound: u64,
+) -> std::result::Result<BTreeSet<u32>, AllocError>
+    requires bound_fits { bound ≤ 2 ^ 32 }
+    requires rise { IsSome (rising least bound (items_view list.now)) }
+    ensures { IfOk result (λ ids. rising least bound (items_view list.now) ≡ Some ids.keys) }
+{
+    let mut next = least;
+    let mut ids = BTreeSet::new(alloc);
+    for item in list {
+        let id = item.as_u64().unwrap();
+        ids.insert(id as u32)?;
+        next = id + 1;
+    }
+    Ok(ids)
+}

@@ -1,6 +1,0 @@
-pub mod Ids
-pub mod IdChecks
-pub mod IdHistories
-pub mod IdLaws
-pub mod IdHistoryLaws
-pub mod IdValues

@@ -1,4 +1,0 @@
-//! Laws: theorems about the definitions that the calls' contracts cite. Each is the contract of a
-//! function that does nothing.
-mod id_histories;
-mod ids;

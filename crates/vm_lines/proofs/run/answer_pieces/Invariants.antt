@@ -1,0 +1,14 @@
+use Rattle.std.proofs.Common.{List, ℕ, [], length, ◌≡◌}
+use Rattle.std.specs.Io.KnownBytes.{Consumes}
+use Rattle.vm_lines.specs.Moving.{Moves}
+use Rattle.vm_lines.proofs.Progress.{At}
+use Rattle.vm_lines.proofs.run.answer_pieces.Given as goal
+
+-- what was read, and the text of its answers, which is written or waits
+abbrev pub invariant-loop : goal.invariant-loop
+invariant-loop g l =
+    (read : List ℕ) × (text : List ℕ)
+    × Consumes (g.R.Read.remaining l.fn.reader) (g.R.Read.remaining l.reader) read
+    × Moves (g.W.Write.contents l.fn.writer) [] text (g.W.Write.contents l.writer) l.output
+    × At read text l.session
+    × (length l.bytes ≡ 4096)

@@ -1,0 +1,21 @@
+-- Which values are null.
+use Rattle.std.proofs.Common.{◌≡◌, ℕ, true, false, Some, is_some, refl}
+use Rattle.serde_json.specs.Data.{Data, null, boolean, number, string, array, object}
+use Rattle.serde_json.specs.Find.{as_null}
+use Rattle.vm_ranges.specs.Fields.{field_count}
+
+pub null_of : (d : Data) → is_some (as_null d) ≡ true → d ≡ null
+null_of null e = refl
+null_of (boolean b) e = absurd (cc)
+null_of (number n) e = absurd (cc)
+null_of (string s) e = absurd (cc)
+null_of (array ds) e = absurd (cc)
+null_of (object ms) e = absurd (cc)
+
+pub not_null : (d : Data) (n : ℕ) → field_count d ≡ Some n → is_some (as_null d) ≡ false
+not_null null n e = absurd (cc)
+not_null (boolean b) n e = refl
+not_null (number x) n e = refl
+not_null (string s) n e = refl
+not_null (array ds) n e = refl
+not_null (object ms) n e = refl
