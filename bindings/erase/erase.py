@@ -578,8 +578,8 @@ class File(Tokens):
 
     def plain(self):
         """The text of the file in Rust."""
-        no_std, names = "" if self.crate.asks_for_std else "#![no_std]\n", ", ".join(sorted(self.from_prelude))
-        inserted = CRATE_ATTRIBUTES + no_std + "\n" if self.is_root else ""
+        names = ", ".join(sorted(self.from_prelude))
+        inserted = CRATE_ATTRIBUTES + self.names_of_std() + "\n" if self.is_root else ""
         if self.of_tests:
             inserted += FOR_TESTS
         elif names:
@@ -595,6 +595,13 @@ class File(Tokens):
             if text.endswith("\n\n") and self.text[last:].lstrip(" ").startswith("}"):
                 text = text[:-1]
         return ORIGIN.format(self.path) + "\n" + (text + self.text[last:]).strip("\n") + "\n"
+
+    def names_of_std(self):
+        """How the root of a crate gets `std`. A crate of tests has it without its prelude, which has a
+        `to_string` of its own."""
+        if not self.crate.asks_for_std:
+            return "#![no_std]\n"
+        return "#![no_std]\n\nextern crate std;\n" if self.of_tests else ""
 
     def outer_cuts(self):
         """The cuts that lie in no other."""
