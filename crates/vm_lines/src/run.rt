@@ -43,7 +43,8 @@ pub fn run<R: Read, W: Write>(alloc: Global, reader: &mut R, writer: &mut W) -> 
     answer_pieces(alloc, reader, writer, &mut session, &mut output)
 }
 
-/// Takes piece after piece of the input, from its start.
+/// Takes piece after piece of the input, from its start. What it is lent `run` drops: with both in one
+/// function the prover took 34 seconds over the ways out of the loop, and takes 4.
 fn answer_pieces<R: Read, W: Write>(
     alloc: Global,
     reader: &mut R,
