@@ -1,4 +1,4 @@
-//! Tests of `vm_allocator` and `vm_devices` by their public calls, and a long run of lines.
+//! Tests of `vm_allocator` and `vm_devices` by their public calls.
 //! tests/refused_memory runs each again and again, with request 1, 2, 3 .. for memory refused.
 #![tactic(auto)]
 
@@ -12,8 +12,6 @@ mod devices;
 mod fixtures;
 #[cfg(test)]
 mod ids;
-#[cfg(test)]
-mod lines;
 #[cfg(test)]
 mod many;
 #[cfg(test)]
