@@ -4,7 +4,7 @@ use Rattle.vm_ranges.specs.RangeOrder.{Before}
 use Rattle.vm_ranges.specs.Range.{Range}
 use Rattle.vm_ranges.specs.Block.{Block}
 use Rattle.vm_engine.specs.Tree.BlockList.{IsOrderedFrom, IsClearOf, insert_block, insert_all, AreClearOf, replace_block}
-use Rattle.vm_engine.specs.Tree.Shape.{Shape, Fork, blocks, height_of, single, root_block, IsTree, DifferByAtMost}
+use Rattle.vm_engine.specs.Tree.Shape.{Shape, Fork, blocks, height_of, single, root_block, IsTree}
 use Rattle.vm_engine.proofs.Blocks.BlockOrder.{ordered_drop, ordered_below, ordered_above}
 use Rattle.vm_engine.proofs.Nodes.Rewriting.{known_left, known_right, rewritten_left, rewritten_right}
 use Rattle.vm_engine.proofs.Blocks.Replacement.{replace_in_left, replace_in_right, replace_in_middle}
@@ -69,22 +69,16 @@ module _ (s l : Shape) (x : Block) (r : Shape) (us vs : List Block) (y : Block) 
   pub ordered_carved : (m n : List Block) → m ≡ insert_all us (blocks l) → n ≡ insert_all vs (blocks r) → IsOrderedFrom 0 (m ++ y ∷ n)
   ordered_carved m n p q = subst (IsOrderedFrom 0) (sym (carved_here m n p q)) o
 
--- the tree with a new side, in which a block gave way to others
-pub tree_carved_left : (l n : Shape) (x : Block) (r : Shape) (k : Range) (ys : List Block) → Before k x.key → IsTree (Fork l x r) → IsOrderedFrom 0 (replace_block k ys (blocks (Fork l x r)))
-    → blocks n ≡ replace_block k ys (blocks l) → IsTree n → DifferByAtMost 1 (height_of n) (height_of r) → IsTree (Fork n x r)
-tree_carved_left l n x r k ys p t o e m d = record {
-  ordered = rw e (subst (IsOrderedFrom 0) (replace_in_left (Fork l x r) l x r k ys refl p t) o);
-  balanced = (m.balanced, t.balanced.1, d);
-}
+-- a node's blocks with a new side, in which a block gave way to others
+pub ordered_carved_left : (l n : Shape) (x : Block) (r : Shape) (k : Range) (ys : List Block) → Before k x.key → IsTree (Fork l x r) → IsOrderedFrom 0 (replace_block k ys (blocks (Fork l x r)))
+    → blocks n ≡ replace_block k ys (blocks l) → IsOrderedFrom 0 (blocks n ++ x ∷ blocks r)
+ordered_carved_left l n x r k ys p t o e = rw e (subst (IsOrderedFrom 0) (replace_in_left (Fork l x r) l x r k ys refl p t) o)
 
-pub tree_carved_right : (l n : Shape) (x : Block) (r : Shape) (k : Range) (ys : List Block) → Before x.key k → IsTree (Fork l x r) → IsOrderedFrom 0 (replace_block k ys (blocks (Fork l x r)))
-    → blocks n ≡ replace_block k ys (blocks r) → IsTree n → DifferByAtMost 1 (height_of l) (height_of n) → IsTree (Fork l x n)
-tree_carved_right l n x r k ys p t o e m d = record {
-  ordered = rw e (subst (IsOrderedFrom 0) (replace_in_right (Fork l x r) l x r k ys refl p t) o);
-  balanced = (t.balanced.0, m.balanced, d);
-}
+pub ordered_carved_right : (l n : Shape) (x : Block) (r : Shape) (k : Range) (ys : List Block) → Before x.key k → IsTree (Fork l x r) → IsOrderedFrom 0 (replace_block k ys (blocks (Fork l x r)))
+    → blocks n ≡ replace_block k ys (blocks r) → IsOrderedFrom 0 (blocks l ++ x ∷ blocks n)
+ordered_carved_right l n x r k ys p t o e = rw e (subst (IsOrderedFrom 0) (replace_in_right (Fork l x r) l x r k ys refl p t) o)
 
-pub ruleset carvings = (replace_in_left, replace_in_right, known_left, known_right, rewritten_left, rewritten_right, tree_carved_left, tree_carved_right, before_clear, after_clear, carved_here, ordered_carved)
+pub ruleset carvings = (replace_in_left, replace_in_right, known_left, known_right, rewritten_left, rewritten_right, ordered_carved_left, ordered_carved_right, before_clear, after_clear, carved_here, ordered_carved)
 
 -- a leaf among the blocks
 pub leaf_clear : (n : Shape) (bs : List Block) → n ≡ single (root_block n) → AreClearOf (blocks n) bs → IsClearOf (root_block n).key bs

@@ -3,7 +3,7 @@ use Rattle.std.specs.Prelude.{◌≡◌, ℕ, ◌+◌, ◌^◌, ◌<◌, ◌≤�
 use Rattle.vm_ranges.specs.Range.{Range}
 use Rattle.vm_ranges.specs.Block.{Block}
 use Rattle.vm_engine.specs.Tree.BlockList.{IsOrderedFrom, find_key}
-use Rattle.vm_engine.specs.Tree.Shape.{Shape, Tip, blocks, height_of, max_free_of, alignments_of, single, root_block, DifferByAtMost, IsTree}
+use Rattle.vm_engine.specs.Tree.Shape.{Shape, Tip, Fork, blocks, height_of, max_free_of, alignments_of, single, root_block, DifferByAtMost, IsTree}
 use Rattle.vm_engine.specs.declared.allocation_engine.node.kept.Change.{Change}
 use Rattle.vm_engine.specs.declared.allocation_engine.node.kept.Change.TheVariants.{Nothing, RoomAlone, Height}
 
@@ -15,6 +15,16 @@ IsHeightAfterBalance l r h = (max l r ≤ h) × (h ≤ max l r + 1) × (DifferBy
 -- a node without children
 abbrev pub IsLeaf : Shape → Type 0
 IsLeaf s = s ≡ single (root_block s)
+
+-- a node whose left side is as high as its right one, or higher
+abbrev pub IsLeftNotLower : Shape → Type 0
+IsLeftNotLower Tip = ⊥
+IsLeftNotLower (Fork l b r) = height_of r ≤ height_of l
+
+-- a node whose right side is as high as its left one, or higher
+abbrev pub IsRightNotLower : Shape → Type 0
+IsRightNotLower Tip = ⊥
+IsRightNotLower (Fork l b r) = height_of l ≤ height_of r
 
 -- the blocks of two trees, with one more between them, are in order, and the trees are so close in height that a rotation
 -- or two balance a node over them

@@ -11,7 +11,7 @@
 ghost use Rattle.std.specs.Prelude.{◌≡◌, ◌+◌, ◌<◌, ◌≤◌, ◌^◌, ◌++◌, ◌∷◌, max, IsSome};
 ghost use Rattle.vm_engine.specs.Tree.BlockList.{IsOrderedFrom};
 ghost use Rattle.vm_engine.specs.Tree.Shape.{Fork, blocks, height_of, single, root_block, IsTree, DifferByAtMost};
-ghost use Rattle.vm_engine.specs.Engine.Changes.{IsLeaf, CanBalance, Balances};
+ghost use Rattle.vm_engine.specs.Engine.Changes.{IsLeaf, IsLeftNotLower, IsRightNotLower, CanBalance, Balances};
 ghost use Rattle.vm_engine.specs.Engine.NodeFields.{side};
 ghost use Rattle.vm_engine.specs.Engine.Settling.{IsSettled, CanFinish, Finishes};
 
@@ -130,38 +130,49 @@ pub(super) fn fork(left: Child, mut middle: Box<InnerNode>, right: Child) -> Box
     middle
 }
 
-/// Rotates to the right, where the left side is two levels higher: once, or twice where the inner
-/// grandchild is the higher.
+/// Rotates to the right: a left side two levels higher goes to the top.
 #[tactic(auto, using(crate::proofs::Blocks::BlockOrder::rotations))]
 fn rotate_right(mut left: Box<InnerNode>, middle: Box<InnerNode>, right: Child) -> Box<InnerNode>
     requires leaf { IsLeaf middle.value }
-    requires ordered { IsOrderedFrom 0 (blocks left.value ++ root_block middle.value ∷ blocks (side right)) }
+    requires sides { CanBalance left.value (root_block middle.value) (side right) }
     requires two_higher { height_of left.value ≡ height_of (side right) + 2 }
-    requires height_fits { height_of left.value + 1 < 2 ^ 64 }
-    ensures tree { IsTree result.value }
-    ensures blocks { blocks result.value ≡ blocks left.value ++ root_block middle.value ∷ blocks (side right) }
-    ensures not_lower { height_of left.value ≤ height_of result.value }
-    ensures at_most_one_higher { height_of result.value ≤ height_of left.value + 1 }
+    requires outer_not_lower { IsLeftNotLower left.value }
+    ensures { Balances left.value (root_block middle.value) (side right) result.value }
 {
-    let higher = &mut *left;
-    let inner = higher.right.take();
-    if height(&higher.left) >= height(&inner) {
-        higher.right = Some(fork(inner, middle, right));
-        let kept = kept_over(&higher.left, &higher.right, &higher.key, higher.node_state);
-        higher.height = kept.height;
-        higher.max_free = kept.room.longest;
-        higher.alignments = kept.room.alignments;
-        return left;
-    }
-    let Some(mut inner) = inner else {
+    let top = &mut *left;
+    let inner = top.right.take();
+    top.right = Some(fork(inner, middle, right));
+    let kept = kept_over(&top.left, &top.right, &top.key, top.node_state);
+    top.height = kept.height;
+    top.max_free = kept.room.longest;
+    top.alignments = kept.room.alignments;
+    left
+}
+
+/// Rotates to the left, and then to the right: the right side of a left side two levels higher goes
+/// to the top.
+#[tactic(auto, using(crate::proofs::Blocks::BlockOrder::rotations))]
+fn rotate_left_right(
+    mut left: Box<InnerNode>,
+    middle: Box<InnerNode>,
+    right: Child,
+) -> Box<InnerNode>
+    requires leaf { IsLeaf middle.value }
+    requires sides { CanBalance left.value (root_block middle.value) (side right) }
+    requires two_higher { height_of left.value ≡ height_of (side right) + 2 }
+    requires inner_higher { ¬ IsLeftNotLower left.value }
+    ensures { Balances left.value (root_block middle.value) (side right) result.value }
+{
+    let lower = &mut *left;
+    let Some(mut inner) = lower.right.take() else {
         unreachable!()
     };
     let top = &mut *inner;
-    higher.right = top.left.take();
-    let kept = kept_over(&higher.left, &higher.right, &higher.key, higher.node_state);
-    higher.height = kept.height;
-    higher.max_free = kept.room.longest;
-    higher.alignments = kept.room.alignments;
+    lower.right = top.left.take();
+    let kept = kept_over(&lower.left, &lower.right, &lower.key, lower.node_state);
+    lower.height = kept.height;
+    lower.max_free = kept.room.longest;
+    lower.alignments = kept.room.alignments;
     let after = top.right.take();
     top.left = Some(left);
     top.right = Some(fork(after, middle, right));
@@ -172,37 +183,49 @@ fn rotate_right(mut left: Box<InnerNode>, middle: Box<InnerNode>, right: Child) 
     inner
 }
 
-/// Rotates to the left, where the right side is two levels higher: the mirror image.
+/// Rotates to the left: a right side two levels higher goes to the top.
 #[tactic(auto, using(crate::proofs::Blocks::BlockOrder::rotations))]
 fn rotate_left(left: Child, middle: Box<InnerNode>, mut right: Box<InnerNode>) -> Box<InnerNode>
     requires leaf { IsLeaf middle.value }
-    requires ordered { IsOrderedFrom 0 (blocks (side left) ++ root_block middle.value ∷ blocks right.value) }
+    requires sides { CanBalance (side left) (root_block middle.value) right.value }
     requires two_higher { height_of right.value ≡ height_of (side left) + 2 }
-    requires height_fits { height_of right.value + 1 < 2 ^ 64 }
-    ensures tree { IsTree result.value }
-    ensures blocks { blocks result.value ≡ blocks (side left) ++ root_block middle.value ∷ blocks right.value }
-    ensures not_lower { height_of right.value ≤ height_of result.value }
-    ensures at_most_one_higher { height_of result.value ≤ height_of right.value + 1 }
+    requires outer_not_lower { IsRightNotLower right.value }
+    ensures { Balances (side left) (root_block middle.value) right.value result.value }
 {
-    let higher = &mut *right;
-    let inner = higher.left.take();
-    if height(&higher.right) >= height(&inner) {
-        higher.left = Some(fork(left, middle, inner));
-        let kept = kept_over(&higher.left, &higher.right, &higher.key, higher.node_state);
-        higher.height = kept.height;
-        higher.max_free = kept.room.longest;
-        higher.alignments = kept.room.alignments;
-        return right;
-    }
-    let Some(mut inner) = inner else {
+    let top = &mut *right;
+    let inner = top.left.take();
+    top.left = Some(fork(left, middle, inner));
+    let kept = kept_over(&top.left, &top.right, &top.key, top.node_state);
+    top.height = kept.height;
+    top.max_free = kept.room.longest;
+    top.alignments = kept.room.alignments;
+    right
+}
+
+/// Rotates to the right, and then to the left: the left side of a right side two levels higher goes
+/// to the top.
+#[tactic(auto, using(crate::proofs::Blocks::BlockOrder::rotations))]
+fn rotate_right_left(
+    left: Child,
+    middle: Box<InnerNode>,
+    mut right: Box<InnerNode>,
+) -> Box<InnerNode>
+    requires leaf { IsLeaf middle.value }
+    requires sides { CanBalance (side left) (root_block middle.value) right.value }
+    requires two_higher { height_of right.value ≡ height_of (side left) + 2 }
+    requires inner_higher { ¬ IsRightNotLower right.value }
+    ensures { Balances (side left) (root_block middle.value) right.value result.value }
+{
+    let lower = &mut *right;
+    let Some(mut inner) = lower.left.take() else {
         unreachable!()
     };
     let top = &mut *inner;
-    higher.left = top.right.take();
-    let kept = kept_over(&higher.left, &higher.right, &higher.key, higher.node_state);
-    higher.height = kept.height;
-    higher.max_free = kept.room.longest;
-    higher.alignments = kept.room.alignments;
+    lower.left = top.right.take();
+    let kept = kept_over(&lower.left, &lower.right, &lower.key, lower.node_state);
+    lower.height = kept.height;
+    lower.max_free = kept.room.longest;
+    lower.alignments = kept.room.alignments;
     let before = top.left.take();
     top.right = Some(right);
     top.left = Some(fork(left, middle, before));
@@ -223,11 +246,17 @@ pub(super) fn balance(left: Child, middle: Box<InnerNode>, right: Child) -> Box<
     let right_height = height(&right);
     if left_height > right_height + 1 {
         let Some(left) = left else { unreachable!() };
-        return rotate_right(left, middle, right);
+        if height(&left.left) >= height(&left.right) {
+            return rotate_right(left, middle, right);
+        }
+        return rotate_left_right(left, middle, right);
     }
     if right_height > left_height + 1 {
         let Some(right) = right else { unreachable!() };
-        return rotate_left(left, middle, right);
+        if height(&right.right) >= height(&right.left) {
+            return rotate_left(left, middle, right);
+        }
+        return rotate_right_left(left, middle, right);
     }
     fork(left, middle, right)
 }

@@ -15,7 +15,7 @@ ghost use Rattle.vm_engine.specs.Counts.Ways.{way_to_link, way_here, way_to_carv
 ghost use Rattle.vm_engine.specs.Engine.NodeFields.{side};
 
 use super::balance::settle;
-use super::kept::{Change, kept_of, renew_room, room_of};
+use super::kept::{Change, renew_over};
 use super::link::link_at;
 use super::{Child, InnerNode, known};
 use crate::allocation_engine::ends::order;
@@ -29,19 +29,6 @@ pub(crate) struct Rest {
     pub(crate) before: Child,
     /// What starts right after it.
     pub(crate) after: Child,
-}
-
-impl Rest {
-    /// What is left, taken out.
-    #[inline(always)]
-    fn take(&mut self) -> Rest
-        ensures { result ≡ self.old }
-    {
-        Rest {
-            before: self.before.take(),
-            after: self.after.take(),
-        }
-    }
 }
 
 /// Links a leaf, if there is one, below a side.
@@ -77,24 +64,25 @@ pub(crate) struct Cut {
 /// changed there.
 #[tactic(auto, using(crate::proofs::Splitting::CarvedTrees::carvings, crate::proofs::Counts::CarvingWays::ways_to_carve, crate::proofs::Counts::CarvingWays::link_bounds))]
 #[inline(never)]
-fn carve_here(at: &mut Child, range: RangeInclusive, rest: Rest, count: &mut u64) -> Change
+fn carve_here(at: &mut Child, cut: &mut Cut, count: &mut u64) -> Change
     requires some { IsSome at.old }
-    requires leaves { AreLeaves rest }
-    requires carving { CanCarve (blocks (side at.old)) (root_block (side at.old)).key range rest }
+    requires leaves { AreLeaves cut.old.rest }
+    requires carving { CanCarve (blocks (side at.old)) (root_block (side at.old)).key cut.old.range cut.old.rest }
     requires height { height_of (side at.old) < MAX_HEIGHT }
     requires count_fits { count.old + 2 * height_of (side at.old) ≤ MAX + 1 }
     ensures blocks { blocks (side at.new)
-        ≡ with_split (root_block (side at.old)).key range rest (blocks (side at.old)) }
+        ≡ with_split (root_block (side at.old)).key cut.old.range cut.old.rest (blocks (side at.old)) }
     ensures grows { Grows (side at.old) (side at.new) result }
-    ensures count { count.new ≡ count.old + way_here (side rest.before) (side rest.after) (side at.old) }
+    ensures count { count.new
+        ≡ count.old + way_here (side cut.old.rest.before) (side cut.old.rest.after) (side at.old) }
 {
     let Some(tree) = at else { unreachable!() };
     let tree: &mut InnerNode = tree;
     let _ = &tree.height;
-    tree.key = range;
+    tree.key = cut.range;
     tree.node_state = NodeState::Allocated;
-    link_if(&mut tree.left, rest.before, count);
-    link_if(&mut tree.right, rest.after, count);
+    link_if(&mut tree.left, cut.rest.before.take(), count);
+    link_if(&mut tree.right, cut.rest.after.take(), count);
     let settled = settle(
         &mut tree.left,
         &mut tree.right,
@@ -125,16 +113,17 @@ pub(crate) fn carve_at(at: &mut Child, cut: &mut Cut, count: &mut u64) -> Change
     let tree: &mut InnerNode = tree;
     tree.enter(count);
     let change = match order(&tree.key, &cut.key) {
-        Ordering::Equal => return carve_here(at, cut.range, cut.rest.take(), count),
+        Ordering::Equal => return carve_here(at, cut, count),
         Ordering::Greater => carve_at(&mut tree.left, cut, count),
         Ordering::Less => carve_at(&mut tree.right, cut, count),
     };
     match change {
         Change::Nothing => Change::Nothing,
-        Change::RoomAlone => renew_room(
-            kept_of(&tree.left).room,
-            kept_of(&tree.right).room,
-            room_of(&tree.key, tree.node_state),
+        Change::RoomAlone => renew_over(
+            &tree.left,
+            &tree.right,
+            &tree.key,
+            tree.node_state,
             &mut tree.max_free,
             &mut tree.alignments,
         ),

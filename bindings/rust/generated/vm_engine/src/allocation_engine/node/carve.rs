@@ -9,7 +9,7 @@
 //! changed, which takes 3 % off.
 
 use super::balance::settle;
-use super::kept::{Change, kept_of, renew_room, room_of};
+use super::kept::{Change, renew_over};
 use super::link::link_at;
 use super::{Child, InnerNode, known};
 use crate::allocation_engine::ends::order;
@@ -22,17 +22,6 @@ pub(crate) struct Rest {
     pub(crate) before: Child,
     /// What starts right after it.
     pub(crate) after: Child,
-}
-
-impl Rest {
-    /// What is left, taken out.
-    #[inline(always)]
-    fn take(&mut self) -> Rest {
-        Rest {
-            before: self.before.take(),
-            after: self.after.take(),
-        }
-    }
 }
 
 /// Links a leaf, if there is one, below a side.
@@ -57,14 +46,14 @@ pub(crate) struct Cut {
 /// Gives the topmost node a range, which is held, and links what is left beside it; says what
 /// changed there.
 #[inline(never)]
-fn carve_here(at: &mut Child, range: RangeInclusive, rest: Rest, count: &mut u64) -> Change {
+fn carve_here(at: &mut Child, cut: &mut Cut, count: &mut u64) -> Change {
     let Some(tree) = at else { unreachable!() };
     let tree: &mut InnerNode = tree;
     let _ = &tree.height;
-    tree.key = range;
+    tree.key = cut.range;
     tree.node_state = NodeState::Allocated;
-    link_if(&mut tree.left, rest.before, count);
-    link_if(&mut tree.right, rest.after, count);
+    link_if(&mut tree.left, cut.rest.before.take(), count);
+    link_if(&mut tree.right, cut.rest.after.take(), count);
     let settled = settle(
         &mut tree.left,
         &mut tree.right,
@@ -84,16 +73,17 @@ pub(crate) fn carve_at(at: &mut Child, cut: &mut Cut, count: &mut u64) -> Change
     let tree: &mut InnerNode = tree;
     tree.enter(count);
     let change = match order(&tree.key, &cut.key) {
-        Ordering::Equal => return carve_here(at, cut.range, cut.rest.take(), count),
+        Ordering::Equal => return carve_here(at, cut, count),
         Ordering::Greater => carve_at(&mut tree.left, cut, count),
         Ordering::Less => carve_at(&mut tree.right, cut, count),
     };
     match change {
         Change::Nothing => Change::Nothing,
-        Change::RoomAlone => renew_room(
-            kept_of(&tree.left).room,
-            kept_of(&tree.right).room,
-            room_of(&tree.key, tree.node_state),
+        Change::RoomAlone => renew_over(
+            &tree.left,
+            &tree.right,
+            &tree.key,
+            tree.node_state,
             &mut tree.max_free,
             &mut tree.alignments,
         ),

@@ -150,6 +150,26 @@ pub(super) fn renew_room(
     }
 }
 
+/// Brings up to date what a node over these children keeps of its tree's room; says what changed of
+/// it.
+#[inline(always)]
+pub(super) fn renew_over(
+    left: &Child,
+    right: &Child,
+    key: &RangeInclusive,
+    node_state: NodeState,
+    kept_longest: &mut u64,
+    kept_alignments: &mut u8,
+) -> Change {
+    renew_room(
+        kept_of(left).room,
+        kept_of(right).room,
+        room_of(key, node_state),
+        kept_longest,
+        kept_alignments,
+    )
+}
+
 /// Raises what a node keeps of its tree's room to that of a block which becomes free below.
 #[inline(always)]
 pub(super) fn raise_room(max_free: &mut u64, alignments: &mut u8, freed: &Room) {

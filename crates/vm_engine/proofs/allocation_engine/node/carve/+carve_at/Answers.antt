@@ -1,12 +1,15 @@
-use Rattle.std.proofs.Common.{arith, refl, ◌≡◌, rules}
+use Rattle.std.proofs.Common.{◌≡◌, ◌∙◌, sym, arith, refl, rules}
 use Rattle.std.proofs.lemmas.Grind.{common_steps}
-use Rattle.vm_engine.proofs.Nodes.SettledNodes.{finished}
-use Rattle.vm_engine.proofs.Splitting.CarvedTrees.{carvings}
+use Rattle.vm_engine.proofs.Nodes.SettledNodes.{finished, settled_node, grown_left, grown_right, kept_left, kept_right, kept_grows, renewed_left, renewed_right}
+use Rattle.vm_engine.proofs.Splitting.CarvedTrees.{ordered_carved_left, ordered_carved_right}
+use Rattle.vm_engine.proofs.Blocks.Replacement.{replace_in_left, replace_in_right}
 use Rattle.vm_engine.proofs.Counts.CarvingWays.{ways_to_carve}
 use Rattle.vm_engine.specs.Tree.Shape.{IsTree}
+use Rattle.vm_engine.specs.Engine.Changes.{Grows}
 use Rattle.vm_engine.specs.Engine.NodeFields.{side, shape_of}
 use Rattle.vm_engine.proofs.Nodes.Rewriting.{known_left, known_right, rewritten_left, rewritten_right}
 use Rattle.vm_engine.proofs.allocation_engine.node.carve.+carve_at.Goals as goal
+use Rattle.vm_engine.proofs.allocation_engine.node.carve.+carve_at.Goals.{in-Greater, in-Less}
 
 pub carve_at-change-requires : goal.carve_at-change-requires
 carve_at-change-requires t c =
@@ -26,7 +29,92 @@ carve_at-change-requires-in-Less t c =
     let ordered = rewritten_right (side c.args.at.now) (side i.left) _ (side i.right) c.args.cut.now.key _ e c.in-Less.ensures tree c.requires.carving.ordered in
     (search rules, (c.requires.leaves, (record { known = known; ordered = ordered }, (grind arith, grind arith))))
 
+pub invariant_of-tree : goal.invariant_of-tree
+invariant_of-tree t c =
+    elim c.match-order.branch [
+      | in-Greater w ↦
+          let l = w.carve_at-change in
+          let same = rw (sym w.change-is ∙ c.in-Nothing.is) at l.ensures.grows.keeps in
+          rw w.tree-inside-is (kept_left c.tree.inside l.new.at c.tree.invariant (grind (arith, common_steps, ordered_carved_left)) l.ensures.grows.tree same).0
+      | in-Less w ↦
+          let r = w.carve_at-change-in-Less in
+          let same = rw (sym w.change-is ∙ c.in-Nothing.is) at r.ensures.grows.keeps in
+          rw w.tree-inside-is (kept_right c.tree.inside r.new.at c.tree.invariant (grind (arith, common_steps, ordered_carved_right)) r.ensures.grows.tree same).0
+    ]
+
+pub invariant_of-tree-in-RoomAlone : goal.invariant_of-tree-in-RoomAlone
+invariant_of-tree-in-RoomAlone t c =
+    elim c.match-order.branch [
+      | in-Greater w ↦
+          let l = w.carve_at-change in
+          let grew = rw (sym w.change-is ∙ c.in-RoomAlone.is) at l.ensures.grows in
+          rw w.tree-inside-is (renewed_left c.tree.inside l.new.at c.renew_over.result c.renew_over.new.kept_longest c.renew_over.new.kept_alignments c.tree.invariant (grind (arith, common_steps, ordered_carved_left)) grew (rw w.tree-inside-is at c.renew_over.ensures.longest) (rw w.tree-inside-is at c.renew_over.ensures.alignments) (rw w.tree-inside-is at c.renew_over.ensures.same_longest) (rw w.tree-inside-is at c.renew_over.ensures.same_alignments)).0
+      | in-Less w ↦
+          let r = w.carve_at-change-in-Less in
+          let grew = rw (sym w.change-is ∙ c.in-RoomAlone.is) at r.ensures.grows in
+          rw w.tree-inside-is (renewed_right c.tree.inside r.new.at c.renew_over.result c.renew_over.new.kept_longest c.renew_over.new.kept_alignments c.tree.invariant (grind (arith, common_steps, ordered_carved_right)) grew (rw w.tree-inside-is at c.renew_over.ensures.longest) (rw w.tree-inside-is at c.renew_over.ensures.alignments) (rw w.tree-inside-is at c.renew_over.ensures.same_longest) (rw w.tree-inside-is at c.renew_over.ensures.same_alignments)).0
+    ]
+
+pub invariant_of-tree-in-Height : goal.invariant_of-tree-in-Height
+invariant_of-tree-in-Height t c =
+    settled_node c.match-order.tree-inside c.settle-settled.result _ (grind (arith, common_steps, ordered_carved_left, ordered_carved_right)) c.settle-settled.ensures.left c.settle-settled.ensures.right c.settle-settled.ensures.settled
+
+pub returns-in-Nothing-clause-blocks : goal.returns-in-Nothing-clause-blocks
+returns-in-Nothing-clause-blocks t c = grind (arith, common_steps, replace_in_left, replace_in_right)
+
+pub returns-in-Nothing-clause-grows : goal.returns-in-Nothing-clause-grows
+returns-in-Nothing-clause-grows t c =
+    let e : side c.args.at.now ≡ shape_of c.tree.inside = cc in
+    rw e (elim c.match-order.branch [
+      | in-Greater w ↦
+          let l = w.carve_at-change in
+          let same = rw (sym w.change-is ∙ c.in-Nothing.is) at l.ensures.grows.keeps in
+          let k = kept_left c.tree.inside l.new.at c.tree.invariant (grind (arith, common_steps, ordered_carved_left)) l.ensures.grows.tree same in
+          rw w.tree-inside-is (kept_grows _ _ k.0.tree k.1)
+      | in-Less w ↦
+          let r = w.carve_at-change-in-Less in
+          let same = rw (sym w.change-is ∙ c.in-Nothing.is) at r.ensures.grows.keeps in
+          let k = kept_right c.tree.inside r.new.at c.tree.invariant (grind (arith, common_steps, ordered_carved_right)) r.ensures.grows.tree same in
+          rw w.tree-inside-is (kept_grows _ _ k.0.tree k.1)
+    ])
+
+pub returns-in-Nothing-clause-count : goal.returns-in-Nothing-clause-count
+returns-in-Nothing-clause-count t c = grind (arith, common_steps, ways_to_carve)
+
+pub returns-in-RoomAlone-clause-blocks : goal.returns-in-RoomAlone-clause-blocks
+returns-in-RoomAlone-clause-blocks t c = grind (arith, common_steps, replace_in_left, replace_in_right)
+
+pub returns-in-RoomAlone-clause-grows : goal.returns-in-RoomAlone-clause-grows
+returns-in-RoomAlone-clause-grows t c =
+    let e : side c.args.at.now ≡ shape_of c.tree.inside = cc in
+    rw e (elim c.match-order.branch [
+      | in-Greater w ↦
+          let l = w.carve_at-change in
+          let grew = rw (sym w.change-is ∙ c.in-RoomAlone.is) at l.ensures.grows in
+          rw w.tree-inside-is (renewed_left c.tree.inside l.new.at c.renew_over.result c.renew_over.new.kept_longest c.renew_over.new.kept_alignments c.tree.invariant (grind (arith, common_steps, ordered_carved_left)) grew (rw w.tree-inside-is at c.renew_over.ensures.longest) (rw w.tree-inside-is at c.renew_over.ensures.alignments) (rw w.tree-inside-is at c.renew_over.ensures.same_longest) (rw w.tree-inside-is at c.renew_over.ensures.same_alignments)).1
+      | in-Less w ↦
+          let r = w.carve_at-change-in-Less in
+          let grew = rw (sym w.change-is ∙ c.in-RoomAlone.is) at r.ensures.grows in
+          rw w.tree-inside-is (renewed_right c.tree.inside r.new.at c.renew_over.result c.renew_over.new.kept_longest c.renew_over.new.kept_alignments c.tree.invariant (grind (arith, common_steps, ordered_carved_right)) grew (rw w.tree-inside-is at c.renew_over.ensures.longest) (rw w.tree-inside-is at c.renew_over.ensures.alignments) (rw w.tree-inside-is at c.renew_over.ensures.same_longest) (rw w.tree-inside-is at c.renew_over.ensures.same_alignments)).1
+    ])
+
+pub returns-in-RoomAlone-clause-count : goal.returns-in-RoomAlone-clause-count
+returns-in-RoomAlone-clause-count t c = grind (arith, common_steps, ways_to_carve)
+
 pub returns-in-Height : goal.returns-in-Height
 returns-in-Height t c =
-    let f = finished _ _ c.settle-settled.result _ _ c.finish.new.at c.finish.result (grind (arith, common_steps, carvings, ways_to_carve)) c.settle-settled.ensures.left c.settle-settled.ensures.right c.settle-settled.ensures.settled refl c.finish.ensures in
-    grind (arith, common_steps, carvings, ways_to_carve)
+    let f = finished _ _ c.settle-settled.result _ _ c.finish.new.at c.finish.result (grind (arith, common_steps, ordered_carved_left, ordered_carved_right)) c.settle-settled.ensures.left c.settle-settled.ensures.right c.settle-settled.ensures.settled refl c.finish.ensures in
+    let e : side c.args.at.now ≡ shape_of c.tree.inside = cc in
+    let grows : Grows (side c.args.at.now) (side c.finish.new.at) c.finish.result = rw e (elim c.match-order.branch [
+      | in-Greater w ↦
+          let l = w.carve_at-change in
+          grown_left c.tree.inside l.new.at l.result _ _ c.tree.invariant l.ensures.grows (rw w.tree-inside-is at f)
+      | in-Less w ↦
+          let r = w.carve_at-change-in-Less in
+          grown_right c.tree.inside r.new.at r.result _ _ c.tree.invariant r.ensures.grows (rw w.tree-inside-is at f)
+    ]) in
+    record {
+      blocks = grind (arith, common_steps, replace_in_left, replace_in_right);
+      grows = grows;
+      count = grind (arith, common_steps, ways_to_carve);
+    }

@@ -1,11 +1,10 @@
-use Rattle.std.proofs.Common.{arith, refl, ◌≡◌, rules}
+use Rattle.std.proofs.Common.{◌≡◌, ◌∙◌, sym, arith, refl, rules}
 use Rattle.std.proofs.lemmas.Grind.{common_steps}
 use Rattle.vm_engine.specs.Engine.NodeFields.{side, shape_of}
-use Rattle.vm_engine.proofs.Blocks.BlockOrder.{links, clear_in_left, clear_in_right}
-use Rattle.vm_engine.proofs.Nodes.SideChange.{places}
-use Rattle.vm_engine.proofs.Counts.WayCases.{ways_down}
-use Rattle.vm_engine.proofs.Nodes.SettledNodes.{finished}
+use Rattle.vm_engine.proofs.Blocks.BlockOrder.{clear_in_left, clear_in_right, link_in_left, link_in_right, link_in_left_blocks, link_in_right_blocks}
+use Rattle.vm_engine.proofs.Nodes.SettledNodes.{finished, settled_node, grown_left, grown_right, kept_left, kept_right}
 use Rattle.vm_engine.proofs.allocation_engine.node.link.+link_at.Goals as goal
+use Rattle.vm_engine.proofs.allocation_engine.node.link.+link_at.Goals.{then-starts_before, else-starts_before}
 
 pub link_at-change-requires : goal.link_at-change-requires
 link_at-change-requires t c =
@@ -17,7 +16,37 @@ link_at-change-requires-else-starts_before t c =
     let e : side c.args.at.now ≡ shape_of c.tree.inside = cc in
     (search rules, (c.requires.leaf, (clear_in_right _ _ _ _ _ e c.requires.clear, (grind arith, grind arith))))
 
-pub returns : goal.returns
-returns t c =
-    let f = finished _ _ c.settle-settled.result _ _ c.finish.new.at c.finish.result (grind (arith, common_steps, links)) c.settle-settled.ensures.left c.settle-settled.ensures.right c.settle-settled.ensures.settled refl c.finish.ensures in
-    grind (arith, common_steps, links, places, ways_down)
+pub invariant_of-tree : goal.invariant_of-tree
+invariant_of-tree t c =
+    elim c.if-starts_before.branch [
+      | then-starts_before w ↦
+          let l = w.link_at-change in
+          let same = rw (sym w.change-is ∙ c.in-Nothing.is) at l.ensures.grows.keeps in
+          rw w.tree-inside-is (kept_left c.tree.inside l.new.at c.tree.invariant (grind (arith, common_steps, link_in_left)) l.ensures.grows.tree same).0
+      | else-starts_before w ↦
+          let r = w.link_at-change-else-starts_before in
+          let same = rw (sym w.change-is ∙ c.in-Nothing.is) at r.ensures.grows.keeps in
+          rw w.tree-inside-is (kept_right c.tree.inside r.new.at c.tree.invariant (grind (arith, common_steps, link_in_right)) r.ensures.grows.tree same).0
+    ]
+
+pub invariant_of-tree-2 : goal.invariant_of-tree-2
+invariant_of-tree-2 t c =
+    settled_node c.if-starts_before.tree-inside c.settle-settled.result _ (grind (arith, common_steps, link_in_left, link_in_right)) c.settle-settled.ensures.left c.settle-settled.ensures.right c.settle-settled.ensures.settled
+
+pub returns-clause-blocks : goal.returns-clause-blocks
+returns-clause-blocks t c =
+    let f = finished _ _ c.settle-settled.result _ _ c.finish.new.at c.finish.result (grind (arith, common_steps, link_in_left, link_in_right)) c.settle-settled.ensures.left c.settle-settled.ensures.right c.settle-settled.ensures.settled refl c.finish.ensures in
+    grind (arith, common_steps, link_in_left_blocks, link_in_right_blocks)
+
+pub returns-clause-grows : goal.returns-clause-grows
+returns-clause-grows t c =
+    let f = finished _ _ c.settle-settled.result _ _ c.finish.new.at c.finish.result (grind (arith, common_steps, link_in_left, link_in_right)) c.settle-settled.ensures.left c.settle-settled.ensures.right c.settle-settled.ensures.settled refl c.finish.ensures in
+    let e : side c.args.at.now ≡ shape_of c.tree.inside = cc in
+    rw e (elim c.if-starts_before.branch [
+      | then-starts_before w ↦
+          let l = w.link_at-change in
+          grown_left c.tree.inside l.new.at l.result _ _ c.tree.invariant l.ensures.grows (rw w.tree-inside-is at f)
+      | else-starts_before w ↦
+          let r = w.link_at-change-else-starts_before in
+          grown_right c.tree.inside r.new.at r.result _ _ c.tree.invariant r.ensures.grows (rw w.tree-inside-is at f)
+    ])

@@ -1,12 +1,28 @@
-use Rattle.std.proofs.Common.{◌≡◌, ◌∙◌, arith, refl}
+use Rattle.std.proofs.Common.{◌≡◌, ◌∙◌, sym, arith, refl}
 use Rattle.std.proofs.lemmas.Grind.{common_steps}
 use Rattle.vm_engine.specs.Engine.NodeFields.{side, shape_of}
 use Rattle.vm_engine.specs.Tree.Shape.{IsTree}
-use Rattle.vm_engine.proofs.Blocks.Replacement.{changes_in_left, changes_in_right, removals}
-use Rattle.vm_engine.proofs.Nodes.SideChange.{takes}
-use Rattle.vm_engine.proofs.Nodes.SettledNodes.{finished}
+use Rattle.vm_engine.proofs.Blocks.Replacement.{changes_in_left, changes_in_right, removed_in_left, removed_in_right, replace_in_left, replace_in_right}
+use Rattle.vm_engine.proofs.Nodes.SettledNodes.{finished, settled_node, shrunk_left, shrunk_right, kept_left, kept_right}
 use Rattle.vm_engine.proofs.allocation_engine.node.remove.+delete_at.Goals as goal
 use Rattle.vm_engine.proofs.allocation_engine.node.remove.+delete_at.Goals.{in-Greater, in-Less}
+
+pub invariant_of-tree : goal.invariant_of-tree
+invariant_of-tree t c =
+    elim c.match-order.branch [
+      | in-Greater w ↦
+          let l = w.delete_at-change in
+          let same = rw (sym w.change-is ∙ c.in-Nothing.is) at l.ensures.shrinks.keeps in
+          rw w.tree-inside-is (kept_left c.tree.inside l.new.at c.tree.invariant (grind (arith, common_steps, removed_in_left)) l.ensures.shrinks.tree same).0
+      | in-Less w ↦
+          let r = w.delete_at-change-in-Less in
+          let same = rw (sym w.change-is ∙ c.in-Nothing.is) at r.ensures.shrinks.keeps in
+          rw w.tree-inside-is (kept_right c.tree.inside r.new.at c.tree.invariant (grind (arith, common_steps, removed_in_right)) r.ensures.shrinks.tree same).0
+    ]
+
+pub invariant_of-tree-2 : goal.invariant_of-tree-2
+invariant_of-tree-2 t c =
+    settled_node c.match-order.tree-inside c.settle-settled.result _ (grind (arith, common_steps, removed_in_left, removed_in_right)) c.settle-settled.ensures.left c.settle-settled.ensures.right c.settle-settled.ensures.settled
 
 pub returns-clause-absent : goal.returns-clause-absent
 returns-clause-absent t c =
@@ -21,10 +37,18 @@ returns-clause-absent t c =
 
 pub returns-clause-blocks : goal.returns-clause-blocks
 returns-clause-blocks t c =
-    let f = finished _ _ c.settle-settled.result _ _ c.finish.new.at c.finish.result (grind (arith, common_steps, removals, takes)) c.settle-settled.ensures.left c.settle-settled.ensures.right c.settle-settled.ensures.settled refl c.finish.ensures in
-    grind (arith, common_steps, removals, takes)
+    let f = finished _ _ c.settle-settled.result _ _ c.finish.new.at c.finish.result (grind (arith, common_steps, removed_in_left, removed_in_right)) c.settle-settled.ensures.left c.settle-settled.ensures.right c.settle-settled.ensures.settled refl c.finish.ensures in
+    grind (arith, common_steps, replace_in_left, replace_in_right)
 
 pub returns-clause-shrinks : goal.returns-clause-shrinks
 returns-clause-shrinks t c =
-    let f = finished _ _ c.settle-settled.result _ _ c.finish.new.at c.finish.result (grind (arith, common_steps, removals, takes)) c.settle-settled.ensures.left c.settle-settled.ensures.right c.settle-settled.ensures.settled refl c.finish.ensures in
-    grind (arith, common_steps, removals, takes)
+    let f = finished _ _ c.settle-settled.result _ _ c.finish.new.at c.finish.result (grind (arith, common_steps, removed_in_left, removed_in_right)) c.settle-settled.ensures.left c.settle-settled.ensures.right c.settle-settled.ensures.settled refl c.finish.ensures in
+    let e : side c.args.at.now ≡ shape_of c.tree.inside = cc in
+    rw e (elim c.match-order.branch [
+      | in-Greater w ↦
+          let l = w.delete_at-change in
+          shrunk_left c.tree.inside l.new.at l.result _ _ c.tree.invariant l.ensures.shrinks (rw w.tree-inside-is at f)
+      | in-Less w ↦
+          let r = w.delete_at-change-in-Less in
+          shrunk_right c.tree.inside r.new.at r.result _ _ c.tree.invariant r.ensures.shrinks (rw w.tree-inside-is at f)
+    ])

@@ -1,12 +1,33 @@
-use Rattle.std.proofs.Common.{arith, refl}
+use Rattle.std.proofs.Common.{◌≡◌, arith, refl}
 use Rattle.std.proofs.lemmas.Grind.{common_steps}
-use Rattle.vm_engine.proofs.Nodes.SettledNodes.{finished}
-use Rattle.vm_engine.proofs.Blocks.Replacement.{leasts}
+use Rattle.vm_engine.specs.Engine.Changes.{Shrinks}
+use Rattle.vm_engine.specs.Engine.NodeFields.{side, shape_of}
+use Rattle.vm_engine.proofs.Nodes.SettledNodes.{own_of, open_of, finished, settled_node, shrunk_left, kept_left}
 use Rattle.vm_engine.proofs.Nodes.SideChange.{takes}
+use Rattle.vm_engine.proofs.Blocks.Replacement.{leasts}
 use Rattle.vm_engine.proofs.Counts.WayCases.{ways_to_first}
 use Rattle.vm_engine.proofs.allocation_engine.node.remove.+take_least_at.Goals as goal
 
+pub invariant_of-tree : goal.invariant_of-tree
+invariant_of-tree t c =
+    let l = c.take_least_at-least in
+    let same = rw c.in-Nothing.is at l.ensures.shrinks.keeps in
+    (kept_left c.tree.inside l.new.at c.tree.invariant (grind (arith, common_steps, takes)) l.ensures.shrinks.tree same).0
+
+pub invariant_of-tree-2 : goal.invariant_of-tree-2
+invariant_of-tree-2 t c =
+    settled_node (record c.tree.inside { left = c.take_least_at-least.new.at }) c.settle-settled.result _ (grind (arith, common_steps, takes)) c.settle-settled.ensures.left c.settle-settled.ensures.right c.settle-settled.ensures.settled
+
 pub returns : goal.returns
 returns t c =
-    let f = finished _ _ c.settle-settled.result _ _ c.finish.new.at c.finish.result (grind (arith, common_steps, leasts, takes, ways_to_first)) c.settle-settled.ensures.left c.settle-settled.ensures.right c.settle-settled.ensures.settled refl c.finish.ensures in
-    grind (arith, common_steps, leasts, takes, ways_to_first)
+    let l = c.take_least_at-least in
+    let f = finished (own_of c.tree.inside) (open_of (record c.tree.inside { left = l.new.at })) c.settle-settled.result _ _ c.finish.new.at c.finish.result (grind (arith, common_steps, takes)) c.settle-settled.ensures.left c.settle-settled.ensures.right c.settle-settled.ensures.settled refl c.finish.ensures in
+    let e : side c.args.at.now ≡ shape_of c.tree.inside = cc in
+    let shrinks : Shrinks (side c.args.at.now) (side c.finish.new.at) c.finish.result =
+    rw e (shrunk_left c.tree.inside l.new.at l.result.1 _ _ c.tree.invariant l.ensures.shrinks f) in
+    record {
+      blocks = grind (arith, common_steps, leasts);
+      leaf = l.ensures.leaf;
+      shrinks = shrinks;
+      count = grind (arith, common_steps, ways_to_first);
+    }
