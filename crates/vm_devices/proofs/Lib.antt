@@ -15,4 +15,5 @@ pub mod Apart
 pub mod RisingIds
 pub mod ManagerFields
 pub mod AsMany
+pub mod PairedLists
 pub mod SavedManagers

@@ -16,7 +16,7 @@ use Rattle.vm_ranges.specs.declared.saved.ValueError.{ValueError}
 use Rattle.vm_ranges.specs.declared.saved.ValueError.TheVariants.{NotAState, OutOfMemory}
 use Rattle.vm_devices.specs.Devices.{DeviceState}
 use Rattle.vm_devices.specs.Saved.{StatesDevice, StatesList, StatesManager, ReadsInParts}
-use Rattle.vm_devices.specs.SavedChecks.{rising_devices, FindsDevices, manager_found}
+use Rattle.vm_devices.specs.SavedChecks.{rising_devices, manager_found}
 use Rattle.vm_devices.proofs.SavedDevices.{states-rising}
 
 -- the value states no manager
@@ -94,9 +94,6 @@ module _ {d : Data} (f : FieldsOf d) where
   no_space : ¬ ((a : AddressState) × StatesAddresses f.space a) → StatesNone d
   no_space none h = none (h.0.space, its_space h.0 h.1)
 
-  no_slots : rising_devices 0 f.slots ≡ None → StatesNone d
-  no_slots none h = let e : None ≡ Some h.1.listed = sym none ∙ its_slots h.0 h.1 in absurd (cc (e))
-
   -- ---- a refused part refuses the whole
   pub ids_refused : (e : ValueError) → Reads {X = IdState} (StatesIds f.ids) (Err e) → ReadsInParts (StatesManager d) (Err e)
   ids_refused NotAState r = no_ids r
@@ -105,10 +102,6 @@ module _ {d : Data} (f : FieldsOf d) where
   pub space_refused : (e : ValueError) → Reads {X = AddressState} (StatesAddresses f.space) (Err e) → ReadsInParts (StatesManager d) (Err e)
   space_refused NotAState r = no_space r
   space_refused OutOfMemory r = tt
-
-  pub slots_refused : (e : ValueError) → FindsDevices f.slots (Err e) → ReadsInParts (StatesManager d) (Err e)
-  slots_refused NotAState r = no_slots r
-  slots_refused OutOfMemory r = tt
 
 pub no_fields : (d : Data) → manager_found d ≡ None → StatesNone d
 no_fields d none h =

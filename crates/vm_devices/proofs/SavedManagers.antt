@@ -1,5 +1,5 @@
 -- A manager's value: what is found of it is what it states, what is read is that, and what is written states it.
-use Rattle.std.proofs.Common.{◌≡◌, ℕ, ◌==◌, List, Some, Result, Ok, Err, inl, inr, ◌⊎◌, option_and_then, codes, refl, sym, ap, ◌∙◌, subst}
+use Rattle.std.proofs.Common.{◌≡◌, ℕ, ◌==◌, List, Some, Result, Ok, Err, inl, inr, ◌⊎◌, option_and_then, codes, refl, sym, ap, ◌∙◌}
 use Rattle.std.proofs.lemmas.Bool.{eqb-true}
 use Rattle.std.proofs.lemmas.Option.{same_Some}
 use Rattle.std.specs.BTreeMap.{BTreeMap}
@@ -7,7 +7,6 @@ use Rattle.std.specs.List.Sorted.{IsStrictlySortedBy}
 use Rattle.std.specs.Map.{keys_of}
 use Rattle.std.specs.Ordering.{nat_cmp}
 use Rattle.std.specs.FinMap as map
-use Rattle.std.specs.FinSet as set
 use Rattle.serde_json.specs.Data.{Data, Items}
 use Rattle.serde_json.specs.Find.{get, as_array}
 use Rattle.vm_ranges.proofs.Lists.{list_stated}
@@ -26,11 +25,11 @@ use Rattle.vm_allocator.proofs.Callers.{ids_again, ids_stated, addresses_again, 
 use Rattle.vm_devices.specs.Devices.{DeviceState, IsDeviceState, devices_of}
 use Rattle.vm_devices.specs.Saved.{StatesDevice, StatesList, StatesManager, ReadsInParts}
 use Rattle.vm_devices.specs.Laws.{ManagerIsReadAgain}
-use Rattle.vm_devices.specs.SavedChecks.{rising_devices, AreAsMany, AreHeldApart, AreAllHeld, ManagerParts}
+use Rattle.vm_devices.specs.SavedChecks.{AreAllHeld, FindsPaired, ManagerParts}
 use Rattle.vm_devices.proofs.AllHeld.{pairs_all, all_paired}
-use Rattle.vm_devices.proofs.SavedDevices.{rising-states, rising-length}
+use Rattle.vm_devices.proofs.SavedDevices.{rising-states}
 use Rattle.vm_devices.proofs.RisingIds.{rising_sorted}
-use Rattle.vm_devices.proofs.ManagerFields.{StatesNone, parts_of, fields_found, ReadOf, its_ids, its_space, its_slots}
+use Rattle.vm_devices.proofs.ManagerFields.{parts_of, fields_found, ReadOf, its_ids, its_space, its_slots}
 
 -- ---- what is read of both allocators
 module _ {d : Data} (r : ReadOf d) where
@@ -43,64 +42,51 @@ module _ {d : Data} (r : ReadOf d) where
       let all = all_paired state s.listed s.devices s.rising (addresses_stated f.space state.space (its_space f state s)) s.pairs in
       rw (← same_ids, ← same_space) all
 
-  pub not_as_many : ¬ AreAsMany r.ids r.space r.fields.slots → StatesNone d
-  not_as_many none h =
-      let all = all_its_own h.0 h.1 in
-      let long = rising-length 0 r.fields.slots h.1.listed (its_slots r.fields h.0 h.1) in
-      none (record { ids_counted = sym long ∙ all.ids_counted; ranges_counted = sym long ∙ all.ranges_counted })
+  -- a refused list refuses the whole
+  pub devices_refused : (e : ValueError) → FindsPaired r.ids r.space r.fields.slots (Err e) → ReadsInParts (StatesManager d) (Err e)
+  devices_refused NotAState none = λ h. none (h.1.listed, its_slots r.fields h.0 h.1, all_its_own h.0 h.1)
+  devices_refused OutOfMemory found = tt
 
-  -- and of the list of devices
-  module _ (table : BTreeMap ℕ Range) (rise : rising_devices 0 r.fields.slots ≡ Some table.entries) where
-    pub not_paired : ¬ AreHeldApart r.ids r.space set.empty table.entries → StatesNone d
-    not_paired none h =
-        let same : h.1.listed ≡ table.entries = same_Some h.1.listed table.entries (sym (its_slots r.fields h.0 h.1) ∙ rise) in
-        none (subst (AreHeldApart r.ids r.space set.empty) same (all_its_own h.0 h.1).apart)
-
+  -- what is read is stated: devices that pair the held ids with the held ranges
+  module _ (table : BTreeMap ℕ Range) (paired : FindsPaired r.ids r.space r.fields.slots (Ok table)) where
     rising : IsStrictlySortedBy nat_cmp (keys_of table.entries)
-    rising = rising_sorted r.fields.slots table.entries rise
+    rising = rising_sorted r.fields.slots table.entries paired.0
 
-    -- what is read is stated: as many devices as held ids and as held ranges, each with its own
-    module _ (many : AreAsMany r.ids r.space r.fields.slots) (apart : AreHeldApart r.ids r.space set.empty table.entries) where
-      all_held : AreAllHeld r.ids r.space table.entries
-      all_held =
-          let long = rising-length 0 r.fields.slots table.entries rise in
-          record { ids_counted = long ∙ many.ids_counted; ranges_counted = long ∙ many.ranges_counted; apart = apart }
+    pub read_state : IsDeviceState (devices_of r.ids r.space table)
+    read_state =
+        let space = addresses_stated r.fields.space r.space r.space_stated in
+        record {
+          ids = ids_stated r.fields.ids r.ids r.ids_stated;
+          space = space;
+          pairs = pairs_all (devices_of r.ids r.space table) table.entries refl rising space paired.1;
+        }
 
-      pub read_state : IsDeviceState (devices_of r.ids r.space table)
-      read_state =
-          let space = addresses_stated r.fields.space r.space r.space_stated in
-          record {
-            ids = ids_stated r.fields.ids r.ids r.ids_stated;
-            space = space;
-            pairs = pairs_all (devices_of r.ids r.space table) table.entries refl rising space all_held;
-          }
-
-      pub manager_read : StatesManager d (devices_of r.ids r.space table)
-      manager_read =
-          let f = r.fields in
-          let found : Data × Data × Items = (f.ids, f.space, f.slots) in
-          let four = if_some (is_count 4 (field_count d)) _ found f.found in
-          let version = and_then_some _ (number_in (codes "version") d) found four.1 in
-          let one = if_some (version.0 == 1) _ found version.2 in
-          let x = and_then_some _ (get (codes "id_allocator") d) found one.1 in
-          let y = and_then_some _ (get (codes "mmio_allocator") d) found x.2 in
-          let z = map_some _ (option_and_then as_array (get (codes "slots") d)) found y.2 in
-          let list = and_then_some as_array (get (codes "slots") d) z.0 z.1 in
-          let at_ids : x.0 ≡ f.ids = ap (λ (p : Data × Data × Items). p.0) z.2 in
-          let at_space : y.0 ≡ f.space = ap (λ (p : Data × Data × Items). p.1) z.2 in
-          let at_slots : z.0 ≡ f.slots = ap (λ (p : Data × Data × Items). p.2) z.2 in
-          let devices = list_stated StatesDevice list.0 f.slots table.entries (list.2 ∙ ap Some at_slots) (rising-states 0 f.slots table.entries rise) in
-          record {
-            four_fields = count-true 4 (field_count d) four.0;
-            version = version.1 ∙ ap Some (eqb-true version.0 1 one.0);
-            id_allocator = field_is (codes "id_allocator") d f.ids (λ v. StatesIds v r.ids) (x.1 ∙ ap Some at_ids) r.ids_stated;
-            mmio_allocator = field_is (codes "mmio_allocator") d f.space (λ v. StatesAddresses v r.space) (y.1 ∙ ap Some at_space) r.space_stated;
-            listed = table.entries;
-            slots = field_is (codes "slots") d list.0 (λ v. StatesList v table.entries) list.1 devices;
-            rising = rising;
-            devices = refl;
-            pairs = read_state.pairs;
-          }
+    pub manager_read : StatesManager d (devices_of r.ids r.space table)
+    manager_read =
+        let f = r.fields in
+        let found : Data × Data × Items = (f.ids, f.space, f.slots) in
+        let four = if_some (is_count 4 (field_count d)) _ found f.found in
+        let version = and_then_some _ (number_in (codes "version") d) found four.1 in
+        let one = if_some (version.0 == 1) _ found version.2 in
+        let x = and_then_some _ (get (codes "id_allocator") d) found one.1 in
+        let y = and_then_some _ (get (codes "mmio_allocator") d) found x.2 in
+        let z = map_some _ (option_and_then as_array (get (codes "slots") d)) found y.2 in
+        let list = and_then_some as_array (get (codes "slots") d) z.0 z.1 in
+        let at_ids : x.0 ≡ f.ids = ap (λ (p : Data × Data × Items). p.0) z.2 in
+        let at_space : y.0 ≡ f.space = ap (λ (p : Data × Data × Items). p.1) z.2 in
+        let at_slots : z.0 ≡ f.slots = ap (λ (p : Data × Data × Items). p.2) z.2 in
+        let devices = list_stated StatesDevice list.0 f.slots table.entries (list.2 ∙ ap Some at_slots) (rising-states 0 f.slots table.entries paired.0) in
+        record {
+          four_fields = count-true 4 (field_count d) four.0;
+          version = version.1 ∙ ap Some (eqb-true version.0 1 one.0);
+          id_allocator = field_is (codes "id_allocator") d f.ids (λ v. StatesIds v r.ids) (x.1 ∙ ap Some at_ids) r.ids_stated;
+          mmio_allocator = field_is (codes "mmio_allocator") d f.space (λ v. StatesAddresses v r.space) (y.1 ∙ ap Some at_space) r.space_stated;
+          listed = table.entries;
+          slots = field_is (codes "slots") d list.0 (λ v. StatesList v table.entries) list.1 devices;
+          rising = rising;
+          devices = refl;
+          pairs = read_state.pairs;
+        }
 
 -- ---- one manager
 pub stated_state : (d : Data) (state : DeviceState) → StatesManager d state → IsDeviceState state

@@ -71,6 +71,12 @@ pub record AreAllHeld (ids : IdState) (space : AddressState) (es : List (ℕ × 
   pub ranges_counted : length es ≡ length space.held
   pub apart : AreHeldApart ids space set.empty es
 
+-- what the reader of the list answers: these devices, which pair what is held, or that the list states none that do
+abbrev pub FindsPaired : IdState → AddressState → Items → Result (BTreeMap ℕ Range) ValueError → Type 0
+FindsPaired ids space ds (Ok slots) = (rising_devices 0 ds ≡ Some slots.entries) × AreAllHeld ids space slots.entries
+FindsPaired ids space ds (Err NotAState) = ¬ ((es : List (ℕ × Range)) × (rising_devices 0 ds ≡ Some es) × AreAllHeld ids space es)
+FindsPaired ids space ds (Err OutOfMemory) = Unit {0}
+
 -- a device's two fields, and no other
 pub record DeviceParts (d : Data) (id : ℕ) (range : Data) : Type 0 where
   pub two_fields : field_count d ≡ Some 2

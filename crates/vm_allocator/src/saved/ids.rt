@@ -81,7 +81,8 @@ fn save_parts(
 ) -> std::result::Result<Value, AllocError>
     ensures { IfOk result (λ value. IdParts (view value) base (view next) end (view freed)) }
 {
-    json!(in alloc; {"range_base": base, "next_id": next, "range_end": end, "freed_ids": freed})
+    // The numbers come last: so a refusal has less to drop.
+    json!(in alloc; {"next_id": next, "freed_ids": freed, "range_base": base, "range_end": end})
 }
 
 /// The fields of an id allocator's value; all of them are checked.

@@ -1,5 +1,5 @@
 -- What a node keeps, where it is told what changed of it.
-use Rattle.std.proofs.Common.{◌≡◌, ℕ, ◌∷◌, ◌++◌, Option, None, max, refl, ap, arith}
+use Rattle.std.proofs.Common.{◌≡◌, ℕ, ◌∷◌, ◌++◌, Option, max, refl, ap, arith}
 use Rattle.std.proofs.lemmas.Grind.{common_steps}
 use Rattle.std.specs.Global.{Box}
 use Rattle.vm_ranges.specs.Block.{Block, free_length}

@@ -4,7 +4,7 @@ use Rattle.vm_ranges.specs.RangeOrder.{Before}
 use Rattle.vm_ranges.specs.Range.{Range}
 use Rattle.vm_ranges.specs.Block.{Block}
 use Rattle.vm_engine.specs.Tree.BlockList.{IsOrderedFrom, IsClearOf, insert_block, insert_all, AreClearOf, replace_block}
-use Rattle.vm_engine.specs.Tree.Shape.{Shape, Fork, blocks, height_of, single, root_block, IsTree}
+use Rattle.vm_engine.specs.Tree.Shape.{Shape, Fork, blocks, single, root_block, IsTree}
 use Rattle.vm_engine.proofs.Blocks.BlockOrder.{ordered_drop, ordered_below, ordered_above}
 use Rattle.vm_engine.proofs.Nodes.Rewriting.{known_left, known_right, rewritten_left, rewritten_right}
 use Rattle.vm_engine.proofs.Blocks.Replacement.{replace_in_left, replace_in_right, replace_in_middle}

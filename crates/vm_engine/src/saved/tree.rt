@@ -22,7 +22,7 @@ impl IntervalTree {
     pub fn to_root_value(&self, alloc: Global) -> Result<Value>
         ensures { Saves (λ d. StatesSpaceTree d (space_of (blocks self.now)) self.now) result }
     {
-        save(self.root(), alloc)
+        save(&self.root, alloc)
     }
 
     /// The tree of the space that a value states, of the same nodes. `NotAState` where it states none,

@@ -1,18 +1,39 @@
-//! Whether devices pair the held ids with the held ranges.
+//! The devices that a list states, where they pair the held ids with the held ranges.
 ghost use Rattle.std.specs.Prelude.{IfOk};
 ghost use Rattle.std.specs.FinSet as set;
 ghost use Rattle.serde_json.specs.View.{items_view};
 ghost use Rattle.vm_allocator.specs.Allocator.{state_of};
 ghost use Rattle.vm_ranges.specs.Cases.{Tells};
-ghost use Rattle.vm_devices.specs.SavedChecks.{AreAsMany, AreHeldApart};
+ghost use Rattle.vm_devices.specs.SavedChecks.{AreAsMany, AreHeldApart, FindsPaired};
 
+use super::slots::read_slots;
 use serde_json::Value;
 use std::alloc::{AllocError, Global};
 use std::collections::{BTreeMap, BTreeSet};
-use vm_allocator::{AddressAllocator, IdAllocator, RangeInclusive};
+use vm_allocator::{AddressAllocator, IdAllocator, RangeInclusive, ValueError};
+
+/// The table of the devices that a list states, where they pair the held ids with the held ranges.
+pub(super) fn read_devices(
+    alloc: Global,
+    ids: &IdAllocator,
+    space: &AddressAllocator,
+    list: &[Value],
+) -> std::result::Result<BTreeMap<u32, RangeInclusive>, ValueError>
+    ensures { FindsPaired ids.now (state_of space.now) (items_view list.now) result }
+{
+    // A stranger's list is counted before it costs memory.
+    if !are_as_many(ids, space, list) {
+        return Err(ValueError::NotAState);
+    }
+    let slots = read_slots(alloc, list)?;
+    if !are_held_apart(alloc, ids, space, &slots)? {
+        return Err(ValueError::NotAState);
+    }
+    Ok(slots)
+}
 
 /// Whether the items are as many as the held ids and as the held ranges.
-pub(super) fn are_as_many(ids: &IdAllocator, space: &AddressAllocator, items: &[Value]) -> bool
+fn are_as_many(ids: &IdAllocator, space: &AddressAllocator, items: &[Value]) -> bool
     ensures { Tells result (AreAsMany ids.now (state_of space.now) (items_view items.now)) }
 {
     let count = items.len() as u64;
@@ -20,7 +41,7 @@ pub(super) fn are_as_many(ids: &IdAllocator, space: &AddressAllocator, items: &[
 }
 
 /// Whether the id and the range of each device are held, and no two have one start.
-pub(super) fn are_held_apart(
+fn are_held_apart(
     alloc: Global,
     ids: &IdAllocator,
     space: &AddressAllocator,

@@ -163,6 +163,36 @@ pub(super) fn refresh_room(
     true
 }
 
+/// Brings up to date what a node keeps of its tree's room over these children, with its own block; says
+/// whether a part of it changed.
+#[inline(always)]
+pub(super) fn refresh_over(
+    left: &Child,
+    right: &Child,
+    key: &RangeInclusive,
+    node_state: NodeState,
+    kept_longest: &mut u64,
+    kept_alignments: &mut u8,
+) -> bool
+    ensures longest { kept_longest.new
+        ≡ max (max (max_free_of (side left.now)) (max_free_of (side right.now)))
+        (free_length (record { key = key.now; state = node_state })) }
+    ensures alignments { kept_alignments.new
+        ≡ max (max (alignments_of (side left.now)) (alignments_of (side right.now)))
+        (free_alignments (record { key = key.now; state = node_state })) }
+    ensures same_longest { IsSameIfNot result kept_longest.old kept_longest.new }
+    ensures same_alignments { IsSameIfNot result kept_alignments.old kept_alignments.new }
+{
+    let own = room_of(key, node_state);
+    refresh_room(
+        kept_of(left).room,
+        kept_of(right).room,
+        own,
+        kept_longest,
+        kept_alignments,
+    )
+}
+
 /// Brings up to date what a node keeps of its tree's room; says what changed of it.
 #[inline(always)]
 pub(super) fn renew_room(

@@ -7,7 +7,7 @@ ghost use Rattle.vm_engine.specs.Engine.Changes.{KeepsShape};
 ghost use Rattle.vm_engine.specs.Counts.Ways.{way_to};
 ghost use Rattle.vm_engine.specs.Engine.NodeFields.{side};
 
-use super::kept::{kept_of, refresh_room, room_of};
+use super::kept::{kept_of, refresh_over, refresh_room, room_of};
 use super::{Child, InnerNode};
 use crate::allocation_engine::ends::order;
 use std::cmp::Ordering;
@@ -28,69 +28,40 @@ impl InnerNode {
         let own = room_of(&key, node_state);
         refresh_room(left, right, own, &mut self.max_free, &mut self.alignments)
     }
-
-    /// Gives the node with key `at` another key, which keeps its place in the order, and another
-    /// state; says whether what is kept here changed. It takes no memory.
-    #[tactic(auto, using(crate::proofs::Nodes::Rewriting::rewritings, crate::proofs::Counts::WayCases::ways_to))]
-    fn rewrite(
-        &mut self,
-        at: &RangeInclusive,
-        key: RangeInclusive,
-        node_state: NodeState,
-        count: &mut u64,
-    ) -> bool
-        requires known { IsSome (find_key at.now (blocks self.old)) }
-        requires ordered { IsOrderedFrom 0 (with_block at.now key node_state (blocks self.old)) }
-        requires count_fits { count.old + height_of self.old ≤ MAX }
-        ensures blocks { blocks self.new ≡ with_block at.now key node_state (blocks self.old) }
-        ensures keeps { KeepsShape self.old self.new result }
-        ensures count { count.new ≡ count.old + way_to at.now self.old }
-    {
-        self.enter(count);
-        let changed = match order(&self.key, at) {
-            Ordering::Equal => return self.rewrite_here(key, node_state),
-            Ordering::Greater => {
-                let Some(left) = &mut self.left else {
-                    unreachable!()
-                };
-                left.rewrite(at, key, node_state, count)
-            }
-            Ordering::Less => {
-                let Some(right) = &mut self.right else {
-                    unreachable!()
-                };
-                right.rewrite(at, key, node_state, count)
-            }
-        };
-        if !changed {
-            return false;
-        }
-        let own = room_of(&self.key, self.node_state);
-        refresh_room(
-            kept_of(&self.left).room,
-            kept_of(&self.right).room,
-            own,
-            &mut self.max_free,
-            &mut self.alignments,
-        )
-    }
 }
 
-/// Rewrites the node with key `old` below the node at a place.
+/// Gives the node with key `old` below the node at a place another key, which keeps its place in the
+/// order, and another state; says whether what is kept there changed. It takes no memory.
+#[tactic(auto, using(crate::proofs::Counts::WayCases::ways_to))]
 pub(crate) fn rewrite_at(
     at: &mut Child,
     old: &RangeInclusive,
     key: RangeInclusive,
     node_state: NodeState,
     count: &mut u64,
-)
+) -> bool
     requires known { IsSome (find_key old.now (blocks (side at.old))) }
     requires ordered { IsOrderedFrom 0 (with_block old.now key node_state (blocks (side at.old))) }
     requires count_fits { count.old + height_of (side at.old) ≤ MAX }
     ensures blocks { blocks (side at.new) ≡ with_block old.now key node_state (blocks (side at.old)) }
-    ensures height { height_of (side at.new) ≡ height_of (side at.old) }
+    ensures keeps { KeepsShape (side at.old) (side at.new) result }
     ensures count { count.new ≡ count.old + way_to old.now (side at.old) }
 {
     let Some(tree) = at else { unreachable!() };
-    tree.rewrite(old, key, node_state, count);
+    let tree: &mut InnerNode = tree;
+    tree.enter(count);
+    let changed = match order(&tree.key, old) {
+        Ordering::Equal => return tree.rewrite_here(key, node_state),
+        Ordering::Greater => rewrite_at(&mut tree.left, old, key, node_state, count),
+        Ordering::Less => rewrite_at(&mut tree.right, old, key, node_state, count),
+    };
+    changed
+        && refresh_over(
+            &tree.left,
+            &tree.right,
+            &tree.key,
+            tree.node_state,
+            &mut tree.max_free,
+            &mut tree.alignments,
+        )
 }

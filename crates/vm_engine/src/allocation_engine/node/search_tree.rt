@@ -10,7 +10,7 @@ ghost use Rattle.vm_engine.specs.Engine.NodeAnswer.{first_met, Inserts, TellsOve
 ghost use Rattle.vm_engine.specs.Counts.Ways.{way_down, way_to, way_across, way_to_remove};
 ghost use Rattle.vm_engine.specs.Engine.NodeFields.{side};
 
-use super::kept::{Change, kept_of, refresh_room, room_of};
+use super::kept::{Change, refresh_over};
 use super::link::link_at;
 use super::remove::delete_at;
 use super::{InnerNode, known};
@@ -160,11 +160,11 @@ impl InnerNode {
                 right.mark_as_allocated(key, count)
             }
         };
-        let own = room_of(&self.key, self.node_state);
-        refresh_room(
-            kept_of(&self.left).room,
-            kept_of(&self.right).room,
-            own,
+        refresh_over(
+            &self.left,
+            &self.right,
+            &self.key,
+            self.node_state,
             &mut self.max_free,
             &mut self.alignments,
         );

@@ -61,7 +61,8 @@ fn save_parts(
     end: u32,
     freed: Value,
 ) -> core::result::Result<Value, AllocError> {
-    json!(in alloc; {"range_base": base, "next_id": next, "range_end": end, "freed_ids": freed})
+    // The numbers come last: so a refusal has less to drop.
+    json!(in alloc; {"next_id": next, "freed_ids": freed, "range_base": base, "range_end": end})
 }
 
 /// The fields of an id allocator's value; all of them are checked.

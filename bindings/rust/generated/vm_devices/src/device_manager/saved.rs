@@ -7,8 +7,8 @@ use rattle::Vec;
 mod pairing;
 mod slots;
 
-use self::pairing::{are_as_many, are_held_apart};
-use self::slots::{read_slots, save_slots};
+use self::pairing::read_devices;
+use self::slots::save_slots;
 use super::DeviceManager;
 use rattle::{Value, json};
 use rattle::{AllocError, Global};
@@ -38,14 +38,7 @@ impl DeviceManager {
         };
         let id_allocator = IdAllocator::from_value(alloc, fields.ids)?;
         let mmio_allocator = AddressAllocator::from_value(alloc, fields.space)?;
-        // A stranger's list is counted before it costs memory.
-        if !are_as_many(&id_allocator, &mmio_allocator, fields.slots) {
-            return Err(ValueError::NotAState);
-        }
-        let slots = read_slots(alloc, fields.slots)?;
-        if !are_held_apart(alloc, &id_allocator, &mmio_allocator, &slots)? {
-            return Err(ValueError::NotAState);
-        }
+        let slots = read_devices(alloc, &id_allocator, &mmio_allocator, fields.slots)?;
         Ok(DeviceManager {
             id_allocator,
             mmio_allocator,
@@ -61,7 +54,8 @@ fn put_manager(
     space: Value,
     slots: Value,
 ) -> core::result::Result<Value, AllocError> {
-    json!(in alloc; {"version": VERSION, "id_allocator": ids, "mmio_allocator": space, "slots": slots})
+    // The version comes last: so a refusal has less to drop.
+    json!(in alloc; {"id_allocator": ids, "mmio_allocator": space, "slots": slots, "version": VERSION})
 }
 
 /// What stands in the fields of a manager's value.

@@ -13,7 +13,7 @@ use vm_ranges::{MOST_NESTED, RangeInclusive, Result, ValueError, has_tree_of, no
 impl IntervalTree {
     /// The value that states the tree, node for node. `OutOfMemory` where there is no memory for it.
     pub fn to_root_value(&self, alloc: Global) -> Result<Value> {
-        save(self.root(), alloc)
+        save(&self.root, alloc)
     }
 
     /// The tree of the space that a value states, of the same nodes. `NotAState` where it states none,

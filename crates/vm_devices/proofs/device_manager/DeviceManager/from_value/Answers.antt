@@ -1,9 +1,9 @@
 use Rattle.std.proofs.Common.{◌≡◌, List, sym, subst, Err, rules}
 use Rattle.serde_json.specs.View.{view, items_view}
 use Rattle.serde_json.specs.declared.value.Value.{Value}
-use Rattle.vm_devices.specs.SavedChecks.{FindsDevices}
-use Rattle.vm_devices.proofs.ManagerFields.{read_of, fields_found, ids_refused, space_refused, slots_refused}
-use Rattle.vm_devices.proofs.SavedManagers.{not_as_many, not_paired, read_state, manager_read}
+use Rattle.vm_devices.specs.SavedChecks.{FindsPaired}
+use Rattle.vm_devices.proofs.ManagerFields.{read_of, fields_found, ids_refused, space_refused}
+use Rattle.vm_devices.proofs.SavedManagers.{devices_refused, read_state, manager_read}
 use Rattle.vm_devices.proofs.device_manager.DeviceManager.from_value.Goals as goal
 
 pub returns-in_err-id_allocator-clause-answer : goal.returns-in_err-id_allocator-clause-answer
@@ -20,34 +20,24 @@ returns-in_err-mmio_allocator-clause-answer c =
 
 pub returns-in_err-slots-clause-answer : goal.returns-in_err-slots-clause-answer
 returns-in_err-slots-clause-answer c =
-    let e = c.in_err-slots.field-0.0 in
-    let is : c.from_residual-in_err-slots.result ≡ Err e = search rules in
-    let refused = subst (λ (list : List Value). FindsDevices (items_view list) (Err e)) c.deref-2.ensures.value c.in_err-slots.ensures in
-    rw is (slots_refused (fields_found (view c.args.value.now) _ _ _ (sym c.in-Some.ensures)) e refused)
-
-pub returns-then-not-are_as_many-clause-answer : goal.returns-then-not-are_as_many-clause-answer
-returns-then-not-are_as_many-clause-answer c =
     let fields = fields_found (view c.args.value.now) _ _ _ (sym c.in-Some.ensures) in
     let read = read_of _ fields _ _ c.in_ok-id_allocator.ensures.answer c.in_ok-mmio_allocator.ensures.answer in
-    not_as_many read (rw (← c.deref.ensures.value) c.if-not-are_as_many.ensures)
+    let e = c.in_err-slots.field-0.0 in
+    let is : c.from_residual-in_err-slots.result ≡ Err e = search rules in
+    let refused = subst (λ (list : List Value). FindsPaired read.ids read.space (items_view list) (Err e)) c.deref.ensures.value c.in_err-slots.ensures in
+    rw is (devices_refused read e refused)
 
 pub invariant_of-result : goal.invariant_of-result
 invariant_of-result c =
     let fields = fields_found (view c.args.value.now) _ _ _ (sym c.in-Some.ensures) in
     let read = read_of _ fields _ _ c.in_ok-id_allocator.ensures.answer c.in_ok-mmio_allocator.ensures.answer in
-    read_state read c.in_ok-slots.slots (rw (← c.deref-2.ensures.value) c.in_ok-slots.ensures) (search rules) (rw c.if-not-branch.false at c.in_ok-are_held_apart.ensures)
+    read_state read c.in_ok-slots.slots (rw (← c.deref.ensures.value) c.in_ok-slots.ensures)
 
 pub returns-clause-answer : goal.returns-clause-answer
 returns-clause-answer c =
     let fields = fields_found (view c.args.value.now) _ _ _ (sym c.in-Some.ensures) in
     let read = read_of _ fields _ _ c.in_ok-id_allocator.ensures.answer c.in_ok-mmio_allocator.ensures.answer in
-    manager_read read c.in_ok-slots.slots (rw (← c.deref-2.ensures.value) c.in_ok-slots.ensures) (search rules) (rw c.if-not-branch.false at c.in_ok-are_held_apart.ensures)
+    manager_read read c.in_ok-slots.slots (rw (← c.deref.ensures.value) c.in_ok-slots.ensures)
 
 pub returns-clause-state : goal.returns-clause-state
 returns-clause-state c = invariant_of-result c
-
-pub returns-then-not-branch-clause-answer : goal.returns-then-not-branch-clause-answer
-returns-then-not-branch-clause-answer c =
-    let fields = fields_found (view c.args.value.now) _ _ _ (sym c.in-Some.ensures) in
-    let read = read_of _ fields _ _ c.in_ok-id_allocator.ensures.answer c.in_ok-mmio_allocator.ensures.answer in
-    not_paired read c.in_ok-slots.slots (rw (← c.deref-2.ensures.value) c.in_ok-slots.ensures) (rw c.if-not-branch.true at c.in_ok-are_held_apart.ensures)

@@ -134,6 +134,27 @@ pub(super) fn refresh_room(
     true
 }
 
+/// Brings up to date what a node keeps of its tree's room over these children, with its own block; says
+/// whether a part of it changed.
+#[inline(always)]
+pub(super) fn refresh_over(
+    left: &Child,
+    right: &Child,
+    key: &RangeInclusive,
+    node_state: NodeState,
+    kept_longest: &mut u64,
+    kept_alignments: &mut u8,
+) -> bool {
+    let own = room_of(key, node_state);
+    refresh_room(
+        kept_of(left).room,
+        kept_of(right).room,
+        own,
+        kept_longest,
+        kept_alignments,
+    )
+}
+
 /// Brings up to date what a node keeps of its tree's room; says what changed of it.
 #[inline(always)]
 pub(super) fn renew_room(

@@ -4,7 +4,7 @@
 //! allocator makes none of them, and the tests that every search tree has to pass make them all.
 
 use rattle::Box;
-use super::kept::{Change, kept_of, refresh_room, room_of};
+use super::kept::{Change, refresh_over};
 use super::link::link_at;
 use super::remove::delete_at;
 use super::{InnerNode, known};
@@ -111,11 +111,11 @@ impl InnerNode {
                 right.mark_as_allocated(key, count)
             }
         };
-        let own = room_of(&self.key, self.node_state);
-        refresh_room(
-            kept_of(&self.left).room,
-            kept_of(&self.right).room,
-            own,
+        refresh_over(
+            &self.left,
+            &self.right,
+            &self.key,
+            self.node_state,
             &mut self.max_free,
             &mut self.alignments,
         );

@@ -11,7 +11,7 @@ pub invariant_of-self : goal.invariant_of-self
 invariant_of-self c =
     let choice = rw (← c.self.view_is) at c.requires.choice in
     let carves = whole_carved _ _ _ _ (cut_of _ c.args.choice c.self.invariant choice) c.if-not-leaves_part.ensures c.rewrite_at.ensures.blocks in
-    space_taken _ _ c.args.choice c.self.invariant choice carves (omega (arith, c.rewrite_at.ensures.height, c.self.invariant.height))
+    space_taken _ _ c.args.choice c.self.invariant choice carves (omega (arith, c.rewrite_at.ensures.keeps.height, c.self.invariant.height))
 
 pub carve_at-requires-clause-carving : goal.carve_at-requires-clause-carving
 carve_at-requires-clause-carving c =
