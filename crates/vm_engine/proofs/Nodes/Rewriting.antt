@@ -92,7 +92,7 @@ node_rewritten_right s l n x r k y told e p t o b w =
       },
     )
 
-pub ruleset rewritings = (replace_in_left, replace_in_right, rewrite_here, known_left, known_right, rewritten_left, rewritten_right, tree_rewritten_left, tree_rewritten_right, tree_rewritten_here)
+pub ruleset rewritings = (rewrite_here, tree_rewritten_here)
 
 -- what marks the topmost block marks the tree
 pub marks_here : (s l : Shape) (x : Block) (r : Shape) (k : Range) (answer : Result (Unit {0}) Error) (n : Shape) → s ≡ Fork l x r → k ≡ x.key → IsTree s

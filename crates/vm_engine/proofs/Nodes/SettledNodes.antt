@@ -191,3 +191,6 @@ module _ (i : Inside) (child : Option (Box InnerNode)) (told : Change) (longest 
 -- a tree of which nothing that is kept changed is as high as before
 pub kept_grows : (s n : Shape) → IsTree n → Keeps s n Nothing → Grows s n Nothing
 kept_grows s n t k = record { tree = t; not_lower = omega (arith, k.height); at_most_one_higher = omega (arith, k.height); keeps = k }
+
+pub kept_shrinks : (s n : Shape) → IsTree n → Keeps s n Nothing → Shrinks s n Nothing
+kept_shrinks s n t k = record { tree = t; not_higher = omega (arith, k.height); at_most_one_lower = omega (arith, k.height); keeps = k }

@@ -1,15 +1,16 @@
-use Rattle.std.proofs.Common.{◌≡◌, ◌∙◌, sym, arith, refl, rules}
+use Rattle.std.proofs.Common.{◌≡◌, ℕ, ◌∙◌, sym, arith, refl, rules}
 use Rattle.std.proofs.lemmas.Grind.{common_steps}
 use Rattle.vm_engine.proofs.Nodes.SettledNodes.{finished, settled_node, grown_left, grown_right, kept_left, kept_right, kept_grows, renewed_left, renewed_right}
 use Rattle.vm_engine.proofs.Splitting.CarvedTrees.{ordered_carved_left, ordered_carved_right}
 use Rattle.vm_engine.proofs.Blocks.Replacement.{replace_in_left, replace_in_right}
 use Rattle.vm_engine.proofs.Counts.CarvingWays.{ways_to_carve}
 use Rattle.vm_engine.specs.Tree.Shape.{IsTree}
-use Rattle.vm_engine.specs.Engine.Changes.{Grows}
-use Rattle.vm_engine.specs.Engine.NodeFields.{side, shape_of}
+use Rattle.vm_engine.specs.Engine.Changes.{Keeps, Grows}
+use Rattle.vm_engine.specs.declared.allocation_engine.node.kept.Change.TheVariants.{Nothing}
+use Rattle.vm_engine.specs.Engine.NodeFields.{side, shape_of, IsNode}
 use Rattle.vm_engine.proofs.Nodes.Rewriting.{known_left, known_right, rewritten_left, rewritten_right}
 use Rattle.vm_engine.proofs.allocation_engine.node.carve.+carve_at.Goals as goal
-use Rattle.vm_engine.proofs.allocation_engine.node.carve.+carve_at.Goals.{in-Greater, in-Less}
+use Rattle.vm_engine.proofs.allocation_engine.node.carve.+carve_at.Goals.{in-Greater, in-Less, In-Nothing, After-renew_over}
 
 pub carve_at-change-requires : goal.carve_at-change-requires
 carve_at-change-requires t c =
@@ -29,31 +30,43 @@ carve_at-change-requires-in-Less t c =
     let ordered = rewritten_right (side c.args.at.now) (side i.left) _ (side i.right) c.args.cut.now.key _ e c.in-Less.ensures tree c.requires.carving.ordered in
     (search rules, (c.requires.leaves, (record { known = known; ordered = ordered }, (grind arith, grind arith))))
 
-pub invariant_of-tree : goal.invariant_of-tree
-invariant_of-tree t c =
+-- where nothing that is kept of a side changed: the node over it
+kept_over_side : (t : ℕ) (c : In-Nothing t) → IsNode c.match-order.tree-inside × Keeps (shape_of c.tree.inside) (shape_of c.match-order.tree-inside) Nothing
+kept_over_side t c =
     elim c.match-order.branch [
       | in-Greater w ↦
           let l = w.carve_at-change in
           let same = rw (sym w.change-is ∙ c.in-Nothing.is) at l.ensures.grows.keeps in
-          rw w.tree-inside-is (kept_left c.tree.inside l.new.at c.tree.invariant (grind (arith, common_steps, ordered_carved_left)) l.ensures.grows.tree same).0
+          rw w.tree-inside-is (kept_left c.tree.inside l.new.at c.tree.invariant (grind (arith, common_steps, ordered_carved_left)) l.ensures.grows.tree same)
       | in-Less w ↦
           let r = w.carve_at-change-in-Less in
           let same = rw (sym w.change-is ∙ c.in-Nothing.is) at r.ensures.grows.keeps in
-          rw w.tree-inside-is (kept_right c.tree.inside r.new.at c.tree.invariant (grind (arith, common_steps, ordered_carved_right)) r.ensures.grows.tree same).0
+          rw w.tree-inside-is (kept_right c.tree.inside r.new.at c.tree.invariant (grind (arith, common_steps, ordered_carved_right)) r.ensures.grows.tree same)
     ]
 
-pub invariant_of-tree-in-RoomAlone : goal.invariant_of-tree-in-RoomAlone
-invariant_of-tree-in-RoomAlone t c =
+pub invariant_of-tree : goal.invariant_of-tree
+invariant_of-tree t c = (kept_over_side t (goal.at.invariant_of-tree t c).In-Nothing).0
+
+-- where the room alone of a side changed: the node over it, brought up to date
+renewed_over_side : (t : ℕ) (c : After-renew_over t)
+    → let n = record c.match-order.tree-inside { max_free = c.renew_over.new.kept_longest; alignments = c.renew_over.new.kept_alignments } in
+    IsNode n × Grows (shape_of c.tree.inside) (shape_of n) c.renew_over.result
+renewed_over_side t c =
+    let longest = c.renew_over.new.kept_longest in
+    let count = c.renew_over.new.kept_alignments in
     elim c.match-order.branch [
       | in-Greater w ↦
           let l = w.carve_at-change in
           let grew = rw (sym w.change-is ∙ c.in-RoomAlone.is) at l.ensures.grows in
-          rw w.tree-inside-is (renewed_left c.tree.inside l.new.at c.renew_over.result c.renew_over.new.kept_longest c.renew_over.new.kept_alignments c.tree.invariant (grind (arith, common_steps, ordered_carved_left)) grew (rw w.tree-inside-is at c.renew_over.ensures.longest) (rw w.tree-inside-is at c.renew_over.ensures.alignments) (rw w.tree-inside-is at c.renew_over.ensures.same_longest) (rw w.tree-inside-is at c.renew_over.ensures.same_alignments)).0
+          rw w.tree-inside-is (renewed_left c.tree.inside l.new.at c.renew_over.result longest count c.tree.invariant (grind (arith, common_steps, ordered_carved_left)) grew (rw w.tree-inside-is at c.renew_over.ensures.longest) (rw w.tree-inside-is at c.renew_over.ensures.alignments) (rw w.tree-inside-is at c.renew_over.ensures.same_longest) (rw w.tree-inside-is at c.renew_over.ensures.same_alignments))
       | in-Less w ↦
           let r = w.carve_at-change-in-Less in
           let grew = rw (sym w.change-is ∙ c.in-RoomAlone.is) at r.ensures.grows in
-          rw w.tree-inside-is (renewed_right c.tree.inside r.new.at c.renew_over.result c.renew_over.new.kept_longest c.renew_over.new.kept_alignments c.tree.invariant (grind (arith, common_steps, ordered_carved_right)) grew (rw w.tree-inside-is at c.renew_over.ensures.longest) (rw w.tree-inside-is at c.renew_over.ensures.alignments) (rw w.tree-inside-is at c.renew_over.ensures.same_longest) (rw w.tree-inside-is at c.renew_over.ensures.same_alignments)).0
+          rw w.tree-inside-is (renewed_right c.tree.inside r.new.at c.renew_over.result longest count c.tree.invariant (grind (arith, common_steps, ordered_carved_right)) grew (rw w.tree-inside-is at c.renew_over.ensures.longest) (rw w.tree-inside-is at c.renew_over.ensures.alignments) (rw w.tree-inside-is at c.renew_over.ensures.same_longest) (rw w.tree-inside-is at c.renew_over.ensures.same_alignments))
     ]
+
+pub invariant_of-tree-in-RoomAlone : goal.invariant_of-tree-in-RoomAlone
+invariant_of-tree-in-RoomAlone t c = (renewed_over_side t (goal.at.invariant_of-tree-in-RoomAlone t c).After-renew_over).0
 
 pub invariant_of-tree-in-Height : goal.invariant_of-tree-in-Height
 invariant_of-tree-in-Height t c =
@@ -65,18 +78,8 @@ returns-in-Nothing-clause-blocks t c = grind (arith, common_steps, replace_in_le
 pub returns-in-Nothing-clause-grows : goal.returns-in-Nothing-clause-grows
 returns-in-Nothing-clause-grows t c =
     let e : side c.args.at.now ≡ shape_of c.tree.inside = cc in
-    rw e (elim c.match-order.branch [
-      | in-Greater w ↦
-          let l = w.carve_at-change in
-          let same = rw (sym w.change-is ∙ c.in-Nothing.is) at l.ensures.grows.keeps in
-          let k = kept_left c.tree.inside l.new.at c.tree.invariant (grind (arith, common_steps, ordered_carved_left)) l.ensures.grows.tree same in
-          rw w.tree-inside-is (kept_grows _ _ k.0.tree k.1)
-      | in-Less w ↦
-          let r = w.carve_at-change-in-Less in
-          let same = rw (sym w.change-is ∙ c.in-Nothing.is) at r.ensures.grows.keeps in
-          let k = kept_right c.tree.inside r.new.at c.tree.invariant (grind (arith, common_steps, ordered_carved_right)) r.ensures.grows.tree same in
-          rw w.tree-inside-is (kept_grows _ _ k.0.tree k.1)
-    ])
+    let kept = kept_over_side t (goal.at.returns-in-Nothing-clause-grows t c).In-Nothing in
+    rw e (kept_grows _ _ kept.0.tree kept.1)
 
 pub returns-in-Nothing-clause-count : goal.returns-in-Nothing-clause-count
 returns-in-Nothing-clause-count t c = grind (arith, common_steps, ways_to_carve)
@@ -87,16 +90,7 @@ returns-in-RoomAlone-clause-blocks t c = grind (arith, common_steps, replace_in_
 pub returns-in-RoomAlone-clause-grows : goal.returns-in-RoomAlone-clause-grows
 returns-in-RoomAlone-clause-grows t c =
     let e : side c.args.at.now ≡ shape_of c.tree.inside = cc in
-    rw e (elim c.match-order.branch [
-      | in-Greater w ↦
-          let l = w.carve_at-change in
-          let grew = rw (sym w.change-is ∙ c.in-RoomAlone.is) at l.ensures.grows in
-          rw w.tree-inside-is (renewed_left c.tree.inside l.new.at c.renew_over.result c.renew_over.new.kept_longest c.renew_over.new.kept_alignments c.tree.invariant (grind (arith, common_steps, ordered_carved_left)) grew (rw w.tree-inside-is at c.renew_over.ensures.longest) (rw w.tree-inside-is at c.renew_over.ensures.alignments) (rw w.tree-inside-is at c.renew_over.ensures.same_longest) (rw w.tree-inside-is at c.renew_over.ensures.same_alignments)).1
-      | in-Less w ↦
-          let r = w.carve_at-change-in-Less in
-          let grew = rw (sym w.change-is ∙ c.in-RoomAlone.is) at r.ensures.grows in
-          rw w.tree-inside-is (renewed_right c.tree.inside r.new.at c.renew_over.result c.renew_over.new.kept_longest c.renew_over.new.kept_alignments c.tree.invariant (grind (arith, common_steps, ordered_carved_right)) grew (rw w.tree-inside-is at c.renew_over.ensures.longest) (rw w.tree-inside-is at c.renew_over.ensures.alignments) (rw w.tree-inside-is at c.renew_over.ensures.same_longest) (rw w.tree-inside-is at c.renew_over.ensures.same_alignments)).1
-    ])
+    rw e (renewed_over_side t (goal.at.returns-in-RoomAlone-clause-grows t c).After-renew_over).1
 
 pub returns-in-RoomAlone-clause-count : goal.returns-in-RoomAlone-clause-count
 returns-in-RoomAlone-clause-count t c = grind (arith, common_steps, ways_to_carve)
