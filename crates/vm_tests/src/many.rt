@@ -98,26 +98,37 @@ fn ids_looked_up_and_saved(rt: HostRuntime) {
     take_ids(&rt, &mut again, MANY_IDS, 2);
 }
 
+/// A manager of as many devices as there are ids, of 16 addresses each, one behind the other.
+fn reserved(rt: &(impl Abort + AllocGlobal)) -> DeviceManager {
+    let devices = DeviceManager::new(rt.alloc(), 0, MANY_IDS, 0, 16 * MANY);
+    let mut devices = devices.expect(rt, ENOUGH);
+    for id in 0..MANY_IDS {
+        let slot = devices.reserve(rt.alloc(), 16, 16, AllocPolicy::FirstMatch);
+        let slot = slot.expect(rt, ENOUGH);
+        assert!(rt; (slot.id, slot.range.start()) == (id, 16 * u64::from(id)));
+    }
+    devices
+}
+
 /// What reading a written manager gives.
 fn saved_and_read(rt: &(impl Abort + AllocGlobal), devices: &DeviceManager) -> DeviceManager {
     let value = devices.to_value(rt.alloc()).expect(rt, ENOUGH);
     DeviceManager::from_value(rt.alloc(), &value).expect(rt, ENOUGH)
 }
 
+/// Each id has a device in one manager, and the same one in another.
+fn expect_same_devices(rt: &impl Abort, first: &DeviceManager, second: &DeviceManager) {
+    for id in 0..MANY_IDS {
+        let slot = first.slot(id);
+        assert!(rt; slot.is_some() && slot == second.slot(id));
+    }
+}
+
 #[test]
 fn devices_looked_up_and_saved(rt: HostRuntime) {
-    let devices = DeviceManager::new(rt.alloc(), 0, MANY_IDS, 0, 16 * MANY);
-    let mut devices = devices.expect(&rt, ENOUGH);
-    for id in 0..MANY_IDS {
-        let slot = devices.reserve(rt.alloc(), 16, 16, AllocPolicy::FirstMatch);
-        let slot = slot.expect(&rt, ENOUGH);
-        assert!(rt; (slot.id, slot.range.start()) == (id, 16 * u64::from(id)));
-    }
+    let devices = reserved(&rt);
     let mut again = saved_and_read(&rt, &devices);
-    for id in 0..MANY_IDS {
-        let slot = again.slot(id);
-        assert!(rt; slot.is_some() && slot == devices.slot(id));
-    }
+    expect_same_devices(&rt, &again, &devices);
     for id in 0..MANY_IDS {
         assert!(rt; again.release(id).is_ok());
     }

@@ -1,11 +1,13 @@
-use Rattle.std.proofs.Common.{sym}
+use Rattle.std.proofs.Common.{sym, arith}
 use Rattle.std.specs.List.{All}
+use Rattle.std.proofs.lemmas.Grind.{common_steps}
 use Rattle.vm_engine.specs.Engine.Fit.{HasNoFit}
 use Rattle.vm_engine.specs.Tree.Shape.{blocks}
 use Rattle.vm_engine.specs.Engine.NodeFields.{side}
-use Rattle.vm_engine.proofs.Choosing.PlaceSearch.{nothing_found, still_nothing, none_of, last_here, last_through_left}
+use Rattle.vm_engine.proofs.Choosing.PlaceSearch.{nothing_found, still_nothing, none_of, last_here, last_through_left, lasts}
 use Rattle.vm_engine.proofs.Counts.Entering.{none_unless_searched}
 use Rattle.vm_engine.proofs.allocation_engine.node.InnerNode.+last_place.Goals.{in-Some, in_default}
+use Rattle.vm_engine.proofs.Counts.Searching.{lasts as searches}
 use Rattle.vm_engine.proofs.allocation_engine.node.InnerNode.+last_place.Goals as goal
 
 pub returns-in-Some-greatest_fit-clause-place : goal.returns-in-Some-greatest_fit-clause-place
@@ -35,3 +37,25 @@ returns-in_default-roomy-clause-place t c =
     ] in
     let left = none_unless_searched _ _ _ c.requires.sized c.requires.aligned c.in_default-roomy.ensures in
     still_nothing c.match-roomy.found _ _ (none_of c.args.size c.args.alignment _ _ _ _ (sym c.self.view_is) left c.in_default-greatest_fit.ensures none) (sym c.if-is_some.ensures)
+
+-- named, since the search for them is slow
+pub last_place-requires : goal.last_place-requires
+last_place-requires t c = grind (arith, common_steps, lasts, searches)
+
+pub returns-then-is_some-clause-place : goal.returns-then-is_some-clause-place
+returns-then-is_some-clause-place t c = grind (arith, common_steps, lasts, searches)
+
+pub returns-then-is_some-clause-count : goal.returns-then-is_some-clause-count
+returns-then-is_some-clause-count t c = grind (arith, common_steps, lasts, searches)
+
+pub returns-in-Some-greatest_fit-clause-count : goal.returns-in-Some-greatest_fit-clause-count
+returns-in-Some-greatest_fit-clause-count t c = grind (arith, common_steps, lasts, searches)
+
+pub last_place-requires-in-Some-roomy : goal.last_place-requires-in-Some-roomy
+last_place-requires-in-Some-roomy t c = grind (arith, common_steps, lasts, searches)
+
+pub returns-in-Some-roomy-clause-count : goal.returns-in-Some-roomy-clause-count
+returns-in-Some-roomy-clause-count t c = grind (arith, common_steps, lasts, searches)
+
+pub returns-in_default-roomy-clause-count : goal.returns-in_default-roomy-clause-count
+returns-in_default-roomy-clause-count t c = grind (arith, common_steps, lasts, searches)

@@ -2,7 +2,7 @@ use Rattle.std.proofs.Common.{◌≡◌, arith, refl}
 use Rattle.std.proofs.lemmas.Grind.{common_steps}
 use Rattle.vm_engine.specs.Engine.Changes.{Shrinks}
 use Rattle.vm_engine.specs.Engine.NodeFields.{side, shape_of}
-use Rattle.vm_engine.proofs.Nodes.SettledNodes.{own_of, open_of, finished, settled_node, shrunk_left, kept_left}
+use Rattle.vm_engine.proofs.Nodes.SettledNodes.{own_of, open_of, finished, settled_node, shrunk_left, kept_left, true_height_left}
 use Rattle.vm_engine.proofs.Nodes.SideChange.{takes}
 use Rattle.vm_engine.proofs.Blocks.Replacement.{leasts}
 use Rattle.vm_engine.proofs.Counts.WayCases.{ways_to_first}
@@ -13,6 +13,11 @@ invariant_of-tree t c =
     let l = c.take_least_at-least in
     let same = rw c.in-Nothing.is at l.ensures.shrinks.keeps in
     (kept_left c.tree.inside l.new.at c.tree.invariant (grind (arith, common_steps, takes)) l.ensures.shrinks.tree same).0
+
+pub settle-settled-requires-clause-height : goal.settle-settled-requires-clause-height
+settle-settled-requires-clause-height t c =
+    let l = c.take_least_at-least in
+    true_height_left c.tree.inside l.new.at c.tree.invariant l.result.1 l.ensures.shrinks.keeps
 
 pub invariant_of-tree-2 : goal.invariant_of-tree-2
 invariant_of-tree-2 t c =
@@ -31,3 +36,31 @@ returns t c =
       shrinks = shrinks;
       count = grind (arith, common_steps, ways_to_first);
     }
+
+-- named, since the search for them is slow
+pub returns-then-is_none-clause-blocks : goal.returns-then-is_none-clause-blocks
+returns-then-is_none-clause-blocks t c = grind (arith, common_steps, leasts, takes, ways_to_first)
+
+pub returns-then-is_none-clause-leaf : goal.returns-then-is_none-clause-leaf
+returns-then-is_none-clause-leaf t c = grind (arith, common_steps, leasts, takes, ways_to_first)
+
+pub returns-then-is_none-clause-shrinks : goal.returns-then-is_none-clause-shrinks
+returns-then-is_none-clause-shrinks t c = grind (arith, common_steps, leasts, takes, ways_to_first)
+
+pub returns-then-is_none-clause-count : goal.returns-then-is_none-clause-count
+returns-then-is_none-clause-count t c = grind (arith, common_steps, leasts, takes, ways_to_first)
+
+pub take_least_at-least-requires : goal.take_least_at-least-requires
+take_least_at-least-requires t c = grind (arith, common_steps, leasts, takes, ways_to_first)
+
+pub returns-in-Nothing-clause-blocks : goal.returns-in-Nothing-clause-blocks
+returns-in-Nothing-clause-blocks t c = grind (arith, common_steps, leasts, takes, ways_to_first)
+
+pub returns-in-Nothing-clause-leaf : goal.returns-in-Nothing-clause-leaf
+returns-in-Nothing-clause-leaf t c = grind (arith, common_steps, leasts, takes, ways_to_first)
+
+pub returns-in-Nothing-clause-shrinks : goal.returns-in-Nothing-clause-shrinks
+returns-in-Nothing-clause-shrinks t c = grind (arith, common_steps, leasts, takes, ways_to_first)
+
+pub returns-in-Nothing-clause-count : goal.returns-in-Nothing-clause-count
+returns-in-Nothing-clause-count t c = grind (arith, common_steps, leasts, takes, ways_to_first)
