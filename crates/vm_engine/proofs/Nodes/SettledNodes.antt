@@ -1,13 +1,14 @@
 -- What a node keeps, where it is told what changed of it.
-use Rattle.std.proofs.Common.{◌≡◌, ℕ, ◌∷◌, ◌++◌, Option, refl, ap, arith}
+use Rattle.std.proofs.Common.{◌≡◌, ℕ, ◌∷◌, ◌++◌, Option, max, refl, ap, arith}
 use Rattle.std.proofs.lemmas.Grind.{common_steps}
 use Rattle.std.specs.Global.{Box}
-use Rattle.vm_ranges.specs.Block.{Block}
+use Rattle.vm_ranges.specs.Block.{Block, free_length}
 use Rattle.vm_engine.specs.Tree.BlockList.{IsOrderedFrom}
+use Rattle.vm_engine.specs.Tree.Multiples.{free_alignments}
 use Rattle.vm_engine.specs.Tree.Shape.{Shape, Fork, blocks, height_of, max_free_of, alignments_of, IsTree}
 use Rattle.vm_engine.specs.Engine.Changes.{IsHeightAfterBalance, KeepsHeight, KeepsRoom, Keeps, Grows, Shrinks}
 use Rattle.vm_engine.specs.Engine.NodeFields.{side, shape_of, IsNode}
-use Rattle.vm_engine.specs.Engine.Settling.{HasTrueHeight, Open, IsSettled, Finishes}
+use Rattle.vm_engine.specs.Engine.Settling.{Open, IsSettled, Finishes}
 use Rattle.vm_engine.specs.declared.allocation_engine.node.InnerNode.{InnerNode}
 use Rattle.vm_engine.specs.declared.allocation_engine.node.InnerNode.TheInside.{Inside}
 use Rattle.vm_engine.specs.declared.allocation_engine.node.balance.Settled.{Settled}
@@ -151,17 +152,41 @@ module _ (i : Inside) (child : Option (Box InnerNode)) (v : IsNode i) where
     record { height = rw k.height refl; longest = rw k.longest refl; alignments = rw k.alignments refl },
   )
 
--- unless a change of one side's height is told, the height of the whole is true
-module _ (i : Inside) (child : Option (Box InnerNode)) (v : IsNode i) where
-  pub true_height_left : (change : Change) → Keeps (side i.left) (side child) change → HasTrueHeight change (side child) (side i.right) i.height
-  true_height_left Nothing k = (rw k.height v.tree.balanced.2, rw k.height v.height)
-  true_height_left RoomAlone k = (rw k.height v.tree.balanced.2, rw k.height v.height)
-  true_height_left Height k = tt
+-- where the room alone of one side changed, the room alone of the whole did, or nothing
+module _ (i : Inside) (child : Option (Box InnerNode)) (told : Change) (longest count : ℕ) (v : IsNode i) where
+  pub renewed_left : IsOrderedFrom 0 (blocks (side child) ++ own_of i ∷ blocks (side i.right)) → Grows (side i.left) (side child) RoomAlone
+      → longest ≡ max (max (max_free_of (side child)) (max_free_of (side i.right))) (free_length (own_of i))
+      → count ≡ max (max (alignments_of (side child)) (alignments_of (side i.right))) (free_alignments (own_of i))
+      → KeepsRoom told i.max_free longest → KeepsRoom told i.alignments count
+      → IsNode (record i { left = child; max_free = longest; alignments = count }) × Grows (shape_of i) (shape_of (record i { left = child })) told
+  renewed_left o g m a p q =
+      let tree : IsTree (shape_of (record i { left = child })) = record { ordered = o; balanced = (g.tree.balanced, v.tree.balanced.1, rw g.keeps.height v.tree.balanced.2) } in
+      let high : height_of (shape_of (record i { left = child })) ≡ height_of (shape_of i) = rw g.keeps.height refl in (
+        record { tree = tree; height = rw high v.height; max_free = m; alignments = a },
+        record {
+          tree = tree;
+          not_lower = omega (arith, high);
+          at_most_one_higher = omega (arith, high);
+          keeps = record { height = rw high (height_kept told _); longest = rw (← v.max_free, ← m) p; alignments = rw (← v.alignments, ← a) q };
+        },
+      )
 
-  pub true_height_right : (change : Change) → Keeps (side i.right) (side child) change → HasTrueHeight change (side i.left) (side child) i.height
-  true_height_right Nothing k = (rw k.height v.tree.balanced.2, rw k.height v.height)
-  true_height_right RoomAlone k = (rw k.height v.tree.balanced.2, rw k.height v.height)
-  true_height_right Height k = tt
+  pub renewed_right : IsOrderedFrom 0 (blocks (side i.left) ++ own_of i ∷ blocks (side child)) → Grows (side i.right) (side child) RoomAlone
+      → longest ≡ max (max (max_free_of (side i.left)) (max_free_of (side child))) (free_length (own_of i))
+      → count ≡ max (max (alignments_of (side i.left)) (alignments_of (side child))) (free_alignments (own_of i))
+      → KeepsRoom told i.max_free longest → KeepsRoom told i.alignments count
+      → IsNode (record i { right = child; max_free = longest; alignments = count }) × Grows (shape_of i) (shape_of (record i { right = child })) told
+  renewed_right o g m a p q =
+      let tree : IsTree (shape_of (record i { right = child })) = record { ordered = o; balanced = (v.tree.balanced.0, g.tree.balanced, rw g.keeps.height v.tree.balanced.2) } in
+      let high : height_of (shape_of (record i { right = child })) ≡ height_of (shape_of i) = rw g.keeps.height refl in (
+        record { tree = tree; height = rw high v.height; max_free = m; alignments = a },
+        record {
+          tree = tree;
+          not_lower = omega (arith, high);
+          at_most_one_higher = omega (arith, high);
+          keeps = record { height = rw high (height_kept told _); longest = rw (← v.max_free, ← m) p; alignments = rw (← v.alignments, ← a) q };
+        },
+      )
 
 -- a tree of which nothing that is kept changed is as high as before
 pub kept_grows : (s n : Shape) → IsTree n → Keeps s n Nothing → Grows s n Nothing

@@ -70,15 +70,15 @@ module _ (s l : Shape) (x : Block) (r : Shape) (us vs : List Block) (y : Block) 
   ordered_carved m n p q = subst (IsOrderedFrom 0) (sym (carved_here m n p q)) o
 
 -- a node's blocks with a new side, in which a block gave way to others
-pub carved_left : (s l n : Shape) (x : Block) (r : Shape) (k : Range) (ys : List Block) → s ≡ Fork l x r → Before k x.key → IsTree s
-    → blocks n ≡ replace_block k ys (blocks l) → blocks n ++ x ∷ blocks r ≡ replace_block k ys (blocks s)
-carved_left s l n x r k ys e p t f = rw f (sym (replace_in_left s l x r k ys e p t))
+pub ordered_carved_left : (l n : Shape) (x : Block) (r : Shape) (k : Range) (ys : List Block) → Before k x.key → IsTree (Fork l x r) → IsOrderedFrom 0 (replace_block k ys (blocks (Fork l x r)))
+    → blocks n ≡ replace_block k ys (blocks l) → IsOrderedFrom 0 (blocks n ++ x ∷ blocks r)
+ordered_carved_left l n x r k ys p t o e = rw e (subst (IsOrderedFrom 0) (replace_in_left (Fork l x r) l x r k ys refl p t) o)
 
-pub carved_right : (s l n : Shape) (x : Block) (r : Shape) (k : Range) (ys : List Block) → s ≡ Fork l x r → Before x.key k → IsTree s
-    → blocks n ≡ replace_block k ys (blocks r) → blocks l ++ x ∷ blocks n ≡ replace_block k ys (blocks s)
-carved_right s l n x r k ys e p t f = rw f (sym (replace_in_right s l x r k ys e p t))
+pub ordered_carved_right : (l n : Shape) (x : Block) (r : Shape) (k : Range) (ys : List Block) → Before x.key k → IsTree (Fork l x r) → IsOrderedFrom 0 (replace_block k ys (blocks (Fork l x r)))
+    → blocks n ≡ replace_block k ys (blocks r) → IsOrderedFrom 0 (blocks l ++ x ∷ blocks n)
+ordered_carved_right l n x r k ys p t o e = rw e (subst (IsOrderedFrom 0) (replace_in_right (Fork l x r) l x r k ys refl p t) o)
 
-pub ruleset carvings = (replace_in_left, replace_in_right, known_left, known_right, rewritten_left, rewritten_right, before_clear, after_clear, carved_here, ordered_carved)
+pub ruleset carvings = (replace_in_left, replace_in_right, known_left, known_right, rewritten_left, rewritten_right, ordered_carved_left, ordered_carved_right, before_clear, after_clear, carved_here, ordered_carved)
 
 -- a leaf among the blocks
 pub leaf_clear : (n : Shape) (bs : List Block) → n ≡ single (root_block n) → AreClearOf (blocks n) bs → IsClearOf (root_block n).key bs

@@ -8,7 +8,7 @@ use Rattle.vm_engine.specs.Engine.Changes.{KeepsHeight, KeepsRoom, IsLeaf, CanBa
 use Rattle.vm_engine.specs.Engine.NodeFields.{side}
 use Rattle.vm_engine.specs.declared.allocation_engine.node.InnerNode.{InnerNode}
 use Rattle.vm_engine.specs.declared.allocation_engine.node.kept.Change.{Change}
-use Rattle.vm_engine.specs.declared.allocation_engine.node.kept.Change.TheVariants.{Nothing, RoomAlone, Height}
+use Rattle.vm_engine.specs.declared.allocation_engine.node.kept.Change.TheVariants.{Height}
 use Rattle.vm_engine.specs.declared.allocation_engine.node.kept.Kept.{Kept}
 use Rattle.vm_engine.specs.declared.allocation_engine.node.kept.Room.{Room}
 use Rattle.vm_engine.specs.declared.allocation_engine.node.balance.Settled.{Settled}
@@ -24,16 +24,6 @@ abbrev pub IsRoomOver : Room → Room → Room → ℕ → ℕ → Type 0
 IsRoomOver left right own longest count =
     (longest ≡ max (max left.longest right.longest) own.longest)
     × (count ≡ max (max left.alignments right.alignments) own.alignments)
-
--- the height of a node over two sides, which are close
-abbrev pub IsHeightOver : Shape → Shape → ℕ → Type 0
-IsHeightOver l r h = DifferByAtMost 1 (height_of l) (height_of r) × (h ≡ max (height_of l) (height_of r) + 1)
-
--- unless a change of a side's height is told, the height that a node keeps is true
-abbrev pub HasTrueHeight : Change → Shape → Shape → ℕ → Type 0
-HasTrueHeight Nothing l r h = IsHeightOver l r h
-HasTrueHeight RoomAlone l r h = IsHeightOver l r h
-HasTrueHeight Height l r h = Unit {0}
 
 -- a node's sides, and what it keeps, which may be stale
 pub record Open : Type 0 where

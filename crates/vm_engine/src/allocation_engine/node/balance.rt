@@ -6,16 +6,14 @@
 //! of it (`Settled`) instead of rotating, since the caller still has it open: once it is closed,
 //! `finish` does the rest, and one lemma says what both make of it (`finished`). It stands in line:
 //! never inlined it costs 5 to 10 % of the instructions of every input, since the fields then go as
-//! addresses; the rotation alone as a cold function makes no difference. Heights are looked at only
-//! where one may have changed, which takes 3 % off `first`; what the children keep is read after that
-//! choice, on each of its ways: read before it, it costs 5 % of `exact`. A rotation changes nodes in
+//! addresses; the rotation alone as a cold function makes no difference. A rotation changes nodes in
 //! place: to take them apart and put them together again reads better, and costs 1.5 to 3 %.
 ghost use Rattle.std.specs.Prelude.{◌≡◌, ◌+◌, ◌<◌, ◌≤◌, ◌^◌, ◌++◌, ◌∷◌, max, IsSome};
 ghost use Rattle.vm_engine.specs.Tree.BlockList.{IsOrderedFrom};
 ghost use Rattle.vm_engine.specs.Tree.Shape.{Fork, blocks, height_of, single, root_block, IsTree, DifferByAtMost};
 ghost use Rattle.vm_engine.specs.Engine.Changes.{IsLeaf, IsLeftNotLower, IsRightNotLower, CanBalance, Balances};
 ghost use Rattle.vm_engine.specs.Engine.NodeFields.{side};
-ghost use Rattle.vm_engine.specs.Engine.Settling.{HasTrueHeight, IsSettled, CanFinish, Finishes};
+ghost use Rattle.vm_engine.specs.Engine.Settling.{IsSettled, CanFinish, Finishes};
 
 use super::kept::{Change, kept_of, kept_over, renew_room, room_of};
 use super::{Child, InnerNode, height};
@@ -44,12 +42,10 @@ impl Settled {
     }
 }
 
-/// Brings what a node keeps up to date, once this changed of a child, or takes its children out where
-/// they are to be balanced.
+/// Brings what a node keeps up to date, or takes its children out where they are to be balanced.
 #[inline(always)]
 #[tactic(auto, using(crate::proofs::Nodes::SettledNodes::keeping))]
 pub(super) fn settle(
-    change: Change,
     left: &mut Child,
     right: &mut Child,
     key: &RangeInclusive,
@@ -58,8 +54,7 @@ pub(super) fn settle(
     max_free: &mut u64,
     alignments: &mut u8,
 ) -> Settled
-    requires height { HasTrueHeight change (side left.old) (side right.old) kept_height.old }
-    requires height_fits { max (height_of (side left.old)) (height_of (side right.old)) + 1 < 2 ^ 64 }
+    requires { max (height_of (side left.old)) (height_of (side right.old)) + 1 < 2 ^ 64 }
     ensures settled { IsSettled (record { key = key.now; state = node_state })
         (record {
           left = left.old;
@@ -79,21 +74,16 @@ pub(super) fn settle(
     ensures left { IsTree (side left.old) }
     ensures right { IsTree (side right.old) }
 {
-    let Change::Height = change else {
-        let first = kept_of(left).room;
-        let second = kept_of(right).room;
-        let own = room_of(key, node_state);
-        return Settled::Stands(renew_room(first, second, own, max_free, alignments));
-    };
     let first = kept_of(left);
     let second = kept_of(right);
-    let own = room_of(key, node_state);
     if first.height > second.height + 1 || second.height > first.height + 1 {
+        let own = room_of(key, node_state);
         *kept_height = 1;
         *max_free = own.longest;
         *alignments = own.alignments;
         return Settled::Leans(left.take(), right.take());
     }
+    let own = room_of(key, node_state);
     let change = renew_room(first.room, second.room, own, max_free, alignments);
     let height = first.height.max(second.height) + 1;
     if height == *kept_height {

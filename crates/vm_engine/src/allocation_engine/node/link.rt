@@ -40,7 +40,6 @@ pub(super) fn link_at(at: &mut Child, leaf: Box<InnerNode>, count: &mut u64) -> 
         return change;
     }
     let settled = settle(
-        change,
         &mut tree.left,
         &mut tree.right,
         &tree.key,

@@ -8,9 +8,7 @@
 //! of it (`Settled`) instead of rotating, since the caller still has it open: once it is closed,
 //! `finish` does the rest, and one lemma says what both make of it (`finished`). It stands in line:
 //! never inlined it costs 5 to 10 % of the instructions of every input, since the fields then go as
-//! addresses; the rotation alone as a cold function makes no difference. Heights are looked at only
-//! where one may have changed, which takes 3 % off `first`; what the children keep is read after that
-//! choice, on each of its ways: read before it, it costs 5 % of `exact`. A rotation changes nodes in
+//! addresses; the rotation alone as a cold function makes no difference. A rotation changes nodes in
 //! place: to take them apart and put them together again reads better, and costs 1.5 to 3 %.
 
 use rattle::Box;
@@ -37,11 +35,9 @@ impl Settled {
     }
 }
 
-/// Brings what a node keeps up to date, once this changed of a child, or takes its children out where
-/// they are to be balanced.
+/// Brings what a node keeps up to date, or takes its children out where they are to be balanced.
 #[inline(always)]
 pub(super) fn settle(
-    change: Change,
     left: &mut Child,
     right: &mut Child,
     key: &RangeInclusive,
@@ -50,21 +46,16 @@ pub(super) fn settle(
     max_free: &mut u64,
     alignments: &mut u8,
 ) -> Settled {
-    let Change::Height = change else {
-        let first = kept_of(left).room;
-        let second = kept_of(right).room;
-        let own = room_of(key, node_state);
-        return Settled::Stands(renew_room(first, second, own, max_free, alignments));
-    };
     let first = kept_of(left);
     let second = kept_of(right);
-    let own = room_of(key, node_state);
     if first.height > second.height + 1 || second.height > first.height + 1 {
+        let own = room_of(key, node_state);
         *kept_height = 1;
         *max_free = own.longest;
         *alignments = own.alignments;
         return Settled::Leans(left.take(), right.take());
     }
+    let own = room_of(key, node_state);
     let change = renew_room(first.room, second.room, own, max_free, alignments);
     let height = first.height.max(second.height) + 1;
     if height == *kept_height {

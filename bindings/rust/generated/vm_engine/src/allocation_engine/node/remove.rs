@@ -32,7 +32,6 @@ fn take_least_at(at: &mut Child, count: &mut u64) -> (Box<InnerNode>, Change) {
         return (least, change);
     }
     let settled = settle(
-        change,
         &mut tree.left,
         &mut tree.right,
         &tree.key,
@@ -94,7 +93,6 @@ pub(crate) fn delete_at(at: &mut Child, key: &RangeInclusive, count: &mut u64) -
         return change;
     }
     let settled = settle(
-        change,
         &mut tree.left,
         &mut tree.right,
         &tree.key,

@@ -4,7 +4,7 @@ use Rattle.vm_engine.specs.declared.allocation_engine.node.kept.Change.TheVarian
 use Rattle.vm_engine.specs.Engine.Changes.{Keeps}
 use Rattle.vm_engine.specs.Engine.NodeFields.{side, shape_of, IsNode}
 use Rattle.vm_engine.proofs.Blocks.BlockOrder.{clear_in_left, clear_in_right, link_in_left, link_in_right, link_in_left_blocks, link_in_right_blocks}
-use Rattle.vm_engine.proofs.Nodes.SettledNodes.{own_of, open_of, IsFinished, finished, settled_node, grown_left, grown_right, kept_left, kept_right, kept_grows, true_height_left, true_height_right}
+use Rattle.vm_engine.proofs.Nodes.SettledNodes.{own_of, open_of, IsFinished, finished, settled_node, grown_left, grown_right, kept_left, kept_right, kept_grows}
 use Rattle.vm_engine.proofs.allocation_engine.node.link.+link_at.Goals as goal
 use Rattle.vm_engine.proofs.allocation_engine.node.link.+link_at.Goals.{then-starts_before, else-starts_before, In-Nothing, After-finish}
 
@@ -40,17 +40,6 @@ returns-in-Nothing-clause-grows t c =
     let e : side c.args.at.now ≡ shape_of c.tree.inside = cc in
     let kept = kept_over_side t (goal.at.returns-in-Nothing-clause-grows t c).In-Nothing in
     rw (e, c.in-Nothing.is) (kept_grows _ _ kept.0.tree kept.1)
-
-pub settle-settled-requires-clause-height : goal.settle-settled-requires-clause-height
-settle-settled-requires-clause-height t c =
-    elim c.if-starts_before.branch [
-      | then-starts_before w ↦
-          let l = w.link_at-change in
-          rw (w.change-is, w.tree-inside-is) (true_height_left c.tree.inside l.new.at c.tree.invariant l.result l.ensures.grows.keeps)
-      | else-starts_before w ↦
-          let r = w.link_at-change-else-starts_before in
-          rw (w.change-is, w.tree-inside-is) (true_height_right c.tree.inside r.new.at c.tree.invariant r.result r.ensures.grows.keeps)
-    ]
 
 pub invariant_of-tree-2 : goal.invariant_of-tree-2
 invariant_of-tree-2 t c =

@@ -5,7 +5,7 @@ use Rattle.vm_engine.specs.Engine.Changes.{Keeps}
 use Rattle.vm_engine.specs.Engine.NodeFields.{side, shape_of, IsNode}
 use Rattle.vm_engine.specs.Tree.Shape.{IsTree}
 use Rattle.vm_engine.proofs.Blocks.Replacement.{changes_in_left, changes_in_right, removed_in_left, removed_in_right, replace_in_left, replace_in_right}
-use Rattle.vm_engine.proofs.Nodes.SettledNodes.{own_of, open_of, IsFinished, finished, settled_node, shrunk_left, shrunk_right, kept_left, kept_right, kept_shrinks, true_height_left, true_height_right}
+use Rattle.vm_engine.proofs.Nodes.SettledNodes.{own_of, open_of, IsFinished, finished, settled_node, shrunk_left, shrunk_right, kept_left, kept_right, kept_shrinks}
 use Rattle.vm_engine.proofs.allocation_engine.node.remove.+delete_at.Goals as goal
 use Rattle.vm_engine.proofs.allocation_engine.node.remove.+delete_at.Goals.{in-Greater, in-Less, In-Nothing, After-finish}
 
@@ -31,17 +31,6 @@ returns-in-Nothing-clause-shrinks t c =
     let e : side c.args.at.now ≡ shape_of c.tree.inside = cc in
     let kept = kept_over_side t (goal.at.returns-in-Nothing-clause-shrinks t c).In-Nothing in
     rw (e, c.in-Nothing.is) (kept_shrinks _ _ kept.0.tree kept.1)
-
-pub settle-settled-requires-clause-height : goal.settle-settled-requires-clause-height
-settle-settled-requires-clause-height t c =
-    elim c.match-order.branch [
-      | in-Greater w ↦
-          let l = w.delete_at-change in
-          rw (w.change-is, w.tree-inside-is) (true_height_left c.tree.inside l.new.at c.tree.invariant l.result l.ensures.shrinks.keeps)
-      | in-Less w ↦
-          let r = w.delete_at-change-in-Less in
-          rw (w.change-is, w.tree-inside-is) (true_height_right c.tree.inside r.new.at c.tree.invariant r.result r.ensures.shrinks.keeps)
-    ]
 
 pub invariant_of-tree-2 : goal.invariant_of-tree-2
 invariant_of-tree-2 t c =

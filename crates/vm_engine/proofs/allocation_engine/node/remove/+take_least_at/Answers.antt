@@ -2,7 +2,7 @@ use Rattle.std.proofs.Common.{◌≡◌, arith, refl}
 use Rattle.std.proofs.lemmas.Grind.{common_steps}
 use Rattle.vm_engine.specs.Engine.Changes.{Shrinks}
 use Rattle.vm_engine.specs.Engine.NodeFields.{side, shape_of}
-use Rattle.vm_engine.proofs.Nodes.SettledNodes.{own_of, open_of, finished, settled_node, shrunk_left, kept_left, true_height_left}
+use Rattle.vm_engine.proofs.Nodes.SettledNodes.{own_of, open_of, finished, settled_node, shrunk_left, kept_left}
 use Rattle.vm_engine.proofs.Nodes.SideChange.{takes}
 use Rattle.vm_engine.proofs.Blocks.Replacement.{leasts}
 use Rattle.vm_engine.proofs.Counts.WayCases.{ways_to_first}
@@ -13,11 +13,6 @@ invariant_of-tree t c =
     let l = c.take_least_at-least in
     let same = rw c.in-Nothing.is at l.ensures.shrinks.keeps in
     (kept_left c.tree.inside l.new.at c.tree.invariant (grind (arith, common_steps, takes)) l.ensures.shrinks.tree same).0
-
-pub settle-settled-requires-clause-height : goal.settle-settled-requires-clause-height
-settle-settled-requires-clause-height t c =
-    let l = c.take_least_at-least in
-    true_height_left c.tree.inside l.new.at c.tree.invariant l.result.1 l.ensures.shrinks.keeps
 
 pub invariant_of-tree-2 : goal.invariant_of-tree-2
 invariant_of-tree-2 t c =
