@@ -667,11 +667,16 @@ class Crate:
         return MANIFEST.format(name=self.name, features=text) + "".join(lines)
 
     def write(self, out):
-        shutil.rmtree(os.path.join(out, "src"), ignore_errors=True)
-        write(os.path.join(out, "Cargo.toml"), self.manifest())
+        texts = {os.path.join(out, "Cargo.toml"): self.manifest()}
         for path, file in self.files.items():
             relative = os.path.relpath(path, self.folder)[:-len(".rt")] + ".rs"
-            write(os.path.join(out, "src", relative), file.plain())
+            texts[os.path.join(out, "src", relative)] = file.plain()
+        for folder, _, names in os.walk(os.path.join(out, "src")):
+            for path in (os.path.join(folder, name) for name in names):
+                if path not in texts:
+                    os.remove(path)
+        for path, text in texts.items():
+            write(path, text)
 
 
 class Project:
@@ -694,7 +699,12 @@ class Project:
 
 
 def write(path, text):
+    """Writes a file, unless it has that text already: who builds by the times of files then leaves it alone."""
     os.makedirs(os.path.dirname(path), exist_ok=True)
+    if os.path.exists(path):
+        with open(path, encoding="utf-8") as file:
+            if file.read() == text:
+                return
     with open(path, "w", encoding="utf-8") as file:
         file.write(text)
 

@@ -153,11 +153,6 @@ impl Value {
             _ => None,
         }
     }
-
-    /// The value; `null` is left.
-    pub fn take(&mut self) -> Value {
-        core::mem::replace(self, Value::Null)
-    }
 }
 
 /// What stands in a field; a field that is not there is `null`.

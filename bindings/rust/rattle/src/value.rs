@@ -143,6 +143,11 @@ impl Value {
     pub fn get(&self, name: &str) -> Option<&Value> {
         self.as_object()?.get(name)
     }
+
+    /// The value; `null` is left.
+    pub fn take(&mut self) -> Value {
+        core::mem::replace(self, Value::Null)
+    }
 }
 
 /// A copy of a text.

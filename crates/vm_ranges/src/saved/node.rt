@@ -62,13 +62,35 @@ pub fn node_of(value: &Value) -> Option<SavedNode<'_>>
 /// The object of a node's fields.
 pub fn save_node(
     alloc: Global,
-    key: Value,
-    state: Value,
-    left: Value,
-    right: Value,
+    mut key: Value,
+    mut state: Value,
+    mut left: Value,
+    mut right: Value,
     height: u64,
 ) -> Result<Value, AllocError>
     ensures { IfOk result (λ node. NodeParts (view node) (view key) (view state) (view left) (view right) height) }
 {
-    json!(in alloc; {KEY: key, STATE: state, LEFT: left, RIGHT: right, HEIGHT: height})
+    put_together(alloc, &mut key, &mut state, &mut left, &mut right, height)
+}
+
+/// The same of values that it takes from where they stand: so a refusal has none of them to give back,
+/// and less is to be proved.
+fn put_together(
+    alloc: Global,
+    key: &mut Value,
+    state: &mut Value,
+    left: &mut Value,
+    right: &mut Value,
+    height: u64,
+) -> Result<Value, AllocError>
+    ensures { IfOk result (λ node.
+        NodeParts (view node) (view key.old) (view state.old) (view left.old) (view right.old) height) }
+{
+    json!(in alloc; {
+        KEY: key.take(),
+        STATE: state.take(),
+        LEFT: left.take(),
+        RIGHT: right.take(),
+        HEIGHT: height
+    })
 }
