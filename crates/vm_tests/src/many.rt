@@ -34,17 +34,35 @@ fn half_held(rt: &(impl Abort + AllocGlobal), rises: bool) -> AddressAllocator {
     space
 }
 
+/// They are equal, and a clone of the first is equal to the second too.
+fn expect_equal(
+    rt: &(impl Abort + AllocGlobal),
+    first: &AddressAllocator,
+    second: &AddressAllocator,
+) {
+    let order = (first.cmp(second), first.partial_cmp(second));
+    let equal = (Ordering::Equal, Some(Ordering::Equal));
+    assert!(rt; first == second && order == equal);
+    assert!(rt; cloned(rt, first) == *second);
+}
+
+/// What is written of the first states the second to both readers.
+fn expect_states(
+    rt: &(impl Abort + AllocGlobal),
+    first: &AddressAllocator,
+    second: &AddressAllocator,
+) {
+    let value = saved(rt, first);
+    expect_space(rt, read(rt, &value), second, "read");
+    expect_space(rt, read_repaired(rt, &value), second, "repaired");
+}
+
 #[test]
 fn ranges_compared_and_saved(rt: HostRuntime) {
     let first = half_held(&rt, true);
     let second = half_held(&rt, false);
-    let order = (first.cmp(&second), first.partial_cmp(&second));
-    let equal = (Ordering::Equal, Some(Ordering::Equal));
-    assert!(rt; first == second && order == equal);
-    assert!(rt; cloned(&rt, &first) == second);
-    let value = saved(&rt, &first);
-    expect_space(&rt, read(&rt, &value), &second, "read");
-    expect_space(&rt, read_repaired(&rt, &value), &second, "repaired");
+    expect_equal(&rt, &first, &second);
+    expect_states(&rt, &first, &second);
 }
 
 #[test]

@@ -226,15 +226,26 @@ const EVERY_SECOND_FREED: &str =
 /// Ids 5 to 23: seven taken, 6 and 9 given back.
 const IDS: &str = r#"{"range_base":5,"next_id":12,"range_end":23,"freed_ids":[6,9]}"#;
 
+/// So many ranges are held, these among the first ones; `text` is what stated them.
+fn expect_held(
+    rt: &impl Abort,
+    space: &AddressAllocator,
+    count: u64,
+    first: &[(u64, u64)],
+    text: &str,
+) {
+    expect_same(rt, &space.held_count(), &count, &text);
+    for (held, want) in space.held_ranges().zip(first) {
+        expect_same(rt, &(held.start(), held.end()), want, &text);
+    }
+}
+
 /// The text states an allocator with so many ranges held, these among the first ones, and is what the
 /// allocator is written as.
 fn expect_read(rt: &(impl Abort + AllocGlobal), text: &str, count: u64, first: &[(u64, u64)]) {
     let value = parsed(rt, text);
     let space = read(rt, &value).expect(rt, text);
-    expect_same(rt, &space.held_count(), &count, &text);
-    for (held, want) in space.held_ranges().zip(first) {
-        expect_same(rt, &(held.start(), held.end()), want, &text);
-    }
+    expect_held(rt, &space, count, first, text);
     assert!(rt; saved(rt, &space) == value);
 }
 
