@@ -21,7 +21,6 @@ no part of the crates, and the names that they use are the compiler's to know.""
 import collections
 import os
 import re
-import shutil
 import sys
 import types
 
@@ -671,10 +670,12 @@ class Crate:
         for path, file in self.files.items():
             relative = os.path.relpath(path, self.folder)[:-len(".rt")] + ".rs"
             texts[os.path.join(out, "src", relative)] = file.plain()
-        for folder, _, names in os.walk(os.path.join(out, "src")):
+        for folder, _, names in os.walk(os.path.join(out, "src"), topdown=False):
             for path in (os.path.join(folder, name) for name in names):
                 if path not in texts:
                     os.remove(path)
+            if not os.listdir(folder):
+                os.rmdir(folder)
         for path, text in texts.items():
             write(path, text)
 

@@ -4,7 +4,7 @@
     planted_tests.py PROJECT SCRATCH
 
 Each is planted in a copy of the sources, which is erased with its tests and built in the folder SCRATCH.
-The test has to fail, to end the process, or to take five times as long as where nothing is planted, where it
+The test has to fail, to end the process, or to take ten times as long as where nothing is planted, where it
 has to pass. `run: counted` has tests/refuse.c count the requests for memory, which takes a C compiler;
 `run: small` gives the test a stack of 256 KiB. A body that the eraser refuses is not run. The boxes are
 counted, so that no compiler leaves out a walk whose answer nobody needs. It ends with status 1 where a test
@@ -79,7 +79,7 @@ def main():
         if not runner.passes(clean[crate], test, how):
             wrong += 1
             print(f"{crate}::{test} fails where nothing is planted, run {how or 'plainly'}")
-        seconds[crate, test, how] = min(LONGEST, 2 + 5 * (time.monotonic() - begun))
+        seconds[crate, test, how] = min(LONGEST, 3 + 10 * (time.monotonic() - begun))
     for body in bodies:
         crate, test, how = tests[body.name]
         try:

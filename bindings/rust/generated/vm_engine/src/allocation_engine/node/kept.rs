@@ -24,7 +24,7 @@ pub(super) struct Room {
 }
 
 /// What changed of what a node keeps. A removal looks at the height wherever anything changed: to spare
-/// that, as a split does, cost 5 % of the instructions of `exact`.
+/// that, as a split does, makes `exact` up to 3 % dearer (docs/DECISIONS.md).
 #[derive(Clone, Copy, Debug)]
 pub(crate) enum Change {
     /// Nothing.
