@@ -1,16 +1,14 @@
 #!/usr/bin/env python3
-"""Plants the bodies of tests/count_rule_bodies that walk without counting, and runs each.
+"""Plants the bodies of tests/count_rule_bodies and of tests/walk_bodies, and runs each.
 
     planted_walks.py PROJECT SCRATCH
 
 Each is planted in a copy of the sources, which is erased, built and run by bindings/rust/box_count in the
 folder SCRATCH. That has to end with a failure: by running it is seen that boxes are followed which nobody
-counts. A body that the list accepts has to pass. Bodies that are refused for how they write the count
-walk no further than before, and are not run; nor are those that the eraser refuses, and the few below
-that no run can tell. It ends with status 1 where a body is taken otherwise."""
+counts. A body that the list accepts has to pass. Bodies that the compiler or the
+eraser refuses are not run, nor the few below that no run can tell. It ends with status 1 where a body is taken otherwise."""
 import collections
 import os
-import re
 import subprocess
 import sys
 
@@ -18,22 +16,12 @@ import erase
 import planting
 import scratch_workspace
 
-LIST = os.path.join("tests", "count_rule_bodies")
+LISTS = ("tests/count_rule_bodies", "tests/walk_bodies")
 SOURCES = "crates"
-# What the list says of bodies that walk; those that write the count wrongly have other reasons.
-OF_WALKS = re.compile("takes no counter|call into walks|calls into walks|begins a|calls another one|a loop|a closure|more than"
-                      "|which this rule does not know|named and not called")
 # Bodies that no run can tell from what stood there before.
 UNSEEN = {
-    "closure_behind_a_reference": "it follows no box",
-    "closure_in_an_arm": "it follows no box",
-    "closure_that_moves": "it follows no box",
-    "conversion_that_does_something": "it follows no box",
-    "function_that_counts_by_its_name": "it is the same call",
     "loop_in_a_range": "it follows no box",
-    "loop_outside_node": "it follows no box",
-    "loop_over_numbers": "it follows no box",
-    "plain_release_of_a_tree_counts_first": "no public call comes there",
+    "raised_twice_in_a_recursion": "it walks as before, and counts more",
 }
 
 
@@ -65,9 +53,9 @@ def main():
     project, scratch = map(os.path.abspath, sys.argv[1:])
     scratch_workspace.make(project, os.path.join(scratch, "rust"))
     wrong, found = 0, collections.Counter()
-    for body in planting.bodies(os.path.join(project, LIST)):
+    for body in [body for path in LISTS for body in planting.bodies(os.path.join(project, path))]:
         refused = body.rest.get("refused")
-        if body.name in UNSEEN or refused and not OF_WALKS.search(refused):
+        if body.name in UNSEEN or refused and refused.startswith("error"):
             found["not run"] += 1
             continue
         came = outcome(body, project, scratch)

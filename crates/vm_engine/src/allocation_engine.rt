@@ -5,4 +5,5 @@ pub(crate) mod interval_tree;
 pub(crate) mod node;
 
 pub use interval_tree::IntervalTree;
+pub(crate) use interval_tree::counted::Steps;
 pub use interval_tree::held_ranges::HeldRanges;

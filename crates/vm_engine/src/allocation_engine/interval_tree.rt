@@ -17,12 +17,14 @@ ghost use Rattle.vm_engine.specs.Tree.SpaceTree.{tree_state, IsSpaceTree, MakesT
 use super::node::walks::Walk;
 use super::node::walks::copying::copy;
 use super::node::{Child, InnerNode};
+use crate::allocation_engine::Steps;
 use crate::allocation_engine::ends::known;
 use std::alloc::Global;
 use std::marker::Model;
 use vm_ranges::{Constraint, NodeState, RangeInclusive, Result};
 
 mod comparing;
+pub(crate) mod counted;
 pub(crate) mod held_ranges;
 mod holding;
 pub(crate) mod placing;
@@ -118,7 +120,7 @@ impl IntervalTree {
         &mut self,
         alloc: Global,
         constraint: Constraint,
-        count: &mut u64,
+        count: &mut Steps,
     ) -> Result<RangeInclusive>
         requires { count.old ≡ 0 }
         ensures answer { Grants (tree_state self.old) constraint result (tree_state self.new) }
@@ -131,27 +133,6 @@ impl IntervalTree {
         self.known();
         let choice = self.place_for(constraint, count)?;
         self.hold(alloc, choice, count)
-    }
-
-    /// `allocate`, and how many nodes it entered.
-    #[tactic(auto, using(crate::proofs::Counts::Granting::grantings, crate::proofs::Counts::GapBounds::of_trees))]
-    pub fn allocate_counted(
-        &mut self,
-        alloc: Global,
-        constraint: Constraint,
-    ) -> (Result<RangeInclusive>, u64)
-        ensures answer { Grants (tree_state self.old) constraint result.0 (tree_state self.new) }
-        ensures unchanged { OnErr result.0 (self.new ≡ self.old) }
-        ensures depth { SplitsIfLow (height_of self.old) (tree_state self.old) result.0 }
-        ensures count { Enters self.old constraint result.0 0 result.1 }
-        ensures steps { IsGrantCount (height_of self.old) (tree_state self.old) constraint result.0 result.1 }
-        ensures search { SearchesGaps (height_of self.old) (tree_state self.old) constraint result.0 result.1 }
-        ensures search_aligned { SearchesAligned (height_of self.old) (tree_state self.old)
-            constraint result.0 result.1 }
-    {
-        let mut count = 0;
-        let answer = self.grant(alloc, constraint, &mut count);
-        (answer, count)
     }
 
     /// Holds the range at the place that the policy chooses. In this order: where there is no such
@@ -168,20 +149,6 @@ impl IntervalTree {
         let answer = self.allocate_counted(alloc, constraint).0;
         self.known();
         answer
-    }
-
-    /// `free`, and how many nodes it entered.
-    #[tactic(auto, using(crate::proofs::Counts::ReleaseWays::releasings, crate::proofs::Nodes::Spaces::states, crate::proofs::Answers::AddressAnswers::freed))]
-    pub fn free_counted(&mut self, key: &RangeInclusive) -> (Result<()>, u64)
-        ensures answer { Frees (tree_state self.old) key.now result.0 (tree_state self.new) }
-        ensures unchanged { OnErr result.0 (self.new ≡ self.old) }
-        ensures count { EntersToFree self.old key.now result.0 0 result.1 }
-        ensures steps { IsReleaseCount (height_of self.old) result.1 }
-        ensures state { IsAddressState (tree_state self.new) }
-    {
-        let mut count = 0;
-        let answer = self.release(key, &mut count);
-        (answer, count)
     }
 
     /// Gives a held range back, and joins its addresses with the clear ones on both sides. Any other

@@ -120,18 +120,6 @@ impl InnerNode {
         self.node_state
     }
 
-    /// Counts this node as entered.
-    #[inline(always)]
-    fn enter(&self, count: &mut u64)
-        requires { count.old + height_of self.now ≤ MAX }
-        ensures count { count.new ≡ count.old + 1 }
-        ensures high { 0 < height_of self.now }
-        ensures tree { IsTree self.now }
-    {
-        let _ = &self.height;
-        *count += 1;
-    }
-
     /// The height of the tree from here on.
     pub(crate) fn height(&self) -> u64
         ensures value { result ≡ height_of self.now }

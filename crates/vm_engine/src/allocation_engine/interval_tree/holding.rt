@@ -16,6 +16,7 @@ ghost use Rattle.vm_engine.specs.Counts.Ways.{way_if_held};
 
 use super::IntervalTree;
 use super::placing::Choice;
+use crate::allocation_engine::Steps;
 use crate::allocation_engine::ends::{between, known};
 use crate::allocation_engine::node::carve::{Cut, Rest, carve_at};
 use crate::allocation_engine::node::rewrite::rewrite_at;
@@ -34,7 +35,7 @@ impl IntervalTree {
         &mut self,
         alloc: Global,
         choice: Choice,
-        count: &mut u64,
+        count: &mut Steps,
     ) -> Result<RangeInclusive>
         requires choice { IsChoice (blocks self.old) choice }
         requires count_fits { count.old + 2 * height_of self.old ≤ MAX }

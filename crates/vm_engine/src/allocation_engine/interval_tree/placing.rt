@@ -10,6 +10,7 @@ ghost use Rattle.vm_engine.specs.Counts.Ways.{way_of_search};
 ghost use Rattle.vm_ranges.specs.declared.constraint.AllocPolicy.TheVariants.{ExactMatch};
 
 use super::IntervalTree;
+use crate::allocation_engine::Steps;
 use crate::allocation_engine::ends::{between, known};
 use crate::allocation_engine::node::places::{Place, first_place, last_place};
 use vm_ranges::{AllocPolicy, Constraint, Error, NodeState, RangeInclusive, Result};
@@ -26,7 +27,7 @@ pub(crate) struct Choice {
 impl IntervalTree {
     /// The range to hold for a request, and the free block that has it, or the refusal.
     #[tactic(auto, using(crate::proofs::Choosing::Searched::choices))]
-    pub(super) fn place_for(&self, constraint: Constraint, count: &mut u64) -> Result<Choice>
+    pub(super) fn place_for(&self, constraint: Constraint, count: &mut Steps) -> Result<Choice>
         requires { count.old + node_count self.now + height_of self.now ≤ MAX }
         ensures answer { Chooses self.now constraint result }
         ensures no_memory { IfErr result (λ error. error ≢ Error.OutOfMemory) }
@@ -51,7 +52,7 @@ impl IntervalTree {
     /// `ResourceNotAvailable` for a start outside the space, `Overflow` for a range that passes
     /// `u64::MAX`, and then what the block with the start says.
     #[tactic(auto, using(crate::proofs::Choosing::Named::exact_choices, crate::proofs::Counts::WayBounds::named_ways))]
-    fn named_place(&self, constraint: Constraint, start: u64, count: &mut u64) -> Result<Choice>
+    fn named_place(&self, constraint: Constraint, start: u64, count: &mut Steps) -> Result<Choice>
         requires policy { constraint.policy ≡ ExactMatch start }
         requires count_fits { count.old + height_of self.now ≤ MAX }
         ensures answer { Chooses self.now constraint result }

@@ -12,6 +12,7 @@ ghost use Rattle.vm_engine.specs.Counts.Steps.{EntersToFree, IsWayBack};
 ghost use Rattle.vm_engine.specs.Counts.Ways.{way_if};
 
 use super::IntervalTree;
+use crate::allocation_engine::Steps;
 use crate::allocation_engine::ends::between;
 use crate::allocation_engine::node::Child;
 use crate::allocation_engine::node::neighbours::Neighbours;
@@ -22,7 +23,7 @@ use vm_ranges::{Error, RangeInclusive, Result};
 impl IntervalTree {
     /// `free`, which adds the nodes that it enters to a counter at 0.
     #[tactic(auto, using(crate::proofs::Releasing::Rejoining::releases, crate::proofs::Counts::ReleaseWays::ways_back))]
-    pub(super) fn release(&mut self, key: &RangeInclusive, count: &mut u64) -> Result<()>
+    pub(super) fn release(&mut self, key: &RangeInclusive, count: &mut Steps) -> Result<()>
         requires { count.old ≡ 0 }
         ensures answer { Frees (tree_state self.old) key.now result (tree_state self.new) }
         ensures unchanged { OnErr result (self.new ≡ self.old) }
@@ -39,7 +40,7 @@ impl IntervalTree {
 
 /// Removes the free blocks beside a held one, and gives the held one all their addresses, free again.
 #[tactic(auto, using(crate::proofs::Releasing::Rejoining::rejoins, crate::proofs::Counts::ReleaseWays::removals))]
-fn rejoin(root: &mut Child, key: &RangeInclusive, beside: &Neighbours, count: &mut u64)
+fn rejoin(root: &mut Child, key: &RangeInclusive, beside: &Neighbours, count: &mut Steps)
     requires around { IsAround (blocks (side root.old)) key.now beside.now }
     requires count_fits { count.old + 3 * height_of (side root.old) ≤ MAX }
     ensures blocks { blocks (side root.new) ≡ rejoined key.now beside.now (blocks (side root.old)) }
@@ -70,7 +71,7 @@ fn joined(key: &RangeInclusive, beside: &Neighbours) -> RangeInclusive
 
 /// Removes the node with a key, if there is such a key.
 #[tactic(auto, using(crate::proofs::Counts::WayBounds::removal_bounds))]
-fn drop_if(root: &mut Child, key: &Option<RangeInclusive>, count: &mut u64)
+fn drop_if(root: &mut Child, key: &Option<RangeInclusive>, count: &mut Steps)
     requires { count.old + height_of (side root.old) ≤ MAX }
     ensures blocks { blocks (side root.new) ≡ without_if key.now (blocks (side root.old)) }
     ensures height { height_of (side root.new) ≤ height_of (side root.old) }

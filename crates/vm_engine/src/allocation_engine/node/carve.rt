@@ -18,6 +18,7 @@ use super::balance::settle;
 use super::kept::{Change, renew_over};
 use super::link::link_at;
 use super::{Child, InnerNode, known};
+use crate::allocation_engine::Steps;
 use crate::allocation_engine::ends::order;
 use std::cmp::Ordering;
 use vm_ranges::{NodeState, RangeInclusive};
@@ -33,7 +34,7 @@ pub(crate) struct Rest {
 
 /// Links a leaf, if there is one, below a side.
 #[tactic(auto, using(crate::proofs::Splitting::CarvedTrees::leaves))]
-fn link_if(child: &mut Child, leaf: Child, count: &mut u64)
+fn link_if(child: &mut Child, leaf: Child, count: &mut Steps)
     requires leaf { IfSome leaf (λ n. IsLeaf n.value) }
     requires clear { AreClearOf (blocks (side leaf)) (blocks (side child.old)) }
     requires height { height_of (side child.old) < MAX_HEIGHT }
@@ -64,7 +65,7 @@ pub(crate) struct Cut {
 /// changed there.
 #[tactic(auto, using(crate::proofs::Splitting::CarvedTrees::carvings, crate::proofs::Counts::CarvingWays::ways_to_carve, crate::proofs::Counts::CarvingWays::link_bounds))]
 #[inline(never)]
-fn carve_here(at: &mut Child, cut: &mut Cut, count: &mut u64) -> Change
+fn carve_here(at: &mut Child, cut: &mut Cut, count: &mut Steps) -> Change
     requires some { IsSome at.old }
     requires leaves { AreLeaves cut.old.rest }
     requires carving { CanCarve (blocks (side at.old)) (root_block (side at.old)).key cut.old.range cut.old.rest }
@@ -98,7 +99,7 @@ fn carve_here(at: &mut Child, cut: &mut Cut, count: &mut u64) -> Change
 /// Gives the node with a key below the node at a place a range, which is held, and links what is
 /// left beside it; says what changed there.
 #[tactic(auto, using(crate::proofs::Splitting::CarvedTrees::carvings, crate::proofs::Counts::CarvingWays::ways_to_carve))]
-pub(crate) fn carve_at(at: &mut Child, cut: &mut Cut, count: &mut u64) -> Change
+pub(crate) fn carve_at(at: &mut Child, cut: &mut Cut, count: &mut Steps) -> Change
     requires leaves { AreLeaves cut.old.rest }
     requires carving { CanCarve (blocks (side at.old)) cut.old.key cut.old.range cut.old.rest }
     requires height { height_of (side at.old) < MAX_HEIGHT }

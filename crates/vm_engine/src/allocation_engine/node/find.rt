@@ -7,6 +7,7 @@ ghost use Rattle.vm_engine.specs.Tree.Shape.{blocks, height_of, root_block};
 ghost use Rattle.vm_engine.specs.Counts.Ways.{way_across};
 
 use super::InnerNode;
+use crate::allocation_engine::Steps;
 use crate::allocation_engine::ends::ends_before;
 use vm_ranges::RangeInclusive;
 
@@ -16,7 +17,7 @@ impl InnerNode {
     pub(crate) fn search_superset(
         &self,
         key: &RangeInclusive,
-        count: &mut u64,
+        count: &mut Steps,
     ) -> Option<&InnerNode>
         requires { count.old + height_of self.now ≤ MAX }
         ensures found { find_superset key.now (blocks self.now) ≡ option_map (λ n. root_block n.now) result }

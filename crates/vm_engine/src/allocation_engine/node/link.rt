@@ -10,11 +10,12 @@ ghost use Rattle.vm_engine.specs.Engine.NodeFields.{side};
 use super::balance::settle;
 use super::kept::Change;
 use super::{Child, InnerNode};
+use crate::allocation_engine::Steps;
 use crate::allocation_engine::ends::starts_before;
 
 /// Adds a leaf at a place, below the node there if there is one; says what changed there.
 #[tactic(auto, using(crate::proofs::Blocks::BlockOrder::links, crate::proofs::Counts::WayCases::ways_down))]
-pub(super) fn link_at(at: &mut Child, leaf: Box<InnerNode>, count: &mut u64) -> Change
+pub(super) fn link_at(at: &mut Child, leaf: Box<InnerNode>, count: &mut Steps) -> Change
     requires leaf { IsLeaf leaf.value }
     requires clear { IsClearOf (root_block leaf.value).key (blocks (side at.old)) }
     requires height { height_of (side at.old) < MAX_HEIGHT }

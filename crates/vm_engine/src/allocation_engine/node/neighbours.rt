@@ -11,6 +11,7 @@ ghost use Rattle.vm_engine.specs.Engine.Beside.{free_key_of, free_keys, if_found
 ghost use Rattle.vm_engine.specs.Engine.Release.{last_free, first_free, neighbours};
 
 use super::{Child, InnerNode};
+use crate::allocation_engine::Steps;
 use crate::allocation_engine::ends::order;
 use std::cmp::Ordering;
 use vm_ranges::{NodeState, RangeInclusive};
@@ -47,7 +48,7 @@ fn free_key(node: Option<&InnerNode>) -> Option<RangeInclusive>
 fn last_below<'a>(
     child: &'a Child,
     before: Option<&'a InnerNode>,
-    count: &mut u64,
+    count: &mut Steps,
 ) -> Option<&'a InnerNode>
     requires { count.old + height_of (side child.now) ≤ MAX }
     ensures value { free_key_of result ≡ last_free (free_key_of before.entry) (blocks (side child.now)) }
@@ -64,7 +65,7 @@ fn last_below<'a>(
 fn first_below<'a>(
     child: &'a Child,
     after: Option<&'a InnerNode>,
-    count: &mut u64,
+    count: &mut Steps,
 ) -> Option<&'a InnerNode>
     requires { count.old + height_of (side child.now) ≤ MAX }
     ensures value { free_key_of result ≡ first_free (blocks (side child.now)) (free_key_of after.entry) }
@@ -79,7 +80,7 @@ fn first_below<'a>(
 impl InnerNode {
     /// The node with the last block.
     #[tactic(auto, using(crate::proofs::Releasing::Neighbours::ends, crate::proofs::Counts::WayCases::ways_to_ends))]
-    fn last_node(&self, count: &mut u64) -> &InnerNode
+    fn last_node(&self, count: &mut Steps) -> &InnerNode
         requires { count.old + height_of self.now ≤ MAX }
         ensures value { (d : Option Range) → free_key_of (Some result) ≡ last_free d (blocks self.now) }
         ensures count { count.new ≡ count.old + way_to_last self.now }
@@ -93,7 +94,7 @@ impl InnerNode {
 
     /// The node with the first block.
     #[tactic(auto, using(crate::proofs::Releasing::Neighbours::ends, crate::proofs::Counts::WayCases::ways_to_ends))]
-    fn first_node(&self, count: &mut u64) -> &InnerNode
+    fn first_node(&self, count: &mut Steps) -> &InnerNode
         requires { count.old + height_of self.now ≤ MAX }
         ensures value { (d : Option Range) → free_key_of (Some result) ≡ first_free (blocks self.now) d }
         ensures count { count.new ≡ count.old + way_to_first self.now }
@@ -112,7 +113,7 @@ impl InnerNode {
         &'a self,
         key: &RangeInclusive,
         beside: &mut Beside<'a>,
-        count: &mut u64,
+        count: &mut Steps,
     ) -> bool
         requires { count.old + 2 * height_of self.now ≤ MAX }
         ensures value { if_found result (free_keys beside.new)
@@ -139,7 +140,7 @@ impl InnerNode {
 
     /// Whether this node's block is held. `beside` has then the nodes beside it.
     #[tactic(auto, using(crate::proofs::Releasing::Neighbours::searches, crate::proofs::Counts::WayBounds::around))]
-    fn look_beside<'a>(&'a self, beside: &mut Beside<'a>, count: &mut u64) -> bool
+    fn look_beside<'a>(&'a self, beside: &mut Beside<'a>, count: &mut Steps) -> bool
         requires { count.old + 2 * height_of self.now ≤ MAX + 1 }
         ensures value { if_found result (free_keys beside.new)
             ≡ neighbours (root_block self.now).key (free_key_of beside.old.before) (blocks self.now) (free_key_of beside.old.after) }
@@ -156,7 +157,7 @@ impl InnerNode {
     }
 
     /// The free blocks beside the held block with this key, if there is one.
-    pub(crate) fn neighbours(&self, key: &RangeInclusive, count: &mut u64) -> Option<Neighbours>
+    pub(crate) fn neighbours(&self, key: &RangeInclusive, count: &mut Steps) -> Option<Neighbours>
         requires { count.old + 2 * height_of self.now ≤ MAX }
         ensures value { result ≡ neighbours key.now None (blocks self.now) None }
         ensures count { count.new ≡ count.old + way_around key.now self.now }

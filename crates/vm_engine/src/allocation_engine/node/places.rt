@@ -15,6 +15,7 @@ ghost use Rattle.vm_engine.specs.Counts.Ways.{is_searched, way_of_first, way_of_
 ghost use Rattle.vm_engine.specs.Engine.NodeFields.{side};
 
 use super::{Child, InnerNode};
+use crate::allocation_engine::Steps;
 use vm_ranges::{NodeState, RangeInclusive, align_down, align_up};
 
 /// A start in a free block.
@@ -86,7 +87,12 @@ fn roomy(tree: &Child, size: u64, alignment: u64) -> Option<&InnerNode>
 
 /// The least place among the blocks of a tree: the first block with a fit, and its least fit.
 #[tactic(auto, using(crate::proofs::Counts::Searching::firsts))]
-pub(crate) fn first_place(tree: &Child, size: u64, alignment: u64, count: &mut u64) -> Option<Place>
+pub(crate) fn first_place(
+    tree: &Child,
+    size: u64,
+    alignment: u64,
+    count: &mut Steps,
+) -> Option<Place>
     requires sized { 0 < size }
     requires aligned { IsAlignment alignment }
     requires count_fits { count.old + node_count (side tree.now) ≤ MAX }
@@ -102,7 +108,12 @@ pub(crate) fn first_place(tree: &Child, size: u64, alignment: u64, count: &mut u
 
 /// The greatest place among the blocks of a tree: the last block with a fit, and its greatest fit.
 #[tactic(auto, using(crate::proofs::Counts::Searching::lasts))]
-pub(crate) fn last_place(tree: &Child, size: u64, alignment: u64, count: &mut u64) -> Option<Place>
+pub(crate) fn last_place(
+    tree: &Child,
+    size: u64,
+    alignment: u64,
+    count: &mut Steps,
+) -> Option<Place>
     requires sized { 0 < size }
     requires aligned { IsAlignment alignment }
     requires count_fits { count.old + node_count (side tree.now) ≤ MAX }
@@ -119,7 +130,7 @@ pub(crate) fn last_place(tree: &Child, size: u64, alignment: u64, count: &mut u6
 impl InnerNode {
     /// Writes the least place from this node on, if there is one.
     #[tactic(auto, using(crate::proofs::Choosing::PlaceSearch::firsts, crate::proofs::Counts::Searching::firsts))]
-    fn first_place(&self, size: u64, alignment: u64, found: &mut Option<Place>, count: &mut u64)
+    fn first_place(&self, size: u64, alignment: u64, found: &mut Option<Place>, count: &mut Steps)
         requires sized { 0 < size }
         requires aligned { IsAlignment alignment }
         requires roomy { is_searched size alignment self.now ≡ true }
@@ -149,7 +160,7 @@ impl InnerNode {
 
     /// Writes the greatest place from this node on, if there is one.
     #[tactic(auto, using(crate::proofs::Choosing::PlaceSearch::lasts, crate::proofs::Counts::Searching::lasts))]
-    fn last_place(&self, size: u64, alignment: u64, found: &mut Option<Place>, count: &mut u64)
+    fn last_place(&self, size: u64, alignment: u64, found: &mut Option<Place>, count: &mut Steps)
         requires sized { 0 < size }
         requires aligned { IsAlignment alignment }
         requires roomy { is_searched size alignment self.now ≡ true }

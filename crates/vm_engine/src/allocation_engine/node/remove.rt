@@ -12,6 +12,7 @@ ghost use Rattle.vm_engine.specs.Engine.NodeFields.{side};
 use super::balance::{balance, settle};
 use super::kept::Change;
 use super::{Child, InnerNode, known};
+use crate::allocation_engine::Steps;
 use crate::allocation_engine::ends::order;
 use std::cmp::Ordering;
 use vm_ranges::RangeInclusive;
@@ -19,7 +20,7 @@ use vm_ranges::RangeInclusive;
 /// Takes the node with the least key out from below the node at a place; says what changed
 /// there.
 #[tactic(auto, using(crate::proofs::Blocks::Replacement::leasts, crate::proofs::Nodes::SideChange::takes, crate::proofs::Counts::WayCases::ways_to_first))]
-fn take_least_at(at: &mut Child, count: &mut u64) -> (Box<InnerNode>, Change)
+fn take_least_at(at: &mut Child, count: &mut Steps) -> (Box<InnerNode>, Change)
     requires some { IsSome at.old }
     requires count_fits { count.old + height_of (side at.old) ≤ MAX }
     ensures blocks { blocks (side at.old) ≡ root_block result.0.value ∷ blocks (side at.new) }
@@ -58,7 +59,7 @@ fn take_least_at(at: &mut Child, count: &mut u64) -> (Box<InnerNode>, Change)
 /// What is left of a tree without its root, from the root's children: the other child where one is
 /// absent, and else both below the least node of the right one.
 #[tactic(auto, using(crate::proofs::Blocks::Replacement::leasts, crate::proofs::Nodes::SideChange::takes, crate::proofs::Counts::WayCases::ways_to_join))]
-pub(super) fn join(left: Child, mut right: Child, count: &mut u64) -> Child
+pub(super) fn join(left: Child, mut right: Child, count: &mut Steps) -> Child
     requires ordered { IsOrderedFrom 0 (blocks (side left) ++ blocks (side right)) }
     requires close { DifferByAtMost 1 (height_of (side left)) (height_of (side right)) }
     requires height_fits { max (height_of (side left)) (height_of (side right)) + 1 < 2 ^ 64 }
@@ -83,7 +84,7 @@ impl InnerNode {
     /// and else both children below the least node of the right one. It takes no memory.
     #[tactic(auto, using(crate::proofs::Counts::WayBounds::removal_bounds, crate::proofs::Counts::WayCases::ways_to_remove))]
     #[inline(never)]
-    pub(crate) fn delete_root(tree: Box<InnerNode>, count: &mut u64) -> Option<Box<InnerNode>>
+    pub(crate) fn delete_root(tree: Box<InnerNode>, count: &mut Steps) -> Option<Box<InnerNode>>
         requires { count.old + height_of tree.value ≤ MAX + 1 }
         ensures blocks { blocks (side result) ≡ replace_block (root_block tree.value).key [] (blocks tree.value) }
         ensures none { IsNone result ↔ (side result ≡ Tip) }
@@ -102,7 +103,7 @@ impl InnerNode {
 /// Removes the node with a key from below the node at a place, if there is one; says what
 /// changed there.
 #[tactic(auto, using(crate::proofs::Nodes::SideChange::deletions, crate::proofs::Counts::WayCases::ways_to_remove))]
-pub(crate) fn delete_at(at: &mut Child, key: &RangeInclusive, count: &mut u64) -> Change
+pub(crate) fn delete_at(at: &mut Child, key: &RangeInclusive, count: &mut Steps) -> Change
     requires { count.old + height_of (side at.old) ≤ MAX }
     ensures blocks { blocks (side at.new) ≡ replace_block key.now [] (blocks (side at.old)) }
     ensures absent { LeavesIfAbsent key.now result (side at.old) (side at.new) }

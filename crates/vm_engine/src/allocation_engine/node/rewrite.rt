@@ -9,6 +9,7 @@ ghost use Rattle.vm_engine.specs.Engine.NodeFields.{side};
 
 use super::kept::{kept_of, refresh_over, refresh_room, room_of};
 use super::{Child, InnerNode};
+use crate::allocation_engine::Steps;
 use crate::allocation_engine::ends::order;
 use std::cmp::Ordering;
 use vm_ranges::{NodeState, RangeInclusive};
@@ -38,7 +39,7 @@ pub(crate) fn rewrite_at(
     old: &RangeInclusive,
     key: RangeInclusive,
     node_state: NodeState,
-    count: &mut u64,
+    count: &mut Steps,
 ) -> bool
     requires known { IsSome (find_key old.now (blocks (side at.old))) }
     requires ordered { IsOrderedFrom 0 (with_block old.now key node_state (blocks (side at.old))) }

@@ -14,6 +14,7 @@ use super::kept::{Change, refresh_over};
 use super::link::link_at;
 use super::remove::delete_at;
 use super::{InnerNode, known};
+use crate::allocation_engine::Steps;
 use crate::allocation_engine::ends::{ends_before, order};
 use std::alloc::Global;
 use std::cmp::Ordering;
@@ -24,7 +25,7 @@ impl InnerNode {
     pub(crate) fn link(
         tree: Box<InnerNode>,
         leaf: Box<InnerNode>,
-        count: &mut u64,
+        count: &mut Steps,
     ) -> Box<InnerNode>
         requires leaf { IsLeaf leaf.value }
         requires clear { IsClearOf (root_block leaf.value).key (blocks tree.value) }
@@ -49,7 +50,7 @@ impl InnerNode {
         alloc: Global,
         key: RangeInclusive,
         node_state: NodeState,
-        count: &mut u64,
+        count: &mut Steps,
     ) -> std::result::Result<Box<InnerNode>, (Error, Box<InnerNode>)>
         requires height { height_of tree.value < MAX_HEIGHT }
         requires count_fits { count.old + 2 * height_of tree.value ≤ MAX }
@@ -74,7 +75,7 @@ impl InnerNode {
     pub(crate) fn delete(
         tree: Box<InnerNode>,
         key: &RangeInclusive,
-        count: &mut u64,
+        count: &mut Steps,
     ) -> Option<Box<InnerNode>>
         requires { count.old + height_of tree.value ≤ MAX }
         ensures blocks { blocks (side result) ≡ replace_block key.now [] (blocks tree.value) }
@@ -91,7 +92,7 @@ impl InnerNode {
 
     /// The node with exactly this key.
     #[tactic(auto, using(crate::proofs::Blocks::Replacement::findings, crate::proofs::Counts::WayCases::ways_to))]
-    pub(crate) fn search(&self, key: &RangeInclusive, count: &mut u64) -> Option<&InnerNode>
+    pub(crate) fn search(&self, key: &RangeInclusive, count: &mut Steps) -> Option<&InnerNode>
         requires { count.old + height_of self.now ≤ MAX }
         ensures found { find_key key.now (blocks self.now) ≡ option_map (λ n. root_block n.now) result }
         ensures count { count.new ≡ count.old + way_to key.now self.now }
@@ -114,7 +115,7 @@ impl InnerNode {
 
     /// The first key that a new one overlaps on the way down.
     #[tactic(auto, using(crate::proofs::Nodes::Meetings::first_meetings, crate::proofs::Counts::WayCases::ways_across))]
-    fn first_met(&self, new: &RangeInclusive, count: &mut u64) -> Option<RangeInclusive>
+    fn first_met(&self, new: &RangeInclusive, count: &mut Steps) -> Option<RangeInclusive>
         requires { count.old + height_of self.now ≤ MAX }
         ensures met { result ≡ first_met new.now self.now }
         ensures overlaps { TellsOverlap new.now result (blocks self.now) }
@@ -137,7 +138,11 @@ impl InnerNode {
     /// Marks the free block with this key as held. A held one is `InvalidStateTransition` of the key
     /// and `Allocated`, an absent one `ResourceNotAvailable`; both change nothing.
     #[tactic(auto, using(crate::proofs::Nodes::Rewriting::markings, crate::proofs::Counts::WayCases::ways_to))]
-    pub(crate) fn mark_as_allocated(&mut self, key: &RangeInclusive, count: &mut u64) -> Result<()>
+    pub(crate) fn mark_as_allocated(
+        &mut self,
+        key: &RangeInclusive,
+        count: &mut Steps,
+    ) -> Result<()>
         requires { count.old + height_of self.old ≤ MAX }
         ensures marks { Marks (find_key key.now (blocks self.old)) key.now result self.old self.new }
         ensures height { height_of self.new ≡ height_of self.old }

@@ -2,6 +2,7 @@
 use super::walks::copying::copy;
 use super::walks::shapes::same;
 use super::*;
+use crate::allocation_engine::Steps;
 use std::alloc::Global;
 use std::fmt::Debug;
 use std::process::Abort;
@@ -42,9 +43,9 @@ fn leaf(rt: &impl Abort, alloc: Global, key: Key, state: NodeState) -> Box<Inner
 fn insert(rt: &impl Abort, alloc: Global, tree: Box<InnerNode>, key: RangeInclusive) -> Inserted {
     let height = tree.height();
     assert!(rt; height <= 48);
-    let mut count = 0;
+    let mut count = Steps::start();
     let result = InnerNode::insert(tree, alloc, key, NodeState::Free, &mut count);
-    assert!(rt; 1 <= count && count <= 2 * height);
+    assert!(rt; 1 <= count.entered() && count.entered() <= 2 * height);
     result
 }
 
@@ -90,12 +91,12 @@ fn expect_overlap(rt: &impl Abort, alloc: Global, tree: Box<InnerNode>, key: Key
 /// The tree without a key, where others are left.
 fn deleted(rt: &impl Abort, tree: Box<InnerNode>, key: Key) -> Box<InnerNode> {
     let height = tree.height();
-    let mut count = 0;
+    let mut count = Steps::start();
     let tree = InnerNode::delete(tree, &range(rt, key), &mut count).expect(
         rt,
         "other keys are left",
     );
-    assert!(rt; 1 <= count && count <= height);
+    assert!(rt; 1 <= count.entered() && count.entered() <= height);
     assert!(rt; is_balanced(&tree));
     tree
 }
@@ -103,7 +104,7 @@ fn deleted(rt: &impl Abort, tree: Box<InnerNode>, key: Key) -> Box<InnerNode> {
 /// What a search finds: the state of the node and whether it is a leaf.
 fn found(rt: &impl Abort, tree: &InnerNode, key: Key) -> Option<(NodeState, bool)> {
     let _ = tree.height();
-    let node = tree.search(&range(rt, key), &mut 0)?;
+    let node = tree.search(&range(rt, key), &mut Steps::start())?;
     Some((node.state(), node.height() == 1))
 }
 
@@ -121,7 +122,9 @@ fn expect_root(rt: &impl Abort, tree: &InnerNode, key: Key, height: u64, of: &im
 /// The key that contains another one.
 fn superset(rt: &impl Abort, tree: &InnerNode, key: Key) -> Option<Key> {
     let _ = tree.height();
-    let key = tree.search_superset(&range(rt, key), &mut 0)?.key();
+    let key = tree
+        .search_superset(&range(rt, key), &mut Steps::start())?
+        .key();
     Some((key.start(), key.end()))
 }
 
@@ -190,7 +193,7 @@ fn test_tree_insert_balanced(rt: HostRuntime) {
     ];
     let tree = tree_of(&rt, rt.alloc(), first, &keys);
     let _ = tree.height();
-    let tree = InnerNode::delete_root(tree, &mut 0).expect(&rt, "four keys are left");
+    let tree = InnerNode::delete_root(tree, &mut Steps::start()).expect(&rt, "four keys are left");
     assert!(rt; is_balanced(&tree));
     expect_same(&rt, &found(&rt, &tree, first), &None, &first);
 
@@ -236,7 +239,7 @@ fn test_tree_mark_as_allocated_invalid_transition(rt: HostRuntime) {
     let _ = tree.height();
     let key = range(&rt, key);
     let error = Error::InvalidStateTransition(key, NodeState::Allocated);
-    let result = tree.mark_as_allocated(&key, &mut 0);
+    let result = tree.mark_as_allocated(&key, &mut Steps::start());
     expect_same(&rt, &result, &Err(error), &key);
 }
 
@@ -245,7 +248,7 @@ fn test_tree_mark_as_allocated_resource_not_available(rt: HostRuntime) {
     let mut tree = tree_of(&rt, rt.alloc(), (0x100, 0x110), &[]);
     for key in [(0x111, 0x112), (0x90, 0x92)] {
         let _ = tree.height();
-        let result = tree.mark_as_allocated(&range(&rt, key), &mut 0);
+        let result = tree.mark_as_allocated(&range(&rt, key), &mut Steps::start());
         expect_same(&rt, &result, &Err(Error::ResourceNotAvailable), &key);
     }
 }
@@ -256,7 +259,7 @@ fn test_tree_mark_as_allocated(rt: HostRuntime) {
     let mut tree = tree_of(&rt, rt.alloc(), (0x100, 0x110), &[key]);
     let _ = tree.height();
     expect_leaf(&rt, &tree, key, NodeState::Free);
-    let result = tree.mark_as_allocated(&range(&rt, key), &mut 0);
+    let result = tree.mark_as_allocated(&range(&rt, key), &mut Steps::start());
     expect_same(&rt, &result, &Ok(()), &key);
     expect_leaf(&rt, &tree, key, NodeState::Allocated);
 }

@@ -17,6 +17,7 @@ ghost use Rattle.vm_engine.specs.Engine.NodeFields.{side};
 
 use super::kept::{Room, raise_room, room_of};
 use super::{Child, InnerNode};
+use crate::allocation_engine::Steps;
 use crate::allocation_engine::ends::order;
 use std::cmp::Ordering;
 use vm_ranges::{NodeState, RangeInclusive};
@@ -29,7 +30,7 @@ fn widen_at(
     held: &RangeInclusive,
     range: &RangeInclusive,
     room: &Room,
-    count: &mut u64,
+    count: &mut Steps,
 )
     requires can { CanWiden (blocks (side at.old)) held.now range.now }
     requires longest { room.now.longest ≡ free_length (free_block range.now) }
@@ -58,7 +59,7 @@ pub(crate) fn widen(
     root: &mut Child,
     held: &RangeInclusive,
     range: &RangeInclusive,
-    count: &mut u64,
+    count: &mut Steps,
 )
     requires can { CanWiden (blocks (side root.old)) held.now range.now }
     requires count_fits { count.old + height_of (side root.old) ≤ MAX }

@@ -12,11 +12,13 @@ use rattle::Box;
 use super::node::walks::Walk;
 use super::node::walks::copying::copy;
 use super::node::{Child, InnerNode};
+use crate::allocation_engine::Steps;
 use crate::allocation_engine::ends::known;
 use rattle::Global;
 use vm_ranges::{Constraint, NodeState, RangeInclusive, Result};
 
 mod comparing;
+pub(crate) mod counted;
 pub(crate) mod held_ranges;
 mod holding;
 pub(crate) mod placing;
@@ -74,22 +76,11 @@ impl IntervalTree {
         &mut self,
         alloc: Global,
         constraint: Constraint,
-        count: &mut u64,
+        count: &mut Steps,
     ) -> Result<RangeInclusive> {
         self.known();
         let choice = self.place_for(constraint, count)?;
         self.hold(alloc, choice, count)
-    }
-
-    /// `allocate`, and how many nodes it entered.
-    pub fn allocate_counted(
-        &mut self,
-        alloc: Global,
-        constraint: Constraint,
-    ) -> (Result<RangeInclusive>, u64) {
-        let mut count = 0;
-        let answer = self.grant(alloc, constraint, &mut count);
-        (answer, count)
     }
 
     /// Holds the range at the place that the policy chooses. In this order: where there is no such
@@ -100,13 +91,6 @@ impl IntervalTree {
         let answer = self.allocate_counted(alloc, constraint).0;
         self.known();
         answer
-    }
-
-    /// `free`, and how many nodes it entered.
-    pub fn free_counted(&mut self, key: &RangeInclusive) -> (Result<()>, u64) {
-        let mut count = 0;
-        let answer = self.release(key, &mut count);
-        (answer, count)
     }
 
     /// Gives a held range back, and joins its addresses with the clear ones on both sides. Any other

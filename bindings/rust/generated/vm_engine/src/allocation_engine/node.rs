@@ -80,13 +80,6 @@ impl InnerNode {
         self.node_state
     }
 
-    /// Counts this node as entered.
-    #[inline(always)]
-    fn enter(&self, count: &mut u64) {
-        let _ = &self.height;
-        *count += 1;
-    }
-
     /// The height of the tree from here on.
     pub(crate) fn height(&self) -> u64 {
         self.height

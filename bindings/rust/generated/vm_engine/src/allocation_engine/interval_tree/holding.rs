@@ -6,6 +6,7 @@
 use rattle::Box;
 use super::IntervalTree;
 use super::placing::Choice;
+use crate::allocation_engine::Steps;
 use crate::allocation_engine::ends::{between, known};
 use crate::allocation_engine::node::carve::{Cut, Rest, carve_at};
 use crate::allocation_engine::node::rewrite::rewrite_at;
@@ -23,7 +24,7 @@ impl IntervalTree {
         &mut self,
         alloc: Global,
         choice: Choice,
-        count: &mut u64,
+        count: &mut Steps,
     ) -> Result<RangeInclusive> {
         if !leaves_part(&choice) {
             rewrite_at(

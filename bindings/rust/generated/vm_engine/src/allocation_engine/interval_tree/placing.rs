@@ -4,6 +4,7 @@
 //! has it.
 
 use super::IntervalTree;
+use crate::allocation_engine::Steps;
 use crate::allocation_engine::ends::{between, known};
 use crate::allocation_engine::node::places::{Place, first_place, last_place};
 use vm_ranges::{AllocPolicy, Constraint, Error, NodeState, RangeInclusive, Result};
@@ -19,7 +20,7 @@ pub(crate) struct Choice {
 
 impl IntervalTree {
     /// The range to hold for a request, and the free block that has it, or the refusal.
-    pub(super) fn place_for(&self, constraint: Constraint, count: &mut u64) -> Result<Choice> {
+    pub(super) fn place_for(&self, constraint: Constraint, count: &mut Steps) -> Result<Choice> {
         self.known();
         let (size, align) = (constraint.size(), constraint.align());
         match constraint.policy() {
@@ -38,7 +39,7 @@ impl IntervalTree {
     /// The named start, where it is a place. In this order: `Overflow` for `u64::MAX`,
     /// `ResourceNotAvailable` for a start outside the space, `Overflow` for a range that passes
     /// `u64::MAX`, and then what the block with the start says.
-    fn named_place(&self, constraint: Constraint, start: u64, count: &mut u64) -> Result<Choice> {
+    fn named_place(&self, constraint: Constraint, start: u64, count: &mut Steps) -> Result<Choice> {
         if start == u64::MAX {
             return Err(Error::Overflow);
         }

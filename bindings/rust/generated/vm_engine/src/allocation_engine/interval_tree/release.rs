@@ -5,6 +5,7 @@
 //! proof by cases on which of them stands above which, and for two removals on one way back up.
 
 use super::IntervalTree;
+use crate::allocation_engine::Steps;
 use crate::allocation_engine::ends::between;
 use crate::allocation_engine::node::Child;
 use crate::allocation_engine::node::neighbours::Neighbours;
@@ -14,7 +15,7 @@ use vm_ranges::{Error, RangeInclusive, Result};
 
 impl IntervalTree {
     /// `free`, which adds the nodes that it enters to a counter at 0.
-    pub(super) fn release(&mut self, key: &RangeInclusive, count: &mut u64) -> Result<()> {
+    pub(super) fn release(&mut self, key: &RangeInclusive, count: &mut Steps) -> Result<()> {
         let Some(beside) = self.root().neighbours(key, count) else {
             return Err(Error::ResourceNotAvailable);
         };
@@ -24,7 +25,7 @@ impl IntervalTree {
 }
 
 /// Removes the free blocks beside a held one, and gives the held one all their addresses, free again.
-fn rejoin(root: &mut Child, key: &RangeInclusive, beside: &Neighbours, count: &mut u64) {
+fn rejoin(root: &mut Child, key: &RangeInclusive, beside: &Neighbours, count: &mut Steps) {
     let range = joined(key, beside);
     drop_if(root, &beside.before, count);
     drop_if(root, &beside.after, count);
@@ -45,7 +46,7 @@ fn joined(key: &RangeInclusive, beside: &Neighbours) -> RangeInclusive {
 }
 
 /// Removes the node with a key, if there is such a key.
-fn drop_if(root: &mut Child, key: &Option<RangeInclusive>, count: &mut u64) {
+fn drop_if(root: &mut Child, key: &Option<RangeInclusive>, count: &mut Steps) {
     if let Some(key) = key {
         delete_at(root, key, count);
     }

@@ -12,6 +12,7 @@ use super::balance::settle;
 use super::kept::{Change, renew_over};
 use super::link::link_at;
 use super::{Child, InnerNode, known};
+use crate::allocation_engine::Steps;
 use crate::allocation_engine::ends::order;
 use core::cmp::Ordering;
 use vm_ranges::{NodeState, RangeInclusive};
@@ -25,7 +26,7 @@ pub(crate) struct Rest {
 }
 
 /// Links a leaf, if there is one, below a side.
-fn link_if(child: &mut Child, leaf: Child, count: &mut u64) {
+fn link_if(child: &mut Child, leaf: Child, count: &mut Steps) {
     known(child);
     if let Some(leaf) = leaf {
         link_at(child, leaf, count);
@@ -46,7 +47,7 @@ pub(crate) struct Cut {
 /// Gives the topmost node a range, which is held, and links what is left beside it; says what
 /// changed there.
 #[inline(never)]
-fn carve_here(at: &mut Child, cut: &mut Cut, count: &mut u64) -> Change {
+fn carve_here(at: &mut Child, cut: &mut Cut, count: &mut Steps) -> Change {
     let Some(tree) = at else { unreachable!() };
     let tree: &mut InnerNode = tree;
     let _ = &tree.height;
@@ -68,7 +69,7 @@ fn carve_here(at: &mut Child, cut: &mut Cut, count: &mut u64) -> Change {
 
 /// Gives the node with a key below the node at a place a range, which is held, and links what is
 /// left beside it; says what changed there.
-pub(crate) fn carve_at(at: &mut Child, cut: &mut Cut, count: &mut u64) -> Change {
+pub(crate) fn carve_at(at: &mut Child, cut: &mut Cut, count: &mut Steps) -> Change {
     let Some(tree) = at else { unreachable!() };
     let tree: &mut InnerNode = tree;
     tree.enter(count);

@@ -3,6 +3,7 @@
 //! The block of an address.
 
 use super::InnerNode;
+use crate::allocation_engine::Steps;
 use crate::allocation_engine::ends::ends_before;
 use vm_ranges::RangeInclusive;
 
@@ -11,7 +12,7 @@ impl InnerNode {
     pub(crate) fn search_superset(
         &self,
         key: &RangeInclusive,
-        count: &mut u64,
+        count: &mut Steps,
     ) -> Option<&InnerNode> {
         self.enter(count);
         if ends_before(key, &self.key) {

@@ -6,10 +6,11 @@ use rattle::Box;
 use super::balance::settle;
 use super::kept::Change;
 use super::{Child, InnerNode};
+use crate::allocation_engine::Steps;
 use crate::allocation_engine::ends::starts_before;
 
 /// Adds a leaf at a place, below the node there if there is one; says what changed there.
-pub(super) fn link_at(at: &mut Child, leaf: Box<InnerNode>, count: &mut u64) -> Change {
+pub(super) fn link_at(at: &mut Child, leaf: Box<InnerNode>, count: &mut Steps) -> Change {
     let key = leaf.key();
     let Some(tree) = at else {
         *at = Some(leaf);

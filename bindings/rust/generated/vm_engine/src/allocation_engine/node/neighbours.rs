@@ -6,6 +6,7 @@
 //! ranges back up.
 
 use super::{Child, InnerNode};
+use crate::allocation_engine::Steps;
 use crate::allocation_engine::ends::order;
 use core::cmp::Ordering;
 use vm_ranges::{NodeState, RangeInclusive};
@@ -39,7 +40,7 @@ fn free_key(node: Option<&InnerNode>) -> Option<RangeInclusive> {
 fn last_below<'a>(
     child: &'a Child,
     before: Option<&'a InnerNode>,
-    count: &mut u64,
+    count: &mut Steps,
 ) -> Option<&'a InnerNode> {
     match child {
         None => before,
@@ -51,7 +52,7 @@ fn last_below<'a>(
 fn first_below<'a>(
     child: &'a Child,
     after: Option<&'a InnerNode>,
-    count: &mut u64,
+    count: &mut Steps,
 ) -> Option<&'a InnerNode> {
     match child {
         None => after,
@@ -61,7 +62,7 @@ fn first_below<'a>(
 
 impl InnerNode {
     /// The node with the last block.
-    fn last_node(&self, count: &mut u64) -> &InnerNode {
+    fn last_node(&self, count: &mut Steps) -> &InnerNode {
         self.enter(count);
         match &self.right {
             None => self,
@@ -70,7 +71,7 @@ impl InnerNode {
     }
 
     /// The node with the first block.
-    fn first_node(&self, count: &mut u64) -> &InnerNode {
+    fn first_node(&self, count: &mut Steps) -> &InnerNode {
         self.enter(count);
         match &self.left {
             None => self,
@@ -84,7 +85,7 @@ impl InnerNode {
         &'a self,
         key: &RangeInclusive,
         beside: &mut Beside<'a>,
-        count: &mut u64,
+        count: &mut Steps,
     ) -> bool {
         self.enter(count);
         match order(key, &self.key) {
@@ -105,7 +106,7 @@ impl InnerNode {
     }
 
     /// Whether this node's block is held. `beside` has then the nodes beside it.
-    fn look_beside<'a>(&'a self, beside: &mut Beside<'a>, count: &mut u64) -> bool {
+    fn look_beside<'a>(&'a self, beside: &mut Beside<'a>, count: &mut Steps) -> bool {
         match self.node_state {
             NodeState::Free => false,
             NodeState::Allocated => {
@@ -117,7 +118,7 @@ impl InnerNode {
     }
 
     /// The free blocks beside the held block with this key, if there is one.
-    pub(crate) fn neighbours(&self, key: &RangeInclusive, count: &mut u64) -> Option<Neighbours> {
+    pub(crate) fn neighbours(&self, key: &RangeInclusive, count: &mut Steps) -> Option<Neighbours> {
         let mut beside = Beside {
             before: None,
             after: None,

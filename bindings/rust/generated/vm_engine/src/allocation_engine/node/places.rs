@@ -9,6 +9,7 @@
 //! to count a node.
 
 use super::{Child, InnerNode};
+use crate::allocation_engine::Steps;
 use vm_ranges::{NodeState, RangeInclusive, align_down, align_up};
 
 /// A start in a free block.
@@ -62,7 +63,12 @@ fn roomy(tree: &Child, size: u64, alignment: u64) -> Option<&InnerNode> {
 }
 
 /// The least place among the blocks of a tree: the first block with a fit, and its least fit.
-pub(crate) fn first_place(tree: &Child, size: u64, alignment: u64, count: &mut u64) -> Option<Place> {
+pub(crate) fn first_place(
+    tree: &Child,
+    size: u64,
+    alignment: u64,
+    count: &mut Steps,
+) -> Option<Place> {
     let mut found = None;
     if let Some(node) = roomy(tree, size, alignment) {
         node.first_place(size, alignment, &mut found, count);
@@ -71,7 +77,12 @@ pub(crate) fn first_place(tree: &Child, size: u64, alignment: u64, count: &mut u
 }
 
 /// The greatest place among the blocks of a tree: the last block with a fit, and its greatest fit.
-pub(crate) fn last_place(tree: &Child, size: u64, alignment: u64, count: &mut u64) -> Option<Place> {
+pub(crate) fn last_place(
+    tree: &Child,
+    size: u64,
+    alignment: u64,
+    count: &mut Steps,
+) -> Option<Place> {
     let mut found = None;
     if let Some(node) = roomy(tree, size, alignment) {
         node.last_place(size, alignment, &mut found, count);
@@ -81,7 +92,7 @@ pub(crate) fn last_place(tree: &Child, size: u64, alignment: u64, count: &mut u6
 
 impl InnerNode {
     /// Writes the least place from this node on, if there is one.
-    fn first_place(&self, size: u64, alignment: u64, found: &mut Option<Place>, count: &mut u64) {
+    fn first_place(&self, size: u64, alignment: u64, found: &mut Option<Place>, count: &mut Steps) {
         self.enter(count);
         if let Some(left) = roomy(&self.left, size, alignment) {
             left.first_place(size, alignment, found, count);
@@ -102,7 +113,7 @@ impl InnerNode {
     }
 
     /// Writes the greatest place from this node on, if there is one.
-    fn last_place(&self, size: u64, alignment: u64, found: &mut Option<Place>, count: &mut u64) {
+    fn last_place(&self, size: u64, alignment: u64, found: &mut Option<Place>, count: &mut Steps) {
         self.enter(count);
         if let Some(right) = roomy(&self.right, size, alignment) {
             right.last_place(size, alignment, found, count);

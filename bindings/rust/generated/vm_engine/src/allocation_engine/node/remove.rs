@@ -8,13 +8,14 @@ use rattle::Box;
 use super::balance::{balance, settle};
 use super::kept::Change;
 use super::{Child, InnerNode, known};
+use crate::allocation_engine::Steps;
 use crate::allocation_engine::ends::order;
 use core::cmp::Ordering;
 use vm_ranges::RangeInclusive;
 
 /// Takes the node with the least key out from below the node at a place; says what changed
 /// there.
-fn take_least_at(at: &mut Child, count: &mut u64) -> (Box<InnerNode>, Change) {
+fn take_least_at(at: &mut Child, count: &mut Steps) -> (Box<InnerNode>, Change) {
     let Some(tree) = at else { unreachable!() };
     let tree: &mut InnerNode = tree;
     tree.enter(count);
@@ -45,7 +46,7 @@ fn take_least_at(at: &mut Child, count: &mut u64) -> (Box<InnerNode>, Change) {
 
 /// What is left of a tree without its root, from the root's children: the other child where one is
 /// absent, and else both below the least node of the right one.
-pub(super) fn join(left: Child, mut right: Child, count: &mut u64) -> Child {
+pub(super) fn join(left: Child, mut right: Child, count: &mut Steps) -> Child {
     known(&left);
     known(&right);
     if right.is_none() {
@@ -62,7 +63,7 @@ impl InnerNode {
     /// The tree without its root's key: its child where it has one alone, none where it has none,
     /// and else both children below the least node of the right one. It takes no memory.
     #[inline(never)]
-    pub(crate) fn delete_root(tree: Box<InnerNode>, count: &mut u64) -> Option<Box<InnerNode>> {
+    pub(crate) fn delete_root(tree: Box<InnerNode>, count: &mut Steps) -> Option<Box<InnerNode>> {
         let InnerNode { left, right, .. } = Box::into_inner(tree);
         let joined = join(left, right, count);
         known(&joined);
@@ -72,7 +73,7 @@ impl InnerNode {
 
 /// Removes the node with a key from below the node at a place, if there is one; says what
 /// changed there.
-pub(crate) fn delete_at(at: &mut Child, key: &RangeInclusive, count: &mut u64) -> Change {
+pub(crate) fn delete_at(at: &mut Child, key: &RangeInclusive, count: &mut Steps) -> Change {
     let Some(tree) = at else {
         return Change::Nothing
     };

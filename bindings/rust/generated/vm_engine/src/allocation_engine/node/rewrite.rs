@@ -4,6 +4,7 @@
 
 use super::kept::{kept_of, refresh_over, refresh_room, room_of};
 use super::{Child, InnerNode};
+use crate::allocation_engine::Steps;
 use crate::allocation_engine::ends::order;
 use core::cmp::Ordering;
 use vm_ranges::{NodeState, RangeInclusive};
@@ -27,7 +28,7 @@ pub(crate) fn rewrite_at(
     old: &RangeInclusive,
     key: RangeInclusive,
     node_state: NodeState,
-    count: &mut u64,
+    count: &mut Steps,
 ) -> bool {
     let Some(tree) = at else { unreachable!() };
     let tree: &mut InnerNode = tree;

@@ -8,6 +8,7 @@ use super::kept::{Change, refresh_over};
 use super::link::link_at;
 use super::remove::delete_at;
 use super::{InnerNode, known};
+use crate::allocation_engine::Steps;
 use crate::allocation_engine::ends::{ends_before, order};
 use rattle::Global;
 use core::cmp::Ordering;
@@ -18,7 +19,7 @@ impl InnerNode {
     pub(crate) fn link(
         tree: Box<InnerNode>,
         leaf: Box<InnerNode>,
-        count: &mut u64,
+        count: &mut Steps,
     ) -> Box<InnerNode> {
         let mut at = Some(tree);
         link_at(&mut at, leaf, count);
@@ -34,7 +35,7 @@ impl InnerNode {
         alloc: Global,
         key: RangeInclusive,
         node_state: NodeState,
-        count: &mut u64,
+        count: &mut Steps,
     ) -> core::result::Result<Box<InnerNode>, (Error, Box<InnerNode>)> {
         if let Some(met) = tree.first_met(&key, count) {
             return Err((Error::Overlap(key, met), tree));
@@ -50,7 +51,7 @@ impl InnerNode {
     pub(crate) fn delete(
         tree: Box<InnerNode>,
         key: &RangeInclusive,
-        count: &mut u64,
+        count: &mut Steps,
     ) -> Option<Box<InnerNode>> {
         let mut at = Some(tree);
         delete_at(&mut at, key, count);
@@ -59,7 +60,7 @@ impl InnerNode {
     }
 
     /// The node with exactly this key.
-    pub(crate) fn search(&self, key: &RangeInclusive, count: &mut u64) -> Option<&InnerNode> {
+    pub(crate) fn search(&self, key: &RangeInclusive, count: &mut Steps) -> Option<&InnerNode> {
         self.enter(count);
         match order(key, &self.key) {
             Ordering::Equal => Some(self),
@@ -77,7 +78,7 @@ impl InnerNode {
     }
 
     /// The first key that a new one overlaps on the way down.
-    fn first_met(&self, new: &RangeInclusive, count: &mut u64) -> Option<RangeInclusive> {
+    fn first_met(&self, new: &RangeInclusive, count: &mut Steps) -> Option<RangeInclusive> {
         self.enter(count);
         if ends_before(new, &self.key) {
             let Some(left) = &self.left else { return None };
@@ -94,7 +95,11 @@ impl InnerNode {
 
     /// Marks the free block with this key as held. A held one is `InvalidStateTransition` of the key
     /// and `Allocated`, an absent one `ResourceNotAvailable`; both change nothing.
-    pub(crate) fn mark_as_allocated(&mut self, key: &RangeInclusive, count: &mut u64) -> Result<()> {
+    pub(crate) fn mark_as_allocated(
+        &mut self,
+        key: &RangeInclusive,
+        count: &mut Steps,
+    ) -> Result<()> {
         self.enter(count);
         let answer = match order(&self.key, key) {
             Ordering::Equal => return self.mark_here(),

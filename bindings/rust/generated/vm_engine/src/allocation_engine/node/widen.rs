@@ -11,6 +11,7 @@
 
 use super::kept::{Room, raise_room, room_of};
 use super::{Child, InnerNode};
+use crate::allocation_engine::Steps;
 use crate::allocation_engine::ends::order;
 use core::cmp::Ordering;
 use vm_ranges::{NodeState, RangeInclusive};
@@ -22,7 +23,7 @@ fn widen_at(
     held: &RangeInclusive,
     range: &RangeInclusive,
     room: &Room,
-    count: &mut u64,
+    count: &mut Steps,
 ) {
     let Some(tree) = at else { unreachable!() };
     let tree: &mut InnerNode = tree;
@@ -44,7 +45,7 @@ pub(crate) fn widen(
     root: &mut Child,
     held: &RangeInclusive,
     range: &RangeInclusive,
-    count: &mut u64,
+    count: &mut Steps,
 ) {
     let room = room_of(range, NodeState::Free);
     widen_at(root, held, range, &room, count);
