@@ -1,1 +1,2 @@
 pub mod ValueParts
+pub mod NodeChecks

@@ -1,4 +1,4 @@
-pub use Rattle.vm_ranges.specs.Block
+pub mod Block
 pub mod Multiples
 pub mod Blocks
 pub mod SpaceTree

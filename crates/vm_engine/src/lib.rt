@@ -4,3 +4,5 @@
 pub mod allocation_engine;
 mod laws;
 mod saved;
+
+pub use saved::node::{SavedNode, node_of};

@@ -10,6 +10,4 @@ pub mod Fields
 pub mod Numbers
 pub mod Lists
 pub mod RangeValues
-pub mod Block
-pub mod NodeChecks
 pub mod RangeLaws

@@ -1,5 +1,5 @@
-//! Ranges of addresses, the states of blocks, what is asked of an allocator and why it is refused, the
-//! saved forms of ranges and states, and the check of a saved tree.
+//! Ranges of addresses, the states of blocks, what is asked of an allocator and why it is refused, and
+//! the saved forms of ranges and states.
 #![tactic(auto)]
 
 mod alignment;
@@ -16,9 +16,7 @@ pub use error::{Error, Result};
 pub use range::RangeInclusive;
 pub use saved::ValueError;
 pub use saved::fields::{has_fields, list_in};
-pub use saved::node::{SavedNode, node_of, save_node};
 pub use saved::numbers::{number_in, u32_from, u32_in};
 pub use saved::range::range_in;
 pub use saved::state::state_in;
-pub use saved::tree::{Checked, Front, MOST_NESTED, has_tree_of};
 pub use state::NodeState;

@@ -1,15 +1,13 @@
-//! Saved values: what is written of ranges, states and nodes as a `Value`, and read again. A value may
+//! Saved values: what is written of ranges and states as a `Value`, and read again. A value may
 //! come from a stranger. It is read only where it states an object: it has exactly the fields that it
 //! should, and all that has to hold of them holds. The order of the fields says nothing.
 ghost use Rattle.std.specs.Prelude.{◌≡◌};
 ghost use Rattle.vm_ranges.specs.declared.saved.ValueError.TheVariants.{OutOfMemory};
 
 pub(crate) mod fields;
-pub(crate) mod node;
 pub(crate) mod numbers;
 pub(crate) mod range;
 pub(crate) mod state;
-pub(crate) mod tree;
 
 use std::alloc::AllocError;
 use thiserror::Error;

@@ -5,10 +5,10 @@ use Rattle.std.proofs.lemmas.Option.{same_Some}
 use Rattle.serde_json.specs.Data.{Data}
 use Rattle.vm_ranges.specs.Range.{Range}
 use Rattle.vm_engine.specs.Address.{AddressState}
-use Rattle.vm_ranges.specs.Block.{Block}
+use Rattle.vm_engine.specs.Tree.Block.{Block}
 use Rattle.vm_engine.specs.Tree.Blocks.{range_if_held, held_of}
 use Rattle.vm_engine.specs.Tree.Shape.{Shape, Tip, Fork, blocks, height_of}
-use Rattle.vm_ranges.specs.NodeChecks.{NodeData, node_data}
+use Rattle.vm_engine.specs.Checks.NodeChecks.{NodeData, node_data}
 use Rattle.vm_engine.specs.Values.TreeValues.{HasNodes}
 use Rattle.vm_allocator.specs.Checks.RepairChecks.{adding, CanAdd, HasNodesToAdd, CanAddNodes, AddsNodes}
 use Rattle.vm_engine.proofs.Reading.ReadNodes.{no_data, fork_is, none_tip, one_tree}

@@ -4,7 +4,7 @@ use Rattle.serde_json.specs.Data.{Data}
 use Rattle.serde_json.specs.Find.{as_null}
 use Rattle.vm_ranges.proofs.Steps.{and_then_some, if_some}
 use Rattle.vm_engine.specs.Tree.Shape.{Shape, Tip, Fork, blocks, height_of}
-use Rattle.vm_ranges.specs.NodeChecks.{NodeData, node_data, after_all}
+use Rattle.vm_engine.specs.Checks.NodeChecks.{NodeData, node_data, after_all}
 use Rattle.vm_engine.specs.Values.TreeValues.{HasNodes}
 use Rattle.vm_allocator.specs.Checks.RepairChecks.{extended, row_of_node, row_found}
 use Rattle.vm_allocator.specs.declared.saved.repaired.Row.{Row}

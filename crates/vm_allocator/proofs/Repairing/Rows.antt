@@ -5,9 +5,9 @@ use Rattle.std.proofs.lemmas.Option.{same_Some}
 use Rattle.vm_ranges.proofs.Steps.{and_then_some, if_some}
 use Rattle.vm_ranges.specs.Range.{Range, MAX}
 use Rattle.vm_engine.specs.Answer.{FEWEST_TOO_DEEP}
-use Rattle.vm_ranges.specs.Block.{Block, is_free}
+use Rattle.vm_engine.specs.Tree.Block.{Block, is_free}
 use Rattle.vm_engine.specs.Tree.Blocks.{range_if_held, held_of, AreKeysIn, AreBelowMax}
-use Rattle.vm_ranges.specs.NodeChecks.{after_all}
+use Rattle.vm_engine.specs.Checks.NodeChecks.{after_all}
 use Rattle.vm_allocator.specs.Checks.RepairChecks.{may_extend, extended}
 use Rattle.vm_ranges.specs.declared.state.NodeState.{NodeState}
 use Rattle.vm_ranges.specs.declared.state.NodeState.TheVariants.{Free, Allocated}

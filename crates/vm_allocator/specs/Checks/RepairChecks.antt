@@ -6,10 +6,10 @@ use Rattle.serde_json.specs.Find.{as_null}
 use Rattle.vm_ranges.specs.Range.{Range, MAX}
 use Rattle.vm_engine.specs.Address.{AddressState, IsAddressState}
 use Rattle.vm_engine.specs.Answer.{FEWEST_TOO_DEEP}
-use Rattle.vm_ranges.specs.Block.{Block, is_free}
+use Rattle.vm_engine.specs.Tree.Block.{Block, is_free}
 use Rattle.vm_engine.specs.Tree.Blocks.{held_of}
 use Rattle.vm_engine.specs.Tree.Shape.{Shape, blocks, height_of}
-use Rattle.vm_ranges.specs.NodeChecks.{node_data}
+use Rattle.vm_engine.specs.Checks.NodeChecks.{node_data}
 use Rattle.vm_allocator.specs.Checks.AllocatorChecks.{parts_found}
 use Rattle.vm_allocator.specs.Values.RepairedValues.{MAX_HEIGHT_REPAIRED}
 use Rattle.vm_engine.specs.Values.TreeValues.{HasNodes}

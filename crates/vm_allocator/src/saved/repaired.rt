@@ -13,7 +13,8 @@ use super::allocator::{SavedAllocator, parts_of};
 use crate::address_allocator::AddressAllocator;
 use serde_json::Value;
 use std::alloc::Global;
-use vm_ranges::{AllocPolicy, Error, NodeState, RangeInclusive, Result, ValueError, node_of};
+use vm_engine::node_of;
+use vm_ranges::{AllocPolicy, Error, NodeState, RangeInclusive, Result, ValueError};
 
 /// No node is nested deeper, since no tree of the Rust crate is higher.
 const MOST_NESTED: u64 = 50;

@@ -1,7 +1,7 @@
 -- The state of blocks is one of an allocator.
 use Rattle.std.proofs.Common.{ℕ, ◌+◌, ◌≤◌, List, [], ◌∷◌, ◌++◌, arith, cond, eqb, true, false}
 use Rattle.vm_ranges.specs.Range.{Range, IsRange}
-use Rattle.vm_ranges.specs.Block.{Block}
+use Rattle.vm_engine.specs.Tree.Block.{Block}
 use Rattle.vm_engine.specs.Address.{without_range, StandInOrder, IsAddressState}
 use Rattle.vm_engine.specs.Tree.Blocks.{Tiles, range_if_held, held_of, blocks_state, TilesSpace, AreKeysIn, IsTiling, AreBelowMax}
 use Rattle.vm_ranges.specs.declared.state.NodeState.{NodeState}

@@ -1,7 +1,7 @@
 -- One state has one list of blocks.
 use Rattle.std.proofs.Common.{◌≡◌, ℕ, ◌+◌, ◌*◌, ◌≤◌, List, [], ◌∷◌, ◌++◌, length, ap, ◌∙◌, arith, ⊎_elim}
 use Rattle.vm_ranges.specs.Range.{Range}
-use Rattle.vm_ranges.specs.Block.{Block}
+use Rattle.vm_engine.specs.Tree.Block.{Block}
 use Rattle.vm_engine.specs.Address.{AddressState}
 use Rattle.vm_engine.specs.Tree.Blocks.{Tiles, range_if_held, held_of, IsBlocksOf}
 use Rattle.vm_ranges.specs.declared.state.NodeState.{NodeState}

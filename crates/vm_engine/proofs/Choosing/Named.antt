@@ -1,7 +1,7 @@
 -- From the block with a named start to the answer of a request.
 use Rattle.std.proofs.Common.{◌≡◌, ℕ, ◌+◌, ◌-◌, ◌%◌, ◌<◌, ◌≤◌, ◌∷◌, ◌++◌, Some, None, refl, sym, ap, ◌∙◌, arith, inl, inr, ⊎_elim, subst, Result, Ok, Err}
 use Rattle.vm_ranges.specs.Range.{Range, MAX, span, at_address}
-use Rattle.vm_ranges.specs.Block.{Block, free_block}
+use Rattle.vm_engine.specs.Tree.Block.{Block, free_block}
 use Rattle.vm_engine.specs.Address.{AddressState}
 use Rattle.vm_ranges.specs.Request.{Request, IsRequest, IsStartAligned}
 use Rattle.vm_engine.specs.Answer.{Takes, Grants}

@@ -3,7 +3,7 @@ use Rattle.std.proofs.Common.{◌≡◌, ℕ, ◌+◌, ◌-◌, ◌%◌, ◌<◌
 use Rattle.std.specs.List.{All}
 use Rattle.std.proofs.lemmas.List.Elements.{All-head, All-tail}
 use Rattle.vm_ranges.specs.Range.{Range}
-use Rattle.vm_ranges.specs.Block.{Block}
+use Rattle.vm_engine.specs.Tree.Block.{Block}
 use Rattle.vm_engine.specs.Address.{AddressState, IsPlace, IsLeastPlace, IsGreatestPlace}
 use Rattle.vm_engine.specs.Tree.Blocks.{Tiles, IsBlocksOf}
 use Rattle.vm_engine.specs.Engine.Fit.{IsFit, HasNoFit, IsLeastFit, IsGreatestFit}

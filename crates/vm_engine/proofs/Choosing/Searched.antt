@@ -2,7 +2,7 @@
 use Rattle.std.proofs.Common.{Option, Some, None, IfSome, ◌≡◌, ℕ, ◌+◌, ◌-◌, ◌<◌, List, ◌∷◌, ◌++◌, refl, sym, arith, inl, inr, ◌⊎◌, ⊎_elim, subst, Result, Ok, Err}
 use Rattle.std.specs.List.{All}
 use Rattle.vm_ranges.specs.Range.{Range, MAX, span}
-use Rattle.vm_ranges.specs.Block.{Block, free_block}
+use Rattle.vm_engine.specs.Tree.Block.{Block, free_block}
 use Rattle.vm_engine.specs.Address.{AddressState, IsPlace, IsLeastPlace, IsGreatestPlace}
 use Rattle.vm_ranges.specs.Request.{Request, request_for, IsRequest}
 use Rattle.vm_engine.specs.Answer.{IsChosen, ByExactStart, ByPlace, Takes, Grants}

@@ -3,7 +3,7 @@ use Rattle.std.proofs.Common.{◌≡◌, ℕ, ◌+◌, ◌-◌, ◌≤◌, ◌<�
 use Rattle.std.proofs.lemmas.Bool.{lt-ltb, le-ltb}
 use Rattle.std.proofs.lemmas.List.{append-nil}
 use Rattle.vm_ranges.specs.Range.{Range}
-use Rattle.vm_ranges.specs.Block.{Block, free_block}
+use Rattle.vm_engine.specs.Tree.Block.{Block, free_block}
 use Rattle.vm_engine.specs.Address.{AddressState}
 use Rattle.vm_engine.specs.Tree.Blocks.{Tiles, TilesSpace, held_of, gap_before, blocks_between, blocks_of}
 use Rattle.vm_engine.specs.Tree.Shape.{Shape, blocks}

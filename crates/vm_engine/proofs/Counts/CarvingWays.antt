@@ -2,7 +2,7 @@
 use Rattle.std.proofs.Common.{◌≡◌, ◌≢◌, ℕ, ◌+◌, ◌-◌, ◌*◌, ◌≤◌, ◌⊎◌, true, false, cond, refl, ap, arith, inl, inr}
 use Rattle.vm_ranges.specs.Range.{Range}
 use Rattle.vm_ranges.specs.RangeOrder.{Before, same_range, comes_first}
-use Rattle.vm_ranges.specs.Block.{Block}
+use Rattle.vm_engine.specs.Tree.Block.{Block}
 use Rattle.vm_engine.specs.Tree.Shape.{Shape, Tip, Fork, height_of, IsBalanced}
 use Rattle.vm_engine.specs.Counts.Ways.{way_to, way_to_link, way_here, way_to_carve, way_to_hold}
 use Rattle.vm_engine.specs.Engine.BlockEdits.{LeavesPart}

@@ -4,7 +4,7 @@ use Rattle.std.proofs.Common.{◌≡◌, ℕ, ◌+◌, ◌-◌, ◌%◌, ◌<◌
 use Rattle.std.proofs.lemmas.Bool.{and_parts, lt-ltb, le-ltb, cases_lt, not-true}
 use Rattle.vm_ranges.specs.Range.{Range}
 use Rattle.vm_engine.specs.Address.{StandInOrder}
-use Rattle.vm_ranges.specs.Block.{is_free, free_block, held_block}
+use Rattle.vm_engine.specs.Tree.Block.{is_free, free_block, held_block}
 use Rattle.vm_engine.specs.Tree.Blocks.{gap_before, blocks_between, blocks_of}
 use Rattle.vm_engine.specs.Engine.Fit.{HasNoFit}
 use Rattle.vm_engine.specs.Counts.GapSearch.{is_cramped, cramped_among, cramped_gaps}

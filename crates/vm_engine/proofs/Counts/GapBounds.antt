@@ -3,7 +3,7 @@ use Rattle.std.proofs.Common.{◌≡◌, ℕ, ◌+◌, ◌-◌, ◌*◌, ◌%◌
 use Rattle.std.specs.List.{list_any, filter}
 use Rattle.std.proofs.lemmas.Bool.{and_parts, leb-true, cases_lt, false_from_ne_true}
 use Rattle.vm_ranges.specs.Range.{Range}
-use Rattle.vm_ranges.specs.Block.{Block, is_free}
+use Rattle.vm_engine.specs.Tree.Block.{Block, is_free}
 use Rattle.vm_engine.specs.Address.{AddressState, IsPlace}
 use Rattle.vm_ranges.specs.Alignment.{IsLeastMultiple}
 use Rattle.vm_engine.specs.Answer.{ByExactStart, ByPlace, Takes, Grants}

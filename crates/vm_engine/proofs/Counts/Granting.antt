@@ -5,7 +5,7 @@ use Rattle.vm_ranges.specs.Range.{Range, MAX, at_address}
 use Rattle.vm_engine.specs.Address.{AddressState, LeavesClear}
 use Rattle.vm_ranges.specs.Request.{Request}
 use Rattle.vm_engine.specs.Answer.{Takes}
-use Rattle.vm_ranges.specs.Block.{free_block}
+use Rattle.vm_engine.specs.Tree.Block.{free_block}
 use Rattle.vm_engine.specs.Engine.BlockEdits.{before_part, after_part, IsTakenFrom, LeavesPart}
 use Rattle.vm_engine.specs.Tree.Shape.{Shape, Tip, Fork, blocks, height_of, node_count, IsTree, leaf_of}
 use Rattle.vm_engine.specs.Counts.Ways.{way_across, way_by, way_of_search, way_to_carve, way_to_hold, way_if_held}

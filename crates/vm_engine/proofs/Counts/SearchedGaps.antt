@@ -7,7 +7,7 @@ use Rattle.std.proofs.lemmas.List.{length-append}
 use Rattle.std.proofs.lemmas.List.Elements.{filter-append}
 use Rattle.std.proofs.lemmas.List.Folds.{list_any-append}
 use Rattle.std.proofs.lemmas.Bool.{or_parts, le-leb, cases_lt}
-use Rattle.vm_ranges.specs.Block.{Block, free_length}
+use Rattle.vm_engine.specs.Tree.Block.{Block, free_length}
 use Rattle.vm_engine.specs.Counts.GapSearch.{is_futile, futile_among, is_cramped, cramped_among}
 use Rattle.vm_engine.specs.Tree.Multiples.{has_aligned}
 use Rattle.vm_engine.specs.Tree.Shape.{Shape, Tip, Fork, blocks, height_of, max_free_of}

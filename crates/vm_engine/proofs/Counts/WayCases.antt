@@ -3,7 +3,7 @@ use Rattle.std.proofs.Common.{◌≡◌, ◌≢◌, ℕ, ◌+◌, ◌<◌, true,
 use Rattle.std.proofs.lemmas.Bool.{lt-ltb, le-ltb, eq-eqb, ne_eqb}
 use Rattle.vm_ranges.specs.Range.{Range, MAX, at_address}
 use Rattle.vm_ranges.specs.RangeOrder.{Before, StartsBefore, StartsAtOrAfter, EndsBefore, ReachesStartOf, comes_first}
-use Rattle.vm_ranges.specs.Block.{Block}
+use Rattle.vm_engine.specs.Tree.Block.{Block}
 use Rattle.vm_engine.specs.Tree.Shape.{Shape, Tip, Fork}
 use Rattle.vm_engine.specs.Counts.Ways.{way_down, way_to, way_across, way_to_first, way_to_last, way_to_join, way_to_remove, way_around, way_of_first, way_of_last, way_of_search}
 use Rattle.vm_ranges.specs.Request.{Request}

@@ -1,6 +1,6 @@
 -- A node whose one side changed in place.
 use Rattle.std.proofs.Common.{◌≡◌, ◌++◌, ◌∷◌, refl}
-use Rattle.vm_ranges.specs.Block.{Block}
+use Rattle.vm_engine.specs.Tree.Block.{Block}
 use Rattle.vm_engine.specs.Tree.BlockList.{IsOrderedFrom}
 use Rattle.vm_engine.specs.Tree.Shape.{Shape, Fork, blocks, IsTree}
 use Rattle.vm_engine.proofs.Blocks.Replacement.{take_left, removals, leavings}

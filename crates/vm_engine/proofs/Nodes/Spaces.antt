@@ -2,7 +2,7 @@
 use Rattle.std.proofs.Common.{◌≡◌, ℕ, ◌+◌, ◌*◌, ◌≤◌, List, [], ◌∷◌, refl, sym, arith, subst, Option, Some, None, IsSome, ap, ◌∙◌, ⊎_elim, Result}
 use Rattle.std.specs.Global.{Box}
 use Rattle.vm_ranges.specs.Range.{Range, MAX, IsRange, span}
-use Rattle.vm_ranges.specs.Block.{Block}
+use Rattle.vm_engine.specs.Tree.Block.{Block}
 use Rattle.vm_engine.specs.Address.{IsAddressState, AddressState}
 use Rattle.vm_engine.specs.Tree.Blocks.{Tiles, TilesSpace, IsTiling}
 use Rattle.vm_engine.specs.Tree.Shape.{Shape, Tip, blocks, height_of, node_count, single}

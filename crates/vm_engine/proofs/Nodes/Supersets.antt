@@ -3,7 +3,7 @@ use Rattle.std.proofs.Common.{◌≡◌, ℕ, ◌+◌, ◌<◌, ◌≤◌, true,
 use Rattle.std.proofs.lemmas.Bool.{and_parts, leb-true, le-leb, false_from_ne_true}
 use Rattle.vm_ranges.specs.Range.{Range, Covers}
 use Rattle.vm_ranges.specs.RangeOrder.{EndsBefore, ReachesStartOf, IsInOrder, covers}
-use Rattle.vm_ranges.specs.Block.{Block}
+use Rattle.vm_engine.specs.Tree.Block.{Block}
 use Rattle.vm_engine.specs.Tree.BlockList.{IsOrderedFrom, find_superset}
 use Rattle.vm_engine.specs.Tree.Shape.{Shape, Fork, blocks, IsTree}
 use Rattle.vm_engine.proofs.Blocks.BlockOrder.{ordered_middle}

@@ -5,7 +5,7 @@ use Rattle.std.proofs.lemmas.List.Elements.{All-cons, All-nil}
 use Rattle.std.proofs.lemmas.Bool.{lt-ltb, le-ltb, and_parts, eqb-true, leb-true, le-leb}
 use Rattle.vm_ranges.specs.Range.{Range, IsIn, at_address}
 use Rattle.vm_ranges.specs.RangeOrder.{same_range, covers}
-use Rattle.vm_ranges.specs.Block.{Block}
+use Rattle.vm_engine.specs.Tree.Block.{Block}
 use Rattle.vm_engine.specs.Tree.Blocks.{Tiles}
 use Rattle.vm_engine.specs.Tree.BlockList.{IsOrderedFrom, IsClearOf, insert_block, find_superset}
 use Rattle.vm_ranges.specs.declared.state.NodeState.{NodeState}

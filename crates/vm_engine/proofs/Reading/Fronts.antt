@@ -4,12 +4,12 @@ use Rattle.std.proofs.lemmas.Bool.{and_parts, and_from, eqb-true, eq-eqb, ltb-tr
 use Rattle.std.proofs.lemmas.Option.{same_Some}
 use Rattle.vm_ranges.proofs.Steps.{and_then_some, if_some}
 use Rattle.vm_ranges.specs.Range.{Range, MAX}
-use Rattle.vm_ranges.specs.Block.{Block, is_free}
+use Rattle.vm_engine.specs.Tree.Block.{Block, is_free}
 use Rattle.vm_engine.specs.Tree.Blocks.{NotBothFree, Tiles, range_if_held, held_of, AreBelowMax}
-use Rattle.vm_ranges.specs.NodeChecks.{follows, behind, after_all}
+use Rattle.vm_engine.specs.Checks.NodeChecks.{follows, behind, after_all}
 use Rattle.vm_ranges.specs.declared.state.NodeState.{NodeState}
 use Rattle.vm_ranges.specs.declared.state.NodeState.TheVariants.{Free, Allocated}
-use Rattle.vm_ranges.specs.declared.saved.tree.Front.{Front}
+use Rattle.vm_engine.specs.declared.saved.check.Front.{Front}
 
 -- each key has its ends in order
 abbrev pub AreKeys : List Block → Type 0

@@ -5,7 +5,7 @@ use Rattle.serde_json.specs.Data.{Data, null}
 use Rattle.vm_engine.specs.Tree.Shape.{Shape, Tip, Fork, blocks, height_of}
 use Rattle.vm_engine.specs.Values.TreeValues.{StatesShape}
 use Rattle.vm_engine.specs.Checks.ValueParts.{IsShapeWithin, HasShapeWithin}
-use Rattle.vm_ranges.specs.NodeChecks.{NodeData, node_data}
+use Rattle.vm_engine.specs.Checks.NodeChecks.{NodeData, node_data}
 use Rattle.vm_engine.proofs.Blocks.BlockOrder.{ordered_below, ordered_above}
 use Rattle.vm_engine.proofs.Reading.ReadNodes.{shape_nodes, one_tree, none_tip, data_of, node_is}
 

@@ -7,11 +7,11 @@ use Rattle.vm_ranges.proofs.FieldSteps.{count-true, true-count, in_field, field_
 use Rattle.vm_ranges.proofs.Steps.{and_then_some, map_some, if_some}
 use Rattle.vm_ranges.specs.Fields.{field_count, is_count}
 use Rattle.vm_ranges.specs.Numbers.{number_in}
-use Rattle.vm_ranges.specs.Block.{Block}
+use Rattle.vm_engine.specs.Tree.Block.{Block}
 use Rattle.vm_engine.specs.Tree.Shape.{Shape, Tip, Fork, blocks, height_of}
 use Rattle.vm_ranges.specs.RangeValues.{StatesRange, StatesState, range_found, state_found}
 use Rattle.vm_engine.specs.Values.TreeValues.{StatesNode, StatesShape, HasNodes}
-use Rattle.vm_ranges.specs.NodeChecks.{NodeData, node_data}
+use Rattle.vm_engine.specs.Checks.NodeChecks.{NodeData, node_data}
 use Rattle.vm_engine.proofs.Reading.Fronts.{AreKeys, keys-append}
 use Rattle.vm_ranges.proofs.ReadRanges as ranges
 use Rattle.vm_ranges.proofs.ReadStates as states

@@ -9,9 +9,9 @@ use Rattle.vm_engine.specs.Tree.Shape.{Shape, Tip, MAX_HEIGHT, blocks}
 use Rattle.vm_engine.specs.Tree.SpaceTree.{IsSpaceTree}
 use Rattle.vm_engine.specs.Values.TreeValues.{StatesShape, StatesSpaceTree}
 use Rattle.vm_engine.specs.Checks.ValueParts.{IsShapeWithin, HasShapeWithin}
-use Rattle.vm_ranges.specs.NodeChecks.{tree_found, front_of, tree_fitting}
+use Rattle.vm_engine.specs.Checks.NodeChecks.{tree_found, front_of, tree_fitting}
 use Rattle.vm_ranges.specs.declared.state.NodeState.TheVariants.{Allocated}
-use Rattle.vm_ranges.specs.declared.saved.tree.Checked.{Checked}
+use Rattle.vm_engine.specs.declared.saved.check.Checked.{Checked}
 use Rattle.vm_engine.proofs.Blocks.BlockOrder.{ordered_weaken}
 use Rattle.vm_engine.proofs.Nodes.Spaces.{space_tree}
 use Rattle.vm_engine.proofs.Nodes.TreeEdits.{tiles_ordered}

@@ -9,9 +9,9 @@ use Rattle.vm_ranges.proofs.Steps.{and_then_some, if_some}
 use Rattle.vm_ranges.specs.Fields.{field_count}
 use Rattle.vm_engine.specs.Tree.Shape.{Shape, Tip, Fork, blocks, height_of, IsBalanced}
 use Rattle.vm_engine.specs.Values.TreeValues.{StatesShape}
-use Rattle.vm_ranges.specs.NodeChecks.{NodeData, node_data, after_all, behind, is_true_height, node_found, tree_found}
-use Rattle.vm_ranges.specs.declared.saved.tree.Front.{Front}
-use Rattle.vm_ranges.specs.declared.saved.tree.Checked.{Checked}
+use Rattle.vm_engine.specs.Checks.NodeChecks.{NodeData, node_data, after_all, behind, is_true_height, node_found, tree_found}
+use Rattle.vm_engine.specs.declared.saved.check.Front.{Front}
+use Rattle.vm_engine.specs.declared.saved.check.Checked.{Checked}
 use Rattle.vm_engine.proofs.Reading.Fronts.{after_three, cut_in_three}
 use Rattle.vm_engine.proofs.Reading.ReadNodes.{over_sides, node_is}
 

@@ -3,12 +3,12 @@ use Rattle.std.proofs.Common.{◌≡◌, ℕ, ◌+◌, max, codes, Some, refl, a
 use Rattle.serde_json.specs.Data.{Data}
 use Rattle.vm_ranges.proofs.FieldSteps.{field_is, field_map}
 use Rattle.vm_ranges.specs.Range.{Range}
-use Rattle.vm_ranges.specs.Block.{Block}
+use Rattle.vm_engine.specs.Tree.Block.{Block}
 use Rattle.vm_engine.specs.Tree.Shape.{Shape, Tip, Fork, blocks, height_of, IsTree}
 use Rattle.vm_engine.specs.Tree.SpaceTree.{space_of, IsSpaceTree}
 use Rattle.vm_ranges.specs.RangeValues.{StatesRange, StatesState}
 use Rattle.vm_engine.specs.Values.TreeValues.{StatesNode, StatesShape, StatesSpaceTree}
-use Rattle.vm_ranges.specs.NodeChecks.{NodeParts}
+use Rattle.vm_engine.specs.Checks.NodeChecks.{NodeParts}
 use Rattle.vm_ranges.specs.declared.state.NodeState.{NodeState}
 use Rattle.vm_engine.proofs.Nodes.Spaces.{no_empty_tree}
 

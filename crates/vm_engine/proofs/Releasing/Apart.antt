@@ -1,7 +1,7 @@
 -- The blocks before and after a held one, with the free one beside it apart.
 use Rattle.std.proofs.Common.{◌≡◌, ℕ, ◌+◌, ◌≤◌, List, [], ◌∷◌, ◌++◌, Option, Some, None, refl, sym, ap, ◌∙◌, arith, subst, append_assoc, append-nil}
 use Rattle.vm_ranges.specs.Range.{Range, IsRange}
-use Rattle.vm_ranges.specs.Block.{Block, free_block, held_block}
+use Rattle.vm_engine.specs.Tree.Block.{Block, free_block, held_block}
 use Rattle.vm_engine.specs.Address.{releasing}
 use Rattle.vm_engine.specs.Tree.Blocks.{NotBothFree, Tiles, TilesSpace, IsBlocksOf}
 use Rattle.vm_engine.specs.Tree.Shape.{Shape, blocks}

@@ -3,7 +3,7 @@ use Rattle.std.proofs.Common.{◌≡◌, ℕ, ◌+◌, ◌≤◌, ◌↔◌, tru
 use Rattle.std.specs.List.{Contains}
 use Rattle.vm_ranges.specs.Range.{Range}
 use Rattle.vm_ranges.specs.RangeOrder.{same_range}
-use Rattle.vm_ranges.specs.Block.{Block, held_block}
+use Rattle.vm_engine.specs.Tree.Block.{Block, held_block}
 use Rattle.vm_engine.specs.Tree.Blocks.{held_of, TilesSpace}
 use Rattle.vm_engine.specs.Tree.BlockList.{IsOrderedFrom, find_key}
 use Rattle.vm_engine.specs.Tree.Shape.{Shape, blocks}

@@ -2,7 +2,7 @@
 use Rattle.std.proofs.Common.{◌≡◌, ◌≤◌, List, [], ◌∷◌, ◌++◌, Option, Some, None, refl, sym, ap, ◌∙◌, arith, inl, inr, ⊎_elim, subst, append_assoc, Ok, Err}
 use Rattle.std.specs.List.{Contains}
 use Rattle.vm_ranges.specs.Range.{Range}
-use Rattle.vm_ranges.specs.Block.{Block, free_block, held_block}
+use Rattle.vm_engine.specs.Tree.Block.{Block, free_block, held_block}
 use Rattle.vm_engine.specs.Address.{releasing}
 use Rattle.vm_engine.specs.Answer.{Frees}
 use Rattle.vm_engine.specs.Tree.Blocks.{TilesSpace, IsBlocksOf, held_of, blocks_state, AreBelowMax}

@@ -2,7 +2,7 @@
 use Rattle.std.proofs.Common.{◌≡◌, [], ◌∷◌, refl, sym, ◌∙◌, arith}
 use Rattle.vm_ranges.specs.Range.{Range}
 use Rattle.vm_ranges.specs.RangeOrder.{Before}
-use Rattle.vm_ranges.specs.Block.{Block, free_length, free_block, held_block}
+use Rattle.vm_engine.specs.Tree.Block.{Block, free_length, free_block, held_block}
 use Rattle.vm_engine.specs.Tree.Multiples.{free_alignments}
 use Rattle.vm_engine.specs.Tree.Shape.{Shape, Tip, Fork, blocks, IsTree}
 use Rattle.vm_engine.specs.Engine.Widening.{CanWiden, Widens}

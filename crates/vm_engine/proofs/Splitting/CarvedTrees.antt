@@ -2,7 +2,7 @@
 use Rattle.std.proofs.Common.{◌≡◌, ℕ, ◌+◌, List, [], ◌∷◌, ◌++◌, refl, sym, ap, ◌∙◌, subst, append_assoc, append-nil}
 use Rattle.vm_ranges.specs.RangeOrder.{Before}
 use Rattle.vm_ranges.specs.Range.{Range}
-use Rattle.vm_ranges.specs.Block.{Block}
+use Rattle.vm_engine.specs.Tree.Block.{Block}
 use Rattle.vm_engine.specs.Tree.BlockList.{IsOrderedFrom, IsClearOf, insert_block, insert_all, AreClearOf, replace_block}
 use Rattle.vm_engine.specs.Tree.Shape.{Shape, Fork, blocks, single, root_block, IsTree}
 use Rattle.vm_engine.proofs.Blocks.BlockOrder.{ordered_drop, ordered_below, ordered_above}

@@ -3,7 +3,7 @@ use Rattle.std.proofs.Common.{◌≡◌, ◌+◌, ◌-◌, ◌<◌, ◌≤◌, s
 use Rattle.std.proofs.lemmas.Bool.{cases_lt, le-ltb}
 use Rattle.vm_engine.specs.Engine.NodeFields.{side}
 use Rattle.vm_ranges.specs.Range.{Range}
-use Rattle.vm_ranges.specs.Block.{Block, free_block, held_block}
+use Rattle.vm_engine.specs.Tree.Block.{Block, free_block, held_block}
 use Rattle.vm_engine.specs.Address.{LeavesClear, holding}
 use Rattle.vm_engine.specs.Answer.{FEWEST_TOO_DEEP, Takes}
 use Rattle.vm_engine.specs.Tree.Blocks.{Tiles, TilesSpace, IsBlocksOf, held_of, blocks_state, AreBelowMax}

@@ -2,7 +2,7 @@
 use Rattle.std.proofs.Common.{◌≡◌, ℕ, ◌+◌, ◌-◌, ◌<◌, ◌≤◌, List, [], ◌∷◌, ◌++◌, true, false, cond, ltb, refl, sym, ap, ◌∙◌, arith, ⊎_elim, subst, inl, inr}
 use Rattle.std.proofs.lemmas.Bool.{cases_lt, lt-ltb, le-ltb}
 use Rattle.vm_ranges.specs.Range.{Range, MAX}
-use Rattle.vm_ranges.specs.Block.{Block}
+use Rattle.vm_engine.specs.Tree.Block.{Block}
 use Rattle.vm_engine.specs.Address.{AddressState, with_range, holding, LeavesClear}
 use Rattle.vm_engine.specs.Tree.Blocks.{NotBothFree, Tiles, held_of, IsBlocksOf, blocks_state, TilesSpace, AreBelowMax}
 use Rattle.vm_engine.specs.Engine.BlockEdits.{after_part, parts, IsTakenFrom, LeavesPart}

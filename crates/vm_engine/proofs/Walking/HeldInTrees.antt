@@ -1,7 +1,7 @@
 -- What is held in a tree: by its key, and how many.
 use Rattle.std.proofs.Common.{◌≡◌, ◌+◌, ◌^◌, ◌<◌, ◌≤◌, List, [], ◌∷◌, ◌++◌, length, refl, sym, ap, ◌∙◌, arith, append_assoc, length-append, ⊎_elim, ◌↔◌, Bool, IsTrue, Some}
 use Rattle.vm_ranges.specs.Range.{Range}
-use Rattle.vm_ranges.specs.Block.{Block, held_block}
+use Rattle.vm_engine.specs.Tree.Block.{Block, held_block}
 use Rattle.vm_engine.specs.Tree.Blocks.{range_if_held, held_of}
 use Rattle.vm_engine.specs.Tree.Shape.{Shape, Fork, MAX_HEIGHT, blocks, height_of}
 use Rattle.vm_ranges.specs.declared.state.NodeState.TheVariants.{Free, Allocated}

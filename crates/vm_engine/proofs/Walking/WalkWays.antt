@@ -2,7 +2,7 @@
 use Rattle.std.proofs.Common.{◌≡◌, ℕ, ◌+◌, ◌≤◌, ◌<◌, List, ◌++◌, length, set, drop, refl, arith, append_assoc, length-drop}
 use Rattle.std.proofs.lemmas.List.{drop-set}
 use Rattle.vm_engine.specs.Engine.NodeFields.{side}
-use Rattle.vm_ranges.specs.Block.{Block}
+use Rattle.vm_engine.specs.Tree.Block.{Block}
 use Rattle.vm_engine.specs.Tree.Shape.{Shape, Fork, MAX_HEIGHT, blocks, height_of}
 use Rattle.vm_engine.specs.Engine.Walks.{Stop, blocks_ahead, Fits}
 

@@ -3,7 +3,7 @@
 use Rattle.std.specs.Prelude.{◌≡◌, ℕ, ◌+◌, ◌*◌, ◌≤◌, ◌&&◌, not, min, nat_le, Bool, List, length, Result, Err}
 use Rattle.std.specs.List.{filter}
 use Rattle.vm_ranges.specs.Range.{Range}
-use Rattle.vm_ranges.specs.Block.{Block, free_length}
+use Rattle.vm_engine.specs.Tree.Block.{Block, free_length}
 use Rattle.vm_engine.specs.Tree.Multiples.{has_aligned}
 use Rattle.vm_engine.specs.Address.{AddressState}
 use Rattle.vm_engine.specs.Tree.Blocks.{blocks_of}

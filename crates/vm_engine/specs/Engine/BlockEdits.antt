@@ -1,7 +1,7 @@
 -- What is done with the list of the blocks.
 use Rattle.std.specs.Prelude.{ℕ, ◌+◌, ◌-◌, ◌<◌, ◌≤◌, ◌⊎◌, List, [], ◌∷◌, ◌++◌, if◌then◌else◌, nat_lt}
 use Rattle.vm_ranges.specs.Range.{Range}
-use Rattle.vm_ranges.specs.Block.{Block, free_block}
+use Rattle.vm_engine.specs.Tree.Block.{Block, free_block}
 use Rattle.vm_ranges.specs.declared.state.NodeState.TheVariants.{Allocated}
 
 -- the free block that is left before r where r is taken from within k

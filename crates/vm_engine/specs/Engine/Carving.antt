@@ -1,7 +1,7 @@
 -- A range taken from a free block, and what is left of that.
 use Rattle.std.specs.Prelude.{◌≡◌, List, ◌∷◌, ◌++◌, IfSome, IsSome}
 use Rattle.vm_ranges.specs.Range.{Range}
-use Rattle.vm_ranges.specs.Block.{Block, held_block}
+use Rattle.vm_engine.specs.Tree.Block.{Block, held_block}
 use Rattle.vm_engine.specs.Tree.BlockList.{IsOrderedFrom, replace_block, find_key}
 use Rattle.vm_engine.specs.Engine.BlockEdits.{before_part, after_part}
 use Rattle.vm_engine.specs.Tree.Shape.{leaf_of, blocks}

@@ -1,6 +1,6 @@
 -- What one block has room for.
 use Rattle.std.specs.Prelude.{◌≡◌, ℕ, ◌+◌, ◌%◌, ◌≤◌, Option, MatchOption}
-use Rattle.vm_ranges.specs.Block.{Block}
+use Rattle.vm_engine.specs.Tree.Block.{Block}
 use Rattle.vm_ranges.specs.declared.state.NodeState.TheVariants.{Free}
 
 -- the n addresses from t on lie in the free block, and a divides t

@@ -2,7 +2,7 @@
 use Rattle.std.specs.Prelude.{◌≡◌, ◌⊎◌, if◌then◌else◌, nat_lt, Option, Some, None, List, Result, Ok, Err, [], ◌∷◌}
 use Rattle.vm_ranges.specs.Range.{Range, Overlaps}
 use Rattle.vm_engine.specs.Tree.BlockList.{IsClearOf, insert_block, replace_block}
-use Rattle.vm_ranges.specs.Block.{Block}
+use Rattle.vm_engine.specs.Tree.Block.{Block}
 use Rattle.vm_engine.specs.Tree.Shape.{Shape, Tip, Fork, blocks}
 use Rattle.vm_engine.specs.Engine.Changes.{Grows}
 use Rattle.vm_engine.specs.declared.allocation_engine.node.kept.Change.TheVariants.{Height}

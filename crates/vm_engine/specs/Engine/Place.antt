@@ -1,7 +1,7 @@
 -- A place for a request, in the free block that has it.
 use Rattle.std.specs.Prelude.{◌≡◌, ℕ, List, ◌∷◌, ◌++◌, Option, MatchOption}
 use Rattle.std.specs.List.{All}
-use Rattle.vm_ranges.specs.Block.{Block, free_block}
+use Rattle.vm_engine.specs.Tree.Block.{Block, free_block}
 use Rattle.vm_engine.specs.Engine.Fit.{HasNoFit, IsLeastFit, IsGreatestFit}
 use Rattle.vm_engine.specs.declared.allocation_engine.node.places.Place.{Place}
 

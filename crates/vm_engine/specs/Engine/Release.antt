@@ -1,7 +1,7 @@
 -- A held block that is given back, between what stands before and after it.
 use Rattle.std.specs.Prelude.{◌≡◌, ℕ, if◌then◌else◌, List, [], ◌∷◌, ◌++◌, Option, Some, None}
 use Rattle.vm_ranges.specs.Range.{Range, IsRange}
-use Rattle.vm_ranges.specs.Block.{Block, free_block, held_block}
+use Rattle.vm_engine.specs.Tree.Block.{Block, free_block, held_block}
 use Rattle.vm_engine.specs.Tree.BlockList.{IsOrderedFrom, replace_block}
 use Rattle.vm_ranges.specs.RangeOrder.{same_range}
 use Rattle.vm_engine.specs.declared.allocation_engine.node.neighbours.Neighbours.{Neighbours}

@@ -1,7 +1,7 @@
 -- What becomes of a node once one of its children has changed.
 use Rattle.std.specs.Prelude.{◌≡◌, ℕ, ◌+◌, max, Option, None, IsSome}
 use Rattle.std.specs.Global.{Box}
-use Rattle.vm_ranges.specs.Block.{Block, free_length}
+use Rattle.vm_engine.specs.Tree.Block.{Block, free_length}
 use Rattle.vm_engine.specs.Tree.Multiples.{free_alignments}
 use Rattle.vm_engine.specs.Tree.Shape.{Shape, height_of, max_free_of, alignments_of, DifferByAtMost, root_block}
 use Rattle.vm_engine.specs.Engine.Changes.{KeepsHeight, KeepsRoom, IsLeaf, CanBalance, Balances}

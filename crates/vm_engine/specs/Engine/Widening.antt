@@ -1,7 +1,7 @@
 -- A held block made free and given more addresses.
 use Rattle.std.specs.Prelude.{◌≡◌, List, Some, max}
 use Rattle.vm_ranges.specs.Range.{Range}
-use Rattle.vm_ranges.specs.Block.{Block, free_length, free_block, held_block}
+use Rattle.vm_engine.specs.Tree.Block.{Block, free_length, free_block, held_block}
 use Rattle.vm_engine.specs.Tree.BlockList.{IsOrderedFrom, with_block, find_key}
 use Rattle.vm_engine.specs.Tree.Multiples.{free_alignments}
 use Rattle.vm_engine.specs.Tree.Shape.{Shape, blocks, height_of, max_free_of, alignments_of, IsTree}

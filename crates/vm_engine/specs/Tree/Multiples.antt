@@ -1,7 +1,7 @@
 -- Multiples of an alignment in ranges and blocks.
 use Rattle.std.specs.Prelude.{◌≡◌, ℕ, zero, suc, ◌+◌, ◌-◌, ◌%◌, ◌^◌, ◌&&◌, if◌then◌else◌, nat_eq, nat_le, Bool}
 use Rattle.vm_ranges.specs.Range.{Range, IsIn}
-use Rattle.vm_ranges.specs.Block.{Block, is_free}
+use Rattle.vm_engine.specs.Tree.Block.{Block, is_free}
 
 -- a multiple of a lies in the range
 unfoldable pub HasMultiple : ℕ → Range → Type 0

@@ -1,6 +1,6 @@
 -- The tree with no pointers: what a node is seen as.
 use Rattle.std.specs.Prelude.{ℕ, ◌+◌, ◌≤◌, max, List, [], ◌∷◌, ◌++◌}
-use Rattle.vm_ranges.specs.Block.{Block, free_length}
+use Rattle.vm_engine.specs.Tree.Block.{Block, free_length}
 use Rattle.vm_engine.specs.Tree.BlockList.{IsOrderedFrom}
 use Rattle.vm_engine.specs.Tree.Multiples.{free_alignments}
 use Rattle.vm_ranges.specs.declared.state.NodeState.TheVariants.{Free}

@@ -2,7 +2,7 @@
 use Rattle.std.specs.Prelude.{◌≡◌, List, [], ◌∷◌, ◌++◌, Option, Some, None, refl}
 use Rattle.std.specs.Coded.{Coded, code_by, coded_list, coded_option}
 use Rattle.std.proofs.Common.{ap, ◌∙◌}
-use Rattle.vm_ranges.specs.Block.{Block, block_code}
+use Rattle.vm_engine.specs.Tree.Block.{Block, block_code}
 use Rattle.vm_engine.specs.Tree.Shape.{Shape, Tip, Fork}
 
 -- the code of a shape: the blocks of its nodes and a mark for each tip, each node after its sides

@@ -4,7 +4,7 @@ use Rattle.serde_json.specs.Data.{Data, null}
 use Rattle.vm_ranges.specs.Fields.{field_count, FieldIs}
 use Rattle.vm_ranges.specs.Numbers.{number_in}
 use Rattle.vm_ranges.specs.Range.{Range}
-use Rattle.vm_ranges.specs.Block.{Block}
+use Rattle.vm_engine.specs.Tree.Block.{Block}
 use Rattle.vm_engine.specs.Tree.Blocks.{IsTiling}
 use Rattle.vm_engine.specs.Tree.BlockList.{IsOrderedFrom}
 use Rattle.vm_engine.specs.Tree.Shape.{Shape, Tip, Fork, MAX_HEIGHT, blocks, height_of, IsBalanced}

@@ -18,7 +18,7 @@ pub(crate) struct Block {
 }
 
 impl Model for Block {
-    ghost use Rattle.vm_ranges.specs.Block.{Block, block_code};
+    ghost use Rattle.vm_engine.specs.Tree.Block.{Block, block_code};
 
     ghost Value = { Block };
 

@@ -9,3 +9,5 @@
 
 pub mod allocation_engine;
 mod saved;
+
+pub use saved::node::{SavedNode, node_of};

@@ -1,15 +1,13 @@
 // Written by bindings/erase from crates/vm_ranges/src/saved.rt: do not edit.
 
-//! Saved values: what is written of ranges, states and nodes as a `Value`, and read again. A value may
+//! Saved values: what is written of ranges and states as a `Value`, and read again. A value may
 //! come from a stranger. It is read only where it states an object: it has exactly the fields that it
 //! should, and all that has to hold of them holds. The order of the fields says nothing.
 
 pub(crate) mod fields;
-pub(crate) mod node;
 pub(crate) mod numbers;
 pub(crate) mod range;
 pub(crate) mod state;
-pub(crate) mod tree;
 
 use rattle::AllocError;
 use rattle::Error;

@@ -3,7 +3,7 @@
 ghost use Rattle.std.specs.Prelude.{◌≡◌, ◌+◌, ◌*◌, ◌<◌, ◌≤◌, Err, IfOk, IfErr, IfSome, OnErr, OnOk};
 ghost use Rattle.vm_ranges.specs.Range.{MAX};
 ghost use Rattle.vm_engine.specs.Answer.{Takes};
-ghost use Rattle.vm_ranges.specs.Block.{free_block};
+ghost use Rattle.vm_engine.specs.Tree.Block.{free_block};
 ghost use Rattle.vm_engine.specs.Engine.BlockEdits.{IsTakenFrom, LeavesPart, before_part, after_part};
 ghost use Rattle.vm_ranges.specs.Cases.{Tells};
 ghost use Rattle.vm_engine.specs.Engine.Carving.{IsRest};

@@ -2,7 +2,7 @@
 //! has it.
 ghost use Rattle.std.specs.Prelude.{◌≡◌, ◌≢◌, ◌+◌, ◌<◌, ◌≤◌, IfErr, IfSome};
 ghost use Rattle.vm_ranges.specs.Range.{MAX};
-ghost use Rattle.vm_ranges.specs.Block.{free_block};
+ghost use Rattle.vm_engine.specs.Tree.Block.{free_block};
 ghost use Rattle.vm_engine.specs.Engine.BlockEdits.{HasRoom};
 ghost use Rattle.vm_engine.specs.Tree.Shape.{height_of, node_count};
 ghost use Rattle.vm_engine.specs.Tree.SpaceTree.{Chooses, ChoosesAt, ExactIn};

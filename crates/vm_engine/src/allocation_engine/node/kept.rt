@@ -9,7 +9,7 @@
 //! instructions of `exact`, 3.8 % of `first` and 8.1 % of `devices`, and `mixed` has a 25th of the
 //! time.
 ghost use Rattle.std.specs.Prelude.{◌≡◌, ◌+◌, ◌<◌, ◌^◌, max};
-ghost use Rattle.vm_ranges.specs.Block.{free_length};
+ghost use Rattle.vm_engine.specs.Tree.Block.{free_length};
 ghost use Rattle.vm_engine.specs.Tree.Multiples.{alignment_count, free_alignments};
 ghost use Rattle.vm_engine.specs.Tree.Shape.{height_of, max_free_of, alignments_of, IsTree};
 ghost use Rattle.vm_engine.specs.Engine.Changes.{IsSameIfNot, KeepsRoom};

@@ -3,7 +3,7 @@
 ghost use Rattle.std.specs.Prelude.{◌≡◌, ◌+◌, ◌≤◌, ◌^◌, ◌↔◌, List, length};
 ghost use Rattle.std.specs.List.{All};
 ghost use Rattle.vm_ranges.specs.Range.{Range, Overlaps};
-ghost use Rattle.vm_ranges.specs.Block.{Block};
+ghost use Rattle.vm_engine.specs.Tree.Block.{Block};
 ghost use Rattle.vm_engine.specs.Tree.BlockList.{IsOrderedFrom, IsClearOf};
 ghost use Rattle.vm_engine.specs.Tree.Shape.{Shape, blocks, height_of, node_count, IsBalanced};
 ghost use Rattle.vm_engine.specs.Counts.Fibonacci.{fibonacci};

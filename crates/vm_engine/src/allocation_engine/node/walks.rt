@@ -54,7 +54,7 @@ pub(crate) struct Walk<'a> {
 
 impl<'a> Model for Walk<'a> {
     ghost use Rattle.std.specs.Prelude.{List, drop};
-    ghost use Rattle.vm_ranges.specs.Block.{Block};
+    ghost use Rattle.vm_engine.specs.Tree.Block.{Block};
     ghost use Rattle.vm_engine.specs.Engine.Walks.{blocks_ahead, IsWay};
 
     ghost Value = { List Block };

@@ -8,7 +8,7 @@
 //! One descent enters fewer nodes and has a way back wherever blocks are joined.
 ghost use Rattle.std.specs.Prelude.{◌≡◌, ◌+◌, ◌≤◌};
 ghost use Rattle.vm_ranges.specs.Range.{MAX};
-ghost use Rattle.vm_ranges.specs.Block.{free_length, free_block};
+ghost use Rattle.vm_engine.specs.Tree.Block.{free_length, free_block};
 ghost use Rattle.vm_engine.specs.Tree.Multiples.{free_alignments};
 ghost use Rattle.vm_engine.specs.Tree.Shape.{blocks, height_of};
 ghost use Rattle.vm_engine.specs.Counts.Ways.{way_to};

@@ -6,9 +6,11 @@ use crate::allocation_engine::IntervalTree;
 use crate::allocation_engine::ends::known;
 use crate::allocation_engine::node::walks::saving::save;
 use crate::allocation_engine::node::{Child, InnerNode};
+use crate::saved::check::{MOST_NESTED, has_tree_of};
+use crate::saved::node::node_of;
 use rattle::Value;
 use rattle::Global;
-use vm_ranges::{MOST_NESTED, RangeInclusive, Result, ValueError, has_tree_of, node_of};
+use vm_ranges::{RangeInclusive, Result, ValueError};
 
 impl IntervalTree {
     /// The value that states the tree, node for node. `OutOfMemory` where there is no memory for it.

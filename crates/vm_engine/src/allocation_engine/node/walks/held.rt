@@ -4,7 +4,7 @@
 ghost use Rattle.std.specs.Prelude.{◌≡◌, ◌≤◌, ◌↔◌, IsTrue, Some, length};
 ghost use Rattle.vm_engine.specs.Tree.Blocks.{held_of};
 ghost use Rattle.vm_engine.specs.Tree.BlockList.{find_key};
-ghost use Rattle.vm_ranges.specs.Block.{held_block};
+ghost use Rattle.vm_engine.specs.Tree.Block.{held_block};
 ghost use Rattle.vm_engine.specs.Tree.Shape.{MAX_HEIGHT, blocks, height_of};
 ghost use Rattle.vm_engine.specs.Engine.NodeFields.{side};
 

@@ -5,7 +5,7 @@ use Rattle.vm_engine.proofs.Splitting.CarvedTrees.{carvings, before_clear, after
 use Rattle.vm_engine.proofs.Counts.CarvingWays.{ways_to_carve, link_bounds}
 use Rattle.vm_ranges.specs.declared.state.NodeState.TheVariants.{Allocated}
 use Rattle.vm_engine.specs.Tree.Shape.{blocks}
-use Rattle.vm_ranges.specs.Block.{held_block}
+use Rattle.vm_engine.specs.Tree.Block.{held_block}
 use Rattle.vm_engine.specs.Engine.NodeFields.{side, shape_of}
 use Rattle.vm_engine.proofs.allocation_engine.node.carve.carve_here.Goals as goal
 

@@ -2,16 +2,13 @@
 //! memory.
 ghost use Rattle.std.specs.Prelude.{◌≡◌, IfOk, option_map};
 ghost use Rattle.serde_json.specs.View.{view};
-ghost use Rattle.vm_ranges.specs.NodeChecks.{NodeParts, node_data};
+ghost use Rattle.vm_ranges.specs.Saving.{Saves};
+ghost use Rattle.vm_engine.specs.Values.TreeValues.{StatesNode};
+ghost use Rattle.vm_engine.specs.Checks.NodeChecks.{NodeParts, node_data};
 
-use crate::range::RangeInclusive;
-use crate::saved::fields::has_fields;
-use crate::saved::numbers::number_in;
-use crate::saved::range::range_in;
-use crate::saved::state::state_in;
-use crate::state::NodeState;
 use serde_json::{Value, json};
 use std::alloc::{AllocError, Global};
+use vm_ranges::{NodeState, RangeInclusive, Result, has_fields, number_in, range_in, state_in};
 
 const KEY: &str = "key";
 
@@ -59,22 +56,28 @@ pub fn node_of(value: &Value) -> Option<SavedNode<'_>>
     })
 }
 
-/// The object of a node's fields.
-pub fn save_node(
-    alloc: Global,
-    mut key: Value,
-    mut state: Value,
+/// The value of a node over the values of its children. `OutOfMemory` where there is no memory for it.
+#[inline(always)]
+#[tactic(auto, using(crate::proofs::Reading::Writing::parts))]
+pub(crate) fn save_node(
     mut left: Value,
+    key: &RangeInclusive,
+    node_state: NodeState,
     mut right: Value,
     height: u64,
-) -> Result<Value, AllocError>
-    ensures { IfOk result (λ node. NodeParts (view node) (view key) (view state) (view left) (view right) height) }
+    alloc: Global,
+) -> Result<Value>
+    ensures { Saves
+        (λ d. StatesNode d (record { key = key.now; state = node_state }) (λ v. v ≡ view left) (λ v. v ≡ view right) height)
+        result }
 {
-    put_together(alloc, &mut key, &mut state, &mut left, &mut right, height)
+    let mut key = key.to_value(alloc)?;
+    let mut state = node_state.to_value(alloc)?;
+    Ok(put_together(alloc, &mut key, &mut state, &mut left, &mut right, height)?)
 }
 
-/// The same of values that it takes from where they stand: so a refusal has none of them to give back,
-/// and less is to be proved.
+/// The object of a node's fields. It takes their values from where they stand: so a refusal has none of
+/// them to give back, and less is to be proved.
 fn put_together(
     alloc: Global,
     key: &mut Value,
@@ -82,7 +85,7 @@ fn put_together(
     left: &mut Value,
     right: &mut Value,
     height: u64,
-) -> Result<Value, AllocError>
+) -> std::result::Result<Value, AllocError>
     ensures { IfOk result (λ node.
         NodeParts (view node) (view key.old) (view state.old) (view left.old) (view right.old) height) }
 {

@@ -1,19 +1,18 @@
-// Written by bindings/erase from crates/vm_ranges/src/saved/tree.rt: do not edit.
+// Written by bindings/erase from crates/vm_engine/src/saved/check.rt: do not edit.
 
 //! The check of a saved tree, which takes no memory: block by block and node by node, to the first thing
 //! that is wrong.
 
 use super::node::node_of;
-use crate::range::RangeInclusive;
-use crate::state::NodeState;
 use rattle::Value;
+use vm_ranges::{NodeState, RangeInclusive};
 
 /// No node of a saved tree is nested deeper, since no tree of an allocator is higher.
-pub const MOST_NESTED: u64 = 49;
+pub(super) const MOST_NESTED: u64 = 49;
 
 /// Whether a value has a tree with blocks from the start to the end of the space. It takes no memory and
 /// goes down at most 50 levels of the value.
-pub fn has_tree_of(space: &RangeInclusive, value: &Value) -> bool {
+pub(super) fn has_tree_of(space: &RangeInclusive, value: &Value) -> bool {
     let before = Front {
         next: space.start().into(),
         before: NodeState::Allocated,
@@ -24,13 +23,13 @@ pub fn has_tree_of(space: &RangeInclusive, value: &Value) -> bool {
     found.front.next == u128::from(space.end()) + 1
 }
 
-/// Where the blocks met so far end. The lemmas of the crate above speak of it.
+/// Where the blocks met so far end.
 #[derive(Clone, Copy)]
-pub struct Front {
+struct Front {
     /// Where the next block has to start.
-    pub next: u128,
+    next: u128,
     /// The state of the last block.
-    pub before: NodeState,
+    before: NodeState,
 }
 
 impl Front {
@@ -49,13 +48,13 @@ impl Front {
     }
 }
 
-/// What the check of a tree finds. The lemmas of the crate above speak of it.
+/// What the check of a tree finds.
 #[derive(Clone, Copy)]
-pub struct Checked {
+struct Checked {
     /// The height of the tree.
-    pub height: u64,
+    height: u64,
     /// The front behind its blocks.
-    pub front: Front,
+    front: Front,
 }
 
 /// The height of the tree that a value has, and the front behind its blocks. None where it is no tree,

@@ -6,11 +6,11 @@ use Rattle.serde_json.specs.Find.{get, as_null}
 use Rattle.vm_ranges.specs.Fields.{field_count, is_count}
 use Rattle.vm_ranges.specs.Numbers.{number_in}
 use Rattle.vm_ranges.specs.Range.{Range, MAX}
-use Rattle.vm_ranges.specs.Block.{Block, is_free}
+use Rattle.vm_engine.specs.Tree.Block.{Block, is_free}
 use Rattle.vm_ranges.specs.RangeValues.{range_found, state_found}
 use Rattle.vm_ranges.specs.declared.state.NodeState.TheVariants.{Allocated}
-use Rattle.vm_ranges.specs.declared.saved.tree.Front.{Front}
-use Rattle.vm_ranges.specs.declared.saved.tree.Checked.{Checked}
+use Rattle.vm_engine.specs.declared.saved.check.Front.{Front}
+use Rattle.vm_engine.specs.declared.saved.check.Checked.{Checked}
 
 -- no node of a saved tree is nested deeper, since no tree of an allocator is higher
 abbrev pub MOST_NESTED : ℕ

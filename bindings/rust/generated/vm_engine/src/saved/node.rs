@@ -1,16 +1,11 @@
-// Written by bindings/erase from crates/vm_ranges/src/saved/node.rt: do not edit.
+// Written by bindings/erase from crates/vm_engine/src/saved/node.rt: do not edit.
 
 //! The fields of a node's value, read and written: their names stand here alone. Reading takes no
 //! memory.
 
-use crate::range::RangeInclusive;
-use crate::saved::fields::has_fields;
-use crate::saved::numbers::number_in;
-use crate::saved::range::range_in;
-use crate::saved::state::state_in;
-use crate::state::NodeState;
 use rattle::{Value, json};
 use rattle::{AllocError, Global};
+use vm_ranges::{NodeState, RangeInclusive, Result, has_fields, number_in, range_in, state_in};
 
 const KEY: &str = "key";
 
@@ -51,20 +46,23 @@ pub fn node_of(value: &Value) -> Option<SavedNode<'_>> {
     })
 }
 
-/// The object of a node's fields.
-pub fn save_node(
-    alloc: Global,
-    mut key: Value,
-    mut state: Value,
+/// The value of a node over the values of its children. `OutOfMemory` where there is no memory for it.
+#[inline(always)]
+pub(crate) fn save_node(
     mut left: Value,
+    key: &RangeInclusive,
+    node_state: NodeState,
     mut right: Value,
     height: u64,
-) -> Result<Value, AllocError> {
-    put_together(alloc, &mut key, &mut state, &mut left, &mut right, height)
+    alloc: Global,
+) -> Result<Value> {
+    let mut key = key.to_value(alloc)?;
+    let mut state = node_state.to_value(alloc)?;
+    Ok(put_together(alloc, &mut key, &mut state, &mut left, &mut right, height)?)
 }
 
-/// The same of values that it takes from where they stand: so a refusal has none of them to give back,
-/// and less is to be proved.
+/// The object of a node's fields. It takes their values from where they stand: so a refusal has none of
+/// them to give back, and less is to be proved.
 fn put_together(
     alloc: Global,
     key: &mut Value,
@@ -72,7 +70,7 @@ fn put_together(
     left: &mut Value,
     right: &mut Value,
     height: u64,
-) -> Result<Value, AllocError> {
+) -> core::result::Result<Value, AllocError> {
     json!(in alloc; {
         KEY: key.take(),
         STATE: state.take(),

@@ -1,7 +1,7 @@
 use Rattle.std.proofs.lemmas.Grind.{common_steps}
 use Rattle.std.proofs.Common.{arith}
-use Rattle.vm_ranges.specs.NodeChecks.{tree_found}
-use Rattle.vm_ranges.proofs.saved.tree.+check.Goals as goal
+use Rattle.vm_engine.specs.Checks.NodeChecks.{tree_found}
+use Rattle.vm_engine.proofs.saved.check.+check.Goals as goal
 
 -- named, since the search for them is slow
 pub returns-then-is_null-clause-found : goal.returns-then-is_null-clause-found

@@ -2,19 +2,18 @@
 //! that is wrong.
 ghost use Rattle.std.specs.Prelude.{◌≡◌, ◌≤◌, ◌+◌, ◌<◌, ◌^◌, IfSome, is_some};
 ghost use Rattle.serde_json.specs.View.{view};
-ghost use Rattle.vm_ranges.specs.NodeChecks.{behind, is_true_height, tree_found, tree_fitting};
+ghost use Rattle.vm_engine.specs.Checks.NodeChecks.{behind, is_true_height, tree_found, tree_fitting};
 
 use super::node::node_of;
-use crate::range::RangeInclusive;
-use crate::state::NodeState;
 use serde_json::Value;
+use vm_ranges::{NodeState, RangeInclusive};
 
 /// No node of a saved tree is nested deeper, since no tree of an allocator is higher.
-pub const MOST_NESTED: u64 = 49;
+pub(super) const MOST_NESTED: u64 = 49;
 
 /// Whether a value has a tree with blocks from the start to the end of the space. It takes no memory and
 /// goes down at most 50 levels of the value.
-pub fn has_tree_of(space: &RangeInclusive, value: &Value) -> bool
+pub(super) fn has_tree_of(space: &RangeInclusive, value: &Value) -> bool
     ensures { result ≡ is_some (tree_fitting space.now (view value.now)) }
 {
     let before = Front {
@@ -27,13 +26,13 @@ pub fn has_tree_of(space: &RangeInclusive, value: &Value) -> bool
     found.front.next == u128::from(space.end()) + 1
 }
 
-/// Where the blocks met so far end. The lemmas of the crate above speak of it.
+/// Where the blocks met so far end.
 #[derive(Clone, Copy)]
-pub struct Front {
+struct Front {
     /// Where the next block has to start.
-    pub next: u128,
+    next: u128,
     /// The state of the last block.
-    pub before: NodeState,
+    before: NodeState,
 }
 
 impl Front {
@@ -54,19 +53,19 @@ impl Front {
     }
 }
 
-/// What the check of a tree finds. The lemmas of the crate above speak of it.
+/// What the check of a tree finds.
 #[derive(Clone, Copy)]
-pub struct Checked {
+struct Checked {
     /// The height of the tree.
-    pub height: u64,
+    height: u64,
     /// The front behind its blocks.
-    pub front: Front,
+    front: Front,
 }
 
 /// The height of the tree that a value has, and the front behind its blocks. None where it is no tree,
 /// has nodes nested deeper than `depth`, a wrong height, no balance, or a block that may not stand
 /// where it does.
-#[tactic(auto, unfolding(crate::specs::NodeChecks::tree_found))]
+#[tactic(auto, unfolding(crate::specs::Checks::NodeChecks::tree_found))]
 fn check(value: &Value, depth: u64, front: Front) -> Option<Checked>
     ensures found { result ≡ tree_found depth (view value.now) front }
     ensures not_deeper { IfSome result (λ found. found.height ≤ depth) }

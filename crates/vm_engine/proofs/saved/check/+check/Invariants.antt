@@ -1,4 +1,4 @@
-use Rattle.vm_ranges.proofs.saved.tree.+check.Given as goal
+use Rattle.vm_engine.proofs.saved.check.+check.Given as goal
 
 abbrev pub decreases-check : goal.decreases-check
 decreases-check l = l.depth
