@@ -1,6 +1,4 @@
 pub mod Changes
-pub mod Fit
-pub mod BlockEdits
 pub mod Place
 pub mod Release
 pub mod Beside
@@ -10,3 +8,4 @@ pub mod NodeAnswer
 pub mod Widening
 pub mod Carving
 pub mod Walks
+pub mod Choosing

@@ -5,3 +5,6 @@ pub mod SpaceTree
 pub mod BlockList
 pub mod Shape
 pub mod ShapeCode
+pub mod BlockEdits
+pub mod Fit
+pub mod FreeBeside

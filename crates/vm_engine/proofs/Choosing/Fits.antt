@@ -5,7 +5,7 @@ use Rattle.std.proofs.Math.Nat.{mul-add-mod_self_right, zero-mod}
 use Rattle.vm_ranges.specs.Range.{Range, MAX}
 use Rattle.vm_engine.specs.Tree.Block.{Block}
 use Rattle.vm_ranges.specs.Alignment.{IsAlignment, AlignsDown, AlignsUp, IsGreatestMultiple, IsLeastMultiple}
-use Rattle.vm_engine.specs.Engine.Fit.{HasNoFit, IsLeastFit, IsGreatestFit}
+use Rattle.vm_engine.specs.Tree.Fit.{HasNoFit, IsLeastFit, IsGreatestFit}
 use Rattle.vm_ranges.specs.declared.error.Error.{Error}
 use Rattle.vm_ranges.specs.declared.state.NodeState.{NodeState}
 use Rattle.vm_ranges.specs.declared.state.NodeState.TheVariants.{Free, Allocated}

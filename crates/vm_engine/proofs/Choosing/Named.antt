@@ -7,7 +7,8 @@ use Rattle.vm_ranges.specs.Request.{Request, IsRequest, IsStartAligned}
 use Rattle.vm_engine.specs.Answer.{Takes, Grants}
 use Rattle.vm_engine.specs.Tree.BlockList.{find_superset}
 use Rattle.vm_engine.specs.Tree.Shape.{Shape, blocks}
-use Rattle.vm_engine.specs.Tree.SpaceTree.{space_of, tree_state, IsSpaceTree, HoldingGrants, Chooses, ExactIn}
+use Rattle.vm_engine.specs.Engine.Choosing.{HoldingGrants, Chooses, ExactIn}
+use Rattle.vm_engine.specs.Tree.SpaceTree.{space_of, tree_state, IsSpaceTree}
 use Rattle.vm_ranges.specs.declared.error.Error.{Error}
 use Rattle.vm_ranges.specs.declared.error.Error.TheVariants.{Overflow, ResourceNotAvailable, InvalidStateTransition}
 use Rattle.vm_ranges.specs.declared.state.NodeState.{NodeState}

@@ -5,7 +5,7 @@ use Rattle.std.proofs.Common.{false, ◌≡◌, ℕ, Option, Some, None, List, [
 use Rattle.std.specs.List.{All}
 use Rattle.std.proofs.lemmas.List.Elements.{All-head, All-tail, All-cons}
 use Rattle.vm_engine.specs.Tree.Block.{Block, free_block}
-use Rattle.vm_engine.specs.Engine.Fit.{IsFit, HasNoFit, IsLeastFit, IsGreatestFit}
+use Rattle.vm_engine.specs.Tree.Fit.{IsFit, HasNoFit, IsLeastFit, IsGreatestFit}
 use Rattle.vm_engine.specs.Engine.Place.{IsFirstFit, IsLastFit, FindsFirst, FindsLast}
 use Rattle.vm_engine.specs.Tree.Shape.{Shape, Fork, blocks}
 use Rattle.vm_engine.specs.declared.allocation_engine.node.places.Place.{Place}

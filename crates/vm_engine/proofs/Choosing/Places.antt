@@ -6,7 +6,7 @@ use Rattle.vm_ranges.specs.Range.{Range}
 use Rattle.vm_engine.specs.Tree.Block.{Block}
 use Rattle.vm_engine.specs.Address.{AddressState, IsPlace, IsLeastPlace, IsGreatestPlace}
 use Rattle.vm_engine.specs.Tree.Blocks.{Tiles, IsBlocksOf}
-use Rattle.vm_engine.specs.Engine.Fit.{IsFit, HasNoFit, IsLeastFit, IsGreatestFit}
+use Rattle.vm_engine.specs.Tree.Fit.{IsFit, HasNoFit, IsLeastFit, IsGreatestFit}
 use Rattle.vm_engine.proofs.Blocks.PlainWords.{IsHeldAddress, all_miss, none_holds}
 use Rattle.vm_ranges.specs.declared.state.NodeState.{NodeState}
 use Rattle.vm_ranges.specs.declared.state.NodeState.TheVariants.{Free, Allocated}

@@ -6,11 +6,12 @@ use Rattle.vm_engine.specs.Tree.Block.{Block, free_block}
 use Rattle.vm_engine.specs.Address.{AddressState, IsPlace, IsLeastPlace, IsGreatestPlace}
 use Rattle.vm_ranges.specs.Request.{Request, request_for, IsRequest}
 use Rattle.vm_engine.specs.Answer.{IsChosen, ByExactStart, ByPlace, Takes, Grants}
-use Rattle.vm_engine.specs.Engine.Fit.{HasNoFit, IsLeastFit, IsGreatestFit}
-use Rattle.vm_engine.specs.Engine.BlockEdits.{IsTakenFrom, HasRoom}
+use Rattle.vm_engine.specs.Tree.Fit.{HasNoFit, IsLeastFit, IsGreatestFit}
+use Rattle.vm_engine.specs.Tree.BlockEdits.{IsTakenFrom, HasRoom}
 use Rattle.vm_engine.specs.Engine.Place.{IsFirstFit, IsLastFit, FindsFirst, FindsLast}
 use Rattle.vm_engine.specs.Tree.Shape.{Shape, blocks}
-use Rattle.vm_engine.specs.Tree.SpaceTree.{ChoosesAt, space_of, tree_state, IsSpaceTree, IsChoice, HoldingGrants, Chooses, ChoosesBelowMax}
+use Rattle.vm_engine.specs.Engine.Choosing.{ChoosesAt, IsChoice, HoldingGrants, Chooses, ChoosesBelowMax}
+use Rattle.vm_engine.specs.Tree.SpaceTree.{space_of, tree_state, IsSpaceTree}
 use Rattle.vm_ranges.specs.declared.error.Error.{Error}
 use Rattle.vm_ranges.specs.declared.error.Error.TheVariants.{Overflow, ResourceNotAvailable}
 use Rattle.vm_ranges.specs.declared.constraint.AllocPolicy.{AllocPolicy}

@@ -5,7 +5,7 @@ use Rattle.vm_ranges.specs.RangeOrder.{Before, same_range, comes_first}
 use Rattle.vm_engine.specs.Tree.Block.{Block}
 use Rattle.vm_engine.specs.Tree.Shape.{Shape, Tip, Fork, height_of, IsBalanced}
 use Rattle.vm_engine.specs.Counts.Ways.{way_to, way_to_link, way_here, way_to_carve, way_to_hold}
-use Rattle.vm_engine.specs.Engine.BlockEdits.{LeavesPart}
+use Rattle.vm_engine.specs.Tree.BlockEdits.{LeavesPart}
 use Rattle.vm_engine.specs.Engine.Carving.{IsRest}
 use Rattle.vm_engine.specs.Engine.NodeFields.{side}
 use Rattle.vm_engine.specs.declared.allocation_engine.node.carve.Rest.{Rest}

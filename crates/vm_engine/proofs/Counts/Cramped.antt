@@ -6,7 +6,7 @@ use Rattle.vm_ranges.specs.Range.{Range}
 use Rattle.vm_engine.specs.Address.{StandInOrder}
 use Rattle.vm_engine.specs.Tree.Block.{is_free, free_block, held_block}
 use Rattle.vm_engine.specs.Tree.Blocks.{gap_before, blocks_between, blocks_of}
-use Rattle.vm_engine.specs.Engine.Fit.{HasNoFit}
+use Rattle.vm_engine.specs.Tree.Fit.{HasNoFit}
 use Rattle.vm_engine.specs.Counts.GapSearch.{is_cramped, cramped_among, cramped_gaps}
 use Rattle.vm_engine.specs.Laws.AddressLaws.{CrampedIsTold, CrampedAreFew}
 use Rattle.vm_engine.specs.Tree.Multiples.{HasMultiple, has_multiple, has_aligned, multiples_below, multiples_in}

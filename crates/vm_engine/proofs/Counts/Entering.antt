@@ -10,7 +10,7 @@ use Rattle.std.proofs.lemmas.List.Folds.{list_any-append}
 use Rattle.std.proofs.lemmas.Bool.{and_parts, or_parts, leb-true, le-leb, lt-leb, cases_lt, false_from_ne_true}
 use Rattle.vm_ranges.specs.Alignment.{IsAlignment}
 use Rattle.vm_engine.specs.Tree.Block.{Block, is_free, free_length}
-use Rattle.vm_engine.specs.Engine.Fit.{HasNoFit}
+use Rattle.vm_engine.specs.Tree.Fit.{HasNoFit}
 use Rattle.vm_engine.specs.Tree.Multiples.{HasMultiple, has_multiple, has_aligned, alignment_count, free_alignments}
 use Rattle.vm_engine.specs.Tree.Shape.{Shape, Tip, Fork, blocks, max_free_of, alignments_of}
 use Rattle.vm_engine.specs.Counts.Ways.{is_searched}

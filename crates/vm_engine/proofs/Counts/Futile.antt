@@ -6,7 +6,7 @@ use Rattle.std.proofs.lemmas.Bool.{and_parts, leb-true, le-leb, lt-ltb, le-ltb, 
 use Rattle.vm_ranges.specs.Range.{Range}
 use Rattle.vm_engine.specs.Tree.Block.{free_length, free_block, held_block}
 use Rattle.vm_engine.specs.Tree.Blocks.{gap_before, blocks_between, blocks_of}
-use Rattle.vm_engine.specs.Engine.Fit.{HasNoFit}
+use Rattle.vm_engine.specs.Tree.Fit.{HasNoFit}
 use Rattle.vm_engine.specs.Counts.GapSearch.{is_futile, futile_among, futile_gaps}
 use Rattle.vm_engine.specs.Laws.AddressLaws.{FutileIsTold, NoneIsFutileAtOne}
 use Rattle.vm_engine.specs.Counts.Ways.{has_fit}

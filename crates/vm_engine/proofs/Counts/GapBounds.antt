@@ -13,7 +13,7 @@ use Rattle.vm_engine.specs.Tree.Shape.{Shape, blocks, height_of, leaf_of}
 use Rattle.vm_engine.specs.Tree.SpaceTree.{space_of, tree_state, IsSpaceTree}
 use Rattle.vm_engine.specs.Counts.Steps.{Enters, IsHeldIn}
 use Rattle.vm_engine.specs.Counts.Ways.{multiple_from, has_fit, way_of_search}
-use Rattle.vm_engine.specs.Engine.BlockEdits.{before_part, after_part}
+use Rattle.vm_engine.specs.Tree.BlockEdits.{before_part, after_part}
 use Rattle.vm_ranges.specs.declared.error.Error.{Error}
 use Rattle.vm_ranges.specs.declared.error.Error.TheVariants.{ResourceNotAvailable}
 use Rattle.vm_ranges.specs.declared.constraint.AllocPolicy.{AllocPolicy}

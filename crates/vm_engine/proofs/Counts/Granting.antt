@@ -6,10 +6,11 @@ use Rattle.vm_engine.specs.Address.{AddressState, LeavesClear}
 use Rattle.vm_ranges.specs.Request.{Request}
 use Rattle.vm_engine.specs.Answer.{Takes}
 use Rattle.vm_engine.specs.Tree.Block.{free_block}
-use Rattle.vm_engine.specs.Engine.BlockEdits.{before_part, after_part, IsTakenFrom, LeavesPart}
+use Rattle.vm_engine.specs.Tree.BlockEdits.{before_part, after_part, IsTakenFrom, LeavesPart}
 use Rattle.vm_engine.specs.Tree.Shape.{Shape, Tip, Fork, blocks, height_of, node_count, IsTree, leaf_of}
 use Rattle.vm_engine.specs.Counts.Ways.{way_across, way_by, way_of_search, way_to_carve, way_to_hold, way_if_held}
-use Rattle.vm_engine.specs.Tree.SpaceTree.{space_of, tree_state, most_searched, IsSpaceTree, IsChoice}
+use Rattle.vm_engine.specs.Engine.Choosing.{most_searched, IsChoice}
+use Rattle.vm_engine.specs.Tree.SpaceTree.{space_of, tree_state, IsSpaceTree}
 use Rattle.vm_engine.specs.Counts.Steps.{most_entered, IsGrantCount, IsHeldIn, Enters, SplitsIfLow, TOO_HIGH}
 use Rattle.vm_ranges.specs.declared.error.Error.{Error}
 use Rattle.vm_ranges.specs.declared.error.Error.TheVariants.{OutOfMemory}

@@ -5,7 +5,7 @@ use Rattle.vm_ranges.specs.Range.{Range}
 use Rattle.vm_engine.specs.Tree.Block.{Block}
 use Rattle.vm_engine.specs.Address.{LeavesClear}
 use Rattle.vm_engine.specs.Tree.Blocks.{Tiles, TilesSpace, held_of, blocks_state}
-use Rattle.vm_engine.specs.Engine.BlockEdits.{IsTakenFrom, LeavesPart}
+use Rattle.vm_engine.specs.Tree.BlockEdits.{IsTakenFrom, LeavesPart}
 use Rattle.vm_ranges.specs.declared.state.NodeState.{NodeState}
 use Rattle.vm_ranges.specs.declared.state.NodeState.TheVariants.{Free, Allocated}
 use Rattle.vm_engine.proofs.Blocks.PlainWords.{IsHeldAddress, none_holds}

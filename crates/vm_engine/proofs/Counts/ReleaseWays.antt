@@ -9,6 +9,7 @@ use Rattle.vm_engine.specs.Counts.Steps.{IsReleaseCount, IsWayBack, EntersToFree
 use Rattle.vm_ranges.specs.declared.error.Error.{Error}
 use Rattle.vm_engine.specs.declared.allocation_engine.node.neighbours.Neighbours.{Neighbours}
 use Rattle.vm_engine.proofs.Nodes.Spaces.{few_nodes, no_empty_tree}
+use Rattle.vm_engine.proofs.Releasing.Finding.{held_block_found}
 use Rattle.vm_engine.proofs.Counts.WayBounds.{way_to_at_most, way_to_remove_at_most, way_around_at_most}
 
 -- ---- giving a range back
@@ -24,20 +25,21 @@ some_way_around k (Fork l b r) h = omega arith
 pub release_count : (s : Shape) (k : Range) (answer : Result (Unit {0}) Error) (c : ℕ) → IsSpaceTree s → EntersToFree s k answer 0 c → IsReleaseCount (height_of s) c
 release_count s k (Err e) c h n = record { most = omega (arith, n.refused, way_around_at_most k s); some = omega (arith, n.refused, some_way_around k s h) }
 release_count s k (Ok done) c h n =
-    let beside = n.given.0 in
-    let back = n.given.2 in
+    let lower = n.given.0 in
+    let upper = n.given.1 in
+    let back = n.given.3 in
     let around = way_around_at_most k s in
     let some = some_way_around k s h in
-    let first = way_if_at_most beside.before s in
-    let second = way_if_at_most beside.after back.mid in
+    let first = way_if_at_most lower s in
+    let second = way_if_at_most upper back.mid in
     let last = way_to_at_most k back.last in
     record { most = omega (arith, back.count, back.no_higher.0, back.no_higher.1); some = omega (arith, back.count) }
 
 pub enters_to_none : (s : Shape) (k : Range) (e : Error) (before after : ℕ) → after ≡ before + way_around k s → EntersToFree s k (Err e) before after
 enters_to_none s k e before after p = record { refused = p; given = tt }
 
-pub enters_to_free : (s : Shape) (k : Range) (beside : Neighbours) (before mid after : ℕ) → neighbours k None (blocks s) None ≡ Some beside → mid ≡ before + way_around k s → IsWayBack s k beside mid after → EntersToFree s k (Ok tt) before after
-enters_to_free s k beside before mid after f p w = record { refused = tt; given = (beside, f, subst (λ (v : ℕ). IsWayBack s k beside v after) p w) }
+pub enters_to_free : (s : Shape) (k : Range) (beside : Neighbours) (before mid after : ℕ) → neighbours k None (blocks s) None ≡ Some beside → mid ≡ before + way_around k s → IsWayBack s k beside.before beside.after mid after → EntersToFree s k (Ok tt) before after
+enters_to_free s k beside before mid after f p w = record { refused = tt; given = (beside.before, beside.after, held_block_found s k beside f, subst (λ (v : ℕ). IsWayBack s k beside.before beside.after v after) p w) }
 
 pub ruleset removals = (way_if_at_most)
 

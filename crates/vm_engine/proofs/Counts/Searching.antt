@@ -7,7 +7,7 @@ use Rattle.std.proofs.lemmas.List.Folds.{list_any-append}
 use Rattle.std.proofs.lemmas.Bool.{and_parts, leb-true, le-leb, false_from_ne_true}
 use Rattle.vm_ranges.specs.Alignment.{IsAlignment, IsLeastMultiple}
 use Rattle.vm_engine.specs.Tree.Block.{Block, is_free, free_block}
-use Rattle.vm_engine.specs.Engine.Fit.{IsFit, HasNoFit, IsLeastFit, IsGreatestFit}
+use Rattle.vm_engine.specs.Tree.Fit.{IsFit, HasNoFit, IsLeastFit, IsGreatestFit}
 use Rattle.vm_engine.specs.Engine.Place.{IsFirstFit, IsLastFit}
 use Rattle.vm_engine.specs.Tree.Shape.{Shape, Tip, Fork, blocks, height_of, node_count}
 use Rattle.vm_engine.specs.Counts.Ways.{multiple_from, has_fit, is_searched, way_of_first, way_of_last}

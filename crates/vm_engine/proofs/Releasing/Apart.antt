@@ -6,7 +6,8 @@ use Rattle.vm_engine.specs.Address.{releasing}
 use Rattle.vm_engine.specs.Tree.Blocks.{NotBothFree, Tiles, TilesSpace, IsBlocksOf}
 use Rattle.vm_engine.specs.Tree.Shape.{Shape, blocks}
 use Rattle.vm_engine.specs.Tree.SpaceTree.{space_of, tree_state, IsSpaceTree}
-use Rattle.vm_engine.specs.Engine.Release.{HasHeld, key_if_free, last_free, first_free, free_if, end_with, joined, IsAround}
+use Rattle.vm_engine.specs.Tree.FreeBeside.{HasHeld, key_if_free, last_free, first_free, free_if}
+use Rattle.vm_engine.specs.Engine.Release.{end_with, joined, IsAround}
 use Rattle.vm_engine.specs.declared.allocation_engine.node.neighbours.Neighbours.{Neighbours}
 use Rattle.vm_ranges.specs.declared.state.NodeState.{NodeState}
 use Rattle.vm_ranges.specs.declared.state.NodeState.TheVariants.{Free, Allocated}
@@ -108,8 +109,8 @@ given_by s k xs ys (Some p) after h e f b =
       blocks_of = new;
     }
 
-pub held_given_back : (s : Shape) (k : Range) (n : Neighbours) → IsSpaceTree s → HasHeld (blocks s) k n → Given s k n
+pub held_given_back : (s : Shape) (k : Range) (n : Neighbours) → IsSpaceTree s → HasHeld (blocks s) k n.before n.after → Given s k n
 held_given_back s k n h c =
-    let lower : Lower Allocated c.before n.before = subst (λ (v : Option Range). Lower Allocated c.before v) (sym c.last) (lower_all c.before) in
-    let upper : Upper c.after n.after = subst (λ (v : Option Range). Upper c.after v) (sym c.first) (upper_all c.after) in
-    given_by s k c.before c.after n.before n.after h c.cut lower upper
+    let lower : Lower Allocated c.lower n.before = subst (λ (v : Option Range). Lower Allocated c.lower v) (sym c.last) (lower_all c.lower) in
+    let upper : Upper c.upper n.after = subst (λ (v : Option Range). Upper c.upper v) (sym c.first) (upper_all c.upper) in
+    given_by s k c.lower c.upper n.before n.after h c.cut lower upper

@@ -8,7 +8,8 @@ use Rattle.vm_engine.specs.Tree.Blocks.{held_of, TilesSpace}
 use Rattle.vm_engine.specs.Tree.BlockList.{IsOrderedFrom, find_key}
 use Rattle.vm_engine.specs.Tree.Shape.{Shape, blocks}
 use Rattle.vm_engine.specs.Tree.SpaceTree.{space_of, tree_state, IsSpaceTree}
-use Rattle.vm_engine.specs.Engine.Release.{HasHeld, key_if_free, last_free, first_free, if_held, neighbours}
+use Rattle.vm_engine.specs.Tree.FreeBeside.{HasHeld, key_if_free, last_free, first_free}
+use Rattle.vm_engine.specs.Engine.Release.{if_held, neighbours}
 use Rattle.vm_engine.specs.declared.allocation_engine.node.neighbours.Neighbours.{Neighbours}
 use Rattle.vm_ranges.specs.declared.state.NodeState.{NodeState}
 use Rattle.vm_ranges.specs.declared.state.NodeState.TheVariants.{Free, Allocated}
@@ -61,10 +62,10 @@ found_in d e (b ∷ bs) k n f =
           record { before = b ∷ i.before; after = i.after; cut = ap (λ (v : List Block). b ∷ v) i.cut; last = i.last; first = i.first }
     ] refl f
 
-pub held_block_found : (s : Shape) (k : Range) (n : Neighbours) → neighbours k None (blocks s) None ≡ Some n → HasHeld (blocks s) k n
+pub held_block_found : (s : Shape) (k : Range) (n : Neighbours) → neighbours k None (blocks s) None ≡ Some n → HasHeld (blocks s) k n.before n.after
 held_block_found s k n f =
     let i = found_in None None (blocks s) k n f in
-    record { before = i.before; after = i.after; cut = i.cut; last = i.last; first = i.first }
+    record { lower = i.before; upper = i.after; cut = i.cut; last = i.last; first = i.first }
 
 -- where nothing is found the range is not held: no block has it, or a free one
 pub not_held : (lo : ℕ) (d e : Option Range) (bs : List Block) (k : Range) → IsOrderedFrom lo bs → neighbours k d bs e ≡ None → ¬ IsHeld (held_of bs) k

@@ -9,7 +9,8 @@ use Rattle.vm_engine.specs.Tree.Blocks.{TilesSpace, IsBlocksOf, held_of, blocks_
 use Rattle.vm_engine.specs.Tree.BlockList.{IsOrderedFrom, replace_block}
 use Rattle.vm_engine.specs.Tree.Shape.{Shape, blocks, height_of}
 use Rattle.vm_engine.specs.Tree.SpaceTree.{space_of, tree_state, IsSpaceTree}
-use Rattle.vm_engine.specs.Engine.Release.{HasHeld, neighbours, free_if, joined, IsAround, without_if, rejoined}
+use Rattle.vm_engine.specs.Tree.FreeBeside.{HasHeld, free_if, without_if}
+use Rattle.vm_engine.specs.Engine.Release.{neighbours, joined, IsAround, rejoined}
 use Rattle.vm_engine.specs.Engine.Widening.{CanWiden}
 use Rattle.vm_engine.specs.declared.allocation_engine.node.neighbours.Neighbours.{Neighbours}
 use Rattle.vm_ranges.specs.declared.error.Error.TheVariants.{ResourceNotAvailable}
@@ -77,8 +78,8 @@ space_given s m k n h g e l =
     let b : IsBlocksOf (releasing k (tree_state s)) (blocks m) = subst (λ (v : List Block). IsBlocksOf (releasing k (tree_state s)) v) (sym (e ∙ rejoined_is (blocks s) k n g.around)) g.blocks_of in
     space_tree (space_of (blocks s)) m (record { tiles = b.tiles; below = subst AreBelowMax (sym b.held) (below_without k (held_of (blocks s)) h.tiling.below) }) h.space (omega (arith, h.height))
 
-held_or_later : (bs : List Block) (k : Range) (n : Neighbours) → HasHeld bs k n → Contains (held_of bs) k
-held_or_later bs k n c = contains_held (held_of bs) k (subst (λ (v : List Block). IsHeld (held_of v) k) (sym c.cut) (in_list c.before c.after))
+held_or_later : (bs : List Block) (k : Range) (n : Neighbours) → HasHeld bs k n.before n.after → Contains (held_of bs) k
+held_or_later bs k n c = contains_held (held_of bs) k (subst (λ (v : List Block). IsHeld (held_of v) k) (sym c.cut) (in_list c.lower c.upper))
   where
     in_list : (xs ys : List Block) → IsHeld (held_of (xs ++ held_block k ∷ ys)) k
     in_list [] ys = inl refl
@@ -88,7 +89,7 @@ held_or_later bs k n c = contains_held (held_of bs) k (subst (λ (v : List Block
         (λ (e : x.state ≡ Allocated). subst (λ (v : List Range). IsHeld v k) (sym (held_of-held x (xs ++ held_block k ∷ ys) e)) (inr (in_list xs ys)))
         (state_cases x.state)
 
-pub frees_held_block : (s m : Shape) (k : Range) (n : Neighbours) → IsSpaceTree s → HasHeld (blocks s) k n → Given s k n → blocks m ≡ rejoined k n (blocks s) → Frees (tree_state s) k (Ok tt) (tree_state m)
+pub frees_held_block : (s m : Shape) (k : Range) (n : Neighbours) → IsSpaceTree s → HasHeld (blocks s) k n.before n.after → Given s k n → blocks m ≡ rejoined k n (blocks s) → Frees (tree_state s) k (Ok tt) (tree_state m)
 unfolding TilesSpace Frees
 frees_held_block s m k n h c g e =
     let b : IsBlocksOf (releasing k (tree_state s)) (blocks m) = subst (λ (v : List Block). IsBlocksOf (releasing k (tree_state s)) v) (sym (e ∙ rejoined_is (blocks s) k n g.around)) g.blocks_of in

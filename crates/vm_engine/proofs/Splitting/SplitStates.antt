@@ -7,10 +7,11 @@ use Rattle.vm_engine.specs.Tree.Block.{Block, free_block, held_block}
 use Rattle.vm_engine.specs.Address.{LeavesClear, holding}
 use Rattle.vm_engine.specs.Answer.{FEWEST_TOO_DEEP, Takes}
 use Rattle.vm_engine.specs.Tree.Blocks.{Tiles, TilesSpace, IsBlocksOf, held_of, blocks_state, AreBelowMax}
-use Rattle.vm_engine.specs.Engine.BlockEdits.{before_part, after_part, parts, IsTakenFrom, LeavesPart}
+use Rattle.vm_engine.specs.Tree.BlockEdits.{before_part, after_part, parts, IsTakenFrom, LeavesPart}
 use Rattle.vm_engine.specs.Tree.BlockList.{IsOrderedFrom, replace_block, with_block, find_key}
 use Rattle.vm_engine.specs.Tree.Shape.{Shape, blocks, height_of, node_count, IsTree, leaf_of}
-use Rattle.vm_engine.specs.Tree.SpaceTree.{space_of, tree_state, IsSpaceTree, IsChoice, Carves}
+use Rattle.vm_engine.specs.Engine.Choosing.{IsChoice, Carves}
+use Rattle.vm_engine.specs.Tree.SpaceTree.{space_of, tree_state, IsSpaceTree}
 use Rattle.vm_engine.specs.Engine.Carving.{with_split, AreLeaves, CanCarve, IsRest}
 use Rattle.vm_engine.specs.declared.allocation_engine.node.carve.Rest.{Rest}
 use Rattle.vm_engine.specs.Counts.Fibonacci.{fibonacci, fibonacci_pair}

@@ -5,7 +5,7 @@ use Rattle.vm_ranges.specs.Range.{Range, MAX}
 use Rattle.vm_engine.specs.Tree.Block.{Block}
 use Rattle.vm_engine.specs.Address.{AddressState, with_range, holding, LeavesClear}
 use Rattle.vm_engine.specs.Tree.Blocks.{NotBothFree, Tiles, held_of, IsBlocksOf, blocks_state, TilesSpace, AreBelowMax}
-use Rattle.vm_engine.specs.Engine.BlockEdits.{after_part, parts, IsTakenFrom, LeavesPart}
+use Rattle.vm_engine.specs.Tree.BlockEdits.{after_part, parts, IsTakenFrom, LeavesPart}
 use Rattle.vm_ranges.specs.declared.state.NodeState.{NodeState}
 use Rattle.vm_ranges.specs.declared.state.NodeState.TheVariants.{Free, Allocated}
 use Rattle.vm_engine.proofs.Blocks.Gaps.{state_cases, InFreeBlock, free_is_clear}

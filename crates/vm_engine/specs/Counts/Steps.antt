@@ -1,15 +1,14 @@
 -- How many nodes of a balanced tree a call enters.
-use Rattle.std.specs.Prelude.{◌≡◌, ℕ, ◌+◌, ◌*◌, ◌^◌, ◌<◌, ◌≤◌, List, ◌∷◌, ◌++◌, Some, None, Result, IfOk, IsOk, OnOk, OnErr, Err, length}
+use Rattle.std.specs.Prelude.{◌≡◌, ℕ, ◌+◌, ◌*◌, ◌^◌, ◌<◌, ◌≤◌, List, ◌∷◌, ◌++◌, Option, Result, IfOk, IsOk, OnOk, OnErr, Err, length}
 use Rattle.vm_ranges.specs.Range.{Range}
 use Rattle.vm_engine.specs.Tree.Block.{Block, free_block}
 use Rattle.vm_engine.specs.Address.{AddressState, LeavesClear}
 use Rattle.vm_engine.specs.Tree.Blocks.{IsBlocksOf}
 use Rattle.vm_ranges.specs.Request.{Request, IsRequest, MakesConstraint}
 use Rattle.vm_engine.specs.Tree.Shape.{Shape, MAX_HEIGHT, blocks, height_of, node_count, IsBalanced}
-use Rattle.vm_engine.specs.Engine.BlockEdits.{IsTakenFrom}
-use Rattle.vm_engine.specs.Engine.Release.{neighbours, without_if}
+use Rattle.vm_engine.specs.Tree.BlockEdits.{IsTakenFrom}
+use Rattle.vm_engine.specs.Tree.FreeBeside.{HasHeld, without_if}
 use Rattle.vm_engine.specs.Counts.Ways.{way_of_search, way_to_hold, way_to, way_around, way_if}
-use Rattle.vm_engine.specs.declared.allocation_engine.node.neighbours.Neighbours.{Neighbours}
 use Rattle.vm_engine.specs.Counts.Fibonacci.{fibonacci}
 use Rattle.vm_ranges.specs.declared.error.Error.{Error}
 use Rattle.vm_ranges.specs.declared.error.Error.TheVariants.{OutOfMemory}
@@ -71,20 +70,20 @@ pub record EntersToAllocate (s : Shape) (request : Request) (answer : Result Ran
 
 -- the free blocks beside a held one are removed, each by its way through the tree that there is then, and the held one
 -- is widened
-pub record IsWayBack (s : Shape) (key : Range) (beside : Neighbours) (before after : ℕ) : Type 0 where
+pub record IsWayBack (s : Shape) (key : Range) (lower upper : Option Range) (before after : ℕ) : Type 0 where
   pub mid : Shape
   pub last : Shape
-  pub without_first : blocks mid ≡ without_if beside.before (blocks s)
-  pub without_both : blocks last ≡ without_if beside.after (blocks mid)
+  pub without_first : blocks mid ≡ without_if lower (blocks s)
+  pub without_both : blocks last ≡ without_if upper (blocks mid)
   pub no_higher : (height_of mid ≤ height_of s) × (height_of last ≤ height_of mid)
-  pub count : after ≡ before + way_if beside.before s + way_if beside.after mid + way_to key last
+  pub count : after ≡ before + way_if lower s + way_if upper mid + way_to key last
 
 -- exactly the nodes that giving a range back enters, from one count to another: those of the search for it, and where it
 -- is held those of a removal for each free block beside it and of the way to it in what is left
 pub record EntersToFree (s : Shape) (key : Range) (answer : Result (Unit {0}) Error) (before after : ℕ) : Type 0 where
   pub refused : OnErr answer (after ≡ before + way_around key s)
-  pub given : OnOk answer ((beside : Neighbours) × (neighbours key None (blocks s) None ≡ Some beside) ×
-      IsWayBack s key beside (before + way_around key s) after)
+  pub given : OnOk answer ((lower : Option Range) × (upper : Option Range) × HasHeld (blocks s) key lower upper ×
+      IsWayBack s key lower upper (before + way_around key s) after)
 
 -- the nodes that giving a range back entered: whatever the answer, the root is one
 pub record IsReleaseCount (h count : ℕ) : Type 0 where

@@ -5,7 +5,7 @@ use Rattle.vm_ranges.specs.Range.{Range, MAX, at_address}
 use Rattle.vm_ranges.specs.RangeOrder.{same_range, comes_first}
 use Rattle.vm_engine.specs.Tree.Block.{Block, is_free}
 use Rattle.vm_engine.specs.Tree.Multiples.{has_aligned}
-use Rattle.vm_engine.specs.Engine.BlockEdits.{before_part, after_part}
+use Rattle.vm_engine.specs.Tree.BlockEdits.{before_part, after_part}
 use Rattle.vm_ranges.specs.Request.{Request}
 use Rattle.vm_engine.specs.Tree.Shape.{Shape, Tip, Fork, blocks, max_free_of, leaf_of}
 use Rattle.vm_ranges.specs.declared.error.Error.{Error}

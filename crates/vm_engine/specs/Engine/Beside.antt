@@ -2,7 +2,7 @@
 use Rattle.std.specs.Prelude.{Bool, true, false, Option, Some, None}
 use Rattle.std.specs.Borrow.{Bor}
 use Rattle.vm_ranges.specs.Range.{Range}
-use Rattle.vm_engine.specs.Engine.Release.{key_if_free}
+use Rattle.vm_engine.specs.Tree.FreeBeside.{key_if_free}
 use Rattle.vm_engine.specs.Tree.Shape.{root_block}
 use Rattle.vm_engine.specs.declared.allocation_engine.node.InnerNode.{InnerNode}
 use Rattle.vm_engine.specs.declared.allocation_engine.node.neighbours.Beside.{Beside}

@@ -3,7 +3,7 @@ use Rattle.std.specs.Prelude.{◌≡◌, List, ◌∷◌, ◌++◌, IfSome, IsSo
 use Rattle.vm_ranges.specs.Range.{Range}
 use Rattle.vm_engine.specs.Tree.Block.{Block, held_block}
 use Rattle.vm_engine.specs.Tree.BlockList.{IsOrderedFrom, replace_block, find_key}
-use Rattle.vm_engine.specs.Engine.BlockEdits.{before_part, after_part}
+use Rattle.vm_engine.specs.Tree.BlockEdits.{before_part, after_part}
 use Rattle.vm_engine.specs.Tree.Shape.{leaf_of, blocks}
 use Rattle.vm_engine.specs.Engine.Changes.{IsLeaf}
 use Rattle.vm_engine.specs.Engine.NodeFields.{side}

@@ -4,24 +4,10 @@ use Rattle.vm_ranges.specs.Range.{Range, IsRange}
 use Rattle.vm_engine.specs.Tree.Block.{Block, free_block, held_block}
 use Rattle.vm_engine.specs.Tree.BlockList.{IsOrderedFrom, replace_block}
 use Rattle.vm_ranges.specs.RangeOrder.{same_range}
+use Rattle.vm_engine.specs.Tree.FreeBeside.{key_if_free, first_free, free_if, without_if}
 use Rattle.vm_engine.specs.declared.allocation_engine.node.neighbours.Neighbours.{Neighbours}
 use Rattle.vm_ranges.specs.declared.state.NodeState.{NodeState}
 use Rattle.vm_ranges.specs.declared.state.NodeState.TheVariants.{Free, Allocated}
-
--- the range of a block that is free
-abbrev pub key_if_free : NodeState → Range → Option Range
-key_if_free Free k = Some k
-key_if_free Allocated k = None
-
--- the range of the last of the blocks, if that is free; where there is no block, what stands before them all
-abbrev pub last_free : Option Range → List Block → Option Range
-last_free before [] = before
-last_free before (b ∷ bs) = last_free (key_if_free b.state b.key) bs
-
--- the range of the first of them, if that is free; where there is no block, what stands after them all
-abbrev pub first_free : List Block → Option Range → Option Range
-first_free [] after = after
-first_free (b ∷ bs) after = key_if_free b.state b.key
 
 -- what is beside a block, if that is held
 abbrev pub if_held : NodeState → Neighbours → Option Neighbours
@@ -35,19 +21,6 @@ neighbours range before [] after = None
 neighbours range before (b ∷ bs) after =
     if same_range range b.key then if_held b.state (record { before = before; after = first_free bs after })
     else neighbours range (key_if_free b.state b.key) bs after
-
--- one of the blocks is held and has this range, and these free ranges are beside it
-pub record HasHeld (bs : List Block) (k : Range) (n : Neighbours) : Type 0 where
-  pub before : List Block
-  pub after : List Block
-  pub cut : bs ≡ before ++ held_block k ∷ after
-  pub last : n.before ≡ last_free None before
-  pub first : n.after ≡ first_free after None
-
--- the free block of a range, if there is one
-abbrev pub free_if : Option Range → List Block
-free_if None = []
-free_if (Some k) = free_block k ∷ []
 
 -- where a range starts once the one before it is joined to it
 abbrev pub start_with : Option Range → Range → ℕ
@@ -72,11 +45,6 @@ pub record IsAround (bs : List Block) (k : Range) (n : Neighbours) : Type 0 wher
   pub range : IsRange (start_with n.before k) (end_with k n.after)
   pub old : IsOrderedFrom 0 bs
   pub new : IsOrderedFrom 0 (lower ++ free_block (joined k n) ∷ upper)
-
--- the blocks without the one of a range, if there is such a range
-abbrev pub without_if : Option Range → List Block → List Block
-without_if None bs = bs
-without_if (Some k) bs = replace_block k [] bs
 
 -- the three are one free block
 abbrev pub rejoined : Range → Neighbours → List Block → List Block

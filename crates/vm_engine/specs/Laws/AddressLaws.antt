@@ -4,7 +4,7 @@ use Rattle.std.specs.List.{All, AllPairs, Contains}
 use Rattle.vm_ranges.specs.Range.{Range, MAX, Overlaps, Covers}
 use Rattle.vm_engine.specs.Address.{AddressState, IsClear, LeavesClear, IsAddressState}
 use Rattle.vm_engine.specs.Tree.Block.{Block, free_length}
-use Rattle.vm_engine.specs.Engine.Fit.{HasNoFit}
+use Rattle.vm_engine.specs.Tree.Fit.{HasNoFit}
 use Rattle.vm_ranges.specs.Alignment.{IsAlignment}
 use Rattle.vm_engine.specs.Counts.GapSearch.{is_futile, futile_gaps, is_cramped, cramped_gaps}
 use Rattle.vm_engine.specs.Tree.Multiples.{HasMultiple, multiples_in}

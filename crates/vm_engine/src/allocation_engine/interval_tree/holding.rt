@@ -4,13 +4,14 @@ ghost use Rattle.std.specs.Prelude.{◌≡◌, ◌+◌, ◌*◌, ◌<◌, ◌≤
 ghost use Rattle.vm_ranges.specs.Range.{MAX};
 ghost use Rattle.vm_engine.specs.Answer.{Takes};
 ghost use Rattle.vm_engine.specs.Tree.Block.{free_block};
-ghost use Rattle.vm_engine.specs.Engine.BlockEdits.{IsTakenFrom, LeavesPart, before_part, after_part};
+ghost use Rattle.vm_engine.specs.Tree.BlockEdits.{IsTakenFrom, LeavesPart, before_part, after_part};
 ghost use Rattle.vm_ranges.specs.Cases.{Tells};
 ghost use Rattle.vm_engine.specs.Engine.Carving.{IsRest};
 ghost use Rattle.vm_engine.specs.Tree.Shape.{blocks, height_of, single, leaf_of};
 ghost use Rattle.vm_engine.specs.Engine.Changes.{IsLeaf};
 ghost use Rattle.vm_engine.specs.Engine.NodeFields.{side};
-ghost use Rattle.vm_engine.specs.Tree.SpaceTree.{tree_state, IsChoice};
+ghost use Rattle.vm_engine.specs.Engine.Choosing.{IsChoice};
+ghost use Rattle.vm_engine.specs.Tree.SpaceTree.{tree_state};
 ghost use Rattle.vm_engine.specs.Counts.Steps.{TOO_HIGH};
 ghost use Rattle.vm_engine.specs.Counts.Ways.{way_if_held};
 

@@ -3,9 +3,9 @@
 ghost use Rattle.std.specs.Prelude.{◌≡◌, ◌≢◌, ◌+◌, ◌<◌, ◌≤◌, IfErr, IfSome};
 ghost use Rattle.vm_ranges.specs.Range.{MAX};
 ghost use Rattle.vm_engine.specs.Tree.Block.{free_block};
-ghost use Rattle.vm_engine.specs.Engine.BlockEdits.{HasRoom};
+ghost use Rattle.vm_engine.specs.Tree.BlockEdits.{HasRoom};
 ghost use Rattle.vm_engine.specs.Tree.Shape.{height_of, node_count};
-ghost use Rattle.vm_engine.specs.Tree.SpaceTree.{Chooses, ChoosesAt, ExactIn};
+ghost use Rattle.vm_engine.specs.Engine.Choosing.{Chooses, ChoosesAt, ExactIn};
 ghost use Rattle.vm_engine.specs.Counts.Ways.{way_of_search};
 ghost use Rattle.vm_ranges.specs.declared.constraint.AllocPolicy.TheVariants.{ExactMatch};
 
@@ -76,7 +76,7 @@ impl IntervalTree {
 
 /// The `size` addresses from the place on that a search found. `ResourceNotAvailable` where it found
 /// none, and `Overflow` where they end at `u64::MAX`.
-#[tactic(auto, unfolding(crate::specs::Tree::SpaceTree::ChoosesBelowMax, crate::specs::Engine::BlockEdits::HasRoom))]
+#[tactic(auto, unfolding(crate::specs::Engine::Choosing::ChoosesBelowMax, crate::specs::Tree::BlockEdits::HasRoom))]
 fn choice_at(found: Option<Place>, size: u64) -> Result<Choice>
     requires sized { 0 < size }
     requires room { IfSome found (λ place. HasRoom place.start size (free_block place.key)) }

@@ -4,7 +4,8 @@
 ghost use Rattle.std.specs.Prelude.{◌≡◌, ◌+◌, ◌*◌, ◌≤◌, OnErr};
 ghost use Rattle.vm_ranges.specs.Range.{MAX, IsRange};
 ghost use Rattle.vm_engine.specs.Answer.{Frees};
-ghost use Rattle.vm_engine.specs.Engine.Release.{IsAround, joined, rejoined, without_if, start_with, end_with};
+ghost use Rattle.vm_engine.specs.Tree.FreeBeside.{without_if};
+ghost use Rattle.vm_engine.specs.Engine.Release.{IsAround, joined, rejoined, start_with, end_with};
 ghost use Rattle.vm_engine.specs.Tree.Shape.{blocks, height_of};
 ghost use Rattle.vm_engine.specs.Engine.NodeFields.{side};
 ghost use Rattle.vm_engine.specs.Tree.SpaceTree.{tree_state, IsSpaceTree};
@@ -45,7 +46,7 @@ fn rejoin(root: &mut Child, key: &RangeInclusive, beside: &Neighbours, count: &m
     requires count_fits { count.old + 3 * height_of (side root.old) ≤ MAX }
     ensures blocks { blocks (side root.new) ≡ rejoined key.now beside.now (blocks (side root.old)) }
     ensures height { height_of (side root.new) ≤ height_of (side root.old) }
-    ensures count { IsWayBack (side root.old) key.now beside.now count.old count.new }
+    ensures count { IsWayBack (side root.old) key.now beside.now.before beside.now.after count.old count.new }
 {
     let range = joined(key, beside);
     drop_if(root, &beside.before, count);

@@ -8,7 +8,8 @@ ghost use Rattle.vm_engine.specs.Tree.Shape.{blocks, height_of, root_block};
 ghost use Rattle.vm_engine.specs.Counts.Ways.{way_to_first, way_to_last, way_around};
 ghost use Rattle.vm_engine.specs.Engine.NodeFields.{side};
 ghost use Rattle.vm_engine.specs.Engine.Beside.{free_key_of, free_keys, if_found};
-ghost use Rattle.vm_engine.specs.Engine.Release.{last_free, first_free, neighbours};
+ghost use Rattle.vm_engine.specs.Tree.FreeBeside.{last_free, first_free};
+ghost use Rattle.vm_engine.specs.Engine.Release.{neighbours};
 
 use super::{Child, InnerNode};
 use crate::allocation_engine::Steps;

@@ -8,7 +8,7 @@
 ghost use Rattle.std.specs.Prelude.{◌≡◌, ◌+◌, ◌<◌, ◌≤◌, true, false, None, MatchOption};
 ghost use Rattle.vm_ranges.specs.Range.{MAX};
 ghost use Rattle.vm_ranges.specs.Alignment.{IsAlignment};
-ghost use Rattle.vm_engine.specs.Engine.Fit.{FindsLeastFit, FindsGreatestFit};
+ghost use Rattle.vm_engine.specs.Tree.Fit.{FindsLeastFit, FindsGreatestFit};
 ghost use Rattle.vm_engine.specs.Engine.Place.{FindsFirst, FindsLast};
 ghost use Rattle.vm_engine.specs.Tree.Shape.{blocks, node_count};
 ghost use Rattle.vm_engine.specs.Counts.Ways.{is_searched, way_of_first, way_of_last};

@@ -1,5 +1,5 @@
 use Rattle.std.proofs.Common.{◌∙◌, ap}
-use Rattle.vm_engine.specs.Engine.Release.{without_if}
+use Rattle.vm_engine.specs.Tree.FreeBeside.{without_if}
 use Rattle.vm_engine.proofs.Releasing.Rejoining.{can_widen_held}
 use Rattle.vm_engine.proofs.allocation_engine.interval_tree.release.rejoin.Goals as goal
 
