@@ -5,7 +5,7 @@ use Rattle.std.specs.Str.{bytes_eq}
 use Rattle.std.specs.List.{join_with_byte}
 use Rattle.std.proofs.lemmas.List.Splits.{join_with_byte-slice_split}
 use Rattle.std.proofs.lemmas.Slice.Eq.{bytes_eq-Decides}
-use Rattle.vm_lines.specs.Commands.{asked_of_space, asked_of_ids, asked_of_devices}
+use Rattle.vm_lines.specs.Commands.{asked, asked_of_ids, asked_of_devices}
 use Rattle.vm_lines.specs.Words.{blank, words_of, alone}
 use Rattle.vm_lines.specs.declared.command.Command.{Command}
 use Rattle.vm_lines.specs.declared.command.Command.TheVariants.{Id}
@@ -37,41 +37,41 @@ skip : (word name : List ℕ) (words : List (List ℕ)) (found other : Option Co
     → (word ≡ name → words ≡ [] → found ≡ other) → (if bytes_eq word name then found else other) ≡ other
 skip word name words found other alone none = other_name word name found other (λ same. none same (alone same))
 
--- a line that begins with none of these names asks for nothing of a space
+-- a line that begins with none of these names asks for what it asks of ids and devices
 pub none_of_space : (line : List ℕ) → BeginsNot (codes "space ") line → BeginsNot (codes "first ") line
     → BeginsNot (codes "last ") line → BeginsNot (codes "exact ") line → BeginsNot (codes "free ") line
-    → asked_of_space (words_of line) ≡ None
+    → asked (words_of line) ≡ asked_of_ids (words_of line)
 none_of_space line space first last exact free = step (words_of line) refl
   where
-    step : (parts : List (List ℕ)) → words_of line ≡ parts → asked_of_space parts ≡ None
+    step : (parts : List (List ℕ)) → words_of line ≡ parts → asked parts ≡ asked_of_ids parts
     step [] e = refl
     step (word ∷ words) e =
         skip word (codes "space") words _ _ (alone_so (codes "space") line word words e space) (λ w n. rw (w, n) refl)
         ∙ skip word (codes "first") words _ _ (alone_so (codes "first") line word words e first) (λ w n. rw (w, n) refl)
         ∙ skip word (codes "last") words _ _ (alone_so (codes "last") line word words e last) (λ w n. rw (w, n) refl)
         ∙ skip word (codes "exact") words _ _ (alone_so (codes "exact") line word words e exact) (λ w n. rw (w, n) refl)
-        ∙ skip word (codes "free") words _ _ (alone_so (codes "free") line word words e free) (λ w n. rw n refl)
+        ∙ skip word (codes "free") words _ _ (alone_so (codes "free") line word words e free) (λ w n. rw (w, n) refl)
 
 -- a word alone is the line
 alone_is : (line word : List ℕ) → words_of line ≡ word ∷ [] → line ≡ word
 alone_is line word e = sym (join_with_byte-slice_split blank line) ∙ ap (join_with_byte blank) e
 
--- a line that begins with none of these, and is not the name that stands alone, asks for nothing of ids
+-- a line that begins with none of these, and is not the name that stands alone, asks for what it asks of devices
 pub none_of_ids : (line : List ℕ) → BeginsNot (codes "ids ") line → BeginsNot (codes "unid ") line
-    → BeginsNot (codes "has ") line → line ≢ codes "id" → asked_of_ids (words_of line) ≡ None
+    → BeginsNot (codes "has ") line → line ≢ codes "id" → asked_of_ids (words_of line) ≡ asked_of_devices (words_of line)
 none_of_ids line ids unid has id = step (words_of line) refl
   where
     id_none : (word : List ℕ) (words : List (List ℕ)) → words_of line ≡ word ∷ words → word ≡ codes "id" → alone Id words ≡ None
     id_none word [] e same = absurd (id (alone_is line word e ∙ same))
     id_none word (next ∷ more) e same = refl
 
-    step : (parts : List (List ℕ)) → words_of line ≡ parts → asked_of_ids parts ≡ None
+    step : (parts : List (List ℕ)) → words_of line ≡ parts → asked_of_ids parts ≡ asked_of_devices parts
     step [] e = refl
     step (word ∷ words) e =
         skip word (codes "ids") words _ _ (alone_so (codes "ids") line word words e ids) (λ w n. rw (w, n) refl)
         ∙ other_name word (codes "id") _ _ (λ w. id_none word words e w ∙ rw w refl)
         ∙ skip word (codes "unid") words _ _ (alone_so (codes "unid") line word words e unid) (λ w n. rw (w, n) refl)
-        ∙ skip word (codes "has") words _ _ (alone_so (codes "has") line word words e has) (λ w n. rw n refl)
+        ∙ skip word (codes "has") words _ _ (alone_so (codes "has") line word words e has) (λ w n. rw (w, n) refl)
 
 -- a line that begins with none of these asks for nothing of devices
 pub none_of_devices : (line : List ℕ) → BeginsNot (codes "manager ") line → BeginsNot (codes "device ") line

@@ -1,32 +1,11 @@
 -- What a line asks for.
 use Rattle.std.specs.Prelude.{ℕ, if◌then◌else◌, nat_le, List, [], ◌∷◌, length, codes, Option, None}
-use Rattle.std.specs.Option.{option_map, option_or}
+use Rattle.std.specs.Option.{option_map}
 use Rattle.std.specs.Str.{bytes_eq}
 use Rattle.vm_lines.specs.Numbers.{number_of, id_of}
 use Rattle.vm_lines.specs.Words.{words_of, alone, one_in, two_in, three_in, four_in}
 use Rattle.vm_lines.specs.declared.command.Command.{Command}
 use Rattle.vm_lines.specs.declared.command.Command.TheVariants.{Space, First, Last, Exact, Free, Ids, Id, Unid, Has, Manager, Device, Undevice}
-
--- what the words of a line ask of a space, where they are in the language
-abbrev pub asked_of_space : List (List ℕ) → Option Command
-asked_of_space [] = None
-asked_of_space (name ∷ words) =
-    if bytes_eq name (codes "space") then option_map (λ p. Space p.0 p.1) (two_in number_of words)
-    else if bytes_eq name (codes "first") then option_map (λ p. First p.0 p.1) (two_in number_of words)
-    else if bytes_eq name (codes "last") then option_map (λ p. Last p.0 p.1) (two_in number_of words)
-    else if bytes_eq name (codes "exact") then option_map (λ p. Exact p.0 p.1 p.2) (three_in number_of words)
-    else if bytes_eq name (codes "free") then option_map (λ p. Free p.0 p.1) (two_in number_of words)
-    else None
-
--- what they ask of ids
-abbrev pub asked_of_ids : List (List ℕ) → Option Command
-asked_of_ids [] = None
-asked_of_ids (name ∷ words) =
-    if bytes_eq name (codes "ids") then option_map (λ p. Ids p.0 p.1) (two_in id_of words)
-    else if bytes_eq name (codes "id") then alone Id words
-    else if bytes_eq name (codes "unid") then option_map (λ i. Unid i) (one_in id_of words)
-    else if bytes_eq name (codes "has") then option_map (λ i. Has i) (one_in id_of words)
-    else None
 
 -- what they ask of devices
 abbrev pub asked_of_devices : List (List ℕ) → Option Command
@@ -37,9 +16,26 @@ asked_of_devices (name ∷ words) =
     else if bytes_eq name (codes "undevice") then option_map (λ i. Undevice i) (one_in id_of words)
     else None
 
--- what the words of a line ask for, where they are in the language: each first word is of one kind
+-- what they ask of ids, and else of devices
+abbrev pub asked_of_ids : List (List ℕ) → Option Command
+asked_of_ids [] = None
+asked_of_ids (name ∷ words) =
+    if bytes_eq name (codes "ids") then option_map (λ p. Ids p.0 p.1) (two_in id_of words)
+    else if bytes_eq name (codes "id") then alone Id words
+    else if bytes_eq name (codes "unid") then option_map (λ i. Unid i) (one_in id_of words)
+    else if bytes_eq name (codes "has") then option_map (λ i. Has i) (one_in id_of words)
+    else asked_of_devices (name ∷ words)
+
+-- what the words of a line ask for, where they are in the language: of a space, and else of ids or of devices
 abbrev pub asked : List (List ℕ) → Option Command
-asked words = option_or (asked_of_space words) (option_or (asked_of_ids words) (asked_of_devices words))
+asked [] = None
+asked (name ∷ words) =
+    if bytes_eq name (codes "space") then option_map (λ p. Space p.0 p.1) (two_in number_of words)
+    else if bytes_eq name (codes "first") then option_map (λ p. First p.0 p.1) (two_in number_of words)
+    else if bytes_eq name (codes "last") then option_map (λ p. Last p.0 p.1) (two_in number_of words)
+    else if bytes_eq name (codes "exact") then option_map (λ p. Exact p.0 p.1 p.2) (three_in number_of words)
+    else if bytes_eq name (codes "free") then option_map (λ p. Free p.0 p.1) (two_in number_of words)
+    else asked_of_ids (name ∷ words)
 
 -- a longer line is not in the language
 abbrev pub longest_line : ℕ

@@ -1,6 +1,6 @@
 //! What a line asks for: each first word is of a space, of ids or of devices.
 ghost use Rattle.std.specs.Prelude.{◌≡◌};
-ghost use Rattle.vm_lines.specs.Commands.{asked_of_space, asked_of_ids, asked_of_devices, command_of};
+ghost use Rattle.vm_lines.specs.Commands.{asked, asked_of_ids, asked_of_devices, command_of};
 ghost use Rattle.vm_lines.specs.Words.{words_of};
 
 use crate::words::{behind, ids_and_numbers, one_id, three_numbers, two_ids, two_numbers};
@@ -80,20 +80,15 @@ pub(crate) fn parse(line: &[u8]) -> Option<Command>
     if line.len() > LONGEST_LINE {
         return None;
     }
-    if let Some(command) = parse_on_space(line) {
-        return Some(command);
-    }
-    if let Some(command) = parse_on_ids(line) {
-        return Some(command);
-    }
-    parse_on_devices(line)
+    parse_words(line)
 }
 
-/// What a line asks of a space.
+/// What the words of a line ask for, of a space, and else of ids or of devices: once the first word is
+/// known nothing else is tried.
 #[inline(always)]
 #[tactic(auto, using(crate::proofs::Names::none_of_space))]
-fn parse_on_space(line: &[u8]) -> Option<Command>
-    ensures { result ≡ asked_of_space (words_of line.now) }
+fn parse_words(line: &[u8]) -> Option<Command>
+    ensures { result ≡ asked (words_of line.now) }
 {
     if let Some(rest) = behind(b"space ", line) {
         let (base, size) = two_numbers(rest)?;
@@ -119,10 +114,10 @@ fn parse_on_space(line: &[u8]) -> Option<Command>
         let (start, end) = two_numbers(rest)?;
         return Some(Command::Free { start, end });
     }
-    None
+    parse_on_ids(line)
 }
 
-/// What a line asks of ids.
+/// What a line asks of ids, and else of devices.
 #[tactic(auto, using(crate::proofs::Names::none_of_ids))]
 fn parse_on_ids(line: &[u8]) -> Option<Command>
     ensures { result ≡ asked_of_ids (words_of line.now) }
@@ -145,7 +140,7 @@ fn parse_on_ids(line: &[u8]) -> Option<Command>
     if line == b"id".as_slice() {
         return Some(Command::Id);
     }
-    None
+    parse_on_devices(line)
 }
 
 /// What a line asks of devices.

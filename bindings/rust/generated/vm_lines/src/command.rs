@@ -77,18 +77,13 @@ pub(crate) fn parse(line: &[u8]) -> Option<Command> {
     if line.len() > LONGEST_LINE {
         return None;
     }
-    if let Some(command) = parse_on_space(line) {
-        return Some(command);
-    }
-    if let Some(command) = parse_on_ids(line) {
-        return Some(command);
-    }
-    parse_on_devices(line)
+    parse_words(line)
 }
 
-/// What a line asks of a space.
+/// What the words of a line ask for, of a space, and else of ids or of devices: once the first word is
+/// known nothing else is tried.
 #[inline(always)]
-fn parse_on_space(line: &[u8]) -> Option<Command> {
+fn parse_words(line: &[u8]) -> Option<Command> {
     if let Some(rest) = behind(b"space ", line) {
         let (base, size) = two_numbers(rest)?;
         return Some(Command::Space { base, size });
@@ -113,10 +108,10 @@ fn parse_on_space(line: &[u8]) -> Option<Command> {
         let (start, end) = two_numbers(rest)?;
         return Some(Command::Free { start, end });
     }
-    None
+    parse_on_ids(line)
 }
 
-/// What a line asks of ids.
+/// What a line asks of ids, and else of devices.
 fn parse_on_ids(line: &[u8]) -> Option<Command> {
     if let Some(rest) = behind(b"ids ", line) {
         let (range_base, range_end) = two_ids(rest)?;
@@ -136,7 +131,7 @@ fn parse_on_ids(line: &[u8]) -> Option<Command> {
     if line == b"id".as_slice() {
         return Some(Command::Id);
     }
-    None
+    parse_on_devices(line)
 }
 
 /// What a line asks of devices.
