@@ -17,7 +17,7 @@ use vm_engine::node_of;
 use vm_ranges::{AllocPolicy, Error, NodeState, RangeInclusive, Result, ValueError};
 
 /// No node is nested deeper, since no tree of the Rust crate is higher.
-const MOST_NESTED: u64 = 50;
+const MAX_HEIGHT_REPAIRED: u64 = 50;
 
 /// How many keys may be held: with no more, no split is refused for depth.
 const MOST_HELD: u64 = 6_293_134_512;
@@ -45,7 +45,7 @@ impl AddressAllocator {
         let Ok(mut allocator) = AddressAllocator::new(alloc, space.start(), space.len()) else {
             return Err(ValueError::OutOfMemory);
         };
-        let Ok(()) = hold_keys(checked.root, MOST_NESTED, alloc, &mut allocator) else {
+        let Ok(()) = hold_keys(checked.root, MAX_HEIGHT_REPAIRED, alloc, &mut allocator) else {
             return Err(ValueError::OutOfMemory);
         };
         Ok(allocator)
@@ -113,7 +113,7 @@ fn check_repaired(value: &Value) -> Option<SavedAllocator<'_>>
         next: parts.space.start().into(),
         held: 0,
     };
-    check_keys(parts.root, parts.space.end(), MOST_NESTED, before)?;
+    check_keys(parts.root, parts.space.end(), MAX_HEIGHT_REPAIRED, before)?;
     Some(parts)
 }
 

@@ -7,14 +7,11 @@ use Rattle.vm_ranges.specs.Fields.{field_count, is_count}
 use Rattle.vm_ranges.specs.Numbers.{number_in}
 use Rattle.vm_ranges.specs.Range.{Range, MAX}
 use Rattle.vm_engine.specs.Tree.Block.{Block, is_free}
+use Rattle.vm_engine.specs.Tree.Shape.{MAX_HEIGHT}
 use Rattle.vm_ranges.specs.RangeValues.{range_found, state_found}
 use Rattle.vm_ranges.specs.declared.state.NodeState.TheVariants.{Allocated}
 use Rattle.vm_engine.specs.declared.saved.check.Front.{Front}
 use Rattle.vm_engine.specs.declared.saved.check.Checked.{Checked}
-
--- no node of a saved tree is nested deeper, since no tree of an allocator is higher
-abbrev pub MOST_NESTED : ℕ
-MOST_NESTED = 49
 
 -- a node's five fields, and no other
 pub record NodeParts (d key state left right : Data) (height : ℕ) : Type 0 where
@@ -92,4 +89,4 @@ front_of space = record { next = space.start; before = Allocated }
 abbrev pub tree_fitting : Range → Data → Option Checked
 tree_fitting space d =
     option_and_then (λ found. if found.front.next == space.end + 1 then Some found else None)
-    (tree_found MOST_NESTED d (front_of space))
+    (tree_found MAX_HEIGHT d (front_of space))

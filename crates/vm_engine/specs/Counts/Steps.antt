@@ -1,5 +1,5 @@
 -- How many nodes of a balanced tree a call enters.
-use Rattle.std.specs.Prelude.{◌≡◌, ℕ, ◌+◌, ◌*◌, ◌^◌, ◌<◌, ◌≤◌, List, ◌∷◌, ◌++◌, Option, Result, IfOk, IsOk, OnOk, OnErr, Err, length}
+use Rattle.std.specs.Prelude.{◌≡◌, ℕ, ◌+◌, ◌-◌, ◌*◌, ◌^◌, ◌<◌, ◌≤◌, List, ◌∷◌, ◌++◌, Option, Result, IfOk, IsOk, OnOk, OnErr, Err, length}
 use Rattle.vm_ranges.specs.Range.{Range}
 use Rattle.vm_engine.specs.Tree.Block.{Block, free_block}
 use Rattle.vm_engine.specs.Address.{AddressState, LeavesClear}
@@ -92,7 +92,7 @@ pub record IsReleaseCount (h count : ℕ) : Type 0 where
 
 -- the height from which on no split is made
 abbrev pub TOO_HIGH : ℕ
-TOO_HIGH = 48
+TOO_HIGH = MAX_HEIGHT - 1
 
 -- a split, and out of memory for one, are answered only where the tree is not too high
 pub record SplitsIfLow (h : ℕ) (old : AddressState) (answer : Result Range Error) : Type 0 where

@@ -44,6 +44,9 @@ pub(crate) struct InnerNode {
     max_free: u64,
 }
 
+/// No tree is higher.
+pub(crate) const MAX_HEIGHT: u64 = 49;
+
 /// A place for a child.
 pub(crate) type Child = Option<Box<InnerNode>>;
 

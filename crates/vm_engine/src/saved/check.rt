@@ -5,11 +5,9 @@ ghost use Rattle.serde_json.specs.View.{view};
 ghost use Rattle.vm_engine.specs.Checks.NodeChecks.{behind, is_true_height, tree_found, tree_fitting};
 
 use super::node::node_of;
+use crate::allocation_engine::node::MAX_HEIGHT;
 use serde_json::Value;
 use vm_ranges::{NodeState, RangeInclusive};
-
-/// No node of a saved tree is nested deeper, since no tree of an allocator is higher.
-pub(super) const MOST_NESTED: u64 = 49;
 
 /// Whether a value has a tree with blocks from the start to the end of the space. It takes no memory and
 /// goes down at most 50 levels of the value.
@@ -20,7 +18,7 @@ pub(super) fn has_tree_of(space: &RangeInclusive, value: &Value) -> bool
         next: space.start().into(),
         before: NodeState::Allocated,
     };
-    let Some(found) = check(value, MOST_NESTED, before) else {
+    let Some(found) = check(value, MAX_HEIGHT, before) else {
         return false;
     };
     found.front.next == u128::from(space.end()) + 1

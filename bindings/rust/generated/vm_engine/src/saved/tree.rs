@@ -5,8 +5,8 @@
 use crate::allocation_engine::IntervalTree;
 use crate::allocation_engine::ends::known;
 use crate::allocation_engine::node::walks::saving::save;
-use crate::allocation_engine::node::{Child, InnerNode};
-use crate::saved::check::{MOST_NESTED, has_tree_of};
+use crate::allocation_engine::node::{Child, InnerNode, MAX_HEIGHT};
+use crate::saved::check::has_tree_of;
 use crate::saved::node::node_of;
 use rattle::Value;
 use rattle::Global;
@@ -30,7 +30,7 @@ impl IntervalTree {
         if !has_tree_of(space, value) {
             return Err(ValueError::NotAState);
         }
-        let Ok(root) = build(value, MOST_NESTED, alloc) else {
+        let Ok(root) = build(value, MAX_HEIGHT, alloc) else {
             return Err(ValueError::OutOfMemory);
         };
         Ok(IntervalTree { root })
