@@ -18,7 +18,7 @@ Edit = collections.namedtuple("Edit", "what file old new outcome")
 
 RANGE = "vm_ranges/src/range.rt"
 IDS = "vm_allocator/src/saved/ids.rt"
-WALKS = "vm_engine/src/allocation_engine/node/walks.rt"
+WALKS = "vm_engine/src/node/walks.rt"
 COMPARING = "vm_allocator/src/address_allocator/comparing.rt"
 ERROR = "vm_ranges/src/error.rt"
 CONSTRAINT = "vm_ranges/src/constraint.rt"

@@ -16,7 +16,7 @@ ghost use Rattle.vm_engine.specs.Counts.Steps.{EntersToAllocate, EntersToFree, I
 
 use std::alloc::Global;
 use std::marker::Model;
-use vm_engine::allocation_engine::IntervalTree;
+use vm_engine::IntervalTree;
 use vm_ranges::{AllocPolicy, Constraint, Error, RangeInclusive, Result};
 
 mod comparing;

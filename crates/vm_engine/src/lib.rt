@@ -1,8 +1,14 @@
 //! The balanced tree that holds the blocks of a space.
 #![tactic(auto)]
 
-pub mod allocation_engine;
+mod block;
+mod ends;
+mod interval_tree;
 mod laws;
+mod node;
 mod saved;
 
+pub use interval_tree::IntervalTree;
+use interval_tree::counted::Steps;
+pub use interval_tree::held_ranges::HeldRanges;
 pub use saved::node::{SavedNode, node_of};

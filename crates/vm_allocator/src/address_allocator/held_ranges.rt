@@ -4,7 +4,7 @@ ghost use Rattle.std.specs.List.{Contains};
 ghost use Rattle.vm_allocator.specs.Allocator.{state_of};
 
 use super::AddressAllocator;
-use vm_engine::allocation_engine::HeldRanges;
+use vm_engine::HeldRanges;
 use vm_ranges::RangeInclusive;
 
 impl AddressAllocator {

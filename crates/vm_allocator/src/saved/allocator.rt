@@ -10,7 +10,7 @@ ghost use Rattle.vm_allocator.specs.Checks.AllocatorChecks.{AllocatorParts, part
 use crate::address_allocator::AddressAllocator;
 use serde_json::{Value, json};
 use std::alloc::{AllocError, Global};
-use vm_engine::allocation_engine::IntervalTree;
+use vm_engine::IntervalTree;
 use vm_ranges::{RangeInclusive, Result, ValueError, has_fields, range_in};
 
 impl AddressAllocator {

@@ -7,8 +7,8 @@ use Rattle.vm_engine.specs.Tree.Block.{Block}
 use Rattle.vm_engine.specs.Tree.BlockList.{IsOrderedFrom, replace_block, find_key}
 use Rattle.vm_engine.specs.Tree.Shape.{Shape, Fork, blocks, IsTree}
 use Rattle.vm_engine.specs.Engine.Changes.{LeavesIfAbsent}
-use Rattle.vm_engine.specs.declared.allocation_engine.node.kept.Change.{Change}
-use Rattle.vm_engine.specs.declared.allocation_engine.node.kept.Change.TheVariants.{Nothing}
+use Rattle.vm_engine.specs.declared.node.kept.Change.{Change}
+use Rattle.vm_engine.specs.declared.node.kept.Change.TheVariants.{Nothing}
 use Rattle.vm_ranges.proofs.RangeCalls.{before_parts, starts_low}
 use Rattle.vm_engine.proofs.Blocks.BlockOrder.{ordered_middle, ordered_weaken, ordered_drop}
 

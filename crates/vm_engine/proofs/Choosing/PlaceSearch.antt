@@ -8,7 +8,7 @@ use Rattle.vm_engine.specs.Tree.Block.{Block, free_block}
 use Rattle.vm_engine.specs.Tree.Fit.{IsFit, HasNoFit, IsLeastFit, IsGreatestFit}
 use Rattle.vm_engine.specs.Engine.Place.{IsFirstFit, IsLastFit, FindsFirst, FindsLast}
 use Rattle.vm_engine.specs.Tree.Shape.{Shape, Fork, blocks}
-use Rattle.vm_engine.specs.declared.allocation_engine.node.places.Place.{Place}
+use Rattle.vm_engine.specs.declared.node.places.Place.{Place}
 use Rattle.vm_engine.proofs.Blocks.OneList.{same_block}
 
 all_append : (n a : ℕ) (xs ys : List Block) → All (HasNoFit n a) xs → All (HasNoFit n a) ys → All (HasNoFit n a) (xs ++ ys)

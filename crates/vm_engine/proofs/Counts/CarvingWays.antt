@@ -8,7 +8,7 @@ use Rattle.vm_engine.specs.Counts.Ways.{way_to, way_to_link, way_here, way_to_ca
 use Rattle.vm_engine.specs.Tree.BlockEdits.{LeavesPart}
 use Rattle.vm_engine.specs.Engine.Carving.{IsRest}
 use Rattle.vm_engine.specs.Engine.NodeFields.{side}
-use Rattle.vm_engine.specs.declared.allocation_engine.node.carve.Rest.{Rest}
+use Rattle.vm_engine.specs.declared.node.carve.Rest.{Rest}
 use Rattle.vm_engine.proofs.Splitting.SplitStates.{none_before, none_after}
 use Rattle.vm_engine.proofs.Blocks.Replacement.{same_range_before, same_range_self}
 use Rattle.vm_engine.proofs.Counts.WayCases.{before_first, after_first}

@@ -7,7 +7,7 @@ use Rattle.vm_engine.specs.Counts.Ways.{way_around, way_if}
 use Rattle.vm_engine.specs.Tree.SpaceTree.{IsSpaceTree}
 use Rattle.vm_engine.specs.Counts.Steps.{IsReleaseCount, IsWayBack, EntersToFree}
 use Rattle.vm_ranges.specs.declared.error.Error.{Error}
-use Rattle.vm_engine.specs.declared.allocation_engine.node.neighbours.Neighbours.{Neighbours}
+use Rattle.vm_engine.specs.declared.node.neighbours.Neighbours.{Neighbours}
 use Rattle.vm_engine.proofs.Nodes.Spaces.{few_nodes, no_empty_tree}
 use Rattle.vm_engine.proofs.Releasing.Finding.{held_block_found}
 use Rattle.vm_engine.proofs.Counts.WayBounds.{way_to_at_most, way_to_remove_at_most, way_around_at_most}

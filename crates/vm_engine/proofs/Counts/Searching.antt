@@ -13,7 +13,7 @@ use Rattle.vm_engine.specs.Tree.Shape.{Shape, Tip, Fork, blocks, height_of, node
 use Rattle.vm_engine.specs.Counts.Ways.{multiple_from, has_fit, is_searched, way_of_first, way_of_last}
 use Rattle.vm_ranges.specs.declared.state.NodeState.{NodeState}
 use Rattle.vm_ranges.specs.declared.state.NodeState.TheVariants.{Free, Allocated}
-use Rattle.vm_engine.specs.declared.allocation_engine.node.places.Place.{Place}
+use Rattle.vm_engine.specs.declared.node.places.Place.{Place}
 use Rattle.vm_engine.proofs.Counts.Entering.{none_unless_searched}
 use Rattle.vm_ranges.proofs.Power.{alignment_pos, greatest_multiple, least_multiple}
 

@@ -9,12 +9,12 @@ use Rattle.vm_engine.specs.Tree.Shape.{Shape, Fork, blocks, height_of, max_free_
 use Rattle.vm_engine.specs.Engine.Changes.{IsHeightAfterBalance, KeepsHeight, KeepsRoom, Keeps, Grows, Shrinks}
 use Rattle.vm_engine.specs.Engine.NodeFields.{side, shape_of, IsNode}
 use Rattle.vm_engine.specs.Engine.Settling.{Open, IsSettled, Finishes}
-use Rattle.vm_engine.specs.declared.allocation_engine.node.InnerNode.{InnerNode}
-use Rattle.vm_engine.specs.declared.allocation_engine.node.InnerNode.TheInside.{Inside}
-use Rattle.vm_engine.specs.declared.allocation_engine.node.balance.Settled.{Settled}
-use Rattle.vm_engine.specs.declared.allocation_engine.node.balance.Settled.TheVariants.{Stands, Leans}
-use Rattle.vm_engine.specs.declared.allocation_engine.node.kept.Change.{Change}
-use Rattle.vm_engine.specs.declared.allocation_engine.node.kept.Change.TheVariants.{Nothing, RoomAlone, Height}
+use Rattle.vm_engine.specs.declared.node.InnerNode.{InnerNode}
+use Rattle.vm_engine.specs.declared.node.InnerNode.TheInside.{Inside}
+use Rattle.vm_engine.specs.declared.node.balance.Settled.{Settled}
+use Rattle.vm_engine.specs.declared.node.balance.Settled.TheVariants.{Stands, Leans}
+use Rattle.vm_engine.specs.declared.node.kept.Change.{Change}
+use Rattle.vm_engine.specs.declared.node.kept.Change.TheVariants.{Nothing, RoomAlone, Height}
 use Rattle.vm_engine.proofs.Blocks.BlockOrder.{ordered_middle}
 
 -- a height that stays the same is kept, whatever is told

@@ -7,7 +7,7 @@ use Rattle.vm_engine.specs.Address.{IsAddressState, AddressState}
 use Rattle.vm_engine.specs.Tree.Blocks.{Tiles, TilesSpace, IsTiling}
 use Rattle.vm_engine.specs.Tree.Shape.{Shape, Tip, blocks, height_of, node_count, single}
 use Rattle.vm_engine.specs.Engine.NodeFields.{side}
-use Rattle.vm_engine.specs.declared.allocation_engine.node.InnerNode.{InnerNode}
+use Rattle.vm_engine.specs.declared.node.InnerNode.{InnerNode}
 use Rattle.vm_engine.specs.Tree.SpaceTree.{last_end, space_of, tree_state, IsSpaceTree}
 use Rattle.vm_ranges.specs.declared.state.NodeState.{NodeState}
 use Rattle.vm_ranges.specs.declared.state.NodeState.TheVariants.{Free}

@@ -12,7 +12,7 @@ use Rattle.vm_engine.specs.Tree.SpaceTree.{space_of, tree_state, IsSpaceTree}
 use Rattle.vm_engine.specs.Tree.FreeBeside.{HasHeld, free_if, without_if}
 use Rattle.vm_engine.specs.Engine.Release.{neighbours, joined, IsAround, rejoined}
 use Rattle.vm_engine.specs.Engine.Widening.{CanWiden}
-use Rattle.vm_engine.specs.declared.allocation_engine.node.neighbours.Neighbours.{Neighbours}
+use Rattle.vm_engine.specs.declared.node.neighbours.Neighbours.{Neighbours}
 use Rattle.vm_ranges.specs.declared.error.Error.TheVariants.{ResourceNotAvailable}
 use Rattle.vm_ranges.specs.declared.state.NodeState.TheVariants.{Free, Allocated}
 use Rattle.vm_engine.proofs.Blocks.PlainWords.{IsHeld, contains_held, held_contains}

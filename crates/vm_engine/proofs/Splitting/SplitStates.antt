@@ -13,11 +13,11 @@ use Rattle.vm_engine.specs.Tree.Shape.{Shape, blocks, height_of, node_count, IsT
 use Rattle.vm_engine.specs.Engine.Choosing.{IsChoice, Carves}
 use Rattle.vm_engine.specs.Tree.SpaceTree.{space_of, tree_state, IsSpaceTree}
 use Rattle.vm_engine.specs.Engine.Carving.{with_split, AreLeaves, CanCarve, IsRest}
-use Rattle.vm_engine.specs.declared.allocation_engine.node.carve.Rest.{Rest}
+use Rattle.vm_engine.specs.declared.node.carve.Rest.{Rest}
 use Rattle.vm_engine.specs.Counts.Fibonacci.{fibonacci, fibonacci_pair}
 use Rattle.vm_ranges.specs.declared.error.Error.TheVariants.{Overflow, OutOfMemory}
 use Rattle.vm_ranges.specs.declared.state.NodeState.TheVariants.{Allocated}
-use Rattle.vm_engine.specs.declared.allocation_engine.interval_tree.placing.Choice.{Choice}
+use Rattle.vm_engine.specs.declared.interval_tree.placing.Choice.{Choice}
 use Rattle.vm_engine.proofs.Splitting.Taking.{tiles_carved, blocks_carved, leaves_clear, as_blocks, below_with}
 use Rattle.vm_engine.proofs.Blocks.BlockOrder.{ordered_weaken}
 use Rattle.vm_engine.proofs.Blocks.Replacement.{replace_middle, find_middle}

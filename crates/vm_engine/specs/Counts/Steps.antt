@@ -1,5 +1,5 @@
 -- How many nodes of a balanced tree a call enters.
-use Rattle.std.specs.Prelude.{◌≡◌, ℕ, ◌+◌, ◌-◌, ◌*◌, ◌^◌, ◌<◌, ◌≤◌, List, ◌∷◌, ◌++◌, Option, Result, IfOk, IsOk, OnOk, OnErr, Err, length}
+use Rattle.std.specs.Prelude.{◌≡◌, ℕ, ◌+◌, ◌-◌, ◌*◌, ◌^◌, ◌<◌, ◌≤◌, List, ◌∷◌, ◌++◌, Option, None, Result, IfOk, IsOk, OnOk, OnErr, Err, length}
 use Rattle.vm_ranges.specs.Range.{Range}
 use Rattle.vm_engine.specs.Tree.Block.{Block, free_block}
 use Rattle.vm_engine.specs.Address.{AddressState, LeavesClear}
@@ -75,6 +75,8 @@ pub record IsWayBack (s : Shape) (key : Range) (lower upper : Option Range) (bef
   pub last : Shape
   pub without_first : blocks mid ≡ without_if lower (blocks s)
   pub without_both : blocks last ≡ without_if upper (blocks mid)
+  pub same_first : lower ≡ None → mid ≡ s
+  pub same_last : upper ≡ None → last ≡ mid
   pub no_higher : (height_of mid ≤ height_of s) × (height_of last ≤ height_of mid)
   pub count : after ≡ before + way_if lower s + way_if upper mid + way_to key last
 

@@ -4,9 +4,9 @@ use Rattle.std.specs.Borrow.{Bor}
 use Rattle.vm_ranges.specs.Range.{Range}
 use Rattle.vm_engine.specs.Tree.FreeBeside.{key_if_free}
 use Rattle.vm_engine.specs.Tree.Shape.{root_block}
-use Rattle.vm_engine.specs.declared.allocation_engine.node.InnerNode.{InnerNode}
-use Rattle.vm_engine.specs.declared.allocation_engine.node.neighbours.Beside.{Beside}
-use Rattle.vm_engine.specs.declared.allocation_engine.node.neighbours.Neighbours.{Neighbours}
+use Rattle.vm_engine.specs.declared.node.InnerNode.{InnerNode}
+use Rattle.vm_engine.specs.declared.node.neighbours.Beside.{Beside}
+use Rattle.vm_engine.specs.declared.node.neighbours.Neighbours.{Neighbours}
 
 -- the key of a node whose block is free, if there is such a node
 abbrev pub free_key_of : Option (Bor InnerNode) → Option Range

@@ -7,7 +7,7 @@ use Rattle.vm_engine.specs.Tree.BlockEdits.{before_part, after_part}
 use Rattle.vm_engine.specs.Tree.Shape.{leaf_of, blocks}
 use Rattle.vm_engine.specs.Engine.Changes.{IsLeaf}
 use Rattle.vm_engine.specs.Engine.NodeFields.{side}
-use Rattle.vm_engine.specs.declared.allocation_engine.node.carve.Rest.{Rest}
+use Rattle.vm_engine.specs.declared.node.carve.Rest.{Rest}
 
 -- the blocks with the held range in the place of the one of a key, between what is left before and after it
 abbrev pub with_split : Range → Range → Rest → List Block → List Block

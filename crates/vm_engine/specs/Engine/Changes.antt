@@ -4,8 +4,8 @@ use Rattle.vm_ranges.specs.Range.{Range}
 use Rattle.vm_engine.specs.Tree.Block.{Block}
 use Rattle.vm_engine.specs.Tree.BlockList.{IsOrderedFrom, find_key}
 use Rattle.vm_engine.specs.Tree.Shape.{Shape, Tip, Fork, blocks, height_of, max_free_of, alignments_of, single, root_block, DifferByAtMost, IsTree}
-use Rattle.vm_engine.specs.declared.allocation_engine.node.kept.Change.{Change}
-use Rattle.vm_engine.specs.declared.allocation_engine.node.kept.Change.TheVariants.{Nothing, RoomAlone, Height}
+use Rattle.vm_engine.specs.declared.node.kept.Change.{Change}
+use Rattle.vm_engine.specs.declared.node.kept.Change.TheVariants.{Nothing, RoomAlone, Height}
 
 -- the height h of a node balanced over sides of heights l and r: one above the higher side, and as high as it or one
 -- above where a rotation was due

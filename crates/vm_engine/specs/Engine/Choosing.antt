@@ -15,8 +15,8 @@ use Rattle.vm_ranges.specs.declared.state.NodeState.{NodeState}
 use Rattle.vm_ranges.specs.declared.state.NodeState.TheVariants.{Free, Allocated}
 use Rattle.vm_ranges.specs.declared.constraint.AllocPolicy.{AllocPolicy}
 use Rattle.vm_ranges.specs.declared.constraint.AllocPolicy.TheVariants.{FirstMatch, LastMatch, ExactMatch}
-use Rattle.vm_engine.specs.declared.allocation_engine.interval_tree.placing.Choice.{Choice}
-use Rattle.vm_engine.specs.declared.allocation_engine.node.places.Place.{Place}
+use Rattle.vm_engine.specs.declared.interval_tree.placing.Choice.{Choice}
+use Rattle.vm_engine.specs.declared.node.places.Place.{Place}
 
 -- a range below MAX within a free block
 pub record IsChoice (bs : List Block) (choice : Choice) : Type 0 where

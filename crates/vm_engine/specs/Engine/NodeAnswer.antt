@@ -5,7 +5,7 @@ use Rattle.vm_engine.specs.Tree.BlockList.{IsClearOf, insert_block, replace_bloc
 use Rattle.vm_engine.specs.Tree.Block.{Block}
 use Rattle.vm_engine.specs.Tree.Shape.{Shape, Tip, Fork, blocks}
 use Rattle.vm_engine.specs.Engine.Changes.{Grows}
-use Rattle.vm_engine.specs.declared.allocation_engine.node.kept.Change.TheVariants.{Height}
+use Rattle.vm_engine.specs.declared.node.kept.Change.TheVariants.{Height}
 use Rattle.vm_ranges.specs.declared.error.Error.{Error}
 use Rattle.vm_ranges.specs.declared.error.Error.TheVariants.{ResourceNotAvailable, InvalidStateTransition, Overlap, OutOfMemory}
 use Rattle.vm_ranges.specs.declared.state.NodeState.{NodeState}

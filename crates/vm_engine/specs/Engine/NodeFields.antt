@@ -2,8 +2,8 @@
 use Rattle.std.specs.Prelude.{◌≡◌, Option, Some, None}
 use Rattle.std.specs.Global.{Box}
 use Rattle.vm_engine.specs.Tree.Shape.{Shape, Tip, Fork, IsTree, height_of, max_free_of, alignments_of}
-use Rattle.vm_engine.specs.declared.allocation_engine.node.InnerNode.TheInside.{Inside}
-use Rattle.vm_engine.specs.declared.allocation_engine.node.InnerNode.{InnerNode}
+use Rattle.vm_engine.specs.declared.node.InnerNode.TheInside.{Inside}
+use Rattle.vm_engine.specs.declared.node.InnerNode.{InnerNode}
 
 -- a child as a shape: an absent one is a tip
 abbrev pub side : Option (Box InnerNode) → Shape

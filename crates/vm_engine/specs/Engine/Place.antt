@@ -3,7 +3,7 @@ use Rattle.std.specs.Prelude.{◌≡◌, ℕ, List, ◌∷◌, ◌++◌, Option,
 use Rattle.std.specs.List.{All}
 use Rattle.vm_engine.specs.Tree.Block.{Block, free_block}
 use Rattle.vm_engine.specs.Tree.Fit.{HasNoFit, IsLeastFit, IsGreatestFit}
-use Rattle.vm_engine.specs.declared.allocation_engine.node.places.Place.{Place}
+use Rattle.vm_engine.specs.declared.node.places.Place.{Place}
 
 -- the least fit of the first block that has one
 pub record IsFirstFit (n a : ℕ) (bs : List Block) (place : Place) : Type 0 where

@@ -6,13 +6,13 @@ use Rattle.vm_engine.specs.Tree.Multiples.{free_alignments}
 use Rattle.vm_engine.specs.Tree.Shape.{Shape, height_of, max_free_of, alignments_of, DifferByAtMost, root_block}
 use Rattle.vm_engine.specs.Engine.Changes.{KeepsHeight, KeepsRoom, IsLeaf, CanBalance, Balances}
 use Rattle.vm_engine.specs.Engine.NodeFields.{side}
-use Rattle.vm_engine.specs.declared.allocation_engine.node.InnerNode.{InnerNode}
-use Rattle.vm_engine.specs.declared.allocation_engine.node.kept.Change.{Change}
-use Rattle.vm_engine.specs.declared.allocation_engine.node.kept.Change.TheVariants.{Height}
-use Rattle.vm_engine.specs.declared.allocation_engine.node.kept.Kept.{Kept}
-use Rattle.vm_engine.specs.declared.allocation_engine.node.kept.Room.{Room}
-use Rattle.vm_engine.specs.declared.allocation_engine.node.balance.Settled.{Settled}
-use Rattle.vm_engine.specs.declared.allocation_engine.node.balance.Settled.TheVariants.{Stands, Leans}
+use Rattle.vm_engine.specs.declared.node.InnerNode.{InnerNode}
+use Rattle.vm_engine.specs.declared.node.kept.Change.{Change}
+use Rattle.vm_engine.specs.declared.node.kept.Change.TheVariants.{Height}
+use Rattle.vm_engine.specs.declared.node.kept.Kept.{Kept}
+use Rattle.vm_engine.specs.declared.node.kept.Room.{Room}
+use Rattle.vm_engine.specs.declared.node.balance.Settled.{Settled}
+use Rattle.vm_engine.specs.declared.node.balance.Settled.TheVariants.{Stands, Leans}
 
 -- what is kept of a tree
 abbrev pub IsKeptOf : Shape → Kept → Type 0

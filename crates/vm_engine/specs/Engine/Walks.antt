@@ -5,7 +5,7 @@ use Rattle.std.specs.Global.{Box}
 use Rattle.vm_engine.specs.Tree.Block.{Block}
 use Rattle.vm_engine.specs.Tree.Shape.{Shape, Tip, Fork, MAX_HEIGHT, blocks, height_of}
 use Rattle.vm_engine.specs.Engine.NodeFields.{side}
-use Rattle.vm_engine.specs.declared.allocation_engine.node.InnerNode.{InnerNode}
+use Rattle.vm_engine.specs.declared.node.InnerNode.{InnerNode}
 
 -- a child on the way
 abbrev pub Stop : Type 0

@@ -5,7 +5,7 @@ ghost use Rattle.serde_json.specs.View.{view};
 ghost use Rattle.vm_engine.specs.Checks.NodeChecks.{behind, is_true_height, tree_found, tree_fitting};
 
 use super::node::node_of;
-use crate::allocation_engine::node::MAX_HEIGHT;
+use crate::node::MAX_HEIGHT;
 use serde_json::Value;
 use vm_ranges::{NodeState, RangeInclusive};
 

@@ -8,10 +8,10 @@ ghost use Rattle.vm_engine.specs.Tree.SpaceTree.{space_of};
 ghost use Rattle.vm_engine.specs.Values.TreeValues.{StatesShape, StatesSpaceTree};
 ghost use Rattle.vm_engine.specs.Checks.ValueParts.{HasShapeWithin};
 
-use crate::allocation_engine::IntervalTree;
-use crate::allocation_engine::ends::known;
-use crate::allocation_engine::node::walks::saving::save;
-use crate::allocation_engine::node::{Child, InnerNode, MAX_HEIGHT};
+use crate::IntervalTree;
+use crate::ends::known;
+use crate::node::walks::saving::save;
+use crate::node::{Child, InnerNode, MAX_HEIGHT};
 use crate::saved::check::has_tree_of;
 use crate::saved::node::node_of;
 use serde_json::Value;

@@ -7,7 +7,7 @@
 //! of its own all the same: a monitor relies on it.
 
 use rattle::Global;
-use vm_engine::allocation_engine::IntervalTree;
+use vm_engine::IntervalTree;
 use vm_ranges::{AllocPolicy, Constraint, Error, RangeInclusive, Result};
 
 mod comparing;

@@ -7,7 +7,13 @@
 #![allow(dead_code, unused_assignments, unused_imports, unused_variables)]
 #![no_std]
 
-pub mod allocation_engine;
+mod block;
+mod ends;
+mod interval_tree;
+mod node;
 mod saved;
 
+pub use interval_tree::IntervalTree;
+use interval_tree::counted::Steps;
+pub use interval_tree::held_ranges::HeldRanges;
 pub use saved::node::{SavedNode, node_of};

@@ -3,7 +3,7 @@
 //! The held ranges: one after the other, whether a range is one, and how many there are.
 
 use super::AddressAllocator;
-use vm_engine::allocation_engine::HeldRanges;
+use vm_engine::HeldRanges;
 use vm_ranges::RangeInclusive;
 
 impl AddressAllocator {

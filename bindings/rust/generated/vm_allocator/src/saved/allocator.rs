@@ -5,7 +5,7 @@
 use crate::address_allocator::AddressAllocator;
 use rattle::{Value, json};
 use rattle::{AllocError, Global};
-use vm_engine::allocation_engine::IntervalTree;
+use vm_engine::IntervalTree;
 use vm_ranges::{RangeInclusive, Result, ValueError, has_fields, range_in};
 
 impl AddressAllocator {

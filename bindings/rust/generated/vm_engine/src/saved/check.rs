@@ -4,7 +4,7 @@
 //! that is wrong.
 
 use super::node::node_of;
-use crate::allocation_engine::node::MAX_HEIGHT;
+use crate::node::MAX_HEIGHT;
 use rattle::Value;
 use vm_ranges::{NodeState, RangeInclusive};
 

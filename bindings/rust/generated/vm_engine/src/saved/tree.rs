@@ -2,10 +2,10 @@
 
 //! The saved form of a tree: what is checked already is built.
 
-use crate::allocation_engine::IntervalTree;
-use crate::allocation_engine::ends::known;
-use crate::allocation_engine::node::walks::saving::save;
-use crate::allocation_engine::node::{Child, InnerNode, MAX_HEIGHT};
+use crate::IntervalTree;
+use crate::ends::known;
+use crate::node::walks::saving::save;
+use crate::node::{Child, InnerNode, MAX_HEIGHT};
 use crate::saved::check::has_tree_of;
 use crate::saved::node::node_of;
 use rattle::Value;

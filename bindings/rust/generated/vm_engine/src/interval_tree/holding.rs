@@ -1,0 +1,92 @@
+// Written by bindings/erase from crates/vm_engine/src/interval_tree/holding.rt: do not edit.
+
+//! How a range is held: what fills its free block is marked in place, and what does not is split
+//! from it, with all memory asked for before the first change.
+
+use rattle::Box;
+use super::IntervalTree;
+use super::placing::Choice;
+use crate::Steps;
+use crate::ends::{between, known};
+use crate::node::carve::{Cut, Rest, carve_at};
+use crate::node::rewrite::rewrite_at;
+use crate::node::{Child, InnerNode};
+use rattle::Global;
+use vm_ranges::{Error, NodeState, RangeInclusive, Result};
+
+/// The height from which on no split is made, so that two more nodes never make a tree too high.
+const TOO_HIGH: u64 = 48;
+
+impl IntervalTree {
+    /// Holds a range within a free block. Where a part of the block is left, a tree that is too high
+    /// is `Overflow`, and then comes `OutOfMemory`: all memory is asked for before the first change.
+    pub(super) fn hold(
+        &mut self,
+        alloc: Global,
+        choice: Choice,
+        count: &mut Steps,
+    ) -> Result<RangeInclusive> {
+        if !leaves_part(&choice) {
+            rewrite_at(
+                &mut self.root,
+                &choice.key,
+                choice.range,
+                NodeState::Allocated,
+                count,
+            );
+            return Ok(choice.range);
+        }
+        if self.height() >= TOO_HIGH {
+            return Err(Error::Overflow);
+        }
+        let rest = rest_of(alloc, &choice)?;
+        let mut cut = Cut {
+            key: choice.key,
+            range: choice.range,
+            rest,
+        };
+        carve_at(&mut self.root, &mut cut, count);
+        Ok(choice.range)
+    }
+}
+
+/// Whether a part of the free block is left beside the range.
+fn leaves_part(choice: &Choice) -> bool {
+    choice.key.start() < choice.range.start() || choice.range.end() < choice.key.end()
+}
+
+/// What is left of the free block on both sides of the range. `OutOfMemory` where there is no memory
+/// for a leaf.
+fn rest_of(alloc: Global, choice: &Choice) -> Result<Rest> {
+    let before = leaf_before(alloc, choice)?;
+    let after = leaf_after(alloc, choice)?;
+    Ok(Rest { before, after })
+}
+
+/// A leaf for what is left of the free block before the range.
+fn leaf_before(alloc: Global, choice: &Choice) -> Result<Child> {
+    known(&choice.key);
+    if choice.key.start() >= choice.range.start() {
+        return Ok(None);
+    }
+    let key = between(choice.key.start(), choice.range.start() - 1);
+    free_leaf(alloc, key)
+}
+
+/// A leaf for what is left of the free block after the range.
+fn leaf_after(alloc: Global, choice: &Choice) -> Result<Child> {
+    known(&choice.key);
+    if choice.range.end() >= choice.key.end() {
+        return Ok(None);
+    }
+    let key = between(choice.range.end() + 1, choice.key.end());
+    free_leaf(alloc, key)
+}
+
+/// A leaf with a free block.
+fn free_leaf(alloc: Global, key: RangeInclusive) -> Result<Child> {
+    match Box::new(alloc, InnerNode::new(key, NodeState::Free)) {
+        Ok(leaf) => Ok(Some(leaf)),
+        Err(_) => Err(Error::OutOfMemory),
+    }
+}

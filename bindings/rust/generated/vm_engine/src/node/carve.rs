@@ -1,0 +1,104 @@
+// Written by bindings/erase from crates/vm_engine/src/node/carve.rt: do not edit.
+
+//! A range taken from a free block, in one descent: at the node of the block key and state are
+//! written in place, what is left of it is linked below that node's sides, and on the way back up
+//! each node is balanced once. Both leaves may go in before that, since the sides then differ by two
+//! at most. One record goes down (`Cut`): four arguments, 80 bytes at each level, cost 4 % of the
+//! instructions of `first`. What is done once is no part of the descent (`carve_here`, never
+//! inlined), which takes 2 % off. Heights are looked at on the way back up only where one may have
+//! changed, which takes 3 % off.
+
+use super::balance::settle;
+use super::kept::{Change, renew_over};
+use super::link::link_at;
+use super::{Child, InnerNode, known};
+use crate::Steps;
+use crate::ends::order;
+use core::cmp::Ordering;
+use vm_ranges::{NodeState, RangeInclusive};
+
+/// What is left of a free block before and after a range, a leaf each.
+pub(crate) struct Rest {
+    /// What ends right before the range.
+    pub(crate) before: Child,
+    /// What starts right after it.
+    pub(crate) after: Child,
+}
+
+/// Links a leaf, if there is one, below a side.
+fn link_if(child: &mut Child, leaf: Child, count: &mut Steps) {
+    known(child);
+    if let Some(leaf) = leaf {
+        link_at(child, leaf, count);
+    }
+}
+
+/// A split: the key of a free block, the range that is taken from it, and what is left of it, which
+/// is handed on where it hangs.
+pub(crate) struct Cut {
+    /// The free block.
+    pub(crate) key: RangeInclusive,
+    /// The range, within that block.
+    pub(crate) range: RangeInclusive,
+    /// What is left of it.
+    pub(crate) rest: Rest,
+}
+
+/// Gives the topmost node a range, which is held, and links what is left beside it; says what
+/// changed there.
+#[inline(never)]
+fn carve_here(at: &mut Child, cut: &mut Cut, count: &mut Steps) -> Change {
+    let Some(tree) = at else { unreachable!() };
+    let tree: &mut InnerNode = tree;
+    let _ = &tree.height;
+    tree.key = cut.range;
+    tree.node_state = NodeState::Allocated;
+    link_if(&mut tree.left, cut.rest.before.take(), count);
+    link_if(&mut tree.right, cut.rest.after.take(), count);
+    let settled = settle(
+        &mut tree.left,
+        &mut tree.right,
+        &tree.key,
+        tree.node_state,
+        &mut tree.height,
+        &mut tree.max_free,
+        &mut tree.alignments,
+    );
+    settled.finish(at)
+}
+
+/// Gives the node with a key below the node at a place a range, which is held, and links what is
+/// left beside it; says what changed there.
+pub(crate) fn carve_at(at: &mut Child, cut: &mut Cut, count: &mut Steps) -> Change {
+    let Some(tree) = at else { unreachable!() };
+    let tree: &mut InnerNode = tree;
+    tree.enter(count);
+    let change = match order(&tree.key, &cut.key) {
+        Ordering::Equal => return carve_here(at, cut, count),
+        Ordering::Greater => carve_at(&mut tree.left, cut, count),
+        Ordering::Less => carve_at(&mut tree.right, cut, count),
+    };
+    match change {
+        Change::Nothing => Change::Nothing,
+        Change::RoomAlone => renew_over(
+            &tree.left,
+            &tree.right,
+            &tree.key,
+            tree.node_state,
+            &mut tree.max_free,
+            &mut tree.alignments,
+        ),
+        Change::Height => {
+            let settled = settle(
+                &mut tree.left,
+                &mut tree.right,
+                &tree.key,
+                tree.node_state,
+                &mut tree.height,
+                &mut tree.max_free,
+                &mut tree.alignments,
+            );
+            settled.finish(at)
+        }
+    }
+}

@@ -1,0 +1,34 @@
+// Written by bindings/erase from crates/vm_engine/src/node/find.rt: do not edit.
+
+//! The block of an address.
+
+use super::InnerNode;
+use crate::Steps;
+use crate::ends::ends_before;
+use vm_ranges::RangeInclusive;
+
+impl InnerNode {
+    /// The node whose key contains this one.
+    pub(crate) fn search_superset(
+        &self,
+        key: &RangeInclusive,
+        count: &mut Steps,
+    ) -> Option<&InnerNode> {
+        self.enter(count);
+        if ends_before(key, &self.key) {
+            let Some(left) = &self.left else { return None };
+            return left.search_superset(key, count);
+        }
+        if ends_before(&self.key, key) {
+            let Some(right) = &self.right else {
+                return None
+            };
+            return right.search_superset(key, count);
+        }
+        if self.key.contains(key) {
+            Some(self)
+        } else {
+            None
+        }
+    }
+}

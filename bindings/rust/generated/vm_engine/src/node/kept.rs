@@ -1,0 +1,203 @@
+// Written by bindings/erase from crates/vm_engine/src/node/kept.rt: do not edit.
+
+//! What a node keeps of its tree, brought up to date from its children and its own block: the height,
+//! the length of the longest free block, and how many of the 64 alignments have a multiple in a free
+//! one. A multiple of a power of two is one of each lesser power, so the count says which alignments
+//! these are. A search enters no tree without room for its size and alignment. All that a child keeps
+//! is read at once (`kept_of`), and the own block looked at last: each read with its own look whether
+//! the child is there cost 4 % of the instructions of `exact`. The count is a byte beside the state,
+//! so that a node has 72 bytes, and takes a logarithm; the word that it is the logarithm of would
+//! make them 80. At 10^4 ranges (callgrind, against the version before) the count takes 0.7 % of the
+//! instructions of `exact`, 3.8 % of `first` and 8.1 % of `devices`, and `mixed` has a 25th of the
+//! time.
+
+use super::Child;
+use vm_ranges::{NodeState, RangeInclusive};
+
+/// What the free blocks of a tree, or one block alone, have room for.
+#[derive(Clone, Copy, Debug)]
+pub(super) struct Room {
+    /// The length of the longest free block, 0 where there is none.
+    pub(super) longest: u64,
+    /// How many of the 64 alignments have a multiple in a free block.
+    pub(super) alignments: u8,
+}
+
+/// What changed of what a node keeps. A removal looks at the height wherever anything changed: to spare
+/// that, as a split does, makes `exact` up to 3 % dearer (docs/DECISIONS.md).
+#[derive(Clone, Copy, Debug)]
+pub(crate) enum Change {
+    /// Nothing.
+    Nothing,
+    /// What its tree has room for, and not the height.
+    RoomAlone,
+    /// Anything, the height among it.
+    Height,
+}
+
+/// What a child keeps.
+#[derive(Clone, Copy, Debug)]
+pub(super) struct Kept {
+    /// The height of its tree.
+    pub(super) height: u64,
+    /// What the free blocks of its tree have room for.
+    pub(super) room: Room,
+}
+
+/// What a block has room for: its clear addresses are all of a free one, none of a held one.
+#[inline(always)]
+pub(super) fn room_of(key: &RangeInclusive, node_state: NodeState) -> Room {
+    match node_state {
+        NodeState::Free => Room {
+            longest: key.len(),
+            alignments: alignment_count(key),
+        },
+        NodeState::Allocated => Room {
+            longest: 0,
+            alignments: 0,
+        },
+    }
+}
+
+/// How many of the 64 alignments have a multiple in a range: the greatest is that of the highest bit
+/// in which its last address and the one before its first differ.
+#[inline(always)]
+fn alignment_count(key: &RangeInclusive) -> u8 {
+    let start = key.start();
+    if start == 0 {
+        return 64;
+    }
+    ((start - 1) ^ key.end()).ilog2() as u8 + 1
+}
+
+/// What a child keeps, all 0 where it is absent.
+#[inline(always)]
+pub(super) fn kept_of(child: &Child) -> Kept {
+    match child {
+        None => Kept {
+            height: 0,
+            room: Room {
+                longest: 0,
+                alignments: 0,
+            },
+        },
+        Some(node) => Kept {
+            height: node.height,
+            room: Room {
+                longest: node.max_free,
+                alignments: node.alignments,
+            },
+        },
+    }
+}
+
+/// What a node keeps over these children, with its own block.
+#[inline(always)]
+pub(super) fn kept_over(
+    left: &Child,
+    right: &Child,
+    key: &RangeInclusive,
+    node_state: NodeState,
+) -> Kept {
+    let first = kept_of(left);
+    let second = kept_of(right);
+    let own = room_of(key, node_state);
+    Kept {
+        height: first.height.max(second.height) + 1,
+        room: Room {
+            longest: first.room.longest.max(second.room.longest).max(own.longest),
+            alignments: first
+                .room
+                .alignments
+                .max(second.room.alignments)
+                .max(own.alignments),
+        },
+    }
+}
+
+/// Brings up to date what a node keeps of its tree's room; says whether a part of it changed.
+#[inline(always)]
+pub(super) fn refresh_room(
+    left: Room,
+    right: Room,
+    own: Room,
+    kept_longest: &mut u64,
+    kept_alignments: &mut u8,
+) -> bool {
+    let longest = left.longest.max(right.longest).max(own.longest);
+    let reached = left.alignments.max(right.alignments).max(own.alignments);
+    if longest == *kept_longest && reached == *kept_alignments {
+        return false;
+    }
+    *kept_longest = longest;
+    *kept_alignments = reached;
+    true
+}
+
+/// Brings up to date what a node keeps of its tree's room over these children, with its own block; says
+/// whether a part of it changed.
+#[inline(always)]
+pub(super) fn refresh_over(
+    left: &Child,
+    right: &Child,
+    key: &RangeInclusive,
+    node_state: NodeState,
+    kept_longest: &mut u64,
+    kept_alignments: &mut u8,
+) -> bool {
+    let own = room_of(key, node_state);
+    refresh_room(
+        kept_of(left).room,
+        kept_of(right).room,
+        own,
+        kept_longest,
+        kept_alignments,
+    )
+}
+
+/// Brings up to date what a node keeps of its tree's room; says what changed of it.
+#[inline(always)]
+pub(super) fn renew_room(
+    left: Room,
+    right: Room,
+    own: Room,
+    kept_longest: &mut u64,
+    kept_alignments: &mut u8,
+) -> Change {
+    if refresh_room(left, right, own, kept_longest, kept_alignments) {
+        Change::RoomAlone
+    } else {
+        Change::Nothing
+    }
+}
+
+/// Brings up to date what a node over these children keeps of its tree's room; says what changed of
+/// it.
+#[inline(always)]
+pub(super) fn renew_over(
+    left: &Child,
+    right: &Child,
+    key: &RangeInclusive,
+    node_state: NodeState,
+    kept_longest: &mut u64,
+    kept_alignments: &mut u8,
+) -> Change {
+    renew_room(
+        kept_of(left).room,
+        kept_of(right).room,
+        room_of(key, node_state),
+        kept_longest,
+        kept_alignments,
+    )
+}
+
+/// Raises what a node keeps of its tree's room to that of a block which becomes free below.
+#[inline(always)]
+pub(super) fn raise_room(max_free: &mut u64, alignments: &mut u8, freed: &Room) {
+    if *max_free < freed.longest {
+        *max_free = freed.longest;
+    }
+    if *alignments < freed.alignments {
+        *alignments = freed.alignments;
+    }
+}

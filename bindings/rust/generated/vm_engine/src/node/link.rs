@@ -1,0 +1,39 @@
+// Written by bindings/erase from crates/vm_engine/src/node/link.rt: do not edit.
+
+//! A leaf added to a tree, on one way down and back up.
+
+use rattle::Box;
+use super::balance::settle;
+use super::kept::Change;
+use super::{Child, InnerNode};
+use crate::Steps;
+use crate::ends::starts_before;
+
+/// Adds a leaf at a place, below the node there if there is one; says what changed there.
+pub(super) fn link_at(at: &mut Child, leaf: Box<InnerNode>, count: &mut Steps) -> Change {
+    let key = leaf.key();
+    let Some(tree) = at else {
+        *at = Some(leaf);
+        return Change::Height;
+    };
+    let tree: &mut InnerNode = tree;
+    tree.enter(count);
+    let change = if starts_before(&key, &tree.key) {
+        link_at(&mut tree.left, leaf, count)
+    } else {
+        link_at(&mut tree.right, leaf, count)
+    };
+    if let Change::Nothing = change {
+        return change;
+    }
+    let settled = settle(
+        &mut tree.left,
+        &mut tree.right,
+        &tree.key,
+        tree.node_state,
+        &mut tree.height,
+        &mut tree.max_free,
+        &mut tree.alignments,
+    );
+    settled.finish(at)
+}

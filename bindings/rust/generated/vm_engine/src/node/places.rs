@@ -1,0 +1,135 @@
+// Written by bindings/erase from crates/vm_engine/src/node/places.rt: do not edit.
+
+//! The searches for the place of a request: first fit and last fit, two functions, since one with a
+//! side as its argument would look at it at each node, and its proof would be by cases on it
+//! throughout. They write what they find into an `Option` that their caller holds: a returned place
+//! is 32 bytes that are copied at each level, 12 % of the instructions of `first`. Each looks whether
+//! a child is there, and has room (`roomy`), before it calls: a recursion over optional children took
+//! 40 to 80 % more time. None calls what begins the search, since whatever comes back to itself has
+//! to count a node.
+
+use super::{Child, InnerNode};
+use crate::Steps;
+use vm_ranges::{NodeState, RangeInclusive, align_down, align_up};
+
+/// A start in a free block.
+#[derive(Clone, Copy, Debug)]
+pub(crate) struct Place {
+    /// The free block.
+    pub(crate) key: RangeInclusive,
+    /// An address of it.
+    pub(crate) start: u64,
+}
+
+/// The least multiple of the alignment from which a block has room for `size` clear addresses.
+fn least_fit(key: &RangeInclusive, state: NodeState, size: u64, alignment: u64) -> Option<u64> {
+    if state == NodeState::Allocated {
+        return None;
+    }
+    let Ok(start) = align_up(key.start(), alignment) else {
+        return None;
+    };
+    let end = key.end();
+    if start <= end && size - 1 <= end - start {
+        Some(start)
+    } else {
+        None
+    }
+}
+
+/// The greatest multiple of the alignment from which a block has room for `size` clear addresses.
+fn greatest_fit(key: &RangeInclusive, state: NodeState, size: u64, alignment: u64) -> Option<u64> {
+    let (start, end) = (key.start(), key.end());
+    if state == NodeState::Allocated || end - start < size - 1 {
+        return None;
+    }
+    let Ok(place) = align_down(end - (size - 1), alignment) else {
+        return None;
+    };
+    if start <= place { Some(place) } else { None }
+}
+
+/// The tree, if one of its free blocks is long enough for `size` addresses, and a multiple of the
+/// alignment lies in one of them.
+#[inline(always)]
+fn roomy(tree: &Child, size: u64, alignment: u64) -> Option<&InnerNode> {
+    let Some(node) = tree else { return None };
+    let node: &InnerNode = node;
+    if node.max_free < size || u32::from(node.alignments) <= alignment.trailing_zeros() {
+        None
+    } else {
+        Some(node)
+    }
+}
+
+/// The least place among the blocks of a tree: the first block with a fit, and its least fit.
+pub(crate) fn first_place(
+    tree: &Child,
+    size: u64,
+    alignment: u64,
+    count: &mut Steps,
+) -> Option<Place> {
+    let mut found = None;
+    if let Some(node) = roomy(tree, size, alignment) {
+        node.first_place(size, alignment, &mut found, count);
+    }
+    found
+}
+
+/// The greatest place among the blocks of a tree: the last block with a fit, and its greatest fit.
+pub(crate) fn last_place(
+    tree: &Child,
+    size: u64,
+    alignment: u64,
+    count: &mut Steps,
+) -> Option<Place> {
+    let mut found = None;
+    if let Some(node) = roomy(tree, size, alignment) {
+        node.last_place(size, alignment, &mut found, count);
+    }
+    found
+}
+
+impl InnerNode {
+    /// Writes the least place from this node on, if there is one.
+    fn first_place(&self, size: u64, alignment: u64, found: &mut Option<Place>, count: &mut Steps) {
+        self.enter(count);
+        if let Some(left) = roomy(&self.left, size, alignment) {
+            left.first_place(size, alignment, found, count);
+        }
+        if found.is_some() {
+            return;
+        }
+        if let Some(start) = least_fit(&self.key, self.node_state, size, alignment) {
+            *found = Some(Place {
+                key: self.key,
+                start,
+            });
+            return;
+        }
+        if let Some(right) = roomy(&self.right, size, alignment) {
+            right.first_place(size, alignment, found, count);
+        }
+    }
+
+    /// Writes the greatest place from this node on, if there is one.
+    fn last_place(&self, size: u64, alignment: u64, found: &mut Option<Place>, count: &mut Steps) {
+        self.enter(count);
+        if let Some(right) = roomy(&self.right, size, alignment) {
+            right.last_place(size, alignment, found, count);
+        }
+        if found.is_some() {
+            return;
+        }
+        if let Some(start) = greatest_fit(&self.key, self.node_state, size, alignment) {
+            *found = Some(Place {
+                key: self.key,
+                start,
+            });
+            return;
+        }
+        if let Some(left) = roomy(&self.left, size, alignment) {
+            left.last_place(size, alignment, found, count);
+        }
+    }
+}

@@ -1,0 +1,106 @@
+// Written by bindings/erase from crates/vm_engine/src/node/remove.rt: do not edit.
+
+//! A block removed from a tree. What removes the node itself is no part of the descent to it
+//! (`delete_root`, never inlined): together they would save twice as many registers at each level, 4
+//! % of the instructions of `exact`.
+
+use rattle::Box;
+use super::balance::{balance, settle};
+use super::kept::Change;
+use super::{Child, InnerNode, known};
+use crate::Steps;
+use crate::ends::order;
+use core::cmp::Ordering;
+use vm_ranges::RangeInclusive;
+
+/// Takes the node with the least key out from below the node at a place; says what changed
+/// there.
+fn take_least_at(at: &mut Child, count: &mut Steps) -> (Box<InnerNode>, Change) {
+    let Some(tree) = at else { unreachable!() };
+    let tree: &mut InnerNode = tree;
+    tree.enter(count);
+    if tree.left.is_none() {
+        let (_, right) = tree.strip();
+        known(&right);
+        let Some(least) = at.take() else {
+            unreachable!()
+        };
+        *at = right;
+        return (least, Change::Height);
+    }
+    let (least, change) = take_least_at(&mut tree.left, count);
+    if let Change::Nothing = change {
+        return (least, change);
+    }
+    let settled = settle(
+        &mut tree.left,
+        &mut tree.right,
+        &tree.key,
+        tree.node_state,
+        &mut tree.height,
+        &mut tree.max_free,
+        &mut tree.alignments,
+    );
+    (least, settled.finish(at))
+}
+
+/// What is left of a tree without its root, from the root's children: the other child where one is
+/// absent, and else both below the least node of the right one.
+pub(super) fn join(left: Child, mut right: Child, count: &mut Steps) -> Child {
+    known(&left);
+    known(&right);
+    if right.is_none() {
+        return left;
+    }
+    if left.is_none() {
+        return right;
+    }
+    let (least, _) = take_least_at(&mut right, count);
+    Some(balance(left, least, right))
+}
+
+impl InnerNode {
+    /// The tree without its root's key: its child where it has one alone, none where it has none,
+    /// and else both children below the least node of the right one. It takes no memory.
+    #[inline(never)]
+    pub(crate) fn delete_root(tree: Box<InnerNode>, count: &mut Steps) -> Option<Box<InnerNode>> {
+        let InnerNode { left, right, .. } = Box::into_inner(tree);
+        let joined = join(left, right, count);
+        known(&joined);
+        joined
+    }
+}
+
+/// Removes the node with a key from below the node at a place, if there is one; says what
+/// changed there.
+pub(crate) fn delete_at(at: &mut Child, key: &RangeInclusive, count: &mut Steps) -> Change {
+    let Some(tree) = at else {
+        return Change::Nothing
+    };
+    let tree: &mut InnerNode = tree;
+    tree.enter(count);
+    let change = match order(&tree.key, key) {
+        Ordering::Equal => {
+            let Some(node) = at.take() else {
+                unreachable!()
+            };
+            *at = InnerNode::delete_root(node, count);
+            return Change::Height;
+        }
+        Ordering::Greater => delete_at(&mut tree.left, key, count),
+        Ordering::Less => delete_at(&mut tree.right, key, count),
+    };
+    if let Change::Nothing = change {
+        return change;
+    }
+    let settled = settle(
+        &mut tree.left,
+        &mut tree.right,
+        &tree.key,
+        tree.node_state,
+        &mut tree.height,
+        &mut tree.max_free,
+        &mut tree.alignments,
+    );
+    settled.finish(at)
+}

@@ -1,0 +1,31 @@
+use Rattle.std.proofs.Common.{arith, refl}
+use Rattle.vm_engine.specs.Engine.NodeFields.{side}
+use Rattle.vm_engine.proofs.Splitting.SplitStates.{cut_of, known, can_carve, whole_carved, rest_carved, space_taken, taken_in}
+use Rattle.vm_engine.proofs.interval_tree.IntervalTree.hold.Goals as goal
+
+pub rewrite_at-requires-clause-known : goal.rewrite_at-requires-clause-known
+rewrite_at-requires-clause-known c =
+    known _ _ _ (cut_of _ c.args.choice c.self.invariant (rw (← c.self.view_is) at c.requires.choice))
+
+pub invariant_of-self : goal.invariant_of-self
+invariant_of-self c =
+    let choice = rw (← c.self.view_is) at c.requires.choice in
+    let carves = whole_carved _ _ _ _ (cut_of _ c.args.choice c.self.invariant choice) c.if-not-leaves_part.ensures c.rewrite_at.ensures.blocks in
+    space_taken _ _ c.args.choice c.self.invariant choice carves (omega (arith, c.rewrite_at.ensures.keeps.height, c.self.invariant.height))
+
+pub carve_at-requires-clause-carving : goal.carve_at-requires-clause-carving
+carve_at-requires-clause-carving c =
+    can_carve _ _ _ _ (cut_of _ c.args.choice c.self.invariant (rw (← c.self.view_is) at c.requires.choice)) c.in_ok-rest.ensures.rest
+
+pub invariant_of-self-2 : goal.invariant_of-self-2
+invariant_of-self-2 c =
+    let choice = rw (← c.self.view_is) at c.requires.choice in
+    let carves = rest_carved _ _ _ _ _ (cut_of _ c.args.choice c.self.invariant choice) c.in_ok-rest.ensures.rest c.carve_at.ensures.blocks in
+    let height = rw (← c.self.view_is) at c.height.ensures.value in
+    space_taken _ _ c.args.choice c.self.invariant choice carves (omega (arith, c.carve_at.ensures.grows.at_most_one_higher, height))
+
+pub returns-clause-answer : goal.returns-clause-answer
+returns-clause-answer c =
+    let choice = rw (← c.self.view_is) at c.requires.choice in
+    let carves = rest_carved _ _ _ _ _ (cut_of _ c.args.choice c.self.invariant choice) c.in_ok-rest.ensures.rest c.carve_at.ensures.blocks in
+    rw (← c.self.view_is) (taken_in _ (side c.carve_at.new.at) c.args.choice c.args.choice.range c.self.invariant choice carves refl)

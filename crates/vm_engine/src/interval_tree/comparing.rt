@@ -1,0 +1,67 @@
+//! Equality and order of trees: by their blocks, and so by the state that they stand for.
+ghost use Rattle.std.specs.Prelude.{◌≡◌, ◌↔◌, IsTrue, Some};
+ghost use Rattle.std.proofs.Common.{rules};
+ghost use Rattle.std.specs.Cmp.Rules.{comparing};
+ghost use Rattle.std.specs.Ordering.{on, eq_by_cmp, as_partial_cmp};
+ghost use Rattle.std.specs.declared.cmp.Ordering.TheVariants.{Equal};
+ghost use Rattle.std.proofs.lemmas.Cmp.{on_total};
+ghost use Rattle.vm_engine.specs.Tree.Shape.{blocks};
+ghost use Rattle.vm_engine.specs.Tree.SpaceTree.{tree_state};
+ghost use Rattle.vm_engine.specs.Comparison.{layout_cmp, layout_cmp-total, AreEqual};
+
+use super::IntervalTree;
+use crate::node::walks::comparing::{order_of_blocks, same_blocks};
+use std::cmp::Ordering;
+
+impl PartialEq for IntervalTree {
+    ghost eq = { eq_by_cmp (on tree_state layout_cmp) };
+
+    ghost laws = { Prim.search (comparing, layout_cmp-total, rules) };
+
+    /// Whether the blocks are the same. It stops at the first difference.
+    #[tactic(auto, using(crate::proofs::Comparing::StateOrders::trees_compared))]
+    fn eq(&self, other: &IntervalTree) -> bool
+        ensures blocks { IsTrue result ↔ (blocks self.now ≡ blocks other.now) }
+        ensures equal { IsTrue result ↔ AreEqual (tree_state self.now) (tree_state other.now) }
+        ensures order { result ≡ eq_by_cmp layout_cmp (tree_state self.now) (tree_state other.now) }
+    {
+        same_blocks(&self.root, &other.root)
+    }
+}
+
+impl Eq for IntervalTree {
+    ghost laws = { Prim.search (comparing, layout_cmp-total, rules) };
+}
+
+impl PartialOrd for IntervalTree {
+    ghost partial_cmp = { as_partial_cmp (on tree_state layout_cmp) };
+
+    ghost laws = { Prim.search (comparing, layout_cmp-total, rules) };
+
+    /// As `cmp` compares.
+    fn partial_cmp(&self, other: &IntervalTree) -> Option<Ordering>
+        ensures { result ≡ Some (layout_cmp (tree_state self.now) (tree_state other.now)) }
+    {
+        Some(self.cmp(other))
+    }
+}
+
+impl Ord for IntervalTree {
+    ghost cmp = { on tree_state layout_cmp };
+
+    ghost total = { on_total tree_state layout_cmp-total };
+
+    ghost matches_partial_cmp = { Prim.search (comparing, rules) };
+
+    ghost matches_eq = { Prim.search (comparing, rules) };
+
+    /// By the first blocks that differ, by start, then by end, then by state; where none do, the
+    /// tree with fewer blocks is less.
+    #[tactic(auto, using(crate::proofs::Comparing::StateOrders::trees_compared))]
+    fn cmp(&self, other: &IntervalTree) -> Ordering
+        ensures order { result ≡ layout_cmp (tree_state self.now) (tree_state other.now) }
+        ensures equal { (result ≡ Equal) ↔ AreEqual (tree_state self.now) (tree_state other.now) }
+    {
+        order_of_blocks(&self.root, &other.root)
+    }
+}

@@ -1,0 +1,99 @@
+//! The counted calls, and the counter of the nodes that they enter. Outside this file nobody makes a
+//! counter, raises one, reads or copies it, since its field can be named here alone: who is handed
+//! a counter can count a node by it and hand it on, and nothing else.
+ghost use Rattle.std.specs.Prelude.{◌≡◌, ◌+◌, ◌<◌, ◌≤◌, OnErr};
+ghost use Rattle.vm_ranges.specs.Range.{MAX};
+ghost use Rattle.vm_engine.specs.Address.{IsAddressState};
+ghost use Rattle.vm_engine.specs.Answer.{Grants, Frees};
+ghost use Rattle.vm_engine.specs.Tree.Shape.{height_of, IsTree};
+ghost use Rattle.vm_engine.specs.Counts.GapSearch.{SearchesGaps, SearchesAligned};
+ghost use Rattle.vm_engine.specs.Counts.Steps.{Enters, EntersToFree, IsGrantCount, IsReleaseCount, SplitsIfLow};
+ghost use Rattle.vm_engine.specs.Tree.SpaceTree.{tree_state};
+
+use super::IntervalTree;
+use crate::node::InnerNode;
+use std::alloc::Global;
+use std::marker::Model;
+use vm_ranges::{Constraint, RangeInclusive, Result};
+
+/// How many nodes a call has entered.
+#[derive(Drop)]
+pub(crate) struct Steps {
+    entered: u64,
+}
+
+impl Model for Steps {
+    ghost use Rattle.std.specs.Prelude.{ℕ};
+
+    ghost Value = { ℕ };
+
+    ghost view = { λ a. a.entered };
+}
+
+#[cfg(test)]
+impl Steps {
+    /// A counter at 0, for tests of a node.
+    pub(crate) fn start() -> Steps
+        ensures { result ≡ 0 }
+    {
+        Steps { entered: 0 }
+    }
+
+    /// How many nodes were entered.
+    pub(crate) fn entered(&self) -> u64
+        ensures { result ≡ self.now }
+    {
+        self.entered
+    }
+}
+
+impl InnerNode {
+    /// Counts this node as entered.
+    #[inline(always)]
+    pub(crate) fn enter(&self, count: &mut Steps)
+        requires { count.old + height_of self.now ≤ MAX }
+        ensures count { count.new ≡ count.old + 1 }
+        ensures high { 0 < height_of self.now }
+        ensures tree { IsTree self.now }
+    {
+        let _ = self.height();
+        count.entered += 1;
+    }
+}
+
+impl IntervalTree {
+    /// `allocate`, and how many nodes it entered.
+    #[tactic(auto, using(crate::proofs::Counts::Granting::grantings, crate::proofs::Counts::GapBounds::of_trees))]
+    pub fn allocate_counted(
+        &mut self,
+        alloc: Global,
+        constraint: Constraint,
+    ) -> (Result<RangeInclusive>, u64)
+        ensures answer { Grants (tree_state self.old) constraint result.0 (tree_state self.new) }
+        ensures unchanged { OnErr result.0 (self.new ≡ self.old) }
+        ensures depth { SplitsIfLow (height_of self.old) (tree_state self.old) result.0 }
+        ensures count { Enters self.old constraint result.0 0 result.1 }
+        ensures steps { IsGrantCount (height_of self.old) (tree_state self.old) constraint result.0 result.1 }
+        ensures search { SearchesGaps (height_of self.old) (tree_state self.old) constraint result.0 result.1 }
+        ensures search_aligned { SearchesAligned (height_of self.old) (tree_state self.old)
+            constraint result.0 result.1 }
+    {
+        let mut count = Steps { entered: 0 };
+        let answer = self.grant(alloc, constraint, &mut count);
+        (answer, count.entered)
+    }
+
+    /// `free`, and how many nodes it entered.
+    #[tactic(auto, using(crate::proofs::Counts::ReleaseWays::releasings, crate::proofs::Nodes::Spaces::states, crate::proofs::Answers::AddressAnswers::freed))]
+    pub fn free_counted(&mut self, key: &RangeInclusive) -> (Result<()>, u64)
+        ensures answer { Frees (tree_state self.old) key.now result.0 (tree_state self.new) }
+        ensures unchanged { OnErr result.0 (self.new ≡ self.old) }
+        ensures count { EntersToFree self.old key.now result.0 0 result.1 }
+        ensures steps { IsReleaseCount (height_of self.old) result.1 }
+        ensures state { IsAddressState (tree_state self.new) }
+    {
+        let mut count = Steps { entered: 0 };
+        let answer = self.release(key, &mut count);
+        (answer, count.entered)
+    }
+}

@@ -1,0 +1,53 @@
+//! A leaf added to a tree, on one way down and back up.
+ghost use Rattle.std.specs.Prelude.{◌≡◌, ◌+◌, ◌<◌, ◌≤◌, IsSome};
+ghost use Rattle.vm_ranges.specs.Range.{MAX};
+ghost use Rattle.vm_engine.specs.Tree.BlockList.{IsClearOf, insert_block};
+ghost use Rattle.vm_engine.specs.Tree.Shape.{MAX_HEIGHT, blocks, height_of, root_block};
+ghost use Rattle.vm_engine.specs.Engine.Changes.{IsLeaf, Grows};
+ghost use Rattle.vm_engine.specs.Counts.Ways.{way_down};
+ghost use Rattle.vm_engine.specs.Engine.NodeFields.{side};
+
+use super::balance::settle;
+use super::kept::Change;
+use super::{Child, InnerNode};
+use crate::Steps;
+use crate::ends::starts_before;
+
+/// Adds a leaf at a place, below the node there if there is one; says what changed there.
+#[tactic(auto, using(crate::proofs::Blocks::BlockOrder::links, crate::proofs::Counts::WayCases::ways_down))]
+pub(super) fn link_at(at: &mut Child, leaf: Box<InnerNode>, count: &mut Steps) -> Change
+    requires leaf { IsLeaf leaf.value }
+    requires clear { IsClearOf (root_block leaf.value).key (blocks (side at.old)) }
+    requires height { height_of (side at.old) < MAX_HEIGHT }
+    requires count_fits { count.old + height_of (side at.old) ≤ MAX }
+    ensures some { IsSome at.new }
+    ensures blocks { blocks (side at.new) ≡ insert_block (root_block leaf.value) (blocks (side at.old)) }
+    ensures grows { Grows (side at.old) (side at.new) result }
+    ensures count { count.new ≡ count.old + way_down (root_block leaf.value).key (side at.old) }
+{
+    let key = leaf.key();
+    let Some(tree) = at else {
+        *at = Some(leaf);
+        return Change::Height;
+    };
+    let tree: &mut InnerNode = tree;
+    tree.enter(count);
+    let change = if starts_before(&key, &tree.key) {
+        link_at(&mut tree.left, leaf, count)
+    } else {
+        link_at(&mut tree.right, leaf, count)
+    };
+    if let Change::Nothing = change {
+        return change;
+    }
+    let settled = settle(
+        &mut tree.left,
+        &mut tree.right,
+        &tree.key,
+        tree.node_state,
+        &mut tree.height,
+        &mut tree.max_free,
+        &mut tree.alignments,
+    );
+    settled.finish(at)
+}

@@ -1,0 +1,142 @@
+//! A block removed from a tree. What removes the node itself is no part of the descent to it
+//! (`delete_root`, never inlined): together they would save twice as many registers at each level, 4
+//! % of the instructions of `exact`.
+ghost use Rattle.std.specs.Prelude.{◌≡◌, ◌+◌, ◌<◌, ◌≤◌, ◌^◌, ◌++◌, [], ◌∷◌, ◌↔◌, max, IsNone, IsSome};
+ghost use Rattle.vm_ranges.specs.Range.{MAX};
+ghost use Rattle.vm_engine.specs.Tree.BlockList.{IsOrderedFrom, replace_block};
+ghost use Rattle.vm_engine.specs.Tree.Shape.{Shape, Tip, Fork, blocks, height_of, root_block, DifferByAtMost};
+ghost use Rattle.vm_engine.specs.Engine.Changes.{IsLeaf, Joins, Shrinks, LeavesIfAbsent};
+ghost use Rattle.vm_engine.specs.Counts.Ways.{way_to_first, way_to_join, way_to_remove};
+ghost use Rattle.vm_engine.specs.Engine.NodeFields.{side};
+
+use super::balance::{balance, settle};
+use super::kept::Change;
+use super::{Child, InnerNode, known};
+use crate::Steps;
+use crate::ends::order;
+use std::cmp::Ordering;
+use vm_ranges::RangeInclusive;
+
+/// Takes the node with the least key out from below the node at a place; says what changed
+/// there.
+#[tactic(auto, using(crate::proofs::Blocks::Replacement::leasts, crate::proofs::Nodes::SideChange::takes, crate::proofs::Counts::WayCases::ways_to_first))]
+fn take_least_at(at: &mut Child, count: &mut Steps) -> (Box<InnerNode>, Change)
+    requires some { IsSome at.old }
+    requires count_fits { count.old + height_of (side at.old) ≤ MAX }
+    ensures blocks { blocks (side at.old) ≡ root_block result.0.value ∷ blocks (side at.new) }
+    ensures leaf { IsLeaf result.0.value }
+    ensures shrinks { Shrinks (side at.old) (side at.new) result.1 }
+    ensures count { count.new ≡ count.old + way_to_first (side at.old) }
+{
+    let Some(tree) = at else { unreachable!() };
+    let tree: &mut InnerNode = tree;
+    tree.enter(count);
+    if tree.left.is_none() {
+        let (_, right) = tree.strip();
+        known(&right);
+        let Some(least) = at.take() else {
+            unreachable!()
+        };
+        *at = right;
+        return (least, Change::Height);
+    }
+    let (least, change) = take_least_at(&mut tree.left, count);
+    if let Change::Nothing = change {
+        return (least, change);
+    }
+    let settled = settle(
+        &mut tree.left,
+        &mut tree.right,
+        &tree.key,
+        tree.node_state,
+        &mut tree.height,
+        &mut tree.max_free,
+        &mut tree.alignments,
+    );
+    (least, settled.finish(at))
+}
+
+/// What is left of a tree without its root, from the root's children: the other child where one is
+/// absent, and else both below the least node of the right one.
+#[tactic(auto, using(crate::proofs::Blocks::Replacement::leasts, crate::proofs::Nodes::SideChange::takes, crate::proofs::Counts::WayCases::ways_to_join))]
+pub(super) fn join(left: Child, mut right: Child, count: &mut Steps) -> Child
+    requires ordered { IsOrderedFrom 0 (blocks (side left) ++ blocks (side right)) }
+    requires close { DifferByAtMost 1 (height_of (side left)) (height_of (side right)) }
+    requires height_fits { max (height_of (side left)) (height_of (side right)) + 1 < 2 ^ 64 }
+    requires count_fits { count.old + height_of (side right) ≤ MAX }
+    ensures joins { Joins (side left) (side right) (side result) }
+    ensures count { count.new ≡ count.old + way_to_join (side left) (side right) }
+{
+    known(&left);
+    known(&right);
+    if right.is_none() {
+        return left;
+    }
+    if left.is_none() {
+        return right;
+    }
+    let (least, _) = take_least_at(&mut right, count);
+    Some(balance(left, least, right))
+}
+
+impl InnerNode {
+    /// The tree without its root's key: its child where it has one alone, none where it has none,
+    /// and else both children below the least node of the right one. It takes no memory.
+    #[tactic(auto, using(crate::proofs::Counts::WayBounds::removal_bounds, crate::proofs::Counts::WayCases::ways_to_remove))]
+    #[inline(never)]
+    pub(crate) fn delete_root(tree: Box<InnerNode>, count: &mut Steps) -> Option<Box<InnerNode>>
+        requires { count.old + height_of tree.value ≤ MAX + 1 }
+        ensures blocks { blocks (side result) ≡ replace_block (root_block tree.value).key [] (blocks tree.value) }
+        ensures none { IsNone result ↔ (side result ≡ Tip) }
+        ensures no_right { (left : Shape) → tree.value ≡ Fork left (root_block tree.value) Tip → side result ≡ left }
+        ensures no_left { (right : Shape) → tree.value ≡ Fork Tip (root_block tree.value) right → side result ≡ right }
+        ensures shrinks { Shrinks tree.value (side result) Change.Height }
+        ensures count { count.new + 1 ≡ count.old + way_to_remove (root_block tree.value).key tree.value }
+    {
+        let InnerNode { left, right, .. } = Box::into_inner(tree);
+        let joined = join(left, right, count);
+        known(&joined);
+        joined
+    }
+}
+
+/// Removes the node with a key from below the node at a place, if there is one; says what
+/// changed there.
+#[tactic(auto, using(crate::proofs::Nodes::SideChange::deletions, crate::proofs::Counts::WayCases::ways_to_remove))]
+pub(crate) fn delete_at(at: &mut Child, key: &RangeInclusive, count: &mut Steps) -> Change
+    requires { count.old + height_of (side at.old) ≤ MAX }
+    ensures blocks { blocks (side at.new) ≡ replace_block key.now [] (blocks (side at.old)) }
+    ensures absent { LeavesIfAbsent key.now result (side at.old) (side at.new) }
+    ensures shrinks { Shrinks (side at.old) (side at.new) result }
+    ensures count { count.new ≡ count.old + way_to_remove key.now (side at.old) }
+{
+    let Some(tree) = at else {
+        return Change::Nothing
+    };
+    let tree: &mut InnerNode = tree;
+    tree.enter(count);
+    let change = match order(&tree.key, key) {
+        Ordering::Equal => {
+            let Some(node) = at.take() else {
+                unreachable!()
+            };
+            *at = InnerNode::delete_root(node, count);
+            return Change::Height;
+        }
+        Ordering::Greater => delete_at(&mut tree.left, key, count),
+        Ordering::Less => delete_at(&mut tree.right, key, count),
+    };
+    if let Change::Nothing = change {
+        return change;
+    }
+    let settled = settle(
+        &mut tree.left,
+        &mut tree.right,
+        &tree.key,
+        tree.node_state,
+        &mut tree.height,
+        &mut tree.max_free,
+        &mut tree.alignments,
+    );
+    settled.finish(at)
+}

@@ -1,0 +1,68 @@
+//! A block changed in place.
+ghost use Rattle.std.specs.Prelude.{◌≡◌, ◌+◌, ◌≤◌, IsSome};
+ghost use Rattle.vm_ranges.specs.Range.{MAX};
+ghost use Rattle.vm_engine.specs.Tree.BlockList.{IsOrderedFrom, with_block, find_key};
+ghost use Rattle.vm_engine.specs.Tree.Shape.{blocks, height_of, root_block};
+ghost use Rattle.vm_engine.specs.Engine.Changes.{KeepsShape};
+ghost use Rattle.vm_engine.specs.Counts.Ways.{way_to};
+ghost use Rattle.vm_engine.specs.Engine.NodeFields.{side};
+
+use super::kept::{kept_of, refresh_over, refresh_room, room_of};
+use super::{Child, InnerNode};
+use crate::Steps;
+use crate::ends::order;
+use std::cmp::Ordering;
+use vm_ranges::{NodeState, RangeInclusive};
+
+impl InnerNode {
+    /// Gives this node another key, which keeps its place in the order, and another state; says
+    /// whether what is kept here changed.
+    #[tactic(auto, using(crate::proofs::Nodes::Rewriting::rewritings))]
+    pub(super) fn rewrite_here(&mut self, key: RangeInclusive, node_state: NodeState) -> bool
+        requires { IsOrderedFrom 0 (with_block (root_block self.old).key key node_state (blocks self.old)) }
+        ensures blocks { blocks self.new ≡ with_block (root_block self.old).key key node_state (blocks self.old) }
+        ensures keeps { KeepsShape self.old self.new result }
+    {
+        let (left, right) = (kept_of(&self.left).room, kept_of(&self.right).room);
+        self.key = key;
+        self.node_state = node_state;
+        let own = room_of(&key, node_state);
+        refresh_room(left, right, own, &mut self.max_free, &mut self.alignments)
+    }
+}
+
+/// Gives the node with key `old` below the node at a place another key, which keeps its place in the
+/// order, and another state; says whether what is kept there changed. It takes no memory.
+#[tactic(auto, using(crate::proofs::Counts::WayCases::ways_to))]
+pub(crate) fn rewrite_at(
+    at: &mut Child,
+    old: &RangeInclusive,
+    key: RangeInclusive,
+    node_state: NodeState,
+    count: &mut Steps,
+) -> bool
+    requires known { IsSome (find_key old.now (blocks (side at.old))) }
+    requires ordered { IsOrderedFrom 0 (with_block old.now key node_state (blocks (side at.old))) }
+    requires count_fits { count.old + height_of (side at.old) ≤ MAX }
+    ensures blocks { blocks (side at.new) ≡ with_block old.now key node_state (blocks (side at.old)) }
+    ensures keeps { KeepsShape (side at.old) (side at.new) result }
+    ensures count { count.new ≡ count.old + way_to old.now (side at.old) }
+{
+    let Some(tree) = at else { unreachable!() };
+    let tree: &mut InnerNode = tree;
+    tree.enter(count);
+    let changed = match order(&tree.key, old) {
+        Ordering::Equal => return tree.rewrite_here(key, node_state),
+        Ordering::Greater => rewrite_at(&mut tree.left, old, key, node_state, count),
+        Ordering::Less => rewrite_at(&mut tree.right, old, key, node_state, count),
+    };
+    changed
+        && refresh_over(
+            &tree.left,
+            &tree.right,
+            &tree.key,
+            tree.node_state,
+            &mut tree.max_free,
+            &mut tree.alignments,
+        )
+}

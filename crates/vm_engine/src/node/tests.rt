@@ -1,0 +1,320 @@
+//! Trees made by hand, in the orders of insertion that lean each way.
+use super::walks::copying::copy;
+use super::walks::shapes::same;
+use super::*;
+use crate::Steps;
+use std::alloc::Global;
+use std::fmt::Debug;
+use std::process::Abort;
+use vm_ranges::Error;
+
+type Inserted = std::result::Result<Box<InnerNode>, (Error, Box<InnerNode>)>;
+
+/// The first and the last address of a key.
+type Key = (u64, u64);
+
+/// Ends the test where an answer is not the one that it has to be; `of` says of what.
+fn expect_same<T: PartialEq + Debug>(rt: &impl Abort, got: &T, want: &T, of: &impl Debug) {
+    assert!(rt; got == want, "{of:?}: {got:?} where {want:?} is due");
+}
+
+fn range(rt: &impl Abort, key: Key) -> RangeInclusive {
+    RangeInclusive::new(key.0, key.1).expect(rt, "a range")
+}
+
+/// A copy, made again where memory is refused once.
+fn copied(rt: &impl Abort, alloc: Global, tree: &InnerNode) -> Option<Box<InnerNode>> {
+    match copy(tree, alloc) {
+        Ok(copy) => Some(copy),
+        Err(_) => Some(copy(tree, alloc).expect(rt, "memory is refused once")),
+    }
+}
+
+/// A node without children, made again where memory is refused once.
+fn leaf(rt: &impl Abort, alloc: Global, key: Key, state: NodeState) -> Box<InnerNode> {
+    let key = range(rt, key);
+    match Box::new(alloc, InnerNode::new(key, state)) {
+        Ok(node) => node,
+        Err(_) => Box::new(alloc, InnerNode::new(key, state)).expect(rt, "memory is refused once"),
+    }
+}
+
+/// What inserting a free key answers, with the nodes entered kept within their bounds.
+fn insert(rt: &impl Abort, alloc: Global, tree: Box<InnerNode>, key: RangeInclusive) -> Inserted {
+    let height = tree.height();
+    assert!(rt; height <= 48);
+    let mut count = Steps::start();
+    let result = InnerNode::insert(tree, alloc, key, NodeState::Free, &mut count);
+    assert!(rt; 1 <= count.entered() && count.entered() <= 2 * height);
+    result
+}
+
+/// The tree with a free key. Where memory is refused once, the tree stays and the next try succeeds.
+fn inserted(rt: &impl Abort, alloc: Global, tree: Box<InnerNode>, key: Key) -> Box<InnerNode> {
+    let key = range(rt, key);
+    let before = copied(rt, alloc, &tree);
+    match insert(rt, alloc, tree, key) {
+        Ok(tree) => tree,
+        Err((error, tree)) => {
+            expect_same(rt, &error, &Error::OutOfMemory, &key);
+            let tree = Some(tree);
+            assert!(rt; same(&tree, &before));
+            let Some(tree) = tree else { unreachable!() };
+            insert(rt, alloc, tree, key).expect(rt, "memory is refused once")
+        }
+    }
+}
+
+/// The tree of an allocated root and free keys.
+fn tree_of(rt: &impl Abort, alloc: Global, first: Key, keys: &[Key]) -> Box<InnerNode> {
+    let mut tree = leaf(rt, alloc, first, NodeState::Allocated);
+    for key in keys {
+        tree = inserted(rt, alloc, tree, *key);
+        assert!(rt; is_balanced(&tree));
+    }
+    tree
+}
+
+/// Inserting a key is refused since it overlaps another; the tree handed back is the one from before.
+fn expect_overlap(rt: &impl Abort, alloc: Global, tree: Box<InnerNode>, key: Key, met: Key) {
+    let before = copied(rt, alloc, &tree);
+    let (error, tree) = insert(rt, alloc, tree, range(rt, key)).expect_err(rt, "the key overlaps");
+    expect_same(
+        rt,
+        &error,
+        &Error::Overlap(range(rt, key), range(rt, met)),
+        &key,
+    );
+    assert!(rt; same(&Some(tree), &before));
+}
+
+/// The tree without a key, where others are left.
+fn deleted(rt: &impl Abort, tree: Box<InnerNode>, key: Key) -> Box<InnerNode> {
+    let height = tree.height();
+    let mut count = Steps::start();
+    let tree = InnerNode::delete(tree, &range(rt, key), &mut count).expect(
+        rt,
+        "other keys are left",
+    );
+    assert!(rt; 1 <= count.entered() && count.entered() <= height);
+    assert!(rt; is_balanced(&tree));
+    tree
+}
+
+/// What a search finds: the state of the node and whether it is a leaf.
+fn found(rt: &impl Abort, tree: &InnerNode, key: Key) -> Option<(NodeState, bool)> {
+    let _ = tree.height();
+    let node = tree.search(&range(rt, key), &mut Steps::start())?;
+    Some((node.state(), node.height() == 1))
+}
+
+/// The tree has this key, at a leaf, in this state.
+fn expect_leaf(rt: &impl Abort, tree: &InnerNode, key: Key, state: NodeState) {
+    expect_same(rt, &found(rt, tree, key), &Some((state, true)), &key);
+}
+
+/// The tree has this key at its root, and this height.
+fn expect_root(rt: &impl Abort, tree: &InnerNode, key: Key, height: u64, of: &impl Debug) {
+    expect_same(rt, &tree.key(), &range(rt, key), of);
+    expect_same(rt, &tree.height(), &height, of);
+}
+
+/// The key that contains another one.
+fn superset(rt: &impl Abort, tree: &InnerNode, key: Key) -> Option<Key> {
+    let _ = tree.height();
+    let key = tree
+        .search_superset(&range(rt, key), &mut Steps::start())?
+        .key();
+    Some((key.start(), key.end()))
+}
+
+/// Whether each kept height is true and the heights of two children differ by at most one.
+fn is_balanced(node: &InnerNode) -> bool {
+    let (left, right) = (height(&node.left), height(&node.right));
+    node.height == left.max(right) + 1
+        && left <= right + 1
+        && right <= left + 1
+        && node.left.as_ref().is_none_or(|child| is_balanced(child))
+        && node.right.as_ref().is_none_or(|child| is_balanced(child))
+}
+
+/// Writes the starts of the keys in order from a place on, and answers the place after them.
+fn write_starts(child: &Option<Box<InnerNode>>, starts: &mut [u64; 8], place: usize) -> usize {
+    let Some(node) = child else { return place };
+    let node: &InnerNode = node;
+    let place = write_starts(&node.left, starts, place);
+    if place >= starts.len() {
+        return place;
+    }
+    starts[place] = node.key.start();
+    write_starts(&node.right, starts, place + 1)
+}
+
+#[test]
+fn test_search(rt: HostRuntime) {
+    let keys = [(0x90, 0x99), (0x200, 0x2FF)];
+    let tree = tree_of(&rt, rt.alloc(), (0x100, 0x110), &keys);
+    for (key, want) in [
+        ((0x90, 0x99), Some((NodeState::Free, true))),
+        ((0x200, 0x250), None),
+        ((0x111, 0x1FE), None),
+    ] {
+        expect_same(&rt, &found(&rt, &tree, key), &want, &key);
+    }
+}
+
+#[test]
+fn test_search_superset(rt: HostRuntime) {
+    let (low, top, high) = ((0x90, 0x9F), (0x100, 0x110), (0x200, 0x2FF));
+    let tree = tree_of(&rt, rt.alloc(), top, &[low, high]);
+    for (key, want) in [
+        ((0x100, 0x101), Some(top)),
+        ((0x90, 0x95), Some(low)),
+        ((0x200, 0x201), Some(high)),
+        (high, Some(high)),
+        ((0x209, 0x210), Some(high)),
+        ((0x2EF, 0x2FF), Some(high)),
+        ((0x2FF, 0x300), None),
+        ((0x300, 0x301), None),
+        ((0x1FF, 0x300), None),
+    ] {
+        expect_same(&rt, &superset(&rt, &tree, key), &want, &key);
+    }
+}
+
+#[test]
+fn test_tree_insert_balanced(rt: HostRuntime) {
+    let first = (0x300, 0x310);
+    let keys = [
+        (0x100, 0x110),
+        (0x350, 0x360),
+        (0x340, 0x34F),
+        (0x311, 0x33F),
+    ];
+    let tree = tree_of(&rt, rt.alloc(), first, &keys);
+    let _ = tree.height();
+    let tree = InnerNode::delete_root(tree, &mut Steps::start()).expect(&rt, "four keys are left");
+    assert!(rt; is_balanced(&tree));
+    expect_same(&rt, &found(&rt, &tree, first), &None, &first);
+
+    let keys = [
+        (0x100, 0x110),
+        (0x90, 0x9F),
+        (0x311, 0x313),
+        (0x314, 0x316),
+        (0x317, 0x319),
+        (0x321, 0x323),
+    ];
+    let mut tree = tree_of(&rt, rt.alloc(), first, &keys);
+    for key in [(0x321, 0x323), (0x314, 0x316), (0x317, 0x319)] {
+        tree = deleted(&rt, tree, key);
+    }
+    for key in [(0x80, 0x8F), (0x70, 0x7F), (0x60, 0x6F)] {
+        tree = inserted(&rt, rt.alloc(), tree, key);
+        assert!(rt; is_balanced(&tree));
+    }
+}
+
+#[test]
+fn test_tree_insert_intersect_negative(rt: HostRuntime) {
+    let (first, high, low) = ((0x100, 0x200), (0x201, 0x2FF), (0x90, 0x9F));
+    let (in_high, in_low) = ((0x201, 0x2FE), (0x90, 0x9E));
+    let tree = tree_of(&rt, rt.alloc(), first, &[high]);
+    expect_overlap(&rt, rt.alloc(), tree, in_high, high);
+    let tree = tree_of(&rt, rt.alloc(), first, &[high, low]);
+    expect_overlap(&rt, rt.alloc(), tree, in_low, low);
+}
+
+#[test]
+fn test_tree_insert_duplicate_negative(rt: HostRuntime) {
+    let key = (0x100, 0x200);
+    let tree = tree_of(&rt, rt.alloc(), key, &[]);
+    expect_overlap(&rt, rt.alloc(), tree, key, key);
+}
+
+#[test]
+fn test_tree_mark_as_allocated_invalid_transition(rt: HostRuntime) {
+    let key = (0x100, 0x110);
+    let mut tree = tree_of(&rt, rt.alloc(), key, &[]);
+    let _ = tree.height();
+    let key = range(&rt, key);
+    let error = Error::InvalidStateTransition(key, NodeState::Allocated);
+    let result = tree.mark_as_allocated(&key, &mut Steps::start());
+    expect_same(&rt, &result, &Err(error), &key);
+}
+
+#[test]
+fn test_tree_mark_as_allocated_resource_not_available(rt: HostRuntime) {
+    let mut tree = tree_of(&rt, rt.alloc(), (0x100, 0x110), &[]);
+    for key in [(0x111, 0x112), (0x90, 0x92)] {
+        let _ = tree.height();
+        let result = tree.mark_as_allocated(&range(&rt, key), &mut Steps::start());
+        expect_same(&rt, &result, &Err(Error::ResourceNotAvailable), &key);
+    }
+}
+
+#[test]
+fn test_tree_mark_as_allocated(rt: HostRuntime) {
+    let key = (0x200, 0x2FF);
+    let mut tree = tree_of(&rt, rt.alloc(), (0x100, 0x110), &[key]);
+    let _ = tree.height();
+    expect_leaf(&rt, &tree, key, NodeState::Free);
+    let result = tree.mark_as_allocated(&range(&rt, key), &mut Steps::start());
+    expect_same(&rt, &result, &Ok(()), &key);
+    expect_leaf(&rt, &tree, key, NodeState::Allocated);
+}
+
+#[test]
+fn test_tree_delete(rt: HostRuntime) {
+    let (low, first, high) = ((0x100, 0x110), (0x200, 0x290), (0x300, 0x3FF));
+    let tree = tree_of(&rt, rt.alloc(), first, &[high]);
+    let tree = deleted(&rt, tree, first);
+    let tree = inserted(&rt, rt.alloc(), tree, first);
+    let tree = inserted(&rt, rt.alloc(), tree, low);
+    expect_leaf(&rt, &tree, low, NodeState::Free);
+    expect_leaf(&rt, &tree, high, NodeState::Free);
+    let tree = deleted(&rt, tree, first);
+    let tree = deleted(&rt, tree, high);
+    expect_root(&rt, &tree, low, 1, &low);
+}
+
+#[test]
+fn orders_of_three_keys(rt: HostRuntime) {
+    let (a, b, c) = ((10, 10), (20, 20), (30, 30));
+    for [x, y, z] in [
+        [a, b, c],
+        [a, c, b],
+        [b, a, c],
+        [b, c, a],
+        [c, a, b],
+        [c, b, a],
+    ] {
+        let tree = tree_of(&rt, rt.alloc(), x, &[y, z]);
+        expect_root(&rt, &tree, b, 2, &(x, y, z));
+    }
+}
+
+#[test]
+fn rising_keys(rt: HostRuntime) {
+    let keys = [(2, 2), (3, 3), (4, 4), (5, 5), (6, 6), (7, 7)];
+    let tree = tree_of(&rt, rt.alloc(), (1, 1), &keys);
+    expect_same(&rt, &tree.height(), &3, &"the height");
+    let tree = deleted(&rt, tree, (4, 4));
+    expect_same(&rt, &tree.height(), &3, &"the height without 4");
+    let before = copied(&rt, rt.alloc(), &tree);
+    let tree = Some(deleted(&rt, tree, (9, 9)));
+    assert!(rt; same(&tree, &before));
+    let mut starts = [0; 8];
+    expect_same(&rt, &write_starts(&tree, &mut starts, 0), &6, &"the keys");
+    assert!(rt; starts == [1, 2, 3, 5, 6, 7, 0, 0]);
+}
+
+#[test]
+fn free_key_between_others(rt: HostRuntime) {
+    let keys = [(20, 20), (30, 30)];
+    let tree = tree_of(&rt, rt.alloc(), (10, 10), &keys);
+    let tree = inserted(&rt, rt.alloc(), tree, (5, 8));
+    expect_leaf(&rt, &tree, (5, 8), NodeState::Free);
+    let tree = tree_of(&rt, rt.alloc(), (10, 10), &keys);
+    expect_overlap(&rt, rt.alloc(), tree, (25, 30), (30, 30));
+}

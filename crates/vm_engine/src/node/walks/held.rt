@@ -1,0 +1,42 @@
+//! What is held in a tree: whether a range is, by one way down, and how many are. No count is
+//! promised of either, so neither takes the counter: one more place that makes one would weaken the
+//! rule on it.
+ghost use Rattle.std.specs.Prelude.{◌≡◌, ◌≤◌, ◌↔◌, IsTrue, Some, length};
+ghost use Rattle.vm_engine.specs.Tree.Blocks.{held_of};
+ghost use Rattle.vm_engine.specs.Tree.BlockList.{find_key};
+ghost use Rattle.vm_engine.specs.Tree.Block.{held_block};
+ghost use Rattle.vm_engine.specs.Tree.Shape.{MAX_HEIGHT, blocks, height_of};
+ghost use Rattle.vm_engine.specs.Engine.NodeFields.{side};
+
+use crate::ends::order;
+use crate::node::{Child, InnerNode};
+use std::cmp::Ordering;
+use vm_ranges::{NodeState, RangeInclusive};
+
+/// Whether a held block has this key, by one way down.
+pub(crate) fn has_held(tree: &Child, key: &RangeInclusive) -> bool
+    ensures { IsTrue result ↔ (find_key key.now (blocks (side tree.now)) ≡ Some (held_block key.now)) }
+{
+    let Some(node) = tree else { return false };
+    let node: &InnerNode = node;
+    match order(key, &node.key) {
+        Ordering::Less => has_held(&node.left, key),
+        Ordering::Greater => has_held(&node.right, key),
+        Ordering::Equal => node.node_state == NodeState::Allocated,
+    }
+}
+
+/// How many blocks are held.
+#[tactic(auto, using(crate::proofs::Walking::HeldInTrees::held_numbers))]
+pub(crate) fn count_held(tree: &Child) -> u64
+    requires { height_of (side tree.now) ≤ MAX_HEIGHT }
+    ensures { result ≡ length (held_of (blocks (side tree.now))) }
+{
+    let Some(node) = tree else { return 0 };
+    let node: &InnerNode = node;
+    let beside = count_held(&node.left) + count_held(&node.right);
+    match node.node_state {
+        NodeState::Free => beside,
+        NodeState::Allocated => beside + 1,
+    }
+}

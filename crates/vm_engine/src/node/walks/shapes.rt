@@ -1,0 +1,28 @@
+//! What tests ask of the shape of a tree.
+ghost use Rattle.std.specs.Prelude.{◌≡◌, ◌↔◌, IsTrue};
+ghost use Rattle.vm_engine.specs.Engine.NodeFields.{side};
+
+use crate::node::{Child, known};
+
+/// Whether two trees are equal node for node.
+pub(crate) fn same(a: &Child, b: &Child) -> bool
+    ensures { IsTrue result ↔ (side a.now ≡ side b.now) }
+{
+    match (a, b) {
+        (None, None) => true,
+        (Some(a), Some(b)) => {
+            a.key == b.key
+                && a.node_state == b.node_state
+                && same(&a.left, &b.left)
+                && same(&a.right, &b.right)
+        }
+        (None, Some(_)) => {
+            known(b);
+            false
+        }
+        (Some(_), None) => {
+            known(a);
+            false
+        }
+    }
+}
