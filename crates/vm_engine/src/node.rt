@@ -2,7 +2,7 @@
 //! `count` rises by one for each, in `enter` alone. A node is seen as a tree without pointers, so
 //! that its blocks, its height and its balance are functions of that value, and 'unchanged' is an
 //! equation.
-ghost use Rattle.std.specs.Prelude.{◌≡◌, ◌+◌, ◌<◌, ◌≤◌, ◌^◌, ◌↔◌, max, IsNone, MatchResult};
+ghost use Rattle.std.specs.Prelude.{◌≡◌, ◌+◌, ◌<◌, ◌≤◌, ◌^◌, ◌↔◌, max, IsNone, IfOk};
 ghost use Rattle.vm_ranges.specs.Range.{MAX};
 ghost use Rattle.vm_engine.specs.Tree.Shape.{Tip, Fork, height_of, single, root_block, IsTree};
 ghost use Rattle.vm_engine.specs.Engine.NodeFields.{side};
@@ -25,9 +25,9 @@ pub(crate) mod widen;
 
 use self::balance::fork;
 use self::kept::room_of;
-use std::alloc::Global;
+use std::alloc::{AllocError, Global};
 use std::marker::Model;
-use vm_ranges::{Error, NodeState, RangeInclusive, Result};
+use vm_ranges::{NodeState, RangeInclusive};
 
 /// A node of the tree, with the tree below it: keys in order without an address in common, the
 /// heights of its children at most one apart, its own height kept, the length of the longest free block
@@ -96,12 +96,11 @@ impl InnerNode {
         key: RangeInclusive,
         node_state: NodeState,
         right: Child,
-    ) -> Result<Box<InnerNode>>
+    ) -> Result<Box<InnerNode>, AllocError>
         requires tree { IsTree (Fork (side left) (record { key = key; state = node_state }) (side right)) }
         requires height_fits { max (height_of (side left)) (height_of (side right)) + 1 < 2 ^ 64 }
-        ensures { MatchResult result
-            (λ node. node.value ≡ Fork (side left) (record { key = key; state = node_state }) (side right))
-            (λ error. error ≡ Error.OutOfMemory) }
+        ensures { IfOk result
+            (λ node. node.value ≡ Fork (side left) (record { key = key; state = node_state }) (side right)) }
     {
         let middle = Box::new(alloc, InnerNode::new(key, node_state))?;
         Ok(fork(left, middle, right))

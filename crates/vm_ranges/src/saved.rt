@@ -9,7 +9,7 @@ pub(crate) mod numbers;
 pub(crate) mod range;
 pub(crate) mod state;
 
-use std::alloc::AllocError;
+use std::alloc::{AllocError, AllocFailed};
 use thiserror::Error;
 
 /// Why a saved value is not read.
@@ -27,6 +27,14 @@ impl From<AllocError> for ValueError {
     ghost from_gives = { λ _ e. e ≡ OutOfMemory };
 
     fn from(_error: AllocError) -> ValueError {
+        ValueError::OutOfMemory
+    }
+}
+
+impl<T: Drop> From<AllocFailed<T>> for ValueError {
+    ghost from_gives = { λ _ e. e ≡ OutOfMemory };
+
+    fn from(_error: AllocFailed<T>) -> ValueError {
         ValueError::OutOfMemory
     }
 }

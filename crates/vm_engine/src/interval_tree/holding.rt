@@ -125,8 +125,6 @@ fn free_leaf(alloc: Global, key: RangeInclusive) -> Result<Child>
     ensures shape { IfOk result (λ leaf. side leaf ≡ single (free_block key)) }
     ensures error { IfErr result (λ error. error ≡ Error.OutOfMemory) }
 {
-    match Box::new(alloc, InnerNode::new(key, NodeState::Free)) {
-        Ok(leaf) => Ok(Some(leaf)),
-        Err(_) => Err(Error::OutOfMemory),
-    }
+    let leaf = Box::new(alloc, InnerNode::new(key, NodeState::Free))?;
+    Ok(Some(leaf))
 }

@@ -63,10 +63,10 @@ impl InnerNode {
         if let Some(met) = tree.first_met(&key, count) {
             return Err((Error::Overlap(key, met), tree));
         }
-        let Ok(leaf) = Box::new(alloc, InnerNode::new(key, node_state)) else {
-            return Err((Error::OutOfMemory, tree));
-        };
-        Ok(InnerNode::link(tree, leaf, count))
+        match Box::new(alloc, InnerNode::new(key, node_state)) {
+            Ok(leaf) => Ok(InnerNode::link(tree, leaf, count)),
+            Err(refused) => Err((Error::from(refused), tree)),
+        }
     }
 
     /// The tree without this key, and the same tree where it has none. None where the key was the

@@ -1,5 +1,6 @@
-use Rattle.std.proofs.Common.{sym}
+use Rattle.std.proofs.Common.{◌≡◌, sym, Err, rules}
 use Rattle.serde_json.specs.View.{view}
+use Rattle.vm_ranges.specs.declared.saved.ValueError.TheVariants.{OutOfMemory}
 use Rattle.vm_engine.specs.Engine.NodeFields.{side}
 use Rattle.vm_engine.proofs.Reading.ReadSpaces.{none_stated, has_shape, some_stated, built_states, stated_tree}
 use Rattle.vm_engine.proofs.interval_tree.IntervalTree.from_root_value.Goals as goal
@@ -10,13 +11,15 @@ returns-then-not-has_tree_of c = none_stated (view c.args.value.now) c.args.spac
 pub build-requires : goal.build-requires
 build-requires c = has_shape (view c.args.value.now) c.args.space.now c.known.ensures (sym c.if-not-has_tree_of.ensures)
 
-pub returns-in_default : goal.returns-in_default
-returns-in_default c = some_stated (view c.args.value.now) c.args.space.now c.known.ensures (sym c.if-not-has_tree_of.ensures)
-
 pub invariant_of-result : goal.invariant_of-result
 invariant_of-result c =
-    stated_tree (view c.args.value.now) c.args.space.now (side c.in-Ok.root) c.known.ensures
-    (built_states (view c.args.value.now) c.args.space.now (side c.in-Ok.root) c.known.ensures (sym c.if-not-has_tree_of.ensures) c.in-Ok.ensures)
+    stated_tree (view c.args.value.now) c.args.space.now (side c.in_ok-root.root) c.known.ensures
+    (built_states (view c.args.value.now) c.args.space.now (side c.in_ok-root.root) c.known.ensures (sym c.if-not-has_tree_of.ensures) c.in_ok-root.ensures)
 
 pub returns : goal.returns
-returns c = built_states (view c.args.value.now) c.args.space.now (side c.in-Ok.root) c.known.ensures (sym c.if-not-has_tree_of.ensures) c.in-Ok.ensures
+returns c = built_states (view c.args.value.now) c.args.space.now (side c.in_ok-root.root) c.known.ensures (sym c.if-not-has_tree_of.ensures) c.in_ok-root.ensures
+
+pub returns-in_err-root : goal.returns-in_err-root
+returns-in_err-root c =
+    let is : c.from_residual.result ≡ Err OutOfMemory = search rules in
+    rw is (some_stated (view c.args.value.now) c.args.space.now c.known.ensures (sym c.if-not-has_tree_of.ensures))

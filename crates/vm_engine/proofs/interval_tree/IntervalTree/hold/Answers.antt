@@ -1,5 +1,7 @@
-use Rattle.std.proofs.Common.{arith, refl}
+use Rattle.std.proofs.Common.{arith, refl, rules}
+use Rattle.std.proofs.lemmas.Grind.{common_steps}
 use Rattle.vm_engine.specs.Engine.NodeFields.{side}
+use Rattle.vm_engine.specs.Tree.Shape.{blocks}
 use Rattle.vm_engine.proofs.Splitting.SplitStates.{cut_of, known, can_carve, whole_carved, rest_carved, space_taken, taken_in}
 use Rattle.vm_engine.proofs.interval_tree.IntervalTree.hold.Goals as goal
 
@@ -15,17 +17,18 @@ invariant_of-self c =
 
 pub carve_at-requires-clause-carving : goal.carve_at-requires-clause-carving
 carve_at-requires-clause-carving c =
-    can_carve _ _ _ _ (cut_of _ c.args.choice c.self.invariant (rw (← c.self.view_is) at c.requires.choice)) c.in_ok-rest.ensures.rest
+    let can = can_carve _ _ _ _ (cut_of _ c.args.choice c.self.invariant (rw (← c.self.view_is) at c.requires.choice)) c.in_ok-rest.ensures.rest in
+    search rules
 
 pub invariant_of-self-2 : goal.invariant_of-self-2
 invariant_of-self-2 c =
     let choice = rw (← c.self.view_is) at c.requires.choice in
-    let carves = rest_carved _ _ _ _ _ (cut_of _ c.args.choice c.self.invariant choice) c.in_ok-rest.ensures.rest c.carve_at.ensures.blocks in
+    let carves = rest_carved _ (blocks (side c.carve_at.new.at)) _ _ _ (cut_of _ c.args.choice c.self.invariant choice) c.in_ok-rest.ensures.rest (search rules) in
     let height = rw (← c.self.view_is) at c.height.ensures.value in
-    space_taken _ _ c.args.choice c.self.invariant choice carves (omega (arith, c.carve_at.ensures.grows.at_most_one_higher, height))
+    space_taken _ _ c.args.choice c.self.invariant choice carves (grind (arith, common_steps))
 
 pub returns-clause-answer : goal.returns-clause-answer
 returns-clause-answer c =
     let choice = rw (← c.self.view_is) at c.requires.choice in
-    let carves = rest_carved _ _ _ _ _ (cut_of _ c.args.choice c.self.invariant choice) c.in_ok-rest.ensures.rest c.carve_at.ensures.blocks in
+    let carves = rest_carved _ (blocks (side c.carve_at.new.at)) _ _ _ (cut_of _ c.args.choice c.self.invariant choice) c.in_ok-rest.ensures.rest (search rules) in
     rw (← c.self.view_is) (taken_in _ (side c.carve_at.new.at) c.args.choice c.args.choice.range c.self.invariant choice carves refl)
