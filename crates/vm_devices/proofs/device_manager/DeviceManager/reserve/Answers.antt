@@ -1,6 +1,7 @@
 use Rattle.std.proofs.Common.{◌≡◌, ap, ◌∙◌, Err, rules}
 use Rattle.vm_allocator.specs.Allocator.{state_of}
 use Rattle.vm_ranges.specs.Request.{request_for}
+use Rattle.vm_ranges.specs.declared.error.Error.TheVariants.{OutOfMemory}
 use Rattle.vm_devices.specs.declared.device_slot.DeviceSlot.{DeviceSlot}
 use Rattle.vm_devices.specs.Devices.{devices_of}
 use Rattle.vm_devices.proofs.DeviceCalls.{Parts, IsUndone, Comes, range_refused, table_refused, undone, come, come_state}
@@ -20,8 +21,8 @@ returns-in_err-range-clause-answer c =
     })
     same)
 
-pub returns-in_default-clause-unchanged : goal.returns-in_default-clause-unchanged
-returns-in_default-clause-unchanged c =
+pub returns-in-Err-clause-unchanged : goal.returns-in-Err-clause-unchanged
+returns-in-Err-clause-unchanged c =
     let old : Parts = record { ids = c.self.inside.id_allocator; space = state_of c.self.inside.mmio_allocator; slots = c.self.inside.slots } in
     let all : IsUndone old (state_of c.free.new.self) c.insert.new.self = record {
       mid = state_of c.allocate.new.self;
@@ -30,26 +31,28 @@ returns-in_default-clause-unchanged c =
       answer = c.free.result;
       given = c.in_ok-range.ensures.answer;
       back = c.free.ensures.answer;
-      unchanged = c.in_default.ensures.err;
+      unchanged = c.in-Err.ensures.err;
     } in
     undone c.self.invariant all ∙ c.self.view_is
 
-pub invariant_of-self-in_default : goal.invariant_of-self-in_default
-invariant_of-self-in_default c = rw (returns-in_default-clause-unchanged c, ← c.self.view_is) c.self.invariant
+pub invariant_of-self-in-Err : goal.invariant_of-self-in-Err
+invariant_of-self-in-Err c = rw (returns-in-Err-clause-unchanged c, ← c.self.view_is) c.self.invariant
 
-pub returns-in_default-clause-answer : goal.returns-in_default-clause-answer
-returns-in_default-clause-answer c =
-    table_refused {r = c.in_ok-range.range}
+pub returns-in-Err-clause-answer : goal.returns-in-Err-clause-answer
+returns-in-Err-clause-answer c =
+    let is : c.into.result ≡ OutOfMemory = search rules in
+    rw is
+    (table_refused {r = c.in_ok-range.range}
     (record {
       id = c.in_ok-id.id;
       space = state_of c.allocate.new.self;
       foretold = rw (← c.self.view_is) c.in_ok-id.ensures.answer;
       answer = rw (← c.self.view_is) c.in_ok-range.ensures.answer;
     })
-    (returns-in_default-clause-unchanged c)
+    (returns-in-Err-clause-unchanged c))
 
-pub returns-in_default-clause-state : goal.returns-in_default-clause-state
-returns-in_default-clause-state c = invariant_of-self-in_default c
+pub returns-in-Err-clause-state : goal.returns-in-Err-clause-state
+returns-in-Err-clause-state c = invariant_of-self-in-Err c
 
 pub invariant_of-self-2 : goal.invariant_of-self-2
 invariant_of-self-2 c =
@@ -61,7 +64,7 @@ invariant_of-self-2 c =
       foretold = c.in_ok-id.ensures.answer;
       taken = c.allocate_id.ensures.answer;
       given = c.in_ok-range.ensures.answer;
-      entered = c.in-Ok.ensures.updates;
+      entered = c.in_default.ensures.updates;
     } in
     come_state c.self.invariant comes
 
@@ -75,7 +78,7 @@ returns-clause-answer c =
       foretold = c.in_ok-id.ensures.answer;
       taken = c.allocate_id.ensures.answer;
       given = c.in_ok-range.ensures.answer;
-      entered = c.in-Ok.ensures.updates;
+      entered = c.in_default.ensures.updates;
     } in
     rw (← c.self.view_is) (come comes)
 

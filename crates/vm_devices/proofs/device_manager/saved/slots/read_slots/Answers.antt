@@ -9,4 +9,4 @@ loop-item-preserved c =
     let above : c.loop-item.least ≤ device.0 = omega (arith, c.if-from-least.false, c.from.ensures) in
     rw c.from-least.ensures
     (one_more c.args.list.now c.loop-item.item-index c.loop-item.least c.loop-item.slots.entries c.insert.new.self.entries c.item-item.result device
-    c.loop-item-test.true c.item-item.is (sym c.in-Some.ensures) above c.loop-item.invariant c.in-Ok.ensures.entries)
+    c.loop-item-test.true c.item-item.is (sym c.in-Some.ensures) above c.loop-item.invariant c.in_ok-insert.ensures.entries)

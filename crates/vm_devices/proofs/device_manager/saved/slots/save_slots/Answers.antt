@@ -6,4 +6,4 @@ use Rattle.vm_devices.proofs.device_manager.saved.slots.save_slots.Goals as goal
 pub loop-id-preserved : goal.loop-id-preserved
 loop-id-preserved c =
     states_more StatesDevice deref_pair c.loop-id.list.items c.push.new.self.items c.in_ok-slot.slot c.loop-id.yielded (c.in-Some.id, c.in-Some.range)
-    c.in-Ok.ensures.items c.in_ok-slot.ensures c.loop-id.invariant
+    c.in_ok-push.ensures.items c.in_ok-slot.ensures c.loop-id.invariant
