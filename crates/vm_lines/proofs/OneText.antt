@@ -20,7 +20,7 @@ use Rattle.vm_lines.specs.Machines.{Machine, start, with_space, with_ids, with_d
 use Rattle.vm_lines.specs.Replies.{text_of, done_or_refused, given_or_refused, id_or_refused, device_or_refused}
 use Rattle.vm_lines.specs.Laws.{HoldsFew, AreAnsweredInMemory, AreAnsweredAmply, OneText}
 use Rattle.vm_lines.specs.declared.command.Command.{Command}
-use Rattle.vm_lines.specs.declared.command.Command.TheVariants.{Space, First, Last, Exact, Free, Ids, Id, Unid, Has, Manager, Device, Undevice}
+use Rattle.vm_lines.specs.declared.command.Command.TheVariants.{Space, First, Last, Exact, Free, Ids, Id, Unid, Has, Manager, Device, Undevice, Malformed}
 use Rattle.vm_lines.specs.declared.reply.Reply.{Reply}
 use Rattle.vm_lines.specs.declared.reply.Reply.TheVariants.{Held, Refused, NoSpace, NoIds, NoManager}
 
@@ -97,42 +97,42 @@ places_once old m n request x y few p q a b =
     (same_told given_or_refused x y u.0 v.0 u.2 v.2 same.0, same.1)) a b
 
 -- a line has one reply and leaves one machine
-does_once : (command : Option Command) (old m n : Machine) (x y : Reply) → HoldsFew old → x ≢ Refused OutOfMemory
+does_once : (command : Command) (old m n : Machine) (x y : Reply) → HoldsFew old → x ≢ Refused OutOfMemory
     → y ≢ Refused OutOfMemory → Does old command x m → Does old command y n → Agree x m y n
 unfolding Does
-does_once None old m n x y few p q a b = (a.0 ∙ sym b.0, a.1 ∙ sym b.1)
-does_once (Some (Space base size)) old m n x y few p q a b =
+does_once Malformed old m n x y few p q a b = (a.0 ∙ sym b.0, a.1 ∙ sym b.1)
+does_once (Space base size) old m n x y few p q a b =
     let e = made_once base size a.0 b.0 (not_memory done_or_refused x a.0 refl a.2 p) (not_memory done_or_refused y b.0 refl b.2 q) a.1 b.1 in
     (same_told done_or_refused x y a.0 b.0 a.2 b.2 e, a.3 ∙ ap (with_space old) e ∙ sym b.3)
-does_once (Some (First size alignment)) old m n x y few p q a b = places_once old m n (record { size = size; align = alignment; policy = FirstMatch }) x y few p q a b
-does_once (Some (Last size alignment)) old m n x y few p q a b = places_once old m n (record { size = size; align = alignment; policy = LastMatch }) x y few p q a b
-does_once (Some (Exact size alignment start)) old m n x y few p q a b = places_once old m n (record { size = size; align = alignment; policy = ExactMatch start }) x y few p q a b
-does_once (Some (Free start end)) old m n x y few p q a b =
+does_once (First size alignment) old m n x y few p q a b = places_once old m n (record { size = size; align = alignment; policy = FirstMatch }) x y few p q a b
+does_once (Last size alignment) old m n x y few p q a b = places_once old m n (record { size = size; align = alignment; policy = LastMatch }) x y few p q a b
+does_once (Exact size alignment start) old m n x y few p q a b = places_once old m n (record { size = size; align = alignment; policy = ExactMatch start }) x y few p q a b
+does_once (Free start end) old m n x y few p q a b =
     on_space_once old m n x y _ _ few (λ state later after f u v.
     let same = released_once state later after start end u.0 v.0 u.1 v.1 in
     (same_told done_or_refused x y u.0 v.0 u.2 v.2 same.0, same.1)) a b
-does_once (Some (Ids range_base range_end)) old m n x y few p q a b =
+does_once (Ids range_base range_end) old m n x y few p q a b =
     let e = making_is_determined range_base range_end a.0 b.0 a.1 b.1 in
     (same_told done_or_refused x y a.0 b.0 a.2 b.2 e, a.3 ∙ ap (with_ids old) e ∙ sym b.3)
-does_once (Some Id) old m n x y few p q a b =
+does_once Id old m n x y few p q a b =
     on_ids_once old m n x y _ _ (λ state later after u v.
     let same = allocating_is_determined state later after u.0 v.0 u.1 v.1 in
     (same_told id_or_refused x y u.0 v.0 u.2 v.2 same.0, same.1)) a b
-does_once (Some (Unid id)) old m n x y few p q a b =
+does_once (Unid id) old m n x y few p q a b =
     on_ids_once old m n x y _ _ (λ state later after u v.
     let same = freeing_is_determined state later after id u.0 v.0 (not_memory id_or_refused x u.0 refl u.2 p) (not_memory id_or_refused y v.0 refl v.2 q) u.1 v.1 in
     (same_told id_or_refused x y u.0 v.0 u.2 v.2 same.0, same.1)) a b
-does_once (Some (Has id)) old m n x y few p q a b =
+does_once (Has id) old m n x y few p q a b =
     on_ids_once old m n x y _ _ (λ state later after u v.
     (u.2 ∙ ap Held (told_once state id u.0 v.0 u.1 v.1) ∙ sym v.2, u.3 ∙ sym v.3)) a b
-does_once (Some (Manager id_lo id_hi base size)) old m n x y few p q a b =
+does_once (Manager id_lo id_hi base size) old m n x y few p q a b =
     let e = devices_decide.made id_lo id_hi base size a.0 b.0 (not_memory done_or_refused x a.0 refl a.2 p) (not_memory done_or_refused y b.0 refl b.2 q) a.1 b.1 in
     (same_told done_or_refused x y a.0 b.0 a.2 b.2 e, a.3 ∙ ap (with_devices old) e ∙ sym b.3)
-does_once (Some (Device size alignment)) old m n x y few p q a b =
+does_once (Device size alignment) old m n x y few p q a b =
     on_devices_once old m n x y _ _ few (λ state later after f u v.
     let same = devices_decide.reserved state later after (record { size = size; align = alignment; policy = FirstMatch }) u.0 v.0 (not_memory device_or_refused x u.0 refl u.2 p) (not_memory device_or_refused y v.0 refl v.2 q) f u.1 v.1 in
     (same_told device_or_refused x y u.0 v.0 u.2 v.2 same.0, same.1)) a b
-does_once (Some (Undevice id)) old m n x y few p q a b =
+does_once (Undevice id) old m n x y few p q a b =
     on_devices_once old m n x y _ _ few (λ state later after f u v.
     let same = devices_decide.released state later after id u.0 v.0 (not_memory done_or_refused x u.0 refl u.2 p) (not_memory done_or_refused y v.0 refl v.2 q) u.1 v.1 in
     (same_told done_or_refused x y u.0 v.0 u.2 v.2 same.0, same.1)) a b

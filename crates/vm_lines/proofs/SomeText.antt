@@ -18,7 +18,7 @@ use Rattle.vm_lines.specs.Machines.{Machine, start, with_space, with_ids, with_d
 use Rattle.vm_lines.specs.Replies.{text_of, done_or_refused, given_or_refused, id_or_refused, device_or_refused}
 use Rattle.vm_lines.specs.Runs.{AreAnswered}
 use Rattle.vm_lines.specs.declared.command.Command.{Command}
-use Rattle.vm_lines.specs.declared.command.Command.TheVariants.{Space, First, Last, Exact, Free, Ids, Id, Unid, Has, Manager, Device, Undevice}
+use Rattle.vm_lines.specs.declared.command.Command.TheVariants.{Space, First, Last, Exact, Free, Ids, Id, Unid, Has, Manager, Device, Undevice, Malformed}
 use Rattle.vm_lines.specs.declared.reply.Reply.{Reply}
 use Rattle.vm_lines.specs.declared.reply.Reply.TheVariants.{Held, Refused, NoSpace, NoIds, NoManager, NotInLanguage}
 use Rattle.vm_lines.proofs.SomeAnswer.{IsAnswered, allocates_answered, releases_answered, makes_answered, allocates_id_answered, frees_id_answered, makes_ids_answered}
@@ -89,30 +89,30 @@ places_replied old request =
     on_space old _ (λ state. replied given_or_refused plain_given _ (allocates_answered state request))
 
 -- each command has a reply
-does_replied : (command : Option Command) (old : Machine) → IsReplied (λ reply new. Does old command reply new)
+does_replied : (command : Command) (old : Machine) → IsReplied (λ reply new. Does old command reply new)
 unfolding Does
-does_replied None old = (NotInLanguage, old, (refl, refl), λ e. cc)
-does_replied (Some (Space base size)) old =
+does_replied Malformed old = (NotInLanguage, old, (refl, refl), λ e. cc)
+does_replied (Space base size) old =
     let h = makes_answered base size in
     (done_or_refused h.0, with_space old h.0, (h.0, h.1, refl, refl), plain_done h.0 h.2)
-does_replied (Some (First size alignment)) old = places_replied old (record { size = size; align = alignment; policy = FirstMatch })
-does_replied (Some (Last size alignment)) old = places_replied old (record { size = size; align = alignment; policy = LastMatch })
-does_replied (Some (Exact size alignment start)) old = places_replied old (record { size = size; align = alignment; policy = ExactMatch start })
-does_replied (Some (Free start end)) old =
+does_replied (First size alignment) old = places_replied old (record { size = size; align = alignment; policy = FirstMatch })
+does_replied (Last size alignment) old = places_replied old (record { size = size; align = alignment; policy = LastMatch })
+does_replied (Exact size alignment start) old = places_replied old (record { size = size; align = alignment; policy = ExactMatch start })
+does_replied (Free start end) old =
     on_space old _ (λ state. replied done_or_refused plain_done _ (releases_answered state start end))
-does_replied (Some (Ids range_base range_end)) old =
+does_replied (Ids range_base range_end) old =
     let h = makes_ids_answered range_base range_end in
     (done_or_refused h.0, with_ids old h.0, (h.0, h.1, refl, refl), plain_done h.0 h.2)
-does_replied (Some Id) old = on_ids old _ (λ state. replied id_or_refused plain_id _ (allocates_id_answered state))
-does_replied (Some (Unid id)) old = on_ids old _ (λ state. replied id_or_refused plain_id _ (frees_id_answered state id))
-does_replied (Some (Has id)) old =
+does_replied Id old = on_ids old _ (λ state. replied id_or_refused plain_id _ (allocates_id_answered state))
+does_replied (Unid id) old = on_ids old _ (λ state. replied id_or_refused plain_id _ (frees_id_answered state id))
+does_replied (Has id) old =
     on_ids old _ (λ state. let held = set.contains state.held id in (Held held, state, (held, (λ h. h, λ h. h), refl, refl), λ e. cc))
-does_replied (Some (Manager id_lo id_hi base size)) old =
+does_replied (Manager id_lo id_hi base size) old =
     let h = every_device_call.made id_lo id_hi base size in
     (done_or_refused h.0, with_devices old h.0, (h.0, h.1, refl, refl), plain_done h.0 h.2)
-does_replied (Some (Device size alignment)) old =
+does_replied (Device size alignment) old =
     on_devices old _ (λ state. replied device_or_refused plain_device _ (every_device_call.reserved state (record { size = size; align = alignment; policy = FirstMatch })))
-does_replied (Some (Undevice id)) old =
+does_replied (Undevice id) old =
     on_devices old _ (λ state. replied done_or_refused plain_done _ (every_device_call.released state id))
 
 -- Lines one after the other.

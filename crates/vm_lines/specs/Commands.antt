@@ -1,11 +1,11 @@
 -- What a line asks for.
-use Rattle.std.specs.Prelude.{ℕ, if◌then◌else◌, nat_le, List, [], ◌∷◌, length, codes, Option, None}
+use Rattle.std.specs.Prelude.{ℕ, if◌then◌else◌, nat_le, List, [], ◌∷◌, length, codes, Option, Some, None}
 use Rattle.std.specs.Option.{option_map}
 use Rattle.std.specs.Str.{bytes_eq}
 use Rattle.vm_lines.specs.Numbers.{number_of, id_of}
 use Rattle.vm_lines.specs.Words.{words_of, alone, one_in, two_in, three_in, four_in}
 use Rattle.vm_lines.specs.declared.command.Command.{Command}
-use Rattle.vm_lines.specs.declared.command.Command.TheVariants.{Space, First, Last, Exact, Free, Ids, Id, Unid, Has, Manager, Device, Undevice}
+use Rattle.vm_lines.specs.declared.command.Command.TheVariants.{Space, First, Last, Exact, Free, Ids, Id, Unid, Has, Manager, Device, Undevice, Malformed}
 
 -- what they ask of devices
 abbrev pub asked_of_devices : List (List ℕ) → Option Command
@@ -41,6 +41,11 @@ asked (name ∷ words) =
 abbrev pub longest_line : ℕ
 longest_line = 120
 
+-- the command that is asked for, if there is one
+abbrev pub command_or_malformed : Option Command → Command
+command_or_malformed None = Malformed
+command_or_malformed (Some command) = command
+
 -- what a line asks for
-abbrev pub command_of : List ℕ → Option Command
-command_of line = if nat_le (length line) longest_line then asked (words_of line) else None
+abbrev pub command_of : List ℕ → Command
+command_of line = if nat_le (length line) longest_line then command_or_malformed (asked (words_of line)) else Malformed

@@ -15,7 +15,7 @@ use Rattle.vm_devices.specs.declared.device_slot.DeviceSlot.{DeviceSlot}
 use Rattle.vm_devices.specs.Devices.{DeviceState, device_state_code, MakesManager, Reserves, Releases as ReleasesDevice}
 use Rattle.vm_lines.specs.Replies.{done_or_refused, given_or_refused, id_or_refused, device_or_refused}
 use Rattle.vm_lines.specs.declared.command.Command.{Command}
-use Rattle.vm_lines.specs.declared.command.Command.TheVariants.{Space, First, Last, Exact, Free, Ids, Id, Unid, Has, Manager, Device, Undevice}
+use Rattle.vm_lines.specs.declared.command.Command.TheVariants.{Space, First, Last, Exact, Free, Ids, Id, Unid, Has, Manager, Device, Undevice, Malformed}
 use Rattle.vm_lines.specs.declared.reply.Reply.{Reply}
 use Rattle.vm_lines.specs.declared.reply.Reply.TheVariants.{Held, NoSpace, NoIds, NoManager, NotInLanguage}
 
@@ -90,47 +90,47 @@ FreesRange old start end answer new =
     ((answer ≡ Err (InvalidRange start end)) × (new ≡ old))
     (Frees old (record { start = start; end = end }) answer new)
 
--- From old, what is asked may get this reply, and new is what it leaves. None is a line that is not in the language.
-unfoldable pub Does : Machine → Option Command → Reply → Machine → Type 0
-Does old None reply new = (reply ≡ NotInLanguage) × (new ≡ old)
-Does old (Some (Space base size)) reply new =
+-- From old, the command can get this reply, and new is what it leaves.
+unfoldable pub Does : Machine → Command → Reply → Machine → Type 0
+Does old Malformed reply new = (reply ≡ NotInLanguage) × (new ≡ old)
+Does old (Space base size) reply new =
     (answer : Result AddressState Error)
     × Makes base size answer
     × (reply ≡ done_or_refused answer)
     × (new ≡ with_space old answer)
-Does old (Some (First size alignment)) reply new =
+Does old (First size alignment) reply new =
     Places old (record { size = size; align = alignment; policy = FirstMatch }) reply new
-Does old (Some (Last size alignment)) reply new =
+Does old (Last size alignment) reply new =
     Places old (record { size = size; align = alignment; policy = LastMatch }) reply new
-Does old (Some (Exact size alignment start)) reply new =
+Does old (Exact size alignment start) reply new =
     Places old (record { size = size; align = alignment; policy = ExactMatch start }) reply new
-Does old (Some (Free start end)) reply new =
+Does old (Free start end) reply new =
     OnSpace old reply new (λ state later.
     (answer : Result (Unit {0}) Error) × FreesRange state start end answer later × (reply ≡ done_or_refused answer))
-Does old (Some (Ids range_base range_end)) reply new =
+Does old (Ids range_base range_end) reply new =
     (answer : Result IdState Error)
     × MakesIds range_base range_end answer
     × (reply ≡ done_or_refused answer)
     × (new ≡ with_ids old answer)
-Does old (Some Id) reply new =
+Does old Id reply new =
     OnIds old reply new (λ state later.
     (answer : Result ℕ Error) × AllocatesId state answer later × (reply ≡ id_or_refused answer))
-Does old (Some (Unid id)) reply new =
+Does old (Unid id) reply new =
     OnIds old reply new (λ state later.
     (answer : Result ℕ Error) × FreesId state id answer later × (reply ≡ id_or_refused answer))
-Does old (Some (Has id)) reply new =
+Does old (Has id) reply new =
     OnIds old reply new (λ state later.
     (held : Bool) × (IsTrue held ↔ IsHeld state id) × (reply ≡ Held held) × (later ≡ state))
-Does old (Some (Manager id_lo id_hi base size)) reply new =
+Does old (Manager id_lo id_hi base size) reply new =
     (answer : Result DeviceState Error)
     × MakesManager id_lo id_hi base size answer
     × (reply ≡ done_or_refused answer)
     × (new ≡ with_devices old answer)
-Does old (Some (Device size alignment)) reply new =
+Does old (Device size alignment) reply new =
     OnDevices old reply new (λ state later.
     (answer : Result DeviceSlot Error)
     × Reserves state (record { size = size; align = alignment; policy = FirstMatch }) answer later
     × (reply ≡ device_or_refused answer))
-Does old (Some (Undevice id)) reply new =
+Does old (Undevice id) reply new =
     OnDevices old reply new (λ state later.
     (answer : Result (Unit {0}) Error) × ReleasesDevice state id answer later × (reply ≡ done_or_refused answer))

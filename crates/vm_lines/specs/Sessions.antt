@@ -2,6 +2,7 @@
 use Rattle.std.specs.Prelude.{◌≡◌, ℕ, if◌then◌else◌, nat_le, nat_lt, List, [], ◌∷◌, ◌++◌, length, Option, Some, None, Bool, true, MatchBool, refl}
 use Rattle.std.specs.Coded.{Coded, code_by, coded×, coded_ℕ, coded_list, coded_option}
 use Rattle.vm_lines.specs.Commands.{command_of, longest_line}
+use Rattle.vm_lines.specs.declared.command.Command.TheVariants.{Malformed}
 use Rattle.vm_lines.specs.Lines.{newline, parts_of}
 use Rattle.vm_lines.specs.Machines.{Machine, machine_code, Does}
 use Rattle.vm_lines.specs.Replies.{text_of}
@@ -36,8 +37,8 @@ abbrev pub with_more : Session → List ℕ → Session
 with_more old bytes = record old { line = line_after old.line bytes }
 
 -- what the line that has begun asks
-abbrev pub asked_by : Option (List ℕ) → Option Command
-asked_by None = None
+abbrev pub asked_by : Option (List ℕ) → Command
+asked_by None = Malformed
 asked_by (Some line) = command_of line
 
 -- some of a line has come

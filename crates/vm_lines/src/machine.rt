@@ -1,5 +1,5 @@
 //! What a line does to what the lines so far have made: a space, ids, devices.
-ghost use Rattle.std.specs.Prelude.{◌≡◌, Some};
+ghost use Rattle.std.specs.Prelude.{◌≡◌};
 ghost use Rattle.vm_allocator.specs.Allocator.{state_of};
 ghost use Rattle.vm_lines.specs.Machines.{Places, FreesRange, kept};
 ghost use Rattle.vm_lines.specs.Replies.{done_or_refused};
@@ -45,14 +45,11 @@ impl Machine {
         }
     }
 
-    /// Does what a line asks. `None` is a line that is not in the language.
+    /// Executes a command.
     #[tactic(auto, unfolding(crate::specs::Machines::Does))]
-    pub(crate) fn answer(&mut self, alloc: Global, asked: Option<Command>) -> Reply
-        ensures { Does self.old asked result self.new }
+    pub(crate) fn answer(&mut self, alloc: Global, command: Command) -> Reply
+        ensures { Does self.old command result self.new }
     {
-        let Some(command) = asked else {
-            return Reply::NotInLanguage;
-        };
         match command {
             Command::Space { base, size } => self.make_space(alloc, base, size),
             Command::First { size, alignment } => {
@@ -82,13 +79,14 @@ impl Machine {
             } => self.make_manager(alloc, id_lo, id_hi, base, size),
             Command::Device { size, alignment } => self.reserve(alloc, size, alignment),
             Command::Undevice { id } => self.release_device(id),
+            Command::Malformed => Reply::NotInLanguage,
         }
     }
 
     /// Makes a space, which takes the place of the old one. A refused one does not.
     #[tactic(auto, unfolding(crate::specs::Machines::Does))]
     fn make_space(&mut self, alloc: Global, base: u64, size: u64) -> Reply
-        ensures { Does self.old (Some (Command.Space base size)) result self.new }
+        ensures { Does self.old (Command.Space base size) result self.new }
     {
         keep(AddressAllocator::new(alloc, base, size), &mut self.space)
     }
@@ -107,7 +105,7 @@ impl Machine {
     /// Gives a range back.
     #[tactic(auto, unfolding(crate::specs::Machines::Does, crate::specs::Machines::OnSpace))]
     fn free(&mut self, start: u64, end: u64) -> Reply
-        ensures { Does self.old (Some (Command.Free start end)) result self.new }
+        ensures { Does self.old (Command.Free start end) result self.new }
     {
         let Some(space) = &mut self.space else {
             return Reply::NoSpace;
@@ -118,7 +116,7 @@ impl Machine {
     /// Makes ids, which take the place of the old ones. Refused ones do not.
     #[tactic(auto, unfolding(crate::specs::Machines::Does))]
     fn make_ids(&mut self, alloc: Global, range_base: u32, range_end: u32) -> Reply
-        ensures { Does self.old (Some (Command.Ids range_base range_end)) result self.new }
+        ensures { Does self.old (Command.Ids range_base range_end) result self.new }
     {
         keep(
             IdAllocator::new(alloc, range_base, range_end),
@@ -129,7 +127,7 @@ impl Machine {
     /// Holds the least id that is not held.
     #[tactic(auto, unfolding(crate::specs::Machines::Does, crate::specs::Machines::OnIds))]
     fn take_id(&mut self) -> Reply
-        ensures { Does self.old (Some Command.Id) result self.new }
+        ensures { Does self.old Command.Id result self.new }
     {
         let Some(ids) = &mut self.ids else {
             return Reply::NoIds;
@@ -140,7 +138,7 @@ impl Machine {
     /// Gives an id back.
     #[tactic(auto, unfolding(crate::specs::Machines::Does, crate::specs::Machines::OnIds))]
     fn release_id(&mut self, id: u32) -> Reply
-        ensures { Does self.old (Some (Command.Unid id)) result self.new }
+        ensures { Does self.old (Command.Unid id) result self.new }
     {
         let Some(ids) = &mut self.ids else {
             return Reply::NoIds;
@@ -151,7 +149,7 @@ impl Machine {
     /// Tells whether an id is held.
     #[tactic(auto, unfolding(crate::specs::Machines::Does, crate::specs::Machines::OnIds))]
     fn has_id(&self, id: u32) -> Reply
-        ensures { Does self.now (Some (Command.Has id)) result self.now }
+        ensures { Does self.now (Command.Has id) result self.now }
     {
         let Some(ids) = &self.ids else {
             return Reply::NoIds;
@@ -162,7 +160,7 @@ impl Machine {
     /// Makes a manager, which takes the place of the old one. A refused one does not.
     #[tactic(auto, unfolding(crate::specs::Machines::Does))]
     fn make_manager(&mut self, alloc: Global, id_lo: u32, id_hi: u32, base: u64, size: u64) -> Reply
-        ensures { Does self.old (Some (Command.Manager id_lo id_hi base size)) result self.new }
+        ensures { Does self.old (Command.Manager id_lo id_hi base size) result self.new }
     {
         let made = DeviceManager::new(alloc, id_lo, id_hi, base, size);
         keep(made, &mut self.devices)
@@ -171,7 +169,7 @@ impl Machine {
     /// Holds the least id that is not held, and `size` addresses at the first place, for one device.
     #[tactic(auto, unfolding(crate::specs::Machines::Does, crate::specs::Machines::OnDevices))]
     fn reserve(&mut self, alloc: Global, size: u64, alignment: u64) -> Reply
-        ensures { Does self.old (Some (Command.Device size alignment)) result self.new }
+        ensures { Does self.old (Command.Device size alignment) result self.new }
     {
         let Some(devices) = &mut self.devices else {
             return Reply::NoManager;
@@ -182,7 +180,7 @@ impl Machine {
     /// Gives back the id and the range of a device.
     #[tactic(auto, unfolding(crate::specs::Machines::Does, crate::specs::Machines::OnDevices))]
     fn release_device(&mut self, id: u32) -> Reply
-        ensures { Does self.old (Some (Command.Undevice id)) result self.new }
+        ensures { Does self.old (Command.Undevice id) result self.new }
     {
         let Some(devices) = &mut self.devices else {
             return Reply::NoManager;

@@ -57,14 +57,14 @@ impl Session {
             × Ends (with_more self.old last.now) text self.new
             × (output.new ≡ output.old ++ text) }
     {
-        let asked = self.take_line(last);
-        let reply = self.machine.answer(alloc, asked);
+        let command = self.take_line(last);
+        let reply = self.machine.answer(alloc, command);
         write_reply(output, reply);
         output.push(b'\n');
     }
 
     /// Tells what the line asks of which these are the last bytes. After that no line has begun.
-    fn take_line(&mut self, last: &[u8]) -> Option<Command>
+    fn take_line(&mut self, last: &[u8]) -> Command
         ensures asked { result ≡ asked_by (line_after self.old.line last.now) }
         ensures machine { self.new.machine ≡ self.old.machine }
         ensures line { self.new.line ≡ Some [] }
@@ -78,13 +78,13 @@ impl Session {
 
     /// Tells what the line asks of which all bytes are kept. After that no line has begun.
     #[cold]
-    fn take_kept(&mut self) -> Option<Command>
+    fn take_kept(&mut self) -> Command
         ensures asked { result ≡ asked_by self.old.line }
         ensures machine { self.new.machine ≡ self.old.machine }
         ensures line { self.new.line ≡ Some [] }
     {
         let asked = if self.is_too_long {
-            None
+            Command::Malformed
         } else {
             parse(&self.line[..self.filled])
         };
