@@ -84,7 +84,7 @@ impl InnerNode {
             left: None,
             right: None,
             height: 1,
-            max_free: own.longest,
+            max_free: own.max_free,
         }
     }
 

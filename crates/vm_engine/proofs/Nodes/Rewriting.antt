@@ -72,7 +72,7 @@ node_rewritten_left s l n x r k y told e p t o b w =
       record {
         tree = tree_rewritten_left l n x r k (y ∷ []) p tree ordered b w.height w.tree;
         height = rw w.height refl;
-        longest = same_kept told (max_free_of l) (max_free_of n) (max_free_of r) (free_length x) w.longest;
+        max_free = same_kept told (max_free_of l) (max_free_of n) (max_free_of r) (free_length x) w.max_free;
         alignments = same_kept told (alignments_of l) (alignments_of n) (alignments_of r) (free_alignments x) w.alignments;
       },
     )
@@ -87,7 +87,7 @@ node_rewritten_right s l n x r k y told e p t o b w =
       record {
         tree = tree_rewritten_right l n x r k (y ∷ []) p tree ordered b w.height w.tree;
         height = rw w.height refl;
-        longest = same_kept_right told (max_free_of r) (max_free_of n) (max_free_of l) (free_length x) w.longest;
+        max_free = same_kept_right told (max_free_of r) (max_free_of n) (max_free_of l) (free_length x) w.max_free;
         alignments = same_kept_right told (alignments_of r) (alignments_of n) (alignments_of l) (free_alignments x) w.alignments;
       },
     )

@@ -31,7 +31,7 @@ pub record IsFinished (own : Block) (old : Open) (n : Shape) (told : Change) : T
   pub blocks : blocks n ≡ blocks (side old.left) ++ own ∷ blocks (side old.right)
   pub height : IsHeightAfterBalance (height_of (side old.left)) (height_of (side old.right)) (height_of n)
   pub keeps_height : KeepsHeight told old.height (height_of n)
-  pub keeps_longest : KeepsRoom told old.longest (max_free_of n)
+  pub keeps_max_free : KeepsRoom told old.max_free (max_free_of n)
   pub keeps_alignments : KeepsRoom told old.alignments (alignments_of n)
 
 pub finished : (own : Block) (old : Open) (settled : Settled) (new : Open) (at after : Option (Box InnerNode)) (told : Change)
@@ -45,7 +45,7 @@ finished own old (Stands change) new at after told o l r s e f =
       blocks = ap blocks n;
       height = rw n (omega arith, omega arith, λ d. refl);
       keeps_height = rw (f.1, n, ← s.3) s.6;
-      keeps_longest = rw (f.1, n, ← s.4) s.7;
+      keeps_max_free = rw (f.1, n, ← s.4) s.7;
       keeps_alignments = rw (f.1, n, ← s.5) s.8;
     }
 finished own old (Leans first second) new at after told o l r s e f = rw (f.2, ← s.0, ← s.1) (record {
@@ -53,13 +53,13 @@ finished own old (Leans first second) new at after told o l r s e f = rw (f.2, �
   blocks = rw f.1.blocks (rw e refl);
   height = f.1.height;
   keeps_height = tt;
-  keeps_longest = tt;
+  keeps_max_free = tt;
   keeps_alignments = tt;
 })
 
 -- a node, open
 abbrev pub open_of : Inside → Open
-open_of i = record { left = i.left; right = i.right; height = i.height; longest = i.max_free; alignments = i.alignments }
+open_of i = record { left = i.left; right = i.right; height = i.height; max_free = i.max_free; alignments = i.alignments }
 
 -- its own block
 abbrev pub own_of : Inside → Block
@@ -69,7 +69,7 @@ own_of i = record { key = i.key; state = i.node_state }
 pub settled_node : (i : Inside) (settled : Settled) (new : Open)
     → IsOrderedFrom 0 (blocks (side i.left) ++ own_of i ∷ blocks (side i.right)) → IsTree (side i.left) → IsTree (side i.right)
     → IsSettled (own_of i) (open_of i) settled new
-    → IsNode (record { key = i.key; node_state = i.node_state; alignments = new.alignments; left = new.left; right = new.right; height = new.height; max_free = new.longest })
+    → IsNode (record { key = i.key; node_state = i.node_state; alignments = new.alignments; left = new.left; right = new.right; height = new.height; max_free = new.max_free })
 settled_node i (Stands told) new o l r s = record {
   tree = rw (s.0, s.1) (record { ordered = o; balanced = (l.balanced, r.balanced, s.2) });
   height = rw (s.0, s.1) s.3;
@@ -90,7 +90,7 @@ module _ (i : Inside) (child : Option (Box InnerNode)) (change told : Change) (n
   whole_keeps : (l r : Option (Box InnerNode)) → IsFinished (own_of i) (open_of (record i { left = l; right = r })) n told → Keeps (shape_of i) n told
   whole_keeps l r f = record {
     height = rw (← v.height) f.keeps_height;
-    longest = rw (← v.max_free) f.keeps_longest;
+    max_free = rw (← v.max_free) f.keeps_max_free;
     alignments = rw (← v.alignments) f.keeps_alignments;
   }
 
@@ -134,10 +134,10 @@ module _ (i : Inside) (child : Option (Box InnerNode)) (v : IsNode i) where
     record {
       tree = record { ordered = o; balanced = (t.balanced, v.tree.balanced.1, rw k.height v.tree.balanced.2) };
       height = rw k.height v.height;
-      max_free = rw k.longest v.max_free;
+      max_free = rw k.max_free v.max_free;
       alignments = rw k.alignments v.alignments;
     },
-    record { height = rw k.height refl; longest = rw k.longest refl; alignments = rw k.alignments refl },
+    record { height = rw k.height refl; max_free = rw k.max_free refl; alignments = rw k.alignments refl },
   )
 
   pub kept_right : IsOrderedFrom 0 (blocks (side i.left) ++ own_of i ∷ blocks (side child)) → IsTree (side child) → Keeps (side i.right) (side child) Nothing
@@ -146,19 +146,19 @@ module _ (i : Inside) (child : Option (Box InnerNode)) (v : IsNode i) where
     record {
       tree = record { ordered = o; balanced = (v.tree.balanced.0, t.balanced, rw k.height v.tree.balanced.2) };
       height = rw k.height v.height;
-      max_free = rw k.longest v.max_free;
+      max_free = rw k.max_free v.max_free;
       alignments = rw k.alignments v.alignments;
     },
-    record { height = rw k.height refl; longest = rw k.longest refl; alignments = rw k.alignments refl },
+    record { height = rw k.height refl; max_free = rw k.max_free refl; alignments = rw k.alignments refl },
   )
 
 -- where the room alone of one side changed, the room alone of the whole did, or nothing
-module _ (i : Inside) (child : Option (Box InnerNode)) (told : Change) (longest count : ℕ) (v : IsNode i) where
+module _ (i : Inside) (child : Option (Box InnerNode)) (told : Change) (max_free count : ℕ) (v : IsNode i) where
   pub renewed_left : IsOrderedFrom 0 (blocks (side child) ++ own_of i ∷ blocks (side i.right)) → Grows (side i.left) (side child) RoomAlone
-      → longest ≡ max (max (max_free_of (side child)) (max_free_of (side i.right))) (free_length (own_of i))
+      → max_free ≡ max (max (max_free_of (side child)) (max_free_of (side i.right))) (free_length (own_of i))
       → count ≡ max (max (alignments_of (side child)) (alignments_of (side i.right))) (free_alignments (own_of i))
-      → KeepsRoom told i.max_free longest → KeepsRoom told i.alignments count
-      → IsNode (record i { left = child; max_free = longest; alignments = count }) × Grows (shape_of i) (shape_of (record i { left = child })) told
+      → KeepsRoom told i.max_free max_free → KeepsRoom told i.alignments count
+      → IsNode (record i { left = child; max_free = max_free; alignments = count }) × Grows (shape_of i) (shape_of (record i { left = child })) told
   renewed_left o g m a p q =
       let tree : IsTree (shape_of (record i { left = child })) = record { ordered = o; balanced = (g.tree.balanced, v.tree.balanced.1, rw g.keeps.height v.tree.balanced.2) } in
       let high : height_of (shape_of (record i { left = child })) ≡ height_of (shape_of i) = rw g.keeps.height refl in (
@@ -167,15 +167,15 @@ module _ (i : Inside) (child : Option (Box InnerNode)) (told : Change) (longest 
           tree = tree;
           not_lower = omega (arith, high);
           at_most_one_higher = omega (arith, high);
-          keeps = record { height = rw high (height_kept told _); longest = rw (← v.max_free, ← m) p; alignments = rw (← v.alignments, ← a) q };
+          keeps = record { height = rw high (height_kept told _); max_free = rw (← v.max_free, ← m) p; alignments = rw (← v.alignments, ← a) q };
         },
       )
 
   pub renewed_right : IsOrderedFrom 0 (blocks (side i.left) ++ own_of i ∷ blocks (side child)) → Grows (side i.right) (side child) RoomAlone
-      → longest ≡ max (max (max_free_of (side i.left)) (max_free_of (side child))) (free_length (own_of i))
+      → max_free ≡ max (max (max_free_of (side i.left)) (max_free_of (side child))) (free_length (own_of i))
       → count ≡ max (max (alignments_of (side i.left)) (alignments_of (side child))) (free_alignments (own_of i))
-      → KeepsRoom told i.max_free longest → KeepsRoom told i.alignments count
-      → IsNode (record i { right = child; max_free = longest; alignments = count }) × Grows (shape_of i) (shape_of (record i { right = child })) told
+      → KeepsRoom told i.max_free max_free → KeepsRoom told i.alignments count
+      → IsNode (record i { right = child; max_free = max_free; alignments = count }) × Grows (shape_of i) (shape_of (record i { right = child })) told
   renewed_right o g m a p q =
       let tree : IsTree (shape_of (record i { right = child })) = record { ordered = o; balanced = (v.tree.balanced.0, g.tree.balanced, rw g.keeps.height v.tree.balanced.2) } in
       let high : height_of (shape_of (record i { right = child })) ≡ height_of (shape_of i) = rw g.keeps.height refl in (
@@ -184,7 +184,7 @@ module _ (i : Inside) (child : Option (Box InnerNode)) (told : Change) (longest 
           tree = tree;
           not_lower = omega (arith, high);
           at_most_one_higher = omega (arith, high);
-          keeps = record { height = rw high (height_kept told _); longest = rw (← v.max_free, ← m) p; alignments = rw (← v.alignments, ← a) q };
+          keeps = record { height = rw high (height_kept told _); max_free = rw (← v.max_free, ← m) p; alignments = rw (← v.alignments, ← a) q };
         },
       )
 

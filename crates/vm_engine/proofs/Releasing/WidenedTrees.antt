@@ -36,7 +36,7 @@ widened_left s l n x r k range e p t c w =
       tree = tree_rewritten_left l n x r k (free_block range ∷ []) p tree can.ordered w.blocks w.height w.tree;
       blocks = rw (replace_in_left (Fork l x r) l x r k (free_block range ∷ []) refl p tree, w.blocks) refl;
       height = rw w.height refl;
-      longest = omega (arith, w.longest);
+      max_free = omega (arith, w.max_free);
       alignments = omega (arith, w.alignments);
     })
 
@@ -49,7 +49,7 @@ widened_right s l n x r k range e p t c w =
       tree = tree_rewritten_right l n x r k (free_block range ∷ []) p tree can.ordered w.blocks w.height w.tree;
       blocks = rw (replace_in_right (Fork l x r) l x r k (free_block range ∷ []) refl p tree, w.blocks) refl;
       height = rw w.height refl;
-      longest = omega (arith, w.longest);
+      max_free = omega (arith, w.max_free);
       alignments = omega (arith, w.alignments);
     })
 
@@ -61,7 +61,7 @@ widened_here l x r k range p t c =
       tree = tree_rewritten_here l x r k (free_block range) p t c.ordered;
       blocks = rw (replace_in_middle (Fork l x r) l x r k (free_block range ∷ []) refl p t) refl;
       height = refl;
-      longest = omega (arith, none.0);
+      max_free = omega (arith, none.0);
       alignments = omega (arith, none.1);
     }
 

@@ -59,7 +59,7 @@ KeepsRoom Height old new = Unit {0}
 -- what a node keeps is the same but for what is told
 pub record Keeps (old new : Shape) (told : Change) : Type 0 where
   pub height : KeepsHeight told (height_of old) (height_of new)
-  pub longest : KeepsRoom told (max_free_of old) (max_free_of new)
+  pub max_free : KeepsRoom told (max_free_of old) (max_free_of new)
   pub alignments : KeepsRoom told (alignments_of old) (alignments_of new)
 
 -- a tree that is as high as another, or one higher; what a node keeps is the same but for what is told
@@ -80,7 +80,7 @@ pub record Shrinks (old new : Shape) (told : Change) : Type 0 where
 pub record KeepsShape (old new : Shape) (told : Bool) : Type 0 where
   pub tree : IsTree new
   pub height : height_of new ≡ height_of old
-  pub longest : IsSameIfNot told (max_free_of old) (max_free_of new)
+  pub max_free : IsSameIfNot told (max_free_of old) (max_free_of new)
   pub alignments : IsSameIfNot told (alignments_of old) (alignments_of new)
 
 -- a tree of the blocks of two: the other one where one has none, and else as high as the higher or one higher

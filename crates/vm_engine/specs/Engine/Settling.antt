@@ -17,12 +17,12 @@ use Rattle.vm_engine.specs.declared.node.balance.Settled.TheVariants.{Stands, Le
 -- what is kept of a tree
 abbrev pub IsKeptOf : Shape → Kept → Type 0
 IsKeptOf s kept =
-    (kept.height ≡ height_of s) × (kept.room.longest ≡ max_free_of s) × (kept.room.alignments ≡ alignments_of s)
+    (kept.height ≡ height_of s) × (kept.room.max_free ≡ max_free_of s) × (kept.room.alignments ≡ alignments_of s)
 
 -- the room of a node's tree, from that of its sides and of its own block
 abbrev pub IsRoomOver : Room → Room → Room → ℕ → ℕ → Type 0
-IsRoomOver left right own longest count =
-    (longest ≡ max (max left.longest right.longest) own.longest)
+IsRoomOver left right own max_free count =
+    (max_free ≡ max (max left.max_free right.max_free) own.max_free)
     × (count ≡ max (max left.alignments right.alignments) own.alignments)
 
 -- a node's sides, and what it keeps, which may be stale
@@ -30,7 +30,7 @@ pub record Open : Type 0 where
   pub left : Option (Box InnerNode)
   pub right : Option (Box InnerNode)
   pub height : ℕ
-  pub longest : ℕ
+  pub max_free : ℕ
   pub alignments : ℕ
 
 -- It stands: the children stay, close in height, what the node keeps is true, and what changed of that is told. It leans:
@@ -40,14 +40,14 @@ IsSettled own old (Stands told) new =
     (new.left ≡ old.left) × (new.right ≡ old.right)
     × DifferByAtMost 1 (height_of (side old.left)) (height_of (side old.right))
     × (new.height ≡ max (height_of (side old.left)) (height_of (side old.right)) + 1)
-    × (new.longest ≡ max (max (max_free_of (side old.left)) (max_free_of (side old.right))) (free_length own))
+    × (new.max_free ≡ max (max (max_free_of (side old.left)) (max_free_of (side old.right))) (free_length own))
     × (new.alignments ≡ max (max (alignments_of (side old.left)) (alignments_of (side old.right))) (free_alignments own))
     × KeepsHeight told old.height new.height
-    × KeepsRoom told old.longest new.longest
+    × KeepsRoom told old.max_free new.max_free
     × KeepsRoom told old.alignments new.alignments
 IsSettled own old (Leans first second) new =
     (first ≡ old.left) × (second ≡ old.right) × (new.left ≡ None) × (new.right ≡ None) × (new.height ≡ 1)
-    × (new.longest ≡ free_length own)
+    × (new.max_free ≡ free_length own)
     × (new.alignments ≡ free_alignments own)
 
 -- a node that leans is there without children, and can be balanced over them

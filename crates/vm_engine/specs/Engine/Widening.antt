@@ -17,5 +17,5 @@ pub record Widens (old : Shape) (key range : Range) (new : Shape) : Type 0 where
   pub tree : IsTree new
   pub blocks : blocks new ≡ with_block key range Free (blocks old)
   pub height : height_of new ≡ height_of old
-  pub longest : max_free_of new ≡ max (max_free_of old) (free_length (free_block range))
+  pub max_free : max_free_of new ≡ max (max_free_of old) (free_length (free_block range))
   pub alignments : alignments_of new ≡ max (alignments_of old) (free_alignments (free_block range))

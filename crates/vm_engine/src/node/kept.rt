@@ -23,7 +23,7 @@ use vm_ranges::{NodeState, RangeInclusive};
 #[derive(Clone, Copy, Debug)]
 pub(super) struct Room {
     /// The length of the longest free block, 0 where there is none.
-    pub(super) longest: u64,
+    pub(super) max_free: u64,
     /// How many of the 64 alignments have a multiple in a free block.
     pub(super) alignments: u8,
 }
@@ -52,16 +52,16 @@ pub(super) struct Kept {
 /// What a block has room for: its clear addresses are all of a free one, none of a held one.
 #[inline(always)]
 pub(super) fn room_of(key: &RangeInclusive, node_state: NodeState) -> Room
-    ensures longest { result.longest ≡ free_length (record { key = key.now; state = node_state }) }
+    ensures max_free { result.max_free ≡ free_length (record { key = key.now; state = node_state }) }
     ensures alignments { result.alignments ≡ free_alignments (record { key = key.now; state = node_state }) }
 {
     match node_state {
         NodeState::Free => Room {
-            longest: key.len(),
+            max_free: key.len(),
             alignments: alignment_count(key),
         },
         NodeState::Allocated => Room {
-            longest: 0,
+            max_free: 0,
             alignments: 0,
         },
     }
@@ -91,14 +91,14 @@ pub(super) fn kept_of(child: &Child) -> Kept
         None => Kept {
             height: 0,
             room: Room {
-                longest: 0,
+                max_free: 0,
                 alignments: 0,
             },
         },
         Some(node) => Kept {
             height: node.height,
             room: Room {
-                longest: node.max_free,
+                max_free: node.max_free,
                 alignments: node.alignments,
             },
         },
@@ -115,7 +115,7 @@ pub(super) fn kept_over(
 ) -> Kept
     requires { max (height_of (side left.now)) (height_of (side right.now)) + 1 < 2 ^ 64 }
     ensures height { result.height ≡ max (height_of (side left.now)) (height_of (side right.now)) + 1 }
-    ensures longest { result.room.longest
+    ensures max_free { result.room.max_free
         ≡ max (max (max_free_of (side left.now)) (max_free_of (side right.now)))
         (free_length (record { key = key.now; state = node_state })) }
     ensures alignments { result.room.alignments
@@ -130,7 +130,11 @@ pub(super) fn kept_over(
     Kept {
         height: first.height.max(second.height) + 1,
         room: Room {
-            longest: first.room.longest.max(second.room.longest).max(own.longest),
+            max_free: first
+                .room
+                .max_free
+                .max(second.room.max_free)
+                .max(own.max_free),
             alignments: first
                 .room
                 .alignments
@@ -146,19 +150,19 @@ pub(super) fn refresh_room(
     left: Room,
     right: Room,
     own: Room,
-    kept_longest: &mut u64,
+    kept_max_free: &mut u64,
     kept_alignments: &mut u8,
 ) -> bool
-    ensures room { IsRoomOver left right own kept_longest.new kept_alignments.new }
-    ensures same_longest { IsSameIfNot result kept_longest.old kept_longest.new }
+    ensures room { IsRoomOver left right own kept_max_free.new kept_alignments.new }
+    ensures same_max_free { IsSameIfNot result kept_max_free.old kept_max_free.new }
     ensures same_alignments { IsSameIfNot result kept_alignments.old kept_alignments.new }
 {
-    let longest = left.longest.max(right.longest).max(own.longest);
+    let max_free = left.max_free.max(right.max_free).max(own.max_free);
     let reached = left.alignments.max(right.alignments).max(own.alignments);
-    if longest == *kept_longest && reached == *kept_alignments {
+    if max_free == *kept_max_free && reached == *kept_alignments {
         return false;
     }
-    *kept_longest = longest;
+    *kept_max_free = max_free;
     *kept_alignments = reached;
     true
 }
@@ -171,16 +175,16 @@ pub(super) fn refresh_over(
     right: &Child,
     key: &RangeInclusive,
     node_state: NodeState,
-    kept_longest: &mut u64,
+    kept_max_free: &mut u64,
     kept_alignments: &mut u8,
 ) -> bool
-    ensures longest { kept_longest.new
+    ensures max_free { kept_max_free.new
         ≡ max (max (max_free_of (side left.now)) (max_free_of (side right.now)))
         (free_length (record { key = key.now; state = node_state })) }
     ensures alignments { kept_alignments.new
         ≡ max (max (alignments_of (side left.now)) (alignments_of (side right.now)))
         (free_alignments (record { key = key.now; state = node_state })) }
-    ensures same_longest { IsSameIfNot result kept_longest.old kept_longest.new }
+    ensures same_max_free { IsSameIfNot result kept_max_free.old kept_max_free.new }
     ensures same_alignments { IsSameIfNot result kept_alignments.old kept_alignments.new }
 {
     let own = room_of(key, node_state);
@@ -188,7 +192,7 @@ pub(super) fn refresh_over(
         kept_of(left).room,
         kept_of(right).room,
         own,
-        kept_longest,
+        kept_max_free,
         kept_alignments,
     )
 }
@@ -199,14 +203,14 @@ pub(super) fn renew_room(
     left: Room,
     right: Room,
     own: Room,
-    kept_longest: &mut u64,
+    kept_max_free: &mut u64,
     kept_alignments: &mut u8,
 ) -> Change
-    ensures room { IsRoomOver left right own kept_longest.new kept_alignments.new }
-    ensures same_longest { KeepsRoom result kept_longest.old kept_longest.new }
+    ensures room { IsRoomOver left right own kept_max_free.new kept_alignments.new }
+    ensures same_max_free { KeepsRoom result kept_max_free.old kept_max_free.new }
     ensures same_alignments { KeepsRoom result kept_alignments.old kept_alignments.new }
 {
-    if refresh_room(left, right, own, kept_longest, kept_alignments) {
+    if refresh_room(left, right, own, kept_max_free, kept_alignments) {
         Change::RoomAlone
     } else {
         Change::Nothing
@@ -221,23 +225,23 @@ pub(super) fn renew_over(
     right: &Child,
     key: &RangeInclusive,
     node_state: NodeState,
-    kept_longest: &mut u64,
+    kept_max_free: &mut u64,
     kept_alignments: &mut u8,
 ) -> Change
-    ensures longest { kept_longest.new
+    ensures max_free { kept_max_free.new
         ≡ max (max (max_free_of (side left.now)) (max_free_of (side right.now)))
         (free_length (record { key = key.now; state = node_state })) }
     ensures alignments { kept_alignments.new
         ≡ max (max (alignments_of (side left.now)) (alignments_of (side right.now)))
         (free_alignments (record { key = key.now; state = node_state })) }
-    ensures same_longest { KeepsRoom result kept_longest.old kept_longest.new }
+    ensures same_max_free { KeepsRoom result kept_max_free.old kept_max_free.new }
     ensures same_alignments { KeepsRoom result kept_alignments.old kept_alignments.new }
 {
     renew_room(
         kept_of(left).room,
         kept_of(right).room,
         room_of(key, node_state),
-        kept_longest,
+        kept_max_free,
         kept_alignments,
     )
 }
@@ -245,11 +249,11 @@ pub(super) fn renew_over(
 /// Raises what a node keeps of its tree's room to that of a block which becomes free below.
 #[inline(always)]
 pub(super) fn raise_room(max_free: &mut u64, alignments: &mut u8, freed: &Room)
-    ensures longest { max_free.new ≡ max max_free.old freed.now.longest }
+    ensures max_free { max_free.new ≡ max max_free.old freed.now.max_free }
     ensures alignments { alignments.new ≡ max alignments.old freed.now.alignments }
 {
-    if *max_free < freed.longest {
-        *max_free = freed.longest;
+    if *max_free < freed.max_free {
+        *max_free = freed.max_free;
     }
     if *alignments < freed.alignments {
         *alignments = freed.alignments;

@@ -51,21 +51,21 @@ invariant_of-tree t c = (kept_over_side t (goal.at.invariant_of-tree t c).In-Not
 
 -- where the room alone of a side changed: the node over it, brought up to date
 renewed_over_side : (t : ℕ) (c : After-renew_over t)
-    → let n = record c.match-order.tree-inside { max_free = c.renew_over.new.kept_longest; alignments = c.renew_over.new.kept_alignments } in
+    → let n = record c.match-order.tree-inside { max_free = c.renew_over.new.kept_max_free; alignments = c.renew_over.new.kept_alignments } in
     IsNode n × Grows (shape_of c.tree.inside) (shape_of n) c.renew_over.result
 renewed_over_side t c =
     let e : side c.args.at.now ≡ shape_of c.tree.inside = cc in
-    let longest = c.renew_over.new.kept_longest in
+    let max_free = c.renew_over.new.kept_max_free in
     let count = c.renew_over.new.kept_alignments in
     elim c.match-order.branch [
       | in-Greater w ↦
           let l = w.carve_at-change in
           let grew = rw (sym w.change-is ∙ c.in-RoomAlone.is) at l.ensures.grows in
-          rw w.tree-inside-is (renewed_left c.tree.inside l.new.at c.renew_over.result longest count c.tree.invariant (ordered_carved_left _ (side l.new.at) _ _ _ _ w.in-Greater.ensures c.tree.invariant.tree (rw e at c.requires.carving.ordered) l.ensures.blocks) grew (rw w.tree-inside-is at c.renew_over.ensures.longest) (rw w.tree-inside-is at c.renew_over.ensures.alignments) (rw w.tree-inside-is at c.renew_over.ensures.same_longest) (rw w.tree-inside-is at c.renew_over.ensures.same_alignments))
+          rw w.tree-inside-is (renewed_left c.tree.inside l.new.at c.renew_over.result max_free count c.tree.invariant (ordered_carved_left _ (side l.new.at) _ _ _ _ w.in-Greater.ensures c.tree.invariant.tree (rw e at c.requires.carving.ordered) l.ensures.blocks) grew (rw w.tree-inside-is at c.renew_over.ensures.max_free) (rw w.tree-inside-is at c.renew_over.ensures.alignments) (rw w.tree-inside-is at c.renew_over.ensures.same_max_free) (rw w.tree-inside-is at c.renew_over.ensures.same_alignments))
       | in-Less w ↦
           let r = w.carve_at-change-in-Less in
           let grew = rw (sym w.change-is ∙ c.in-RoomAlone.is) at r.ensures.grows in
-          rw w.tree-inside-is (renewed_right c.tree.inside r.new.at c.renew_over.result longest count c.tree.invariant (ordered_carved_right _ (side r.new.at) _ _ _ _ w.in-Less.ensures c.tree.invariant.tree (rw e at c.requires.carving.ordered) r.ensures.blocks) grew (rw w.tree-inside-is at c.renew_over.ensures.longest) (rw w.tree-inside-is at c.renew_over.ensures.alignments) (rw w.tree-inside-is at c.renew_over.ensures.same_longest) (rw w.tree-inside-is at c.renew_over.ensures.same_alignments))
+          rw w.tree-inside-is (renewed_right c.tree.inside r.new.at c.renew_over.result max_free count c.tree.invariant (ordered_carved_right _ (side r.new.at) _ _ _ _ w.in-Less.ensures c.tree.invariant.tree (rw e at c.requires.carving.ordered) r.ensures.blocks) grew (rw w.tree-inside-is at c.renew_over.ensures.max_free) (rw w.tree-inside-is at c.renew_over.ensures.alignments) (rw w.tree-inside-is at c.renew_over.ensures.same_max_free) (rw w.tree-inside-is at c.renew_over.ensures.same_alignments))
     ]
 
 pub invariant_of-tree-in-RoomAlone : goal.invariant_of-tree-in-RoomAlone
