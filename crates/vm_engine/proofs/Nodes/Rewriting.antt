@@ -1,12 +1,14 @@
 -- A block of a tree that gets another key or state.
-use Rattle.std.proofs.Common.{◌≡◌, ℕ, ◌+◌, max, Bool, true, false, cond, List, [], ◌∷◌, ◌++◌, refl, ap, ◌∙◌, subst, sym, arith, Some, None, Option, IsSome, Result, Err}
+use Rattle.std.proofs.Common.{◌≡◌, ℕ, ◌+◌, max, true, false, cond, List, [], ◌∷◌, ◌++◌, refl, ap, ◌∙◌, subst, sym, arith, Some, None, Option, IsSome, Result, Err}
 use Rattle.vm_ranges.specs.Range.{Range}
 use Rattle.vm_ranges.specs.RangeOrder.{Before, same_range}
 use Rattle.vm_engine.specs.Tree.Block.{Block, free_length}
 use Rattle.vm_engine.specs.Tree.Multiples.{free_alignments}
 use Rattle.vm_engine.specs.Tree.BlockList.{IsOrderedFrom, replace_block, find_key}
 use Rattle.vm_engine.specs.Tree.Shape.{Shape, Tip, Fork, blocks, height_of, max_free_of, alignments_of, root_block, IsTree}
-use Rattle.vm_engine.specs.Engine.Changes.{KeepsShape, IsSameIfNot}
+use Rattle.vm_engine.specs.declared.node.kept.Change.{Change}
+use Rattle.vm_engine.specs.declared.node.kept.Change.TheVariants.{Nothing, RoomAlone, Height}
+use Rattle.vm_engine.specs.Engine.Changes.{KeepsShape, KeepsRoom}
 use Rattle.vm_engine.specs.Engine.NodeAnswer.{Marks, MarksBlock}
 use Rattle.vm_ranges.specs.declared.error.Error.{Error}
 use Rattle.vm_ranges.specs.declared.error.Error.TheVariants.{ResourceNotAvailable}
@@ -53,16 +55,18 @@ tree_rewritten_here l x r k y p t o = record {
 }
 
 -- where what a side keeps is the same, so is what the node keeps
-same_kept : (told : Bool) (old new a c : ℕ) → IsSameIfNot told old new → IsSameIfNot told (max (max old a) c) (max (max new a) c)
-same_kept true old new a c h = tt
-same_kept false old new a c h = rw h refl
+same_kept : (told : Change) (old new a c : ℕ) → KeepsRoom told old new → KeepsRoom told (max (max old a) c) (max (max new a) c)
+same_kept Nothing old new a c h = rw h refl
+same_kept RoomAlone old new a c h = tt
+same_kept Height old new a c h = tt
 
-same_kept_right : (told : Bool) (old new a c : ℕ) → IsSameIfNot told old new → IsSameIfNot told (max (max a old) c) (max (max a new) c)
-same_kept_right true old new a c h = tt
-same_kept_right false old new a c h = rw h refl
+same_kept_right : (told : Change) (old new a c : ℕ) → KeepsRoom told old new → KeepsRoom told (max (max a old) c) (max (max a new) c)
+same_kept_right Nothing old new a c h = rw h refl
+same_kept_right RoomAlone old new a c h = tt
+same_kept_right Height old new a c h = tt
 
 -- the node over a rewritten side: its blocks, and what it keeps
-pub node_rewritten_left : (s l n : Shape) (x : Block) (r : Shape) (k : Range) (y : Block) (told : Bool) → s ≡ Fork l x r → Before k x.key → IsTree s → IsOrderedFrom 0 (replace_block k (y ∷ []) (blocks s))
+pub node_rewritten_left : (s l n : Shape) (x : Block) (r : Shape) (k : Range) (y : Block) (told : Change) → s ≡ Fork l x r → Before k x.key → IsTree s → IsOrderedFrom 0 (replace_block k (y ∷ []) (blocks s))
     → blocks n ≡ replace_block k (y ∷ []) (blocks l) → KeepsShape l n told → (blocks (Fork n x r) ≡ replace_block k (y ∷ []) (blocks s)) × KeepsShape s (Fork n x r) told
 node_rewritten_left s l n x r k y told e p t o b w =
     let tree : IsTree (Fork l x r) = rw e at t in
@@ -77,7 +81,7 @@ node_rewritten_left s l n x r k y told e p t o b w =
       },
     )
 
-pub node_rewritten_right : (s l n : Shape) (x : Block) (r : Shape) (k : Range) (y : Block) (told : Bool) → s ≡ Fork l x r → Before x.key k → IsTree s → IsOrderedFrom 0 (replace_block k (y ∷ []) (blocks s))
+pub node_rewritten_right : (s l n : Shape) (x : Block) (r : Shape) (k : Range) (y : Block) (told : Change) → s ≡ Fork l x r → Before x.key k → IsTree s → IsOrderedFrom 0 (replace_block k (y ∷ []) (blocks s))
     → blocks n ≡ replace_block k (y ∷ []) (blocks r) → KeepsShape r n told → (blocks (Fork l x n) ≡ replace_block k (y ∷ []) (blocks s)) × KeepsShape s (Fork l x n) told
 node_rewritten_right s l n x r k y told e p t o b w =
     let tree : IsTree (Fork l x r) = rw e at t in

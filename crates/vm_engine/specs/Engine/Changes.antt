@@ -1,5 +1,5 @@
 -- What a change makes of a tree.
-use Rattle.std.specs.Prelude.{◌≡◌, ℕ, ◌+◌, ◌^◌, ◌<◌, ◌≤◌, max, ◌∷◌, ◌++◌, None, Bool, true, false}
+use Rattle.std.specs.Prelude.{◌≡◌, ℕ, ◌+◌, ◌^◌, ◌<◌, ◌≤◌, max, ◌∷◌, ◌++◌, None}
 use Rattle.vm_ranges.specs.Range.{Range}
 use Rattle.vm_engine.specs.Tree.Block.{Block}
 use Rattle.vm_engine.specs.Tree.BlockList.{IsOrderedFrom, find_key}
@@ -39,11 +39,6 @@ pub record Balances (left : Shape) (middle : Block) (right balanced : Shape) : T
   pub blocks : blocks balanced ≡ blocks left ++ middle ∷ blocks right
   pub height : IsHeightAfterBalance (height_of left) (height_of right) (height_of balanced)
 
--- where no change is told, a kept number is the one from before
-abbrev pub IsSameIfNot : Bool → ℕ → ℕ → Type 0
-IsSameIfNot true old new = Unit {0}
-IsSameIfNot false old new = new ≡ old
-
 -- the height is the one from before, unless a change of it is told
 abbrev pub KeepsHeight : Change → ℕ → ℕ → Type 0
 KeepsHeight Nothing old new = new ≡ old
@@ -77,11 +72,11 @@ pub record Shrinks (old new : Shape) (told : Change) : Type 0 where
   pub keeps : Keeps old new told
 
 -- a tree as high as another; where no change is told, what a node keeps is the same
-pub record KeepsShape (old new : Shape) (told : Bool) : Type 0 where
+pub record KeepsShape (old new : Shape) (told : Change) : Type 0 where
   pub tree : IsTree new
   pub height : height_of new ≡ height_of old
-  pub max_free : IsSameIfNot told (max_free_of old) (max_free_of new)
-  pub alignments : IsSameIfNot told (alignments_of old) (alignments_of new)
+  pub max_free : KeepsRoom told (max_free_of old) (max_free_of new)
+  pub alignments : KeepsRoom told (alignments_of old) (alignments_of new)
 
 -- a tree of the blocks of two: the other one where one has none, and else as high as the higher or one higher
 pub record Joins (left right joined : Shape) : Type 0 where

@@ -10,7 +10,6 @@ use Rattle.vm_engine.specs.declared.node.InnerNode.{InnerNode}
 use Rattle.vm_engine.specs.declared.node.kept.Change.{Change}
 use Rattle.vm_engine.specs.declared.node.kept.Change.TheVariants.{Height}
 use Rattle.vm_engine.specs.declared.node.kept.Kept.{Kept}
-use Rattle.vm_engine.specs.declared.node.kept.Room.{Room}
 use Rattle.vm_engine.specs.declared.node.balance.Settled.{Settled}
 use Rattle.vm_engine.specs.declared.node.balance.Settled.TheVariants.{Stands, Leans}
 
@@ -18,12 +17,6 @@ use Rattle.vm_engine.specs.declared.node.balance.Settled.TheVariants.{Stands, Le
 abbrev pub IsKeptOf : Shape → Kept → Type 0
 IsKeptOf s kept =
     (kept.height ≡ height_of s) × (kept.room.max_free ≡ max_free_of s) × (kept.room.alignments ≡ alignments_of s)
-
--- the room of a node's tree, from that of its sides and of its own block
-abbrev pub IsRoomOver : Room → Room → Room → ℕ → ℕ → Type 0
-IsRoomOver left right own max_free count =
-    (max_free ≡ max (max left.max_free right.max_free) own.max_free)
-    × (count ≡ max (max left.alignments right.alignments) own.alignments)
 
 -- a node's sides, and what it keeps, which may be stale
 pub record Open : Type 0 where

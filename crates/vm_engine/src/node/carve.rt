@@ -15,7 +15,7 @@ ghost use Rattle.vm_engine.specs.Counts.Ways.{way_to_link, way_here, way_to_carv
 ghost use Rattle.vm_engine.specs.Engine.NodeFields.{side};
 
 use super::balance::settle;
-use super::kept::{Change, renew_over};
+use super::kept::{Change, renew_room};
 use super::link::link_at;
 use super::{Child, InnerNode, known};
 use crate::Steps;
@@ -120,7 +120,7 @@ pub(crate) fn carve_at(at: &mut Child, cut: &mut Cut, count: &mut Steps) -> Chan
     };
     match change {
         Change::Nothing => Change::Nothing,
-        Change::RoomAlone => renew_over(
+        Change::RoomAlone => renew_room(
             &tree.left,
             &tree.right,
             &tree.key,

@@ -12,9 +12,9 @@ ghost use Rattle.std.specs.Prelude.{◌≡◌, ◌+◌, ◌<◌, ◌^◌, max};
 ghost use Rattle.vm_engine.specs.Tree.Block.{free_length};
 ghost use Rattle.vm_engine.specs.Tree.Multiples.{alignment_count, free_alignments};
 ghost use Rattle.vm_engine.specs.Tree.Shape.{height_of, max_free_of, alignments_of, IsTree};
-ghost use Rattle.vm_engine.specs.Engine.Changes.{IsSameIfNot, KeepsRoom};
+ghost use Rattle.vm_engine.specs.Engine.Changes.{KeepsRoom};
 ghost use Rattle.vm_engine.specs.Engine.NodeFields.{side};
-ghost use Rattle.vm_engine.specs.Engine.Settling.{IsKeptOf, IsRoomOver};
+ghost use Rattle.vm_engine.specs.Engine.Settling.{IsKeptOf};
 
 use super::Child;
 use vm_ranges::{NodeState, RangeInclusive};
@@ -144,83 +144,9 @@ pub(super) fn kept_over(
     }
 }
 
-/// Brings up to date what a node keeps of its tree's room; says whether a part of it changed.
-#[inline(always)]
-pub(super) fn refresh_room(
-    left: Room,
-    right: Room,
-    own: Room,
-    kept_max_free: &mut u64,
-    kept_alignments: &mut u8,
-) -> bool
-    ensures room { IsRoomOver left right own kept_max_free.new kept_alignments.new }
-    ensures same_max_free { IsSameIfNot result kept_max_free.old kept_max_free.new }
-    ensures same_alignments { IsSameIfNot result kept_alignments.old kept_alignments.new }
-{
-    let max_free = left.max_free.max(right.max_free).max(own.max_free);
-    let reached = left.alignments.max(right.alignments).max(own.alignments);
-    if max_free == *kept_max_free && reached == *kept_alignments {
-        return false;
-    }
-    *kept_max_free = max_free;
-    *kept_alignments = reached;
-    true
-}
-
-/// Brings up to date what a node keeps of its tree's room over these children, with its own block; says
-/// whether a part of it changed.
-#[inline(always)]
-pub(super) fn refresh_over(
-    left: &Child,
-    right: &Child,
-    key: &RangeInclusive,
-    node_state: NodeState,
-    kept_max_free: &mut u64,
-    kept_alignments: &mut u8,
-) -> bool
-    ensures max_free { kept_max_free.new
-        ≡ max (max (max_free_of (side left.now)) (max_free_of (side right.now)))
-        (free_length (record { key = key.now; state = node_state })) }
-    ensures alignments { kept_alignments.new
-        ≡ max (max (alignments_of (side left.now)) (alignments_of (side right.now)))
-        (free_alignments (record { key = key.now; state = node_state })) }
-    ensures same_max_free { IsSameIfNot result kept_max_free.old kept_max_free.new }
-    ensures same_alignments { IsSameIfNot result kept_alignments.old kept_alignments.new }
-{
-    let own = room_of(key, node_state);
-    refresh_room(
-        kept_of(left).room,
-        kept_of(right).room,
-        own,
-        kept_max_free,
-        kept_alignments,
-    )
-}
-
-/// Brings up to date what a node keeps of its tree's room; says what changed of it.
+/// Brings up to date what a node over these children keeps of its tree's room, and returns what changed.
 #[inline(always)]
 pub(super) fn renew_room(
-    left: Room,
-    right: Room,
-    own: Room,
-    kept_max_free: &mut u64,
-    kept_alignments: &mut u8,
-) -> Change
-    ensures room { IsRoomOver left right own kept_max_free.new kept_alignments.new }
-    ensures same_max_free { KeepsRoom result kept_max_free.old kept_max_free.new }
-    ensures same_alignments { KeepsRoom result kept_alignments.old kept_alignments.new }
-{
-    if refresh_room(left, right, own, kept_max_free, kept_alignments) {
-        Change::RoomAlone
-    } else {
-        Change::Nothing
-    }
-}
-
-/// Brings up to date what a node over these children keeps of its tree's room; says what changed of
-/// it.
-#[inline(always)]
-pub(super) fn renew_over(
     left: &Child,
     right: &Child,
     key: &RangeInclusive,
@@ -237,13 +163,16 @@ pub(super) fn renew_over(
     ensures same_max_free { KeepsRoom result kept_max_free.old kept_max_free.new }
     ensures same_alignments { KeepsRoom result kept_alignments.old kept_alignments.new }
 {
-    renew_room(
-        kept_of(left).room,
-        kept_of(right).room,
-        room_of(key, node_state),
-        kept_max_free,
-        kept_alignments,
-    )
+    let (first, second) = (kept_of(left).room, kept_of(right).room);
+    let own = room_of(key, node_state);
+    let max_free = first.max_free.max(second.max_free).max(own.max_free);
+    let alignments = first.alignments.max(second.alignments).max(own.alignments);
+    if max_free == *kept_max_free && alignments == *kept_alignments {
+        return Change::Nothing;
+    }
+    *kept_max_free = max_free;
+    *kept_alignments = alignments;
+    Change::RoomAlone
 }
 
 /// Raises what a node keeps of its tree's room to that of a block which becomes free below.

@@ -7,7 +7,7 @@ ghost use Rattle.vm_engine.specs.Engine.Changes.{KeepsShape};
 ghost use Rattle.vm_engine.specs.Counts.Ways.{way_to};
 ghost use Rattle.vm_engine.specs.Engine.NodeFields.{side};
 
-use super::kept::{kept_of, refresh_over, refresh_room, room_of};
+use super::kept::{Change, renew_room};
 use super::{Child, InnerNode};
 use crate::Steps;
 use crate::ends::order;
@@ -15,24 +15,29 @@ use std::cmp::Ordering;
 use vm_ranges::{NodeState, RangeInclusive};
 
 impl InnerNode {
-    /// Gives this node another key, which keeps its place in the order, and another state; says
-    /// whether what is kept here changed.
+    /// Gives this node another key, which keeps its place in the order, and another state. Returns what
+    /// changed of what is kept here.
     #[tactic(auto, using(crate::proofs::Nodes::Rewriting::rewritings))]
-    pub(super) fn rewrite_here(&mut self, key: RangeInclusive, node_state: NodeState) -> bool
+    pub(super) fn rewrite_here(&mut self, key: RangeInclusive, node_state: NodeState) -> Change
         requires { IsOrderedFrom 0 (with_block (root_block self.old).key key node_state (blocks self.old)) }
         ensures blocks { blocks self.new ≡ with_block (root_block self.old).key key node_state (blocks self.old) }
         ensures keeps { KeepsShape self.old self.new result }
     {
-        let (left, right) = (kept_of(&self.left).room, kept_of(&self.right).room);
         self.key = key;
         self.node_state = node_state;
-        let own = room_of(&key, node_state);
-        refresh_room(left, right, own, &mut self.max_free, &mut self.alignments)
+        renew_room(
+            &self.left,
+            &self.right,
+            &self.key,
+            self.node_state,
+            &mut self.max_free,
+            &mut self.alignments,
+        )
     }
 }
 
 /// Gives the node with key `old` below the node at a place another key, which keeps its place in the
-/// order, and another state; says whether what is kept there changed. It takes no memory.
+/// order, and another state. Returns what changed of what is kept there. It takes no memory.
 #[tactic(auto, using(crate::proofs::Counts::WayCases::ways_to))]
 pub(crate) fn rewrite_at(
     at: &mut Child,
@@ -40,7 +45,7 @@ pub(crate) fn rewrite_at(
     key: RangeInclusive,
     node_state: NodeState,
     count: &mut Steps,
-) -> bool
+) -> Change
     requires known { IsSome (find_key old.now (blocks (side at.old))) }
     requires ordered { IsOrderedFrom 0 (with_block old.now key node_state (blocks (side at.old))) }
     requires count_fits { count.old + height_of (side at.old) ≤ MAX }
@@ -51,18 +56,20 @@ pub(crate) fn rewrite_at(
     let Some(tree) = at else { unreachable!() };
     let tree: &mut InnerNode = tree;
     tree.enter(count);
-    let changed = match order(&tree.key, old) {
+    let change = match order(&tree.key, old) {
         Ordering::Equal => return tree.rewrite_here(key, node_state),
         Ordering::Greater => rewrite_at(&mut tree.left, old, key, node_state, count),
         Ordering::Less => rewrite_at(&mut tree.right, old, key, node_state, count),
     };
-    changed
-        && refresh_over(
-            &tree.left,
-            &tree.right,
-            &tree.key,
-            tree.node_state,
-            &mut tree.max_free,
-            &mut tree.alignments,
-        )
+    if let Change::Nothing = change {
+        return change;
+    }
+    renew_room(
+        &tree.left,
+        &tree.right,
+        &tree.key,
+        tree.node_state,
+        &mut tree.max_free,
+        &mut tree.alignments,
+    )
 }

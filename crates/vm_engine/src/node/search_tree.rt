@@ -10,7 +10,7 @@ ghost use Rattle.vm_engine.specs.Engine.NodeAnswer.{first_met, Inserts, TellsOve
 ghost use Rattle.vm_engine.specs.Counts.Ways.{way_down, way_to, way_across, way_to_remove};
 ghost use Rattle.vm_engine.specs.Engine.NodeFields.{side};
 
-use super::kept::{Change, refresh_over};
+use super::kept::{Change, renew_room};
 use super::link::link_at;
 use super::remove::delete_at;
 use super::{InnerNode, known};
@@ -165,7 +165,7 @@ impl InnerNode {
                 right.mark_as_allocated(key, count)
             }
         };
-        refresh_over(
+        renew_room(
             &self.left,
             &self.right,
             &self.key,

@@ -48,11 +48,11 @@ impl DeviceManager {
     ) -> Result<DeviceSlot> {
         let id = self.id_allocator.peek_id()?;
         let range = self.mmio_allocator.allocate(alloc, size, align, policy)?;
-        let Ok(_) = self.slots.insert(id, range) else {
-            // What is held is always given back.
+        if let Err(refused) = self.slots.insert(id, range) {
+            // A held range is always freed.
             let _ = self.mmio_allocator.free(&range);
-            return Err(Error::OutOfMemory);
-        };
+            return Err(refused.into());
+        }
         // The id that was foretold.
         let _ = self.id_allocator.allocate_id();
         Ok(DeviceSlot { id, range })

@@ -21,8 +21,8 @@ pub(crate) mod widen;
 
 use self::balance::fork;
 use self::kept::room_of;
-use rattle::Global;
-use vm_ranges::{Error, NodeState, RangeInclusive, Result};
+use rattle::{AllocError, Global};
+use vm_ranges::{NodeState, RangeInclusive};
 
 /// A node of the tree, with the tree below it: keys in order without an address in common, the
 /// heights of its children at most one apart, its own height kept, the length of the longest free block
@@ -56,7 +56,7 @@ impl InnerNode {
             left: None,
             right: None,
             height: 1,
-            max_free: own.longest,
+            max_free: own.max_free,
         }
     }
 
@@ -68,7 +68,7 @@ impl InnerNode {
         key: RangeInclusive,
         node_state: NodeState,
         right: Child,
-    ) -> Result<Box<InnerNode>> {
+    ) -> Result<Box<InnerNode>, AllocError> {
         let middle = Box::new(alloc, InnerNode::new(key, node_state))?;
         Ok(fork(left, middle, right))
     }

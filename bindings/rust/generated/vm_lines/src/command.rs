@@ -69,15 +69,20 @@ pub(crate) enum Command {
     Undevice {
         id: u32,
     },
+    /// The line is not in the language.
+    Malformed,
 }
 
-/// What a line asks for. `None` where it is not in the language.
+/// Parses a line.
 #[inline(always)]
-pub(crate) fn parse(line: &[u8]) -> Option<Command> {
+pub(crate) fn parse(line: &[u8]) -> Command {
     if line.len() > LONGEST_LINE {
-        return None;
+        return Command::Malformed;
     }
-    parse_words(line)
+    match parse_words(line) {
+        Some(command) => command,
+        None => Command::Malformed,
+    }
 }
 
 /// What the words of a line ask for, of a space, and else of ids or of devices: once the first word is

@@ -25,11 +25,8 @@ impl Machine {
         }
     }
 
-    /// Does what a line asks. `None` is a line that is not in the language.
-    pub(crate) fn answer(&mut self, alloc: Global, asked: Option<Command>) -> Reply {
-        let Some(command) = asked else {
-            return Reply::NotInLanguage;
-        };
+    /// Executes a command.
+    pub(crate) fn answer(&mut self, alloc: Global, command: Command) -> Reply {
         match command {
             Command::Space { base, size } => self.make_space(alloc, base, size),
             Command::First { size, alignment } => {
@@ -59,6 +56,7 @@ impl Machine {
             } => self.make_manager(alloc, id_lo, id_hi, base, size),
             Command::Device { size, alignment } => self.reserve(alloc, size, alignment),
             Command::Undevice { id } => self.release_device(id),
+            Command::Malformed => Reply::NotInLanguage,
         }
     }
 

@@ -30,14 +30,14 @@ impl Session {
 
     /// Ends the line that has begun, of which these are the last bytes, and writes the answer to it.
     pub(crate) fn end_line(&mut self, alloc: Global, last: &[u8], output: &mut Buffer) {
-        let asked = self.take_line(last);
-        let reply = self.machine.answer(alloc, asked);
+        let command = self.take_line(last);
+        let reply = self.machine.answer(alloc, command);
         write_reply(output, reply);
         output.push(b'\n');
     }
 
     /// Tells what the line asks of which these are the last bytes. After that no line has begun.
-    fn take_line(&mut self, last: &[u8]) -> Option<Command> {
+    fn take_line(&mut self, last: &[u8]) -> Command {
         if !self.has_begun() {
             return parse(last);
         }
@@ -47,9 +47,9 @@ impl Session {
 
     /// Tells what the line asks of which all bytes are kept. After that no line has begun.
     #[cold]
-    fn take_kept(&mut self) -> Option<Command> {
+    fn take_kept(&mut self) -> Command {
         let asked = if self.is_too_long {
-            None
+            Command::Malformed
         } else {
             parse(&self.line[..self.filled])
         };

@@ -9,7 +9,7 @@ pub(crate) mod numbers;
 pub(crate) mod range;
 pub(crate) mod state;
 
-use rattle::AllocError;
+use rattle::{AllocError, AllocFailed};
 use rattle::Error;
 
 /// Why a saved value is not read.
@@ -25,6 +25,12 @@ pub enum ValueError {
 
 impl From<AllocError> for ValueError {
     fn from(_error: AllocError) -> ValueError {
+        ValueError::OutOfMemory
+    }
+}
+
+impl<T> From<AllocFailed<T>> for ValueError {
+    fn from(_error: AllocFailed<T>) -> ValueError {
         ValueError::OutOfMemory
     }
 }

@@ -85,8 +85,6 @@ fn leaf_after(alloc: Global, choice: &Choice) -> Result<Child> {
 
 /// A leaf with a free block.
 fn free_leaf(alloc: Global, key: RangeInclusive) -> Result<Child> {
-    match Box::new(alloc, InnerNode::new(key, NodeState::Free)) {
-        Ok(leaf) => Ok(Some(leaf)),
-        Err(_) => Err(Error::OutOfMemory),
-    }
+    let leaf = Box::new(alloc, InnerNode::new(key, NodeState::Free))?;
+    Ok(Some(leaf))
 }

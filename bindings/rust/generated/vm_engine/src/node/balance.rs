@@ -51,12 +51,11 @@ pub(super) fn settle(
     if first.height > second.height + 1 || second.height > first.height + 1 {
         let own = room_of(key, node_state);
         *kept_height = 1;
-        *max_free = own.longest;
+        *max_free = own.max_free;
         *alignments = own.alignments;
         return Settled::Leans(left.take(), right.take());
     }
-    let own = room_of(key, node_state);
-    let change = renew_room(first.room, second.room, own, max_free, alignments);
+    let change = renew_room(left, right, key, node_state, max_free, alignments);
     let height = first.height.max(second.height) + 1;
     if height == *kept_height {
         return Settled::Stands(change);
@@ -72,7 +71,7 @@ impl InnerNode {
         let sides = (self.left.take(), self.right.take());
         let own = room_of(&self.key, self.node_state);
         self.height = 1;
-        self.max_free = own.longest;
+        self.max_free = own.max_free;
         self.alignments = own.alignments;
         sides
     }
@@ -85,7 +84,7 @@ pub(super) fn fork(left: Child, mut middle: Box<InnerNode>, right: Child) -> Box
     open.right = right;
     let kept = kept_over(&open.left, &open.right, &open.key, open.node_state);
     open.height = kept.height;
-    open.max_free = kept.room.longest;
+    open.max_free = kept.room.max_free;
     open.alignments = kept.room.alignments;
     middle
 }
@@ -97,7 +96,7 @@ fn rotate_right(mut left: Box<InnerNode>, middle: Box<InnerNode>, right: Child) 
     top.right = Some(fork(inner, middle, right));
     let kept = kept_over(&top.left, &top.right, &top.key, top.node_state);
     top.height = kept.height;
-    top.max_free = kept.room.longest;
+    top.max_free = kept.room.max_free;
     top.alignments = kept.room.alignments;
     left
 }
@@ -117,14 +116,14 @@ fn rotate_left_right(
     lower.right = top.left.take();
     let kept = kept_over(&lower.left, &lower.right, &lower.key, lower.node_state);
     lower.height = kept.height;
-    lower.max_free = kept.room.longest;
+    lower.max_free = kept.room.max_free;
     lower.alignments = kept.room.alignments;
     let after = top.right.take();
     top.left = Some(left);
     top.right = Some(fork(after, middle, right));
     let kept = kept_over(&top.left, &top.right, &top.key, top.node_state);
     top.height = kept.height;
-    top.max_free = kept.room.longest;
+    top.max_free = kept.room.max_free;
     top.alignments = kept.room.alignments;
     inner
 }
@@ -136,7 +135,7 @@ fn rotate_left(left: Child, middle: Box<InnerNode>, mut right: Box<InnerNode>) -
     top.left = Some(fork(left, middle, inner));
     let kept = kept_over(&top.left, &top.right, &top.key, top.node_state);
     top.height = kept.height;
-    top.max_free = kept.room.longest;
+    top.max_free = kept.room.max_free;
     top.alignments = kept.room.alignments;
     right
 }
@@ -156,14 +155,14 @@ fn rotate_right_left(
     lower.left = top.right.take();
     let kept = kept_over(&lower.left, &lower.right, &lower.key, lower.node_state);
     lower.height = kept.height;
-    lower.max_free = kept.room.longest;
+    lower.max_free = kept.room.max_free;
     lower.alignments = kept.room.alignments;
     let before = top.left.take();
     top.right = Some(right);
     top.left = Some(fork(left, middle, before));
     let kept = kept_over(&top.left, &top.right, &top.key, top.node_state);
     top.height = kept.height;
-    top.max_free = kept.room.longest;
+    top.max_free = kept.room.max_free;
     top.alignments = kept.room.alignments;
     inner
 }

@@ -9,7 +9,7 @@
 //! changed, which takes 3 % off.
 
 use super::balance::settle;
-use super::kept::{Change, renew_over};
+use super::kept::{Change, renew_room};
 use super::link::link_at;
 use super::{Child, InnerNode, known};
 use crate::Steps;
@@ -80,7 +80,7 @@ pub(crate) fn carve_at(at: &mut Child, cut: &mut Cut, count: &mut Steps) -> Chan
     };
     match change {
         Change::Nothing => Change::Nothing,
-        Change::RoomAlone => renew_over(
+        Change::RoomAlone => renew_room(
             &tree.left,
             &tree.right,
             &tree.key,

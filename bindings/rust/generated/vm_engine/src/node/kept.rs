@@ -18,7 +18,7 @@ use vm_ranges::{NodeState, RangeInclusive};
 #[derive(Clone, Copy, Debug)]
 pub(super) struct Room {
     /// The length of the longest free block, 0 where there is none.
-    pub(super) longest: u64,
+    pub(super) max_free: u64,
     /// How many of the 64 alignments have a multiple in a free block.
     pub(super) alignments: u8,
 }
@@ -49,11 +49,11 @@ pub(super) struct Kept {
 pub(super) fn room_of(key: &RangeInclusive, node_state: NodeState) -> Room {
     match node_state {
         NodeState::Free => Room {
-            longest: key.len(),
+            max_free: key.len(),
             alignments: alignment_count(key),
         },
         NodeState::Allocated => Room {
-            longest: 0,
+            max_free: 0,
             alignments: 0,
         },
     }
@@ -77,14 +77,14 @@ pub(super) fn kept_of(child: &Child) -> Kept {
         None => Kept {
             height: 0,
             room: Room {
-                longest: 0,
+                max_free: 0,
                 alignments: 0,
             },
         },
         Some(node) => Kept {
             height: node.height,
             room: Room {
-                longest: node.max_free,
+                max_free: node.max_free,
                 alignments: node.alignments,
             },
         },
@@ -105,7 +105,11 @@ pub(super) fn kept_over(
     Kept {
         height: first.height.max(second.height) + 1,
         room: Room {
-            longest: first.room.longest.max(second.room.longest).max(own.longest),
+            max_free: first
+                .room
+                .max_free
+                .max(second.room.max_free)
+                .max(own.max_free),
             alignments: first
                 .room
                 .alignments
@@ -115,87 +119,33 @@ pub(super) fn kept_over(
     }
 }
 
-/// Brings up to date what a node keeps of its tree's room; says whether a part of it changed.
-#[inline(always)]
-pub(super) fn refresh_room(
-    left: Room,
-    right: Room,
-    own: Room,
-    kept_longest: &mut u64,
-    kept_alignments: &mut u8,
-) -> bool {
-    let longest = left.longest.max(right.longest).max(own.longest);
-    let reached = left.alignments.max(right.alignments).max(own.alignments);
-    if longest == *kept_longest && reached == *kept_alignments {
-        return false;
-    }
-    *kept_longest = longest;
-    *kept_alignments = reached;
-    true
-}
-
-/// Brings up to date what a node keeps of its tree's room over these children, with its own block; says
-/// whether a part of it changed.
-#[inline(always)]
-pub(super) fn refresh_over(
-    left: &Child,
-    right: &Child,
-    key: &RangeInclusive,
-    node_state: NodeState,
-    kept_longest: &mut u64,
-    kept_alignments: &mut u8,
-) -> bool {
-    let own = room_of(key, node_state);
-    refresh_room(
-        kept_of(left).room,
-        kept_of(right).room,
-        own,
-        kept_longest,
-        kept_alignments,
-    )
-}
-
-/// Brings up to date what a node keeps of its tree's room; says what changed of it.
+/// Brings up to date what a node over these children keeps of its tree's room, and returns what changed.
 #[inline(always)]
 pub(super) fn renew_room(
-    left: Room,
-    right: Room,
-    own: Room,
-    kept_longest: &mut u64,
-    kept_alignments: &mut u8,
-) -> Change {
-    if refresh_room(left, right, own, kept_longest, kept_alignments) {
-        Change::RoomAlone
-    } else {
-        Change::Nothing
-    }
-}
-
-/// Brings up to date what a node over these children keeps of its tree's room; says what changed of
-/// it.
-#[inline(always)]
-pub(super) fn renew_over(
     left: &Child,
     right: &Child,
     key: &RangeInclusive,
     node_state: NodeState,
-    kept_longest: &mut u64,
+    kept_max_free: &mut u64,
     kept_alignments: &mut u8,
 ) -> Change {
-    renew_room(
-        kept_of(left).room,
-        kept_of(right).room,
-        room_of(key, node_state),
-        kept_longest,
-        kept_alignments,
-    )
+    let (first, second) = (kept_of(left).room, kept_of(right).room);
+    let own = room_of(key, node_state);
+    let max_free = first.max_free.max(second.max_free).max(own.max_free);
+    let alignments = first.alignments.max(second.alignments).max(own.alignments);
+    if max_free == *kept_max_free && alignments == *kept_alignments {
+        return Change::Nothing;
+    }
+    *kept_max_free = max_free;
+    *kept_alignments = alignments;
+    Change::RoomAlone
 }
 
 /// Raises what a node keeps of its tree's room to that of a block which becomes free below.
 #[inline(always)]
 pub(super) fn raise_room(max_free: &mut u64, alignments: &mut u8, freed: &Room) {
-    if *max_free < freed.longest {
-        *max_free = freed.longest;
+    if *max_free < freed.max_free {
+        *max_free = freed.max_free;
     }
     if *alignments < freed.alignments {
         *alignments = freed.alignments;

@@ -4,7 +4,7 @@
 //! allocator makes none of them, and the tests that every search tree has to pass make them all.
 
 use rattle::Box;
-use super::kept::{Change, refresh_over};
+use super::kept::{Change, renew_room};
 use super::link::link_at;
 use super::remove::delete_at;
 use super::{InnerNode, known};
@@ -40,10 +40,10 @@ impl InnerNode {
         if let Some(met) = tree.first_met(&key, count) {
             return Err((Error::Overlap(key, met), tree));
         }
-        let Ok(leaf) = Box::new(alloc, InnerNode::new(key, node_state)) else {
-            return Err((Error::OutOfMemory, tree));
-        };
-        Ok(InnerNode::link(tree, leaf, count))
+        match Box::new(alloc, InnerNode::new(key, node_state)) {
+            Ok(leaf) => Ok(InnerNode::link(tree, leaf, count)),
+            Err(refused) => Err((Error::from(refused), tree)),
+        }
     }
 
     /// The tree without this key, and the same tree where it has none. None where the key was the
@@ -116,7 +116,7 @@ impl InnerNode {
                 right.mark_as_allocated(key, count)
             }
         };
-        refresh_over(
+        renew_room(
             &self.left,
             &self.right,
             &self.key,

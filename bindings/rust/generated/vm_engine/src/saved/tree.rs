@@ -9,7 +9,7 @@ use crate::node::{Child, InnerNode, MAX_HEIGHT};
 use crate::saved::check::has_tree_of;
 use crate::saved::node::node_of;
 use rattle::Value;
-use rattle::Global;
+use rattle::{AllocError, Global};
 use vm_ranges::{RangeInclusive, Result, ValueError};
 
 impl IntervalTree {
@@ -30,16 +30,14 @@ impl IntervalTree {
         if !has_tree_of(space, value) {
             return Err(ValueError::NotAState);
         }
-        let Ok(root) = build(value, MAX_HEIGHT, alloc) else {
-            return Err(ValueError::OutOfMemory);
-        };
+        let root = build(value, MAX_HEIGHT, alloc)?;
         Ok(IntervalTree { root })
     }
 }
 
 /// The tree that a checked value has, node for node. `OutOfMemory` where there is no memory for one of
 /// them; those that were made are given back then.
-fn build(value: &Value, depth: u64, alloc: Global) -> Result<Child> {
+fn build(value: &Value, depth: u64, alloc: Global) -> core::result::Result<Child, AllocError> {
     let Some(node) = node_of(value) else {
         return Ok(None);
     };

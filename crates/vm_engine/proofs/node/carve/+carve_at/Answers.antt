@@ -11,7 +11,7 @@ use Rattle.vm_engine.specs.declared.node.kept.Change.TheVariants.{Nothing}
 use Rattle.vm_engine.specs.Engine.NodeFields.{side, shape_of, IsNode}
 use Rattle.vm_engine.proofs.Nodes.Rewriting.{known_left, known_right, rewritten_left, rewritten_right}
 use Rattle.vm_engine.proofs.node.carve.+carve_at.Goals as goal
-use Rattle.vm_engine.proofs.node.carve.+carve_at.Goals.{in-Greater, in-Less, In-Nothing, After-renew_over, After-settle-settled}
+use Rattle.vm_engine.proofs.node.carve.+carve_at.Goals.{in-Greater, in-Less, In-Nothing, After-renew_room, After-settle-settled}
 
 pub carve_at-change-requires : goal.carve_at-change-requires
 carve_at-change-requires t c =
@@ -50,26 +50,26 @@ pub invariant_of-tree : goal.invariant_of-tree
 invariant_of-tree t c = (kept_over_side t (goal.at.invariant_of-tree t c).In-Nothing).0
 
 -- where the room alone of a side changed: the node over it, brought up to date
-renewed_over_side : (t : ℕ) (c : After-renew_over t)
-    → let n = record c.match-order.tree-inside { max_free = c.renew_over.new.kept_max_free; alignments = c.renew_over.new.kept_alignments } in
-    IsNode n × Grows (shape_of c.tree.inside) (shape_of n) c.renew_over.result
+renewed_over_side : (t : ℕ) (c : After-renew_room t)
+    → let n = record c.match-order.tree-inside { max_free = c.renew_room.new.kept_max_free; alignments = c.renew_room.new.kept_alignments } in
+    IsNode n × Grows (shape_of c.tree.inside) (shape_of n) c.renew_room.result
 renewed_over_side t c =
     let e : side c.args.at.now ≡ shape_of c.tree.inside = cc in
-    let max_free = c.renew_over.new.kept_max_free in
-    let count = c.renew_over.new.kept_alignments in
+    let max_free = c.renew_room.new.kept_max_free in
+    let count = c.renew_room.new.kept_alignments in
     elim c.match-order.branch [
       | in-Greater w ↦
           let l = w.carve_at-change in
           let grew = rw (sym w.change-is ∙ c.in-RoomAlone.is) at l.ensures.grows in
-          rw w.tree-inside-is (renewed_left c.tree.inside l.new.at c.renew_over.result max_free count c.tree.invariant (ordered_carved_left _ (side l.new.at) _ _ _ _ w.in-Greater.ensures c.tree.invariant.tree (rw e at c.requires.carving.ordered) l.ensures.blocks) grew (rw w.tree-inside-is at c.renew_over.ensures.max_free) (rw w.tree-inside-is at c.renew_over.ensures.alignments) (rw w.tree-inside-is at c.renew_over.ensures.same_max_free) (rw w.tree-inside-is at c.renew_over.ensures.same_alignments))
+          rw w.tree-inside-is (renewed_left c.tree.inside l.new.at c.renew_room.result max_free count c.tree.invariant (ordered_carved_left _ (side l.new.at) _ _ _ _ w.in-Greater.ensures c.tree.invariant.tree (rw e at c.requires.carving.ordered) l.ensures.blocks) grew (rw w.tree-inside-is at c.renew_room.ensures.max_free) (rw w.tree-inside-is at c.renew_room.ensures.alignments) (rw w.tree-inside-is at c.renew_room.ensures.same_max_free) (rw w.tree-inside-is at c.renew_room.ensures.same_alignments))
       | in-Less w ↦
           let r = w.carve_at-change-in-Less in
           let grew = rw (sym w.change-is ∙ c.in-RoomAlone.is) at r.ensures.grows in
-          rw w.tree-inside-is (renewed_right c.tree.inside r.new.at c.renew_over.result max_free count c.tree.invariant (ordered_carved_right _ (side r.new.at) _ _ _ _ w.in-Less.ensures c.tree.invariant.tree (rw e at c.requires.carving.ordered) r.ensures.blocks) grew (rw w.tree-inside-is at c.renew_over.ensures.max_free) (rw w.tree-inside-is at c.renew_over.ensures.alignments) (rw w.tree-inside-is at c.renew_over.ensures.same_max_free) (rw w.tree-inside-is at c.renew_over.ensures.same_alignments))
+          rw w.tree-inside-is (renewed_right c.tree.inside r.new.at c.renew_room.result max_free count c.tree.invariant (ordered_carved_right _ (side r.new.at) _ _ _ _ w.in-Less.ensures c.tree.invariant.tree (rw e at c.requires.carving.ordered) r.ensures.blocks) grew (rw w.tree-inside-is at c.renew_room.ensures.max_free) (rw w.tree-inside-is at c.renew_room.ensures.alignments) (rw w.tree-inside-is at c.renew_room.ensures.same_max_free) (rw w.tree-inside-is at c.renew_room.ensures.same_alignments))
     ]
 
 pub invariant_of-tree-in-RoomAlone : goal.invariant_of-tree-in-RoomAlone
-invariant_of-tree-in-RoomAlone t c = (renewed_over_side t (goal.at.invariant_of-tree-in-RoomAlone t c).After-renew_over).0
+invariant_of-tree-in-RoomAlone t c = (renewed_over_side t (goal.at.invariant_of-tree-in-RoomAlone t c).After-renew_room).0
 
 -- where anything of a side changed: the blocks over it
 ordered_over_side : (t : ℕ) (c : After-settle-settled t)
@@ -107,7 +107,7 @@ returns-in-RoomAlone-clause-blocks t c = grind (arith, common_steps, replace_in_
 pub returns-in-RoomAlone-clause-grows : goal.returns-in-RoomAlone-clause-grows
 returns-in-RoomAlone-clause-grows t c =
     let e : side c.args.at.now ≡ shape_of c.tree.inside = cc in
-    rw e (renewed_over_side t (goal.at.returns-in-RoomAlone-clause-grows t c).After-renew_over).1
+    rw e (renewed_over_side t (goal.at.returns-in-RoomAlone-clause-grows t c).After-renew_room).1
 
 pub returns-in-RoomAlone-clause-count : goal.returns-in-RoomAlone-clause-count
 returns-in-RoomAlone-clause-count t c = grind (arith, common_steps, ways_to_carve)

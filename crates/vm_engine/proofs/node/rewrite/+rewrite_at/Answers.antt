@@ -7,10 +7,10 @@ use Rattle.vm_engine.specs.Engine.Changes.{KeepsShape}
 use Rattle.vm_engine.specs.Engine.NodeFields.{side, shape_of}
 use Rattle.vm_engine.proofs.Nodes.Rewriting.{known_left, known_right, node_rewritten_left, node_rewritten_right, rewritten_left, rewritten_right}
 use Rattle.vm_engine.proofs.node.rewrite.+rewrite_at.Goals as goal
-use Rattle.vm_engine.proofs.node.rewrite.+rewrite_at.Goals.{in-Greater, in-Less, Then-changed, Else-changed}
+use Rattle.vm_engine.proofs.node.rewrite.+rewrite_at.Goals.{in-Greater, in-Less, In_default-change, In-Nothing}
 
-pub rewrite_at-changed-requires : goal.rewrite_at-changed-requires
-rewrite_at-changed-requires t c =
+pub rewrite_at-change-requires : goal.rewrite_at-change-requires
+rewrite_at-change-requires t c =
     let i = c.tree.inside in
     let y : Block = record { key = c.args.key; state = c.args.node_state } in
     let e : side c.args.at.now ≡ shape_of i = cc in
@@ -19,8 +19,8 @@ rewrite_at-changed-requires t c =
     let ordered = rewritten_left (side c.args.at.now) (side i.left) _ (side i.right) c.args.old.now (y ∷ []) e c.in-Greater.ensures tree c.requires.ordered in
     (search rules, (known, (ordered, grind arith)))
 
-pub rewrite_at-changed-requires-in-Less : goal.rewrite_at-changed-requires-in-Less
-rewrite_at-changed-requires-in-Less t c =
+pub rewrite_at-change-requires-in-Less : goal.rewrite_at-change-requires-in-Less
+rewrite_at-change-requires-in-Less t c =
     let i = c.tree.inside in
     let y : Block = record { key = c.args.key; state = c.args.node_state } in
     let e : side c.args.at.now ≡ shape_of i = cc in
@@ -30,51 +30,51 @@ rewrite_at-changed-requires-in-Less t c =
     (search rules, (known, (ordered, grind arith)))
 
 -- what the rewritten side makes of the node, where what it keeps changed
-rewritten_changed : (t : ℕ) (c : Then-changed t) → (blocks (shape_of c.match-order.tree-inside) ≡ with_block c.args.old.now c.args.key c.args.node_state (blocks (side c.args.at.now))) × KeepsShape (side c.args.at.now) (shape_of c.match-order.tree-inside) c.match-order.changed
+rewritten_changed : (t : ℕ) (c : In_default-change t) → (blocks (shape_of c.match-order.tree-inside) ≡ with_block c.args.old.now c.args.key c.args.node_state (blocks (side c.args.at.now))) × KeepsShape (side c.args.at.now) (shape_of c.match-order.tree-inside) c.match-order.change
 rewritten_changed t c =
     let i = c.tree.inside in
     let e : side c.args.at.now ≡ shape_of i = cc in
     let tree : IsTree (side c.args.at.now) = rw e c.tree.invariant.tree in
     elim c.match-order.branch [
       | in-Greater w ↦
-          rw (w.tree-inside-is, w.changed-is) (node_rewritten_left _ (side i.left) _ _ (side i.right) _ _ _ e w.in-Greater.ensures tree c.requires.ordered w.rewrite_at-changed.ensures.blocks w.rewrite_at-changed.ensures.keeps)
+          rw (w.tree-inside-is, w.change-is) (node_rewritten_left _ (side i.left) _ _ (side i.right) _ _ _ e w.in-Greater.ensures tree c.requires.ordered w.rewrite_at-change.ensures.blocks w.rewrite_at-change.ensures.keeps)
       | in-Less w ↦
-          rw (w.tree-inside-is, w.changed-is) (node_rewritten_right _ (side i.left) _ _ (side i.right) _ _ _ e w.in-Less.ensures tree c.requires.ordered w.rewrite_at-changed-in-Less.ensures.blocks w.rewrite_at-changed-in-Less.ensures.keeps)
+          rw (w.tree-inside-is, w.change-is) (node_rewritten_right _ (side i.left) _ _ (side i.right) _ _ _ e w.in-Less.ensures tree c.requires.ordered w.rewrite_at-change-in-Less.ensures.blocks w.rewrite_at-change-in-Less.ensures.keeps)
     ]
 
 -- what the rewritten side makes of the node, where what it keeps is the same
-rewritten_unchanged : (t : ℕ) (c : Else-changed t) → (blocks (shape_of c.match-order.tree-inside) ≡ with_block c.args.old.now c.args.key c.args.node_state (blocks (side c.args.at.now))) × KeepsShape (side c.args.at.now) (shape_of c.match-order.tree-inside) c.match-order.changed
+rewritten_unchanged : (t : ℕ) (c : In-Nothing t) → (blocks (shape_of c.match-order.tree-inside) ≡ with_block c.args.old.now c.args.key c.args.node_state (blocks (side c.args.at.now))) × KeepsShape (side c.args.at.now) (shape_of c.match-order.tree-inside) c.match-order.change
 rewritten_unchanged t c =
     let i = c.tree.inside in
     let e : side c.args.at.now ≡ shape_of i = cc in
     let tree : IsTree (side c.args.at.now) = rw e c.tree.invariant.tree in
     elim c.match-order.branch [
       | in-Greater w ↦
-          rw (w.tree-inside-is, w.changed-is) (node_rewritten_left _ (side i.left) _ _ (side i.right) _ _ _ e w.in-Greater.ensures tree c.requires.ordered w.rewrite_at-changed.ensures.blocks w.rewrite_at-changed.ensures.keeps)
+          rw (w.tree-inside-is, w.change-is) (node_rewritten_left _ (side i.left) _ _ (side i.right) _ _ _ e w.in-Greater.ensures tree c.requires.ordered w.rewrite_at-change.ensures.blocks w.rewrite_at-change.ensures.keeps)
       | in-Less w ↦
-          rw (w.tree-inside-is, w.changed-is) (node_rewritten_right _ (side i.left) _ _ (side i.right) _ _ _ e w.in-Less.ensures tree c.requires.ordered w.rewrite_at-changed-in-Less.ensures.blocks w.rewrite_at-changed-in-Less.ensures.keeps)
+          rw (w.tree-inside-is, w.change-is) (node_rewritten_right _ (side i.left) _ _ (side i.right) _ _ _ e w.in-Less.ensures tree c.requires.ordered w.rewrite_at-change-in-Less.ensures.blocks w.rewrite_at-change-in-Less.ensures.keeps)
     ]
 
 pub invariant_of-tree : goal.invariant_of-tree
 invariant_of-tree t c =
-    let keeps = (rewritten_changed t (goal.at.invariant_of-tree t c).Then-changed).1 in grind (arith, common_steps)
+    let keeps = (rewritten_unchanged t (goal.at.invariant_of-tree t c).In-Nothing).1 in grind (arith, common_steps)
 
-pub invariant_of-tree-else-changed : goal.invariant_of-tree-else-changed
-invariant_of-tree-else-changed t c =
-    let keeps = (rewritten_unchanged t (goal.at.invariant_of-tree-else-changed t c).Else-changed).1 in grind (arith, common_steps)
+pub invariant_of-tree-2 : goal.invariant_of-tree-2
+invariant_of-tree-2 t c =
+    let keeps = (rewritten_changed t (goal.at.invariant_of-tree-2 t c).In_default-change).1 in grind (arith, common_steps)
 
-pub returns-then-changed-clause-blocks : goal.returns-then-changed-clause-blocks
-returns-then-changed-clause-blocks t c =
-    (rewritten_changed t (goal.at.returns-then-changed-clause-blocks t c).Then-changed).0
+pub returns-in-Nothing-clause-blocks : goal.returns-in-Nothing-clause-blocks
+returns-in-Nothing-clause-blocks t c =
+    (rewritten_unchanged t (goal.at.returns-in-Nothing-clause-blocks t c).In-Nothing).0
 
-pub returns-then-changed-clause-keeps : goal.returns-then-changed-clause-keeps
-returns-then-changed-clause-keeps t c =
-    let keeps = (rewritten_changed t (goal.at.returns-then-changed-clause-keeps t c).Then-changed).1 in grind (arith, common_steps)
+pub returns-in-Nothing-clause-keeps : goal.returns-in-Nothing-clause-keeps
+returns-in-Nothing-clause-keeps t c =
+    let keeps = (rewritten_unchanged t (goal.at.returns-in-Nothing-clause-keeps t c).In-Nothing).1 in grind (arith, common_steps)
 
-pub returns-else-changed-clause-blocks : goal.returns-else-changed-clause-blocks
-returns-else-changed-clause-blocks t c =
-    (rewritten_unchanged t (goal.at.returns-else-changed-clause-blocks t c).Else-changed).0
+pub returns-clause-blocks : goal.returns-clause-blocks
+returns-clause-blocks t c =
+    (rewritten_changed t (goal.at.returns-clause-blocks t c).In_default-change).0
 
-pub returns-else-changed-clause-keeps : goal.returns-else-changed-clause-keeps
-returns-else-changed-clause-keeps t c =
-    let keeps = (rewritten_unchanged t (goal.at.returns-else-changed-clause-keeps t c).Else-changed).1 in grind (arith, common_steps)
+pub returns-clause-keeps : goal.returns-clause-keeps
+returns-clause-keeps t c =
+    let keeps = (rewritten_changed t (goal.at.returns-clause-keeps t c).In_default-change).1 in grind (arith, common_steps)

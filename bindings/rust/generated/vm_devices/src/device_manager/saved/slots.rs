@@ -15,9 +15,7 @@ pub(super) fn save_slots(alloc: Global, slots: &BTreeMap<u32, RangeInclusive>) -
     let mut list = Vec::new(alloc);
     for (id, range) in slots.iter() {
         let slot = save_slot(alloc, *id, range)?;
-        let Ok(()) = list.push(slot) else {
-            return Err(Error::OutOfMemory);
-        };
+        list.push(slot)?;
     }
     Ok(Value::from(list))
 }
@@ -47,9 +45,7 @@ pub(super) fn read_slots(
         if u64::from(slot.id) < least {
             return Err(ValueError::NotAState);
         }
-        let Ok(_) = slots.insert(slot.id, slot.range) else {
-            return Err(ValueError::OutOfMemory);
-        };
+        slots.insert(slot.id, slot.range)?;
         least = u64::from(slot.id) + 1;
     }
     Ok(slots)
