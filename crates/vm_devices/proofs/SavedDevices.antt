@@ -45,18 +45,6 @@ states-device d e s =
     let range = in_field (codes "mmio_range") d (λ v. StatesRange v e.1) s.mmio_range in
     rw (true-count 2 (field_count d) s.two_fields, s.id, some-u32 e.0 s.word, range.1, states-found range.0 e.1 range.2) refl
 
--- what reading a range answers, as what is found
-pub range_read : (d : Data) (r : Range) → StatesRange d r → range_found d ≡ Some r
-range_read d r s = states-found d r s
-
-pub range_refused : (d : Data) → ¬ ((r : Range) × StatesRange d r) → range_found d ≡ None
-range_refused d n = none (range_found d) refl where
-  none : (o : Option Range) → range_found d ≡ o → range_found d ≡ None
-  none None e = e
-  none (Some r) e = absurd (n (r, found-states d r e))
-
-pub ruleset ranges = (range_read, range_refused)
-
 -- ---- the list
 pub rising-states : (least : ℕ) (ds : Items) (es : List (ℕ × Range)) → rising_devices least ds ≡ Some es → StatesItems StatesDevice ds es
 rising-states least no_items [] h = tt

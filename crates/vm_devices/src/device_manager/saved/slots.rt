@@ -5,7 +5,6 @@ ghost use Rattle.std.specs.Map.{keys_of};
 ghost use Rattle.std.specs.Ordering.{nat_cmp};
 ghost use Rattle.serde_json.specs.View.{view, items_view};
 ghost use Rattle.vm_ranges.specs.Saving.{Saves};
-ghost use Rattle.vm_ranges.specs.RangeValues.{range_found};
 ghost use Rattle.vm_devices.specs.Saved.{StatesDevice, StatesList};
 ghost use Rattle.vm_devices.specs.SavedChecks.{device_found, FindsDevices, DeviceParts};
 
@@ -13,8 +12,8 @@ use crate::device_slot::DeviceSlot;
 use serde_json::{Value, json};
 use std::alloc::{AllocError, Global};
 use std::collections::BTreeMap;
-use vm_allocator::{Error, RangeInclusive, Result, ValueError};
-use vm_ranges::{has_fields, u32_in};
+use vm_allocator::{RangeInclusive, Result, ValueError};
+use vm_ranges::{has_fields, range_in, u32_in};
 
 /// The list of devices, by rising ids.
 pub(super) fn save_slots(alloc: Global, slots: &BTreeMap<u32, RangeInclusive>) -> Result<Value>
@@ -55,7 +54,7 @@ pub(super) fn read_slots(
     let mut slots = BTreeMap::new(alloc);
     let mut least = 0u64;
     for item in list {
-        let Some(slot) = slot_of(alloc, item) else {
+        let Some(slot) = slot_of(item) else {
             return Err(ValueError::NotAState);
         };
         if u64::from(slot.id) < least {
@@ -68,21 +67,13 @@ pub(super) fn read_slots(
 }
 
 /// The device that a value states.
-fn slot_of(alloc: Global, value: &Value) -> Option<DeviceSlot>
+fn slot_of(value: &Value) -> Option<DeviceSlot>
     ensures { option_map (λ slot. (slot.id, slot.range)) result ≡ device_found (view value.now) }
 {
     if !has_fields(value, 2) {
         return None;
     }
     let id = u32_in(value, "id")?;
-    let range = range_of(alloc, value.get("mmio_range")?)?;
+    let range = range_in(value, "mmio_range")?;
     Some(DeviceSlot { id, range })
-}
-
-/// The range that a value states.
-#[tactic(auto, using(crate::proofs::SavedDevices::ranges))]
-fn range_of(alloc: Global, value: &Value) -> Option<RangeInclusive>
-    ensures { result ≡ range_found (view value.now) }
-{
-    RangeInclusive::from_value(alloc, value).ok()
 }

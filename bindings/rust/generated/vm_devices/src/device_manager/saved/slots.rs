@@ -7,8 +7,8 @@ use crate::device_slot::DeviceSlot;
 use rattle::{Value, json};
 use rattle::{AllocError, Global};
 use rattle::BTreeMap;
-use vm_allocator::{Error, RangeInclusive, Result, ValueError};
-use vm_ranges::{has_fields, u32_in};
+use vm_allocator::{RangeInclusive, Result, ValueError};
+use vm_ranges::{has_fields, range_in, u32_in};
 
 /// The list of devices, by rising ids.
 pub(super) fn save_slots(alloc: Global, slots: &BTreeMap<u32, RangeInclusive>) -> Result<Value> {
@@ -39,7 +39,7 @@ pub(super) fn read_slots(
     let mut slots = BTreeMap::new(alloc);
     let mut least = 0u64;
     for item in list {
-        let Some(slot) = slot_of(alloc, item) else {
+        let Some(slot) = slot_of(item) else {
             return Err(ValueError::NotAState);
         };
         if u64::from(slot.id) < least {
@@ -52,16 +52,11 @@ pub(super) fn read_slots(
 }
 
 /// The device that a value states.
-fn slot_of(alloc: Global, value: &Value) -> Option<DeviceSlot> {
+fn slot_of(value: &Value) -> Option<DeviceSlot> {
     if !has_fields(value, 2) {
         return None;
     }
     let id = u32_in(value, "id")?;
-    let range = range_of(alloc, value.get("mmio_range")?)?;
+    let range = range_in(value, "mmio_range")?;
     Some(DeviceSlot { id, range })
-}
-
-/// The range that a value states.
-fn range_of(alloc: Global, value: &Value) -> Option<RangeInclusive> {
-    RangeInclusive::from_value(alloc, value).ok()
 }
