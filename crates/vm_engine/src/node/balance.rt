@@ -83,7 +83,8 @@ pub(super) fn settle(
         *alignments = own.alignments;
         return Settled::Leans(left.take(), right.take());
     }
-    let change = renew_room(left, right, key, node_state, max_free, alignments);
+    let own = room_of(key, node_state);
+    let change = renew_room(first.room, second.room, own, max_free, alignments);
     let height = first.height.max(second.height) + 1;
     if height == *kept_height {
         return Settled::Stands(change);

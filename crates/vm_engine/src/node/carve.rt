@@ -15,7 +15,7 @@ ghost use Rattle.vm_engine.specs.Counts.Ways.{way_to_link, way_here, way_to_carv
 ghost use Rattle.vm_engine.specs.Engine.NodeFields.{side};
 
 use super::balance::settle;
-use super::kept::{Change, renew_room};
+use super::kept::{Change, kept_of, renew_room, room_of};
 use super::link::link_at;
 use super::{Child, InnerNode, known};
 use crate::Steps;
@@ -121,10 +121,9 @@ pub(crate) fn carve_at(at: &mut Child, cut: &mut Cut, count: &mut Steps) -> Chan
     match change {
         Change::Nothing => Change::Nothing,
         Change::RoomAlone => renew_room(
-            &tree.left,
-            &tree.right,
-            &tree.key,
-            tree.node_state,
+            kept_of(&tree.left).room,
+            kept_of(&tree.right).room,
+            room_of(&tree.key, tree.node_state),
             &mut tree.max_free,
             &mut tree.alignments,
         ),

@@ -7,7 +7,7 @@ ghost use Rattle.vm_engine.specs.Engine.Changes.{KeepsShape};
 ghost use Rattle.vm_engine.specs.Counts.Ways.{way_to};
 ghost use Rattle.vm_engine.specs.Engine.NodeFields.{side};
 
-use super::kept::{Change, renew_room};
+use super::kept::{Change, kept_of, renew_room, room_of};
 use super::{Child, InnerNode};
 use crate::Steps;
 use crate::ends::order;
@@ -26,10 +26,9 @@ impl InnerNode {
         self.key = key;
         self.node_state = node_state;
         renew_room(
-            &self.left,
-            &self.right,
-            &self.key,
-            self.node_state,
+            kept_of(&self.left).room,
+            kept_of(&self.right).room,
+            room_of(&self.key, self.node_state),
             &mut self.max_free,
             &mut self.alignments,
         )
@@ -65,10 +64,9 @@ pub(crate) fn rewrite_at(
         return change;
     }
     renew_room(
-        &tree.left,
-        &tree.right,
-        &tree.key,
-        tree.node_state,
+        kept_of(&tree.left).room,
+        kept_of(&tree.right).room,
+        room_of(&tree.key, tree.node_state),
         &mut tree.max_free,
         &mut tree.alignments,
     )

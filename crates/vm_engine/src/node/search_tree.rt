@@ -10,7 +10,7 @@ ghost use Rattle.vm_engine.specs.Engine.NodeAnswer.{first_met, Inserts, TellsOve
 ghost use Rattle.vm_engine.specs.Counts.Ways.{way_down, way_to, way_across, way_to_remove};
 ghost use Rattle.vm_engine.specs.Engine.NodeFields.{side};
 
-use super::kept::{Change, renew_room};
+use super::kept::{Change, kept_of, renew_room, room_of};
 use super::link::link_at;
 use super::remove::delete_at;
 use super::{InnerNode, known};
@@ -166,10 +166,9 @@ impl InnerNode {
             }
         };
         renew_room(
-            &self.left,
-            &self.right,
-            &self.key,
-            self.node_state,
+            kept_of(&self.left).room,
+            kept_of(&self.right).room,
+            room_of(&self.key, self.node_state),
             &mut self.max_free,
             &mut self.alignments,
         );

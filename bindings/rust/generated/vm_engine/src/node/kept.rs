@@ -119,20 +119,18 @@ pub(super) fn kept_over(
     }
 }
 
-/// Brings up to date what a node over these children keeps of its tree's room, and returns what changed.
+/// Brings up to date what a node keeps of its tree's room, from that of its sides and of its own block.
+/// Returns what changed.
 #[inline(always)]
 pub(super) fn renew_room(
-    left: &Child,
-    right: &Child,
-    key: &RangeInclusive,
-    node_state: NodeState,
+    left: Room,
+    right: Room,
+    own: Room,
     kept_max_free: &mut u64,
     kept_alignments: &mut u8,
 ) -> Change {
-    let (first, second) = (kept_of(left).room, kept_of(right).room);
-    let own = room_of(key, node_state);
-    let max_free = first.max_free.max(second.max_free).max(own.max_free);
-    let alignments = first.alignments.max(second.alignments).max(own.alignments);
+    let max_free = left.max_free.max(right.max_free).max(own.max_free);
+    let alignments = left.alignments.max(right.alignments).max(own.alignments);
     if max_free == *kept_max_free && alignments == *kept_alignments {
         return Change::Nothing;
     }

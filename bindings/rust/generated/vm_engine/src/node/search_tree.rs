@@ -4,7 +4,7 @@
 //! allocator makes none of them, and the tests that every search tree has to pass make them all.
 
 use rattle::Box;
-use super::kept::{Change, renew_room};
+use super::kept::{Change, kept_of, renew_room, room_of};
 use super::link::link_at;
 use super::remove::delete_at;
 use super::{InnerNode, known};
@@ -117,10 +117,9 @@ impl InnerNode {
             }
         };
         renew_room(
-            &self.left,
-            &self.right,
-            &self.key,
-            self.node_state,
+            kept_of(&self.left).room,
+            kept_of(&self.right).room,
+            room_of(&self.key, self.node_state),
             &mut self.max_free,
             &mut self.alignments,
         );

@@ -57,15 +57,17 @@ renewed_over_side t c =
     let e : side c.args.at.now ≡ shape_of c.tree.inside = cc in
     let max_free = c.renew_room.new.kept_max_free in
     let count = c.renew_room.new.kept_alignments in
+    let longest = rw (c.kept_of.ensures.value.1, c.kept_of-in-RoomAlone.ensures.value.1, c.room_of.ensures.max_free) at c.renew_room.ensures.max_free in
+    let reached = rw (c.kept_of.ensures.value.2, c.kept_of-in-RoomAlone.ensures.value.2, c.room_of.ensures.alignments) at c.renew_room.ensures.alignments in
     elim c.match-order.branch [
       | in-Greater w ↦
           let l = w.carve_at-change in
           let grew = rw (sym w.change-is ∙ c.in-RoomAlone.is) at l.ensures.grows in
-          rw w.tree-inside-is (renewed_left c.tree.inside l.new.at c.renew_room.result max_free count c.tree.invariant (ordered_carved_left _ (side l.new.at) _ _ _ _ w.in-Greater.ensures c.tree.invariant.tree (rw e at c.requires.carving.ordered) l.ensures.blocks) grew (rw w.tree-inside-is at c.renew_room.ensures.max_free) (rw w.tree-inside-is at c.renew_room.ensures.alignments) (rw w.tree-inside-is at c.renew_room.ensures.same_max_free) (rw w.tree-inside-is at c.renew_room.ensures.same_alignments))
+          rw w.tree-inside-is (renewed_left c.tree.inside l.new.at c.renew_room.result max_free count c.tree.invariant (ordered_carved_left _ (side l.new.at) _ _ _ _ w.in-Greater.ensures c.tree.invariant.tree (rw e at c.requires.carving.ordered) l.ensures.blocks) grew (rw w.tree-inside-is at longest) (rw w.tree-inside-is at reached) (rw w.tree-inside-is at c.renew_room.ensures.same_max_free) (rw w.tree-inside-is at c.renew_room.ensures.same_alignments))
       | in-Less w ↦
           let r = w.carve_at-change-in-Less in
           let grew = rw (sym w.change-is ∙ c.in-RoomAlone.is) at r.ensures.grows in
-          rw w.tree-inside-is (renewed_right c.tree.inside r.new.at c.renew_room.result max_free count c.tree.invariant (ordered_carved_right _ (side r.new.at) _ _ _ _ w.in-Less.ensures c.tree.invariant.tree (rw e at c.requires.carving.ordered) r.ensures.blocks) grew (rw w.tree-inside-is at c.renew_room.ensures.max_free) (rw w.tree-inside-is at c.renew_room.ensures.alignments) (rw w.tree-inside-is at c.renew_room.ensures.same_max_free) (rw w.tree-inside-is at c.renew_room.ensures.same_alignments))
+          rw w.tree-inside-is (renewed_right c.tree.inside r.new.at c.renew_room.result max_free count c.tree.invariant (ordered_carved_right _ (side r.new.at) _ _ _ _ w.in-Less.ensures c.tree.invariant.tree (rw e at c.requires.carving.ordered) r.ensures.blocks) grew (rw w.tree-inside-is at longest) (rw w.tree-inside-is at reached) (rw w.tree-inside-is at c.renew_room.ensures.same_max_free) (rw w.tree-inside-is at c.renew_room.ensures.same_alignments))
     ]
 
 pub invariant_of-tree-in-RoomAlone : goal.invariant_of-tree-in-RoomAlone
