@@ -1,41 +1,45 @@
 # shellcheck shell=bash
-# For tests/all and tests/quick, which source it at the top of the repository: the parts of a check, each
-# named as it begins, with the time that each took at the end. What a long part writes is kept back,
-# while the standard error says how far it is, and shown where it fails.
+# Sourced by tests/all, tests/quick, tests/plain_rust and tests/c_library, at the top of the repository: the
+# parts of a check. Each is named when it begins, and finish_parts lists how long each took. Output that
+# only matters if a part fails goes to the folder $scratch.
 scratch=$(mktemp -d) || exit 1
 trap 'rm -rf "$scratch"' EXIT
 log=$scratch/log
 times=$scratch/times
+passed_parts=0
+failed_parts=()
 
-timed() { # name, command ..: says when it begins, and keeps how long it took
+part() { # name, command ..
     local name=$1 begun=$SECONDS status=0 took
     shift
     echo "== $name"
     "$@" || status=$?
     took=$((SECONDS - begun))
     printf '%3d:%02d  %s\n' $((took / 60)) $((took % 60)) "$name" >> "$times"
+    if [ "$status" -eq 0 ]; then
+        passed_parts=$((passed_parts + 1))
+    else
+        failed_parts+=("$name")
+        echo "   FAILED: $name"
+    fi
     return "$status"
 }
 
-part() { # command ..
-    timed "$*" "$@"
-}
-
-long_part() { # name, folder, command ..
-    local name=$1 folder=$2
-    shift 2
-    timed "$name" in_folder "$folder" "$PWD/tests/show_progress" --name "$name" --log "$log" -- "$@" || {
-        grep -v -e '^statements ' -e ': proved$' "$log"
+quietly() { # command ..: shows the end of its output if it fails
+    "$@" > "$log" 2>&1 || {
+        tail -n 60 "$log"
         return 1
     }
-    tail -n 1 "$log"
 }
 
 in_folder() { # folder, command ..
     (cd "$1" && shift && "$@")
 }
 
-show_times() {
+finish_parts() { # name of the check
     echo "== minutes and seconds that each part took"
     cat "$times"
+    [ "${#failed_parts[@]}" -eq 0 ] || printf 'failed: %s\n' "${failed_parts[@]}"
+    echo "$1: $passed_parts parts passed, ${#failed_parts[@]} failed"
+    [ "${#failed_parts[@]}" -eq 0 ]
 }
