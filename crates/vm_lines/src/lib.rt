@@ -1,6 +1,5 @@
-//! Lines that ask an allocator or a manager of devices for something, and the line that answers each.
-//! Public is `run` alone: a library carries for the crates above it all that its public types mention,
-//! and a `Command` or a `Reply` mentions most of the libraries below.
+//! The replay language: each line asks an allocator or a manager of devices for something, and gets one
+//! line of output.
 #![tactic(auto)]
 
 mod buffer;
@@ -9,7 +8,9 @@ mod laws;
 mod machine;
 mod newline;
 mod number;
+mod replay;
 mod reply;
-pub mod run;
 mod session;
 mod words;
+
+pub use replay::{RunError, run};

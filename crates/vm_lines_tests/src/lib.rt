@@ -1,7 +1,8 @@
-//! A test of `vm_lines` by its public call, apart from `vm_tests` so that these need not wait for the
-//! proof of the lines. tests/refused_memory runs it again and again, with request 1, 2, 3 .. for
-//! memory refused.
+//! Tests of `vm_lines` through its public call. tests/refused_memory runs each again and again, with its
+//! first, second, third .. request for memory refused.
 #![tactic(auto)]
 
 #[cfg(test)]
 mod long_run;
+#[cfg(test)]
+mod programs;

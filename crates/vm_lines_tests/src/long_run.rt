@@ -4,10 +4,10 @@
 use std::io;
 use std::io::{ErrorKind, Read, Write};
 use std::str::from_utf8;
-use vm_lines::run::run;
-use vm_plain_search::Answer::{Done, Held, NotAvailable, Range, Unaligned};
-use vm_plain_search::Call::{Exact, First, Free, Last};
-use vm_plain_search::{ADDRESSES, Addresses, Answer, CALLS, Call, Draws};
+use vm_lines::run;
+use vm_model::Answer::{Done, Held, NotAvailable, Range, Unaligned};
+use vm_model::Call::{Exact, First, Free, Last};
+use vm_model::{ADDRESSES, Addresses, Answer, CALLS, Call, Draws};
 
 /// The lines that make the space: a second one for a run in which the first is refused.
 const SPACES: u64 = 2;

@@ -1,7 +1,7 @@
 -- The status that the program ends with.
 use Rattle.std.specs.Prelude.{ℕ, Result, Ok, Err}
-use Rattle.vm_lines.specs.declared.run.RunError.{RunError}
-use Rattle.vm_lines.specs.declared.run.RunError.TheVariants.{Read, Write}
+use Rattle.vm_lines.specs.declared.replay.RunError.{RunError}
+use Rattle.vm_lines.specs.declared.replay.RunError.TheVariants.{Read, Write}
 
 -- 0 at the end of the input, 1 after a read that failed, 2 after a write that failed
 abbrev pub status_of : Result (Unit {0}) RunError → ℕ

@@ -9,7 +9,7 @@ ghost use Rattle.vm_replay.specs.Status.{status_of};
 mod tests;
 
 use std::process::ExitCode;
-use vm_lines::run::{RunError, run};
+use vm_lines::{RunError, run};
 
 /// The status that the program ends with.
 fn status(outcome: Result<(), RunError>) -> u8

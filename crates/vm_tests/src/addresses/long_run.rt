@@ -1,7 +1,7 @@
 //! A long run on 64 addresses, each answer against a plain search, address by address.
 use super::*;
-use vm_plain_search as plain;
-use vm_plain_search::{ADDRESSES, Addresses, CALLS, Draws};
+use vm_model as plain;
+use vm_model::{ADDRESSES, Addresses, CALLS, Draws};
 
 /// What a call of the run asks of an allocator.
 fn call_of(call: plain::Call) -> Call {

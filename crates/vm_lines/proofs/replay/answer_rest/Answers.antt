@@ -2,7 +2,7 @@ use Rattle.std.proofs.Common.{◌≡◌, [], true, rules}
 use Rattle.vm_lines.proofs.Known.{moves_text}
 use Rattle.vm_lines.proofs.Progress.{finishes_some}
 use Rattle.vm_lines.specs.Sessions.{has_begun}
-use Rattle.vm_lines.proofs.run.answer_rest.Goals as goal
+use Rattle.vm_lines.proofs.replay.answer_rest.Goals as goal
 
 pub returns-clause-ok : goal.returns-clause-ok
 returns-clause-ok g c =

@@ -2,7 +2,7 @@ use Rattle.std.proofs.Common.{List, ℕ, [], length, ◌≡◌}
 use Rattle.std.specs.Io.KnownBytes.{Consumes}
 use Rattle.vm_lines.specs.Moving.{Moves}
 use Rattle.vm_lines.proofs.Progress.{At}
-use Rattle.vm_lines.proofs.run.answer_pieces.Given as goal
+use Rattle.vm_lines.proofs.replay.answer_pieces.Given as goal
 
 -- what was read, and the text of its answers, which is written or waits
 abbrev pub invariant-loop : goal.invariant-loop

@@ -2,8 +2,8 @@ use Rattle.std.proofs.Common.{◌≡◌, ◌++◌, [], arith, rules, take, lengt
 use Rattle.std.proofs.KnownBytes.{Consumes-nil, Consumes-trans, Consumes-kept}
 use Rattle.vm_lines.proofs.Known.{moves_none, moves_both, moves_drain, moves_end, read_end, answers_input, answers_ended}
 use Rattle.vm_lines.proofs.Progress.{at_start, at_feeds, at_finish, at_fault}
-use Rattle.vm_lines.proofs.run.answer_pieces.Goals.{else-loop-test, then-loop-test+in-Err}
-use Rattle.vm_lines.proofs.run.answer_pieces.Goals as goal
+use Rattle.vm_lines.proofs.replay.answer_pieces.Goals.{else-loop-test, then-loop-test+in-Err}
+use Rattle.vm_lines.proofs.replay.answer_pieces.Goals as goal
 
 pub loop-init : goal.loop-init
 loop-init g c = (

@@ -2,7 +2,7 @@ use Rattle.std.proofs.Common.{◌≡◌, ◌++◌, [], sym, append-nil, append_a
 use Rattle.vm_lines.specs.Sessions.{with_more}
 use Rattle.vm_lines.proofs.Known.{moves_both, moves_text}
 use Rattle.vm_lines.proofs.Progress.{feeds_line, feeds_none}
-use Rattle.vm_lines.proofs.run.feed_all.Goals as goal
+use Rattle.vm_lines.proofs.replay.feed_all.Goals as goal
 
 pub loop-end-preserved : goal.loop-end-preserved
 loop-end-preserved g c =

@@ -1,7 +1,7 @@
 use Rattle.std.proofs.Common.{List, ℕ, ◌++◌, ◌≤◌, length}
 use Rattle.vm_lines.specs.Sessions.{Session, Feeds}
 use Rattle.vm_lines.specs.Moving.{Moves}
-use Rattle.vm_lines.proofs.run.feed_all.Given as goal
+use Rattle.vm_lines.proofs.replay.feed_all.Given as goal
 
 -- the text of the lines so far is written or waits, and what the rest leads to, the piece does
 abbrev pub invariant-loop-end : goal.invariant-loop-end

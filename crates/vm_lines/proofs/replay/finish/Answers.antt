@@ -1,7 +1,7 @@
 use Rattle.std.proofs.Common.{◌++◌}
 use Rattle.std.proofs.KnownBytes.{Appends-kept}
 use Rattle.vm_lines.proofs.Known.{moves_drain}
-use Rattle.vm_lines.proofs.run.finish.Goals as goal
+use Rattle.vm_lines.proofs.replay.finish.Goals as goal
 
 pub returns-in-Ok-clause-ok : goal.returns-in-Ok-clause-ok
 returns-in-Ok-clause-ok g c =

@@ -1,0 +1,479 @@
+//! Tests of `run`: rows of the language, and readers and writers that fail.
+ghost use Rattle.std.specs.Prelude.{◌≤◌, length};
+
+mod device_rows;
+mod fronts;
+mod refused_requests;
+mod rows;
+
+use device_rows::{MANAGER_BESIDE_OTHERS, PROGRAM_DEVICES, REFUSALS_OF_DEVICES, WORDS_ON_DEVICES};
+use rows::{
+    ALL_POLICIES, FIRST_PROGRAM, FULL_SPACE, HELD_IDS, LINE_GRAMMAR, NUMBERS_OF_32_BITS,
+    PLACES_OF_A_START, PROGRAM_IDS, PROGRAM_REFUSALS, REFUSALS_IN_ORDER, REFUSALS_OF_IDS, Rows,
+    SPACE_BESIDE_IDS, WORDS_AND_NUMBERS,
+};
+use std::alloc::Global;
+use std::io;
+use std::io::{ErrorKind, Read, Write};
+use std::process::Abort;
+use std::str::from_utf8;
+use vm_lines::{RunError, run};
+
+const ROOM: usize = 16384;
+
+/// Text in an array of its own.
+#[derive(Drop)]
+struct Text {
+    bytes: [u8; ROOM],
+    filled: usize,
+    ghost within: { filled ≤ 16384 },
+}
+
+impl Text {
+    fn new() -> Text {
+        Text {
+            bytes: [0; ROOM],
+            filled: 0,
+        }
+    }
+
+    fn as_slice(&self) -> &[u8] {
+        &self.bytes[..self.filled]
+    }
+
+    /// Adds the beginning of some more text, as far as there is room. The answer is the length of that.
+    fn push(&mut self, text: &[u8]) -> usize
+        ensures { result ≤ length text.now }
+    {
+        let count = text.len().min(ROOM - self.filled);
+        let end = self.filled + count;
+        self.bytes[self.filled..end].copy_from_slice(&text[..count]);
+        self.filled = end;
+        count
+    }
+}
+
+/// The lines of a table, each ended by a newline.
+fn input_of(rows: &[(&str, &str)]) -> Text {
+    let mut input = Text::new();
+    for (line, _) in rows {
+        input.push(line.as_bytes());
+        input.push(b"\n");
+    }
+    input
+}
+
+/// Gives its bytes in pieces, and fails at one of its reads, if that is not 0. After a fault it goes
+/// on as if there had been none.
+#[derive(Drop)]
+struct Pieces<'a> {
+    bytes: &'a [u8],
+    longest: usize,
+    reads: u64,
+    bad_read: u64,
+    fault: ErrorKind,
+}
+
+impl<'a> Pieces<'a> {
+    fn new(bytes: &'a [u8], longest: usize, bad_read: u64, fault: ErrorKind) -> Pieces<'a> {
+        Pieces {
+            bytes,
+            longest,
+            reads: 0,
+            bad_read,
+            fault,
+        }
+    }
+}
+
+impl Read for Pieces<'_> {
+    fn read(&mut self, buf: &mut [u8]) -> io::Result<usize> {
+        self.reads = self.reads.saturating_add(1);
+        if self.reads == self.bad_read {
+            return Err(io::Error::from(self.fault));
+        }
+        let count = self.bytes.len().min(self.longest).min(buf.len());
+        buf[..count].copy_from_slice(&self.bytes[..count]);
+        self.bytes = &self.bytes[count..];
+        Ok(count)
+    }
+}
+
+/// Gives one text so many times, once for each read, and then fails or is at its end.
+#[derive(Drop)]
+struct Again<'a> {
+    text: &'a [u8],
+    left: u64,
+    fails: bool,
+}
+
+impl Read for Again<'_> {
+    fn read(&mut self, buf: &mut [u8]) -> io::Result<usize> {
+        if self.left == 0 && self.fails {
+            return Err(io::Error::from(ErrorKind::Other));
+        }
+        let count = self.text.len();
+        if self.left == 0 || buf.len() < count {
+            return Ok(0);
+        }
+        self.left -= 1;
+        buf[..count].copy_from_slice(self.text);
+        Ok(count)
+    }
+}
+
+/// Takes at most three bytes a call, fails at one of its writes, if that is not 0, or at each flush,
+/// and counts both.
+#[derive(Drop)]
+struct Sink {
+    text: Text,
+    writes: u64,
+    bad_write: u64,
+    flushes: u64,
+    bad_flush: Option<ErrorKind>,
+}
+
+impl Sink {
+    fn new(bad_write: u64, bad_flush: Option<ErrorKind>) -> Sink {
+        Sink {
+            text: Text::new(),
+            writes: 0,
+            bad_write,
+            flushes: 0,
+            bad_flush,
+        }
+    }
+
+    /// Whether a line was refused because memory ran out.
+    fn met_refusal(&self) -> bool {
+        for line in self.text.as_slice().split(|byte| *byte == b'\n') {
+            if line == b"error memory".as_slice() {
+                return true;
+            }
+        }
+        false
+    }
+}
+
+impl Write for Sink {
+    fn write(&mut self, buf: &[u8]) -> io::Result<usize> {
+        self.writes = self.writes.saturating_add(1);
+        if self.writes == self.bad_write {
+            return Err(io::Error::from(ErrorKind::BrokenPipe));
+        }
+        Ok(self.text.push(&buf[..buf.len().min(3)]))
+    }
+
+    fn flush(&mut self) -> io::Result<()> {
+        self.flushes = self.flushes.saturating_add(1);
+        match self.bad_flush {
+            Some(fault) => Err(io::Error::from(fault)),
+            None => Ok(()),
+        }
+    }
+}
+
+/// What a run answered, how often it read, and what it wrote.
+#[derive(Drop)]
+struct Outcome {
+    result: Result<(), RunError>,
+    reads: u64,
+    sink: Sink,
+}
+
+fn run_once(alloc: Global, mut reader: Pieces) -> Outcome {
+    let mut sink = Sink::new(0, None);
+    let result = run(alloc, &mut reader, &mut sink);
+    Outcome {
+        result,
+        reads: reader.reads,
+        sink,
+    }
+}
+
+/// Runs over the input. Where memory ran out it runs once more, so that the texts of the tables hold
+/// whichever request for memory is refused.
+fn run_on(alloc: Global, input: &[u8], longest: usize, bad_read: u64, fault: ErrorKind) -> Outcome {
+    let outcome = run_once(alloc, Pieces::new(input, longest, bad_read, fault));
+    if outcome.sink.met_refusal() {
+        run_once(alloc, Pieces::new(input, longest, bad_read, fault))
+    } else {
+        outcome
+    }
+}
+
+/// A text, as it is printed where a test fails.
+fn shown(text: &[u8]) -> &str {
+    from_utf8(text).unwrap_or("no text")
+}
+
+/// What was written are the answers of these lines, each ended by a newline, and nothing else.
+fn expect_answers(rt: &impl Abort, written: &[u8], rows: &[(&str, &str)], place: &str) {
+    let mut answers = written.split(|byte| *byte == b'\n');
+    for (line, want) in rows {
+        let answer = answers.next().unwrap_or(b"no answer".as_slice());
+        assert_eq!(rt; shown(answer), *want, "line '{line}' of {place}");
+    }
+    let end = answers.next().unwrap_or(b"no newline".as_slice());
+    assert_eq!(rt; shown(end), "", "behind the last answer of {place}");
+    assert!(rt;
+        answers.next().is_none(),
+        "more answers than lines of {place}"
+    );
+}
+
+/// How often an input in pieces of this length is read: once for each piece, and once at its end.
+fn reads_of(input: &[u8], longest: usize) -> usize {
+    let pieces = input.len().saturating_add(longest).saturating_sub(1);
+    pieces.checked_div(longest).unwrap_or(0).saturating_add(1)
+}
+
+/// The input is answered as a whole, in whatever pieces it comes.
+fn expect_program(rt: &impl Abort, alloc: Global, input: &[u8], rows: &[(&str, &str)], name: &str) {
+    for longest in [1, 2, 3, 7, 64, 4096] {
+        let outcome = run_on(alloc, input, longest, 0, ErrorKind::Other);
+        assert_eq!(rt; outcome.result, Ok(()), "{name} in pieces of {longest}");
+        expect_answers(rt, outcome.sink.text.as_slice(), rows, name);
+        assert_eq!(rt; outcome.sink.flushes, 1, "{name} in pieces of {longest}");
+        let reads = reads_of(input, longest) as u64;
+        assert_eq!(rt; outcome.reads, reads, "{name} in pieces of {longest}");
+    }
+}
+
+/// The lines of a table are answered, also where no newline ends the last.
+fn expect_rows(rt: &impl Abort, alloc: Global, name: &str, rows: &[(&str, &str)]) {
+    let input = input_of(rows);
+    let whole = input.as_slice();
+    expect_program(rt, alloc, whole, rows, name);
+    let open = &whole[..whole.len().saturating_sub(1)];
+    expect_program(rt, alloc, open, rows, name);
+}
+
+#[test]
+fn programs_of_the_language(rt: HostRuntime) {
+    expect_rows(&rt, rt.alloc(), "empty-input", &[]);
+    expect_rows(&rt, rt.alloc(), "line-grammar", LINE_GRAMMAR);
+    expect_rows(&rt, rt.alloc(), "words-and-numbers", WORDS_AND_NUMBERS);
+    expect_rows(&rt, rt.alloc(), "numbers-of-32-bits", NUMBERS_OF_32_BITS);
+}
+
+#[test]
+fn programs_on_a_space(rt: HostRuntime) {
+    expect_rows(&rt, rt.alloc(), "first-program", FIRST_PROGRAM);
+    expect_rows(&rt, rt.alloc(), "full-space", FULL_SPACE);
+    expect_rows(&rt, rt.alloc(), "places-of-a-start", PLACES_OF_A_START);
+    expect_rows(&rt, rt.alloc(), "all-policies", ALL_POLICIES);
+}
+
+#[test]
+fn programs_of_refusals(rt: HostRuntime) {
+    expect_rows(&rt, rt.alloc(), "refusals-in-order", REFUSALS_IN_ORDER);
+    expect_rows(&rt, rt.alloc(), "program-refusals", PROGRAM_REFUSALS);
+}
+
+#[test]
+fn programs_on_ids(rt: HostRuntime) {
+    expect_rows(&rt, rt.alloc(), "program-ids", PROGRAM_IDS);
+    expect_rows(&rt, rt.alloc(), "refusals-of-ids", REFUSALS_OF_IDS);
+    expect_rows(&rt, rt.alloc(), "held-ids", HELD_IDS);
+    expect_rows(&rt, rt.alloc(), "space-beside-ids", SPACE_BESIDE_IDS);
+}
+
+#[test]
+fn programs_on_devices(rt: HostRuntime) {
+    expect_rows(&rt, rt.alloc(), "program-devices", PROGRAM_DEVICES);
+    expect_rows(&rt, rt.alloc(), "refusals-of-devices", REFUSALS_OF_DEVICES);
+    expect_rows(&rt, rt.alloc(), "words-on-devices", WORDS_ON_DEVICES);
+    expect_rows(
+        &rt,
+        rt.alloc(),
+        "manager-beside-others",
+        MANAGER_BESIDE_OTHERS,
+    );
+}
+
+/// A line may begin and end anywhere in a piece.
+#[test]
+fn pieces_of_each_small_size(rt: HostRuntime) {
+    let input = input_of(PROGRAM_REFUSALS);
+    for longest in 1..=40 {
+        let outcome = run_on(rt.alloc(), input.as_slice(), longest, 0, ErrorKind::Other);
+        assert_eq!(rt; outcome.result, Ok(()), "in pieces of {longest}");
+        expect_answers(
+            &rt,
+            outcome.sink.text.as_slice(),
+            PROGRAM_REFUSALS,
+            "an input in small pieces",
+        );
+    }
+}
+
+#[test]
+fn long_lines(rt: HostRuntime) {
+    let rows = [
+        ("a long line", "error line"),
+        ("space 16 4", "done"),
+        ("first 1 1", "range 16 16"),
+    ];
+    for length in [119, 120, 121, 122, 4096, 9000, 100_000] {
+        let mut input = [b'0'; 100_022];
+        input[..6].copy_from_slice(b"first ");
+        input[length..length + 22].copy_from_slice(b"\nspace 16 4\nfirst 1 1\n");
+        expect_program(
+            &rt,
+            rt.alloc(),
+            &input[..length + 22],
+            &rows,
+            "an input with a long line",
+        );
+        let alone = &input[..length];
+        expect_program(&rt, rt.alloc(), alone, &rows[..1], "a long line alone");
+    }
+}
+
+#[test]
+fn two_million_reads(rt: HostRuntime) {
+    let mut reader = Again {
+        text: b"x",
+        left: 2_000_000,
+        fails: false,
+    };
+    let mut writer = Sink::new(0, None);
+    assert_eq!(rt; run(rt.alloc(), &mut reader, &mut writer), Ok(()));
+    expect_answers(
+        &rt,
+        writer.text.as_slice(),
+        &[("x, two million times", "error line")],
+        "one line",
+    );
+}
+
+/// A fault of any kind ends the run at once, also one that asks to be tried again.
+#[test]
+fn each_read_fails(rt: HostRuntime) {
+    let input = input_of(FIRST_PROGRAM);
+    let whole = input.as_slice();
+    for bad_read in 1..=whole.len() + 1 {
+        for fault in [ErrorKind::Other, ErrorKind::Interrupted] {
+            let outcome = run_on(rt.alloc(), whole, 1, bad_read as u64, fault);
+            assert_eq!(rt;
+                outcome.result,
+                Err(RunError::Read),
+                "{fault:?} at read {bad_read}"
+            );
+            assert_eq!(rt; outcome.reads, bad_read as u64, "reads after {fault:?}");
+            assert_eq!(rt; outcome.sink.flushes, 0, "flushes after {fault:?}");
+            let front = &whole[..bad_read - 1];
+            let ended = front.iter().filter(|byte| **byte == b'\n').count();
+            expect_answers(
+                &rt,
+                outcome.sink.text.as_slice(),
+                &FIRST_PROGRAM[..ended.min(FIRST_PROGRAM.len())],
+                "an input that can't be read to its end",
+            );
+        }
+    }
+}
+
+#[test]
+fn a_read_fails_in_a_line(rt: HostRuntime) {
+    let rows = [("space 16 4", "done"), ("first 1 1", "range 16 16")];
+    for longest in [1, 2, 3, 7, 64] {
+        let input = b"space 16 4\nfirst 1 1\nfirs".as_slice();
+        let reads = input.len().div_ceil(longest) as u64;
+        let outcome = run_on(rt.alloc(), input, longest, reads + 1, ErrorKind::Other);
+        assert_eq!(rt;
+            outcome.result,
+            Err(RunError::Read),
+            "in pieces of {longest}"
+        );
+        expect_answers(&rt, outcome.sink.text.as_slice(), &rows, "what was read");
+        assert_eq!(rt; outcome.sink.flushes, 0, "in pieces of {longest}");
+    }
+}
+
+#[test]
+fn a_read_fails_before_a_flush_that_would(rt: HostRuntime) {
+    let mut reader = Pieces::new(b"x\ny", 64, 2, ErrorKind::Other);
+    let mut writer = Sink::new(0, Some(ErrorKind::Other));
+    assert_eq!(rt;
+        run(rt.alloc(), &mut reader, &mut writer),
+        Err(RunError::Read)
+    );
+    expect_answers(
+        &rt,
+        writer.text.as_slice(),
+        &[("x", "error line")],
+        "what was read",
+    );
+    assert_eq!(rt; writer.flushes, 0);
+}
+
+#[test]
+fn each_write_fails(rt: HostRuntime) {
+    let input = input_of(FIRST_PROGRAM);
+    let whole = input.as_slice();
+    let good = run_on(rt.alloc(), whole, 64, 0, ErrorKind::Other);
+    for bad_write in 1..=good.sink.writes {
+        let mut reader = Pieces::new(whole, 64, 0, ErrorKind::Other);
+        let mut writer = Sink::new(bad_write, None);
+        let result = run(rt.alloc(), &mut reader, &mut writer);
+        assert_eq!(rt; result, Err(RunError::Write), "at write {bad_write}");
+        assert_eq!(rt; writer.flushes, 0, "at write {bad_write}");
+    }
+}
+
+#[test]
+fn the_flush_fails(rt: HostRuntime) {
+    for fault in [ErrorKind::Other, ErrorKind::Interrupted] {
+        let mut reader = Pieces::new(b"x", 64, 0, ErrorKind::Other);
+        let mut writer = Sink::new(0, Some(fault));
+        let result = run(rt.alloc(), &mut reader, &mut writer);
+        assert_eq!(rt; result, Err(RunError::Write), "{fault:?}");
+        expect_answers(
+            &rt,
+            writer.text.as_slice(),
+            &[("x", "error line")],
+            "one line",
+        );
+        assert_eq!(rt; writer.flushes, 1, "{fault:?}");
+    }
+}
+
+/// The text is `error line` and a newline, so many times.
+fn expect_line_errors(rt: &impl Abort, text: &[u8], count: usize) {
+    let mut lines = 0usize;
+    for line in text.chunks(11) {
+        assert_eq!(rt; shown(line), "error line\n");
+        lines = lines.saturating_add(1);
+    }
+    assert_eq!(rt; lines, count);
+}
+
+fn short_lines(left: u64, fails: bool) -> Again<'static> {
+    Again {
+        text: b"x\n",
+        left,
+        fails,
+    }
+}
+
+#[test]
+fn more_answers_than_the_buffer_holds(rt: HostRuntime) {
+    let mut writer = Sink::new(0, None);
+    let result = run(rt.alloc(), &mut short_lines(1000, false), &mut writer);
+    assert_eq!(rt; result, Ok(()));
+    expect_line_errors(&rt, writer.text.as_slice(), 1000);
+    for bad_write in [1, 2, 1000, writer.writes] {
+        let mut bad = Sink::new(bad_write, None);
+        let result = run(rt.alloc(), &mut short_lines(1000, false), &mut bad);
+        assert_eq!(rt; result, Err(RunError::Write), "at write {bad_write}");
+    }
+    for left in [0, 1, 366, 367, 368, 1000] {
+        let mut writer = Sink::new(0, None);
+        let result = run(rt.alloc(), &mut short_lines(left, true), &mut writer);
+        assert_eq!(rt; result, Err(RunError::Read), "after {left} lines");
+        expect_line_errors(&rt, writer.text.as_slice(), left as usize);
+        assert_eq!(rt; writer.flushes, 0, "after {left} lines");
+    }
+}
