@@ -8,7 +8,7 @@
 
 #include <pthread.h>
 
-enum { THREADS = 8, ROUNDS = 40, VISITS = 10000, HELD = 64 };
+enum { THREADS = 8, ROUNDS = 40, VISITS = 200000, HELD = 64 };
 enum { SMALL_STACK = 64 * 1024, LEVELS = 50 };
 
 SAVED(saved_space, vm_address_allocator)
