@@ -38,7 +38,7 @@
  * vm_device_release and vm_device_manager_read: these also keep ids and devices
  * in sets and maps of Rust's, which end the process by abort() where they get no
  * memory. What gives a range back, takes an id, or asks what is held takes no
- * memory. Reading a text takes less than 72 times its length, also if the text is
+ * memory. Reading a text takes less than 80 times its length, also if the text is
  * untrusted; what the malloc of glibc adds to each block is included.
  *
  * Stack. 64 KiB suffice for every call.

@@ -156,6 +156,7 @@ static void allocate_large_ranges(void) {
     CHECK(vm_range_free(space, exact, NULL) == VM_OK);
     CHECK(vm_range_free(space, last, NULL) == VM_OK);
     CHECK(vm_range_free(space, first, NULL) == VM_OK);
+    CHECK(vm_range_is_held(space, first, &is_held, NULL) == VM_OK && !is_held);
     CHECK(vm_address_allocator_destroy(space) == VM_OK);
 }
 
@@ -333,6 +334,7 @@ static void allocate_ids(void) {
     CHECK(vm_id_is_allocated(ids, 5, &is_allocated) == VM_OK && !is_allocated);
     CHECK(vm_id_allocate(ids, &id) == VM_OK && id == 5);
     CHECK(vm_id_is_allocated(ids, 5, &is_allocated) == VM_OK && is_allocated);
+    CHECK(vm_id_is_allocated(ids, 4, &is_allocated) == VM_OK && !is_allocated);
     CHECK(vm_id_allocate(ids, &id) == VM_OK && id == 6);
     CHECK(vm_id_free(ids, 5, &refusal) == VM_OK);
     refuse_ids(ids);

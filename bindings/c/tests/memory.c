@@ -361,8 +361,13 @@ static void refuse_until_it_ends(void (*call)(void)) {
 
 /* ---- What reading takes ---- */
 
-/* The header says that reading a text takes less memory than so many times its length. */
-enum { TIMES = 72 };
+/*
+ * The header says that reading a text takes less memory than so many times its
+ * length. A level of brackets has two bytes and requests 128. With the word that
+ * glibc adds and the rounding that makes 144, or 160 if the block was cut from one
+ * whose rest would be too small.
+ */
+enum { TIMES = 80 };
 
 /* The values that take the most memory for their length, one within the other. */
 static const struct nesting {
