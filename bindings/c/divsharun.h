@@ -38,7 +38,8 @@
  * vm_device_release and vm_device_manager_read: these also keep ids and devices
  * in sets and maps of Rust's, which end the process by abort() where they get no
  * memory. What gives a range back, takes an id, or asks what is held takes no
- * memory. To read a text may take 60 times its length, whoever wrote it.
+ * memory. Reading a text takes less than 80 times its length, also if the text is
+ * untrusted; what the malloc of glibc adds to each block is included.
  *
  * Stack. 64 KiB suffice for every call.
  *
@@ -230,10 +231,11 @@ vm_status vm_range_is_held(const vm_address_allocator *allocator, vm_range range
 vm_status vm_range_count(const vm_address_allocator *allocator, uint64_t *count);
 
 /*
- * What vm_range_visit calls, with the context that was given to it. Any other
- * number than 0 ends the visit. It has to return: a jump out of it would leave
- * the allocator busy for ever, and an exception of C++ that leaves it ends the
- * process.
+ * The function that vm_range_visit calls, with the context that was given to it.
+ * Any number but 0 ends the visit. The function has to return. The process ends by
+ * abort() if an exception of C++ leaves it, if it calls pthread_exit(), or if its
+ * thread is cancelled in it. A longjmp() out of it is not allowed: it would leave
+ * the allocator busy.
  */
 typedef int vm_range_visitor(void *context, vm_range range);
 
@@ -269,7 +271,8 @@ vm_status vm_address_allocator_read(const char *text, size_t length,
  * The same, and reads besides what the Rust crate vm-allocator 0.1.4 wrote after
  * one of its faults: the ranges that the text says to be allocated are held, and
  * all else is clear. VM_NOT_A_STATE comes where the ranges of the text do not
- * rise, overlap, leave the space, or end at UINT64_MAX while they are held.
+ * rise, overlap, leave the space, or end at UINT64_MAX while they are held, and
+ * where a path from the root of the tree has more than 50 nodes.
  */
 vm_status vm_address_allocator_read_repaired(const char *text, size_t length,
                                              vm_address_allocator **allocator);

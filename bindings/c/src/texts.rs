@@ -3,9 +3,9 @@
 use crate::handle::{given, Handle};
 use crate::{vm_status, Out, Refused};
 use rattle::{Global, Value};
-use std::ffi::{c_char, CStr};
+use std::ffi::{c_char, CString};
 use std::fmt::{self, Write};
-use std::{ptr, slice, str};
+use std::{slice, str};
 use vm_allocator::ValueError;
 
 /// Gives C the text that states an object.
@@ -21,7 +21,8 @@ pub(crate) fn save<T>(
     write!(growing, "{value}\0").map_err(|_| Refused::OutOfMemory)?;
     let bytes = exact_copy(&growing.0)?;
     length.write(bytes.len() - 1);
-    text.write(Box::into_raw(bytes).cast());
+    let saved = CString::from_vec_with_nul(bytes).expect("JSON contains no zero byte");
+    text.write(saved.into_raw());
     Ok(())
 }
 
@@ -36,13 +37,14 @@ impl Write for Growing {
     }
 }
 
-/// The same bytes in a block of just their size, which is what `vm_text_destroy` gives back.
-fn exact_copy(bytes: &[u8]) -> Result<Box<[u8]>, Refused> {
+/// Returns the same bytes in a block of just their size: `CString` would shrink a larger one, and the
+/// process would end if there were no memory for that.
+fn exact_copy(bytes: &[u8]) -> Result<Vec<u8>, Refused> {
     let mut copy = Vec::new();
     copy.try_reserve_exact(bytes.len())
         .map_err(|_| Refused::OutOfMemory)?;
     copy.extend_from_slice(bytes);
-    Ok(copy.into_boxed_slice())
+    Ok(copy)
 }
 
 /// The value in a text of C's.
@@ -89,10 +91,7 @@ pub unsafe extern "C" fn vm_text_destroy(text: *mut c_char) -> vm_status {
     if text.is_null() {
         return vm_status::VM_NULL;
     }
-    // SAFETY: the text ends with a zero, and has none before it.
-    let length = unsafe { CStr::from_ptr(text) }.count_bytes() + 1;
-    let bytes = ptr::slice_from_raw_parts_mut(text.cast::<u8>(), length);
-    // SAFETY: it was given as a box of so many bytes, and it is dropped this once.
-    drop(unsafe { Box::from_raw(bytes) });
+    // SAFETY: `save` gave it as a `CString`, and it is dropped this once.
+    drop(unsafe { CString::from_raw(text) });
     vm_status::VM_OK
 }

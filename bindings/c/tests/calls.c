@@ -4,12 +4,20 @@
  */
 #include "check.h"
 
+#include <limits.h>
+
 enum { STATUSES = VM_NOT_A_STATE + 1 };
 
 /* A byte of what a call may not write. */
 enum { UNTOUCHED = 0xa5 };
 
+/* More than 99, and more than a byte can count. */
+enum { MANY = 300 };
+
 static bool seen[STATUSES];
+
+/* The numbers of the last refused call. */
+static vm_refusal refusal;
 
 /* Keeps that a status was returned. */
 static vm_status noted(vm_status status) {
@@ -28,14 +36,26 @@ static bool is_untouched(const void *bytes, size_t length) {
     return true;
 }
 
-/* A call that takes the answer and the refusal has to return a status, and to write just the one.
- */
+/* Whether a refused call wrote all its numbers: these, and 0 for the others. */
+static bool are_told(uint64_t start, uint64_t end, uint32_t id) {
+    return is_range(refusal.range, start, end) && is_range(refusal.other, 0, 0) &&
+           refusal.size == 0 && refusal.id == id;
+}
+
+/* A call has to return this status. Its refusal goes to `refusal`. */
+#define RETURNS(expected, call)                                                                    \
+    do {                                                                                           \
+        memset(&refusal, UNTOUCHED, sizeof refusal);                                               \
+        CHECK(noted(call) == (expected));                                                          \
+    } while (0)
+
+/* The same of a call that would write to `answer`, and must not. */
 #define REFUSED(expected, type, call)                                                              \
     do {                                                                                           \
         type answer;                                                                               \
                                                                                                    \
         memset(&answer, UNTOUCHED, sizeof answer);                                                 \
-        CHECK(noted(call) == (expected));                                                          \
+        RETURNS(expected, call);                                                                   \
         CHECK(is_untouched(&answer, sizeof answer));                                               \
     } while (0)
 
@@ -59,10 +79,8 @@ static void make_spaces(void) {
 }
 
 static void refuse_requests(vm_address_allocator *space) {
-    vm_refusal refusal;
-
     REFUSED(VM_INVALID_SIZE, vm_range, vm_range_allocate_first(space, 0, 3, &answer, &refusal));
-    CHECK(refusal.size == 0);
+    CHECK(are_told(0, 0, 0));
     REFUSED(VM_INVALID_ALIGNMENT, vm_range, vm_range_allocate_last(space, 1, 3, &answer, &refusal));
     REFUSED(VM_UNALIGNED_ADDRESS, vm_range,
             vm_range_allocate_exact(space, 1, 4, 0x1002, &answer, &refusal));
@@ -70,28 +88,25 @@ static void refuse_requests(vm_address_allocator *space) {
             vm_range_allocate_exact(space, 1, 1, UINT64_MAX, &answer, &refusal));
     REFUSED(VM_RESOURCE_NOT_AVAILABLE, vm_range,
             vm_range_allocate_exact(space, 1, 1, 0xfff, &answer, &refusal));
+    CHECK(are_told(0, 0, 0));
     REFUSED(VM_RESOURCE_NOT_AVAILABLE, vm_range,
             vm_range_allocate_first(space, 0x1001, 1, &answer, NULL));
 }
 
 static void refuse_held(vm_address_allocator *space) {
-    vm_refusal refusal;
     bool is_held = false;
 
-    memset(&refusal, UNTOUCHED, sizeof refusal);
-    CHECK(vm_range_is_held(space, range_of(0x1000, 0x10ff), &is_held, &refusal) == VM_OK);
+    RETURNS(VM_OK, vm_range_is_held(space, range_of(0x1000, 0x10ff), &is_held, &refusal));
     CHECK(is_held && is_untouched(&refusal, sizeof refusal));
     REFUSED(VM_INVALID_STATE_TRANSITION, vm_range,
             vm_range_allocate_exact(space, 0x100, 0x100, 0x1000, &answer, &refusal));
-    CHECK(is_range(refusal.range, 0x1000, 0x10ff) && is_range(refusal.other, 0, 0));
-    CHECK(refusal.size == 0 && refusal.id == 0);
-    CHECK(noted(vm_range_free(space, range_of(0x1000, 0x10fe), &refusal)) ==
-          VM_RESOURCE_NOT_AVAILABLE);
-    CHECK(noted(vm_range_free(space, range_of(2, 1), &refusal)) == VM_INVALID_RANGE);
-    CHECK(is_range(refusal.range, 2, 1));
+    CHECK(are_told(0x1000, 0x10ff, 0));
+    RETURNS(VM_RESOURCE_NOT_AVAILABLE, vm_range_free(space, range_of(0x1000, 0x10fe), &refusal));
+    RETURNS(VM_INVALID_RANGE, vm_range_free(space, range_of(2, 1), &refusal));
+    CHECK(are_told(2, 1, 0));
     REFUSED(VM_INVALID_RANGE, bool,
             vm_range_is_held(space, range_of(0, UINT64_MAX), &answer, &refusal));
-    CHECK(is_range(refusal.range, 0, UINT64_MAX));
+    CHECK(are_told(0, UINT64_MAX, 0));
     CHECK(vm_range_is_held(space, range_of(0x1000, 0x10fe), &is_held, NULL) == VM_OK);
     CHECK(!is_held);
 }
@@ -118,6 +133,47 @@ static void allocate_ranges(void) {
     CHECK(vm_address_allocator_destroy(space) == VM_OK);
 }
 
+/* Every number has more than 32 bits. */
+static void allocate_large_ranges(void) {
+    vm_address_allocator *space;
+    vm_range first, last, exact;
+    bool is_held = false;
+
+    CHECK(vm_address_allocator_new(0x7654321000001000, (uint64_t)1 << 40, &space) == VM_OK);
+    CHECK(vm_address_allocator_space(space, &first) == VM_OK);
+    CHECK(is_range(first, 0x7654321000001000, 0x7654331000000fff));
+    CHECK(vm_range_allocate_first(space, 0x200000000, 0x400000000, &first, NULL) == VM_OK);
+    CHECK(is_range(first, 0x7654321400000000, 0x76543215ffffffff));
+    CHECK(vm_range_allocate_last(space, 0x200000001, 0x800000000, &last, NULL) == VM_OK);
+    CHECK(is_range(last, 0x7654330800000000, 0x7654330a00000000));
+    CHECK(vm_range_allocate_exact(space, 0x100000001, 0x800000000, 0x7654328800000000, &exact,
+                                  NULL) == VM_OK);
+    CHECK(is_range(exact, 0x7654328800000000, 0x7654328900000000));
+    REFUSED(VM_INVALID_STATE_TRANSITION, vm_range,
+            vm_range_allocate_exact(space, 0x200000000, 1, 0x7654321400000000, &answer, &refusal));
+    CHECK(are_told(0x7654321400000000, 0x76543215ffffffff, 0));
+    CHECK(vm_range_is_held(space, first, &is_held, NULL) == VM_OK && is_held);
+    CHECK(vm_range_free(space, exact, NULL) == VM_OK);
+    CHECK(vm_range_free(space, last, NULL) == VM_OK);
+    CHECK(vm_range_free(space, first, NULL) == VM_OK);
+    CHECK(vm_range_is_held(space, first, &is_held, NULL) == VM_OK && !is_held);
+    CHECK(vm_address_allocator_destroy(space) == VM_OK);
+}
+
+/* More of them than a byte can count. */
+static void allocate_many_ranges(void) {
+    vm_address_allocator *space;
+    vm_range range;
+    uint64_t i, count;
+
+    CHECK(vm_address_allocator_new(0, MANY, &space) == VM_OK);
+    for (i = 0; i < MANY; i++) {
+        CHECK(vm_range_allocate_first(space, 1, 1, &range, NULL) == VM_OK && is_range(range, i, i));
+        CHECK(vm_range_count(space, &count) == VM_OK && count == i + 1);
+    }
+    CHECK(vm_address_allocator_destroy(space) == VM_OK);
+}
+
 /* ---- Visits ---- */
 
 struct visit {
@@ -136,7 +192,8 @@ static int visit_range(void *context, vm_range range) {
 
     CHECK(is_range(range, visit->next, visit->next));
     visit->next += 2;
-    REFUSED(VM_BUSY, vm_range, vm_range_allocate_first(visit->space, 1, 1, &answer, NULL));
+    REFUSED(VM_BUSY, vm_range, vm_range_allocate_first(visit->space, 1, 1, &answer, &refusal));
+    CHECK(are_told(0, 0, 0));
     CHECK(vm_range_allocate_last(visit->space, 1, 1, &other, NULL) == VM_BUSY);
     CHECK(vm_range_allocate_exact(visit->space, 1, 1, 1, &other, NULL) == VM_BUSY);
     CHECK(vm_range_free(visit->space, range, NULL) == VM_BUSY);
@@ -176,31 +233,108 @@ static void visit_ranges(void) {
     CHECK(vm_address_allocator_destroy(visit.space) == VM_OK);
 }
 
+/* Visits within visits, more than a byte can count. */
+static int visit_deeper(void *context, vm_range range) {
+    struct visit *visit = (struct visit *)context;
+
+    if (++visit->next < MANY)
+        CHECK(vm_range_visit(visit->space, visit_deeper, visit) == VM_OK);
+    CHECK(vm_range_free(visit->space, range, NULL) == VM_BUSY);
+    return 1;
+}
+
+/* How a visitor ends its visit, and the calls of it. */
+struct end {
+    int number;
+    int calls;
+};
+
+static int end_visit(void *context, vm_range range) {
+    struct end *end = (struct end *)context;
+
+    (void)range;
+    end->calls++;
+    return end->number;
+}
+
+/* Any number but 0 ends a visit. */
+static void end_visits(const vm_address_allocator *space) {
+    static const int numbers[] = {1, -1, 256, 65536, INT_MAX, INT_MIN};
+    size_t i;
+
+    for (i = 0; i < sizeof numbers / sizeof numbers[0]; i++) {
+        struct end end = {0, 0};
+
+        end.number = numbers[i];
+        CHECK(vm_range_visit(space, end_visit, &end) == VM_OK && end.calls == 1);
+    }
+}
+
+static void visit_in_other_ways(void) {
+    struct visit visit = {NULL, 0, 0};
+    vm_range range;
+    int i;
+
+    CHECK(vm_address_allocator_new(0, 2, &visit.space) == VM_OK);
+    for (i = 0; i < 2; i++)
+        CHECK(vm_range_allocate_first(visit.space, 1, 1, &range, NULL) == VM_OK);
+    end_visits(visit.space);
+    CHECK(vm_range_visit(visit.space, visit_deeper, &visit) == VM_OK && visit.next == MANY);
+    CHECK(vm_range_free(visit.space, range, NULL) == VM_OK);
+    CHECK(vm_address_allocator_destroy(visit.space) == VM_OK);
+}
+
 /* ---- Ids ---- */
 
 static void refuse_ids(vm_id_allocator *ids) {
-    vm_refusal refusal;
+    RETURNS(VM_OUT_OF_RANGE, vm_id_free(ids, 4, &refusal));
+    CHECK(are_told(0, 0, 4));
+    RETURNS(VM_OUT_OF_RANGE, vm_id_free(ids, UINT32_MAX, &refusal));
+    CHECK(are_told(0, 0, UINT32_MAX));
+    RETURNS(VM_NEVER_ALLOCATED, vm_id_free(ids, 7, &refusal));
+    CHECK(are_told(0, 0, 7));
+    RETURNS(VM_ALREADY_RELEASED, vm_id_free(ids, 5, &refusal));
+    CHECK(are_told(0, 0, 5));
+}
 
-    CHECK(noted(vm_id_free(ids, 4, &refusal)) == VM_OUT_OF_RANGE && refusal.id == 4);
-    CHECK(noted(vm_id_free(ids, 7, &refusal)) == VM_NEVER_ALLOCATED && refusal.id == 7);
-    CHECK(noted(vm_id_free(ids, 5, &refusal)) == VM_ALREADY_RELEASED && refusal.id == 5);
-    CHECK(is_range(refusal.range, 0, 0) && is_range(refusal.other, 0, 0) && refusal.size == 0);
+/* Allocates and frees many ids, the lowest first. */
+static void allocate_many_ids(uint32_t first) {
+    vm_id_allocator *ids;
+    uint32_t id, other;
+    uint64_t count;
+    bool is_allocated;
+
+    CHECK(vm_id_allocator_new(first, first + MANY, &ids, NULL) == VM_OK);
+    for (id = first; id < first + MANY; id++) {
+        CHECK(vm_id_peek(ids, &other) == VM_OK && other == id);
+        CHECK(vm_id_is_allocated(ids, id, &is_allocated) == VM_OK && !is_allocated);
+        CHECK(vm_id_allocate(ids, &other) == VM_OK && other == id);
+        CHECK(vm_id_is_allocated(ids, id, &is_allocated) == VM_OK && is_allocated);
+        CHECK(vm_id_count(ids, &count) == VM_OK && count == (uint64_t)id - first + 1);
+    }
+    for (id = first; id < first + MANY; id++) {
+        CHECK(vm_id_free(ids, id, NULL) == VM_OK);
+        RETURNS(VM_ALREADY_RELEASED, vm_id_free(ids, id, &refusal));
+        CHECK(are_told(0, 0, id));
+        CHECK(vm_id_is_allocated(ids, id, &is_allocated) == VM_OK && !is_allocated);
+    }
+    CHECK(vm_id_allocator_destroy(ids) == VM_OK);
 }
 
 static void allocate_ids(void) {
     vm_id_allocator *ids;
-    vm_refusal refusal;
     uint32_t id;
     uint64_t count;
     bool is_allocated = true;
 
     REFUSED(VM_INVALID_RANGE, vm_id_allocator *, vm_id_allocator_new(23, 5, &answer, &refusal));
-    CHECK(is_range(refusal.range, 23, 5));
+    CHECK(are_told(23, 5, 0));
     CHECK(vm_id_allocator_new(5, 7, &ids, NULL) == VM_OK);
     CHECK(vm_id_peek(ids, &id) == VM_OK && id == 5);
     CHECK(vm_id_is_allocated(ids, 5, &is_allocated) == VM_OK && !is_allocated);
     CHECK(vm_id_allocate(ids, &id) == VM_OK && id == 5);
     CHECK(vm_id_is_allocated(ids, 5, &is_allocated) == VM_OK && is_allocated);
+    CHECK(vm_id_is_allocated(ids, 4, &is_allocated) == VM_OK && !is_allocated);
     CHECK(vm_id_allocate(ids, &id) == VM_OK && id == 6);
     CHECK(vm_id_free(ids, 5, &refusal) == VM_OK);
     refuse_ids(ids);
@@ -219,11 +353,9 @@ static void allocate_ids(void) {
 /* ---- Devices ---- */
 
 static void make_managers(void) {
-    vm_refusal refusal;
-
     REFUSED(VM_INVALID_RANGE, vm_device_manager *,
             vm_device_manager_new(2, 1, 0, 0, &answer, &refusal));
-    CHECK(is_range(refusal.range, 2, 1));
+    CHECK(are_told(2, 1, 0));
     REFUSED(VM_UNDERFLOW, vm_device_manager *,
             vm_device_manager_new(1, 2, 0, 0, &answer, &refusal));
     REFUSED(VM_OVERFLOW, vm_device_manager *,
@@ -233,7 +365,6 @@ static void make_managers(void) {
 static void reserve_devices(void) {
     vm_device_manager *manager;
     vm_device first, last, exact;
-    vm_refusal refusal;
     vm_range range;
 
     CHECK(vm_device_manager_new(1, 3, 0x1000, 0x1000, &manager, NULL) == VM_OK);
@@ -242,7 +373,7 @@ static void reserve_devices(void) {
     CHECK(vm_device_reserve_last(manager, 0x100, 0x100, &last, NULL) == VM_OK);
     REFUSED(VM_INVALID_STATE_TRANSITION, vm_device,
             vm_device_reserve_exact(manager, 0x100, 1, 0x1000, &answer, &refusal));
-    CHECK(is_range(refusal.range, 0x1000, 0x10ff));
+    CHECK(are_told(0x1000, 0x10ff, 0));
     CHECK(vm_device_reserve_exact(manager, 1, 1, 0x1801, &exact, &refusal) == VM_OK);
     CHECK(first.id == 1 && is_range(first.range, 0x1000, 0x10ff));
     CHECK(last.id == 2 && is_range(last.range, 0x1f00, 0x1fff));
@@ -251,9 +382,36 @@ static void reserve_devices(void) {
             vm_device_reserve_first(manager, 1, 1, &answer, &refusal));
     CHECK(vm_device_slot(manager, 2, &range, &refusal) == VM_OK && is_range(range, 0x1f00, 0x1fff));
     CHECK(vm_device_release(manager, 2, &refusal) == VM_OK);
-    CHECK(vm_device_release(manager, 2, &refusal) == VM_NEVER_ALLOCATED && refusal.id == 2);
+    RETURNS(VM_NEVER_ALLOCATED, vm_device_release(manager, 2, &refusal));
+    CHECK(are_told(0, 0, 2));
     REFUSED(VM_NEVER_ALLOCATED, vm_range, vm_device_slot(manager, 2, &answer, &refusal));
-    CHECK(refusal.id == 2);
+    CHECK(are_told(0, 0, 2));
+    CHECK(vm_device_manager_destroy(manager) == VM_OK);
+}
+
+/* Reserves and releases many devices, at addresses of more than 32 bits. */
+static void reserve_many_devices(uint32_t first) {
+    const uint64_t base = 0x7654321000000000;
+    vm_device_manager *manager;
+    vm_device device;
+    vm_range range;
+    uint64_t start;
+    uint32_t i;
+
+    CHECK(vm_device_manager_new(first, first + MANY, base, MANY, &manager, NULL) == VM_OK);
+    for (i = 0; i < MANY; i++) {
+        start = base + MANY - 1 - i;
+        CHECK(vm_device_reserve_last(manager, 1, 1, &device, NULL) == VM_OK);
+        CHECK(device.id == first + i && is_range(device.range, start, start));
+        CHECK(vm_device_slot(manager, first + i, &range, NULL) == VM_OK);
+        CHECK(is_range(range, start, start));
+    }
+    for (i = 0; i < MANY; i++) {
+        CHECK(vm_device_release(manager, first + i, NULL) == VM_OK);
+        REFUSED(VM_NEVER_ALLOCATED, vm_range,
+                vm_device_slot(manager, first + i, &answer, &refusal));
+        CHECK(are_told(0, 0, first + i));
+    }
     CHECK(vm_device_manager_destroy(manager) == VM_OK);
 }
 
@@ -318,9 +476,31 @@ static void save_devices(void) {
     CHECK(vm_text_destroy(text) == VM_OK);
 }
 
+/* No object is as long as these say, and nothing may be read behind the text. */
+static void give_great_lengths(void) {
+    static const size_t lengths[] = {SIZE_MAX, SIZE_MAX / 2 + 1};
+    vm_address_allocator *space;
+    size_t length, i;
+    char *text;
+
+    CHECK(vm_address_allocator_new(16, 4, &space) == VM_OK);
+    text = saved_space(space, &length);
+    for (i = 0; i < 2; i++) {
+        length = lengths[i];
+        REFUSED(VM_NOT_JSON, vm_address_allocator *,
+                vm_address_allocator_read(text, length, &answer));
+        REFUSED(VM_NOT_JSON, vm_address_allocator *,
+                vm_address_allocator_read_repaired(text, length, &answer));
+        REFUSED(VM_NOT_JSON, vm_id_allocator *, vm_id_allocator_read(text, length, &answer));
+        REFUSED(VM_NOT_JSON, vm_device_manager *, vm_device_manager_read(text, length, &answer));
+    }
+    CHECK(vm_text_destroy(text) == VM_OK);
+    CHECK(vm_address_allocator_destroy(space) == VM_OK);
+}
+
 /* ---- Null pointers ---- */
 
-#define IS_NULL(call) CHECK(noted(call) == VM_NULL)
+#define IS_NULL(call) RETURNS(VM_NULL, call)
 
 static void give_null_spaces(void) {
     vm_address_allocator *space;
@@ -390,7 +570,6 @@ static void give_null_ids(void) {
 static void give_null_managers(void) {
     vm_device_manager *manager;
     vm_device device;
-    vm_refusal refusal;
     vm_range range;
     size_t length;
     char *text;
@@ -398,9 +577,8 @@ static void give_null_managers(void) {
     CHECK(vm_device_manager_new(0, 10, 0, 10, &manager, NULL) == VM_OK);
     IS_NULL(vm_device_manager_new(1, 0, 0, 0, NULL, NULL));
     IS_NULL(vm_device_manager_destroy(NULL));
-    memset(&refusal, UNTOUCHED, sizeof refusal);
     IS_NULL(vm_device_reserve_first(NULL, 1, 1, &device, &refusal));
-    CHECK(refusal.id == 0 && refusal.size == 0);
+    CHECK(are_told(0, 0, 0));
     IS_NULL(vm_device_reserve_first(manager, 1, 1, NULL, NULL));
     IS_NULL(vm_device_reserve_last(NULL, 1, 1, &device, NULL));
     IS_NULL(vm_device_reserve_last(manager, 1, 1, NULL, NULL));
@@ -421,15 +599,41 @@ static void give_null_managers(void) {
 
 /* ---- Words ---- */
 
-static void say_words(void) {
-    int status, other;
+static const struct text {
+    vm_status status;
+    const char *words;
+} texts[] = {
+    {VM_OK, "The call succeeded."},
+    {VM_OVERFLOW, "Management operations on desired resource resulted in overflow."},
+    {VM_OUT_OF_RANGE, "The id is not in the range."},
+    {VM_ALREADY_RELEASED, "The id is already released."},
+    {VM_NEVER_ALLOCATED, "The id was never allocated, can't release it."},
+    {VM_RESOURCE_NOT_AVAILABLE, "The requested resource is not available."},
+    {VM_INVALID_RANGE, "The range is not valid."},
+    {VM_INVALID_ALIGNMENT, "Alignment value is invalid."},
+    {VM_OVERLAP, "Addresses are overlapping."},
+    {VM_INVALID_STATE_TRANSITION, "The range is held already."},
+    {VM_UNALIGNED_ADDRESS, "The address is not aligned."},
+    {VM_UNDERFLOW, "Management operations on desired resource resulted in underflow."},
+    {VM_INVALID_SIZE, "The size is not valid."},
+    {VM_OUT_OF_MEMORY, "There is not enough memory."},
+    {VM_NULL, "A pointer is null."},
+    {VM_BUSY, "The object is being visited, and can't be changed meanwhile."},
+    {VM_NOT_JSON, "The text is no JSON."},
+    {VM_NOT_A_STATE, "The value states no valid object."},
+    /* Numbers of no status. */
+    {(vm_status)STATUSES, "There is no such status."},
+    {(vm_status)99, "There is no such status."},
+    {(vm_status)256, "There is no such status."},
+    {(vm_status)65536, "There is no such status."},
+    {VM_STATUS_WIDTH_, "There is no such status."},
+};
 
-    for (status = 0; status < STATUSES; status++) {
-        CHECK(strlen(vm_status_text((vm_status)status)) > 10);
-        for (other = 0; other < status; other++)
-            CHECK(strcmp(vm_status_text((vm_status)status), vm_status_text((vm_status)other)) != 0);
-    }
-    CHECK(strcmp(vm_status_text((vm_status)STATUSES), vm_status_text(VM_STATUS_WIDTH_)) == 0);
+static void say_words(void) {
+    size_t i;
+
+    for (i = 0; i < sizeof texts / sizeof texts[0]; i++)
+        CHECK(strcmp(vm_status_text(texts[i].status), texts[i].words) == 0);
     CHECK(strcmp(vm_version_text(), VM_VERSION_TEXT) == 0);
 }
 
@@ -445,13 +649,21 @@ int main(void) {
 
     make_spaces();
     allocate_ranges();
+    allocate_large_ranges();
+    allocate_many_ranges();
     visit_ranges();
+    visit_in_other_ways();
     allocate_ids();
+    allocate_many_ids(0);
+    allocate_many_ids(0x7fffff80);
     make_managers();
     reserve_devices();
+    reserve_many_devices(0);
+    reserve_many_devices(0x7fffff80);
     save_spaces();
     save_ids();
     save_devices();
+    give_great_lengths();
     give_null_spaces();
     give_null_ids();
     give_null_managers();

@@ -1,7 +1,8 @@
 /*
  * Refuses the requests for memory of each call, one after the other: the call has
  * to return VM_OUT_OF_MEMORY, to give back what it got, and to change nothing.
- * The calls that the header excepts have to end the process.
+ * The calls that the header excepts have to end the process. It also measures the
+ * memory that reading a text takes.
  *
  * The requests come here by the linker's --wrap.
  */
@@ -9,14 +10,28 @@
 #include "check.h"
 
 #include <errno.h>
+#include <malloc.h>
 #include <signal.h>
 #include <sys/wait.h>
 #include <unistd.h>
 
 /* Requests up to the one that is refused; 0 refuses none. */
 static unsigned long until_refused;
-/* Blocks that were given and not given back. */
+/* Blocks that were given and not given back, the bytes of them, and the most bytes so far. */
 static long blocks;
+static size_t bytes, most_bytes;
+
+/* The bytes of a block, with the word that the malloc of glibc adds to each. */
+static size_t size_of(void *block) {
+    return block == NULL ? 0 : malloc_usable_size(block) + sizeof(size_t);
+}
+
+static void count_given(void *block) {
+    blocks += block != NULL;
+    bytes += size_of(block);
+    if (bytes > most_bytes)
+        most_bytes = bytes;
+}
 
 static bool is_refused(void) {
     return until_refused > 0 && --until_refused == 0;
@@ -31,33 +46,41 @@ void __real_free(void *old);
 void *__wrap_malloc(size_t size) {
     void *block = is_refused() ? NULL : __real_malloc(size);
 
-    blocks += block != NULL;
+    count_given(block);
     return block;
 }
 
 void *__wrap_calloc(size_t count, size_t size) {
     void *block = is_refused() ? NULL : __real_calloc(count, size);
 
-    blocks += block != NULL;
+    count_given(block);
     return block;
 }
 
 void *__wrap_realloc(void *old, size_t size) {
+    size_t before = size_of(old);
     void *block = is_refused() ? NULL : __real_realloc(old, size);
 
-    blocks += old == NULL && block != NULL;
+    /* Both blocks are there while the bytes are moved. */
+    count_given(block);
+    if (block != NULL) {
+        blocks -= old != NULL;
+        bytes -= before;
+    }
     return block;
 }
 
 int __wrap_posix_memalign(void **block, size_t alignment, size_t size) {
     int failed = is_refused() ? ENOMEM : __real_posix_memalign(block, alignment, size);
 
-    blocks += !failed;
+    if (!failed)
+        count_given(*block);
     return failed;
 }
 
 void __wrap_free(void *old) {
     blocks -= old != NULL;
+    bytes -= size_of(old);
     __real_free(old);
 }
 
@@ -336,6 +359,63 @@ static void refuse_until_it_ends(void (*call)(void)) {
     CHECK(!"a refused request ends the process");
 }
 
+/* ---- What reading takes ---- */
+
+/*
+ * The header says that reading a text takes less memory than so many times its
+ * length. A level of brackets has two bytes and requests 128. With the word that
+ * glibc adds and the rounding that makes 144, or 160 if the block was cut from one
+ * whose rest would be too small.
+ */
+enum { TIMES = 80 };
+
+/* The values that take the most memory for their length, one within the other. */
+static const struct nesting {
+    const char *open, *inmost, *close;
+} nestings[] = {
+    {"[", "0", "]"},      {"[", "[]", "]"},          {"[", "\"a\"", "]"},
+    {"{\"\":", "0", "}"}, {"{\"a\":", "\"a\"", "}"},
+};
+
+/* Reads an array of `count` nestings, and returns the bytes it takes for each byte of the text. */
+static double read_nested(const struct nesting *nesting, int depth, int count) {
+    static char text[1 << 16];
+    vm_address_allocator *made;
+    size_t length, before = bytes;
+    char *end = text;
+    int i, level;
+
+    for (i = 0; i < count; i++) {
+        *end++ = i == 0 ? '[' : ',';
+        for (level = 0; level < depth; level++)
+            end += sprintf(end, "%s", nesting->open);
+        end += sprintf(end, "%s", nesting->inmost);
+        for (level = 0; level < depth; level++)
+            end += sprintf(end, "%s", nesting->close);
+    }
+    *end++ = ']';
+    length = (size_t)(end - text);
+    most_bytes = bytes;
+    CHECK(vm_address_allocator_read(text, length, &made) == VM_NOT_A_STATE);
+    CHECK(bytes == before && most_bytes - before < TIMES * length);
+    return (double)(most_bytes - before) / (double)length;
+}
+
+static void measure_reading(void) {
+    static const int depths[] = {0, 1, 2, 126}, counts[] = {1, 2, 5, 9, 33, 65};
+    double most = 0;
+    size_t i, j, k;
+
+    for (i = 0; i < sizeof nestings / sizeof nestings[0]; i++)
+        for (j = 0; j < sizeof depths / sizeof depths[0]; j++)
+            for (k = 0; k < sizeof counts / sizeof counts[0]; k++) {
+                double times = read_nested(&nestings[i], depths[j], counts[k]);
+
+                most = times > most ? times : most;
+            }
+    printf("memory: reading takes up to %.2f times the length of a text\n", most);
+}
+
 int main(void) {
     long before = blocks;
     size_t i;
@@ -349,6 +429,7 @@ int main(void) {
     refuse_until_it_ends(release_device);
     refuse_until_it_ends(read_manager);
     tear_down();
+    measure_reading();
     CHECK(blocks == before);
     puts("memory: each request of each call refused");
     return 0;

@@ -1,13 +1,15 @@
 /*
  * Threads, each with its own objects; objects that are handed on; one that all
- * look at together; and calls that go deep on a small stack.
+ * look at together, and one that all visit; and calls that go deep on a small
+ * stack.
  */
 #define _POSIX_C_SOURCE 200809L
 #include "check.h"
 
 #include <pthread.h>
 
-enum { THREADS = 8, ROUNDS = 40, HELD = 64, SMALL_STACK = 64 * 1024, LEVELS = 50 };
+enum { THREADS = 8, ROUNDS = 40, VISITS = 200000, HELD = 64 };
+enum { SMALL_STACK = 64 * 1024, LEVELS = 50 };
 
 SAVED(saved_space, vm_address_allocator)
 
@@ -161,6 +163,36 @@ static void look_together(void) {
     CHECK(vm_address_allocator_destroy(space) == VM_OK);
 }
 
+/* ---- Visited together ---- */
+
+static void *visit_often(void *context) {
+    const vm_address_allocator *space = (const vm_address_allocator *)context;
+    int i;
+
+    for (i = 0; i < VISITS; i++) {
+        uint64_t sum = 0;
+
+        CHECK(vm_range_visit(space, count_range, &sum) == VM_OK && sum == 3);
+    }
+    return NULL;
+}
+
+/* If one of the visits were not counted, the space would be busy after them. */
+static void visit_together(void) {
+    pthread_t threads[THREADS];
+    vm_address_allocator *space;
+    vm_range range;
+    size_t i;
+
+    CHECK(vm_address_allocator_new(0, 3, &space) == VM_OK);
+    CHECK(vm_range_allocate_first(space, 3, 1, &range, NULL) == VM_OK);
+    for (i = 0; i < THREADS; i++)
+        run(&threads[i], NULL, visit_often, space);
+    join_all(threads, THREADS);
+    CHECK(vm_range_free(space, range, NULL) == VM_OK);
+    CHECK(vm_address_allocator_destroy(space) == VM_OK);
+}
+
 /* ---- On a small stack ---- */
 
 /* Adds to the end of a text. */
@@ -169,20 +201,20 @@ static void add(char **end, const char *piece) {
     *end += strlen(piece);
 }
 
-/* The text of nodes, each the right child of the one before. */
-static char *chain_of_nodes(void) {
-    char *text = (char *)malloc(200 * LEVELS), *end = text;
+/* The text of so many nodes, each the right child of the one before. */
+static char *chain_of_nodes(int levels) {
+    char *text = (char *)malloc(200 * (size_t)levels), *end = text;
     int i;
 
     CHECK(text != NULL);
     add(&end, "{\"address_space\":{\"start\":0,\"end\":99},\"interval_tree\":{\"root\":");
-    for (i = 0; i < LEVELS; i++)
+    for (i = 0; i < levels; i++)
         end += sprintf(end,
                        "{\"key\":{\"start\":%d,\"end\":%d},\"node_state\":\"Allocated\","
                        "\"left\":null,\"height\":1,\"right\":",
                        2 * i, 2 * i);
     add(&end, "null");
-    for (i = 0; i < LEVELS + 2; i++)
+    for (i = 0; i < levels + 2; i++)
         add(&end, "}");
     return text;
 }
@@ -190,7 +222,7 @@ static char *chain_of_nodes(void) {
 static void *go_deep(void *context) {
     static char brackets[100000];
     vm_address_allocator *space;
-    char *text = chain_of_nodes();
+    char *text = chain_of_nodes(LEVELS), *too_deep = chain_of_nodes(LEVELS + 1);
     uint64_t count;
     size_t length;
     int levels;
@@ -205,7 +237,9 @@ static void *go_deep(void *context) {
         memset(brackets, '[', sizeof brackets);
     }
     CHECK(vm_address_allocator_read(text, strlen(text), &space) == VM_NOT_A_STATE);
+    CHECK(vm_address_allocator_read_repaired(too_deep, strlen(too_deep), &space) == VM_NOT_A_STATE);
     CHECK(vm_address_allocator_read_repaired(text, strlen(text), &space) == VM_OK);
+    free(too_deep);
     free(text);
     CHECK(vm_range_count(space, &count) == VM_OK && count == LEVELS);
     CHECK(vm_text_destroy(saved_space(space, &length)) == VM_OK);
@@ -228,7 +262,8 @@ int main(void) {
     use_own_objects();
     hand_on();
     look_together();
+    visit_together();
     run_on_small_stack();
-    puts("threads: each with its own objects, objects handed on, one looked at together");
+    puts("threads: each with its own objects, objects handed on, one looked at and one visited");
     return 0;
 }

@@ -1,7 +1,8 @@
-/* A visitor that throws in place of returning: the process has to end by abort(). */
+/* Visitors that do not return: the process has to end by abort(). */
 #include "check.h"
 
 #include <csignal>
+#include <pthread.h>
 #include <sys/wait.h>
 #include <unistd.h>
 
@@ -9,29 +10,55 @@ static int throw_one(void *, vm_range) {
     throw 1;
 }
 
-static void visit_by_throwing() {
+static int exit_thread(void *, vm_range) {
+    pthread_exit(nullptr);
+}
+
+static int cancel_thread(void *, vm_range) {
+    pthread_cancel(pthread_self());
+    pthread_testcancel();
+    return 0;
+}
+
+static void *visit(void *context) {
+    vm_range_visitor *visitor = *static_cast<vm_range_visitor **>(context);
     vm_address_allocator *space;
     vm_range range;
 
-    CHECK(freopen("/dev/null", "w", stderr) != nullptr);
     CHECK(vm_address_allocator_new(0, 10, &space) == VM_OK);
     CHECK(vm_range_allocate_first(space, 1, 1, &range, nullptr) == VM_OK);
     try {
-        vm_range_visit(space, throw_one, nullptr);
-    } catch (...) {
+        vm_range_visit(space, visitor, nullptr);
+    } catch (int) {
         _exit(1);
     }
+    return nullptr;
+}
+
+/* Visits in a thread, and exits if that is survived. */
+static void visit_in_child(vm_range_visitor *visitor) {
+    pthread_t thread;
+
+    CHECK(freopen("/dev/null", "w", stderr) != nullptr);
+    CHECK(pthread_create(&thread, nullptr, visit, &visitor) == 0);
+    pthread_join(thread, nullptr);
     _exit(2);
 }
 
-int main() {
+static void check_aborts(vm_range_visitor *visitor) {
     pid_t child = fork();
     int ended;
 
     CHECK(child >= 0);
     if (child == 0)
-        visit_by_throwing();
+        visit_in_child(visitor);
     CHECK(waitpid(child, &ended, 0) == child);
     CHECK(WIFSIGNALED(ended) && WTERMSIG(ended) == SIGABRT);
+}
+
+int main() {
+    check_aborts(throw_one);
+    check_aborts(exit_thread);
+    check_aborts(cancel_thread);
     return 0;
 }

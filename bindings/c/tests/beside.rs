@@ -1,0 +1,9 @@
+//! Another Rust library in the same program. It catches a panic of its own.
+
+use std::panic;
+
+#[unsafe(no_mangle)]
+pub extern "C" fn catches_its_panic() -> bool {
+    panic::set_hook(Box::new(|_| {}));
+    panic::catch_unwind(|| panic!("this is caught")).is_err()
+}
