@@ -1,6 +1,6 @@
 //! What calls cost: requests for memory, boxes followed, and processor time. No contract limits these.
-mod boxes;
 mod lines;
+mod managers;
 mod meter;
 mod objects;
 mod requests;

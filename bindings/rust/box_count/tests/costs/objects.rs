@@ -1,12 +1,11 @@
 //! The objects that are measured.
 use rattle::{Global, Value};
-use std::collections::{BTreeMap, BTreeSet};
+use std::collections::BTreeSet;
 use vm_allocator::AllocPolicy::{ExactMatch, FirstMatch};
 use vm_allocator::{AddressAllocator, IdAllocator, RangeInclusive};
 use vm_devices::DeviceManager;
 
-/// A space with `held` allocated ranges, ids of which `held` are allocated, and a manager with `held`
-/// devices.
+/// Where objects have their `held` allocated ranges, ids or devices.
 #[derive(Clone, Copy, Debug)]
 pub struct Setting {
     pub held: u64,
@@ -19,22 +18,20 @@ pub struct Setting {
 pub const SETTINGS: [Setting; 4] = [low(3), high(3), low(10_000), high(10_000)];
 
 pub const fn low(held: u64) -> Setting {
-    let (base, size, first_id) = (0, 1 << 40, 0);
     Setting {
         held,
-        base,
-        size,
-        first_id,
+        base: 0,
+        size: 1 << 40,
+        first_id: 0,
     }
 }
 
 const fn high(held: u64) -> Setting {
-    let (base, size, first_id) = (u64::MAX - (1 << 20) + 1, 1 << 20, u32::MAX - (1 << 20));
     Setting {
         held,
-        base,
-        size,
-        first_id,
+        base: u64::MAX - (1 << 20) + 1,
+        size: 1 << 20,
+        first_id: u32::MAX - (1 << 20),
     }
 }
 
@@ -52,20 +49,6 @@ impl Setting {
         self.first_id + (1 << 20)
     }
 
-    /// Returns the ids that are freed. They alternate with those that stay allocated.
-    pub fn freed(self) -> impl Iterator<Item = u32> {
-        (0..self.held as u32).map(move |number| self.first_id + 2 * number + 1)
-    }
-
-    /// Returns the set of these ids, added one by one.
-    pub fn freed_set(self) -> BTreeSet<u32> {
-        let mut set = BTreeSet::new();
-        for id in self.freed() {
-            set.insert(id);
-        }
-        set
-    }
-
     /// Returns a space with 4 addresses allocated at each multiple of 16.
     pub fn space(self) -> AddressAllocator {
         let mut space = AddressAllocator::new(Global, self.base, self.size).unwrap();
@@ -76,31 +59,37 @@ impl Setting {
         space
     }
 
-    pub fn ids(self) -> IdAllocator {
-        let mut ids = IdAllocator::new(Global, self.first_id, self.last_id()).unwrap();
-        for _ in 0..2 * self.held {
-            ids.allocate_id().unwrap();
-        }
-        for id in self.freed() {
-            ids.free_id(id).unwrap();
-        }
-        ids
+    pub fn held_ids(self) -> impl Iterator<Item = u32> {
+        (0..self.held as u32).map(move |number| self.first_id + 2 * number)
     }
 
-    /// Returns a manager whose devices have these ranges, and its table.
-    pub fn manager(self) -> (DeviceManager, BTreeMap<u32, RangeInclusive>) {
+    /// Returns the ids that are freed. They alternate with those that stay allocated.
+    pub fn freed_ids(self) -> impl Iterator<Item = u32> {
+        self.held_ids().map(|id| id + 1)
+    }
+
+    pub fn ids(self) -> (IdAllocator, BTreeSet<u32>) {
+        let mut ids = IdAllocator::new(Global, self.first_id, self.last_id()).unwrap();
+        let mut freed = BTreeSet::new();
+        (0..2 * self.held).for_each(|_| assert!(ids.allocate_id().is_ok()));
+        for id in self.freed_ids() {
+            ids.free_id(id).unwrap();
+            freed.insert(id);
+        }
+        (ids, freed)
+    }
+
+    /// Returns a manager with the ranges of `space` and the ids of `ids`.
+    pub fn manager(self) -> DeviceManager {
         let (lo, hi) = (self.first_id, self.last_id());
         let mut manager = DeviceManager::new(Global, lo, hi, self.base, self.size).unwrap();
-        let mut table = BTreeMap::new();
         for _ in 0..2 * self.held {
-            let device = manager.reserve(Global, 4, 8, FirstMatch).unwrap();
-            table.insert(device.id, device.range);
+            manager.reserve(Global, 4, 8, FirstMatch).unwrap();
         }
-        for id in self.freed() {
+        for id in self.freed_ids() {
             manager.release(id).unwrap();
-            table.remove(&id);
         }
-        (manager, table)
+        manager
     }
 }
 
@@ -108,9 +97,17 @@ pub fn range(start: u64, end: u64) -> RangeInclusive {
     RangeInclusive::new(start, end).unwrap()
 }
 
-/// Replaces a part of a value, and returns the old part.
-pub fn put(value: &mut Value, path: &str, part: Value) -> Value {
-    std::mem::replace(value.pointer_mut(path).unwrap(), part)
+/// Does work on a value of which one part is replaced.
+pub fn with_part<T>(
+    value: &mut Value,
+    path: &str,
+    part: Value,
+    work: impl FnOnce(&Value) -> T,
+) -> T {
+    let old = std::mem::replace(value.pointer_mut(path).unwrap(), part);
+    let result = work(value);
+    *value.pointer_mut(path).unwrap() = old;
+    result
 }
 
 /// Returns the path to the last node in the value of an allocator.

@@ -1,7 +1,7 @@
-//! No call takes the square of its time. Each row is work on an object of some size. On an object of
-//! eight times the size it may take at most three times what linear growth gives.
-use crate::meter::{processor_time, spent};
-use crate::objects::{last_node, low, put};
+//! No call takes the square of its time: an object of eight times the size takes at most three times what
+//! linear growth gives.
+use crate::meter::processor_time;
+use crate::objects::{last_node, low};
 use rattle::{Global, Value};
 use std::hint::black_box;
 use vm_allocator::{AddressAllocator, IdAllocator};
@@ -10,115 +10,88 @@ use vm_lines::run::run;
 
 const SMALL: u64 = 2_000;
 const GROWTH: u64 = 8;
-const ROUNDS: usize = 5;
+const ROUNDS: usize = 3;
 
 /// Checks the growth of work on the objects that `make` returns for a number of ranges, ids or devices.
-/// Both sizes take the same memory, since there are as many small objects.
+/// There are as many small objects as the large one is larger, so both take the same memory.
 fn expect_linear<T, U>(name: &str, make: impl Fn(u64) -> T, work: impl Fn(&T) -> U) {
     let small: Vec<T> = (0..GROWTH).map(|_| make(SMALL)).collect();
-    let large = [make(GROWTH * SMALL)];
-    let do_all = |objects: &[T]| {
-        objects
-            .iter()
-            .for_each(|object| drop(black_box(work(object))))
+    let large = make(GROWTH * SMALL);
+    let time_of = |object| {
+        let begun = processor_time();
+        drop(black_box(work(object)));
+        processor_time() - begun
     };
-    let least_time = |objects| {
-        let rounds = (0..ROUNDS).map(|_| spent(processor_time, || do_all(objects)).1);
-        rounds.min().unwrap()
-    };
-    let (linear, time) = (least_time(&small[..]), least_time(&large[..]));
-    eprintln!(
-        "{name}: {:.2} {:.2} ms {:.2}",
-        linear as f64 / 1e6,
-        time as f64 / 1e6,
-        time as f64 / linear as f64
-    );
-    assert!(
-        time <= 3 * linear,
-        "{name}: {time} ns, and linear growth gives {linear} ns"
-    );
+    let least = |time: &dyn Fn() -> u64| (0..ROUNDS).map(|_| time()).min().unwrap();
+    let linear = least(&|| small.iter().map(time_of).sum());
+    let time = least(&|| time_of(&large));
+    let most = 3 * linear;
+    assert!(time <= most, "{name}: {time} ns instead of {most} ns");
 }
 
-fn space_value(held: u64) -> Value {
+fn saved_space(held: u64) -> Value {
     low(held).space().to_value(Global).unwrap()
 }
 
-fn ids_value(held: u64) -> Value {
-    low(held).ids().to_value(Global).unwrap()
+fn saved_ids(held: u64) -> Value {
+    low(held).ids().0.to_value(Global).unwrap()
 }
 
-fn manager_value(held: u64) -> Value {
-    low(held).manager().0.to_value(Global).unwrap()
+fn saved_manager(held: u64) -> Value {
+    low(held).manager().to_value(Global).unwrap()
 }
 
-/// Makes the last item of a list, or a field of it, wrong.
+/// Returns a value with this part damaged.
 fn damaged(mut value: Value, path: &str) -> Value {
-    put(&mut value, path, Value::Null);
+    *value.pointer_mut(path).unwrap() = Value::Null;
     value
 }
 
 #[test]
 fn spaces() {
     let two = |held| (low(held).space(), low(held).space());
-    expect_linear("clone", two, |(space, _)| space.try_clone(Global).unwrap());
-    expect_linear("equality", two, |(space, same)| assert!(space == same));
-    expect_linear("order", two, |(space, same)| {
-        assert!(space.cmp(same).is_eq())
-    });
-    expect_linear("ranges", two, |(space, _)| {
-        (space.held_ranges().count(), space.held_count())
-    });
-    expect_linear("space to value", two, |(space, _)| {
-        space.to_value(Global).unwrap()
-    });
-    expect_linear("space from value", space_value, |value| {
-        AddressAllocator::from_value(Global, value).unwrap()
-    });
-    expect_linear("space repaired", space_value, |value| {
-        AddressAllocator::from_value_repaired(Global, value).unwrap()
-    });
-    let damaged_space = |held| {
-        let value = space_value(held);
+    let read = |value: &Value| AddressAllocator::from_value(Global, value).is_ok();
+    let repair = |value: &Value| AddressAllocator::from_value_repaired(Global, value).is_ok();
+    let damaged = |held| {
+        let value = saved_space(held);
         let path = last_node(&value) + "/height";
         damaged(value, &path)
     };
-    expect_linear("damaged space", damaged_space, |value| {
-        AddressAllocator::from_value(Global, value).unwrap_err()
+    expect_linear("clone", two, |(space, _)| space.try_clone(Global));
+    expect_linear("equality", two, |(space, same)| assert!(space == same));
+    expect_linear("order", two, |(space, same)| space.cmp(same));
+    expect_linear("count", two, |(space, _)| space.held_count());
+    expect_linear("ranges", two, |(space, _)| space.held_ranges().count());
+    expect_linear("space written", two, |(space, _)| space.to_value(Global));
+    expect_linear("space read", saved_space, |value| assert!(read(value)));
+    expect_linear("space repaired", saved_space, |value| {
+        assert!(repair(value))
     });
-    expect_linear("damaged space, repaired", damaged_space, |value| {
-        AddressAllocator::from_value_repaired(Global, value).unwrap_err()
-    });
+    expect_linear("space refused", damaged, |value| assert!(!read(value)));
+    expect_linear("no repair", damaged, |value| assert!(!repair(value)));
 }
 
 #[test]
 fn ids() {
-    let ids = |held| low(held).ids();
-    expect_linear("ids clone", ids, |ids| ids.try_clone(Global).unwrap());
-    expect_linear("ids to value", ids, |ids| ids.to_value(Global).unwrap());
-    expect_linear("ids from value", ids_value, |value| {
-        IdAllocator::from_value(Global, value).unwrap()
-    });
-    let damaged_ids = |held| damaged(ids_value(held), &format!("/freed_ids/{}", held - 1));
-    expect_linear("damaged ids", damaged_ids, |value| {
-        IdAllocator::from_value(Global, value).unwrap_err()
-    });
+    let ids = |held| low(held).ids().0;
+    let read = |value: &Value| IdAllocator::from_value(Global, value).is_ok();
+    let damaged = |held| damaged(saved_ids(held), &format!("/freed_ids/{}", held - 1));
+    expect_linear("ids cloned", ids, |ids| ids.try_clone(Global));
+    expect_linear("ids written", ids, |ids| ids.to_value(Global));
+    expect_linear("ids read", saved_ids, |value| assert!(read(value)));
+    expect_linear("ids refused", damaged, |value| assert!(!read(value)));
 }
 
 #[test]
 fn managers() {
-    let manager = |held| low(held).manager().0;
-    expect_linear("manager to value", manager, |manager| {
-        manager.to_value(Global).unwrap()
+    let manager = |held| low(held).manager();
+    let read = |value: &Value| DeviceManager::from_value(Global, value).is_ok();
+    let damaged = |held| damaged(saved_manager(held), &format!("/slots/{}/id", held - 1));
+    expect_linear("manager written", manager, |manager| {
+        manager.to_value(Global)
     });
-    expect_linear("manager from value", manager_value, |value| {
-        DeviceManager::from_value(Global, value).unwrap()
-    });
-    for field in ["/id", "/mmio_range/end"] {
-        let damaged = |held| damaged(manager_value(held), &format!("/slots/{}{field}", held - 1));
-        expect_linear("damaged manager", damaged, |value| {
-            DeviceManager::from_value(Global, value).unwrap_err()
-        });
-    }
+    expect_linear("manager read", saved_manager, |value| assert!(read(value)));
+    expect_linear("manager refused", damaged, |value| assert!(!read(value)));
 }
 
 #[test]
@@ -135,9 +108,6 @@ fn lines() {
         }
         text
     };
-    expect_linear("lines", lines, |text| {
-        let mut output = Vec::new();
-        run(Global, &mut text.as_bytes(), &mut output).unwrap();
-        output
-    });
+    let answer = |text: &String| run(Global, &mut text.as_bytes(), &mut std::io::sink());
+    expect_linear("lines", lines, answer);
 }
