@@ -39,7 +39,7 @@ pub fn map<K: Ord>(keys: impl Iterator<Item = K>) -> u64 {
 }
 
 /// Checks that a call succeeds with exactly this number of requests, or returns this error without any.
-/// If its first or its last request fails, it returns `OutOfMemory`, and tries nothing more.
+/// If its first or its last request fails, it returns `OutOfMemory` after at most as many requests.
 fn expect<T, E>(name: &dyn Debug, want: &Result<u64, E>, mut call: impl FnMut() -> Result<T, E>)
 where
     E: From<AllocError> + PartialEq + Debug,

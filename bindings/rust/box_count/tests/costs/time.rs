@@ -13,7 +13,8 @@ const GROWTH: u64 = 8;
 const ROUNDS: usize = 3;
 
 /// Checks the growth of work on the objects that `make` returns for a number of ranges, ids or devices.
-/// There are as many small objects as the large one is larger, so both take the same memory.
+/// There are as many small objects as the large one is larger, so both take the same memory. One round
+/// within the limit is enough, since other processes only add time.
 fn expect_linear<T, U>(name: &str, make: impl Fn(u64) -> T, work: impl Fn(&T) -> U) {
     let small: Vec<T> = (0..GROWTH).map(|_| make(SMALL)).collect();
     let large = make(GROWTH * SMALL);
@@ -22,11 +23,15 @@ fn expect_linear<T, U>(name: &str, make: impl Fn(u64) -> T, work: impl Fn(&T) ->
         drop(black_box(work(object)));
         processor_time() - begun
     };
-    let least = |time: &dyn Fn() -> u64| (0..ROUNDS).map(|_| time()).min().unwrap();
-    let linear = least(&|| small.iter().map(time_of).sum());
-    let time = least(&|| time_of(&large));
-    let most = 3 * linear;
-    assert!(time <= most, "{name}: {time} ns instead of {most} ns");
+    let mut rounds = (0..ROUNDS).map(|_| {
+        let linear: u64 = small.iter().map(time_of).sum();
+        (time_of(&large), 3 * linear)
+    });
+    let is_linear = rounds.any(|(time, most)| time <= most);
+    assert!(
+        is_linear,
+        "{name} takes more than three times linear growth"
+    );
 }
 
 fn saved_space(held: u64) -> Value {
