@@ -153,12 +153,19 @@ fn spaces_and_trees() {
             expect(&s, &want, || d.free_counted(&key).0);
         }
         none(&s, || (space.base(), space.end(), space.height()));
-        none(&s, || (space.holds(&s.key()), space.held_count()));
+        let key = range(last, last + 3);
+        none(&s, || (space.holds(&key), tree.holds(&key)));
+        none(&s, || (space.holds(&s.key()), tree.holds(&s.key())));
+        none(&s, || (space.held_count(), tree.held_count()));
         none(&s, || (space.held_ranges().count(), tree.height()));
-        none(&s, || (tree.holds(&s.key()), tree.held_count()));
         none(&s, || (tree.held_ranges().count(), tree == other_tree));
         none(&s, || (tree < other_tree, tree.cmp(&other_tree)));
         none(&s, || (space == other, space < other, space.cmp(&other)));
+        let (mut fewer, mut fewer_nodes) = (new_space(), new_tree());
+        fewer.free(&key).unwrap();
+        fewer_nodes.free(&key).unwrap();
+        none(&s, || (space == fewer, space < fewer));
+        none(&s, || (tree == fewer_nodes, tree < fewer_nodes));
     }
 }
 
