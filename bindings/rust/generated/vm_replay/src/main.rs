@@ -9,7 +9,7 @@
 
 use rattle::HostRuntime;
 use std::process::ExitCode;
-use vm_lines::run::{RunError, run};
+use vm_lines::{RunError, run};
 
 /// The status that the program ends with.
 fn status(outcome: Result<(), RunError>) -> u8 {

@@ -1,4 +1,4 @@
-// Written by bindings/erase from crates/vm_lines/src/run.rt: do not edit.
+// Written by bindings/erase from crates/vm_lines/src/replay.rt: do not edit.
 
 //! Answers an input: reads pieces of it, cuts them into lines, and drains the buffer. Its two facts
 //! have names (`AnswersInput`, `AnswersEndedLines`) and are stated for readers and writers that tell

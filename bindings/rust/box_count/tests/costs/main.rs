@@ -1,0 +1,7 @@
+//! What calls cost: requests for memory, boxes followed, and processor time. No contract limits these.
+mod lines;
+mod managers;
+mod meter;
+mod objects;
+mod requests;
+mod time;

@@ -1,0 +1,87 @@
+//! Measures what work costs its thread.
+use rattle::boxes_followed;
+use std::alloc::{GlobalAlloc, Layout, System};
+use std::cell::Cell;
+use std::fmt::Debug;
+use std::ptr::null_mut;
+
+/// A number of requests for memory, and a number of boxes followed. A vector that grows makes a request.
+pub type Cost = [u64; 2];
+
+thread_local! {
+    static REQUESTS: Cell<u64> = const { Cell::new(0) };
+    /// The number of the next request that fails, counted from 1. It is 0 if no request fails.
+    static FAILING: Cell<u64> = const { Cell::new(0) };
+}
+
+/// The allocator of the system, with the requests of each thread counted.
+struct Counting;
+
+#[global_allocator]
+static ALLOCATOR: Counting = Counting;
+
+// SAFETY: `System` allocates and frees every block. A null pointer reports a failed request.
+unsafe impl GlobalAlloc for Counting {
+    unsafe fn alloc(&self, layout: Layout) -> *mut u8 {
+        REQUESTS.set(REQUESTS.get() + 1);
+        let failing = FAILING.get();
+        FAILING.set(failing.saturating_sub(1));
+        if failing == 1 {
+            return null_mut();
+        }
+        System.alloc(layout)
+    }
+
+    unsafe fn dealloc(&self, block: *mut u8, layout: Layout) {
+        System.dealloc(block, layout)
+    }
+}
+
+/// Returns what the thread has spent so far.
+pub fn spent() -> Cost {
+    [REQUESTS.get(), boxes_followed()]
+}
+
+/// Does work, and returns its result and its cost.
+pub fn cost<T>(work: impl FnOnce() -> T) -> (T, Cost) {
+    let before = spent();
+    let result = work();
+    (result, difference(spent(), before))
+}
+
+pub fn difference(after: Cost, before: Cost) -> Cost {
+    [after[0] - before[0], after[1] - before[1]]
+}
+
+/// Does work with the request of this number refused.
+pub fn with_failing<T>(number: u64, work: impl FnOnce() -> T) -> T {
+    FAILING.set(number);
+    let result = work();
+    FAILING.set(0);
+    result
+}
+
+/// Checks that work costs at most as much as its parts, and returns its result.
+pub fn at_most<T>(name: &dyn Debug, parts: &[Cost], work: impl FnOnce() -> T) -> T {
+    let (result, [requests, boxes]) = cost(work);
+    let most: Cost = [0, 1].map(|of| parts.iter().map(|part| part[of]).sum());
+    let is_within = requests <= most[0] && boxes <= most[1];
+    assert!(
+        is_within,
+        "{name:?}: {requests} requests, {boxes} boxes, and its parts {most:?}"
+    );
+    result
+}
+
+/// Returns the processor time of the thread in nanoseconds.
+pub fn processor_time() -> u64 {
+    const CLOCK_THREAD_CPUTIME_ID: i32 = 3;
+    extern "C" {
+        fn clock_gettime(clock: i32, time: *mut [i64; 2]) -> i32;
+    }
+    let mut time = [0; 2];
+    // SAFETY: a `timespec` of Linux with 64 bits is two `i64`.
+    let status = unsafe { clock_gettime(CLOCK_THREAD_CPUTIME_ID, &mut time) };
+    assert_eq!(status, 0);
+    (time[0] * 1_000_000_000 + time[1]) as u64
+}

@@ -1,0 +1,268 @@
+//! How often each call requests memory, as a function of the nodes, ids and devices. The numbers follow
+//! from what has to be allocated: a block for each node of a tree, and one for each list of fields, each
+//! name and each text of a value. Sets, maps and lists are those of Rust's standard library, so their
+//! part is what the same operations on them request.
+use crate::meter::{at_most, cost, with_failing};
+use crate::objects::{last_node, range, with_part, Setting, SETTINGS};
+use rattle::{AllocError, Global, Value};
+use std::collections::{BTreeMap, BTreeSet};
+use std::fmt::Debug;
+use vm_allocator::allocation_engine::{IntervalTree, NodeState};
+use vm_allocator::AllocPolicy::{self, ExactMatch, FirstMatch, LastMatch};
+use vm_allocator::Error::{self, *};
+use vm_allocator::ValueError::NotAState;
+use vm_allocator::{AddressAllocator, Constraint, IdAllocator, RangeInclusive};
+
+/// An object allocates its list of fields, and each name.
+pub const fn object(fields: u64) -> u64 {
+    1 + fields
+}
+
+const STATE: u64 = 1;
+const RANGE: u64 = object(2);
+const NODE: u64 = object(5) + RANGE + STATE;
+const SPACE_WITHOUT_NODES: u64 = object(2) + RANGE + object(1);
+pub const DEVICE: u64 = object(2) + RANGE;
+
+/// Returns the requests of a vector that gets its items one by one.
+pub fn list(items: u64) -> u64 {
+    let mut list = Vec::new();
+    let push_all = || (0..items).for_each(|_| list.push(Value::Null));
+    cost(push_all).1[0]
+}
+
+/// Returns the requests of a map, or of a set, that gets its keys one by one.
+pub fn map<K: Ord>(keys: impl Iterator<Item = K>) -> u64 {
+    let mut map = BTreeMap::new();
+    let insert_all = || keys.for_each(|key| assert!(map.insert(key, ()).is_none()));
+    cost(insert_all).1[0]
+}
+
+/// Checks that a call succeeds with exactly this number of requests, or returns this error without any.
+/// If its first or its last request fails, it returns `OutOfMemory` after at most as many requests.
+fn expect<T, E>(name: &dyn Debug, want: &Result<u64, E>, mut call: impl FnMut() -> Result<T, E>)
+where
+    E: From<AllocError> + PartialEq + Debug,
+{
+    let requests = *want.as_ref().unwrap_or(&0);
+    for failing in [1, requests].into_iter().filter(|_| requests > 0) {
+        let (result, [made, _]) = cost(|| with_failing(failing, &mut call));
+        assert_eq!(result.err(), Some(E::from(AllocError)), "{name:?}");
+        assert!(made <= requests, "{name:?}: {made} requests");
+    }
+    let (result, [made, _]) = cost(call);
+    assert_eq!(&result.map(|_| requests), want, "{name:?}");
+    assert_eq!(made, requests, "{name:?}");
+}
+
+fn none<T>(name: &dyn Debug, walk: impl FnOnce() -> T) {
+    at_most(name, &[[0, u64::MAX]], walk);
+}
+
+#[test]
+fn new_spaces() {
+    let rows = [
+        (0, 1, Ok(1)),
+        (0, u64::MAX, Ok(1)),
+        (1, u64::MAX, Ok(1)),
+        (u64::MAX, 1, Ok(1)),
+        (0, 0, Err(Underflow)),
+        (u64::MAX, 2, Err(Overflow)),
+    ];
+    for (base, size, want) in rows {
+        let s = (base, size);
+        expect(&s, &want, || AddressAllocator::new(Global, base, size));
+        if want.is_ok() {
+            let key = range(base, base + (size - 1));
+            expect(&s, &want, || IntervalTree::new(Global, key));
+        }
+    }
+}
+
+/// A split allocates a node for each part of its gap that is left.
+pub fn allocations(s: Setting) -> [(u64, u64, AllocPolicy, Result<u64, Error>); 21] {
+    let (base, last) = (s.base, s.key().end());
+    let is_high = last == u64::MAX;
+    let unless_high = |requests| if is_high { Err(Overflow) } else { Ok(requests) };
+    let outside = if is_high { base - 1 } else { last + 1 };
+    let is_held = InvalidStateTransition(range(base, base + 3), NodeState::Allocated);
+    [
+        (12, 1, FirstMatch, Ok(0)),
+        (12, 1, ExactMatch(base + 20), Ok(0)),
+        (s.size - 16 * s.held + 12, 1, LastMatch, unless_high(0)),
+        (1, 1, FirstMatch, Ok(1)),
+        (11, 1, ExactMatch(base + 5), Ok(1)),
+        (1, 1, LastMatch, unless_high(1)),
+        (2, 1, ExactMatch(base + 5), Ok(2)),
+        (2, 16, FirstMatch, Ok(2)),
+        (1, 2, LastMatch, Ok(2)),
+        (0, 1, FirstMatch, Err(InvalidSize(0))),
+        (1, 3, LastMatch, Err(InvalidAlignment)),
+        (4, 4, ExactMatch(base + 5), Err(UnalignedAddress)),
+        (1, 1, ExactMatch(u64::MAX), Err(Overflow)),
+        (1, 1, ExactMatch(outside), Err(ResourceNotAvailable)),
+        (u64::MAX, 1, ExactMatch(base + 4), Err(Overflow)),
+        (4, 1, ExactMatch(base), Err(is_held)),
+        (2, 1, ExactMatch(base), Err(ResourceNotAvailable)),
+        (13, 1, ExactMatch(base + 4), Err(ResourceNotAvailable)),
+        (s.size, 1, FirstMatch, Err(ResourceNotAvailable)),
+        (s.size, 1, LastMatch, Err(ResourceNotAvailable)),
+        (1, 1 << 63, FirstMatch, Err(ResourceNotAvailable)),
+    ]
+}
+
+#[test]
+fn spaces_and_trees() {
+    for s in SETTINGS {
+        let (n, space, other) = (s.nodes(), s.space(), s.space());
+        let value = space.to_value(Global).unwrap();
+        let root = &value["interval_tree"]["root"];
+        let read = |key| IntervalTree::from_root_value(Global, &key, root);
+        let (tree, other_tree) = (read(s.key()).unwrap(), read(s.key()).unwrap());
+        expect(&s, &Ok(n), || read(s.key()));
+        expect(&s, &Err(NotAState), || read(range(s.base, s.base + 1)));
+        expect(&s, &Ok(n * NODE), || tree.to_root_value(Global));
+        expect(&s, &Ok(n), || space.try_clone(Global));
+        expect(&s, &Ok(n), || tree.try_clone(Global));
+        let new_space = || space.try_clone(Global).unwrap();
+        let new_tree = || tree.try_clone(Global).unwrap();
+        for (size, align, policy, want) in allocations(s) {
+            let s = (s, size, align, policy);
+            let request = || Constraint::new(size, align, policy);
+            let (mut a, mut b, mut c, mut d) = (new_space(), new_space(), new_tree(), new_tree());
+            expect(&s, &want, || a.allocate(Global, size, align, policy));
+            expect(&s, &want, || {
+                b.allocate_counted(Global, size, align, policy).0
+            });
+            expect(&s, &want, || c.allocate(Global, request()?));
+            expect(&s, &want, || d.allocate_counted(Global, request()?).0);
+        }
+        let last = s.base + 16 * (s.held - 1);
+        let releases = [
+            (s.base, s.base + 3, Ok(0)),
+            (last, last + 3, Ok(0)),
+            (s.base, s.base + 2, Err(ResourceNotAvailable)),
+            (last + 4, s.key().end(), Err(ResourceNotAvailable)),
+        ];
+        for (start, end, want) in releases {
+            let (s, key) = ((s, start, end), range(start, end));
+            let (mut a, mut b, mut c, mut d) = (new_space(), new_space(), new_tree(), new_tree());
+            expect(&s, &want, || a.free(&key));
+            expect(&s, &want, || b.free_counted(&key).0);
+            expect(&s, &want, || c.free(&key));
+            expect(&s, &want, || d.free_counted(&key).0);
+        }
+        none(&s, || (space.base(), space.end(), space.height()));
+        let key = range(last, last + 3);
+        none(&s, || (space.holds(&key), tree.holds(&key)));
+        none(&s, || (space.holds(&s.key()), tree.holds(&s.key())));
+        none(&s, || (space.held_count(), tree.held_count()));
+        none(&s, || (space.held_ranges().count(), tree.height()));
+        none(&s, || (tree.held_ranges().count(), tree == other_tree));
+        none(&s, || (tree < other_tree, tree.cmp(&other_tree)));
+        none(&s, || (space == other, space < other, space.cmp(&other)));
+        let (mut fewer, mut fewer_nodes) = (new_space(), new_tree());
+        fewer.free(&key).unwrap();
+        fewer_nodes.free(&key).unwrap();
+        none(&s, || (space == fewer, space < fewer));
+        none(&s, || (tree == fewer_nodes, tree < fewer_nodes));
+    }
+}
+
+#[test]
+fn saved_ranges_and_states() {
+    let range_of = |value: &Value| RangeInclusive::from_value(Global, value);
+    for key in [range(0, 1), range(u64::MAX, u64::MAX)] {
+        let value = key.to_value(Global).unwrap();
+        expect(&key, &Ok(RANGE), || key.to_value(Global));
+        expect(&key, &Ok(0), || range_of(&value));
+        expect(&key, &Err(NotAState), || range_of(&value["end"]));
+    }
+    let state_of = |value: &Value| NodeState::from_value(Global, value);
+    for state in [NodeState::Free, NodeState::Allocated] {
+        let value = state.to_value(Global).unwrap();
+        expect(&state, &Ok(STATE), || state.to_value(Global));
+        expect(&state, &Ok(0), || state_of(&value));
+        expect(&state, &Err(NotAState), || state_of(&Value::Null));
+    }
+}
+
+/// A reader allocates one node for each block, after it has checked the whole value.
+#[test]
+fn saved_spaces() {
+    let read = |value: &Value| AddressAllocator::from_value(Global, value);
+    let repair = |value: &Value| AddressAllocator::from_value_repaired(Global, value);
+    for s in SETTINGS {
+        let (n, space) = (s.nodes(), s.space());
+        let written = SPACE_WITHOUT_NODES + n * NODE;
+        expect(&s, &Ok(written), || space.to_value(Global));
+        let mut value = space.to_value(Global).unwrap();
+        expect(&s, &Ok(n), || read(&value));
+        expect(&s, &Ok(n), || repair(&value));
+        let last = last_node(&value);
+        let rows = [
+            (format!("{last}/height"), Value::from(9), Ok(n)),
+            ("/interval_tree/root".into(), Value::Null, Ok(1)),
+            (format!("{last}/height"), Value::Null, Err(NotAState)),
+            (format!("{last}/key/start"), Value::from(0), Err(NotAState)),
+            (format!("{last}/node_state"), Value::Null, Err(NotAState)),
+            (last, Value::from(0), Err(NotAState)),
+            ("/address_space/end".into(), Value::Null, Err(NotAState)),
+            ("/interval_tree".into(), Value::Null, Err(NotAState)),
+        ];
+        for (path, part, repaired) in rows {
+            with_part(&mut value, &path, part, |value| {
+                expect(&(s, &path), &Err(NotAState), || read(value));
+                expect(&(s, &path), &repaired, || repair(value));
+            });
+        }
+    }
+}
+
+#[test]
+fn ids() {
+    for s in SETTINGS {
+        let (lo, hi, (mut ids, mut freed)) = (s.first_id, s.last_id(), s.ids());
+        let reversed = Err(InvalidRange(hi.into(), lo.into()));
+        expect(&s, &Ok(0), || IdAllocator::new(Global, lo, hi));
+        expect(&s, &reversed, || IdAllocator::new(Global, hi, lo));
+        let copy = || freed.iter().copied().collect::<BTreeSet<u32>>();
+        at_most(&s, &[cost(copy).1], || ids.try_clone(Global)).unwrap();
+        none(&s, || (ids.peek_id().is_ok(), ids.is_allocated(lo)));
+        none(&s, || ids.held_count());
+        let outside = if lo == 0 { hi + 1 } else { lo - 1 };
+        expect(&s, &Err(OutOfRange(outside)), || ids.free_id(outside));
+        expect(&s, &Err(NeverAllocated(hi)), || ids.free_id(hi));
+        expect(&s, &Err(AlreadyReleased(lo + 1)), || ids.free_id(lo + 1));
+        for id in s.held_ids() {
+            let inserted = cost(|| freed.insert(id)).1;
+            at_most(&(s, id), &[inserted], || ids.free_id(id)).unwrap();
+        }
+        for _ in 0..=2 * s.held {
+            expect(&s, &Ok(0), || ids.allocate_id());
+        }
+    }
+    for (id, error) in [(5, ResourceNotAvailable), (u32::MAX, Overflow)] {
+        let mut ids = IdAllocator::new(Global, id, id).unwrap();
+        expect(&id, &Ok(0), || ids.allocate_id());
+        expect(&id, &Err(error.clone()), || ids.peek_id());
+        expect(&id, &Err(error), || ids.allocate_id());
+    }
+}
+
+#[test]
+fn saved_ids() {
+    let read = |value: &Value| IdAllocator::from_value(Global, value);
+    for s in SETTINGS {
+        let (ids, written) = (s.ids().0, object(4) + list(s.held));
+        expect(&s, &Ok(written), || ids.to_value(Global));
+        let mut value = ids.to_value(Global).unwrap();
+        at_most(&s, &[[map(s.freed_ids()), 0]], || read(&value)).unwrap();
+        let last = format!("/freed_ids/{}", s.held - 1);
+        for path in [&last, "/freed_ids", "/range_base", "/range_end", "/next_id"] {
+            with_part(&mut value, path, Value::from(-1), |value| {
+                expect(&(s, path), &Err(NotAState), || read(value));
+            });
+        }
+    }
+}

@@ -1,0 +1,118 @@
+//! No call takes the square of its time: an object of eight times the size takes at most three times what
+//! linear growth gives.
+use crate::meter::processor_time;
+use crate::objects::{last_node, low};
+use rattle::{Global, Value};
+use std::hint::black_box;
+use vm_allocator::{AddressAllocator, IdAllocator};
+use vm_devices::DeviceManager;
+use vm_lines::run::run;
+
+const SMALL: u64 = 2_000;
+const GROWTH: u64 = 8;
+const ROUNDS: usize = 3;
+
+/// Checks the growth of work on the objects that `make` returns for a number of ranges, ids or devices.
+/// There are as many small objects as the large one is larger, so both take the same memory. One round
+/// within the limit is enough, since other processes only add time.
+fn expect_linear<T, U>(name: &str, make: impl Fn(u64) -> T, work: impl Fn(&T) -> U) {
+    let small: Vec<T> = (0..GROWTH).map(|_| make(SMALL)).collect();
+    let large = make(GROWTH * SMALL);
+    let time_of = |object| {
+        let begun = processor_time();
+        drop(black_box(work(object)));
+        processor_time() - begun
+    };
+    let mut rounds = (0..ROUNDS).map(|_| {
+        let linear: u64 = small.iter().map(time_of).sum();
+        (time_of(&large), 3 * linear)
+    });
+    let is_linear = rounds.any(|(time, most)| time <= most);
+    assert!(
+        is_linear,
+        "{name} takes more than three times linear growth"
+    );
+}
+
+fn saved_space(held: u64) -> Value {
+    low(held).space().to_value(Global).unwrap()
+}
+
+fn saved_ids(held: u64) -> Value {
+    low(held).ids().0.to_value(Global).unwrap()
+}
+
+fn saved_manager(held: u64) -> Value {
+    low(held).manager().to_value(Global).unwrap()
+}
+
+/// Returns a value with this part damaged.
+fn damaged(mut value: Value, path: &str) -> Value {
+    *value.pointer_mut(path).unwrap() = Value::Null;
+    value
+}
+
+#[test]
+fn spaces() {
+    let two = |held| (low(held).space(), low(held).space());
+    let read = |value: &Value| AddressAllocator::from_value(Global, value).is_ok();
+    let repair = |value: &Value| AddressAllocator::from_value_repaired(Global, value).is_ok();
+    let damaged = |held| {
+        let value = saved_space(held);
+        let path = last_node(&value) + "/height";
+        damaged(value, &path)
+    };
+    expect_linear("clone", two, |(space, _)| space.try_clone(Global));
+    expect_linear("equality", two, |(space, same)| assert!(space == same));
+    expect_linear("order", two, |(space, same)| space.cmp(same));
+    expect_linear("count", two, |(space, _)| space.held_count());
+    expect_linear("ranges", two, |(space, _)| space.held_ranges().count());
+    expect_linear("space written", two, |(space, _)| space.to_value(Global));
+    expect_linear("space read", saved_space, |value| assert!(read(value)));
+    expect_linear("space repaired", saved_space, |value| {
+        assert!(repair(value))
+    });
+    expect_linear("space refused", damaged, |value| assert!(!read(value)));
+    expect_linear("no repair", damaged, |value| assert!(!repair(value)));
+}
+
+#[test]
+fn ids() {
+    let ids = |held| low(held).ids().0;
+    let read = |value: &Value| IdAllocator::from_value(Global, value).is_ok();
+    let damaged = |held| damaged(saved_ids(held), &format!("/freed_ids/{}", held - 1));
+    expect_linear("ids cloned", ids, |ids| ids.try_clone(Global));
+    expect_linear("ids written", ids, |ids| ids.to_value(Global));
+    expect_linear("ids read", saved_ids, |value| assert!(read(value)));
+    expect_linear("ids refused", damaged, |value| assert!(!read(value)));
+}
+
+#[test]
+fn managers() {
+    let manager = |held| low(held).manager();
+    let read = |value: &Value| DeviceManager::from_value(Global, value).is_ok();
+    let damaged = |held| damaged(saved_manager(held), &format!("/slots/{}/id", held - 1));
+    expect_linear("manager written", manager, |manager| {
+        manager.to_value(Global)
+    });
+    expect_linear("manager read", saved_manager, |value| assert!(read(value)));
+    expect_linear("manager refused", damaged, |value| assert!(!read(value)));
+}
+
+#[test]
+fn lines() {
+    let lines = |held| {
+        let space = "0 1099511627776";
+        let mut text = format!("space {space}\nids 0 1000000\nmanager 0 1000000 {space}\n");
+        for start in (0..held).map(|number| 8 * number) {
+            text += &format!("exact 4 1 {start}\nid\ndevice 4 8\nfirst 0 1\nx\n");
+        }
+        for id in 0..held {
+            let (start, end) = (8 * id, 8 * id + 3);
+            text += &format!("free {start} {end}\nunid {id}\nundevice {id}\nunid {id}\n");
+        }
+        text
+    };
+    let answer = |text: &String| run(Global, &mut text.as_bytes(), &mut std::io::sink());
+    expect_linear("lines", lines, answer);
+}
