@@ -6,7 +6,7 @@ use rattle::{Global, Value};
 use std::hint::black_box;
 use vm_allocator::{AddressAllocator, IdAllocator};
 use vm_devices::DeviceManager;
-use vm_lines::run::run;
+use vm_lines::run;
 
 const SMALL: u64 = 2_000;
 const GROWTH: u64 = 8;
