@@ -81,8 +81,9 @@ class Runner:
 
     @staticmethod
     def ran(program, test, variables, seconds):
-        """What becomes of a test."""
-        return planting.ran([program, "--exact", test, "--test-threads=1"], seconds, {**os.environ, **variables})
+        """What becomes of a test. A backtrace would take longer than the test."""
+        variables = {**os.environ, "RUST_BACKTRACE": "0", **variables}
+        return planting.ran([program, "--exact", test, "--test-threads=1"], seconds, variables)
 
 
 def main():
