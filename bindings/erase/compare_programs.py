@@ -9,16 +9,21 @@ same lines come again, and how many lines of each kind were asked and succeeded.
 the first difference, whose input is kept, and where a kind of line was asked or succeeded too seldom."""
 import argparse
 import collections
+import os
 import random
 import subprocess
 import sys
 import tempfile
+
+sys.path.append(os.path.join(os.path.dirname(os.path.abspath(__file__)), "..", "..", "tests"))
+from processor_time import limited_to
 
 MAX = 2**64 - 1
 LAST_ID = 2**32 - 1
 KINDS = ("space", "first", "last", "exact", "free", "ids", "id", "unid", "has", "manager", "device", "undevice")
 ROUNDS, LINES_OF_A_ROUND = 8, 250
 LEAST_OF_A_KIND = 200
+LONGEST_RUN = 60  # seconds of processor time; a run needs much less than one
 REFUSALS = (b"error", b"no")
 
 
@@ -101,13 +106,20 @@ class Lines:
 
     def spoil(self, words):
         """Makes a line that is none, most of the times."""
-        spoiled = self.choices.choice(["", "x", "0" * 30, "9" * 20, "-1", "1 ", "\t1", "+1", "é", "1" * 121, "007"])
+        byte = chr(self.choices.randrange(0x80, 0x100))
+        spoiled = self.choices.choice(["", "x", "0" * 30, "9" * 20, "-1", "1 ", "\t1", "+1", byte, "1" + byte, "1" * 121, "007"])
         words[self.choices.randrange(len(words))] = spoiled
 
 
 def run(program, data):
-    done = subprocess.run([program], input=data, stdout=subprocess.PIPE, stderr=subprocess.PIPE, check=False)
+    done = subprocess.run([program], input=data, stdout=subprocess.PIPE, stderr=subprocess.PIPE, check=False,
+                          preexec_fn=limited_to(LONGEST_RUN))
     return done.stdout, done.returncode, done.stderr
+
+
+def bytes_of(data):
+    """The bytes of lines, one for each letter, so that some are no text in UTF-8."""
+    return data.encode("latin-1")
 
 
 def made(plain, choices, count):
@@ -116,9 +128,9 @@ def made(plain, choices, count):
     data = "".join(f"{kind} {' '.join(map(str, lines.arguments(kind)))}\n" for kind in ("space", "ids", "manager"))
     for _ in range(count):
         data += "".join(lines.line() + "\n" for _ in range(LINES_OF_A_ROUND))
-        answers = run(plain, data.encode())[0].splitlines()
+        answers = run(plain, bytes_of(data))[0].splitlines()
         lines.learn(answers[-LINES_OF_A_ROUND:])
-    return data.encode(), answers
+    return bytes_of(data), answers
 
 
 def counted(data, answers):
