@@ -1,12 +1,13 @@
-//! The calls of the library: against a plain model of a small space, beside the proved calls, and
-//! each of those that the Rust crate has not.
+//! The calls of the library: against a plain model of a small space, each of those that the Rust
+//! crate has not, and the texts that the library writes.
+
+mod draw;
 
 use divsharun::{
-    AddressAllocator, AllocPolicy, Constraint, DeviceManager, DeviceSlot, Error, IdAllocator,
-    NodeState, RangeInclusive, TryError,
+    AddressAllocator, AllocPolicy, DeviceManager, DeviceSlot, Error, IdAllocator, NodeState,
+    RangeInclusive, TryError,
 };
-use rattle::Global;
-use std::fmt::Debug;
+use draw::Draw;
 
 const WIDTH: usize = 48;
 const BASE: u64 = 1000;
@@ -35,16 +36,6 @@ impl Model {
     fn set(&mut self, range: &RangeInclusive, holder: Option<u64>) {
         let first = (range.start() - BASE) as usize;
         self.0[first..first + range.len() as usize].fill(holder);
-    }
-}
-
-/// Numbers that look as if they came by chance.
-struct Draw(u64);
-
-impl Draw {
-    fn below(&mut self, bound: u64) -> u64 {
-        self.0 = self.0 * 75 % 65_537;
-        self.0 % bound
     }
 }
 
@@ -83,186 +74,6 @@ fn answers_are_those_of_a_plain_model() {
     }
     held.sort();
     assert!(space.held_ranges().eq(held));
-}
-
-/// The library returns what the proved code returns: both have the same debug text.
-fn same(library: impl Debug, proved: impl Debug) {
-    assert_eq!(format!("{library:?}"), format!("{proved:?}"));
-}
-
-/// Numbers at both ends and between.
-const NUMBERS: [u64; 6] = [0, 1, 2, 16, u64::MAX - 1, u64::MAX];
-
-#[test]
-fn ranges_and_requests_are_those_of_the_proved_code() {
-    let pairs = || {
-        NUMBERS
-            .into_iter()
-            .flat_map(|one| NUMBERS.map(|two| (one, two)))
-    };
-    for (start, end) in pairs() {
-        let one = RangeInclusive::new(start, end);
-        let proved_one = proved::RangeInclusive::new(start, end);
-        same(one, &proved_one);
-        let (Ok(one), Ok(proved_one)) = (one, proved_one) else {
-            continue;
-        };
-        same(
-            (one.start(), one.end(), one.len()),
-            (start, end, end - start + 1),
-        );
-        for (start, end) in pairs() {
-            let (Ok(two), Ok(proved_two)) = (
-                RangeInclusive::new(start, end),
-                proved::RangeInclusive::new(start, end),
-            ) else {
-                continue;
-            };
-            same(
-                (
-                    one.overlaps(&two),
-                    one.contains(&two),
-                    one == two,
-                    one.cmp(&two),
-                ),
-                (
-                    proved_one.overlaps(&proved_two),
-                    proved_one.contains(&proved_two),
-                    proved_one == proved_two,
-                    proved_one.cmp(&proved_two),
-                ),
-            );
-        }
-    }
-    for (size, align) in pairs() {
-        for policy in [AllocPolicy::FirstMatch, AllocPolicy::ExactMatch(18)] {
-            let request = Constraint::new(size, align, policy);
-            same(request, proved::Constraint::new(size, align, policy));
-            let parts = request.map(|request| (request.size(), request.align()));
-            assert!(parts.is_err() || parts == Ok((size, align)));
-        }
-    }
-}
-
-#[test]
-fn address_calls_are_those_of_the_proved_code() {
-    let mut draw = Draw(2);
-    for base in [0, 1, 1000, u64::MAX - 47] {
-        let mut space = AddressAllocator::new(base, 48).unwrap();
-        let mut proved = proved::AddressAllocator::new(Global, base, 48).unwrap();
-        for _ in 0..1000 {
-            let before = (space.clone(), proved.try_clone(Global).unwrap());
-            let at = base + draw.below(48);
-            let (size, align) = (draw.below(6), draw.below(5));
-            let policy = match draw.below(3) {
-                0 => AllocPolicy::FirstMatch,
-                1 => AllocPolicy::LastMatch,
-                _ => AllocPolicy::ExactMatch(at),
-            };
-            let key = match space.held_ranges().nth(draw.below(9) as usize) {
-                Some(held) => held,
-                None => RangeInclusive::new(at, at).unwrap(),
-            };
-            let proved_key = proved::RangeInclusive::new(key.start(), key.end()).unwrap();
-            match draw.below(4) {
-                0 => same(
-                    space.allocate(size, align, policy),
-                    proved.allocate(Global, size, align, policy),
-                ),
-                1 => same(
-                    space.allocate_counted(size, align, policy),
-                    proved.allocate_counted(Global, size, align, policy),
-                ),
-                2 => same(space.free(&key), proved.free(&proved_key)),
-                _ => same(space.free_counted(&key), proved.free_counted(&proved_key)),
-            }
-            same(&space, &proved);
-            same(
-                (
-                    space.base(),
-                    space.end(),
-                    space.height(),
-                    space.held_count(),
-                ),
-                (
-                    proved.base(),
-                    proved.end(),
-                    proved.height(),
-                    proved.held_count(),
-                ),
-            );
-            same(space.holds(&key), proved.holds(&proved_key));
-            same(
-                space.held_ranges().collect::<Vec<_>>(),
-                proved.held_ranges().collect::<Vec<_>>(),
-            );
-            same(
-                (space == before.0, space.cmp(&before.0)),
-                (proved == before.1, proved.cmp(&before.1)),
-            );
-        }
-    }
-    for (base, size) in NUMBERS
-        .into_iter()
-        .flat_map(|one| NUMBERS.map(|two| (one, two)))
-    {
-        let space = AddressAllocator::new(base, size);
-        same(&space, proved::AddressAllocator::new(Global, base, size));
-        let tried = AddressAllocator::try_new(base, size);
-        assert_eq!(tried, space.map_err(TryError::Refused));
-    }
-}
-
-#[test]
-fn ids_and_devices_are_those_of_the_proved_code() {
-    let mut draw = Draw(3);
-    for first in [0, 5, u32::MAX - 6] {
-        let last = first + 6;
-        let mut ids = IdAllocator::new(first, last).unwrap();
-        let mut proved_ids = proved::IdAllocator::new(Global, first, last).unwrap();
-        let mut devices = DeviceManager::new(first, last, first.into(), 24).unwrap();
-        let mut proved_devices =
-            proved_devices::DeviceManager::new(Global, first, last, first.into(), 24).unwrap();
-        for _ in 0..1000 {
-            let id = first.saturating_add(draw.below(9) as u32).saturating_sub(1);
-            let (size, align) = (draw.below(6), draw.below(3));
-            match draw.below(4) {
-                0 => same(ids.allocate_id(), proved_ids.allocate_id()),
-                1 => same(ids.free_id(id), proved_ids.free_id(id)),
-                2 => same(
-                    devices.reserve(size, align, AllocPolicy::LastMatch),
-                    proved_devices.reserve(Global, size, align, AllocPolicy::LastMatch),
-                ),
-                _ => same(devices.release(id), proved_devices.release(id)),
-            }
-            same(
-                (ids.peek_id(), ids.is_allocated(id), ids.held_count()),
-                (
-                    proved_ids.peek_id(),
-                    proved_ids.is_allocated(id),
-                    proved_ids.held_count(),
-                ),
-            );
-            same(devices.slot(id), proved_devices.slot(id));
-            same((&ids, &devices), (&proved_ids, &proved_devices));
-            same(ids.clone(), &ids);
-        }
-    }
-    for (first, last, base, size) in [
-        (1, 0, 0, 1),
-        (0, 0, 0, 0),
-        (0, 0, 2, u64::MAX),
-        (0, 1, 2, 3),
-    ] {
-        same(
-            IdAllocator::new(first, last),
-            proved::IdAllocator::new(Global, first, last),
-        );
-        same(
-            DeviceManager::new(first, last, base, size),
-            proved_devices::DeviceManager::new(Global, first, last, base, size),
-        );
-    }
 }
 
 #[test]
@@ -358,6 +169,43 @@ fn a_layout_has_every_address_once() {
     }
     assert_eq!(next, None);
     assert_eq!(layout.blocks().count(), 4);
+}
+
+/// Pieces of the debug texts, which are those of the derives in the Rust crate, of a space with one
+/// range, of ids and of a manager.
+#[test]
+fn debug_texts_show_the_fields() {
+    let mut space = AddressAllocator::new(16, 4).unwrap();
+    let held = space.allocate(1, 1, AllocPolicy::LastMatch).unwrap();
+    let text = format!("{space:?}");
+    for piece in [
+        "AddressAllocator { address_space: RangeInclusive { start: 16, end: 19 }, interval_tree: \
+         IntervalTree { root: Some(InnerNode { key: RangeInclusive { start: 19, end: 19 }, \
+         node_state: Allocated, ",
+        "left: Some(InnerNode { key: RangeInclusive { start: 16, end: 18 }, node_state: Free, ",
+    ] {
+        assert!(text.contains(piece), "{text}");
+    }
+    let mut ids = IdAllocator::new(5, 23).unwrap();
+    for id in [5, 6] {
+        assert_eq!(ids.allocate_id(), Ok(id));
+    }
+    ids.free_id(5).unwrap();
+    let ids_text = "IdAllocator { range_base: 5, next_id: Some(7), range_end: 23, freed_ids: {5} }";
+    assert_eq!(format!("{ids:?}"), ids_text);
+    let mut devices = DeviceManager::new(0, 0, 16, 1).unwrap();
+    let slot = devices.reserve(1, 1, AllocPolicy::FirstMatch).unwrap();
+    let range_text = "RangeInclusive { start: 16, end: 16 }";
+    assert_eq!(
+        format!("{slot:?}"),
+        format!("DeviceSlot {{ id: 0, range: {range_text} }}")
+    );
+    assert!(format!("{devices:?}").ends_with(&format!("slots: {{0: {range_text}}} }}")));
+    assert_eq!(format!("{:?}", space.held_ranges()), "HeldRanges { .. }");
+    let layout = space.layout().named([(held, "disk")]);
+    let names = r#"names: {RangeInclusive { start: 19, end: 19 }: "disk"} }"#;
+    assert!(format!("{layout:?}").ends_with(names));
+    assert!(NodeState::Free < NodeState::Allocated);
 }
 
 /// A space by its base and size, allocated ranges by start and size, each with a name, and the

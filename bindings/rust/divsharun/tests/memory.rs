@@ -21,10 +21,12 @@ const ENDING: &str = "DIVSHARUN_TEST_OF_MEMORY";
 const ABORTED: i32 = 6;
 
 type Tried = Result<(), TryError>;
+type TriedCall = fn(&mut AddressAllocator) -> Tried;
+type EndedCall = fn(&mut AddressAllocator);
 
 /// Calls that return an error, each with the number of its requests on [`two_held`]: one for a
 /// space, one for each part of a gap that is left over, one for each block of a copy.
-const TRIED: [(u64, fn(&mut AddressAllocator) -> Tried); 8] = [
+const TRIED: [(u64, TriedCall); 8] = [
     (1, |_| AddressAllocator::try_new(0, 64).map(drop)),
     (5, |space| space.try_clone().map(drop)),
     (1, |space| space.try_allocate(4, 1, FirstMatch).map(drop)),
@@ -39,7 +41,7 @@ const TRIED: [(u64, fn(&mut AddressAllocator) -> Tried); 8] = [
 
 /// Calls that end the process, each with the number of its requests on [`two_held`]. A set or a
 /// map of Rust's has one block for a few ids or devices.
-const ENDED: [(u64, fn(&mut AddressAllocator)); 8] = [
+const ENDED: [(u64, EndedCall); 8] = [
     (1, |_| assert!(AddressAllocator::new(0, 64).is_ok())),
     (5, |space| drop(space.clone())),
     (1, |space| assert!(space.allocate(4, 1, FirstMatch).is_ok())),

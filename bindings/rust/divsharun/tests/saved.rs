@@ -196,11 +196,16 @@ fn what_is_written_is_read() {
     assert_eq!(json(&ids), IDS);
     let ids: IdAllocator = packed::from_bytes(packed::to_bytes(&ids).unwrap()).unwrap();
     assert_eq!(json(&ids), IDS);
-    let pair = (NodeState::Allocated, RangeInclusive::new(1, 2).unwrap());
-    let text: (NodeState, RangeInclusive) = serde_json::from_str(&json(&pair)).unwrap();
-    let bytes: (NodeState, RangeInclusive) =
-        packed::from_bytes(packed::to_bytes(&pair).unwrap()).unwrap();
-    assert!(text == pair && bytes == pair);
+    for state in [NodeState::Free, NodeState::Allocated] {
+        let pair = (state, RangeInclusive::new(1, 2).unwrap());
+        let text: (NodeState, RangeInclusive) = serde_json::from_str(&json(&pair)).unwrap();
+        let bytes: (NodeState, RangeInclusive) =
+            packed::from_bytes(packed::to_bytes(&pair).unwrap()).unwrap();
+        assert!(text == pair && bytes == pair);
+    }
+    let all = r#"{"range_base":0,"next_id":null,"range_end":4294967295,"freed_ids":[]}"#;
+    let all: IdAllocator = serde_json::from_str(all).unwrap();
+    assert_eq!((all.held_count(), all.is_allocated(u32::MAX)), (1 << 32, true));
 }
 
 /// A manager with two devices, of which the second one was unplugged.

@@ -1,0 +1,267 @@
+//! Each call returns what the proved call returns for the same arguments, of all magnitudes.
+
+mod draw;
+
+use divsharun::{
+    AddressAllocator, AllocPolicy, Constraint, DeviceManager, IdAllocator, RangeInclusive, TryError,
+};
+use draw::Draw;
+use rattle::Global;
+use std::fmt::Debug;
+
+/// Numbers at both ends and between.
+const NUMBERS: [u64; 6] = [0, 1, 2, 16, u64::MAX - 1, u64::MAX];
+
+/// All pairs of these numbers.
+fn pairs() -> impl Iterator<Item = (u64, u64)> {
+    NUMBERS
+        .into_iter()
+        .flat_map(|one| NUMBERS.map(|two| (one, two)))
+}
+
+/// Both have the same debug text.
+fn same(library: impl Debug, proved: impl Debug) {
+    assert_eq!(format!("{library:?}"), format!("{proved:?}"));
+}
+
+fn range(start: u64, end: u64) -> Option<(RangeInclusive, proved::RangeInclusive)> {
+    let range = RangeInclusive::new(start, end);
+    let proved = proved::RangeInclusive::new(start, end);
+    same(range, &proved);
+    Some((range.ok()?, proved.ok()?))
+}
+
+#[test]
+fn ranges() {
+    for (start, end) in pairs() {
+        let Some((one, proved_one)) = range(start, end) else {
+            continue;
+        };
+        assert_eq!(
+            (one.start(), one.end(), one.len()),
+            (start, end, end - start + 1)
+        );
+        for (two, proved_two) in pairs().filter_map(|(start, end)| range(start, end)) {
+            same(
+                (
+                    one.overlaps(&two),
+                    one.contains(&two),
+                    one == two,
+                    one.cmp(&two),
+                ),
+                (
+                    proved_one.overlaps(&proved_two),
+                    proved_one.contains(&proved_two),
+                    proved_one == proved_two,
+                    proved_one.cmp(&proved_two),
+                ),
+            );
+        }
+    }
+}
+
+#[test]
+fn requests() {
+    for (size, align) in pairs() {
+        for policy in [AllocPolicy::FirstMatch, AllocPolicy::ExactMatch(18)] {
+            let request = Constraint::new(size, align, policy);
+            same(request, proved::Constraint::new(size, align, policy));
+            let parts = request.map(|request| (request.size(), request.align()));
+            assert!(parts.is_err() || parts == Ok((size, align)));
+        }
+    }
+}
+
+/// How many addresses a space has in which calls are drawn.
+const WIDTH: u64 = 1 << 12;
+
+/// A space, and the proved one with the same history.
+struct Spaces {
+    library: AddressAllocator,
+    proved: proved::AddressAllocator,
+}
+
+impl Spaces {
+    fn new(base: u64) -> Spaces {
+        Spaces {
+            library: AddressAllocator::new(base, WIDTH).unwrap(),
+            proved: proved::AddressAllocator::new(Global, base, WIDTH).unwrap(),
+        }
+    }
+
+    fn copied(&self) -> Spaces {
+        Spaces {
+            library: self.library.try_clone().unwrap(),
+            proved: self.proved.try_clone(Global).unwrap(),
+        }
+    }
+
+    fn allocate(&mut self, draw: &mut Draw) {
+        let (space, proved) = (&mut self.library, &mut self.proved);
+        let size = [draw.below(6), 1 << draw.below(10)][usize::from(draw.below(8) == 0)];
+        let align = [draw.below(5), 1 << draw.below(12)][draw.below(2) as usize];
+        let policy = match draw.below(4) {
+            0 | 1 => AllocPolicy::FirstMatch,
+            2 => AllocPolicy::LastMatch,
+            _ => AllocPolicy::ExactMatch(space.base() + draw.below(WIDTH)),
+        };
+        match draw.below(3) {
+            0 => same(
+                space.allocate(size, align, policy),
+                proved.allocate(Global, size, align, policy),
+            ),
+            1 => same(
+                space.allocate_counted(size, align, policy),
+                proved.allocate_counted(Global, size, align, policy),
+            ),
+            _ => same(
+                space
+                    .try_allocate(size, align, policy)
+                    .map_err(|error| match error {
+                        TryError::Refused(error) => error,
+                        TryError::OutOfMemory => panic!("memory is there"),
+                    }),
+                proved.allocate(Global, size, align, policy),
+            ),
+        }
+    }
+
+    /// Frees an allocated range, or what may be none. Returns its key.
+    fn free(&mut self, draw: &mut Draw) -> (RangeInclusive, proved::RangeInclusive) {
+        let (space, proved) = (&mut self.library, &mut self.proved);
+        let at = space.base() + draw.below(WIDTH);
+        let held = space.held_ranges().nth(draw.below(40) as usize);
+        let (start, end) = held.map_or((at, at), |held| (held.start(), held.end()));
+        let (key, proved_key) = range(start, end).unwrap();
+        same(space.holds(&key), proved.holds(&proved_key));
+        match draw.below(2) {
+            0 => same(space.free(&key), proved.free(&proved_key)),
+            _ => same(space.free_counted(&key), proved.free_counted(&proved_key)),
+        }
+        (key, proved_key)
+    }
+
+    fn compare(&self, before: &Spaces) {
+        let (space, proved) = (&self.library, &self.proved);
+        same(space, proved);
+        same(
+            (
+                space.base(),
+                space.end(),
+                space.height(),
+                space.held_count(),
+            ),
+            (
+                proved.base(),
+                proved.end(),
+                proved.height(),
+                proved.held_count(),
+            ),
+        );
+        same(
+            space.held_ranges().collect::<Vec<_>>(),
+            proved.held_ranges().collect::<Vec<_>>(),
+        );
+        same(
+            (*space == before.library, space.cmp(&before.library)),
+            (*proved == before.proved, proved.cmp(&before.proved)),
+        );
+    }
+}
+
+#[test]
+fn address_calls() {
+    let mut draw = Draw(2);
+    for base in [0, 1, 1000, u64::MAX - WIDTH + 1] {
+        let mut spaces = Spaces::new(base);
+        for _ in 0..100 {
+            let before = spaces.copied();
+            for _ in 0..draw.below(40) {
+                spaces.allocate(&mut draw);
+                if draw.below(3) == 0 {
+                    let (key, proved_key) = spaces.free(&mut draw);
+                    same(spaces.library.holds(&key), spaces.proved.holds(&proved_key));
+                }
+            }
+            spaces.compare(&before);
+        }
+        assert!(spaces.library.held_count() > 100);
+    }
+}
+
+#[test]
+fn spaces() {
+    for (base, size) in pairs() {
+        let space = AddressAllocator::new(base, size);
+        same(&space, proved::AddressAllocator::new(Global, base, size));
+        let tried = AddressAllocator::try_new(base, size);
+        assert_eq!(tried, space.map_err(TryError::Refused));
+    }
+}
+
+#[test]
+fn ids() {
+    let mut draw = Draw(3);
+    for first in [0, 5, u32::MAX - 30] {
+        let mut ids = IdAllocator::new(first, first + 30).unwrap();
+        let mut proved = proved::IdAllocator::new(Global, first, first + 30).unwrap();
+        for _ in 0..1000 {
+            let id = first.wrapping_add(draw.below(33) as u32).wrapping_sub(1);
+            match draw.below(2) {
+                0 => same(ids.allocate_id(), proved.allocate_id()),
+                _ => same(ids.free_id(id), proved.free_id(id)),
+            }
+            same(
+                (ids.peek_id(), ids.is_allocated(id), ids.held_count()),
+                (
+                    proved.peek_id(),
+                    proved.is_allocated(id),
+                    proved.held_count(),
+                ),
+            );
+            same(&ids, &proved);
+            same(ids.clone(), &ids);
+        }
+    }
+    for (first, last) in [(1, 0), (0, 0), (u32::MAX, 0), (0, u32::MAX)] {
+        same(
+            IdAllocator::new(first, last),
+            proved::IdAllocator::new(Global, first, last),
+        );
+    }
+}
+
+#[test]
+fn devices() {
+    let mut draw = Draw(4);
+    for (first, base) in [(0, 0), (5, 1000), (u32::MAX - 9, u64::MAX - 63)] {
+        let mut devices = DeviceManager::new(first, first + 9, base, 64).unwrap();
+        let mut proved =
+            proved_devices::DeviceManager::new(Global, first, first + 9, base, 64).unwrap();
+        for _ in 0..1000 {
+            let id = first.wrapping_add(draw.below(12) as u32).wrapping_sub(1);
+            let (size, align) = (draw.below(8), 1 << draw.below(4));
+            let policy = [AllocPolicy::FirstMatch, AllocPolicy::LastMatch][draw.below(2) as usize];
+            match draw.below(2) {
+                0 => same(
+                    devices.reserve(size, align, policy),
+                    proved.reserve(Global, size, align, policy),
+                ),
+                _ => same(devices.release(id), proved.release(id)),
+            }
+            same(devices.slot(id), proved.slot(id));
+            same(&devices, &proved);
+        }
+    }
+    for (first, last, base, size) in [
+        (1, 0, 0, 1),
+        (0, 0, 0, 0),
+        (0, 0, 2, u64::MAX),
+        (0, 1, 2, 3),
+    ] {
+        same(
+            DeviceManager::new(first, last, base, size),
+            proved_devices::DeviceManager::new(Global, first, last, base, size),
+        );
+    }
+}
