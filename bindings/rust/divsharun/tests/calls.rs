@@ -171,8 +171,7 @@ fn a_layout_has_every_address_once() {
     assert_eq!(layout.blocks().count(), 4);
 }
 
-/// Pieces of the debug texts, which are those of the derives in the Rust crate, of a space with one
-/// range, of ids and of a manager.
+/// Field names and values, as derives write them.
 #[test]
 fn debug_texts_show_the_fields() {
     let mut space = AddressAllocator::new(16, 4).unwrap();
@@ -256,7 +255,7 @@ fn a_layout_is_written_as_the_kernel_does() {
         }
         // Only a range that is allocated as it is has a name, and a second list adds names.
         let none = RangeInclusive::new(base, base + 1).unwrap();
-        let layout = space.layout().named([(none, "none")]).named(names);
+        let layout = space.layout().named(names).named([(none, "none")]);
         assert_eq!(layout.to_string(), text);
     }
 }

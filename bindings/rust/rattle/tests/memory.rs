@@ -23,7 +23,14 @@ fn refuse_each<T>(requests: u64, call: impl Fn() -> Result<T, AllocError>) -> T 
 #[test]
 fn boxes() {
     let (refused, _) = refusing(1, || Box::new(Global, 7));
-    assert!(matches!(refused, Err(AllocFailed(7))));
+    assert!(matches!(&refused, Err(AllocFailed(7))));
+    let texts = [
+        refused.err().map(|error| error.to_string()),
+        Some(AllocError.to_string()),
+    ];
+    assert!(texts
+        .iter()
+        .all(|text| text.as_deref() == Some("a request for memory was refused")));
     let before = blocks();
     let mut boxed = refuse_each(1, || Ok(Box::new(Global, 7)?));
     *boxed += 1;

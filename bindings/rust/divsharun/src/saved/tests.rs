@@ -1,13 +1,16 @@
 //! Saved values are damaged, and read in two ways: by serde, and by the proved reader alone. Both
 //! read the same ones.
 
+use super::form::Form;
+use super::reading::Reading;
 use crate::{AddressAllocator, AllocPolicy, DeviceManager, IdAllocator};
 use alloc::format;
 use alloc::vec::Vec;
 use core::fmt::Debug;
 use rattle::{Fields, Global, Number};
-use serde::de::DeserializeOwned;
-use serde::Serialize;
+use serde::de::value::Error;
+use serde::de::{DeserializeOwned, DeserializeSeed, Visitor};
+use serde::{Deserializer, Serialize};
 use serde_json::{json, Value};
 
 /// How many values of each kind are damaged.
@@ -164,4 +167,30 @@ fn device_managers_are_read_as_the_proved_reader_does() {
         let reader = proved_devices::DeviceManager::from_value;
         read_damaged(&devices, reader, DeviceManager, draw)
     });
+}
+
+/// A format that has a unit where nothing is, as serde's own content of untagged enums.
+struct Unit;
+
+impl<'de> Deserializer<'de> for Unit {
+    type Error = Error;
+
+    fn deserialize_any<V: Visitor<'de>>(self, visitor: V) -> Result<V::Value, Error> {
+        visitor.visit_unit()
+    }
+
+    serde::forward_to_deserialize_any! {
+        bool i8 i16 i32 i64 u8 u16 u32 u64 f32 f64 char str string bytes byte_buf option unit
+        unit_struct newtype_struct seq tuple tuple_struct map struct enum identifier ignored_any
+    }
+}
+
+#[test]
+fn a_unit_is_no_node_and_no_id() {
+    for form in [&Form::OptionalNode, &Form::OptionalId] {
+        assert_eq!(
+            Reading::new(form).deserialize(Unit),
+            Ok(rattle::Value::Null)
+        );
+    }
 }
