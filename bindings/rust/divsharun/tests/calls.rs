@@ -5,7 +5,7 @@ mod draw;
 
 use divsharun::{
     AddressAllocator, AllocPolicy, DeviceManager, DeviceSlot, Error, IdAllocator, NodeState,
-    RangeInclusive, TryError,
+    RangeInclusive,
 };
 use draw::Draw;
 
@@ -74,38 +74,6 @@ fn answers_are_those_of_a_plain_model() {
     }
     held.sort();
     assert!(space.held_ranges().eq(held));
-}
-
-#[test]
-fn plain_counted_and_try_calls_answer_the_same() {
-    let mut plain = AddressAllocator::new(0, 4096).unwrap();
-    let mut counted = AddressAllocator::new(0, 4096).unwrap();
-    let mut tried = AddressAllocator::try_new(0, 4096).unwrap();
-    let requests = [
-        (64, 64, AllocPolicy::FirstMatch),
-        (64, 64, AllocPolicy::LastMatch),
-        (64, 64, AllocPolicy::ExactMatch(0)),
-        (64, 64, AllocPolicy::ExactMatch(32)),
-        (64, 3, AllocPolicy::FirstMatch),
-        (0, 1, AllocPolicy::FirstMatch),
-        (4096, 1, AllocPolicy::FirstMatch),
-    ];
-    for (size, align, policy) in requests {
-        let answer = plain.allocate(size, align, policy);
-        let (same, count) = counted.allocate_counted(size, align, policy);
-        assert_eq!(same, answer);
-        assert!(answer.is_err() || count > 0);
-        let again = tried.try_allocate(size, align, policy);
-        assert_eq!(again, answer.map_err(TryError::Refused));
-    }
-    let range = RangeInclusive::new(0, 63).unwrap();
-    assert_eq!(counted.free_counted(&range).0, plain.free(&range));
-    assert_eq!(
-        counted.free_counted(&range).0,
-        Err(Error::ResourceNotAvailable)
-    );
-    assert_eq!(tried.free(&range), Ok(()));
-    assert!(plain == counted && counted == tried && tried.try_clone() == Ok(plain));
 }
 
 #[test]

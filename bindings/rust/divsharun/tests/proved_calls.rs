@@ -75,75 +75,61 @@ fn requests() {
 /// How many addresses a space has in which calls are drawn.
 const WIDTH: u64 = 1 << 12;
 
-/// A space, and the proved one with the same history.
+/// Three spaces, for the plain, the counted and the `try_` calls, and the proved one: all have the
+/// same history.
 struct Spaces {
-    library: AddressAllocator,
+    plain: AddressAllocator,
+    counted: AddressAllocator,
+    tried: AddressAllocator,
     proved: proved::AddressAllocator,
 }
 
 impl Spaces {
     fn new(base: u64) -> Spaces {
+        let space = || AddressAllocator::new(base, WIDTH).unwrap();
         Spaces {
-            library: AddressAllocator::new(base, WIDTH).unwrap(),
+            plain: space(),
+            counted: space(),
+            tried: space(),
             proved: proved::AddressAllocator::new(Global, base, WIDTH).unwrap(),
         }
     }
 
-    fn copied(&self) -> Spaces {
-        Spaces {
-            library: self.library.try_clone().unwrap(),
-            proved: self.proved.try_clone(Global).unwrap(),
-        }
-    }
-
     fn allocate(&mut self, draw: &mut Draw) {
-        let (space, proved) = (&mut self.library, &mut self.proved);
         let size = [draw.below(6), 1 << draw.below(10)][usize::from(draw.below(8) == 0)];
         let align = [draw.below(5), 1 << draw.below(12)][draw.below(2) as usize];
         let policy = match draw.below(4) {
             0 | 1 => AllocPolicy::FirstMatch,
             2 => AllocPolicy::LastMatch,
-            _ => AllocPolicy::ExactMatch(space.base() + draw.below(WIDTH)),
+            _ => AllocPolicy::ExactMatch(self.proved.base() + draw.below(WIDTH)),
         };
-        match draw.below(3) {
-            0 => same(
-                space.allocate(size, align, policy),
-                proved.allocate(Global, size, align, policy),
-            ),
-            1 => same(
-                space.allocate_counted(size, align, policy),
-                proved.allocate_counted(Global, size, align, policy),
-            ),
-            _ => same(
-                space
-                    .try_allocate(size, align, policy)
-                    .map_err(|error| match error {
-                        TryError::Refused(error) => error,
-                        TryError::OutOfMemory => panic!("memory is there"),
-                    }),
-                proved.allocate(Global, size, align, policy),
-            ),
+        let proved = self.proved.allocate_counted(Global, size, align, policy);
+        same(self.plain.allocate(size, align, policy), &proved.0);
+        same(self.counted.allocate_counted(size, align, policy), &proved);
+        match self.tried.try_allocate(size, align, policy) {
+            Err(TryError::Refused(error)) => same(Err::<(), _>(error), proved.0),
+            answer => same(answer, proved.0),
         }
     }
 
-    /// Frees an allocated range, or what may be none. Returns its key.
-    fn free(&mut self, draw: &mut Draw) -> (RangeInclusive, proved::RangeInclusive) {
-        let (space, proved) = (&mut self.library, &mut self.proved);
-        let at = space.base() + draw.below(WIDTH);
-        let held = space.held_ranges().nth(draw.below(40) as usize);
+    /// Frees an allocated range, or what may be none.
+    fn free(&mut self, draw: &mut Draw) {
+        let at = self.proved.base() + draw.below(WIDTH);
+        let held = self.plain.held_ranges().nth(draw.below(40) as usize);
         let (start, end) = held.map_or((at, at), |held| (held.start(), held.end()));
         let (key, proved_key) = range(start, end).unwrap();
-        same(space.holds(&key), proved.holds(&proved_key));
-        match draw.below(2) {
-            0 => same(space.free(&key), proved.free(&proved_key)),
-            _ => same(space.free_counted(&key), proved.free_counted(&proved_key)),
-        }
-        (key, proved_key)
+        same(self.plain.holds(&key), self.proved.holds(&proved_key));
+        let proved = self.proved.free_counted(&proved_key);
+        same(self.plain.free(&key), &proved.0);
+        same(self.counted.free_counted(&key), &proved);
+        same(self.tried.free(&key), &proved.0);
+        same(self.plain.holds(&key), self.proved.holds(&proved_key));
     }
 
-    fn compare(&self, before: &Spaces) {
-        let (space, proved) = (&self.library, &self.proved);
+    fn compare(&self, before: &(AddressAllocator, proved::AddressAllocator)) {
+        let (space, proved) = (&self.plain, &self.proved);
         same(space, proved);
+        assert!(*space == self.counted && *space == self.tried);
         same(
             (
                 space.base(),
@@ -163,8 +149,8 @@ impl Spaces {
             proved.held_ranges().collect::<Vec<_>>(),
         );
         same(
-            (*space == before.library, space.cmp(&before.library)),
-            (*proved == before.proved, proved.cmp(&before.proved)),
+            (*space == before.0, space.cmp(&before.0)),
+            (*proved == before.1, proved.cmp(&before.1)),
         );
     }
 }
@@ -175,17 +161,17 @@ fn address_calls() {
     for base in [0, 1, 1000, u64::MAX - WIDTH + 1] {
         let mut spaces = Spaces::new(base);
         for _ in 0..100 {
-            let before = spaces.copied();
+            let proved = spaces.proved.try_clone(Global).unwrap();
+            let before = (spaces.tried.try_clone().unwrap(), proved);
             for _ in 0..draw.below(40) {
                 spaces.allocate(&mut draw);
                 if draw.below(3) == 0 {
-                    let (key, proved_key) = spaces.free(&mut draw);
-                    same(spaces.library.holds(&key), spaces.proved.holds(&proved_key));
+                    spaces.free(&mut draw);
                 }
             }
             spaces.compare(&before);
         }
-        assert!(spaces.library.held_count() > 100);
+        assert!(spaces.plain.held_count() > 100);
     }
 }
 
