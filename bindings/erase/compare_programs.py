@@ -9,21 +9,16 @@ same lines come again, and how many lines of each kind were asked and succeeded.
 the first difference, whose input is kept, and where a kind of line was asked or succeeded too seldom."""
 import argparse
 import collections
-import os
 import random
 import subprocess
 import sys
 import tempfile
-
-sys.path.append(os.path.join(os.path.dirname(os.path.abspath(__file__)), "..", "..", "tests"))
-from processor_time import limited_to
 
 MAX = 2**64 - 1
 LAST_ID = 2**32 - 1
 KINDS = ("space", "first", "last", "exact", "free", "ids", "id", "unid", "has", "manager", "device", "undevice")
 ROUNDS, LINES_OF_A_ROUND = 8, 250
 LEAST_OF_A_KIND = 200
-LONGEST_RUN = 60  # seconds of processor time; a run needs much less than one
 REFUSALS = (b"error", b"no")
 
 
@@ -112,13 +107,12 @@ class Lines:
 
 
 def run(program, data):
-    done = subprocess.run([program], input=data, stdout=subprocess.PIPE, stderr=subprocess.PIPE, check=False,
-                          preexec_fn=limited_to(LONGEST_RUN))
+    done = subprocess.run([program], input=data, stdout=subprocess.PIPE, stderr=subprocess.PIPE, check=False)
     return done.stdout, done.returncode, done.stderr
 
 
 def bytes_of(data):
-    """The bytes of lines, one for each letter, so that some are no text in UTF-8."""
+    """Returns one byte for each letter, so that some lines are no UTF-8."""
     return data.encode("latin-1")
 
 

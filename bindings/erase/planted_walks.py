@@ -34,8 +34,6 @@ UNSEEN = {
     "loop_over_numbers": "it follows no box",
     "plain_release_of_a_tree_counts_first": "no public call comes there",
 }
-
-
 # Seconds of processor time. The counter of boxes needs one or two.
 LONGEST = 60
 
