@@ -112,11 +112,17 @@ impl Spaces {
         }
     }
 
-    /// Frees an allocated range, or what may be none.
+    /// Frees an allocated range, a part of one, or any address.
     fn free(&mut self, draw: &mut Draw) {
         let at = self.proved.base() + draw.below(WIDTH);
         let held = self.plain.held_ranges().nth(draw.below(40) as usize);
         let (start, end) = held.map_or((at, at), |held| (held.start(), held.end()));
+        let (start, end) = match draw.below(8) {
+            0 => (start, start),
+            1 => (end, end),
+            2 => (at, at),
+            _ => (start, end),
+        };
         let (key, proved_key) = range(start, end).unwrap();
         same(self.plain.holds(&key), self.proved.holds(&proved_key));
         let proved = self.proved.free_counted(&proved_key);

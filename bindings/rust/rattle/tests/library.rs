@@ -14,7 +14,7 @@ fn sets() {
         }
         assert_eq!((set.len(), set.is_empty()), (rust.len(), rust.is_empty()));
         assert_eq!(set.first(), rust.first());
-        assert_eq!(set.contains(&(step % 61)), rust.contains(&(step % 61)));
+        assert!((0..61).all(|value| set.contains(&value) == rust.contains(&value)));
         assert!(set.iter().eq(rust.iter()));
         assert!(set.clone().is_ok_and(|clone| clone == set));
         assert_eq!(format!("{set:?}"), format!("{rust:?}"));
@@ -31,10 +31,7 @@ fn maps() {
             assert_eq!(map.remove(&other), rust.remove(&other));
         }
         assert_eq!((map.len(), map.is_empty()), (rust.len(), rust.is_empty()));
-        assert_eq!(
-            (map.get(&key), map.get(&other)),
-            (rust.get(&key), rust.get(&other))
-        );
+        assert!((0..61).all(|key| map.get(&key) == rust.get(&key)));
         assert!(map.iter().eq(rust.iter()));
         assert!(map.clone().is_ok_and(|clone| clone == map));
         assert_eq!(format!("{map:?}"), format!("{rust:?}"));
