@@ -214,16 +214,23 @@ const LAYOUTS: [Written; 7] = [
 fn a_layout_is_written_as_the_kernel_does() {
     for (base, size, ranges, text) in LAYOUTS {
         let mut space = AddressAllocator::new(base, size).unwrap();
-        let mut names = Vec::new();
+        let (mut names, mut others) = (Vec::new(), Vec::new());
         for (start, size, name) in ranges {
             let range = space
                 .allocate(*size, 1, AllocPolicy::ExactMatch(*start))
                 .unwrap();
             names.extend(name.map(|name| (range, name)));
+            let ends = [start + size / 2, start + size].into_iter();
+            let beside = ends.filter(|end| *end != range.end());
+            others.extend(beside.map(|end| (RangeInclusive::new(*start, end).unwrap(), "none")));
         }
+        let layout = space.layout();
+        let gaps = layout
+            .blocks()
+            .filter(|block| block.state == NodeState::Free);
+        others.extend(gaps.map(|gap| (gap.range, "none")));
         // Only a range that is allocated as it is has a name, and a second list adds names.
-        let none = RangeInclusive::new(base, base + 1).unwrap();
-        let layout = space.layout().named(names).named([(none, "none")]);
+        let layout = space.layout().named(names).named(others);
         assert_eq!(layout.to_string(), text);
     }
 }

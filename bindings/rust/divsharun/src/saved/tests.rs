@@ -1,5 +1,5 @@
-//! Saved values are damaged, and read in two ways: by serde, and by the proved reader alone. Both
-//! read the same ones.
+//! What serde writes is the proved value. Then it is damaged, and read in two ways: by serde, and by
+//! the proved reader alone. Both read the same ones.
 
 use super::form::Form;
 use super::reading::Reading;
@@ -95,6 +95,7 @@ fn other(value: &Value, draw: &mut Draw) -> Value {
 /// Damages the value of an object up to twice, and reads it in both ways.
 fn read_damaged<T, P>(
     object: &T,
+    written: proved::Result<rattle::Value>,
     proved: fn(Global, &rattle::Value) -> Result<P, proved::ValueError>,
     again: fn(P) -> T,
     draw: &mut Draw,
@@ -103,6 +104,7 @@ where
     T: Serialize + DeserializeOwned + Debug,
 {
     let mut value = serde_json::to_value(object).unwrap();
+    assert_eq!(for_proved(&value), written.unwrap());
     for _ in 0..draw.below(3) {
         damage(&mut value, draw);
     }
@@ -133,7 +135,13 @@ fn address_allocators_are_read_as_the_proved_reader_does() {
             }
         }
         let reader = proved::AddressAllocator::from_value_repaired;
-        read_damaged(&space, reader, AddressAllocator, draw)
+        read_damaged(
+            &space,
+            space.0.to_value(Global),
+            reader,
+            AddressAllocator,
+            draw,
+        )
     });
 }
 
@@ -148,7 +156,8 @@ fn id_allocators_are_read_as_the_proved_reader_does() {
         for _ in 0..draw.below(6) {
             let _ = ids.free_id(base + draw.below(7) as u32);
         }
-        read_damaged(&ids, proved::IdAllocator::from_value, IdAllocator, draw)
+        let reader = proved::IdAllocator::from_value;
+        read_damaged(&ids, ids.0.to_value(Global), reader, IdAllocator, draw)
     });
 }
 
@@ -165,7 +174,13 @@ fn device_managers_are_read_as_the_proved_reader_does() {
             }
         }
         let reader = proved_devices::DeviceManager::from_value;
-        read_damaged(&devices, reader, DeviceManager, draw)
+        read_damaged(
+            &devices,
+            devices.0.to_value(Global),
+            reader,
+            DeviceManager,
+            draw,
+        )
     });
 }
 
