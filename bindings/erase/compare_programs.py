@@ -101,7 +101,8 @@ class Lines:
 
     def spoil(self, words):
         """Makes a line that is none, most of the times."""
-        spoiled = self.choices.choice(["", "x", "0" * 30, "9" * 20, "-1", "1 ", "\t1", "+1", "é", "1" * 121, "007"])
+        byte = chr(self.choices.randrange(0x80, 0x100))
+        spoiled = self.choices.choice(["", "x", "0" * 30, "9" * 20, "-1", "1 ", "\t1", "+1", byte, "1" + byte, "1" * 121, "007"])
         words[self.choices.randrange(len(words))] = spoiled
 
 
@@ -110,15 +111,20 @@ def run(program, data):
     return done.stdout, done.returncode, done.stderr
 
 
+def bytes_of(data):
+    """Returns one byte for each letter, so that some lines are no UTF-8."""
+    return data.encode("latin-1")
+
+
 def made(plain, choices, count):
     """An input of so many rounds, made by what the plain program answers to the rounds before."""
     lines = Lines(choices)
     data = "".join(f"{kind} {' '.join(map(str, lines.arguments(kind)))}\n" for kind in ("space", "ids", "manager"))
     for _ in range(count):
         data += "".join(lines.line() + "\n" for _ in range(LINES_OF_A_ROUND))
-        answers = run(plain, data.encode())[0].splitlines()
+        answers = run(plain, bytes_of(data))[0].splitlines()
         lines.learn(answers[-LINES_OF_A_ROUND:])
-    return data.encode(), answers
+    return bytes_of(data), answers
 
 
 def counted(data, answers):

@@ -4,20 +4,23 @@
     planted_tests.py PROJECT SCRATCH
 
 Each is planted in a copy of the sources, which is erased with its tests and built in the folder SCRATCH.
-The test has to fail, to end the process, or to take ten times as long as where nothing is planted, where it
-has to pass. `run: counted` has tests/refuse.c count the requests for memory, which takes a C compiler;
-`run: small` gives the test a stack of 256 KiB. A body that the eraser refuses is not run. The boxes are
-counted, so that no compiler leaves out a walk whose answer nobody needs. It ends with status 1 where a test
-does otherwise."""
+The test has to fail, to end the process, or to use ten times as much processor time as without the body; without
+it, the test has to pass. `run: counted` lets tests/refuse.c count the requests for memory, which takes a C
+compiler; `run: small` gives the test a stack of 256 KiB. `run: refused` refuses each request for memory of the
+whole process in turn: only a failed test counts there, since Rust's own test harness ends the process if one of its
+requests is refused. A body that the eraser refuses is not run. The boxes are counted, so that no compiler leaves
+out a walk whose answer nobody needs. The status is 1 if a test does otherwise."""
+import itertools
 import json
+import math
 import os
 import subprocess
 import sys
-import time
 
 import erase
 import planting
 import scratch_workspace
+from processor_time import used_by_children
 
 LIST = os.path.join("tests", "test_bodies")
 # The constant COUNT_REQUEST of the tests.
@@ -25,7 +28,10 @@ COUNTED = {"COUNT": "1000100"}
 SMALL = {"RUST_MIN_STACK": str(256 * 1024)}
 BUILD = ("test", "--no-run", "--message-format=json", "-p", "rattle", "--features", "rattle/count_boxes",
          "--config", "profile.dev.opt-level=1", "--config", "profile.dev.debug=0")
-LONGEST = 60  # seconds
+# Seconds of processor time for a test of the code as it is. They only end a test that never ends.
+LONGEST = 600
+# What a test that fails ends with, and what then stands in its output. A process that is ended has neither.
+FAILED, FAILED_TEXT = 101, "test result: FAILED"
 
 
 class Runner:
@@ -52,17 +58,32 @@ class Runner:
         return {message["target"]["name"]: message["executable"] for message in messages if message.get("executable")}
 
     def passes(self, program, test, how, seconds=LONGEST):
-        """Whether a test passes in so many seconds, run in a way: None, 'counted' or 'small'."""
-        environment = dict(os.environ)
-        environment.update({None: {}, "counted": dict(COUNTED, LD_PRELOAD=self.counter), "small": SMALL}[how])
-        try:
-            done = subprocess.run([program, "--exact", test, "--test-threads=1"], env=environment, capture_output=True,
-                                  timeout=seconds, text=True, check=False)
-        except subprocess.TimeoutExpired:
-            return False
-        if done.returncode == 0 and "1 passed" not in done.stdout:
+        """Whether a test passes in this many seconds, run in a way: None, 'counted', 'small' or 'refused'."""
+        if how == "refused":
+            return self.passes_when_refused(program, test, seconds)
+        ways = {None: {}, "counted": dict(COUNTED, LD_PRELOAD=self.counter), "small": SMALL}
+        done = self.ran(program, test, ways[how], seconds)
+        if done and done.returncode == 0 and "1 passed" not in done.stdout:
             sys.exit(f"there is no test {test}")
-        return done.returncode == 0
+        return bool(done) and done.returncode == 0
+
+    def passes_when_refused(self, program, test, seconds):
+        """Whether a test never fails with request 1, 2, 3 .. for memory refused, up to a run without a refusal."""
+        told = os.path.join(self.scratch, "refused")
+        for number in itertools.count(1):
+            open(told, "w", encoding="utf-8").close()
+            way = {"REFUSE": str(number), "REFUSED": told, "LD_PRELOAD": self.counter}
+            done = self.ran(program, test, way, seconds)
+            if not done or (done.returncode == FAILED and FAILED_TEXT in done.stdout):
+                return False
+            if os.path.getsize(told) == 0:
+                return done.returncode == 0
+
+    @staticmethod
+    def ran(program, test, variables, seconds):
+        """What becomes of a test. A backtrace would take longer than the test."""
+        variables = {**os.environ, "RUST_BACKTRACE": "0", **variables}
+        return planting.ran([program, "--exact", test, "--test-threads=1"], seconds, variables)
 
 
 def main():
@@ -75,11 +96,11 @@ def main():
 
     clean = runner.programs(planting.NOTHING, sorted({crate for crate, _, _ in tests.values()}))
     for crate, test, how in sorted(set(tests.values()), key=str):
-        begun = time.monotonic()
+        begun = used_by_children()
         if not runner.passes(clean[crate], test, how):
             wrong += 1
             print(f"{crate}::{test} fails where nothing is planted, run {how or 'plainly'}")
-        seconds[crate, test, how] = min(LONGEST, 3 + 10 * (time.monotonic() - begun))
+        seconds[crate, test, how] = math.ceil(1 + 10 * (used_by_children() - begun))
     for body in bodies:
         crate, test, how = tests[body.name]
         try:

@@ -9,7 +9,6 @@ counts. A body that the list accepts has to pass. Bodies that the compiler or th
 eraser refuses are not run, nor the few below that no run can tell. It ends with status 1 where a body is taken otherwise."""
 import collections
 import os
-import subprocess
 import sys
 
 import erase
@@ -23,14 +22,8 @@ UNSEEN = {
     "loop_in_a_range": "it follows no box",
     "raised_twice_in_a_recursion": "it walks as before, and counts more",
 }
-
-
-def passes(program):
-    """Whether the counter of boxes passes, and before long."""
-    try:
-        return subprocess.run([program], capture_output=True, timeout=60, check=False).returncode == 0
-    except subprocess.TimeoutExpired:
-        return False
+# Seconds of processor time. The counter of boxes needs one or two.
+LONGEST = 60
 
 
 def outcome(body, project, scratch):
@@ -44,7 +37,8 @@ def outcome(body, project, scratch):
     built, said = planting.cargo(os.path.join(workspace, "box_count"), target, "build")
     if not built:
         return f"not built, {said.strip()[:200]}"
-    return "not seen" if passes(os.path.join(target, "debug", "box_count")) else "seen"
+    done = planting.ran([os.path.join(target, "debug", "box_count")], LONGEST)
+    return "not seen" if done and done.returncode == 0 else "seen"
 
 
 def main():

@@ -8,6 +8,7 @@ import sys
 import erase
 
 sys.path.append(os.path.join(os.path.dirname(os.path.abspath(__file__)), "..", "..", "tests"))
+from processor_time import HANG, limited_to
 from reading.planted import Planted, planted_in, with_edits
 
 NOTHING = Planted("nothing", [], {})
@@ -37,6 +38,16 @@ def plant(body, project, copy, folder):
         sys.exit(f"{body.name}: {error}")
     for place, text in changed.items():
         erase.write(os.path.join(copy, folder, place), text)
+
+
+def ran(command, seconds, environment=None):
+    """Runs a program with at most this many seconds of processor time. Returns what became of it, or None if it
+    waits forever."""
+    try:
+        return subprocess.run(command, env=environment, capture_output=True, text=True, check=False,
+                              preexec_fn=limited_to(seconds), timeout=HANG)
+    except subprocess.TimeoutExpired:
+        return None
 
 
 def cargo(folder, target, *words):

@@ -183,3 +183,44 @@ pub(crate) fn settled<T>(answer: proved::Result<T>) -> Result<T> {
 pub(crate) fn out_of_memory() -> ! {
     alloc::alloc::handle_alloc_error(core::alloc::Layout::new::<AddressAllocator>())
 }
+
+#[cfg(test)]
+mod tests {
+    use super::*;
+    use alloc::format;
+    use alloc::string::ToString;
+    use proved::allocation_engine::NodeState::Allocated;
+    use proved::Error as Proved;
+
+    /// Also of `Overlap`, which no public call returns.
+    #[test]
+    fn errors_keep_their_names_fields_and_texts() {
+        let [first, second] = [1, 2].map(|start| proved::RangeInclusive::new(start, 7).unwrap());
+        let errors = [
+            Proved::Overflow,
+            Proved::OutOfRange(1),
+            Proved::AlreadyReleased(2),
+            Proved::NeverAllocated(3),
+            Proved::ResourceNotAvailable,
+            Proved::InvalidRange(5, 4),
+            Proved::InvalidAlignment,
+            Proved::Overlap(first, second),
+            Proved::InvalidStateTransition(first, Allocated),
+            Proved::UnalignedAddress,
+            Proved::Underflow,
+            Proved::InvalidSize(6),
+        ];
+        for error in errors {
+            let (name, text) = (format!("Refused({error:?})"), error.to_string());
+            let refused = tried::<()>(Err(error)).unwrap_err();
+            assert_eq!((format!("{refused:?}"), refused.to_string()), (name, text));
+            assert!(refused < TryError::OutOfMemory);
+        }
+        let text = Proved::OutOfMemory.to_string();
+        let refused = tried::<()>(Err(Proved::OutOfMemory)).unwrap_err();
+        assert_eq!(
+            (refused, refused.to_string()),
+            (TryError::OutOfMemory, text)
+        );
+    }
+}

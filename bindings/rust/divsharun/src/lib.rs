@@ -23,8 +23,10 @@
 //! One line of Cargo.toml changes, and no line of Rust:
 //!
 //! ```toml
-//! vm-allocator = { package = "divsharun", git = ".." }
+//! vm-allocator = { package = "divsharun", git = "REPOSITORY" }
 //! ```
+//!
+//! `REPOSITORY` is the URL of the repository.
 //!
 //! The answers differ where that crate has faults; docs/DIFFERENCES.md of the repository lists
 //! them. Beside its calls there are [`IdAllocator::peek_id`], [`IdAllocator::held_count`], and of
@@ -86,15 +88,26 @@
 //!
 //! Without features there is no dependency outside this repository, and Rust's `std` is not needed.
 //!
-//! `serde` saves [`RangeInclusive`], [`NodeState`], [`AddressAllocator`] and [`IdAllocator`] as the
-//! derives of `vm-allocator` do, field for field, so that in every format either library reads what
-//! the other wrote. What is read goes through readers that are proved to accept exactly what states
-//! an object: an address allocator is read also where a fault of the Rust crate left gaps between
-//! the nodes, free neighbours or no tree at all, and holds just the ranges that are said to be
-//! allocated; anything else is an error of the format. Before that, nodes that are nested more than
-//! 50 deep are refused, and lists of more than 2^20 ids that were given back or devices, which are
-//! not written either. A [`DeviceManager`] is saved too: its version, both allocators, and its
-//! devices by rising ids.
+//! `serde` saves [`RangeInclusive`], [`NodeState`], [`AddressAllocator`] and [`IdAllocator`] with
+//! the fields of the derives of `vm-allocator`, in the same order. In every format either library
+//! reads what the other wrote. The bytes of an address allocator can differ, because the same calls
+//! can lead to trees of different shapes. A [`DeviceManager`] is saved too: its version, both
+//! allocators, and its devices by rising ids.
+//!
+//! What is read goes through readers that are proved to accept a value if and only if it is valid;
+//! any other value is an error of the format. An address allocator is valid also if a fault of the
+//! Rust crate left gaps between the nodes, free neighbours or no tree at all. These conditions are
+//! checked:
+//! - The fields are those that are written, and each number fits its type.
+//! - The keys of the nodes, in order, rise, share no address and lie in the space.
+//! - At most 6,293,134,512 keys are allocated, and none of these ends at `u64::MAX`.
+//!
+//! The height of a node can be any `u64`, and the balance of the tree is not checked: the allocated
+//! keys become the allocated ranges of a new tree. The space of a [`DeviceManager`] is read more
+//! strictly: the heights have to be right, and the tree balanced, without gaps and free neighbours.
+//!
+//! Nodes that are nested more than 50 deep are refused before they are read, and so are lists of
+//! more than 2^20 ids that were given back or devices. Such lists are not written either.
 //!
 //! ```rust
 //! # #[cfg(feature = "serde")]

@@ -1,7 +1,7 @@
-//! The feature `serde`: ranges, states and allocators are saved as the derives of the Rust crate
-//! save them, field for field, so that every format has the same bytes. What is read becomes a
-//! value that the proved readers judge; before that, only what they have no say in is refused:
-//! nodes that are nested deeper than any tree, and lists that are longer than any of use.
+//! The feature `serde`: ranges, states and allocators are saved with the names and the fields of
+//! the derives of the Rust crate, in their order. The shape of a tree is the port's own. What is
+//! read becomes a value that the proved readers judge; before that, only what they have no say in is
+//! refused: nodes that are nested deeper than any tree, and lists that are longer than any of use.
 
 mod form;
 mod reading;

@@ -1,10 +1,13 @@
-//! The calls of the library: against a plain model of a small space, and each of those that the
-//! Rust crate has not.
+//! The calls of the library: against a plain model of a small space, each of those that the Rust
+//! crate has not, and the texts that the library writes.
+
+mod draw;
 
 use divsharun::{
     AddressAllocator, AllocPolicy, DeviceManager, DeviceSlot, Error, IdAllocator, NodeState,
-    RangeInclusive, Result, TryError,
+    RangeInclusive,
 };
+use draw::Draw;
 
 const WIDTH: usize = 48;
 const BASE: u64 = 1000;
@@ -33,16 +36,6 @@ impl Model {
     fn set(&mut self, range: &RangeInclusive, holder: Option<u64>) {
         let first = (range.start() - BASE) as usize;
         self.0[first..first + range.len() as usize].fill(holder);
-    }
-}
-
-/// Numbers that look as if they came by chance.
-struct Draw(u64);
-
-impl Draw {
-    fn below(&mut self, bound: u64) -> u64 {
-        self.0 = self.0 * 75 % 65_537;
-        self.0 % bound
     }
 }
 
@@ -81,38 +74,6 @@ fn answers_are_those_of_a_plain_model() {
     }
     held.sort();
     assert!(space.held_ranges().eq(held));
-}
-
-#[test]
-fn plain_counted_and_try_calls_answer_the_same() {
-    let mut plain = AddressAllocator::new(0, 4096).unwrap();
-    let mut counted = AddressAllocator::new(0, 4096).unwrap();
-    let mut tried = AddressAllocator::try_new(0, 4096).unwrap();
-    let requests = [
-        (64, 64, AllocPolicy::FirstMatch),
-        (64, 64, AllocPolicy::LastMatch),
-        (64, 64, AllocPolicy::ExactMatch(0)),
-        (64, 64, AllocPolicy::ExactMatch(32)),
-        (64, 3, AllocPolicy::FirstMatch),
-        (0, 1, AllocPolicy::FirstMatch),
-        (4096, 1, AllocPolicy::FirstMatch),
-    ];
-    for (size, align, policy) in requests {
-        let answer = plain.allocate(size, align, policy);
-        let (same, count) = counted.allocate_counted(size, align, policy);
-        assert_eq!(same, answer);
-        assert!(answer.is_err() || count > 0);
-        let again = tried.try_allocate(size, align, policy);
-        assert_eq!(again, answer.map_err(TryError::Refused));
-    }
-    let range = RangeInclusive::new(0, 63).unwrap();
-    assert_eq!(counted.free_counted(&range).0, plain.free(&range));
-    assert_eq!(
-        counted.free_counted(&range).0,
-        Err(Error::ResourceNotAvailable)
-    );
-    assert_eq!(tried.free(&range), Ok(()));
-    assert!(plain == counted && counted == tried && tried.try_clone() == Ok(plain));
 }
 
 #[test]
@@ -178,20 +139,98 @@ fn a_layout_has_every_address_once() {
     assert_eq!(layout.blocks().count(), 4);
 }
 
+/// Field names and values, as derives write them.
 #[test]
-fn a_layout_is_written_as_the_kernel_does() -> Result<()> {
-    let mut ports = AddressAllocator::new(0, 0x100)?;
-    assert_eq!(ports.layout().to_string(), "0000-00ff : gap");
-    let keyboard = ports.allocate(5, 1, AllocPolicy::ExactMatch(0x60))?;
-    let beside = RangeInclusive::new(0x60, 0x61)?;
+fn debug_texts_show_the_fields() {
+    let mut space = AddressAllocator::new(16, 4).unwrap();
+    let held = space.allocate(1, 1, AllocPolicy::LastMatch).unwrap();
+    let text = format!("{space:?}");
+    for piece in [
+        "AddressAllocator { address_space: RangeInclusive { start: 16, end: 19 }, interval_tree: \
+         IntervalTree { root: Some(InnerNode { key: RangeInclusive { start: 19, end: 19 }, \
+         node_state: Allocated, ",
+        "left: Some(InnerNode { key: RangeInclusive { start: 16, end: 18 }, node_state: Free, ",
+    ] {
+        assert!(text.contains(piece), "{text}");
+    }
+    let mut ids = IdAllocator::new(5, 23).unwrap();
+    for id in [5, 6] {
+        assert_eq!(ids.allocate_id(), Ok(id));
+    }
+    ids.free_id(5).unwrap();
+    let ids_text = "IdAllocator { range_base: 5, next_id: Some(7), range_end: 23, freed_ids: {5} }";
+    assert_eq!(format!("{ids:?}"), ids_text);
+    let mut devices = DeviceManager::new(0, 0, 16, 1).unwrap();
+    let slot = devices.reserve(1, 1, AllocPolicy::FirstMatch).unwrap();
+    let range_text = "RangeInclusive { start: 16, end: 16 }";
     assert_eq!(
-        ports
-            .layout()
-            .named([(keyboard, "keyboard"), (beside, "none")])
-            .to_string(),
-        "0000-005f : gap\n0060-0064 : keyboard\n0065-00ff : gap"
+        format!("{slot:?}"),
+        format!("DeviceSlot {{ id: 0, range: {range_text} }}")
     );
-    let high = AddressAllocator::new(1 << 40, 1 << 40)?;
-    assert_eq!(high.layout().to_string(), "10000000000-1ffffffffff : gap");
-    Ok(())
+    assert!(format!("{devices:?}").ends_with(&format!("slots: {{0: {range_text}}} }}")));
+    assert_eq!(format!("{:?}", space.held_ranges()), "HeldRanges { .. }");
+    let layout = space.layout().named([(held, "disk")]);
+    let names = r#"names: {RangeInclusive { start: 19, end: 19 }: "disk"} }"#;
+    assert!(format!("{layout:?}").ends_with(names));
+    assert!(NodeState::Free < NodeState::Allocated);
+}
+
+/// A space by its base and size, allocated ranges by start and size, each with a name, and the
+/// layout of both.
+type Written = (
+    u64,
+    u64,
+    &'static [(u64, u64, Option<&'static str>)],
+    &'static str,
+);
+
+/// At least four digits if the last address is below 2^16, else at least eight.
+const LAYOUTS: [Written; 7] = [
+    (0, 0x100, &[], "0000-00ff : gap"),
+    (0xff00, 0x100, &[], "ff00-ffff : gap"),
+    (0xff00, 0x101, &[], "0000ff00-00010000 : gap"),
+    (0xffff_ffff, 2, &[], "ffffffff-100000000 : gap"),
+    (0, u64::MAX, &[], "00000000-fffffffffffffffe : gap"),
+    (
+        0,
+        0x100,
+        &[
+            (0x60, 5, Some("keyboard")),
+            (0x70, 2, None),
+            (0x80, 0x80, Some("")),
+        ],
+        "0000-005f : gap\n0060-0064 : keyboard\n0065-006f : gap\n0070-0071 : held\n\
+         0072-007f : gap\n0080-00ff : ",
+    ),
+    (
+        7,
+        2,
+        &[(7, 1, Some("first")), (8, 1, Some("gap"))],
+        "0007-0007 : first\n0008-0008 : gap",
+    ),
+];
+
+#[test]
+fn a_layout_is_written_as_the_kernel_does() {
+    for (base, size, ranges, text) in LAYOUTS {
+        let mut space = AddressAllocator::new(base, size).unwrap();
+        let (mut names, mut others) = (Vec::new(), Vec::new());
+        for (start, size, name) in ranges {
+            let range = space
+                .allocate(*size, 1, AllocPolicy::ExactMatch(*start))
+                .unwrap();
+            names.extend(name.map(|name| (range, name)));
+            let ends = [start + size / 2, start + size].into_iter();
+            let beside = ends.filter(|end| *end != range.end());
+            others.extend(beside.map(|end| (RangeInclusive::new(*start, end).unwrap(), "none")));
+        }
+        let layout = space.layout();
+        let gaps = layout
+            .blocks()
+            .filter(|block| block.state == NodeState::Free);
+        others.extend(gaps.map(|gap| (gap.range, "none")));
+        // Only a range that is allocated as it is has a name, and a second list adds names.
+        let layout = space.layout().named(names).named(others);
+        assert_eq!(layout.to_string(), text);
+    }
 }

@@ -1,66 +1,166 @@
-//! Where there is no memory: the calls with `try_` answer it and change nothing, the others end the
-//! process. The program starts itself again with as little memory as `ulimit -v` of Linux gives it.
+//! The requests for memory that each call makes. If one is refused, a call with `try_` returns
+//! `OutOfMemory` and changes nothing, and any other ends the process: for that, the program starts
+//! itself again.
 
-use divsharun::{AddressAllocator, AllocPolicy, TryError};
+#[path = "../../rattle/tests/refusing/mod.rs"]
+mod refusing;
+
+use divsharun::{
+    AddressAllocator, AllocPolicy, DeviceManager, Error, IdAllocator, RangeInclusive, TryError,
+};
+use refusing::{blocks, refusing};
 use std::env;
 use std::os::unix::process::ExitStatusExt;
-use std::process::{Command, Output};
+use std::process::Command;
+use AllocPolicy::{ExactMatch, FirstMatch, LastMatch};
 
-/// What is set in the program that has little memory.
-const PART: &str = "DIVSHARUN_TEST_OF_MEMORY";
+/// The variable with the number of the call that ends the process.
+const ENDING: &str = "DIVSHARUN_TEST_OF_MEMORY";
 
 /// What `abort` ends a process with.
 const ABORTED: i32 = 6;
 
-fn with_little_memory(part: &str) -> Output {
-    let program = env::current_exe().expect("the program has a path");
-    let mut shell = Command::new("sh");
-    shell
-        .args(["-c", "ulimit -v 40000 && exec \"$0\""])
-        .arg(program)
-        .env(PART, part);
-    shell.output().expect("a shell starts")
-}
+type Tried = Result<(), TryError>;
+type TriedCall = fn(&mut AddressAllocator) -> Tried;
+type EndedCall = fn(&mut AddressAllocator);
+
+/// Calls that return an error, each with the number of its requests on [`two_held`]: one for a
+/// space, one for each part of a gap that is left over, one for each block of a copy.
+const TRIED: [(u64, TriedCall); 8] = [
+    (1, |_| AddressAllocator::try_new(0, 64).map(drop)),
+    (5, |space| space.try_clone().map(drop)),
+    (1, |space| space.try_allocate(4, 1, FirstMatch).map(drop)),
+    (1, |space| space.try_allocate(4, 1, LastMatch).map(drop)),
+    (2, |space| space.try_allocate(4, 1, ExactMatch(4)).map(drop)),
+    (0, |space| {
+        space.try_allocate(16, 1, ExactMatch(24)).map(drop)
+    }),
+    (0, |space| refused(space.try_allocate(64, 1, FirstMatch))),
+    (0, |space| refused(space.try_allocate(0, 1, FirstMatch))),
+];
+
+/// Calls that end the process, each with the number of its requests on [`two_held`]. A set or a
+/// map of Rust's has one block for a few ids or devices.
+const ENDED: [(u64, EndedCall); 8] = [
+    (1, |_| assert!(AddressAllocator::new(0, 64).is_ok())),
+    (5, |space| drop(space.clone())),
+    (1, |space| assert!(space.allocate(4, 1, FirstMatch).is_ok())),
+    (2, |space| {
+        assert!(space.allocate_counted(4, 1, ExactMatch(4)).0.is_ok())
+    }),
+    (1, |_| drop(one_free_id())),
+    (2, |_| drop(one_free_id().clone())),
+    (1, |_| assert!(DeviceManager::new(0, 0, 0, 64).is_ok())),
+    (4, |_| reserve_and_release()),
+];
 
 fn main() {
-    match env::var(PART).as_deref() {
-        Ok("tried") => fill_and_go_on(),
-        Ok(_) => fill(),
-        Err(_) => start_both(),
+    if let Ok(number) = env::var(ENDING) {
+        let (_, call) = ENDED[number.parse::<usize>().expect("a number")];
+        let mut space = two_held();
+        refusing(1, || call(&mut space));
+        return;
+    }
+    count_requests();
+    refuse_each_request();
+    no_request_is_made();
+    processes_are_ended();
+    println!("each request is counted, and refused");
+}
+
+/// The space of [0, 63] with [16, 23] and [40, 47] allocated, in five blocks.
+fn two_held() -> AddressAllocator {
+    let mut space = AddressAllocator::new(0, 64).expect("a space");
+    for start in [16, 40] {
+        let held = space.allocate(8, 1, ExactMatch(start));
+        assert_eq!(held.map(|range| range.start()), Ok(start));
+    }
+    space
+}
+
+/// The call returned an error that has nothing to do with memory.
+fn refused(answer: Result<RangeInclusive, TryError>) -> Tried {
+    match answer {
+        Err(TryError::Refused(_)) => Ok(()),
+        other => panic!("{other:?}"),
     }
 }
 
-fn start_both() {
-    let tried = with_little_memory("tried");
-    assert!(tried.status.success(), "{tried:?}");
-    let plain = with_little_memory("plain");
-    assert_eq!(plain.status.signal(), Some(ABORTED), "{plain:?}");
-    println!("out of memory is answered, or ends the process");
+fn one_free_id() -> IdAllocator {
+    let mut ids = IdAllocator::new(0, 0).expect("ids");
+    assert_eq!(ids.allocate_id().and_then(|id| ids.free_id(id)), Ok(0));
+    ids
 }
 
-/// A space that takes more nodes than there is memory for.
-fn large_space() -> AddressAllocator {
-    AddressAllocator::new(0, 1 << 40).expect("there is memory for one node")
+/// One request for the space, one for the part that is left over, one for the map and one for the
+/// set of free ids.
+fn reserve_and_release() {
+    let mut devices = DeviceManager::new(0, 0, 0, 64).expect("a manager");
+    assert!(devices.reserve(1, 1, FirstMatch).is_ok());
+    assert_eq!(devices.release(0), Ok(()));
 }
 
-fn fill_and_go_on() {
-    let mut space = large_space();
-    let mut held = 0;
-    let refusal = loop {
-        match space.try_allocate(1, 2, AllocPolicy::FirstMatch) {
-            Ok(_) => held += 1,
-            Err(refusal) => break refusal,
+fn count_requests() {
+    for (row, (requests, call)) in TRIED.iter().enumerate() {
+        let mut space = two_held();
+        let (answer, made) = refusing(0, || call(&mut space));
+        assert_eq!((answer, made), (Ok(()), *requests), "row {row}");
+    }
+    for (row, (requests, call)) in ENDED.iter().enumerate() {
+        let mut space = two_held();
+        let before = blocks();
+        let ((), made) = refusing(0, || call(&mut space));
+        assert_eq!(made, *requests, "row {row}");
+        drop(space);
+        assert_eq!(blocks(), before - 5, "row {row}");
+    }
+}
+
+fn refuse_each_request() {
+    for (row, (requests, call)) in TRIED.iter().enumerate() {
+        for number in 1..=*requests {
+            let (mut space, unchanged) = (two_held(), two_held());
+            let before = blocks();
+            let (answer, _) = refusing(number, || call(&mut space));
+            assert_eq!(answer, Err(TryError::OutOfMemory), "row {row}");
+            assert_eq!((&space, blocks()), (&unchanged, before), "row {row}");
         }
-    };
-    assert_eq!(refusal, TryError::OutOfMemory);
-    assert_eq!(space.held_count(), held);
-    assert_eq!(space.try_clone(), Err(TryError::OutOfMemory));
-    let last = space.held_ranges().last().expect("something is held");
-    assert_eq!(space.free(&last), Ok(()));
-    assert_eq!(space.try_allocate(1, 2, AllocPolicy::FirstMatch), Ok(last));
+    }
 }
 
-fn fill() {
-    let mut space = large_space();
-    while space.allocate(1, 2, AllocPolicy::FirstMatch).is_ok() {}
+/// The calls that need no memory, each of which would fail without its first request.
+fn no_request_is_made() {
+    let (mut space, other) = (two_held(), two_held());
+    let held = [16, 40].map(|start| RangeInclusive::new(start, start + 7).expect("a range"));
+    let ((), requests) = refusing(1, || {
+        assert!(space.held_ranges().eq(held) && space.holds(&held[0]) && space == other);
+        assert_eq!((space.held_count(), space.base(), space.end()), (2, 0, 63));
+        assert_eq!(space.layout().blocks().count(), 5);
+        assert!(space.cmp(&other).is_eq() && space.height() > 1);
+        assert_eq!(space.free(&held[0]), Ok(()));
+        assert_eq!(space.free_counted(&held[1]).0, Ok(()));
+        assert_eq!(space.free(&held[1]), Err(Error::ResourceNotAvailable));
+        assert_eq!(
+            space.allocate(64, 1, FirstMatch).map(|all| all.len()),
+            Ok(64)
+        );
+    });
+    assert_eq!(requests, 0);
+    let ((), requests) = refusing(1, || {
+        let mut ids = IdAllocator::new(5, 6).expect("ids");
+        assert_eq!((ids.allocate_id(), ids.peek_id()), (Ok(5), Ok(6)));
+        assert!(ids.is_allocated(5) && ids.held_count() == 1);
+        assert_eq!(ids.free_id(6), Err(Error::NeverAllocated(6)));
+    });
+    assert_eq!(requests, 0);
+}
+
+fn processes_are_ended() {
+    let program = env::current_exe().expect("the program has a path");
+    for row in 0..ENDED.len() {
+        let mut child = Command::new(&program);
+        let ended = child.env(ENDING, row.to_string()).output();
+        let ended = ended.expect("the program starts");
+        assert_eq!(ended.status.signal(), Some(ABORTED), "row {row}: {ended:?}");
+    }
 }

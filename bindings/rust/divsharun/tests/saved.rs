@@ -4,8 +4,9 @@
 
 mod packed;
 
-use serde::de::DeserializeOwned;
-use serde::Serialize;
+use serde::de::value::{Error, MapDeserializer};
+use serde::de::{DeserializeOwned, IntoDeserializer};
+use serde::{Deserialize, Serialize};
 use std::cell::Cell;
 use vm_allocator::{
     AddressAllocator, AllocPolicy, DeviceManager, IdAllocator, NodeState, RangeInclusive,
@@ -110,6 +111,76 @@ fn bytes_have_the_fields_in_order() {
     assert_eq!(packed::to_bytes(&seven_ids()).unwrap(), expected);
 }
 
+/// Some formats write the names of types, or check them.
+#[test]
+fn structures_have_the_names_of_the_derives() {
+    let space = [
+        "AddressAllocator",
+        "RangeInclusive",
+        "IntervalTree",
+        "InnerNode",
+        "RangeInclusive",
+        "NodeState",
+        "Allocated",
+    ];
+    let names = [
+        &["DeviceManager", "IdAllocator"],
+        &space[..],
+        &["DeviceSlot", "RangeInclusive"],
+    ]
+    .concat();
+    let mut devices = DeviceManager::new(0, 1, 16, 4).unwrap();
+    devices.reserve(4, 4, AllocPolicy::FirstMatch).unwrap();
+    let bytes = packed::to_bytes(&devices).unwrap();
+    let written = packed::names_in(|| packed::to_bytes(&devices).unwrap());
+    assert_eq!(written, names);
+    let read = packed::names_in(|| packed::from_bytes::<DeviceManager>(bytes).unwrap());
+    assert_eq!(read, names);
+}
+
+/// The range of a map with these keys.
+fn range_by<'a, K>(entries: &[(K, u64)]) -> Result<RangeInclusive, Error>
+where
+    K: IntoDeserializer<'a, Error> + Copy,
+{
+    RangeInclusive::deserialize(MapDeserializer::new(entries.iter().copied()))
+}
+
+#[test]
+fn fields_are_known_by_number_name_and_bytes() {
+    let range = Ok(RangeInclusive::new(16, 19).unwrap());
+    assert_eq!(range_by(&[(0u64, 16), (1, 19)]), range);
+    assert_eq!(range_by(&[(1u64, 19), (0, 16)]), range);
+    for wrong in [2, 3, u64::MAX] {
+        assert!(range_by(&[(0, 16), (wrong, 19)]).is_err(), "{wrong}");
+        assert!(range_by(&[(0, 16), (1, 19), (wrong, 0)]).is_err(), "{wrong}");
+    }
+    assert!(range_by(&[(0u64, 16)]).is_err());
+    assert!(range_by(&[(0u64, 16), (0, 16), (1, 19)]).is_err());
+    assert_eq!(range_by(&[("start", 16), ("end", 19)]), range);
+    assert_eq!(range_by(&[(&b"start"[..], 16), (b"end", 19)]), range);
+    for wrong in ["", "en", "ends", "END"] {
+        assert!(range_by(&[("start", 16), (wrong, 19)]).is_err(), "{wrong}");
+        assert!(range_by(&[(&b"start"[..], 16), (wrong.as_bytes(), 19)]).is_err(), "{wrong}");
+    }
+}
+
+#[test]
+fn states_and_lists_of_fields_are_whole() {
+    for place in 0..4u32 {
+        let state: Result<NodeState, _> = packed::from_bytes(place.to_le_bytes());
+        assert_eq!(state.is_ok(), place < 2, "{place}");
+    }
+    assert!(is_read::<NodeState>(r#"{"Free":null}"#));
+    for wrong in ["0", "null", r#""""#, r#"{"Free":0}"#, r#"{"Free":[]}"#, r#"["Free"]"#] {
+        assert!(!is_read::<NodeState>(wrong), "{wrong}");
+    }
+    assert!(is_read::<RangeInclusive>("[16,19]"));
+    for wrong in ["[16]", "[16,19,20]", "[19,16]", "[]", "16"] {
+        assert!(!is_read::<RangeInclusive>(wrong), "{wrong}");
+    }
+}
+
 #[test]
 fn what_is_written_is_read() {
     for count in [0, 1, 2, 10, 300] {
@@ -125,11 +196,16 @@ fn what_is_written_is_read() {
     assert_eq!(json(&ids), IDS);
     let ids: IdAllocator = packed::from_bytes(packed::to_bytes(&ids).unwrap()).unwrap();
     assert_eq!(json(&ids), IDS);
-    let pair = (NodeState::Allocated, RangeInclusive::new(1, 2).unwrap());
-    let text: (NodeState, RangeInclusive) = serde_json::from_str(&json(&pair)).unwrap();
-    let bytes: (NodeState, RangeInclusive) =
-        packed::from_bytes(packed::to_bytes(&pair).unwrap()).unwrap();
-    assert!(text == pair && bytes == pair);
+    for state in [NodeState::Free, NodeState::Allocated] {
+        let pair = (state, RangeInclusive::new(1, 2).unwrap());
+        let text: (NodeState, RangeInclusive) = serde_json::from_str(&json(&pair)).unwrap();
+        let bytes: (NodeState, RangeInclusive) =
+            packed::from_bytes(packed::to_bytes(&pair).unwrap()).unwrap();
+        assert!(text == pair && bytes == pair);
+    }
+    let all = r#"{"range_base":0,"next_id":null,"range_end":4294967295,"freed_ids":[]}"#;
+    let all: IdAllocator = serde_json::from_str(all).unwrap();
+    assert_eq!((all.held_count(), all.is_allocated(u32::MAX)), (1 << 32, true));
 }
 
 /// A manager with two devices, of which the second one was unplugged.
@@ -181,6 +257,9 @@ fn what_the_faults_left_is_repaired() {
     // Free neighbours were not joined.
     let second = node((18, 19), "Free", "null");
     assert_eq!(read(&node((16, 17), "Free", &second)).unwrap(), fresh);
+    // Heights and balance are not looked at.
+    let wrong_height = FRESH.replace(r#""height":1"#, r#""height":7"#);
+    assert_eq!(serde_json::from_str::<AddressAllocator>(&wrong_height).unwrap(), fresh);
     // What was given back is missing.
     let held = read(&node((17, 17), "Allocated", "null")).unwrap();
     assert!(held

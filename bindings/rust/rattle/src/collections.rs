@@ -18,7 +18,7 @@ impl<T: Ord> BTreeSet<T> {
     where
         T: Copy,
     {
-        Ok(BTreeSet(self.0.iter().copied().collect()))
+        Ok(BTreeSet(self.0.clone()))
     }
 
     /// Adds a value, and says whether it is new.
@@ -80,7 +80,7 @@ impl<K: Ord, V> BTreeMap<K, V> {
         K: Copy,
         V: Copy,
     {
-        Ok(BTreeMap(self.0.iter().map(|(k, v)| (*k, *v)).collect()))
+        Ok(BTreeMap(self.0.clone()))
     }
 
     /// Maps the key to the value, and answers what it was mapped to before.

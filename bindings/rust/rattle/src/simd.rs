@@ -47,3 +47,40 @@ impl Mask {
 fn top_bits(word: u64) -> u64 {
     (word >> 7).wrapping_mul(0x0102_0408_1020_4080) >> 56
 }
+
+#[cfg(test)]
+mod tests {
+    use super::*;
+
+    /// The mask of sixteen bytes that are compared with one byte, bit by bit.
+    fn mask_by_lane(bytes: &[u8; 16], byte: u8) -> u64 {
+        let lanes = bytes.iter().enumerate();
+        lanes
+            .filter(|(_, lane)| **lane == byte)
+            .map(|(place, _)| 1 << place)
+            .sum()
+    }
+
+    /// Each byte meets each byte in each lane, beside different and beside equal ones.
+    #[test]
+    fn each_byte_is_compared_with_each() {
+        for first in 0..=u8::MAX {
+            for step in [0, 1, 127, 128] {
+                let bytes: [u8; 16] = core::array::from_fn(|lane| {
+                    first.wrapping_add((lane as u8).wrapping_mul(step))
+                });
+                for byte in 0..=u8::MAX {
+                    let mask = u8x16::from_slice(&bytes).simd_eq(u8x16::splat(byte));
+                    let expected = mask_by_lane(&bytes, byte);
+                    assert_eq!(mask.to_bitmask(), expected, "{bytes:?} and {byte}");
+                }
+            }
+        }
+    }
+
+    #[test]
+    fn only_the_first_sixteen_bytes_are_taken() {
+        let mask = u8x16::from_slice(&[7; 40]).simd_eq(u8x16::splat(7));
+        assert_eq!(mask.to_bitmask(), 0xFFFF);
+    }
+}

@@ -1,13 +1,16 @@
-//! Saved values are damaged, and read in two ways: by serde, and by the proved reader alone. Both
-//! read the same ones.
+//! What serde writes is the proved value. Then it is damaged, and read in two ways: by serde, and by
+//! the proved reader alone. Both read the same ones.
 
+use super::form::Form;
+use super::reading::Reading;
 use crate::{AddressAllocator, AllocPolicy, DeviceManager, IdAllocator};
 use alloc::format;
 use alloc::vec::Vec;
 use core::fmt::Debug;
 use rattle::{Fields, Global, Number};
-use serde::de::DeserializeOwned;
-use serde::Serialize;
+use serde::de::value::Error;
+use serde::de::{DeserializeOwned, DeserializeSeed, Visitor};
+use serde::{Deserializer, Serialize};
 use serde_json::{json, Value};
 
 /// How many values of each kind are damaged.
@@ -92,6 +95,7 @@ fn other(value: &Value, draw: &mut Draw) -> Value {
 /// Damages the value of an object up to twice, and reads it in both ways.
 fn read_damaged<T, P>(
     object: &T,
+    written: proved::Result<rattle::Value>,
     proved: fn(Global, &rattle::Value) -> Result<P, proved::ValueError>,
     again: fn(P) -> T,
     draw: &mut Draw,
@@ -100,6 +104,7 @@ where
     T: Serialize + DeserializeOwned + Debug,
 {
     let mut value = serde_json::to_value(object).unwrap();
+    assert_eq!(for_proved(&value), written.unwrap());
     for _ in 0..draw.below(3) {
         damage(&mut value, draw);
     }
@@ -130,7 +135,13 @@ fn address_allocators_are_read_as_the_proved_reader_does() {
             }
         }
         let reader = proved::AddressAllocator::from_value_repaired;
-        read_damaged(&space, reader, AddressAllocator, draw)
+        read_damaged(
+            &space,
+            space.0.to_value(Global),
+            reader,
+            AddressAllocator,
+            draw,
+        )
     });
 }
 
@@ -145,7 +156,8 @@ fn id_allocators_are_read_as_the_proved_reader_does() {
         for _ in 0..draw.below(6) {
             let _ = ids.free_id(base + draw.below(7) as u32);
         }
-        read_damaged(&ids, proved::IdAllocator::from_value, IdAllocator, draw)
+        let reader = proved::IdAllocator::from_value;
+        read_damaged(&ids, ids.0.to_value(Global), reader, IdAllocator, draw)
     });
 }
 
@@ -162,6 +174,38 @@ fn device_managers_are_read_as_the_proved_reader_does() {
             }
         }
         let reader = proved_devices::DeviceManager::from_value;
-        read_damaged(&devices, reader, DeviceManager, draw)
+        read_damaged(
+            &devices,
+            devices.0.to_value(Global),
+            reader,
+            DeviceManager,
+            draw,
+        )
     });
+}
+
+/// A format that has a unit where nothing is, as serde's own content of untagged enums.
+struct Unit;
+
+impl<'de> Deserializer<'de> for Unit {
+    type Error = Error;
+
+    fn deserialize_any<V: Visitor<'de>>(self, visitor: V) -> Result<V::Value, Error> {
+        visitor.visit_unit()
+    }
+
+    serde::forward_to_deserialize_any! {
+        bool i8 i16 i32 i64 u8 u16 u32 u64 f32 f64 char str string bytes byte_buf option unit
+        unit_struct newtype_struct seq tuple tuple_struct map struct enum identifier ignored_any
+    }
+}
+
+#[test]
+fn a_unit_is_no_node_and_no_id() {
+    for form in [&Form::OptionalNode, &Form::OptionalId] {
+        assert_eq!(
+            Reading::new(form).deserialize(Unit),
+            Ok(rattle::Value::Null)
+        );
+    }
 }

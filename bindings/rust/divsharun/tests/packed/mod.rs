@@ -6,7 +6,24 @@
 use serde::de::{DeserializeSeed, EnumAccess, IntoDeserializer, SeqAccess, VariantAccess, Visitor};
 use serde::ser::{Impossible, SerializeSeq, SerializeStruct};
 use serde::{de, ser, Deserialize, Deserializer, Serialize, Serializer};
+use std::cell::RefCell;
 use std::fmt::{self, Display};
+
+thread_local! {
+    static NAMES: RefCell<Vec<&'static str>> = const { RefCell::new(Vec::new()) };
+}
+
+/// Runs a call. Returns the names of the structures and states that it wrote or read, in order, each
+/// before those of its parts.
+pub fn names_in<T>(call: impl FnOnce() -> T) -> Vec<&'static str> {
+    NAMES.take();
+    call();
+    NAMES.take()
+}
+
+fn note(name: &'static str) {
+    NAMES.with_borrow_mut(|names| names.push(name));
+}
 
 /// The bytes of an object.
 pub fn to_bytes<T: Serialize>(object: &T) -> Result<Vec<u8>, Failure> {
@@ -66,11 +83,11 @@ macro_rules! not_packed {
 
 type Never = Impossible<(), Failure>;
 
-impl Serializer for Packer<'_> {
+impl<'a> Serializer for Packer<'a> {
     type Ok = ();
     type Error = Failure;
     type SerializeSeq = Self;
-    type SerializeStruct = Self;
+    type SerializeStruct = PackedFields<'a>;
     type SerializeTuple = Self;
     type SerializeTupleStruct = Never;
     type SerializeTupleVariant = Never;
@@ -100,10 +117,12 @@ impl Serializer for Packer<'_> {
 
     fn serialize_unit_variant(
         self,
-        _: &'static str,
+        name: &'static str,
         place: u32,
-        _: &'static str,
+        variant: &'static str,
     ) -> Result<(), Failure> {
+        note(name);
+        note(variant);
         self.put(&place.to_le_bytes())
     }
 
@@ -117,8 +136,13 @@ impl Serializer for Packer<'_> {
         Ok(self)
     }
 
-    fn serialize_struct(self, _: &'static str, _: usize) -> Result<Self, Failure> {
-        Ok(self)
+    fn serialize_struct(
+        self,
+        name: &'static str,
+        left: usize,
+    ) -> Result<PackedFields<'a>, Failure> {
+        note(name);
+        Ok(PackedFields { to: self.0, left })
     }
 
     fn serialize_newtype_struct<T: Serialize + ?Sized>(
@@ -187,7 +211,13 @@ impl ser::SerializeTuple for Packer<'_> {
     }
 }
 
-impl SerializeStruct for Packer<'_> {
+/// The fields of a structure, and how many are left of those that were announced.
+struct PackedFields<'a> {
+    to: &'a mut Vec<u8>,
+    left: usize,
+}
+
+impl SerializeStruct for PackedFields<'_> {
     type Ok = ();
     type Error = Failure;
 
@@ -196,11 +226,16 @@ impl SerializeStruct for Packer<'_> {
         _: &'static str,
         field: &T,
     ) -> Result<(), Failure> {
-        field.serialize(Packer(self.0))
+        let left = self.left.checked_sub(1);
+        self.left = left.ok_or_else(|| Failure("a field too many".into()))?;
+        field.serialize(Packer(self.to))
     }
 
     fn end(self) -> Result<(), Failure> {
-        Ok(())
+        match self.left {
+            0 => Ok(()),
+            _ => Err(Failure("a field is missing".into())),
+        }
     }
 }
 
@@ -262,20 +297,24 @@ impl<'de, I: Iterator<Item = u8>> Deserializer<'de> for &mut Unpacker<I> {
 
     fn deserialize_struct<V: Visitor<'de>>(
         self,
-        _: &'static str,
+        name: &'static str,
         names: &'static [&'static str],
         visitor: V,
     ) -> Result<V::Value, Failure> {
+        note(name);
         self.deserialize_tuple(names.len(), visitor)
     }
 
     fn deserialize_enum<V: Visitor<'de>>(
         self,
-        _: &'static str,
-        _: &'static [&'static str],
+        name: &'static str,
+        variants: &'static [&'static str],
         visitor: V,
     ) -> Result<V::Value, Failure> {
-        visitor.visit_enum(Place(u32::from_le_bytes(self.take()?)))
+        let place = u32::from_le_bytes(self.take()?);
+        note(name);
+        note(variants.get(place as usize).unwrap_or(&"none"));
+        visitor.visit_enum(Place(place))
     }
 
     serde::forward_to_deserialize_any! {

@@ -1,0 +1,259 @@
+//! Each call returns what the proved call returns for the same arguments, of all magnitudes.
+
+mod draw;
+
+use divsharun::{
+    AddressAllocator, AllocPolicy, Constraint, DeviceManager, IdAllocator, RangeInclusive, TryError,
+};
+use draw::Draw;
+use rattle::Global;
+use std::fmt::Debug;
+
+/// Numbers at both ends and between.
+const NUMBERS: [u64; 6] = [0, 1, 2, 16, u64::MAX - 1, u64::MAX];
+
+/// All pairs of these numbers.
+fn pairs() -> impl Iterator<Item = (u64, u64)> {
+    NUMBERS
+        .into_iter()
+        .flat_map(|one| NUMBERS.map(|two| (one, two)))
+}
+
+/// Both have the same debug text.
+fn same(library: impl Debug, proved: impl Debug) {
+    assert_eq!(format!("{library:?}"), format!("{proved:?}"));
+}
+
+fn range(start: u64, end: u64) -> Option<(RangeInclusive, proved::RangeInclusive)> {
+    let range = RangeInclusive::new(start, end);
+    let proved = proved::RangeInclusive::new(start, end);
+    same(range, &proved);
+    Some((range.ok()?, proved.ok()?))
+}
+
+#[test]
+fn ranges() {
+    for (start, end) in pairs() {
+        let Some((one, proved_one)) = range(start, end) else {
+            continue;
+        };
+        assert_eq!(
+            (one.start(), one.end(), one.len()),
+            (start, end, end - start + 1)
+        );
+        for (two, proved_two) in pairs().filter_map(|(start, end)| range(start, end)) {
+            same(
+                (
+                    one.overlaps(&two),
+                    one.contains(&two),
+                    one == two,
+                    one.cmp(&two),
+                ),
+                (
+                    proved_one.overlaps(&proved_two),
+                    proved_one.contains(&proved_two),
+                    proved_one == proved_two,
+                    proved_one.cmp(&proved_two),
+                ),
+            );
+        }
+    }
+}
+
+#[test]
+fn requests() {
+    for (size, align) in pairs() {
+        for policy in [AllocPolicy::FirstMatch, AllocPolicy::ExactMatch(18)] {
+            let request = Constraint::new(size, align, policy);
+            same(request, proved::Constraint::new(size, align, policy));
+            let parts = request.map(|request| (request.size(), request.align()));
+            assert!(parts.is_err() || parts == Ok((size, align)));
+        }
+    }
+}
+
+/// How many addresses a space has in which calls are drawn.
+const WIDTH: u64 = 1 << 12;
+
+/// Three spaces, for the plain, the counted and the `try_` calls, and the proved one: all have the
+/// same history.
+struct Spaces {
+    plain: AddressAllocator,
+    counted: AddressAllocator,
+    tried: AddressAllocator,
+    proved: proved::AddressAllocator,
+}
+
+impl Spaces {
+    fn new(base: u64) -> Spaces {
+        let space = || AddressAllocator::new(base, WIDTH).unwrap();
+        Spaces {
+            plain: space(),
+            counted: space(),
+            tried: space(),
+            proved: proved::AddressAllocator::new(Global, base, WIDTH).unwrap(),
+        }
+    }
+
+    fn allocate(&mut self, draw: &mut Draw) {
+        let size = [draw.below(6), 1 << draw.below(10)][usize::from(draw.below(8) == 0)];
+        let align = [draw.below(5), 1 << draw.below(12)][draw.below(2) as usize];
+        let policy = match draw.below(4) {
+            0 | 1 => AllocPolicy::FirstMatch,
+            2 => AllocPolicy::LastMatch,
+            _ => AllocPolicy::ExactMatch(self.proved.base() + draw.below(WIDTH)),
+        };
+        let proved = self.proved.allocate_counted(Global, size, align, policy);
+        same(self.plain.allocate(size, align, policy), &proved.0);
+        same(self.counted.allocate_counted(size, align, policy), &proved);
+        match self.tried.try_allocate(size, align, policy) {
+            Err(TryError::Refused(error)) => same(Err::<(), _>(error), proved.0),
+            answer => same(answer, proved.0),
+        }
+    }
+
+    /// Frees an allocated range, a part of one, or any address.
+    fn free(&mut self, draw: &mut Draw) {
+        let at = self.proved.base() + draw.below(WIDTH);
+        let held = self.plain.held_ranges().nth(draw.below(40) as usize);
+        let (start, end) = held.map_or((at, at), |held| (held.start(), held.end()));
+        let (start, end) = match draw.below(8) {
+            0 => (start, start),
+            1 => (end, end),
+            2 => (at, at),
+            _ => (start, end),
+        };
+        let (key, proved_key) = range(start, end).unwrap();
+        same(self.plain.holds(&key), self.proved.holds(&proved_key));
+        let proved = self.proved.free_counted(&proved_key);
+        same(self.plain.free(&key), &proved.0);
+        same(self.counted.free_counted(&key), &proved);
+        same(self.tried.free(&key), &proved.0);
+        same(self.plain.holds(&key), self.proved.holds(&proved_key));
+    }
+
+    fn compare(&self, before: &(AddressAllocator, proved::AddressAllocator)) {
+        let (space, proved) = (&self.plain, &self.proved);
+        same(space, proved);
+        assert!(*space == self.counted && *space == self.tried);
+        same(
+            (
+                space.base(),
+                space.end(),
+                space.height(),
+                space.held_count(),
+            ),
+            (
+                proved.base(),
+                proved.end(),
+                proved.height(),
+                proved.held_count(),
+            ),
+        );
+        same(
+            space.held_ranges().collect::<Vec<_>>(),
+            proved.held_ranges().collect::<Vec<_>>(),
+        );
+        same(
+            (*space == before.0, space.cmp(&before.0)),
+            (*proved == before.1, proved.cmp(&before.1)),
+        );
+    }
+}
+
+#[test]
+fn address_calls() {
+    let mut draw = Draw(2);
+    for base in [0, 1, 1000, u64::MAX - WIDTH + 1] {
+        let mut spaces = Spaces::new(base);
+        for _ in 0..100 {
+            let proved = spaces.proved.try_clone(Global).unwrap();
+            let before = (spaces.tried.try_clone().unwrap(), proved);
+            for _ in 0..draw.below(40) {
+                spaces.allocate(&mut draw);
+                if draw.below(3) == 0 {
+                    spaces.free(&mut draw);
+                }
+            }
+            spaces.compare(&before);
+        }
+        assert!(spaces.plain.held_count() > 100);
+    }
+}
+
+#[test]
+fn spaces() {
+    for (base, size) in pairs() {
+        let space = AddressAllocator::new(base, size);
+        same(&space, proved::AddressAllocator::new(Global, base, size));
+        let tried = AddressAllocator::try_new(base, size);
+        assert_eq!(tried, space.map_err(TryError::Refused));
+    }
+}
+
+#[test]
+fn ids() {
+    let mut draw = Draw(3);
+    for first in [0, 5, u32::MAX - 30] {
+        let mut ids = IdAllocator::new(first, first + 30).unwrap();
+        let mut proved = proved::IdAllocator::new(Global, first, first + 30).unwrap();
+        for _ in 0..1000 {
+            let id = first.wrapping_add(draw.below(33) as u32).wrapping_sub(1);
+            match draw.below(2) {
+                0 => same(ids.allocate_id(), proved.allocate_id()),
+                _ => same(ids.free_id(id), proved.free_id(id)),
+            }
+            same(
+                (ids.peek_id(), ids.is_allocated(id), ids.held_count()),
+                (
+                    proved.peek_id(),
+                    proved.is_allocated(id),
+                    proved.held_count(),
+                ),
+            );
+            same(&ids, &proved);
+            same(ids.clone(), &ids);
+        }
+    }
+    for (first, last) in [(1, 0), (0, 0), (u32::MAX, 0), (0, u32::MAX)] {
+        same(
+            IdAllocator::new(first, last),
+            proved::IdAllocator::new(Global, first, last),
+        );
+    }
+}
+
+#[test]
+fn devices() {
+    let mut draw = Draw(4);
+    for (first, base) in [(0, 0), (5, 1000), (u32::MAX - 9, u64::MAX - 63)] {
+        let mut devices = DeviceManager::new(first, first + 9, base, 64).unwrap();
+        let mut proved =
+            proved_devices::DeviceManager::new(Global, first, first + 9, base, 64).unwrap();
+        for _ in 0..1000 {
+            let id = first.wrapping_add(draw.below(12) as u32).wrapping_sub(1);
+            let (size, align) = (draw.below(8), 1 << draw.below(4));
+            let policy = [AllocPolicy::FirstMatch, AllocPolicy::LastMatch][draw.below(2) as usize];
+            match draw.below(2) {
+                0 => same(
+                    devices.reserve(size, align, policy),
+                    proved.reserve(Global, size, align, policy),
+                ),
+                _ => same(devices.release(id), proved.release(id)),
+            }
+            same(devices.slot(id), proved.slot(id));
+            same(&devices, &proved);
+        }
+    }
+    for (first, last, base, size) in [
+        (1, 0, 0, 1),
+        (0, 0, 0, 0),
+        (0, 0, 2, u64::MAX),
+        (0, 1, 2, 3),
+    ] {
+        same(
+            DeviceManager::new(first, last, base, size),
+            proved_devices::DeviceManager::new(Global, first, last, base, size),
+        );
+    }
+}
