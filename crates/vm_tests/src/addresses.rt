@@ -417,12 +417,19 @@ fn expect_counted(
     );
 }
 
-/// The least single address, taken where `held` ranges are held, and they are those below it.
+/// Allocates the lowest single address of 2047, if the `held` addresses below it are allocated. The last
+/// one fills its gap. Each other one is a split, which enters at least half the height.
 fn take_first_counted(rt: &(impl Abort + AllocGlobal), space: &mut AddressAllocator, held: u64) {
     let blocks = held.saturating_mul(2).saturating_add(1);
-    let most = blocks.saturating_add(most_on_ways(space.height()));
+    let height = space.height();
+    let most = blocks.saturating_add(most_on_ways(height));
+    let fewest = if held < 2046 {
+        height / 2 + height % 2
+    } else {
+        1
+    };
     let found = count_again(rt, space, First(1, 1));
-    expect_counted(rt, First(1, 1), &found, Range(held, held), (1, most));
+    expect_counted(rt, First(1, 1), &found, Range(held, held), (fewest, most));
     expect_so(
         rt,
         is_low(space, held.saturating_add(1)),

@@ -5,7 +5,7 @@
 use crate::meter::{at_most, cost, with_failing};
 use crate::objects::{last_node, range, with_part, Setting, SETTINGS};
 use rattle::{AllocError, Global, Value};
-use std::collections::{BTreeMap, BTreeSet};
+use std::collections::BTreeMap;
 use std::fmt::Debug;
 use vm_allocator::allocation_engine::{IntervalTree, NodeState};
 use vm_allocator::AllocPolicy::{self, ExactMatch, FirstMatch, LastMatch};
@@ -226,7 +226,7 @@ fn ids() {
         let reversed = Err(InvalidRange(hi.into(), lo.into()));
         expect(&s, &Ok(0), || IdAllocator::new(Global, lo, hi));
         expect(&s, &reversed, || IdAllocator::new(Global, hi, lo));
-        let copy = || freed.iter().copied().collect::<BTreeSet<u32>>();
+        let copy = || freed.clone();
         at_most(&s, &[cost(copy).1], || ids.try_clone(Global)).unwrap();
         none(&s, || (ids.peek_id().is_ok(), ids.is_allocated(lo)));
         none(&s, || ids.held_count());
