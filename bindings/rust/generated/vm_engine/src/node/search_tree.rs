@@ -101,15 +101,15 @@ impl InnerNode {
         count: &mut Steps,
     ) -> Result<()> {
         self.enter(count);
-        let answer = match order(&self.key, key) {
+        let answer = match order(key, &self.key) {
             Ordering::Equal => return self.mark_here(),
-            Ordering::Greater => {
+            Ordering::Less => {
                 let Some(left) = &mut self.left else {
                     return Err(Error::ResourceNotAvailable);
                 };
                 left.mark_as_allocated(key, count)
             }
-            Ordering::Less => {
+            Ordering::Greater => {
                 let Some(right) = &mut self.right else {
                     return Err(Error::ResourceNotAvailable);
                 };
