@@ -120,10 +120,10 @@ pub(crate) fn carve_at(at: &mut Child, cut: &mut Cut, count: &mut Steps) -> Chan
     let Some(tree) = at else { unreachable!() };
     let tree: &mut InnerNode = tree;
     tree.enter(count);
-    let change = match order(&cut.choice.key, &tree.key) {
+    let change = match order(&tree.key, &cut.choice.key) {
         Ordering::Equal => return carve_here(at, cut, count),
-        Ordering::Less => carve_at(&mut tree.left, cut, count),
-        Ordering::Greater => carve_at(&mut tree.right, cut, count),
+        Ordering::Greater => carve_at(&mut tree.left, cut, count),
+        Ordering::Less => carve_at(&mut tree.right, cut, count),
     };
     match change {
         Change::Nothing => Change::Nothing,

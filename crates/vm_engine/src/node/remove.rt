@@ -115,7 +115,7 @@ pub(crate) fn delete_at(at: &mut Child, key: &RangeInclusive, count: &mut Steps)
     };
     let tree: &mut InnerNode = tree;
     tree.enter(count);
-    let change = match order(key, &tree.key) {
+    let change = match order(&tree.key, key) {
         Ordering::Equal => {
             let Some(node) = at.take() else {
                 unreachable!()
@@ -123,8 +123,8 @@ pub(crate) fn delete_at(at: &mut Child, key: &RangeInclusive, count: &mut Steps)
             *at = InnerNode::delete_root(node, count);
             return Change::Height;
         }
-        Ordering::Less => delete_at(&mut tree.left, key, count),
-        Ordering::Greater => delete_at(&mut tree.right, key, count),
+        Ordering::Greater => delete_at(&mut tree.left, key, count),
+        Ordering::Less => delete_at(&mut tree.right, key, count),
     };
     if let Change::Nothing = change {
         return change;

@@ -43,13 +43,13 @@ fn widen_at(
     let tree: &mut InnerNode = tree;
     tree.enter(count);
     raise_room(&mut tree.max_free, &mut tree.alignments, room);
-    match order(held, &tree.key) {
+    match order(&tree.key, held) {
         Ordering::Equal => {
             tree.key = *range;
             tree.node_state = NodeState::Free;
         }
-        Ordering::Less => widen_at(&mut tree.left, held, range, room, count),
-        Ordering::Greater => widen_at(&mut tree.right, held, range, room, count),
+        Ordering::Greater => widen_at(&mut tree.left, held, range, room, count),
+        Ordering::Less => widen_at(&mut tree.right, held, range, room, count),
     }
 }
 

@@ -37,10 +37,10 @@ pub(crate) fn rewrite_at(
     let Some(tree) = at else { unreachable!() };
     let tree: &mut InnerNode = tree;
     tree.enter(count);
-    let change = match order(old, &tree.key) {
+    let change = match order(&tree.key, old) {
         Ordering::Equal => return tree.rewrite_here(key, node_state),
-        Ordering::Less => rewrite_at(&mut tree.left, old, key, node_state, count),
-        Ordering::Greater => rewrite_at(&mut tree.right, old, key, node_state, count),
+        Ordering::Greater => rewrite_at(&mut tree.left, old, key, node_state, count),
+        Ordering::Less => rewrite_at(&mut tree.right, old, key, node_state, count),
     };
     if let Change::Nothing = change {
         return change;

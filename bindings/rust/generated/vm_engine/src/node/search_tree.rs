@@ -62,13 +62,13 @@ impl InnerNode {
     /// The node with exactly this key.
     pub(crate) fn search(&self, key: &RangeInclusive, count: &mut Steps) -> Option<&InnerNode> {
         self.enter(count);
-        match order(key, &self.key) {
+        match order(&self.key, key) {
             Ordering::Equal => Some(self),
-            Ordering::Less => {
+            Ordering::Greater => {
                 let Some(left) = &self.left else { return None };
                 left.search(key, count)
             }
-            Ordering::Greater => {
+            Ordering::Less => {
                 let Some(right) = &self.right else {
                     return None
                 };
@@ -101,15 +101,15 @@ impl InnerNode {
         count: &mut Steps,
     ) -> Result<()> {
         self.enter(count);
-        let answer = match order(key, &self.key) {
+        let answer = match order(&self.key, key) {
             Ordering::Equal => return self.mark_here(),
-            Ordering::Less => {
+            Ordering::Greater => {
                 let Some(left) = &mut self.left else {
                     return Err(Error::ResourceNotAvailable);
                 };
                 left.mark_as_allocated(key, count)
             }
-            Ordering::Greater => {
+            Ordering::Less => {
                 let Some(right) = &mut self.right else {
                     return Err(Error::ResourceNotAvailable);
                 };

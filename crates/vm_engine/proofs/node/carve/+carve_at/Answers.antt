@@ -11,24 +11,24 @@ use Rattle.vm_engine.specs.declared.node.kept.Change.TheVariants.{Nothing}
 use Rattle.vm_engine.specs.Engine.NodeFields.{side, shape_of, IsNode}
 use Rattle.vm_engine.proofs.Nodes.Rewriting.{known_left, known_right, rewritten_left, rewritten_right}
 use Rattle.vm_engine.proofs.node.carve.+carve_at.Goals as goal
-use Rattle.vm_engine.proofs.node.carve.+carve_at.Goals.{in-Less, in-Greater, In-Nothing, After-renew_room, After-settle-settled}
+use Rattle.vm_engine.proofs.node.carve.+carve_at.Goals.{in-Greater, in-Less, In-Nothing, After-renew_room, After-settle-settled}
 
 pub carve_at-change-requires : goal.carve_at-change-requires
 carve_at-change-requires t c =
     let i = c.tree.inside in
     let e : side c.args.at.now ≡ shape_of i = cc in
     let tree : IsTree (side c.args.at.now) = rw e c.tree.invariant.tree in
-    let known = known_left (side c.args.at.now) (side i.left) _ (side i.right) c.args.cut.now.choice.key e c.in-Less.ensures tree c.requires.carving.known in
-    let ordered = rewritten_left (side c.args.at.now) (side i.left) _ (side i.right) c.args.cut.now.choice.key _ e c.in-Less.ensures tree c.requires.carving.ordered in
+    let known = known_left (side c.args.at.now) (side i.left) _ (side i.right) c.args.cut.now.choice.key e c.in-Greater.ensures tree c.requires.carving.known in
+    let ordered = rewritten_left (side c.args.at.now) (side i.left) _ (side i.right) c.args.cut.now.choice.key _ e c.in-Greater.ensures tree c.requires.carving.ordered in
     (search rules, (c.requires.leaves, (record { known = known; ordered = ordered }, (grind arith, grind arith))))
 
-pub carve_at-change-requires-in-Greater : goal.carve_at-change-requires-in-Greater
-carve_at-change-requires-in-Greater t c =
+pub carve_at-change-requires-in-Less : goal.carve_at-change-requires-in-Less
+carve_at-change-requires-in-Less t c =
     let i = c.tree.inside in
     let e : side c.args.at.now ≡ shape_of i = cc in
     let tree : IsTree (side c.args.at.now) = rw e c.tree.invariant.tree in
-    let known = known_right (side c.args.at.now) (side i.left) _ (side i.right) c.args.cut.now.choice.key e c.in-Greater.ensures tree c.requires.carving.known in
-    let ordered = rewritten_right (side c.args.at.now) (side i.left) _ (side i.right) c.args.cut.now.choice.key _ e c.in-Greater.ensures tree c.requires.carving.ordered in
+    let known = known_right (side c.args.at.now) (side i.left) _ (side i.right) c.args.cut.now.choice.key e c.in-Less.ensures tree c.requires.carving.known in
+    let ordered = rewritten_right (side c.args.at.now) (side i.left) _ (side i.right) c.args.cut.now.choice.key _ e c.in-Less.ensures tree c.requires.carving.ordered in
     (search rules, (c.requires.leaves, (record { known = known; ordered = ordered }, (grind arith, grind arith))))
 
 -- where nothing that is kept of a side changed: the node over it
@@ -36,14 +36,14 @@ kept_over_side : (t : ℕ) (c : In-Nothing t) → IsNode c.match-order.tree-insi
 kept_over_side t c =
     let e : side c.args.at.now ≡ shape_of c.tree.inside = cc in
     elim c.match-order.branch [
-      | in-Less w ↦
+      | in-Greater w ↦
           let l = w.carve_at-change in
           let same = rw (sym w.change-is ∙ c.in-Nothing.is) at l.ensures.grows.keeps in
-          rw w.tree-inside-is (kept_left c.tree.inside l.new.at c.tree.invariant (ordered_carved_left _ (side l.new.at) _ _ _ _ w.in-Less.ensures c.tree.invariant.tree (rw e at c.requires.carving.ordered) l.ensures.blocks) l.ensures.grows.tree same)
-      | in-Greater w ↦
-          let r = w.carve_at-change-in-Greater in
+          rw w.tree-inside-is (kept_left c.tree.inside l.new.at c.tree.invariant (ordered_carved_left _ (side l.new.at) _ _ _ _ w.in-Greater.ensures c.tree.invariant.tree (rw e at c.requires.carving.ordered) l.ensures.blocks) l.ensures.grows.tree same)
+      | in-Less w ↦
+          let r = w.carve_at-change-in-Less in
           let same = rw (sym w.change-is ∙ c.in-Nothing.is) at r.ensures.grows.keeps in
-          rw w.tree-inside-is (kept_right c.tree.inside r.new.at c.tree.invariant (ordered_carved_right _ (side r.new.at) _ _ _ _ w.in-Greater.ensures c.tree.invariant.tree (rw e at c.requires.carving.ordered) r.ensures.blocks) r.ensures.grows.tree same)
+          rw w.tree-inside-is (kept_right c.tree.inside r.new.at c.tree.invariant (ordered_carved_right _ (side r.new.at) _ _ _ _ w.in-Less.ensures c.tree.invariant.tree (rw e at c.requires.carving.ordered) r.ensures.blocks) r.ensures.grows.tree same)
     ]
 
 pub invariant_of-tree : goal.invariant_of-tree
@@ -60,14 +60,14 @@ renewed_over_side t c =
     let longest = rw (c.kept_of.ensures.value.1, c.kept_of-in-RoomAlone.ensures.value.1, c.room_of.ensures.max_free) at c.renew_room.ensures.max_free in
     let reached = rw (c.kept_of.ensures.value.2, c.kept_of-in-RoomAlone.ensures.value.2, c.room_of.ensures.alignments) at c.renew_room.ensures.alignments in
     elim c.match-order.branch [
-      | in-Less w ↦
+      | in-Greater w ↦
           let l = w.carve_at-change in
           let grew = rw (sym w.change-is ∙ c.in-RoomAlone.is) at l.ensures.grows in
-          rw w.tree-inside-is (renewed_left c.tree.inside l.new.at c.renew_room.result max_free count c.tree.invariant (ordered_carved_left _ (side l.new.at) _ _ _ _ w.in-Less.ensures c.tree.invariant.tree (rw e at c.requires.carving.ordered) l.ensures.blocks) grew (rw w.tree-inside-is at longest) (rw w.tree-inside-is at reached) (rw w.tree-inside-is at c.renew_room.ensures.same_max_free) (rw w.tree-inside-is at c.renew_room.ensures.same_alignments))
-      | in-Greater w ↦
-          let r = w.carve_at-change-in-Greater in
+          rw w.tree-inside-is (renewed_left c.tree.inside l.new.at c.renew_room.result max_free count c.tree.invariant (ordered_carved_left _ (side l.new.at) _ _ _ _ w.in-Greater.ensures c.tree.invariant.tree (rw e at c.requires.carving.ordered) l.ensures.blocks) grew (rw w.tree-inside-is at longest) (rw w.tree-inside-is at reached) (rw w.tree-inside-is at c.renew_room.ensures.same_max_free) (rw w.tree-inside-is at c.renew_room.ensures.same_alignments))
+      | in-Less w ↦
+          let r = w.carve_at-change-in-Less in
           let grew = rw (sym w.change-is ∙ c.in-RoomAlone.is) at r.ensures.grows in
-          rw w.tree-inside-is (renewed_right c.tree.inside r.new.at c.renew_room.result max_free count c.tree.invariant (ordered_carved_right _ (side r.new.at) _ _ _ _ w.in-Greater.ensures c.tree.invariant.tree (rw e at c.requires.carving.ordered) r.ensures.blocks) grew (rw w.tree-inside-is at longest) (rw w.tree-inside-is at reached) (rw w.tree-inside-is at c.renew_room.ensures.same_max_free) (rw w.tree-inside-is at c.renew_room.ensures.same_alignments))
+          rw w.tree-inside-is (renewed_right c.tree.inside r.new.at c.renew_room.result max_free count c.tree.invariant (ordered_carved_right _ (side r.new.at) _ _ _ _ w.in-Less.ensures c.tree.invariant.tree (rw e at c.requires.carving.ordered) r.ensures.blocks) grew (rw w.tree-inside-is at longest) (rw w.tree-inside-is at reached) (rw w.tree-inside-is at c.renew_room.ensures.same_max_free) (rw w.tree-inside-is at c.renew_room.ensures.same_alignments))
     ]
 
 pub invariant_of-tree-in-RoomAlone : goal.invariant_of-tree-in-RoomAlone
@@ -79,12 +79,12 @@ ordered_over_side : (t : ℕ) (c : After-settle-settled t)
 ordered_over_side t c =
     let e : side c.args.at.now ≡ shape_of c.tree.inside = cc in
     elim c.match-order.branch [
-      | in-Less w ↦
-          let l = w.carve_at-change in
-          rw w.tree-inside-is (ordered_carved_left _ (side l.new.at) _ _ _ _ w.in-Less.ensures c.tree.invariant.tree (rw e at c.requires.carving.ordered) l.ensures.blocks)
       | in-Greater w ↦
-          let r = w.carve_at-change-in-Greater in
-          rw w.tree-inside-is (ordered_carved_right _ (side r.new.at) _ _ _ _ w.in-Greater.ensures c.tree.invariant.tree (rw e at c.requires.carving.ordered) r.ensures.blocks)
+          let l = w.carve_at-change in
+          rw w.tree-inside-is (ordered_carved_left _ (side l.new.at) _ _ _ _ w.in-Greater.ensures c.tree.invariant.tree (rw e at c.requires.carving.ordered) l.ensures.blocks)
+      | in-Less w ↦
+          let r = w.carve_at-change-in-Less in
+          rw w.tree-inside-is (ordered_carved_right _ (side r.new.at) _ _ _ _ w.in-Less.ensures c.tree.invariant.tree (rw e at c.requires.carving.ordered) r.ensures.blocks)
     ]
 
 pub invariant_of-tree-in-Height : goal.invariant_of-tree-in-Height
@@ -119,11 +119,11 @@ returns-in-Height t c =
     let f = finished _ _ c.settle-settled.result _ _ c.finish.new.at c.finish.result (ordered_over_side t (goal.at.returns-in-Height t c).After-settle-settled) c.settle-settled.ensures.left c.settle-settled.ensures.right c.settle-settled.ensures.settled refl c.finish.ensures in
     let e : side c.args.at.now ≡ shape_of c.tree.inside = cc in
     let grows : Grows (side c.args.at.now) (side c.finish.new.at) c.finish.result = rw e (elim c.match-order.branch [
-      | in-Less w ↦
+      | in-Greater w ↦
           let l = w.carve_at-change in
           grown_left c.tree.inside l.new.at l.result _ _ c.tree.invariant l.ensures.grows (rw w.tree-inside-is at f)
-      | in-Greater w ↦
-          let r = w.carve_at-change-in-Greater in
+      | in-Less w ↦
+          let r = w.carve_at-change-in-Less in
           grown_right c.tree.inside r.new.at r.result _ _ c.tree.invariant r.ensures.grows (rw w.tree-inside-is at f)
     ]) in
     record {

@@ -7,7 +7,7 @@ use Rattle.vm_engine.specs.Engine.Changes.{KeepsShape}
 use Rattle.vm_engine.specs.Engine.NodeFields.{side, shape_of}
 use Rattle.vm_engine.proofs.Nodes.Rewriting.{known_left, known_right, node_rewritten_left, node_rewritten_right, rewritten_left, rewritten_right}
 use Rattle.vm_engine.proofs.node.rewrite.+rewrite_at.Goals as goal
-use Rattle.vm_engine.proofs.node.rewrite.+rewrite_at.Goals.{in-Less, in-Greater, In_default-change, In-Nothing}
+use Rattle.vm_engine.proofs.node.rewrite.+rewrite_at.Goals.{in-Greater, in-Less, In_default-change, In-Nothing}
 
 pub rewrite_at-change-requires : goal.rewrite_at-change-requires
 rewrite_at-change-requires t c =
@@ -15,18 +15,18 @@ rewrite_at-change-requires t c =
     let y : Block = record { key = c.args.key; state = c.args.node_state } in
     let e : side c.args.at.now ≡ shape_of i = cc in
     let tree : IsTree (side c.args.at.now) = rw e c.tree.invariant.tree in
-    let known = known_left (side c.args.at.now) (side i.left) _ (side i.right) c.args.old.now e c.in-Less.ensures tree c.requires.known in
-    let ordered = rewritten_left (side c.args.at.now) (side i.left) _ (side i.right) c.args.old.now (y ∷ []) e c.in-Less.ensures tree c.requires.ordered in
+    let known = known_left (side c.args.at.now) (side i.left) _ (side i.right) c.args.old.now e c.in-Greater.ensures tree c.requires.known in
+    let ordered = rewritten_left (side c.args.at.now) (side i.left) _ (side i.right) c.args.old.now (y ∷ []) e c.in-Greater.ensures tree c.requires.ordered in
     (search rules, (known, (ordered, grind arith)))
 
-pub rewrite_at-change-requires-in-Greater : goal.rewrite_at-change-requires-in-Greater
-rewrite_at-change-requires-in-Greater t c =
+pub rewrite_at-change-requires-in-Less : goal.rewrite_at-change-requires-in-Less
+rewrite_at-change-requires-in-Less t c =
     let i = c.tree.inside in
     let y : Block = record { key = c.args.key; state = c.args.node_state } in
     let e : side c.args.at.now ≡ shape_of i = cc in
     let tree : IsTree (side c.args.at.now) = rw e c.tree.invariant.tree in
-    let known = known_right (side c.args.at.now) (side i.left) _ (side i.right) c.args.old.now e c.in-Greater.ensures tree c.requires.known in
-    let ordered = rewritten_right (side c.args.at.now) (side i.left) _ (side i.right) c.args.old.now (y ∷ []) e c.in-Greater.ensures tree c.requires.ordered in
+    let known = known_right (side c.args.at.now) (side i.left) _ (side i.right) c.args.old.now e c.in-Less.ensures tree c.requires.known in
+    let ordered = rewritten_right (side c.args.at.now) (side i.left) _ (side i.right) c.args.old.now (y ∷ []) e c.in-Less.ensures tree c.requires.ordered in
     (search rules, (known, (ordered, grind arith)))
 
 -- what the rewritten side makes of the node, where what it keeps changed
@@ -36,10 +36,10 @@ rewritten_changed t c =
     let e : side c.args.at.now ≡ shape_of i = cc in
     let tree : IsTree (side c.args.at.now) = rw e c.tree.invariant.tree in
     elim c.match-order.branch [
-      | in-Less w ↦
-          rw (w.tree-inside-is, w.change-is) (node_rewritten_left _ (side i.left) _ _ (side i.right) _ _ _ e w.in-Less.ensures tree c.requires.ordered w.rewrite_at-change.ensures.blocks w.rewrite_at-change.ensures.keeps)
       | in-Greater w ↦
-          rw (w.tree-inside-is, w.change-is) (node_rewritten_right _ (side i.left) _ _ (side i.right) _ _ _ e w.in-Greater.ensures tree c.requires.ordered w.rewrite_at-change-in-Greater.ensures.blocks w.rewrite_at-change-in-Greater.ensures.keeps)
+          rw (w.tree-inside-is, w.change-is) (node_rewritten_left _ (side i.left) _ _ (side i.right) _ _ _ e w.in-Greater.ensures tree c.requires.ordered w.rewrite_at-change.ensures.blocks w.rewrite_at-change.ensures.keeps)
+      | in-Less w ↦
+          rw (w.tree-inside-is, w.change-is) (node_rewritten_right _ (side i.left) _ _ (side i.right) _ _ _ e w.in-Less.ensures tree c.requires.ordered w.rewrite_at-change-in-Less.ensures.blocks w.rewrite_at-change-in-Less.ensures.keeps)
     ]
 
 -- what the rewritten side makes of the node, where what it keeps is the same
@@ -49,10 +49,10 @@ rewritten_unchanged t c =
     let e : side c.args.at.now ≡ shape_of i = cc in
     let tree : IsTree (side c.args.at.now) = rw e c.tree.invariant.tree in
     elim c.match-order.branch [
-      | in-Less w ↦
-          rw (w.tree-inside-is, w.change-is) (node_rewritten_left _ (side i.left) _ _ (side i.right) _ _ _ e w.in-Less.ensures tree c.requires.ordered w.rewrite_at-change.ensures.blocks w.rewrite_at-change.ensures.keeps)
       | in-Greater w ↦
-          rw (w.tree-inside-is, w.change-is) (node_rewritten_right _ (side i.left) _ _ (side i.right) _ _ _ e w.in-Greater.ensures tree c.requires.ordered w.rewrite_at-change-in-Greater.ensures.blocks w.rewrite_at-change-in-Greater.ensures.keeps)
+          rw (w.tree-inside-is, w.change-is) (node_rewritten_left _ (side i.left) _ _ (side i.right) _ _ _ e w.in-Greater.ensures tree c.requires.ordered w.rewrite_at-change.ensures.blocks w.rewrite_at-change.ensures.keeps)
+      | in-Less w ↦
+          rw (w.tree-inside-is, w.change-is) (node_rewritten_right _ (side i.left) _ _ (side i.right) _ _ _ e w.in-Less.ensures tree c.requires.ordered w.rewrite_at-change-in-Less.ensures.blocks w.rewrite_at-change-in-Less.ensures.keeps)
     ]
 
 pub invariant_of-tree : goal.invariant_of-tree

@@ -9,30 +9,7 @@ widen_at-requires t c =
     let i = c.tree.inside in
     let e : side c.args.at.now ≡ shape_of i = cc in
     let tree : IsTree (side c.args.at.now) = rw e c.tree.invariant.tree in
-    let below = can_widen_left _ (side i.left) _ (side i.right) _ _ e c.in-Less.ensures tree c.requires.can in
-    (search rules, (below, (c.requires.max_free, (c.requires.alignments, grind arith))))
-
-pub invariant_of-tree-in-Less : goal.invariant_of-tree-in-Less
-invariant_of-tree-in-Less t c =
-    let i = c.tree.inside in
-    let e : side c.args.at.now ≡ shape_of i = cc in
-    let tree : IsTree (side c.args.at.now) = rw e c.tree.invariant.tree in
-    let w = widened_left _ (side i.left) _ _ (side i.right) _ _ e c.in-Less.ensures tree c.requires.can c.widen_at.ensures.widened in
-    record { tree = w.tree; height = omega (arith, w.height); max_free = omega (arith, w.max_free); alignments = omega (arith, w.alignments) }
-
-pub returns-in-Less-clause-widened : goal.returns-in-Less-clause-widened
-returns-in-Less-clause-widened t c =
-    let i = c.tree.inside in
-    let e : side c.args.at.now ≡ shape_of i = cc in
-    let tree : IsTree (side c.args.at.now) = rw e c.tree.invariant.tree in
-    widened_left _ (side i.left) _ _ (side i.right) _ _ e c.in-Less.ensures tree c.requires.can c.widen_at.ensures.widened
-
-pub widen_at-requires-in-Greater : goal.widen_at-requires-in-Greater
-widen_at-requires-in-Greater t c =
-    let i = c.tree.inside in
-    let e : side c.args.at.now ≡ shape_of i = cc in
-    let tree : IsTree (side c.args.at.now) = rw e c.tree.invariant.tree in
-    let below = can_widen_right _ (side i.left) _ (side i.right) _ _ e c.in-Greater.ensures tree c.requires.can in
+    let below = can_widen_left _ (side i.left) _ (side i.right) _ _ e c.in-Greater.ensures tree c.requires.can in
     (search rules, (below, (c.requires.max_free, (c.requires.alignments, grind arith))))
 
 pub invariant_of-tree-in-Greater : goal.invariant_of-tree-in-Greater
@@ -40,7 +17,7 @@ invariant_of-tree-in-Greater t c =
     let i = c.tree.inside in
     let e : side c.args.at.now ≡ shape_of i = cc in
     let tree : IsTree (side c.args.at.now) = rw e c.tree.invariant.tree in
-    let w = widened_right _ (side i.left) _ _ (side i.right) _ _ e c.in-Greater.ensures tree c.requires.can c.widen_at-in-Greater.ensures.widened in
+    let w = widened_left _ (side i.left) _ _ (side i.right) _ _ e c.in-Greater.ensures tree c.requires.can c.widen_at.ensures.widened in
     record { tree = w.tree; height = omega (arith, w.height); max_free = omega (arith, w.max_free); alignments = omega (arith, w.alignments) }
 
 pub returns-in-Greater-clause-widened : goal.returns-in-Greater-clause-widened
@@ -48,4 +25,27 @@ returns-in-Greater-clause-widened t c =
     let i = c.tree.inside in
     let e : side c.args.at.now ≡ shape_of i = cc in
     let tree : IsTree (side c.args.at.now) = rw e c.tree.invariant.tree in
-    widened_right _ (side i.left) _ _ (side i.right) _ _ e c.in-Greater.ensures tree c.requires.can c.widen_at-in-Greater.ensures.widened
+    widened_left _ (side i.left) _ _ (side i.right) _ _ e c.in-Greater.ensures tree c.requires.can c.widen_at.ensures.widened
+
+pub widen_at-requires-in-Less : goal.widen_at-requires-in-Less
+widen_at-requires-in-Less t c =
+    let i = c.tree.inside in
+    let e : side c.args.at.now ≡ shape_of i = cc in
+    let tree : IsTree (side c.args.at.now) = rw e c.tree.invariant.tree in
+    let below = can_widen_right _ (side i.left) _ (side i.right) _ _ e c.in-Less.ensures tree c.requires.can in
+    (search rules, (below, (c.requires.max_free, (c.requires.alignments, grind arith))))
+
+pub invariant_of-tree-in-Less : goal.invariant_of-tree-in-Less
+invariant_of-tree-in-Less t c =
+    let i = c.tree.inside in
+    let e : side c.args.at.now ≡ shape_of i = cc in
+    let tree : IsTree (side c.args.at.now) = rw e c.tree.invariant.tree in
+    let w = widened_right _ (side i.left) _ _ (side i.right) _ _ e c.in-Less.ensures tree c.requires.can c.widen_at-in-Less.ensures.widened in
+    record { tree = w.tree; height = omega (arith, w.height); max_free = omega (arith, w.max_free); alignments = omega (arith, w.alignments) }
+
+pub returns-in-Less-clause-widened : goal.returns-in-Less-clause-widened
+returns-in-Less-clause-widened t c =
+    let i = c.tree.inside in
+    let e : side c.args.at.now ≡ shape_of i = cc in
+    let tree : IsTree (side c.args.at.now) = rw e c.tree.invariant.tree in
+    widened_right _ (side i.left) _ _ (side i.right) _ _ e c.in-Less.ensures tree c.requires.can c.widen_at-in-Less.ensures.widened
