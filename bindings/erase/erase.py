@@ -134,6 +134,8 @@ class Tokens:
         self.cuts = []  # (start, end, what is written there)
         self.signature, self.depth = None, 0  # the index of the `fn` whose signature is read
         self.asking = {}  # the index of a `fn` with a `requires`, and where that is
+        if "\r" in text:
+            self.fail("a carriage return", text.index("\r"))
         position = 0
         while position < len(text):
             position = self.read(position)
@@ -217,7 +219,7 @@ class File(Tokens):
     """A source file: what is cut of it, and which names it gives and uses."""
 
     def __init__(self, crate, path, of_tests):
-        with open(path, encoding="utf-8") as source:
+        with open(path, encoding="utf-8", newline="") as source:
             super().__init__(os.path.relpath(path, crate.project.folder), source.read())
         self.crate, self.of_tests, self.is_root = crate, of_tests, path == crate.root
         self.children = os.path.dirname(path) if self.is_root else path[:-len(".rt")]

@@ -34,8 +34,11 @@ CRATE_LINES = (
 
 
 def lines_of(path):
-    with open(path, encoding="utf-8") as file:
-        return file.read().split("\n")
+    with open(path, encoding="utf-8", newline="") as file:
+        text = file.read()
+    if "\r" in text:
+        sys.exit(f"{path}: a carriage return")
+    return text.split("\n")
 
 
 def block_end(lines, index):
