@@ -42,7 +42,7 @@ EDITS = [
 
 def outcome(project, scratch, edit):
     """What the eraser says to an edit."""
-    planting.plant(planting.Planted(edit[0], [edit[1:4]], {}), project, scratch, "crates")
+    planting.plant(planting.Planted(edit[0], [edit[1:4]], {}), project, scratch)
     try:
         erase.Project(scratch)
     except erase.Refused as refused:
