@@ -8,8 +8,9 @@ stands on, is written to OUT/NAME, as a package of a workspace that has OUT and 
 it. With --tests every crate is written, with its tests.
 
 What is cut: clauses, `ghost` items, members and fields, `#[tactic(..)]`, `impl Model`, `Drop` among
-the derives and as a bound, laws (functions of nothing that do nothing), modules that are empty then, and tests unless
-they are asked for. What is written: the line that says where a file comes from, the attributes of a
+the derives and as a bound, laws (functions of nothing that do nothing), the functions FOR_PROOFS with their calls,
+`let _ = &..;`, imports that nothing uses then, and modules and impls that are empty then. Tests and what FOR_TESTS
+names are cut unless they are asked for. What is written: the line that says where a file comes from, the attributes of a
 crate, imports of what Rattle's prelude has and Rust's has not. What is changed: the front of a path, by
 the table FOLDERS, and the parameter `rt` of `main` and of tests, which becomes the first statement.
 
@@ -81,14 +82,36 @@ REFUSED_WORDS = set("""async await become box char decreases dyn extern f32 f64 
     i128 invariant isize macro_rules prove prove_eq trait try union unsafe where yield""".split())
 CLAUSES = {"ensures", "requires"}
 
+# ---- What Rust has no use for ----
+
+# Functions that change nothing and return nothing, and are called for what they ensure.
+FOR_PROOFS = {"known"}
+# Items that only tests use, by file.
+FOR_TESTS = {"vm_engine/src/node.rt search_tree", "vm_ranges/src/state.rt is_free"}
+# Lints that a function is allowed to fail: its proof reads this form, or a statement for its proof is cut.
+ALLOWED = {
+    "vm_allocator/src/address_allocator.rt allocate": "clippy::let_and_return",
+    "vm_allocator/src/saved/ids.rt collect": "unused_assignments, unused_variables",
+    "vm_allocator/src/saved/repaired.rt check_keys": "clippy::question_mark",
+    "vm_allocator/src/saved/repaired.rt check_repaired": "clippy::question_mark",
+    "vm_allocator/src/saved/repaired.rt hold_keys": "clippy::only_used_in_recursion",
+    "vm_engine/src/interval_tree.rt allocate": "clippy::let_and_return",
+    "vm_engine/src/interval_tree/held_ranges.rt next": "clippy::while_let_on_iterator",
+    "vm_engine/src/node/remove.rt delete_root": "clippy::let_and_return",
+    "vm_engine/src/node/walks/comparing.rt order_of_blocks": "clippy::while_let_on_iterator",
+    "vm_engine/src/node/walks/comparing.rt same_blocks": "clippy::while_let_on_iterator",
+    "vm_engine/src/saved/check.rt check": "clippy::question_mark",
+    "vm_engine/src/saved/tree.rt build": "clippy::only_used_in_recursion",
+    "vm_lines/src/number.rt are_digits": "clippy::needless_range_loop",
+    "vm_lines/src/number.rt value_of": "clippy::needless_range_loop",
+}
+
 # ---- What is written ----
 
 ORIGIN = "// Written by bindings/erase from {}: do not edit.\n"
-CRATE_ATTRIBUTES = """#![forbid(unsafe_code)]
-// What only proofs and tests use is kept as it is.
-#![allow(dead_code, unused_assignments, unused_imports, unused_variables)]
-"""
-FOR_TESTS = "use rattle::testing::*;\nuse rattle::testing::{assert, assert_eq};\n"
+CRATE_ATTRIBUTES = "#![forbid(unsafe_code)]\n"
+ATTRIBUTES_WITH_TESTS = "#![allow(dead_code, unused_assignments, unused_imports, unused_variables)]\n"
+PRELUDE_OF_TESTS = "use rattle::testing::*;\nuse rattle::testing::{assert, assert_eq};\n"
 RUNTIME = "{\n    let rt = HostRuntime;"
 MANIFEST = """# Written by bindings/erase from crates/{name}: do not edit.
 [package]
@@ -225,7 +248,8 @@ class File(Tokens):
         self.children = os.path.dirname(path) if self.is_root else path[:-len(".rt")]
         self.generics, self.imported, self.from_prelude = set(), {}, set()
         self.uses, self.public_fields = [], []  # (where, kind of name, name), (where, name of the type)
-        self.first_kept = None
+        self.imports = []  # (the first index, the one behind, the indices of the names)
+        self.first_kept, self.kept = None, 0
         end = self.items(self.head(), None)
         if self.tokens[end].kind != "end":
             self.fail("a brace that closes nothing", self.start_of(end))
@@ -271,16 +295,23 @@ class File(Tokens):
         """Reads items up to the end of the file or of the braces of an impl: of a trait, of "impl" itself."""
         while self.tokens[index].text not in ("}", ""):
             item = types.SimpleNamespace(start=index, owner=owner, of_tests=False, is_test=False, public=False)
-            index = self.attributes(item)
-            if item.of_tests and not self.crate.project.with_tests:
+            head = self.attributes(item)
+            index = self.visibility(item, head)
+            row = f"{self.path.removeprefix('crates/')} {self.tokens[index + 1].text}"
+            if (item.of_tests or row in FOR_TESTS) and not self.crate.project.with_tests:
                 end = self.next_of(index, ";", "{")
                 behind, kept = end + 1 if self.at(end, ";") else self.matching(end), False
             else:
-                behind, kept = self.item(item, self.visibility(item, index))
+                behind, kept = self.item(item, index)
             if not kept:
                 self.cut(item.start, behind)
             elif self.first_kept is None:
                 self.first_kept = self.start_of(item.start)
+            if kept and row in ALLOWED:
+                start = self.start_of(head)
+                indent = self.text[self.text.rfind("\n", 0, start) + 1:start]
+                self.cuts.append((start, start, f"#[allow({ALLOWED[row]})]\n{indent}"))
+            self.kept += kept
             index = behind
         return index
 
@@ -375,6 +406,8 @@ class File(Tokens):
                 self.import_of_crate(first, index)
         if folder and folder[0] and folder[0] != name:
             self.cut(first, rest - 1, folder[0])
+        if not self.at(item.keyword - 1, "pub") and not self.at(item.keyword - 1, ")"):
+            self.imports.append((item.start, end, leaves))
         return end + 1, not (folder and folder[0] is None)
 
     def import_of_crate(self, first, index):
@@ -450,6 +483,10 @@ class File(Tokens):
         if nothing and not (item.public or item.is_test or item.owner):
             return behind, False  # a law: only its clauses say something
         name = self.define(item.keyword + 1, self.crate.functions)
+        if name in FOR_PROOFS:
+            if any(token.text in ("mut", "->") for token in self.tokens[index:behind]):
+                self.fail(f"{name!r} returns something, or may change something", self.start_of(item.keyword))
+            return behind, False
         anyone = item.public or item.owner not in (None, "impl")
         if anyone and item.keyword in self.asking and not self.crate.is_program and not self.of_tests:
             self.fail(f"a 'requires' of {name!r}, which anyone may call", self.asking[item.keyword])
@@ -490,9 +527,13 @@ class File(Tokens):
             return index + 2, False
         if trait and trait not in TRAITS and not (self.of_tests and trait in TRAITS_OF_TESTS):
             self.fail(f"an impl of {trait!r}", self.start_of(item.keyword))
-        if self.first_kept is None:
-            self.first_kept = self.start_of(item.start)
-        return self.items(index + 1, trait or "impl") + 1, True
+        first, kept = self.first_kept, self.kept
+        self.first_kept = first or self.start_of(item.start)
+        behind = self.items(index + 1, trait or "impl") + 1
+        if not trait and self.kept == kept:
+            self.first_kept = first
+            return behind, False
+        return behind, True
 
     # ---- Names in code ----
 
@@ -508,8 +549,20 @@ class File(Tokens):
                 index += 1
             elif token.text in ITEM_WORDS and token.text not in allowed and not self.of_tests:
                 self.fail(f"an item {token.text!r} in code", token.start)
+            elif token.text in FOR_PROOFS or self.at(index, "let", "_", "=", "&"):
+                index = self.statement_for_proofs(index)
             else:
                 index = self.path_of_names(index)
+
+    def statement_for_proofs(self, index):
+        """Cuts `known(&a.b);`, `self.known();` or `let _ = &a.b;`. The answer is the index behind it."""
+        first = index - 2 if self.at(index - 2, "self", ".") else index
+        behind, inner = self.next_of(index, ";") + 1, self.tokens[index + 1:self.next_of(index, ";")]
+        words = "".join(token.text if token.kind != "word" else "_" for token in inner)
+        if self.tokens[first - 1].text not in ("{", "}", ";") or not re.fullmatch(r"(_=)?&_(\._)*|\((&?_(\._)*)?\)", words):
+            self.fail(f"{self.tokens[index].text!r} of this form", self.start_of(index))
+        self.cut(first, behind)
+        return behind
 
     def path_of_names(self, first):
         """Looks at the path that begins at an index. The answer is the index behind it."""
@@ -555,7 +608,8 @@ class File(Tokens):
             self.uses += [(start, kind, name)] if kind != "a type" or name[0].isupper() else []
 
     def check(self):
-        """Refuses what can be seen to be wrong when all files are read."""
+        """Refuses what can be seen to be wrong when all files are read, and cuts the imports that nothing uses."""
+        self.cut_unused_imports()
         for start, kind, name in self.uses:
             if not self.is_known(kind, name):
                 self.fail(f"{kind} {name!r} that is in no table", start)
@@ -577,12 +631,30 @@ class File(Tokens):
 
     # ---- Output ----
 
+    def cut_unused_imports(self):
+        """Cuts what is imported and named nowhere in what is kept. Modules below this one may name what it imports."""
+        gone = bytearray(len(self.text) + 1)
+        for start, end in [cut[:2] for cut in self.cuts if not cut[2]] + [
+                (self.start_of(first), self.start_of(end)) for first, end, _ in self.imports]:
+            gone[start:end] = b"x" * (end - start)
+        named = {token.text for token in self.tokens if not gone[token.start]} | {"*"}
+        if self.of_tests or "mod" in named:
+            named |= {self.tokens[leaf].text for _, _, leaves in self.imports for leaf in leaves} - FOR_PROOFS
+        for first, end, leaves in self.imports:
+            names = [self.tokens[leaf].text for leaf in leaves if self.tokens[leaf].text in named]
+            if not names:
+                self.cut(first, end + 1)
+            elif len(names) < len(leaves):
+                if not self.at(leaves[0] - 1, "{") or leaves != list(range(leaves[0], leaves[-1] + 1, 2)):
+                    self.fail("an import of this form, of which not all is used", self.start_of(first))
+                self.cut(leaves[0] - 1, end, "{" + ", ".join(names) + "}" if len(names) > 1 else names[0])
+
     def plain(self):
         """The text of the file in Rust."""
         names = ", ".join(sorted(self.from_prelude))
-        inserted = CRATE_ATTRIBUTES + self.names_of_std() + "\n" if self.is_root else ""
+        inserted = self.attributes_of_root() + "\n" if self.is_root else ""
         if self.of_tests:
-            inserted += FOR_TESTS
+            inserted += PRELUDE_OF_TESTS
         elif names:
             inserted += f"use rattle::{{{names}}};\n" if "," in names else f"use rattle::{names};\n"
         at = self.first_kept if self.first_kept is not None else len(self.text)
@@ -597,12 +669,13 @@ class File(Tokens):
                 text = text[:-1]
         return ORIGIN.format(self.path) + "\n" + (text + self.text[last:]).strip("\n") + "\n"
 
-    def names_of_std(self):
-        """How the root of a crate gets `std`. A crate of tests has it without its prelude, which has a
+    def attributes_of_root(self):
+        """What the root of a crate begins with. A crate of tests has `std` without its prelude, which has a
         `to_string` of its own."""
+        attributes = CRATE_ATTRIBUTES + (ATTRIBUTES_WITH_TESTS if self.crate.project.with_tests else "")
         if not self.crate.asks_for_std:
-            return "#![no_std]\n"
-        return "#![no_std]\n\nextern crate std;\n" if self.of_tests else ""
+            return attributes + "#![no_std]\n"
+        return attributes + ("#![no_std]\n\nextern crate std;\n" if self.of_tests else "")
 
     def outer_cuts(self):
         """The cuts that lie in no other."""

@@ -5,7 +5,7 @@
 
 use super::IntervalTree;
 use crate::Steps;
-use crate::ends::{between, known};
+use crate::ends::between;
 use crate::node::places::{Place, first_place, last_place};
 use vm_ranges::{AllocPolicy, Constraint, Error, NodeState, RangeInclusive, Result};
 
@@ -21,7 +21,6 @@ pub(crate) struct Choice {
 impl IntervalTree {
     /// The range to hold for a request, and the free block that has it, or the refusal.
     pub(super) fn place_for(&self, constraint: Constraint, count: &mut Steps) -> Result<Choice> {
-        self.known();
         let (size, align) = (constraint.size(), constraint.align());
         match constraint.policy() {
             AllocPolicy::FirstMatch => {
@@ -61,7 +60,6 @@ fn choice_at(found: Option<Place>, size: u64) -> Result<Choice> {
     let Some(place) = found else {
         return Err(Error::ResourceNotAvailable);
     };
-    known(&place.key);
     let last = place.start + (size - 1);
     if last == u64::MAX {
         return Err(Error::Overflow);
