@@ -15,7 +15,7 @@ use Rattle.vm_ranges.specs.declared.state.NodeState.{NodeState}
 use Rattle.vm_ranges.specs.declared.state.NodeState.TheVariants.{Free, Allocated}
 use Rattle.vm_ranges.specs.declared.constraint.AllocPolicy.{AllocPolicy}
 use Rattle.vm_ranges.specs.declared.constraint.AllocPolicy.TheVariants.{ExactMatch}
-use Rattle.vm_engine.specs.declared.interval_tree.placing.Choice.{Choice}
+use Rattle.vm_engine.specs.declared.node.carve.Choice.{Choice}
 use Rattle.vm_engine.proofs.Blocks.OneList.{same_block}
 use Rattle.vm_ranges.proofs.RangeCalls.{same_range}
 use Rattle.vm_engine.proofs.Nodes.TreeEdits.{address_cut, address_missed}

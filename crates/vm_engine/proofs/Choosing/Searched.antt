@@ -17,7 +17,7 @@ use Rattle.vm_ranges.specs.declared.error.Error.TheVariants.{Overflow, ResourceN
 use Rattle.vm_ranges.specs.declared.constraint.AllocPolicy.{AllocPolicy}
 use Rattle.vm_ranges.specs.declared.constraint.AllocPolicy.TheVariants.{FirstMatch, LastMatch, ExactMatch}
 use Rattle.vm_engine.specs.declared.node.places.Place.{Place}
-use Rattle.vm_engine.specs.declared.interval_tree.placing.Choice.{Choice}
+use Rattle.vm_engine.specs.declared.node.carve.Choice.{Choice}
 use Rattle.vm_engine.proofs.Answers.Requests.{with_policy}
 use Rattle.vm_engine.proofs.Counts.WayCases.{search_first, search_last}
 use Rattle.vm_engine.proofs.Choosing.Places.{least_place, greatest_place, no_place}

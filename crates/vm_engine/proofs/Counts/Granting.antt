@@ -16,7 +16,7 @@ use Rattle.vm_ranges.specs.declared.error.Error.{Error}
 use Rattle.vm_ranges.specs.declared.error.Error.TheVariants.{OutOfMemory}
 use Rattle.vm_ranges.specs.declared.constraint.AllocPolicy.{AllocPolicy}
 use Rattle.vm_ranges.specs.declared.constraint.AllocPolicy.TheVariants.{FirstMatch, LastMatch, ExactMatch}
-use Rattle.vm_engine.specs.declared.interval_tree.placing.Choice.{Choice}
+use Rattle.vm_engine.specs.declared.node.carve.Choice.{Choice}
 use Rattle.vm_engine.proofs.Splitting.Taking.{as_blocks}
 use Rattle.vm_engine.proofs.Blocks.OneList.{few_blocks}
 use Rattle.vm_engine.proofs.Nodes.Spaces.{few_nodes, no_empty_tree}

@@ -17,7 +17,7 @@ use Rattle.vm_engine.specs.declared.node.carve.Rest.{Rest}
 use Rattle.vm_engine.specs.Counts.Fibonacci.{fibonacci, fibonacci_pair}
 use Rattle.vm_ranges.specs.declared.error.Error.TheVariants.{Overflow, OutOfMemory}
 use Rattle.vm_ranges.specs.declared.state.NodeState.TheVariants.{Allocated}
-use Rattle.vm_engine.specs.declared.interval_tree.placing.Choice.{Choice}
+use Rattle.vm_engine.specs.declared.node.carve.Choice.{Choice}
 use Rattle.vm_engine.proofs.Splitting.Taking.{tiles_carved, blocks_carved, leaves_clear, as_blocks, below_with}
 use Rattle.vm_engine.proofs.Blocks.BlockOrder.{ordered_weaken}
 use Rattle.vm_engine.proofs.Blocks.Replacement.{replace_middle, find_middle}

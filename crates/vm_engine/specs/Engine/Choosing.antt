@@ -15,7 +15,7 @@ use Rattle.vm_ranges.specs.declared.state.NodeState.{NodeState}
 use Rattle.vm_ranges.specs.declared.state.NodeState.TheVariants.{Free, Allocated}
 use Rattle.vm_ranges.specs.declared.constraint.AllocPolicy.{AllocPolicy}
 use Rattle.vm_ranges.specs.declared.constraint.AllocPolicy.TheVariants.{FirstMatch, LastMatch, ExactMatch}
-use Rattle.vm_engine.specs.declared.interval_tree.placing.Choice.{Choice}
+use Rattle.vm_engine.specs.declared.node.carve.Choice.{Choice}
 use Rattle.vm_engine.specs.declared.node.places.Place.{Place}
 
 -- a range below MAX within a free block

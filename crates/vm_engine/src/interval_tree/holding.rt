@@ -16,10 +16,9 @@ ghost use Rattle.vm_engine.specs.Counts.Steps.{TOO_HIGH};
 ghost use Rattle.vm_engine.specs.Counts.Ways.{way_if_held};
 
 use super::IntervalTree;
-use super::placing::Choice;
 use crate::Steps;
 use crate::ends::{between, known};
-use crate::node::carve::{Cut, Rest, carve_at};
+use crate::node::carve::{Choice, Cut, Rest, carve_at};
 use crate::node::rewrite::rewrite_at;
 use crate::node::{Child, InnerNode};
 use std::alloc::Global;
@@ -60,11 +59,7 @@ impl IntervalTree {
             return Err(Error::Overflow);
         }
         let rest = rest_of(alloc, &choice)?;
-        let mut cut = Cut {
-            key: choice.key,
-            range: choice.range,
-            rest,
-        };
+        let mut cut = Cut { choice, rest };
         carve_at(&mut self.root, &mut cut, count);
         Ok(choice.range)
     }

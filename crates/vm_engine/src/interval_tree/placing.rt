@@ -12,17 +12,9 @@ ghost use Rattle.vm_ranges.specs.declared.constraint.AllocPolicy.TheVariants.{Ex
 use super::IntervalTree;
 use crate::Steps;
 use crate::ends::{between, known};
+use crate::node::carve::Choice;
 use crate::node::places::{Place, first_place, last_place};
 use vm_ranges::{AllocPolicy, Constraint, Error, NodeState, RangeInclusive, Result};
-
-/// A range to hold, and the free block that it is taken from.
-#[derive(Clone, Copy)]
-pub(crate) struct Choice {
-    /// The free block.
-    pub(crate) key: RangeInclusive,
-    /// The range, within that block.
-    pub(crate) range: RangeInclusive,
-}
 
 impl IntervalTree {
     /// The range to hold for a request, and the free block that has it, or the refusal.

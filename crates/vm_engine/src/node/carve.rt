@@ -49,15 +49,22 @@ fn link_if(child: &mut Child, leaf: Child, count: &mut Steps)
     }
 }
 
-/// A split: the key of a free block, the range that is taken from it, and what is left of it, which
-/// is handed on where it hangs.
-#[derive(Drop)]
-pub(crate) struct Cut {
+/// A range to hold, and the free block that it is taken from.
+#[derive(Clone, Copy)]
+pub(crate) struct Choice {
     /// The free block.
     pub(crate) key: RangeInclusive,
     /// The range, within that block.
     pub(crate) range: RangeInclusive,
-    /// What is left of it.
+}
+
+/// A split: the range and its free block, and what is left of the block, which is handed on where it
+/// hangs.
+#[derive(Drop)]
+pub(crate) struct Cut {
+    /// The range, and the free block that it is taken from.
+    pub(crate) choice: Choice,
+    /// What is left of the block.
     pub(crate) rest: Rest,
 }
 
@@ -68,11 +75,11 @@ pub(crate) struct Cut {
 fn carve_here(at: &mut Child, cut: &mut Cut, count: &mut Steps) -> Change
     requires some { IsSome at.old }
     requires leaves { AreLeaves cut.old.rest }
-    requires carving { CanCarve (blocks (side at.old)) (root_block (side at.old)).key cut.old.range cut.old.rest }
+    requires carving { CanCarve (blocks (side at.old)) (root_block (side at.old)).key cut.old.choice.range cut.old.rest }
     requires height { height_of (side at.old) < MAX_HEIGHT }
     requires count_fits { count.old + 2 * height_of (side at.old) ≤ MAX + 1 }
     ensures blocks { blocks (side at.new)
-        ≡ with_split (root_block (side at.old)).key cut.old.range cut.old.rest (blocks (side at.old)) }
+        ≡ with_split (root_block (side at.old)).key cut.old.choice.range cut.old.rest (blocks (side at.old)) }
     ensures grows { Grows (side at.old) (side at.new) result }
     ensures count { count.new
         ≡ count.old + way_here (side cut.old.rest.before) (side cut.old.rest.after) (side at.old) }
@@ -80,7 +87,7 @@ fn carve_here(at: &mut Child, cut: &mut Cut, count: &mut Steps) -> Change
     let Some(tree) = at else { unreachable!() };
     let tree: &mut InnerNode = tree;
     let _ = &tree.height;
-    tree.key = cut.range;
+    tree.key = cut.choice.range;
     tree.node_state = NodeState::Allocated;
     link_if(&mut tree.left, cut.rest.before.take(), count);
     link_if(&mut tree.right, cut.rest.after.take(), count);
@@ -101,19 +108,19 @@ fn carve_here(at: &mut Child, cut: &mut Cut, count: &mut Steps) -> Change
 #[tactic(auto, using(crate::proofs::Splitting::CarvedTrees::carvings, crate::proofs::Counts::CarvingWays::ways_to_carve))]
 pub(crate) fn carve_at(at: &mut Child, cut: &mut Cut, count: &mut Steps) -> Change
     requires leaves { AreLeaves cut.old.rest }
-    requires carving { CanCarve (blocks (side at.old)) cut.old.key cut.old.range cut.old.rest }
+    requires carving { CanCarve (blocks (side at.old)) cut.old.choice.key cut.old.choice.range cut.old.rest }
     requires height { height_of (side at.old) < MAX_HEIGHT }
     requires count_fits { count.old + 2 * height_of (side at.old) ≤ MAX }
     ensures blocks { blocks (side at.new)
-        ≡ with_split cut.old.key cut.old.range cut.old.rest (blocks (side at.old)) }
+        ≡ with_split cut.old.choice.key cut.old.choice.range cut.old.rest (blocks (side at.old)) }
     ensures grows { Grows (side at.old) (side at.new) result }
     ensures count { count.new ≡ count.old
-        + way_to_carve cut.old.key (side cut.old.rest.before) (side cut.old.rest.after) (side at.old) }
+        + way_to_carve cut.old.choice.key (side cut.old.rest.before) (side cut.old.rest.after) (side at.old) }
 {
     let Some(tree) = at else { unreachable!() };
     let tree: &mut InnerNode = tree;
     tree.enter(count);
-    let change = match order(&tree.key, &cut.key) {
+    let change = match order(&tree.key, &cut.choice.key) {
         Ordering::Equal => return carve_here(at, cut, count),
         Ordering::Greater => carve_at(&mut tree.left, cut, count),
         Ordering::Less => carve_at(&mut tree.right, cut, count),

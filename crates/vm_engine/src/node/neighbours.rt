@@ -122,13 +122,13 @@ impl InnerNode {
         ensures count { count.new ≡ count.old + way_around key.now self.now }
     {
         self.enter(count);
-        match order(key, &self.key) {
-            Ordering::Less => {
+        match order(&self.key, key) {
+            Ordering::Greater => {
                 let Some(left) = &self.left else { return false };
                 beside.after = Some(self);
                 left.find_held(key, beside, count)
             }
-            Ordering::Greater => {
+            Ordering::Less => {
                 let Some(right) = &self.right else {
                     return false
                 };

@@ -98,13 +98,13 @@ impl InnerNode {
         ensures count { count.new ≡ count.old + way_to key.now self.now }
     {
         self.enter(count);
-        match order(key, &self.key) {
+        match order(&self.key, key) {
             Ordering::Equal => Some(self),
-            Ordering::Less => {
+            Ordering::Greater => {
                 let Some(left) = &self.left else { return None };
                 left.search(key, count)
             }
-            Ordering::Greater => {
+            Ordering::Less => {
                 let Some(right) = &self.right else {
                     return None
                 };

@@ -19,9 +19,9 @@ pub(crate) fn has_held(tree: &Child, key: &RangeInclusive) -> bool
 {
     let Some(node) = tree else { return false };
     let node: &InnerNode = node;
-    match order(key, &node.key) {
-        Ordering::Less => has_held(&node.left, key),
-        Ordering::Greater => has_held(&node.right, key),
+    match order(&node.key, key) {
+        Ordering::Greater => has_held(&node.left, key),
+        Ordering::Less => has_held(&node.right, key),
         Ordering::Equal => node.node_state == NodeState::Allocated,
     }
 }

@@ -5,10 +5,9 @@
 
 use rattle::Box;
 use super::IntervalTree;
-use super::placing::Choice;
 use crate::Steps;
 use crate::ends::between;
-use crate::node::carve::{Cut, Rest, carve_at};
+use crate::node::carve::{Choice, Cut, Rest, carve_at};
 use crate::node::rewrite::rewrite_at;
 use crate::node::{Child, InnerNode};
 use rattle::Global;
@@ -40,11 +39,7 @@ impl IntervalTree {
             return Err(Error::Overflow);
         }
         let rest = rest_of(alloc, &choice)?;
-        let mut cut = Cut {
-            key: choice.key,
-            range: choice.range,
-            rest,
-        };
+        let mut cut = Cut { choice, rest };
         carve_at(&mut self.root, &mut cut, count);
         Ok(choice.range)
     }

@@ -32,14 +32,21 @@ fn link_if(child: &mut Child, leaf: Child, count: &mut Steps) {
     }
 }
 
-/// A split: the key of a free block, the range that is taken from it, and what is left of it, which
-/// is handed on where it hangs.
-pub(crate) struct Cut {
+/// A range to hold, and the free block that it is taken from.
+#[derive(Clone, Copy)]
+pub(crate) struct Choice {
     /// The free block.
     pub(crate) key: RangeInclusive,
     /// The range, within that block.
     pub(crate) range: RangeInclusive,
-    /// What is left of it.
+}
+
+/// A split: the range and its free block, and what is left of the block, which is handed on where it
+/// hangs.
+pub(crate) struct Cut {
+    /// The range, and the free block that it is taken from.
+    pub(crate) choice: Choice,
+    /// What is left of the block.
     pub(crate) rest: Rest,
 }
 
@@ -49,7 +56,7 @@ pub(crate) struct Cut {
 fn carve_here(at: &mut Child, cut: &mut Cut, count: &mut Steps) -> Change {
     let Some(tree) = at else { unreachable!() };
     let tree: &mut InnerNode = tree;
-    tree.key = cut.range;
+    tree.key = cut.choice.range;
     tree.node_state = NodeState::Allocated;
     link_if(&mut tree.left, cut.rest.before.take(), count);
     link_if(&mut tree.right, cut.rest.after.take(), count);
@@ -71,7 +78,7 @@ pub(crate) fn carve_at(at: &mut Child, cut: &mut Cut, count: &mut Steps) -> Chan
     let Some(tree) = at else { unreachable!() };
     let tree: &mut InnerNode = tree;
     tree.enter(count);
-    let change = match order(&tree.key, &cut.key) {
+    let change = match order(&tree.key, &cut.choice.key) {
         Ordering::Equal => return carve_here(at, cut, count),
         Ordering::Greater => carve_at(&mut tree.left, cut, count),
         Ordering::Less => carve_at(&mut tree.right, cut, count),

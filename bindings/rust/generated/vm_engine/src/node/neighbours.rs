@@ -88,13 +88,13 @@ impl InnerNode {
         count: &mut Steps,
     ) -> bool {
         self.enter(count);
-        match order(key, &self.key) {
-            Ordering::Less => {
+        match order(&self.key, key) {
+            Ordering::Greater => {
                 let Some(left) = &self.left else { return false };
                 beside.after = Some(self);
                 left.find_held(key, beside, count)
             }
-            Ordering::Greater => {
+            Ordering::Less => {
                 let Some(right) = &self.right else {
                     return false
                 };

@@ -18,8 +18,8 @@ carve_at-change-requires t c =
     let i = c.tree.inside in
     let e : side c.args.at.now ≡ shape_of i = cc in
     let tree : IsTree (side c.args.at.now) = rw e c.tree.invariant.tree in
-    let known = known_left (side c.args.at.now) (side i.left) _ (side i.right) c.args.cut.now.key e c.in-Greater.ensures tree c.requires.carving.known in
-    let ordered = rewritten_left (side c.args.at.now) (side i.left) _ (side i.right) c.args.cut.now.key _ e c.in-Greater.ensures tree c.requires.carving.ordered in
+    let known = known_left (side c.args.at.now) (side i.left) _ (side i.right) c.args.cut.now.choice.key e c.in-Greater.ensures tree c.requires.carving.known in
+    let ordered = rewritten_left (side c.args.at.now) (side i.left) _ (side i.right) c.args.cut.now.choice.key _ e c.in-Greater.ensures tree c.requires.carving.ordered in
     (search rules, (c.requires.leaves, (record { known = known; ordered = ordered }, (grind arith, grind arith))))
 
 pub carve_at-change-requires-in-Less : goal.carve_at-change-requires-in-Less
@@ -27,8 +27,8 @@ carve_at-change-requires-in-Less t c =
     let i = c.tree.inside in
     let e : side c.args.at.now ≡ shape_of i = cc in
     let tree : IsTree (side c.args.at.now) = rw e c.tree.invariant.tree in
-    let known = known_right (side c.args.at.now) (side i.left) _ (side i.right) c.args.cut.now.key e c.in-Less.ensures tree c.requires.carving.known in
-    let ordered = rewritten_right (side c.args.at.now) (side i.left) _ (side i.right) c.args.cut.now.key _ e c.in-Less.ensures tree c.requires.carving.ordered in
+    let known = known_right (side c.args.at.now) (side i.left) _ (side i.right) c.args.cut.now.choice.key e c.in-Less.ensures tree c.requires.carving.known in
+    let ordered = rewritten_right (side c.args.at.now) (side i.left) _ (side i.right) c.args.cut.now.choice.key _ e c.in-Less.ensures tree c.requires.carving.ordered in
     (search rules, (c.requires.leaves, (record { known = known; ordered = ordered }, (grind arith, grind arith))))
 
 -- where nothing that is kept of a side changed: the node over it
