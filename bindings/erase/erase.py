@@ -21,6 +21,7 @@ call, and a public field of a type with ghosts. A refusal says file, line and wh
 no part of the crates, and the names that they use are the compiler's to know."""
 import collections
 import os
+import pathlib
 import re
 import sys
 import types
@@ -90,20 +91,18 @@ FOR_PROOFS = {"known"}
 FOR_TESTS = {"vm_engine/src/node.rt search_tree", "vm_ranges/src/state.rt is_free"}
 # Lints that a function is allowed to fail: its proof reads this form, or a statement for its proof is cut.
 ALLOWED = {
-    "vm_allocator/src/address_allocator.rt allocate": "clippy::let_and_return",
-    "vm_allocator/src/saved/ids.rt collect": "unused_assignments, unused_variables",
-    "vm_allocator/src/saved/repaired.rt check_keys": "clippy::question_mark",
-    "vm_allocator/src/saved/repaired.rt check_repaired": "clippy::question_mark",
-    "vm_allocator/src/saved/repaired.rt hold_keys": "clippy::only_used_in_recursion",
-    "vm_engine/src/interval_tree.rt allocate": "clippy::let_and_return",
-    "vm_engine/src/interval_tree/held_ranges.rt next": "clippy::while_let_on_iterator",
-    "vm_engine/src/node/remove.rt delete_root": "clippy::let_and_return",
-    "vm_engine/src/node/walks/comparing.rt order_of_blocks": "clippy::while_let_on_iterator",
-    "vm_engine/src/node/walks/comparing.rt same_blocks": "clippy::while_let_on_iterator",
-    "vm_engine/src/saved/check.rt check": "clippy::question_mark",
-    "vm_engine/src/saved/tree.rt build": "clippy::only_used_in_recursion",
-    "vm_lines/src/number.rt are_digits": "clippy::needless_range_loop",
-    "vm_lines/src/number.rt value_of": "clippy::needless_range_loop",
+    "unused_assignments, unused_variables": ("vm_allocator/src/saved/ids.rt collect",),
+    "clippy::let_and_return": (
+        "vm_allocator/src/address_allocator.rt allocate", "vm_engine/src/interval_tree.rt allocate",
+        "vm_engine/src/node/remove.rt delete_root"),
+    "clippy::needless_range_loop": ("vm_lines/src/number.rt are_digits", "vm_lines/src/number.rt value_of"),
+    "clippy::only_used_in_recursion": ("vm_allocator/src/saved/repaired.rt hold_keys", "vm_engine/src/saved/tree.rt build"),
+    "clippy::question_mark": (
+        "vm_allocator/src/saved/repaired.rt check_keys", "vm_allocator/src/saved/repaired.rt check_repaired",
+        "vm_engine/src/saved/check.rt check"),
+    "clippy::while_let_on_iterator": (
+        "vm_engine/src/interval_tree/held_ranges.rt next", "vm_engine/src/node/walks/comparing.rt order_of_blocks",
+        "vm_engine/src/node/walks/comparing.rt same_blocks"),
 }
 
 # ---- What is written ----
@@ -242,8 +241,7 @@ class File(Tokens):
     """A source file: what is cut of it, and which names it gives and uses."""
 
     def __init__(self, crate, path, of_tests):
-        with open(path, encoding="utf-8", newline="") as source:
-            super().__init__(os.path.relpath(path, crate.project.folder), source.read())
+        super().__init__(os.path.relpath(path, crate.project.folder), pathlib.Path(path).read_bytes().decode())
         self.crate, self.of_tests, self.is_root = crate, of_tests, path == crate.root
         self.children = os.path.dirname(path) if self.is_root else path[:-len(".rt")]
         self.generics, self.imported, self.from_prelude = set(), {}, set()
@@ -251,8 +249,7 @@ class File(Tokens):
         self.imports = []  # (the first index, the one behind, the indices of the names)
         self.first_kept, self.kept = None, 0
         end = self.items(self.head(), None)
-        if self.tokens[end].kind != "end":
-            self.fail("a brace that closes nothing", self.start_of(end))
+        self.refuse_if(self.tokens[end].kind != "end", "a brace that closes nothing", end)
 
     def at(self, index, *texts):
         """Whether these tokens stand at an index."""
@@ -260,6 +257,11 @@ class File(Tokens):
 
     def start_of(self, index):
         return self.tokens[index].start
+
+    def refuse_if(self, condition, why, index):
+        """Refuses what stands at an index if a condition is met."""
+        if condition:
+            self.fail(why, self.tokens[index].start)
 
     def cut(self, first, behind, instead=""):
         self.cuts.append((self.start_of(first), self.tokens[behind - 1].end, instead))
@@ -299,18 +301,17 @@ class File(Tokens):
             index = self.visibility(item, head)
             row = f"{self.path.removeprefix('crates/')} {self.tokens[index + 1].text}"
             if (item.of_tests or row in FOR_TESTS) and not self.crate.project.with_tests:
-                end = self.next_of(index, ";", "{")
-                behind, kept = end + 1 if self.at(end, ";") else self.matching(end), False
+                behind, kept = self.matching(self.next_of(index, ";", "{")), False
             else:
                 behind, kept = self.item(item, index)
             if not kept:
                 self.cut(item.start, behind)
             elif self.first_kept is None:
                 self.first_kept = self.start_of(item.start)
-            if kept and row in ALLOWED:
+            for lint in [lint for lint, rows in ALLOWED.items() if row in rows]:
                 start = self.start_of(head)
                 indent = self.text[self.text.rfind("\n", 0, start) + 1:start]
-                self.cuts.append((start, start, f"#[allow({ALLOWED[row]})]\n{indent}"))
+                self.cuts.append((start, start, f"#[allow({lint})]\n{indent}"))
             self.kept += kept
             index = behind
         return index
@@ -319,16 +320,14 @@ class File(Tokens):
         """Reads an item by its keyword. The answer is where it ends, and whether it is kept."""
         item.keyword = index
         words = FORMS if item.owner is None else ("fn", "const") if item.owner == "impl" else ("fn", "type")
-        if self.tokens[index].text not in words:
-            self.fail(f"an item {self.tokens[index].text!r}", self.start_of(index))
+        self.refuse_if(self.tokens[index].text not in words, f"an item {self.tokens[index].text!r}", index)
         return FORMS[self.tokens[index].text](self, item)
 
     def attributes(self, item):
         """Reads documentation and attributes. The answer is the index behind them."""
         index = item.start
         while self.tokens[index].kind == "doc" or self.at(index, "#"):
-            if self.tokens[index].text.startswith("//!"):
-                self.fail("documentation of the file behind an item", self.start_of(index))
+            self.refuse_if(self.tokens[index].text.startswith("//!"), "documentation of the file behind an item", index)
             behind = self.matching(index + 1) if self.at(index, "#") else index + 1
             if self.at(index, "#"):
                 self.attribute(item, index, behind)
@@ -351,9 +350,9 @@ class File(Tokens):
     def derive(self, names, index, behind):
         for name in sorted(set(names) - DERIVES):
             self.fail(f"a derive of {name!r}", self.start_of(index))
-        if "Drop" in names:
-            names.remove("Drop")
-            self.cut(index, behind, f"#[derive({', '.join(names)})]" if names else "")
+        rest = [name for name in names if name != "Drop"]
+        if rest != names:
+            self.cut(index, behind, f"#[derive({', '.join(rest)})]" if rest else "")
 
     def visibility(self, item, index):
         if not self.at(index, "pub"):
@@ -384,8 +383,7 @@ class File(Tokens):
     def define(self, index, names):
         """Takes the name at an index as one of the crate's own."""
         name = self.tokens[index].text
-        if self.tokens[index].kind != "word" or name in TAKEN:
-            self.fail(f"a definition of {name!r}", self.start_of(index))
+        self.refuse_if(self.tokens[index].kind != "word" or name in TAKEN, f"a definition of {name!r}", index)
         names.add(name)
         return name
 
@@ -396,8 +394,7 @@ class File(Tokens):
         leaves = [index for index in range(rest, end)
                   if self.tokens[index + 1].text in (",", "}", ";") and self.tokens[index].text not in (",", "}")]
         for index in leaves:
-            if self.at(index - 1, "as") and (folder or not self.of_tests):
-                self.fail("an import under another name", self.start_of(index))
+            self.refuse_if(self.at(index - 1, "as") and (folder or not self.of_tests), "an import under another name", index)
             if folder:
                 self.allow(folder, name, index)
                 self.imported[self.tokens[index].text] = name
@@ -438,12 +435,10 @@ class File(Tokens):
         return folder, name, behind + 1
 
     def allow(self, folder, name, index):
-        if self.tokens[index].text not in folder[1]:
-            self.fail(f"'{name}::{self.tokens[index].text}' is in no table", self.start_of(index))
+        self.refuse_if(self.tokens[index].text not in folder[1], f"'{name}::{self.tokens[index].text}' is in no table", index)
 
     def module(self, item):
-        if not self.at(item.keyword + 2, ";"):
-            self.fail("a module of this form", self.start_of(item.keyword))
+        self.refuse_if(not self.at(item.keyword + 2, ";"), "a module of this form", item.keyword)
         name = self.define(item.keyword + 1, self.crate.names)
         return item.keyword + 3, self.crate.read_module(self, name, item.of_tests or self.of_tests)
 
@@ -458,8 +453,7 @@ class File(Tokens):
         """`struct` or `enum`."""
         name = self.define(item.keyword + 1, self.crate.names)
         index = self.angles(item.keyword + 2)
-        if not self.at(index, "{") and not self.of_tests:
-            self.fail("a type without braces", self.start_of(item.keyword))
+        self.refuse_if(not self.at(index, "{") and not self.of_tests, "a type without braces", item.keyword)
         behind = self.matching(index) if self.at(index, "{") else self.next_of(index, ";") + 1
         depth = 0
         for place in range(index, behind):
@@ -475,8 +469,7 @@ class File(Tokens):
 
     def function(self, item):
         index = self.angles(item.keyword + 2)
-        if not self.at(index, "("):
-            self.fail("a function of this form", self.start_of(item.keyword))
+        self.refuse_if(not self.at(index, "("), "a function of this form", item.keyword)
         body = self.next_of(index, "{")
         behind = self.matching(body)
         nothing = body == index + 2 and behind == body + 2
@@ -500,8 +493,7 @@ class File(Tokens):
         """Makes the parameter `rt` a statement."""
         if self.at(index, "(", ")"):
             return
-        if not self.at(index, "(", "rt", ":", "HostRuntime", ")"):
-            self.fail("other parameters than 'rt'", self.start_of(index))
+        self.refuse_if(not self.at(index, "(", "rt", ":", "HostRuntime", ")"), "other parameters than 'rt'", index)
         self.cut(index + 1, index + 4)
         self.cut(body, body + 1, RUNTIME)
 
@@ -509,21 +501,17 @@ class File(Tokens):
         index = self.angles(item.keyword + 1)
         behind = index + 1
         if self.at(index, "From", "<"):  # the one trait that is of a type
-            while self.tokens[behind].text not in ("for", "{"):
-                if self.tokens[behind].kind == "word":
-                    self.uses.append((self.start_of(behind), "a type", self.tokens[behind].text))
-                behind += 1
+            behind = self.next_of(index, "for", "{")
+            self.uses += [(token.start, "a type", token.text) for token in self.tokens[index + 1:behind] if token.kind == "word"]
         trait = self.tokens[index].text if self.at(behind, "for") else None
         index = behind + 1 if trait else index
         name = self.tokens[index].text
         self.uses.append((self.start_of(index), "a type", name))
         index = self.angles(index + 1)
-        if not self.at(index, "{"):
-            self.fail("an impl of this form", self.start_of(item.keyword))
+        self.refuse_if(not self.at(index, "{"), "an impl of this form", item.keyword)
         if trait == "Model":
             self.crate.guarded.add(name)
-            if not self.at(index + 1, "}"):
-                self.fail("a member of Model that is no ghost", self.start_of(index + 1))
+            self.refuse_if(not self.at(index + 1, "}"), "a member of Model that is no ghost", index + 1)
             return index + 2, False
         if trait and trait not in TRAITS and not (self.of_tests and trait in TRAITS_OF_TESTS):
             self.fail(f"an impl of {trait!r}", self.start_of(item.keyword))
@@ -586,8 +574,7 @@ class File(Tokens):
         """Only `expect` is another function there: it is given the runtime, to end the test by."""
         if self.at(index - 1, ".") and self.tokens[index].text in ("expect", "expect_err"):
             runtime = index + 3 if self.at(index + 2, "&") else index + 2
-            if not self.at(runtime, "rt", ","):
-                self.fail("'expect' without 'rt'", self.start_of(index))
+            self.refuse_if(not self.at(runtime, "rt", ","), "'expect' without 'rt'", index)
             self.cuts.append((self.start_of(index + 2), self.start_of(runtime + 2), ""))
 
     def name(self, first, last):
@@ -776,20 +763,15 @@ class Project:
 
 def write(path, text):
     """Writes a file, unless it has that text already: who builds by the times of files then leaves it alone."""
-    os.makedirs(os.path.dirname(path), exist_ok=True)
-    if os.path.exists(path):
-        with open(path, encoding="utf-8") as file:
-            if file.read() == text:
-                return
-    with open(path, "w", encoding="utf-8") as file:
-        file.write(text)
+    path = pathlib.Path(path)
+    path.parent.mkdir(parents=True, exist_ok=True)
+    if not path.exists() or path.read_bytes() != text.encode():
+        path.write_bytes(text.encode())
 
 
 def erase(folder, out, with_tests):
     """Writes the crates of a project. The answer is which."""
-    project = Project(folder)
-    if with_tests:
-        project = Project(folder, True, set(project.crates))
+    project = Project(folder, True, set(Project(folder).crates)) if with_tests else Project(folder)
     for name, crate in project.crates.items():
         crate.write(os.path.join(out, name))
     return project.crates

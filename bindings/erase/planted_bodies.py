@@ -1,10 +1,10 @@
 #!/usr/bin/env python3
-"""Plants the bodies of three lists, and runs what has to notice each.
+"""Plants the bodies of two lists, and runs what has to notice each.
 
     planted_bodies.py PROJECT SCRATCH
 
-A body of tests/test_bodies names a test that has to fail. A body of tests/walk_bodies and of tests/count_rule_bodies
-walks a tree without counting, and bindings/rust/box_count has to fail; if the list accepts the body, it has to pass.
+A body of tests/test_bodies names a test that has to fail, or bindings/rust/box_count. That also has to fail with a
+body of tests/count_rule_bodies, which walks a tree without counting; with one that the list accepts it has to pass.
 
 Each body is planted in a copy of the sources, which is erased with its tests and built in the folder SCRATCH. What
 runs has to fail, to end the process, or to use ten times as much processor time as without the body; without it, it
@@ -23,12 +23,11 @@ import sys
 
 import erase
 import planting
-import scratch_workspace
 
 sys.path.append(os.path.join(os.path.dirname(os.path.abspath(__file__)), "..", "..", "tests"))
 from processor_time import HANG, limited_to, used_by_children  # noqa: E402
 
-LISTS = ("count_rule_bodies", "walk_bodies", "test_bodies")
+LISTS = ("count_rule_bodies", "test_bodies")
 # Bodies that no run can tell from what stood there before.
 UNSEEN = {
     "loop_in_a_range": "it follows no box",
@@ -52,7 +51,8 @@ def check_of(body):
     """What has to notice a body; None if nothing is run."""
     if body.name in UNSEEN or body.rest.get("refused", "").startswith("error"):
         return None
-    return Check(*body.rest["test"].split("::", 1), body.rest.get("run")) if "test" in body.rest else BOX_COUNT
+    test = body.rest.get("test", BOX_COUNT.crate)
+    return BOX_COUNT if test == BOX_COUNT.crate else Check(*test.split("::", 1), body.rest.get("run"))
 
 
 class Runner:
@@ -61,7 +61,7 @@ class Runner:
     def __init__(self, project, scratch):
         self.project, self.scratch = project, scratch
         self.copy, self.workspace, self.target = (os.path.join(scratch, name) for name in ("project", "rust", "target"))
-        scratch_workspace.make(project, self.workspace)
+        planting.copy_workspace(project, self.workspace)
         self.counter = os.path.join(scratch, "refuse.so")
         compiler = os.environ.get("CC", "cc")
         subprocess.run([compiler, "-O2", "-shared", "-fPIC", "-o", self.counter, os.path.join(project, "tests", "refuse.c"), "-ldl"],

@@ -1,8 +1,7 @@
-"""Plants bodies in a copy of a project. The lists of bodies are tests/count_rule_bodies, tests/walk_bodies and
-tests/test_bodies; their heads say how they are written."""
+"""Plants bodies in a copy of a project. The lists are tests/test_bodies, whose head has their form, and
+tests/count_rule_bodies."""
 import os
 import shutil
-import subprocess
 import sys
 from collections import namedtuple
 
@@ -21,9 +20,11 @@ def bodies(path):
 
 
 def read_entry(pairs):
-    file, old, edits, rest = None, None, [], {}
+    name, file, old, edits, rest = None, None, None, [], {}
     for key, value in pairs:
-        if key == "file":
+        if key == "name":
+            name, file = value.split(", ")
+        elif key == "file":
             file = value
         elif key == "old":
             old = value
@@ -31,9 +32,15 @@ def read_entry(pairs):
             edits.append((file, old, value))
         else:
             rest[key] = value
-    if "name" not in rest or not edits:
-        sys.exit(f"not a whole entry: {rest}")
-    return Planted(rest.pop("name"), edits, rest)
+    if not name or not edits:
+        sys.exit(f"not a whole entry: {pairs}")
+    return Planted(name, edits, rest)
+
+
+def copy_workspace(project, folder):
+    """Copies bindings/rust, for the crates of a project with a body planted."""
+    shutil.rmtree(folder, ignore_errors=True)
+    shutil.copytree(os.path.join(project, "bindings", "rust"), folder, ignore=shutil.ignore_patterns("target"))
 
 
 def plant(body, project, copy):
