@@ -9,17 +9,14 @@ times=$scratch/times
 passed_parts=0
 failed_parts=()
 
-# Which parts a check runs that has parts of the sources and parts of what is built; else its head is shown.
-choose_parts() { # the check's own options: none, --of-sources or --of-built
-    of_sources=yes
-    of_built=yes
+# Sets which parts a check runs. Other options show its head.
+choose_parts() { # the check's options: none, --of-sources or --of-built
     case $* in
-        "") ;;
-        --of-sources) of_built=no ;;
-        --of-built) of_sources=no ;;
+        "") export of_sources=yes of_built=yes ;;
+        --of-sources) export of_sources=yes of_built=no ;;
+        --of-built) export of_sources=no of_built=yes ;;
         *) sed -n '2,/^set/s/^# \{0,1\}//p' "$0"; exit 2 ;;
     esac
-    export of_sources of_built
 }
 
 part() { # name, command ..

@@ -3,22 +3,20 @@
 
     erase.py PROJECT OUT [--tests]
 
-PROJECT/crates.txt names the crates and what each stands on. Each program, and each library that one
-stands on, is written to OUT/NAME, as a package of a workspace that has OUT and a folder `rattle` beside
-it. With --tests every crate is written, with its tests.
+PROJECT/crates.txt names the crates and their dependencies. Each program and each library that it needs is
+written to OUT/NAME, as a package of a workspace that has OUT and a folder `rattle` beside it. With --tests
+every crate is written, with its tests.
 
-What is cut: clauses, `ghost` items, members and fields, `#[tactic(..)]`, `impl Model`, `Drop` among
-the derives and as a bound, laws (functions of nothing that do nothing), the functions FOR_PROOFS with their calls,
-`let _ = &..;`, imports that nothing uses then, and modules and impls that are empty then. Tests and what FOR_TESTS
-names are cut unless they are asked for. What is written: the line that says where a file comes from, the attributes of a
-crate, imports of what Rattle's prelude has and Rust's has not. What is changed: the front of a path, by
+It cuts clauses, `ghost` items, members and fields, `#[tactic(..)]`, `impl Model`, `Drop` among the derives and
+as a bound, laws (functions of nothing that do nothing), the functions FOR_PROOFS with their calls, `let _ = &..;`,
+tests and FOR_TESTS, and the imports, impls and modules that are unused or empty then. It adds the origin of a
+file, the attributes of a crate and imports of what only Rattle's prelude has. It changes the front of a path, by
 the table FOLDERS, and the parameter `rt` of `main` and of tests, which becomes the first statement.
 
-Everything else is kept as it is, and refused where the tables do not name it: forms of items, paths of
-libraries, functions and methods that are not of these crates, macros, attributes, derives, traits. So
-is what would let a caller in plain Rust break what was proved: a `requires` on what such a caller may
-call, and a public field of a type with ghosts. A refusal says file, line and what was met. Tests are
-no part of the crates, and the names that they use are the compiler's to know."""
+Everything else is kept, and refused if the tables do not name it: forms of items, paths of libraries, functions
+and methods that are not of these crates, macros, attributes, derives, traits. A caller in plain Rust could break
+what was proved by a public function with a `requires`, or a public field of a type with ghosts: both are refused.
+An error names the file, the line and what was met. The names that tests use are left to the compiler."""
 import collections
 import os
 import pathlib
@@ -328,10 +326,9 @@ class File(Tokens):
         index = item.start
         while self.tokens[index].kind == "doc" or self.at(index, "#"):
             self.refuse_if(self.tokens[index].text.startswith("//!"), "documentation of the file behind an item", index)
-            behind = self.matching(index + 1) if self.at(index, "#") else index + 1
-            if self.at(index, "#"):
-                self.attribute(item, index, behind)
-            index = behind
+            first, index = index, self.matching(index + 1) if self.at(index, "#") else index + 1
+            if self.at(first, "#"):
+                self.attribute(item, first, index)
         return index
 
     def attribute(self, item, index, behind):
@@ -342,10 +339,10 @@ class File(Tokens):
             item.of_tests = True
         elif words == ["test"] and self.of_tests:
             item.is_test = True
-        elif not words or words[0] not in ATTRIBUTES:
-            self.fail(f"an attribute {''.join(words[:1])!r}", self.start_of(index))
-        elif words[0] == "derive":
+        elif words[:1] == ["derive"]:
             self.derive([word for word in words[1:] if word not in "(),"], index, behind)
+        else:
+            self.refuse_if(not words or words[0] not in ATTRIBUTES, f"an attribute {''.join(words[:1])!r}", index)
 
     def derive(self, names, index, behind):
         for name in sorted(set(names) - DERIVES):
@@ -634,16 +631,15 @@ class File(Tokens):
             elif len(names) < len(leaves):
                 if not self.at(leaves[0] - 1, "{") or leaves != list(range(leaves[0], leaves[-1] + 1, 2)):
                     self.fail("an import of this form, of which not all is used", self.start_of(first))
-                self.cut(leaves[0] - 1, end, "{" + ", ".join(names) + "}" if len(names) > 1 else names[0])
+                self.cut(leaves[0] - 1, end, in_braces(names))
 
     def plain(self):
         """The text of the file in Rust."""
-        names = ", ".join(sorted(self.from_prelude))
         inserted = self.attributes_of_root() + "\n" if self.is_root else ""
         if self.of_tests:
             inserted += PRELUDE_OF_TESTS
-        elif names:
-            inserted += f"use rattle::{{{names}}};\n" if "," in names else f"use rattle::{names};\n"
+        elif self.from_prelude:
+            inserted += f"use rattle::{in_braces(sorted(self.from_prelude))};\n"
         at = self.first_kept if self.first_kept is not None else len(self.text)
         text, last = "", 0
         for start, end, instead in sorted(self.outer_cuts() + [(at, at, inserted)]):
@@ -733,9 +729,8 @@ class Crate:
             relative = os.path.relpath(path, self.folder)[:-len(".rt")] + ".rs"
             texts[os.path.join(out, "src", relative)] = file.plain()
         for folder, _, names in os.walk(os.path.join(out, "src"), topdown=False):
-            for path in (os.path.join(folder, name) for name in names):
-                if path not in texts:
-                    os.remove(path)
+            for path in {os.path.join(folder, name) for name in names} - set(texts):
+                os.remove(path)
             if not os.listdir(folder):
                 os.rmdir(folder)
         for path, text in texts.items():
@@ -747,8 +742,8 @@ class Project:
 
     def __init__(self, folder, with_tests=False, kept=None):
         self.folder, self.with_tests = os.path.abspath(folder), with_tests
-        with open(os.path.join(folder, "crates.txt"), encoding="utf-8") as table:
-            lines = [line.split(":") for line in table if line.strip() and not line.startswith("#")]
+        table = pathlib.Path(folder, "crates.txt").read_text(encoding="utf-8").splitlines()
+        lines = [line.split(":") for line in table if line.strip() and not line.startswith("#")]
         self.libraries = {name.strip(): set(below.split()) - LIBRARIES for name, below in lines}
         self.kept, self.crates = kept if kept is not None else self.libraries, {}
         for name in self.libraries:
@@ -759,6 +754,11 @@ class Project:
         if name not in self.crates:
             self.crates[name] = Crate(self, name, name not in self.kept)
         return self.crates[name]
+
+
+def in_braces(names):
+    """The end of an import of these names."""
+    return "{" + ", ".join(names) + "}" if len(names) > 1 else names[0]
 
 
 def write(path, text):

@@ -20,18 +20,14 @@ IMPORT = re.compile(r"^use ((?:\w+::)*)(\w+|\*|\{[^{}]*\});", re.MULTILINE)
 # What is written otherwise, in this order.
 CHANGED = [
     ("use std::marker::Model;", ""),
-    ("std::alloc::", "rattle::"),
-    ("std::collections::", "rattle::"),
+    *((front, "rattle::") for front in ("std::alloc::", "std::collections::", "serde_json::", "thiserror::")),
     ("std::cmp::", "core::cmp::"),
     ("std::result::", "core::result::"),
     ("std::simd::prelude::", "rattle::simd::"),
-    ("serde_json::", "rattle::"),
-    ("thiserror::", "rattle::"),
     ("<T: Drop>", "<T>"),
     ("fn main(rt: HostRuntime) -> ExitCode {", "fn main() -> ExitCode { let rt = HostRuntime;"),
 ]
 PRELUDE = ("Box", "HostRuntime", "Vec")
-CRATE_LINES = ("#![forbid(unsafe_code)]", "#![no_std]")
 
 
 def lines_of(path):
@@ -164,7 +160,7 @@ def written(path):
         found = re.match(r"use rattle::\{?([\w, ]+)\}?;$", line)
         if found and not prelude and set(found[1].split(", ")) <= set(PRELUDE):
             prelude = found[1].split(", ")
-        elif line not in CRATE_LINES and not line.strip().startswith("#[allow("):
+        elif line not in ("#![forbid(unsafe_code)]", "#![no_std]") and not line.strip().startswith("#[allow("):
             kept.append(line)
     text, imports = without_imports("\n".join(kept))
     return tokens(text.split("\n")), prelude, imports
@@ -187,8 +183,7 @@ def compare(source, plain):
 
 def show(name, want, have):
     if want is None or have is None:
-        print(f"{name}: only {'written' if want is None else 'expected'}")
-        return
+        return print(f"{name}: only {'written' if want is None else 'expected'}")
     at = next((place for place, pair in enumerate(zip(want[0], have[0])) if pair[0] != pair[1]), 0)
     print(f"{name}: expected {want[1:]} and {want[0][at:at + 9]}, written {have[1:]} and {have[0][at:at + 9]}")
 

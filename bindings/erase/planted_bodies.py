@@ -4,15 +4,11 @@
     planted_bodies.py PROJECT SCRATCH
 
 A body of tests/test_bodies names a test that has to fail, or bindings/rust/box_count. That also has to fail with a
-body of tests/count_rule_bodies, which walks a tree without counting; with one that the list accepts it has to pass.
-
-Each body is planted in a copy of the sources, which is erased with its tests and built in the folder SCRATCH. What
-runs has to fail, to end the process, or to use ten times as much processor time as without the body; without it, it
-has to pass. `run: counted` lets tests/refuse.c count the requests for memory, which takes a C compiler; `run: small`
-gives the test a stack of 256 KiB. `run: refused` refuses each request for memory of the whole process in turn: only a
-failed test counts there, since Rust's own test harness ends the process if one of its requests is refused. Bodies that
-the eraser or the compiler refuses are not run. The boxes are counted, so that no compiler leaves out a walk whose
-answer nobody needs. The status is 1 if one body is not noticed, or an accepted one is."""
+body of tests/count_rule_bodies, and to pass with one that the list accepts. Each body is planted in a copy of the
+sources, which is erased with its tests and built in the folder SCRATCH. To fail is to end the process, too, or to use
+ten times as much processor time as without the body. Without any body everything has to pass. The boxes are counted,
+so that no compiler leaves out a walk whose answer nobody needs. Bodies that the eraser or the compiler refuses are not
+run. The status is 1 if a body is not noticed, or an accepted one is."""
 import collections
 import itertools
 import json
@@ -29,16 +25,12 @@ from processor_time import HANG, limited_to, used_by_children  # noqa: E402
 
 LISTS = ("count_rule_bodies", "test_bodies")
 # Bodies that no run can tell from what stood there before.
-UNSEEN = {
-    "loop_in_a_range": "it follows no box",
-    "raised_twice_in_a_recursion": "it walks as before, and counts more",
-}
+UNSEEN = {"loop_in_a_range": "it follows no box", "raised_twice_in_a_recursion": "it walks as before, and counts more"}
 # What has to notice a body: a test of a crate, run in a way; or box_count.
 Check = collections.namedtuple("Check", "crate test how")
 BOX_COUNT = Check("box_count", None, None)
-# The constant COUNT_REQUEST of the tests.
-COUNTED = {"COUNT": "1000100"}
-SMALL = {"RUST_MIN_STACK": str(256 * 1024)}
+# The constant COUNT_REQUEST of the tests, and the bytes of a small stack.
+COUNT_REQUEST, SMALL_STACK = "1000100", str(256 * 1024)
 BUILD_TESTS = ("test", "--no-run", "-p", "rattle", "--features", "rattle/count_boxes", "--config", "profile.dev.opt-level=1",
                "--config", "profile.dev.debug=0", "-p")
 # Seconds of processor time for the code as it is. They only end a test that never ends.
@@ -63,9 +55,8 @@ class Runner:
         self.copy, self.workspace, self.target = (os.path.join(scratch, name) for name in ("project", "rust", "target"))
         planting.copy_workspace(project, self.workspace)
         self.counter = os.path.join(scratch, "refuse.so")
-        compiler = os.environ.get("CC", "cc")
-        subprocess.run([compiler, "-O2", "-shared", "-fPIC", "-o", self.counter, os.path.join(project, "tests", "refuse.c"), "-ldl"],
-                       check=True)
+        source = os.path.join(project, "tests", "refuse.c")
+        subprocess.run([os.environ.get("CC", "cc"), "-O2", "-shared", "-fPIC", "-o", self.counter, source, "-ldl"], check=True)
 
     def program(self, body, crate):
         """The program of this crate's tests, or box_count, with a body planted."""
@@ -79,21 +70,22 @@ class Runner:
         if done.returncode != 0:
             sys.exit(f"{body.name} is not built:\n{done.stderr[-2000:]}")
         messages = [json.loads(line) for line in done.stdout.split("\n") if line.startswith("{")]
-        [program] = [message["executable"] for message in messages if message.get("executable") and message["target"]["name"] == crate]
-        return program
+        built = {message["target"]["name"]: message["executable"] for message in messages if message.get("executable")}
+        return built[crate]
 
     def passes(self, program, check, seconds=LONGEST):
         """Whether a check passes in this many seconds."""
         if check.how == "refused":
             return self.passes_when_refused(program, check, seconds)
-        ways = {None: {}, "counted": dict(COUNTED, LD_PRELOAD=self.counter), "small": SMALL}
-        done = self.ran(program, check, ways[check.how], seconds)
+        ways = {"counted": {"COUNT": COUNT_REQUEST, "LD_PRELOAD": self.counter}, "small": {"RUST_MIN_STACK": SMALL_STACK}}
+        done = self.ran(program, check, ways.get(check.how, {}), seconds)
         if done and done.returncode == 0 and check.test and "1 passed" not in done.stdout:
             sys.exit(f"there is no test {check.test}")
         return bool(done) and done.returncode == 0
 
     def passes_when_refused(self, program, check, seconds):
-        """Whether a test never fails with request 1, 2, 3 .. for memory refused, up to a run without a refusal."""
+        """Whether a test never fails with request 1, 2, 3 .. for memory refused, up to a run without a refusal. Only a
+        failed test counts: Rust's test harness ends the process if one of its own requests is refused."""
         told = os.path.join(self.scratch, "refused")
         for number in itertools.count(1):
             open(told, "w", encoding="utf-8").close()
@@ -117,7 +109,8 @@ class Runner:
 
 def times_where_nothing_is_planted(runner, checks):
     """Ten times the seconds of each check. Each has to pass."""
-    programs, seconds = {crate: runner.program(planting.NOTHING, crate) for crate in sorted({check.crate for check in checks})}, {}
+    programs = {crate: runner.program(planting.NOTHING, crate) for crate in sorted({check.crate for check in checks})}
+    seconds = {}
     for check in sorted(checks, key=str):
         begun = used_by_children()
         if not runner.passes(programs[check.crate], check):

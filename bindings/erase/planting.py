@@ -15,8 +15,9 @@ NOTHING = Planted("nothing", [], {})
 def bodies(path):
     """The bodies of a list. Empty lines stand between them."""
     with open(path, encoding="utf-8") as file:
-        entries = [[line for line in entry.split("\n") if line and not line.startswith("#")] for entry in file.read().split("\n\n")]
-    return [read_entry([line.partition(": ")[::2] for line in lines]) for lines in entries if lines]
+        entries = file.read().split("\n\n")
+    found = [[line for line in entry.split("\n") if line and not line.startswith("#")] for entry in entries]
+    return [read_entry([line.partition(": ")[::2] for line in lines]) for lines in found if lines]
 
 
 def read_entry(pairs):
