@@ -16,6 +16,7 @@ CLAUSE = ("requires ", "ensures ", "ghost ")
 # What only proofs and tests use, and statements for proofs.
 UNUSED = re.compile(r"(pub(\(\w+\))? )?fn (known|is_free)\b")
 UNUSED_LINE = re.compile(r"mod search_tree;$|((self\.)?known\((&?[\w.]+)?\)|let _ = &[\w.]+);$")
+ALLOW = re.compile(r"\s*#\[allow\([\w:, ]+\)\]$")
 IMPORT = re.compile(r"^use ((?:\w+::)*)(\w+|\*|\{[^{}]*\});", re.MULTILINE)
 # What is written otherwise, in this order.
 CHANGED = [
@@ -102,7 +103,7 @@ def erased(lines):
         elif line == "}" and re.match(r"impl \w+ \{$", next(filter(None, reversed(kept)))):
             while not kept.pop():
                 pass
-        elif not line.startswith(("#[tactic", "#![tactic", "#[allow(")):
+        elif not line.startswith(("#[tactic", "#![tactic")) and not ALLOW.match(line):
             kept.append(without_drop(lines[index]))
         index = end or index + 1
     return kept
@@ -160,7 +161,7 @@ def written(path):
         found = re.match(r"use rattle::\{?([\w, ]+)\}?;$", line)
         if found and not prelude and set(found[1].split(", ")) <= set(PRELUDE):
             prelude = found[1].split(", ")
-        elif line not in ("#![forbid(unsafe_code)]", "#![no_std]") and not line.strip().startswith("#[allow("):
+        elif line not in ("#![forbid(unsafe_code)]", "#![no_std]") and not ALLOW.match(line):
             kept.append(line)
     text, imports = without_imports("\n".join(kept))
     return tokens(text.split("\n")), prelude, imports
