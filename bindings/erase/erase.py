@@ -3,23 +3,23 @@
 
     erase.py PROJECT OUT [--tests]
 
-PROJECT/crates.txt names the crates and what each stands on. Each program, and each library that one
-stands on, is written to OUT/NAME, as a package of a workspace that has OUT and a folder `rattle` beside
-it. With --tests every crate is written, with its tests.
+PROJECT/crates.txt names the crates and their dependencies. Each program and each library that it needs is
+written to OUT/NAME, as a package of a workspace that has OUT and a folder `rattle` beside it. With --tests
+every crate is written, with its tests.
 
-What is cut: clauses, `ghost` items, members and fields, `#[tactic(..)]`, `impl Model`, `Drop` among
-the derives and as a bound, laws (functions of nothing that do nothing), modules that are empty then, and tests unless
-they are asked for. What is written: the line that says where a file comes from, the attributes of a
-crate, imports of what Rattle's prelude has and Rust's has not. What is changed: the front of a path, by
+It cuts clauses, `ghost` items, members and fields, `#[tactic(..)]`, `impl Model`, `Drop` among the derives and
+as a bound, laws (functions of nothing that do nothing), the functions FOR_PROOFS with their calls, `let _ = &..;`,
+tests and FOR_TESTS, and the imports, impls and modules that are unused or empty then. It adds the origin of a
+file, the attributes of a crate and imports of what only Rattle's prelude has. It changes the front of a path, by
 the table FOLDERS, and the parameter `rt` of `main` and of tests, which becomes the first statement.
 
-Everything else is kept as it is, and refused where the tables do not name it: forms of items, paths of
-libraries, functions and methods that are not of these crates, macros, attributes, derives, traits. So
-is what would let a caller in plain Rust break what was proved: a `requires` on what such a caller may
-call, and a public field of a type with ghosts. A refusal says file, line and what was met. Tests are
-no part of the crates, and the names that they use are the compiler's to know."""
+Everything else is kept, and refused if the tables do not name it: forms of items, paths of libraries, functions
+and methods that are not of these crates, macros, attributes, derives, traits. A caller in plain Rust could break
+what was proved by a public function with a `requires`, or a public field of a type with ghosts: both are refused.
+An error names the file, the line and what was met. The names that tests use are left to the compiler."""
 import collections
 import os
+import pathlib
 import re
 import sys
 import types
@@ -81,14 +81,34 @@ REFUSED_WORDS = set("""async await become box char decreases dyn extern f32 f64 
     i128 invariant isize macro_rules prove prove_eq trait try union unsafe where yield""".split())
 CLAUSES = {"ensures", "requires"}
 
+# ---- What Rust has no use for ----
+
+# Functions that change nothing and return nothing, and are called for what they ensure.
+FOR_PROOFS = {"known"}
+# Items that only tests use, by file.
+FOR_TESTS = {"vm_engine/src/node.rt search_tree", "vm_ranges/src/state.rt is_free"}
+# Lints that a function is allowed to fail: its proof reads this form, or a statement for its proof is cut.
+ALLOWED = {
+    "unused_assignments, unused_variables": ("vm_allocator/src/saved/ids.rt collect",),
+    "clippy::let_and_return": (
+        "vm_allocator/src/address_allocator.rt allocate", "vm_engine/src/interval_tree.rt allocate",
+        "vm_engine/src/node/remove.rt delete_root"),
+    "clippy::needless_range_loop": ("vm_lines/src/number.rt are_digits", "vm_lines/src/number.rt value_of"),
+    "clippy::only_used_in_recursion": ("vm_allocator/src/saved/repaired.rt hold_keys", "vm_engine/src/saved/tree.rt build"),
+    "clippy::question_mark": (
+        "vm_allocator/src/saved/repaired.rt check_keys", "vm_allocator/src/saved/repaired.rt check_repaired",
+        "vm_engine/src/saved/check.rt check"),
+    "clippy::while_let_on_iterator": (
+        "vm_engine/src/interval_tree/held_ranges.rt next", "vm_engine/src/node/walks/comparing.rt order_of_blocks",
+        "vm_engine/src/node/walks/comparing.rt same_blocks"),
+}
+
 # ---- What is written ----
 
 ORIGIN = "// Written by bindings/erase from {}: do not edit.\n"
-CRATE_ATTRIBUTES = """#![forbid(unsafe_code)]
-// What only proofs and tests use is kept as it is.
-#![allow(dead_code, unused_assignments, unused_imports, unused_variables)]
-"""
-FOR_TESTS = "use rattle::testing::*;\nuse rattle::testing::{assert, assert_eq};\n"
+CRATE_ATTRIBUTES = "#![forbid(unsafe_code)]\n"
+ATTRIBUTES_WITH_TESTS = "#![allow(dead_code, unused_assignments, unused_imports, unused_variables)]\n"
+PRELUDE_OF_TESTS = "use rattle::testing::*;\nuse rattle::testing::{assert, assert_eq};\n"
 RUNTIME = "{\n    let rt = HostRuntime;"
 MANIFEST = """# Written by bindings/erase from crates/{name}: do not edit.
 [package]
@@ -134,6 +154,8 @@ class Tokens:
         self.cuts = []  # (start, end, what is written there)
         self.signature, self.depth = None, 0  # the index of the `fn` whose signature is read
         self.asking = {}  # the index of a `fn` with a `requires`, and where that is
+        if "\r" in text:
+            self.fail("a carriage return", text.index("\r"))
         position = 0
         while position < len(text):
             position = self.read(position)
@@ -217,16 +239,15 @@ class File(Tokens):
     """A source file: what is cut of it, and which names it gives and uses."""
 
     def __init__(self, crate, path, of_tests):
-        with open(path, encoding="utf-8") as source:
-            super().__init__(os.path.relpath(path, crate.project.folder), source.read())
+        super().__init__(os.path.relpath(path, crate.project.folder), pathlib.Path(path).read_bytes().decode())
         self.crate, self.of_tests, self.is_root = crate, of_tests, path == crate.root
         self.children = os.path.dirname(path) if self.is_root else path[:-len(".rt")]
         self.generics, self.imported, self.from_prelude = set(), {}, set()
         self.uses, self.public_fields = [], []  # (where, kind of name, name), (where, name of the type)
-        self.first_kept = None
+        self.imports = []  # (the first index, the one behind, the indices of the names)
+        self.first_kept, self.kept = None, 0
         end = self.items(self.head(), None)
-        if self.tokens[end].kind != "end":
-            self.fail("a brace that closes nothing", self.start_of(end))
+        self.refuse_if(self.tokens[end].kind != "end", "a brace that closes nothing", end)
 
     def at(self, index, *texts):
         """Whether these tokens stand at an index."""
@@ -234,6 +255,11 @@ class File(Tokens):
 
     def start_of(self, index):
         return self.tokens[index].start
+
+    def refuse_if(self, condition, why, index):
+        """Refuses what stands at an index if a condition is met."""
+        if condition:
+            self.fail(why, self.tokens[index].start)
 
     def cut(self, first, behind, instead=""):
         self.cuts.append((self.start_of(first), self.tokens[behind - 1].end, instead))
@@ -269,16 +295,22 @@ class File(Tokens):
         """Reads items up to the end of the file or of the braces of an impl: of a trait, of "impl" itself."""
         while self.tokens[index].text not in ("}", ""):
             item = types.SimpleNamespace(start=index, owner=owner, of_tests=False, is_test=False, public=False)
-            index = self.attributes(item)
-            if item.of_tests and not self.crate.project.with_tests:
-                end = self.next_of(index, ";", "{")
-                behind, kept = end + 1 if self.at(end, ";") else self.matching(end), False
+            head = self.attributes(item)
+            index = self.visibility(item, head)
+            row = f"{self.path.removeprefix('crates/')} {self.tokens[index + 1].text}"
+            if (item.of_tests or row in FOR_TESTS) and not self.crate.project.with_tests:
+                behind, kept = self.matching(self.next_of(index, ";", "{")), False
             else:
-                behind, kept = self.item(item, self.visibility(item, index))
+                behind, kept = self.item(item, index)
             if not kept:
                 self.cut(item.start, behind)
             elif self.first_kept is None:
                 self.first_kept = self.start_of(item.start)
+            for lint in [lint for lint, rows in ALLOWED.items() if row in rows]:
+                start = self.start_of(head)
+                indent = self.text[self.text.rfind("\n", 0, start) + 1:start]
+                self.cuts.append((start, start, f"#[allow({lint})]\n{indent}"))
+            self.kept += kept
             index = behind
         return index
 
@@ -286,20 +318,17 @@ class File(Tokens):
         """Reads an item by its keyword. The answer is where it ends, and whether it is kept."""
         item.keyword = index
         words = FORMS if item.owner is None else ("fn", "const") if item.owner == "impl" else ("fn", "type")
-        if self.tokens[index].text not in words:
-            self.fail(f"an item {self.tokens[index].text!r}", self.start_of(index))
+        self.refuse_if(self.tokens[index].text not in words, f"an item {self.tokens[index].text!r}", index)
         return FORMS[self.tokens[index].text](self, item)
 
     def attributes(self, item):
         """Reads documentation and attributes. The answer is the index behind them."""
         index = item.start
         while self.tokens[index].kind == "doc" or self.at(index, "#"):
-            if self.tokens[index].text.startswith("//!"):
-                self.fail("documentation of the file behind an item", self.start_of(index))
-            behind = self.matching(index + 1) if self.at(index, "#") else index + 1
-            if self.at(index, "#"):
-                self.attribute(item, index, behind)
-            index = behind
+            self.refuse_if(self.tokens[index].text.startswith("//!"), "documentation of the file behind an item", index)
+            first, index = index, self.matching(index + 1) if self.at(index, "#") else index + 1
+            if self.at(first, "#"):
+                self.attribute(item, first, index)
         return index
 
     def attribute(self, item, index, behind):
@@ -310,17 +339,17 @@ class File(Tokens):
             item.of_tests = True
         elif words == ["test"] and self.of_tests:
             item.is_test = True
-        elif not words or words[0] not in ATTRIBUTES:
-            self.fail(f"an attribute {''.join(words[:1])!r}", self.start_of(index))
-        elif words[0] == "derive":
+        elif words[:1] == ["derive"]:
             self.derive([word for word in words[1:] if word not in "(),"], index, behind)
+        else:
+            self.refuse_if(not words or words[0] not in ATTRIBUTES, f"an attribute {''.join(words[:1])!r}", index)
 
     def derive(self, names, index, behind):
         for name in sorted(set(names) - DERIVES):
             self.fail(f"a derive of {name!r}", self.start_of(index))
-        if "Drop" in names:
-            names.remove("Drop")
-            self.cut(index, behind, f"#[derive({', '.join(names)})]" if names else "")
+        rest = [name for name in names if name != "Drop"]
+        if rest != names:
+            self.cut(index, behind, f"#[derive({', '.join(rest)})]" if rest else "")
 
     def visibility(self, item, index):
         if not self.at(index, "pub"):
@@ -351,8 +380,7 @@ class File(Tokens):
     def define(self, index, names):
         """Takes the name at an index as one of the crate's own."""
         name = self.tokens[index].text
-        if self.tokens[index].kind != "word" or name in TAKEN:
-            self.fail(f"a definition of {name!r}", self.start_of(index))
+        self.refuse_if(self.tokens[index].kind != "word" or name in TAKEN, f"a definition of {name!r}", index)
         names.add(name)
         return name
 
@@ -363,8 +391,7 @@ class File(Tokens):
         leaves = [index for index in range(rest, end)
                   if self.tokens[index + 1].text in (",", "}", ";") and self.tokens[index].text not in (",", "}")]
         for index in leaves:
-            if self.at(index - 1, "as") and (folder or not self.of_tests):
-                self.fail("an import under another name", self.start_of(index))
+            self.refuse_if(self.at(index - 1, "as") and (folder or not self.of_tests), "an import under another name", index)
             if folder:
                 self.allow(folder, name, index)
                 self.imported[self.tokens[index].text] = name
@@ -373,6 +400,8 @@ class File(Tokens):
                 self.import_of_crate(first, index)
         if folder and folder[0] and folder[0] != name:
             self.cut(first, rest - 1, folder[0])
+        if not self.at(item.keyword - 1, "pub") and not self.at(item.keyword - 1, ")"):
+            self.imports.append((item.start, end, leaves))
         return end + 1, not (folder and folder[0] is None)
 
     def import_of_crate(self, first, index):
@@ -403,12 +432,10 @@ class File(Tokens):
         return folder, name, behind + 1
 
     def allow(self, folder, name, index):
-        if self.tokens[index].text not in folder[1]:
-            self.fail(f"'{name}::{self.tokens[index].text}' is in no table", self.start_of(index))
+        self.refuse_if(self.tokens[index].text not in folder[1], f"'{name}::{self.tokens[index].text}' is in no table", index)
 
     def module(self, item):
-        if not self.at(item.keyword + 2, ";"):
-            self.fail("a module of this form", self.start_of(item.keyword))
+        self.refuse_if(not self.at(item.keyword + 2, ";"), "a module of this form", item.keyword)
         name = self.define(item.keyword + 1, self.crate.names)
         return item.keyword + 3, self.crate.read_module(self, name, item.of_tests or self.of_tests)
 
@@ -423,8 +450,7 @@ class File(Tokens):
         """`struct` or `enum`."""
         name = self.define(item.keyword + 1, self.crate.names)
         index = self.angles(item.keyword + 2)
-        if not self.at(index, "{") and not self.of_tests:
-            self.fail("a type without braces", self.start_of(item.keyword))
+        self.refuse_if(not self.at(index, "{") and not self.of_tests, "a type without braces", item.keyword)
         behind = self.matching(index) if self.at(index, "{") else self.next_of(index, ";") + 1
         depth = 0
         for place in range(index, behind):
@@ -440,14 +466,17 @@ class File(Tokens):
 
     def function(self, item):
         index = self.angles(item.keyword + 2)
-        if not self.at(index, "("):
-            self.fail("a function of this form", self.start_of(item.keyword))
+        self.refuse_if(not self.at(index, "("), "a function of this form", item.keyword)
         body = self.next_of(index, "{")
         behind = self.matching(body)
         nothing = body == index + 2 and behind == body + 2
         if nothing and not (item.public or item.is_test or item.owner):
             return behind, False  # a law: only its clauses say something
         name = self.define(item.keyword + 1, self.crate.functions)
+        if name in FOR_PROOFS:
+            if any(token.text in ("mut", "->") for token in self.tokens[index:behind]):
+                self.fail(f"{name!r} returns something, or may change something", self.start_of(item.keyword))
+            return behind, False
         anyone = item.public or item.owner not in (None, "impl")
         if anyone and item.keyword in self.asking and not self.crate.is_program and not self.of_tests:
             self.fail(f"a 'requires' of {name!r}, which anyone may call", self.asking[item.keyword])
@@ -461,8 +490,7 @@ class File(Tokens):
         """Makes the parameter `rt` a statement."""
         if self.at(index, "(", ")"):
             return
-        if not self.at(index, "(", "rt", ":", "HostRuntime", ")"):
-            self.fail("other parameters than 'rt'", self.start_of(index))
+        self.refuse_if(not self.at(index, "(", "rt", ":", "HostRuntime", ")"), "other parameters than 'rt'", index)
         self.cut(index + 1, index + 4)
         self.cut(body, body + 1, RUNTIME)
 
@@ -470,27 +498,27 @@ class File(Tokens):
         index = self.angles(item.keyword + 1)
         behind = index + 1
         if self.at(index, "From", "<"):  # the one trait that is of a type
-            while self.tokens[behind].text not in ("for", "{"):
-                if self.tokens[behind].kind == "word":
-                    self.uses.append((self.start_of(behind), "a type", self.tokens[behind].text))
-                behind += 1
+            behind = self.next_of(index, "for", "{")
+            self.uses += [(token.start, "a type", token.text) for token in self.tokens[index + 1:behind] if token.kind == "word"]
         trait = self.tokens[index].text if self.at(behind, "for") else None
         index = behind + 1 if trait else index
         name = self.tokens[index].text
         self.uses.append((self.start_of(index), "a type", name))
         index = self.angles(index + 1)
-        if not self.at(index, "{"):
-            self.fail("an impl of this form", self.start_of(item.keyword))
+        self.refuse_if(not self.at(index, "{"), "an impl of this form", item.keyword)
         if trait == "Model":
             self.crate.guarded.add(name)
-            if not self.at(index + 1, "}"):
-                self.fail("a member of Model that is no ghost", self.start_of(index + 1))
+            self.refuse_if(not self.at(index + 1, "}"), "a member of Model that is no ghost", index + 1)
             return index + 2, False
         if trait and trait not in TRAITS and not (self.of_tests and trait in TRAITS_OF_TESTS):
             self.fail(f"an impl of {trait!r}", self.start_of(item.keyword))
-        if self.first_kept is None:
-            self.first_kept = self.start_of(item.start)
-        return self.items(index + 1, trait or "impl") + 1, True
+        first, kept = self.first_kept, self.kept
+        self.first_kept = first or self.start_of(item.start)
+        behind = self.items(index + 1, trait or "impl") + 1
+        if not trait and self.kept == kept:
+            self.first_kept = first
+            return behind, False
+        return behind, True
 
     # ---- Names in code ----
 
@@ -506,8 +534,20 @@ class File(Tokens):
                 index += 1
             elif token.text in ITEM_WORDS and token.text not in allowed and not self.of_tests:
                 self.fail(f"an item {token.text!r} in code", token.start)
+            elif token.text in FOR_PROOFS or self.at(index, "let", "_", "=", "&"):
+                index = self.statement_for_proofs(index)
             else:
                 index = self.path_of_names(index)
+
+    def statement_for_proofs(self, index):
+        """Cuts `known(&a.b);`, `self.known();` or `let _ = &a.b;`. The answer is the index behind it."""
+        first = index - 2 if self.at(index - 2, "self", ".") else index
+        behind, inner = self.next_of(index, ";") + 1, self.tokens[index + 1:self.next_of(index, ";")]
+        words = "".join(token.text if token.kind != "word" else "_" for token in inner)
+        if self.tokens[first - 1].text not in ("{", "}", ";") or not re.fullmatch(r"(_=)?&_(\._)*|\((&?_(\._)*)?\)", words):
+            self.fail(f"{self.tokens[index].text!r} of this form", self.start_of(index))
+        self.cut(first, behind)
+        return behind
 
     def path_of_names(self, first):
         """Looks at the path that begins at an index. The answer is the index behind it."""
@@ -531,8 +571,7 @@ class File(Tokens):
         """Only `expect` is another function there: it is given the runtime, to end the test by."""
         if self.at(index - 1, ".") and self.tokens[index].text in ("expect", "expect_err"):
             runtime = index + 3 if self.at(index + 2, "&") else index + 2
-            if not self.at(runtime, "rt", ","):
-                self.fail("'expect' without 'rt'", self.start_of(index))
+            self.refuse_if(not self.at(runtime, "rt", ","), "'expect' without 'rt'", index)
             self.cuts.append((self.start_of(index + 2), self.start_of(runtime + 2), ""))
 
     def name(self, first, last):
@@ -553,7 +592,8 @@ class File(Tokens):
             self.uses += [(start, kind, name)] if kind != "a type" or name[0].isupper() else []
 
     def check(self):
-        """Refuses what can be seen to be wrong when all files are read."""
+        """Refuses what can be seen to be wrong when all files are read, and cuts the imports that nothing uses."""
+        self.cut_unused_imports()
         for start, kind, name in self.uses:
             if not self.is_known(kind, name):
                 self.fail(f"{kind} {name!r} that is in no table", start)
@@ -575,14 +615,31 @@ class File(Tokens):
 
     # ---- Output ----
 
+    def cut_unused_imports(self):
+        """Cuts what is imported and named nowhere in what is kept. Modules below this one may name what it imports."""
+        gone = bytearray(len(self.text) + 1)
+        for start, end in [cut[:2] for cut in self.cuts if not cut[2]] + [
+                (self.start_of(first), self.start_of(end)) for first, end, _ in self.imports]:
+            gone[start:end] = b"x" * (end - start)
+        named = {token.text for token in self.tokens if not gone[token.start]} | {"*"}
+        if self.of_tests or "mod" in named:
+            named |= {self.tokens[leaf].text for _, _, leaves in self.imports for leaf in leaves} - FOR_PROOFS
+        for first, end, leaves in self.imports:
+            names = [self.tokens[leaf].text for leaf in leaves if self.tokens[leaf].text in named]
+            if not names:
+                self.cut(first, end + 1)
+            elif len(names) < len(leaves):
+                if not self.at(leaves[0] - 1, "{") or leaves != list(range(leaves[0], leaves[-1] + 1, 2)):
+                    self.fail("an import of this form, of which not all is used", self.start_of(first))
+                self.cut(leaves[0] - 1, end, in_braces(names))
+
     def plain(self):
         """The text of the file in Rust."""
-        names = ", ".join(sorted(self.from_prelude))
-        inserted = CRATE_ATTRIBUTES + self.names_of_std() + "\n" if self.is_root else ""
+        inserted = self.attributes_of_root() + "\n" if self.is_root else ""
         if self.of_tests:
-            inserted += FOR_TESTS
-        elif names:
-            inserted += f"use rattle::{{{names}}};\n" if "," in names else f"use rattle::{names};\n"
+            inserted += PRELUDE_OF_TESTS
+        elif self.from_prelude:
+            inserted += f"use rattle::{in_braces(sorted(self.from_prelude))};\n"
         at = self.first_kept if self.first_kept is not None else len(self.text)
         text, last = "", 0
         for start, end, instead in sorted(self.outer_cuts() + [(at, at, inserted)]):
@@ -595,12 +652,13 @@ class File(Tokens):
                 text = text[:-1]
         return ORIGIN.format(self.path) + "\n" + (text + self.text[last:]).strip("\n") + "\n"
 
-    def names_of_std(self):
-        """How the root of a crate gets `std`. A crate of tests has it without its prelude, which has a
+    def attributes_of_root(self):
+        """What the root of a crate begins with. A crate of tests has `std` without its prelude, which has a
         `to_string` of its own."""
+        attributes = CRATE_ATTRIBUTES + (ATTRIBUTES_WITH_TESTS if self.crate.project.with_tests else "")
         if not self.crate.asks_for_std:
-            return "#![no_std]\n"
-        return "#![no_std]\n\nextern crate std;\n" if self.of_tests else ""
+            return attributes + "#![no_std]\n"
+        return attributes + ("#![no_std]\n\nextern crate std;\n" if self.of_tests else "")
 
     def outer_cuts(self):
         """The cuts that lie in no other."""
@@ -671,9 +729,8 @@ class Crate:
             relative = os.path.relpath(path, self.folder)[:-len(".rt")] + ".rs"
             texts[os.path.join(out, "src", relative)] = file.plain()
         for folder, _, names in os.walk(os.path.join(out, "src"), topdown=False):
-            for path in (os.path.join(folder, name) for name in names):
-                if path not in texts:
-                    os.remove(path)
+            for path in {os.path.join(folder, name) for name in names} - set(texts):
+                os.remove(path)
             if not os.listdir(folder):
                 os.rmdir(folder)
         for path, text in texts.items():
@@ -685,8 +742,8 @@ class Project:
 
     def __init__(self, folder, with_tests=False, kept=None):
         self.folder, self.with_tests = os.path.abspath(folder), with_tests
-        with open(os.path.join(folder, "crates.txt"), encoding="utf-8") as table:
-            lines = [line.split(":") for line in table if line.strip() and not line.startswith("#")]
+        table = pathlib.Path(folder, "crates.txt").read_text(encoding="utf-8").splitlines()
+        lines = [line.split(":") for line in table if line.strip() and not line.startswith("#")]
         self.libraries = {name.strip(): set(below.split()) - LIBRARIES for name, below in lines}
         self.kept, self.crates = kept if kept is not None else self.libraries, {}
         for name in self.libraries:
@@ -699,22 +756,22 @@ class Project:
         return self.crates[name]
 
 
+def in_braces(names):
+    """The end of an import of these names."""
+    return "{" + ", ".join(names) + "}" if len(names) > 1 else names[0]
+
+
 def write(path, text):
     """Writes a file, unless it has that text already: who builds by the times of files then leaves it alone."""
-    os.makedirs(os.path.dirname(path), exist_ok=True)
-    if os.path.exists(path):
-        with open(path, encoding="utf-8") as file:
-            if file.read() == text:
-                return
-    with open(path, "w", encoding="utf-8") as file:
-        file.write(text)
+    path = pathlib.Path(path)
+    path.parent.mkdir(parents=True, exist_ok=True)
+    if not path.exists() or path.read_bytes() != text.encode():
+        path.write_bytes(text.encode())
 
 
 def erase(folder, out, with_tests):
     """Writes the crates of a project. The answer is which."""
-    project = Project(folder)
-    if with_tests:
-        project = Project(folder, True, set(project.crates))
+    project = Project(folder, True, set(Project(folder).crates)) if with_tests else Project(folder)
     for name, crate in project.crates.items():
         crate.write(os.path.join(out, name))
     return project.crates

@@ -13,29 +13,30 @@ import sys
 
 TOKEN = re.compile(r"""r\#".*?"\#|b?"(?:[^"\\]|\\.)*"|b?'(?:[^'\\]|\\.)'|\w+|[^\w\s]""", re.DOTALL)
 CLAUSE = ("requires ", "ensures ", "ghost ")
+# What only proofs and tests use, and statements for proofs.
+UNUSED = re.compile(r"(pub(\(\w+\))? )?fn (known|is_free)\b")
+UNUSED_LINE = re.compile(r"mod search_tree;$|((self\.)?known\((&?[\w.]+)?\)|let _ = &[\w.]+);$")
+ALLOW = re.compile(r"\s*#\[allow\([\w:, ]+\)\]$")
+IMPORT = re.compile(r"^use ((?:\w+::)*)(\w+|\*|\{[^{}]*\});", re.MULTILINE)
 # What is written otherwise, in this order.
 CHANGED = [
     ("use std::marker::Model;", ""),
-    ("std::alloc::", "rattle::"),
-    ("std::collections::", "rattle::"),
+    *((front, "rattle::") for front in ("std::alloc::", "std::collections::", "serde_json::", "thiserror::")),
     ("std::cmp::", "core::cmp::"),
     ("std::result::", "core::result::"),
     ("std::simd::prelude::", "rattle::simd::"),
-    ("serde_json::", "rattle::"),
-    ("thiserror::", "rattle::"),
     ("<T: Drop>", "<T>"),
     ("fn main(rt: HostRuntime) -> ExitCode {", "fn main() -> ExitCode { let rt = HostRuntime;"),
 ]
 PRELUDE = ("Box", "HostRuntime", "Vec")
-CRATE_LINES = (
-    "#![forbid(unsafe_code)]", "#![no_std]", "// What only proofs and tests use is kept as it is.",
-    "#![allow(dead_code, unused_assignments, unused_imports, unused_variables)]",
-)
 
 
 def lines_of(path):
-    with open(path, encoding="utf-8") as file:
-        return file.read().split("\n")
+    with open(path, encoding="utf-8", newline="") as file:
+        text = file.read()
+    if "\r" in text:
+        sys.exit(f"{path}: a carriage return")
+    return text.split("\n")
 
 
 def block_end(lines, index):
@@ -92,12 +93,17 @@ def erased(lines):
             end = item_end(lines, index)
         elif re.match(r"impl(<[^>]*>)? Model for ", line):
             end = block_end(lines, index)
-        if end:
+        elif UNUSED.match(line):
+            end = lines.index(re.match(" *", lines[index])[0] + "}", index) + 1
+        if end or UNUSED_LINE.match(line):
             drop_front(kept, ("///", "#["))
         elif line.startswith(CLAUSE):
             drop_front(kept, ("// ",))
             end = block_end(lines, index)
-        elif not line.startswith(("#[tactic", "#![tactic")):
+        elif line == "}" and re.match(r"impl \w+ \{$", next(filter(None, reversed(kept)))):
+            while not kept.pop():
+                pass
+        elif not line.startswith(("#[tactic", "#![tactic")) and not ALLOW.match(line):
             kept.append(without_drop(lines[index]))
         index = end or index + 1
     return kept
@@ -129,25 +135,36 @@ def modules(folder, name, found):
     return has_code
 
 
+def without_imports(text):
+    """A text without its imports, and the path of each name that they import."""
+    found = [front + name.strip() for front, names in IMPORT.findall(text) for name in names.strip("{}").split(",")]
+    return IMPORT.sub("", text), sorted(path for path in found if not path.endswith("::"))
+
+
 def expected(lines):
-    """The tokens that the first eraser has to have written, and what of Rattle's prelude it has to import."""
+    """The tokens that the first eraser has to have written, and what it has to import: of Rattle's prelude, and else
+    what is named. In a file with modules all is, since they may name it."""
     text = "\n".join(lines)
     for old, new in CHANGED:
         text = text.replace(old, new)
+    text, imports = without_imports(text)
     code = re.sub(r"//.*", "", text).replace("let rt = HostRuntime", "rt: HostRuntime")
-    return tokens(text.split("\n")), [name for name in PRELUDE if re.search(rf"\b{name}\b", code)]
+    named = set(re.findall(r"\w+", code)) | {"*"}
+    imports = [path for path in imports if path.split("::")[-1] in named or "mod" in named and not path.endswith("::known")]
+    return tokens(text.split("\n")), [name for name in PRELUDE if name in named], imports
 
 
 def written(path):
-    """The tokens that the first eraser wrote, its own lines aside, and what it imports of Rattle's prelude."""
-    imported, kept = [], []
+    """The tokens that the first eraser wrote, its own lines aside, and what it imports: of Rattle's prelude, and else."""
+    prelude, kept = [], []
     for line in lines_of(path)[1:]:
         found = re.match(r"use rattle::\{?([\w, ]+)\}?;$", line)
-        if found and not imported and set(found[1].split(", ")) <= set(PRELUDE):
-            imported = found[1].split(", ")
-        elif line not in CRATE_LINES:
+        if found and not prelude and set(found[1].split(", ")) <= set(PRELUDE):
+            prelude = found[1].split(", ")
+        elif line not in ("#![forbid(unsafe_code)]", "#![no_std]") and not ALLOW.match(line):
             kept.append(line)
-    return tokens(kept), imported
+    text, imports = without_imports("\n".join(kept))
+    return tokens(text.split("\n")), prelude, imports
 
 
 def compare(source, plain):
@@ -162,15 +179,14 @@ def compare(source, plain):
         if want.get(name) != have.get(name):
             differences += 1
             show(name, want.get(name), have.get(name))
-    return len(have), sum(len(tokens) for tokens, _ in have.values()), differences
+    return len(have), sum(len(tokens) for tokens, _, _ in have.values()), differences
 
 
 def show(name, want, have):
     if want is None or have is None:
-        print(f"{name}: only {'written' if want is None else 'expected'}")
-        return
+        return print(f"{name}: only {'written' if want is None else 'expected'}")
     at = next((place for place, pair in enumerate(zip(want[0], have[0])) if pair[0] != pair[1]), 0)
-    print(f"{name}: expected {want[1]} and {want[0][at:at + 9]}, written {have[1]} and {have[0][at:at + 9]}")
+    print(f"{name}: expected {want[1:]} and {want[0][at:at + 9]}, written {have[1:]} and {have[0][at:at + 9]}")
 
 
 def main():

@@ -1,58 +1,61 @@
-"""Plants bodies in a copy of a project: what the programs beside this share. The lists of bodies are
-tests/count_rule_bodies and tests/test_bodies, whose heads say how they are written."""
+"""Plants bodies in a copy of a project. The lists are tests/test_bodies, whose head has their form, and
+tests/count_rule_bodies."""
 import os
 import shutil
-import subprocess
 import sys
+from collections import namedtuple
 
 import erase
 
-sys.path.append(os.path.join(os.path.dirname(os.path.abspath(__file__)), "..", "..", "tests"))
-from processor_time import HANG, limited_to
-from reading.planted import Planted, planted_in, with_edits
-
+# The edits are (file, old, new) each. The rest has the other keys: why the body is refused, for one.
+Planted = namedtuple("Planted", "name edits rest")
 NOTHING = Planted("nothing", [], {})
 
 
 def bodies(path):
-    """The bodies of a list."""
+    """The bodies of a list. Empty lines stand between them."""
     with open(path, encoding="utf-8") as file:
-        return list(planted_in(file.read()))
+        entries = file.read().split("\n\n")
+    found = [[line for line in entry.split("\n") if line and not line.startswith("#")] for entry in entries]
+    return [read_entry([line.partition(": ")[::2] for line in lines]) for lines in found if lines]
 
 
-def plant(body, project, copy, folder):
-    """Copies the sources of a project, and changes the copy by a body, whose files lie below a folder."""
+def read_entry(pairs):
+    name, file, old, edits, rest = None, None, None, [], {}
+    for key, value in pairs:
+        if key == "name":
+            name, file = value.split(", ")
+        elif key == "file":
+            file = value
+        elif key == "old":
+            old = value
+        elif key == "new":
+            edits.append((file, old, value))
+        else:
+            rest[key] = value
+    if not name or not edits:
+        sys.exit(f"not a whole entry: {pairs}")
+    return Planted(name, edits, rest)
+
+
+def copy_workspace(project, folder):
+    """Copies bindings/rust, for the crates of a project with a body planted."""
+    shutil.rmtree(folder, ignore_errors=True)
+    shutil.copytree(os.path.join(project, "bindings", "rust"), folder, ignore=shutil.ignore_patterns("target"))
+
+
+def plant(body, project, copy):
+    """Copies the sources of a project, and changes the copy by a body. Each old text has to stand there once."""
     shutil.rmtree(copy, ignore_errors=True)
     for name in os.listdir(os.path.join(project, "crates")):
         source = os.path.join("crates", name, "src")
         if os.path.isdir(os.path.join(project, source)):
             shutil.copytree(os.path.join(project, source), os.path.join(copy, source))
     shutil.copy(os.path.join(project, "crates.txt"), copy)
-    texts = {}
-    for place, _, _ in body.edits:
-        with open(os.path.join(copy, folder, place), encoding="utf-8") as file:
-            texts[place] = file.read()
-    try:
-        changed = with_edits(texts, body.edits)
-    except ValueError as error:
-        sys.exit(f"{body.name}: {error}")
-    for place, text in changed.items():
-        erase.write(os.path.join(copy, folder, place), text)
-
-
-def ran(command, seconds, environment=None):
-    """Runs a program with at most this many seconds of processor time. Returns what became of it, or None if it
-    waits forever."""
-    try:
-        return subprocess.run(command, env=environment, capture_output=True, text=True, check=False,
-                              preexec_fn=limited_to(seconds), timeout=HANG)
-    except subprocess.TimeoutExpired:
-        return None
-
-
-def cargo(folder, target, *words):
-    """Runs cargo in a folder. The answer is whether it went well, and what it wrote."""
-    environment = dict(os.environ, CARGO_TARGET_DIR=target)
-    done = subprocess.run(["cargo", *words, "-q", "--offline"], cwd=folder, env=environment, text=True, capture_output=True,
-                          check=False)
-    return done.returncode == 0, done.stdout + done.stderr
+    for file, old, new in body.edits:
+        path = os.path.join(copy, "crates", file)
+        with open(path, encoding="utf-8") as source:
+            text = source.read()
+        if text.count(old) != 1:
+            sys.exit(f"{body.name}: {file} has {text.count(old)} times, and not once: {old}")
+        erase.write(path, text.replace(old, new))

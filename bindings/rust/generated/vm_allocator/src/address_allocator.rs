@@ -55,6 +55,7 @@ impl AddressAllocator {
     /// ends at `u64::MAX` is `Overflow`, also where there is another place. Only where the place
     /// leaves a part of its gap over come `Overflow` for a tree of height 48 or more, which
     /// takes more than 6 * 10^9 held ranges, and `OutOfMemory`. A refusal changes nothing.
+    #[allow(clippy::let_and_return)]
     pub fn allocate(
         &mut self,
         alloc: Global,
@@ -63,7 +64,6 @@ impl AddressAllocator {
         policy: AllocPolicy,
     ) -> Result<RangeInclusive> {
         let answer = self.allocate_counted(alloc, size, alignment, policy).0;
-        self.known();
         answer
     }
 
@@ -109,14 +109,7 @@ impl AddressAllocator {
 
     /// The first address of the space.
     pub fn base(&self) -> u64 {
-        self.known();
         self.address_space.start()
-    }
-
-    /// For the prover alone: what holds of every state is known from here on.
-    #[inline(always)]
-    fn known(&self) {
-        let _ = self.interval_tree.height();
     }
 
     /// The last address of the space.

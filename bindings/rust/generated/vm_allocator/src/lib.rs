@@ -3,8 +3,6 @@
 //! Gives out ranges of addresses and ids.
 
 #![forbid(unsafe_code)]
-// What only proofs and tests use is kept as it is.
-#![allow(dead_code, unused_assignments, unused_imports, unused_variables)]
 #![no_std]
 
 mod address_allocator;

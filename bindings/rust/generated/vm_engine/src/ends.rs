@@ -32,9 +32,3 @@ pub(super) fn between(start: u64, end: u64) -> RangeInclusive {
     };
     range
 }
-
-/// For the prover alone: that the ends are those of a range is known from here on.
-#[inline(always)]
-pub(crate) fn known(range: &RangeInclusive) {
-    let _ = range.end();
-}

@@ -10,7 +10,6 @@
 
 use rattle::Box;
 use crate::Steps;
-use crate::ends::known;
 use crate::node::walks::Walk;
 use crate::node::walks::copying::copy;
 use crate::node::{Child, InnerNode};
@@ -34,7 +33,6 @@ impl IntervalTree {
     /// The tree of the space `key`, with nothing held. `OutOfMemory` where there is no memory for its
     /// one node.
     pub fn new(alloc: Global, key: RangeInclusive) -> Result<Self> {
-        known(&key);
         let node = Box::new(alloc, InnerNode::new(key, NodeState::Free))?;
         Ok(IntervalTree { root: Some(node) })
     }
@@ -65,12 +63,6 @@ impl IntervalTree {
         self.root().height()
     }
 
-    /// For the prover alone: what holds of every tree of a space is known from here on.
-    #[inline(always)]
-    pub(crate) fn known(&self) {
-        let _ = self.height();
-    }
-
     /// `allocate`, which adds the nodes that it enters to a counter at 0.
     fn grant(
         &mut self,
@@ -78,7 +70,6 @@ impl IntervalTree {
         constraint: Constraint,
         count: &mut Steps,
     ) -> Result<RangeInclusive> {
-        self.known();
         let choice = self.place_for(constraint, count)?;
         self.hold(alloc, choice, count)
     }
@@ -87,9 +78,9 @@ impl IntervalTree {
     /// place `ResourceNotAvailable`, or for `ExactMatch` the first of its faults; `Overflow` where the
     /// range ends at `u64::MAX`; and where a part of its gap is left, `Overflow` for a tree of height
     /// 48 or more, and `OutOfMemory`. A refusal changes nothing.
+    #[allow(clippy::let_and_return)]
     pub fn allocate(&mut self, alloc: Global, constraint: Constraint) -> Result<RangeInclusive> {
         let answer = self.allocate_counted(alloc, constraint).0;
-        self.known();
         answer
     }
 

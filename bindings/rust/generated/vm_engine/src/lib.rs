@@ -3,8 +3,6 @@
 //! The balanced tree that holds the blocks of a space.
 
 #![forbid(unsafe_code)]
-// What only proofs and tests use is kept as it is.
-#![allow(dead_code, unused_assignments, unused_imports, unused_variables)]
 #![no_std]
 
 mod block;

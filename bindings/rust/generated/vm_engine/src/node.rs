@@ -15,7 +15,6 @@ pub(crate) mod neighbours;
 pub(crate) mod places;
 pub(crate) mod remove;
 pub(crate) mod rewrite;
-mod search_tree;
 pub(crate) mod walks;
 pub(crate) mod widen;
 
@@ -87,12 +86,6 @@ impl InnerNode {
     pub(crate) fn height(&self) -> u64 {
         self.height
     }
-}
-
-/// For the prover alone: what holds of the tree at a place is known from here on.
-#[inline(always)]
-fn known(child: &Child) {
-    let _ = height(child);
 }
 
 /// The height of a child, 0 where it is absent.

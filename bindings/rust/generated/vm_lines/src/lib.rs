@@ -4,8 +4,6 @@
 //! line of output.
 
 #![forbid(unsafe_code)]
-// What only proofs and tests use is kept as it is.
-#![allow(dead_code, unused_assignments, unused_imports, unused_variables)]
 
 mod buffer;
 mod command;

@@ -51,6 +51,7 @@ fn chunk_value(text: &[u8]) -> (u64, usize) {
 
 /// Whether all of these bytes are digits. It looks at each, so that they can be compared together.
 #[inline(always)]
+#[allow(clippy::needless_range_loop)]
 fn are_digits(front: &[u8; CHUNK]) -> bool {
     let mut all = true;
     for i in 0..CHUNK {
@@ -61,6 +62,7 @@ fn are_digits(front: &[u8; CHUNK]) -> bool {
 
 /// The value of these digits.
 #[inline(always)]
+#[allow(clippy::needless_range_loop)]
 fn value_of(digits: &[u8; CHUNK]) -> u64 {
     let mut value = 0u64;
     for i in 0..CHUNK {

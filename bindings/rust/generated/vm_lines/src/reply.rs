@@ -2,8 +2,7 @@
 
 //! How an answer reads.
 
-use crate::buffer::{Buffer, CAPACITY};
-use crate::number::MOST_DIGITS;
+use crate::buffer::Buffer;
 use vm_allocator::{Error, RangeInclusive, Result};
 use vm_devices::DeviceSlot;
 

@@ -3,10 +3,10 @@
 //! What ended lines have made, and the line that has begun. A line is read where it lies in its
 //! piece; only one that began in an earlier piece is kept.
 
-use crate::buffer::{Buffer, CAPACITY};
+use crate::buffer::Buffer;
 use crate::command::{Command, LONGEST_LINE, parse};
 use crate::machine::Machine;
-use crate::reply::{LONGEST_REPLY, write_reply};
+use crate::reply::write_reply;
 use rattle::Global;
 
 /// What the lines so far have made, and the line that has begun.

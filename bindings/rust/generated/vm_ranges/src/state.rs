@@ -10,10 +10,3 @@ pub enum NodeState {
     /// Someone holds the block.
     Allocated,
 }
-
-impl NodeState {
-    /// Whether no one holds the block.
-    fn is_free(&self) -> bool {
-        *self == NodeState::Free
-    }
-}

@@ -4,8 +4,6 @@
 //! for something, and is answered by one line of the standard output.
 
 #![forbid(unsafe_code)]
-// What only proofs and tests use is kept as it is.
-#![allow(dead_code, unused_assignments, unused_imports, unused_variables)]
 
 use rattle::HostRuntime;
 use std::process::ExitCode;

@@ -130,6 +130,7 @@ fn rise(list: &[Value], least: u64, bound: u64) -> bool {
 }
 
 /// The set of the numbers, which rise from `least` on and stay below `bound`.
+#[allow(unused_assignments, unused_variables)]
 fn collect(
     alloc: Global,
     list: &[Value],

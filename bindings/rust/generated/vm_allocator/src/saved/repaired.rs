@@ -8,7 +8,7 @@ use crate::address_allocator::AddressAllocator;
 use rattle::Value;
 use rattle::Global;
 use vm_engine::node_of;
-use vm_ranges::{AllocPolicy, Error, NodeState, RangeInclusive, Result, ValueError};
+use vm_ranges::{AllocPolicy, NodeState, RangeInclusive, Result, ValueError};
 
 /// No node is nested deeper, since no tree of the Rust crate is higher.
 const MAX_HEIGHT_REPAIRED: u64 = 50;
@@ -73,6 +73,7 @@ impl Row {
 
 /// The row with the blocks of the nodes of a value, in order. None where it is no tree of nodes, has
 /// them nested deeper than `depth`, or has a block that may not stand where it does.
+#[allow(clippy::question_mark)]
 fn check_keys(value: &Value, end: u64, depth: u64, row: Row) -> Option<Row> {
     if value.is_null() {
         return Some(row);
@@ -89,6 +90,7 @@ fn check_keys(value: &Value, end: u64, depth: u64, row: Row) -> Option<Row> {
 }
 
 /// The space that a value states, and the root of its tree; both are checked.
+#[allow(clippy::question_mark)]
 fn check_repaired(value: &Value) -> Option<SavedAllocator<'_>> {
     let Some(parts) = parts_of(value) else {
         return None;
@@ -103,6 +105,7 @@ fn check_repaired(value: &Value) -> Option<SavedAllocator<'_>> {
 
 /// Holds the keys of the nodes of a checked value that are held there, in order, above what is held
 /// already. `OutOfMemory` where there is no memory for a split.
+#[allow(clippy::only_used_in_recursion)]
 fn hold_keys(
     value: &Value,
     depth: u64,

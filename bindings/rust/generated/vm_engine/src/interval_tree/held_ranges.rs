@@ -19,6 +19,7 @@ impl<'a> Iterator for HeldRanges<'a> {
     type Item = RangeInclusive;
 
     /// The next held range.
+    #[allow(clippy::while_let_on_iterator)]
     fn next(&mut self) -> Option<RangeInclusive> {
         while let Some(block) = self.walk.next() {
             if block.state == NodeState::Allocated {

@@ -6,7 +6,7 @@
 use rattle::Box;
 use super::IntervalTree;
 use crate::Steps;
-use crate::ends::{between, known};
+use crate::ends::between;
 use crate::node::carve::{Choice, Cut, Rest, carve_at};
 use crate::node::rewrite::rewrite_at;
 use crate::node::{Child, InnerNode};
@@ -60,7 +60,6 @@ fn rest_of(alloc: Global, choice: &Choice) -> Result<Rest> {
 
 /// A leaf for what is left of the free block before the range.
 fn leaf_before(alloc: Global, choice: &Choice) -> Result<Child> {
-    known(&choice.key);
     if choice.key.start() >= choice.range.start() {
         return Ok(None);
     }
@@ -70,7 +69,6 @@ fn leaf_before(alloc: Global, choice: &Choice) -> Result<Child> {
 
 /// A leaf for what is left of the free block after the range.
 fn leaf_after(alloc: Global, choice: &Choice) -> Result<Child> {
-    known(&choice.key);
     if choice.range.end() >= choice.key.end() {
         return Ok(None);
     }

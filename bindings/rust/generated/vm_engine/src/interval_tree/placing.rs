@@ -5,7 +5,7 @@
 
 use super::IntervalTree;
 use crate::Steps;
-use crate::ends::{between, known};
+use crate::ends::between;
 use crate::node::carve::Choice;
 use crate::node::places::{Place, first_place, last_place};
 use vm_ranges::{AllocPolicy, Constraint, Error, NodeState, RangeInclusive, Result};
@@ -13,7 +13,6 @@ use vm_ranges::{AllocPolicy, Constraint, Error, NodeState, RangeInclusive, Resul
 impl IntervalTree {
     /// The range to hold for a request, and the free block that has it, or the refusal.
     pub(super) fn place_for(&self, constraint: Constraint, count: &mut Steps) -> Result<Choice> {
-        self.known();
         let (size, align) = (constraint.size(), constraint.align());
         match constraint.policy() {
             AllocPolicy::FirstMatch => {
@@ -53,7 +52,6 @@ fn choice_at(found: Option<Place>, size: u64) -> Result<Choice> {
     let Some(place) = found else {
         return Err(Error::ResourceNotAvailable);
     };
-    known(&place.key);
     let last = place.start + (size - 1);
     if last == u64::MAX {
         return Err(Error::Overflow);

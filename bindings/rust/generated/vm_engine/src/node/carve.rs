@@ -11,7 +11,7 @@
 use super::balance::settle;
 use super::kept::{Change, kept_of, renew_room, room_of};
 use super::link::link_at;
-use super::{Child, InnerNode, known};
+use super::{Child, InnerNode};
 use crate::Steps;
 use crate::ends::order;
 use core::cmp::Ordering;
@@ -27,7 +27,6 @@ pub(crate) struct Rest {
 
 /// Links a leaf, if there is one, below a side.
 fn link_if(child: &mut Child, leaf: Child, count: &mut Steps) {
-    known(child);
     if let Some(leaf) = leaf {
         link_at(child, leaf, count);
     }
@@ -57,7 +56,6 @@ pub(crate) struct Cut {
 fn carve_here(at: &mut Child, cut: &mut Cut, count: &mut Steps) -> Change {
     let Some(tree) = at else { unreachable!() };
     let tree: &mut InnerNode = tree;
-    let _ = &tree.height;
     tree.key = cut.choice.range;
     tree.node_state = NodeState::Allocated;
     link_if(&mut tree.left, cut.rest.before.take(), count);

@@ -7,7 +7,7 @@
 use rattle::Box;
 use super::balance::{balance, settle};
 use super::kept::Change;
-use super::{Child, InnerNode, known};
+use super::{Child, InnerNode};
 use crate::Steps;
 use crate::ends::order;
 use core::cmp::Ordering;
@@ -21,7 +21,6 @@ fn take_least_at(at: &mut Child, count: &mut Steps) -> (Box<InnerNode>, Change) 
     tree.enter(count);
     if tree.left.is_none() {
         let (_, right) = tree.strip();
-        known(&right);
         let Some(least) = at.take() else {
             unreachable!()
         };
@@ -47,8 +46,6 @@ fn take_least_at(at: &mut Child, count: &mut Steps) -> (Box<InnerNode>, Change) 
 /// What is left of a tree without its root, from the root's children: the other child where one is
 /// absent, and else both below the least node of the right one.
 pub(super) fn join(left: Child, mut right: Child, count: &mut Steps) -> Child {
-    known(&left);
-    known(&right);
     if right.is_none() {
         return left;
     }
@@ -63,10 +60,10 @@ impl InnerNode {
     /// The tree without its root's key: its child where it has one alone, none where it has none,
     /// and else both children below the least node of the right one. It takes no memory.
     #[inline(never)]
+    #[allow(clippy::let_and_return)]
     pub(crate) fn delete_root(tree: Box<InnerNode>, count: &mut Steps) -> Option<Box<InnerNode>> {
         let InnerNode { left, right, .. } = Box::into_inner(tree);
         let joined = join(left, right, count);
-        known(&joined);
         joined
     }
 }

@@ -58,6 +58,7 @@ struct Checked {
 /// The height of the tree that a value has, and the front behind its blocks. None where it is no tree,
 /// has nodes nested deeper than `depth`, a wrong height, no balance, or a block that may not stand
 /// where it does.
+#[allow(clippy::question_mark)]
 fn check(value: &Value, depth: u64, front: Front) -> Option<Checked> {
     if value.is_null() {
         return Some(Checked { height: 0, front });

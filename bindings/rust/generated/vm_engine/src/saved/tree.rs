@@ -3,7 +3,6 @@
 //! The saved form of a tree: what is checked already is built.
 
 use crate::IntervalTree;
-use crate::ends::known;
 use crate::node::walks::saving::save;
 use crate::node::{Child, InnerNode, MAX_HEIGHT};
 use crate::saved::check::has_tree_of;
@@ -26,7 +25,6 @@ impl IntervalTree {
         space: &RangeInclusive,
         value: &Value,
     ) -> core::result::Result<Self, ValueError> {
-        known(space);
         if !has_tree_of(space, value) {
             return Err(ValueError::NotAState);
         }
@@ -37,6 +35,7 @@ impl IntervalTree {
 
 /// The tree that a checked value has, node for node. `OutOfMemory` where there is no memory for one of
 /// them; those that were made are given back then.
+#[allow(clippy::only_used_in_recursion)]
 fn build(value: &Value, depth: u64, alloc: Global) -> core::result::Result<Child, AllocError> {
     let Some(node) = node_of(value) else {
         return Ok(None);

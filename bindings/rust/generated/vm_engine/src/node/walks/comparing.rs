@@ -7,6 +7,7 @@ use crate::node::Child;
 use core::cmp::Ordering;
 
 /// Whether two trees have the same blocks. It stops at the first difference.
+#[allow(clippy::while_let_on_iterator)]
 pub(crate) fn same_blocks(a: &Child, b: &Child) -> bool {
     let (mut left, mut right) = (Walk::over(a), Walk::over(b));
     while let Some(x) = left.next() {
@@ -22,6 +23,7 @@ pub(crate) fn same_blocks(a: &Child, b: &Child) -> bool {
 
 /// How the blocks of two trees compare: the first two that differ decide, and else the one with fewer
 /// is less.
+#[allow(clippy::while_let_on_iterator)]
 pub(crate) fn order_of_blocks(a: &Child, b: &Child) -> Ordering {
     let (mut left, mut right) = (Walk::over(a), Walk::over(b));
     while let Some(x) = left.next() {

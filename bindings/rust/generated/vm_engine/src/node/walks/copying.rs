@@ -5,7 +5,7 @@
 use rattle::Box;
 use crate::node::InnerNode;
 use rattle::Global;
-use vm_ranges::{Error, Result};
+use vm_ranges::Result;
 
 /// A copy of a tree, node for node, with what each node keeps. `OutOfMemory` where there is no memory
 /// for one of them; those that were made are given back then.
