@@ -1,5 +1,5 @@
 -- What a caller wants to know of a range or an id that it was given, and of an allocator that it saved.
-use Rattle.std.proofs.Common.{◌≡◌, ℕ, ◌+◌, ◌-◌, ◌%◌, List, [], ◌∷◌, ◌<◌, ◌≤◌, ◌⊎◌, arith, refl, sym, ap, ◌∙◌, inl, inr, ⊎_elim, subst, Result, Ok, Err, IfOk, IfErr, OnOk}
+use Rattle.std.proofs.Common.{◌≡◌, ℕ, ◌+◌, ◌-◌, ◌%◌, List, [], ◌∷◌, ◌<◌, ◌≤◌, ◌⊎◌, arith, refl, sym, ap, ◌∙◌, inl, inr, ⊎_elim, subst, Result, Ok, Err, IfOk, IfErr}
 use Rattle.std.specs.List.{Contains}
 use Rattle.serde_json.specs.Data.{Data}
 use Rattle.vm_ranges.proofs.NumberSets.{inserted_here}
@@ -8,12 +8,12 @@ use Rattle.vm_engine.specs.Address.{AddressState, AreClear, IsPlace, IsAddressSt
 use Rattle.vm_ranges.specs.Alignment.{IsAlignment}
 use Rattle.vm_ranges.specs.Request.{Request, request_for, IsRequest, IsStartAligned}
 use Rattle.vm_engine.specs.Answer.{IsChosen, IsSplitRefusal, Takes, Allocates, Frees}
-use Rattle.vm_allocator.specs.Ids.{IdState, IsIdState, IsHeld, IsLeastNotHeld, holding_id, releasing_id, ByLeastNotHeld, AllocatesId, FreesId}
+use Rattle.vm_allocator.specs.Ids.{IdState, IsIdState, IsHeld, IsLeastNotHeld, holding_id, ByLeastNotHeld, AllocatesId}
 use Rattle.vm_allocator.specs.Allocator.{SpaceInTree, state_of}
 use Rattle.vm_allocator.specs.Values.AllocatorValues.{StatesAllocator, StatesAddresses}
 use Rattle.vm_allocator.specs.Values.IdValues.{StatesIds}
 use Rattle.vm_ranges.specs.declared.error.Error.{Error}
-use Rattle.vm_ranges.specs.declared.error.Error.TheVariants.{Overflow, OutOfMemory, ResourceNotAvailable}
+use Rattle.vm_ranges.specs.declared.error.Error.TheVariants.{Overflow, OutOfMemory}
 use Rattle.vm_ranges.specs.declared.constraint.AllocPolicy.{AllocPolicy}
 use Rattle.vm_ranges.specs.declared.constraint.AllocPolicy.TheVariants.{ExactMatch}
 use Rattle.vm_engine.proofs.Blocks.PlainWords.{IsHeldAddress, IsHeld as IsHeldRange, contains_held, held_contains, all_miss, none_holds, held_address}
@@ -75,22 +75,6 @@ given_long old new size align policy (Ok r) h =
     let end : r.end ≡ r.start + size - 1 = ap (λ (v : Range). v.end) g.long in
     omega arith
 given_long old new size align policy (Err e) h = tt
-
-pub given_fits : (old new : AddressState) (size align : ℕ) (policy : AllocPolicy) (answer : Result Range Error) → Allocates old (request_for size align policy) answer new → IfOk answer (λ r. (address_count r ≡ size) × (r.start % align ≡ 0))
-given_fits old new size align policy (Ok r) h = (given_long old new size align policy (Ok r) h, given_aligned old new size align policy (Ok r) h)
-given_fits old new size align policy (Err e) h = tt
-
--- it is at the place that the policy chooses
-pub given_chosen : (old new : AddressState) (request : Request) (answer : Result Range Error) → Allocates old request answer new → IfOk answer (λ r. IsChosen request old r.start)
-given_chosen old new request (Ok r) h = (given old new request r h).chosen
-given_chosen old new request (Err e) h = tt
-
--- and nothing but this range is held after it
-pub given_state : (old new : AddressState) (request : Request) (answer : Result Range Error) → Allocates old request answer new → IfOk answer (λ r. new ≡ holding r old)
-given_state old new request (Ok r) h = (given old new request r h).left
-given_state old new request (Err e) h = tt
-
-pub ruleset allocations = (given_fits, given_chosen, given_state)
 
 -- and is held from then on
 pub given_held : (old new : AddressState) (request : Request) (r : Range) → Allocates old request (Ok r) new → Contains new.held r
@@ -192,36 +176,6 @@ id_is_held old new (Ok id) h =
     h
 id_is_held old new (Err e) h = tt
 
--- an id that was given is the least that was not held
-pub id_is_least : (old new : IdState) (answer : Result ℕ Error) → AllocatesId old answer new → IfOk answer (λ id. IsLeastNotHeld old id)
-unfolding AllocatesId ByLeastNotHeld
-id_is_least old new (Ok id) h =
-    ⊎_elim
-    (λ l. let e : l.0 ≡ id = cc (l.2.0) in subst (IsLeastNotHeld old) e l.1)
-    (λ r. absurd (⊎_elim (λ f. cc (f.1.0)) (λ f. cc (f.1.0)) r.1))
-    h
-id_is_least old new (Err e) h = tt
-
--- and nothing but this id is held after it
-pub id_state : (old new : IdState) (answer : Result ℕ Error) → AllocatesId old answer new → IfOk answer (λ id. new ≡ holding_id id old)
-unfolding AllocatesId ByLeastNotHeld
-id_state old new (Ok id) h =
-    ⊎_elim
-    (λ l. let e : l.0 ≡ id = cc (l.2.0) in l.2.1 ∙ ap (λ (v : ℕ). holding_id v old) e)
-    (λ r. absurd (⊎_elim (λ f. cc (f.1.0)) (λ f. cc (f.1.0)) r.1))
-    h
-id_state old new (Err e) h = tt
-
--- an id that is freed is held no more, and nothing else changes
-pub freed_id_state : (old new : IdState) (id : ℕ) (answer : Result ℕ Error) → FreesId old id answer new → IfOk answer (λ i. (i ≡ id) × (new ≡ releasing_id id old))
-unfolding FreesId
-freed_id_state old new id (Ok i) h =
-    ⊎_elim (λ a. absurd (cc (a.1.0))) (λ b.
-    ⊎_elim (λ a. absurd (cc (a.1.0))) (λ c.
-    ⊎_elim (λ a. absurd (cc (a.1.0))) (λ d.
-    ⊎_elim (λ k. (cc (k.0), k.1)) (λ k. absurd (cc (k.0))) d.1) c.1) b.1) h
-freed_id_state old new id (Err e) h = tt
-
 -- a range that was given was held by no one
 pub range_was_free : (old new : AddressState) (request : Request) (r : Range) → Allocates old request (Ok r) new → ¬ Contains old.held r
 unfolding IsPlace
@@ -231,19 +185,6 @@ range_was_free old new request r h c =
     let end : r.end ≡ r.start + request.size - 1 = ap (λ (v : Range). v.end) g.long in
     let inside : IsIn r r.start = (omega arith, omega arith) in
     none_holds old.held r.start (g.place.1 r.start (omega arith) (omega arith)).1 (held_address old.held r r.start (held_contains old.held r c) inside)
-
--- a range that is freed is held no more, and nothing else changes
-pub freed_state : (old new : AddressState) (r : Range) (answer : Result (Unit {0}) Error) → Frees old r answer new → OnOk answer (new ≡ releasing r old)
-unfolding Frees
-freed_state old new r (Ok u) h = ⊎_elim (λ k. k.1.1) (λ k. absurd (cc (k.1.0))) h
-freed_state old new r (Err e) h = tt
-
--- a range that is not held is not freed
-pub not_freed : (old new : AddressState) (r : Range) (answer : Result (Unit {0}) Error) → Frees old r answer new → ¬ Contains old.held r → answer ≡ Err ResourceNotAvailable
-unfolding Frees
-not_freed old new r answer h n = ⊎_elim (λ k. absurd (n k.0)) (λ k. k.1.0) h
-
-pub ruleset releases = (freed_state, not_freed)
 
 -- a held range can be given back
 pub frees_held : (old : AddressState) (r : Range) → Contains old.held r → Frees old r (Ok tt) (releasing r old)

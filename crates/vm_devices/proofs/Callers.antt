@@ -1,17 +1,16 @@
 -- What a caller wants to know of devices that it reserved.
-use Rattle.std.proofs.Common.{◌≡◌, ℕ, ◌%◌, sym, ap, ⊎_elim, subst, Result, Ok, Err, IfOk, OnOk}
-use Rattle.vm_ranges.specs.Range.{Range, Overlaps, address_count}
+use Rattle.std.proofs.Common.{◌≡◌, ℕ, ◌%◌, sym, ap, ⊎_elim, subst, Result, Ok, Err, IfOk}
+use Rattle.vm_ranges.specs.Range.{Overlaps, address_count}
 use Rattle.vm_engine.specs.Address.{holding}
 use Rattle.vm_ranges.specs.Request.{Request, request_for}
-use Rattle.vm_engine.specs.Answer.{Allocates, IsChosen}
+use Rattle.vm_engine.specs.Answer.{Allocates}
 use Rattle.vm_ranges.specs.declared.error.Error.{Error}
 use Rattle.vm_ranges.specs.declared.constraint.AllocPolicy.{AllocPolicy}
-use Rattle.vm_allocator.proofs.Callers.{given_aligned, given_long, given_apart, given_chosen}
-use Rattle.vm_allocator.specs.Ids.{IsLeastNotHeld}
+use Rattle.vm_allocator.proofs.Callers.{given_aligned, given_long, given_apart}
 use Rattle.vm_devices.specs.declared.device_slot.DeviceSlot.{DeviceSlot}
-use Rattle.vm_devices.specs.Devices.{DeviceState, IsDevice, IsDeviceState, Reserves, Releases, with_device, without_device}
+use Rattle.vm_devices.specs.Devices.{DeviceState, IsDevice, IsDeviceState, Reserves, Releases}
 use Rattle.vm_devices.proofs.DevicesAgain.{reserved_again}
-use Rattle.vm_devices.proofs.Reserving.{reserved_device, releasing_outcome}
+use Rattle.vm_devices.proofs.Reserving.{reserved_device}
 use Rattle.vm_devices.proofs.Tables.{with_here}
 
 -- the range of a device starts at a multiple of the alignment
@@ -29,37 +28,6 @@ device_long old new size align policy (Ok slot) h =
     let d = reserved_device old new (request_for size align policy) slot h in
     given_long old.space (holding slot.range old.space) size align policy (Ok slot.range) d.given
 device_long old new size align policy (Err e) h = tt
-
-pub device_fits : (old new : DeviceState) (size align : ℕ) (policy : AllocPolicy) (answer : Result DeviceSlot Error) →
-    Reserves old (request_for size align policy) answer new → IfOk answer (λ slot. (address_count slot.range ≡ size) × (slot.range.start % align ≡ 0))
-device_fits old new size align policy (Ok slot) h = (device_long old new size align policy (Ok slot) h, device_aligned old new size align policy (Ok slot) h)
-device_fits old new size align policy (Err e) h = tt
-
--- it is at the place that the policy chooses
-pub device_chosen : (old new : DeviceState) (request : Request) (answer : Result DeviceSlot Error) → Reserves old request answer new → IfOk answer (λ slot. IsChosen request old.space slot.range.start)
-device_chosen old new request (Ok slot) h =
-    let d = reserved_device old new request slot h in
-    given_chosen old.space (holding slot.range old.space) request (Ok slot.range) d.given
-device_chosen old new request (Err e) h = tt
-
--- the id of a device is the least that was not held
-pub device_least : (old new : DeviceState) (request : Request) (answer : Result DeviceSlot Error) → Reserves old request answer new → IfOk answer (λ slot. IsLeastNotHeld old.ids slot.id)
-device_least old new request (Ok slot) h = (reserved_device old new request slot h).least
-device_least old new request (Err e) h = tt
-
--- and nothing but this device is there after it
-pub device_state : (old new : DeviceState) (request : Request) (answer : Result DeviceSlot Error) → Reserves old request answer new → IfOk answer (λ slot. new ≡ with_device slot.id slot.range old)
-device_state old new request (Ok slot) h = (reserved_device old new request slot h).left
-device_state old new request (Err e) h = tt
-
--- a device that is released is there no more, and nothing else changes
-pub released_device : (old new : DeviceState) (id : ℕ) (answer : Result (Unit {0}) Error) → Releases old id answer new → OnOk answer ((r : Range) × IsDevice old id r × (new ≡ without_device id r old))
-released_device old new id (Ok u) h =
-    ⊎_elim
-    (λ r. absurd (cc (r.1)))
-    (λ k. (k.0, k.1, k.3))
-    (releasing_outcome old new id (Ok u) h)
-released_device old new id (Err e) h = tt
 
 -- it is a device from then on
 pub device_there : (old new : DeviceState) (request : Request) (answer : Result DeviceSlot Error) → Reserves old request answer new → IfOk answer (λ slot. IsDevice new slot.id slot.range)
