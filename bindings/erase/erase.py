@@ -84,22 +84,22 @@ CLAUSES = {"ensures", "requires"}
 # ---- What Rust has no use for ----
 
 # Functions that change nothing and return nothing, and are called for what they ensure.
-FOR_PROOFS = {"known"}
+FOR_PROOFS = {"recall_invariant"}
 # Items that only tests use, by file.
 FOR_TESTS = {"vm_engine/src/node.rt search_tree", "vm_ranges/src/state.rt is_free"}
 # Lints that a function is allowed to fail: its proof reads this form, or a statement for its proof is cut.
 ALLOWED = {
-    "unused_assignments, unused_variables": ("vm_allocator/src/saved/ids.rt collect",),
+    "unused_assignments, unused_variables": ("vm_allocator/src/saved/ids.rt collect_ids",),
     "clippy::let_and_return": (
         "vm_allocator/src/address_allocator.rt allocate", "vm_engine/src/interval_tree.rt allocate",
         "vm_engine/src/node/remove.rt delete_root"),
-    "clippy::needless_range_loop": ("vm_lines/src/number.rt are_digits", "vm_lines/src/number.rt value_of"),
+    "clippy::needless_range_loop": ("vm_lines/src/number.rt are_digits", "vm_lines/src/number.rt digits_value"),
     "clippy::only_used_in_recursion": ("vm_allocator/src/saved/repaired.rt hold_keys", "vm_engine/src/saved/tree.rt build"),
     "clippy::question_mark": (
         "vm_allocator/src/saved/repaired.rt check_keys", "vm_allocator/src/saved/repaired.rt check_repaired",
-        "vm_engine/src/saved/check.rt check"),
+        "vm_engine/src/saved/check.rt check_subtree"),
     "clippy::while_let_on_iterator": (
-        "vm_engine/src/interval_tree/held_ranges.rt next", "vm_engine/src/node/walks/comparing.rt order_of_blocks",
+        "vm_engine/src/interval_tree/held_ranges.rt next", "vm_engine/src/node/walks/comparing.rt compare_blocks",
         "vm_engine/src/node/walks/comparing.rt same_blocks"),
 }
 
@@ -540,7 +540,7 @@ class File(Tokens):
                 index = self.path_of_names(index)
 
     def statement_for_proofs(self, index):
-        """Cuts `known(&a.b);`, `self.known();` or `let _ = &a.b;`. The answer is the index behind it."""
+        """Cuts `recall_invariant(&a.b);`, `self.recall_invariant();` or `let _ = &a.b;`. The answer is the index behind it."""
         first = index - 2 if self.at(index - 2, "self", ".") else index
         behind, inner = self.next_of(index, ";") + 1, self.tokens[index + 1:self.next_of(index, ";")]
         words = "".join(token.text if token.kind != "word" else "_" for token in inner)

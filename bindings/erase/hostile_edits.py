@@ -10,7 +10,7 @@ import sys
 import tempfile
 
 import erase
-import planting
+import mutants
 
 RANGE, CONSTRAINT = "vm_ranges/src/range.rt", "vm_ranges/src/constraint.rt"
 CLAUSE, BODY = "ensures { result ≡ address_count self.now }", "        1 + (self.end - self.start)"
@@ -33,9 +33,9 @@ EDITS = [
     ("code that runs at the end of a scope", RANGE, "impl PartialOrd for", "impl Drop for", "an impl of 'Drop'"),
     ("a call of a law", RANGE, BODY, f"        law();\n{BODY}\n    }}\n}}\nfn law() {{}}\nimpl RangeInclusive {{\n    fn f() {{",
      "a function 'law'"),
-    ("a function for proofs that changes something", RANGE, IMPL, f"fn known(range: &mut RangeInclusive) {{}}\n{IMPL}",
-     "'known' returns something, or may change something"),
-    ("a call for proofs that does more", RANGE, BODY, f"        known(self.end());\n{BODY}", "'known' of this form"),
+    ("a function for proofs that changes something", RANGE, IMPL, f"fn recall_invariant(range: &mut RangeInclusive) {{}}\n{IMPL}",
+     "'recall_invariant' returns something, or may change something"),
+    ("a call for proofs that does more", RANGE, BODY, f"        recall_invariant(self.end());\n{BODY}", "'recall_invariant' of this form"),
     ("a requires of what anyone may call", CONSTRAINT, "fn is_start_aligned(", "pub fn is_start_aligned(",
      "a 'requires' of 'is_start_aligned'"),
     ("a public field of a type with an invariant", RANGE, "    start: u64,\n    end", "    pub start: u64,\n    end",
@@ -45,7 +45,7 @@ EDITS = [
 
 def outcome(project, scratch, edit):
     """What the eraser says to an edit."""
-    planting.plant(planting.Planted(edit[0], [edit[1:4]], {}), project, scratch)
+    mutants.apply(mutants.Mutant(edit[0], [edit[1:4]], {}), project, scratch)
     try:
         erase.Project(scratch)
     except erase.Refused as refused:

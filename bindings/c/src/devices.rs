@@ -1,8 +1,8 @@
 //! Devices: an id and a range each, both or neither.
 
-use crate::handle::{ask, give_back, make, take, Handle};
+use crate::handle::{create, with_mut, with_mut_unit, with_ref, Handle};
 use crate::texts::{read, save};
-use crate::{status_of, vm_range, vm_refusal, vm_status, Out, Refused};
+use crate::{status_of, vm_range, vm_refusal, vm_status, CallError, Out};
 use rattle::Global;
 use std::ffi::c_char;
 use vm_allocator::{AllocPolicy, Error};
@@ -36,7 +36,7 @@ pub extern "C" fn vm_device_manager_new(
     manager: Out<*mut vm_device_manager>,
     refusal: Out<vm_refusal>,
 ) -> vm_status {
-    let made = make(manager, || {
+    let made = create(manager, || {
         DeviceManager::new(Global, first_id, last_id, base, size)
     });
     status_of(made, refusal)
@@ -95,8 +95,8 @@ fn reserve(
     alignment: u64,
     policy: AllocPolicy,
     device: Out<vm_device>,
-) -> Result<(), Refused> {
-    take(manager, device, |manager| {
+) -> Result<(), CallError> {
+    with_mut(manager, device, |manager| {
         let slot = manager.reserve(Global, size, alignment, policy)?;
         Ok(slot.into())
     })
@@ -108,7 +108,7 @@ pub extern "C" fn vm_device_release(
     id: u32,
     refusal: Out<vm_refusal>,
 ) -> vm_status {
-    let released = give_back(manager, |manager| manager.release(id));
+    let released = with_mut_unit(manager, |manager| manager.release(id));
     status_of(released, refusal)
 }
 
@@ -120,7 +120,7 @@ pub extern "C" fn vm_device_slot(
     range: Out<vm_range>,
     refusal: Out<vm_refusal>,
 ) -> vm_status {
-    let asked = ask(manager, range, |manager| {
+    let asked = with_ref(manager, range, |manager| {
         let slot = manager.slot(id).ok_or(Error::NeverAllocated(id))?;
         Ok(slot.into())
     });

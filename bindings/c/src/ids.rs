@@ -1,6 +1,6 @@
 //! Ids.
 
-use crate::handle::{ask, give_back, make, take, Handle};
+use crate::handle::{create, with_mut, with_mut_unit, with_ref, Handle};
 use crate::texts::{read, save};
 use crate::{status_of, vm_refusal, vm_status, Out};
 use rattle::Global;
@@ -17,7 +17,7 @@ pub extern "C" fn vm_id_allocator_new(
     allocator: Out<*mut vm_id_allocator>,
     refusal: Out<vm_refusal>,
 ) -> vm_status {
-    let made = make(allocator, || IdAllocator::new(Global, first, last));
+    let made = create(allocator, || IdAllocator::new(Global, first, last));
     status_of(made, refusal)
 }
 
@@ -32,13 +32,13 @@ pub unsafe extern "C" fn vm_id_allocator_destroy(allocator: *mut vm_id_allocator
 
 #[unsafe(no_mangle)]
 pub extern "C" fn vm_id_allocate(allocator: Option<&vm_id_allocator>, id: Out<u32>) -> vm_status {
-    let taken = take(allocator, id, |allocator| allocator.allocate_id());
+    let taken = with_mut(allocator, id, |allocator| allocator.allocate_id());
     status_of(taken, None)
 }
 
 #[unsafe(no_mangle)]
 pub extern "C" fn vm_id_peek(allocator: Option<&vm_id_allocator>, id: Out<u32>) -> vm_status {
-    let asked = ask(allocator, id, |allocator| allocator.peek_id());
+    let asked = with_ref(allocator, id, |allocator| allocator.peek_id());
     status_of(asked, None)
 }
 
@@ -48,7 +48,7 @@ pub extern "C" fn vm_id_free(
     id: u32,
     refusal: Out<vm_refusal>,
 ) -> vm_status {
-    let freed = give_back(allocator, |allocator| allocator.free_id(id).map(|_| ()));
+    let freed = with_mut_unit(allocator, |allocator| allocator.free_id(id).map(|_| ()));
     status_of(freed, refusal)
 }
 
@@ -58,7 +58,7 @@ pub extern "C" fn vm_id_is_allocated(
     id: u32,
     is_allocated: Out<bool>,
 ) -> vm_status {
-    let asked = ask(allocator, is_allocated, |allocator| {
+    let asked = with_ref(allocator, is_allocated, |allocator| {
         Ok(allocator.is_allocated(id))
     });
     status_of(asked, None)
@@ -66,7 +66,7 @@ pub extern "C" fn vm_id_is_allocated(
 
 #[unsafe(no_mangle)]
 pub extern "C" fn vm_id_count(allocator: Option<&vm_id_allocator>, count: Out<u64>) -> vm_status {
-    let asked = ask(allocator, count, |allocator| Ok(allocator.held_count()));
+    let asked = with_ref(allocator, count, |allocator| Ok(allocator.held_count()));
     status_of(asked, None)
 }
 

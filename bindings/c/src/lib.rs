@@ -18,7 +18,7 @@ mod texts;
 #[path = "../speed/through_rust.rs"]
 mod through_rust;
 
-use status::{status_of, vm_refusal, vm_status, Refused};
+use status::{status_of, vm_refusal, vm_status, CallError};
 use std::mem::MaybeUninit;
 use vm_allocator::RangeInclusive;
 

@@ -1,8 +1,8 @@
 //! Ranges of addresses.
 
-use crate::handle::{ask, give_back, given, make, take, Handle};
+use crate::handle::{create, non_null, with_mut, with_mut_unit, with_ref, Handle};
 use crate::texts::{read, save};
-use crate::{status_of, vm_range, vm_refusal, vm_status, Out, Refused};
+use crate::{status_of, vm_range, vm_refusal, vm_status, CallError, Out};
 use rattle::Global;
 use std::ffi::{c_char, c_int, c_void};
 use vm_allocator::{AddressAllocator, AllocPolicy};
@@ -19,7 +19,7 @@ pub extern "C" fn vm_address_allocator_new(
     size: u64,
     allocator: Out<*mut vm_address_allocator>,
 ) -> vm_status {
-    let made = make(allocator, || AddressAllocator::new(Global, base, size));
+    let made = create(allocator, || AddressAllocator::new(Global, base, size));
     status_of(made, None)
 }
 
@@ -39,7 +39,7 @@ pub extern "C" fn vm_address_allocator_space(
     allocator: Option<&vm_address_allocator>,
     space: Out<vm_range>,
 ) -> vm_status {
-    let asked = ask(allocator, space, |allocator| {
+    let asked = with_ref(allocator, space, |allocator| {
         Ok(vm_range {
             start: allocator.base(),
             end: allocator.end(),
@@ -93,8 +93,8 @@ fn allocate(
     alignment: u64,
     policy: AllocPolicy,
     range: Out<vm_range>,
-) -> Result<(), Refused> {
-    take(allocator, range, |allocator| {
+) -> Result<(), CallError> {
+    with_mut(allocator, range, |allocator| {
         let range = allocator.allocate(Global, size, alignment, policy)?;
         Ok(range.into())
     })
@@ -106,7 +106,7 @@ pub extern "C" fn vm_range_free(
     range: vm_range,
     refusal: Out<vm_refusal>,
 ) -> vm_status {
-    let freed = give_back(allocator, |allocator| allocator.free(&range.try_into()?));
+    let freed = with_mut_unit(allocator, |allocator| allocator.free(&range.try_into()?));
     status_of(freed, refusal)
 }
 
@@ -117,7 +117,7 @@ pub extern "C" fn vm_range_is_held(
     is_held: Out<bool>,
     refusal: Out<vm_refusal>,
 ) -> vm_status {
-    let asked = ask(allocator, is_held, |allocator| {
+    let asked = with_ref(allocator, is_held, |allocator| {
         Ok(allocator.holds(&range.try_into()?))
     });
     status_of(asked, refusal)
@@ -128,7 +128,7 @@ pub extern "C" fn vm_range_count(
     allocator: Option<&vm_address_allocator>,
     count: Out<u64>,
 ) -> vm_status {
-    let asked = ask(allocator, count, |allocator| Ok(allocator.held_count()));
+    let asked = with_ref(allocator, count, |allocator| Ok(allocator.held_count()));
     status_of(asked, None)
 }
 
@@ -145,9 +145,9 @@ fn visit(
     allocator: Option<&vm_address_allocator>,
     visitor: Option<vm_range_visitor>,
     context: *mut c_void,
-) -> Result<(), Refused> {
-    let (allocator, visitor) = (given(allocator)?, given(visitor)?);
-    allocator.visited(|allocator| {
+) -> Result<(), CallError> {
+    let (allocator, visitor) = (non_null(allocator)?, non_null(visitor)?);
+    allocator.while_visiting(|allocator| {
         for range in allocator.held_ranges() {
             if visitor(context, range.into()) != 0 {
                 break;

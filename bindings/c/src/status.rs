@@ -65,7 +65,7 @@ pub struct vm_refusal {
 }
 
 /// Why a call is refused.
-pub(crate) enum Refused {
+pub(crate) enum CallError {
     Null,
     Busy,
     OutOfMemory,
@@ -74,43 +74,43 @@ pub(crate) enum Refused {
     Call(Error),
 }
 
-impl From<Error> for Refused {
+impl From<Error> for CallError {
     // Out of the way of the calls that succeed: they would move the error about before they look
     // whether there is one.
     #[cold]
     #[inline(never)]
     fn from(error: Error) -> Self {
-        Refused::Call(error)
+        CallError::Call(error)
     }
 }
 
-impl From<ValueError> for Refused {
+impl From<ValueError> for CallError {
     fn from(error: ValueError) -> Self {
         match error {
-            ValueError::NotAState => Refused::NotAState,
-            ValueError::OutOfMemory => Refused::OutOfMemory,
+            ValueError::NotAState => CallError::NotAState,
+            ValueError::OutOfMemory => CallError::OutOfMemory,
         }
     }
 }
 
-impl From<TextError> for Refused {
+impl From<TextError> for CallError {
     fn from(error: TextError) -> Self {
         match error {
-            TextError::NotJson => Refused::NotJson,
-            TextError::OutOfMemory => Refused::OutOfMemory,
+            TextError::NotJson => CallError::NotJson,
+            TextError::OutOfMemory => CallError::OutOfMemory,
         }
     }
 }
 
-impl Refused {
+impl CallError {
     fn status(&self) -> vm_status {
         match self {
-            Refused::Null => VM_NULL,
-            Refused::Busy => VM_BUSY,
-            Refused::OutOfMemory => VM_OUT_OF_MEMORY,
-            Refused::NotJson => VM_NOT_JSON,
-            Refused::NotAState => VM_NOT_A_STATE,
-            Refused::Call(error) => status_of_error(error),
+            CallError::Null => VM_NULL,
+            CallError::Busy => VM_BUSY,
+            CallError::OutOfMemory => VM_OUT_OF_MEMORY,
+            CallError::NotJson => VM_NOT_JSON,
+            CallError::NotAState => VM_NOT_A_STATE,
+            CallError::Call(error) => status_of_error(error),
         }
     }
 
@@ -118,7 +118,7 @@ impl Refused {
     fn numbers(&self) -> vm_refusal {
         let none = vm_refusal::default();
         match self {
-            Refused::Call(error) => numbers_of_error(error),
+            CallError::Call(error) => numbers_of_error(error),
             _ => none,
         }
     }
@@ -167,15 +167,15 @@ fn numbers_of_error(error: &Error) -> vm_refusal {
 
 /// What a call returns; a refusal tells its numbers where somebody asked for them.
 #[inline(always)]
-pub(crate) fn status_of(answer: Result<(), Refused>, refusal: Out<vm_refusal>) -> vm_status {
+pub(crate) fn status_of(answer: Result<(), CallError>, refusal: Out<vm_refusal>) -> vm_status {
     match answer {
         Ok(()) => VM_OK,
-        Err(refused) => tell(&refused, refusal),
+        Err(refused) => report(&refused, refusal),
     }
 }
 
 #[cold]
-fn tell(refused: &Refused, refusal: Out<vm_refusal>) -> vm_status {
+fn report(refused: &CallError, refusal: Out<vm_refusal>) -> vm_status {
     if let Some(refusal) = refusal {
         refusal.write(refused.numbers());
     }

@@ -1,7 +1,7 @@
 //! Objects as JSON texts, on their way out and in.
 
-use crate::handle::{given, Handle};
-use crate::{vm_status, Out, Refused};
+use crate::handle::{non_null, Handle};
+use crate::{vm_status, CallError, Out};
 use rattle::{Global, Value};
 use std::ffi::{c_char, CString};
 use std::fmt::{self, Write};
@@ -14,12 +14,12 @@ pub(crate) fn save<T>(
     text: Out<*mut c_char>,
     length: Out<usize>,
     to_value: fn(&T, Global) -> vm_allocator::Result<Value>,
-) -> Result<(), Refused> {
-    let (handle, text, length) = (given(handle)?, given(text)?, given(length)?);
-    let value = to_value(handle.object(), Global)?;
-    let mut growing = Growing(Vec::new());
-    write!(growing, "{value}\0").map_err(|_| Refused::OutOfMemory)?;
-    let bytes = exact_copy(&growing.0)?;
+) -> Result<(), CallError> {
+    let (handle, text, length) = (non_null(handle)?, non_null(text)?, non_null(length)?);
+    let value = to_value(handle.get(), Global)?;
+    let mut growing = TextBuffer(Vec::new());
+    write!(growing, "{value}\0").map_err(|_| CallError::OutOfMemory)?;
+    let bytes = to_boxed_slice(&growing.0)?;
     length.write(bytes.len() - 1);
     let saved = CString::from_vec_with_nul(bytes).expect("JSON contains no zero byte");
     text.write(saved.into_raw());
@@ -27,9 +27,9 @@ pub(crate) fn save<T>(
 }
 
 /// A text whose growth may be refused.
-struct Growing(Vec<u8>);
+struct TextBuffer(Vec<u8>);
 
-impl Write for Growing {
+impl Write for TextBuffer {
     fn write_str(&mut self, piece: &str) -> fmt::Result {
         self.0.try_reserve(piece.len()).map_err(|_| fmt::Error)?;
         self.0.extend_from_slice(piece.as_bytes());
@@ -39,10 +39,10 @@ impl Write for Growing {
 
 /// Returns the same bytes in a block of just their size: `CString` would shrink a larger one, and the
 /// process would end if there were no memory for that.
-fn exact_copy(bytes: &[u8]) -> Result<Vec<u8>, Refused> {
+fn to_boxed_slice(bytes: &[u8]) -> Result<Vec<u8>, CallError> {
     let mut copy = Vec::new();
     copy.try_reserve_exact(bytes.len())
-        .map_err(|_| Refused::OutOfMemory)?;
+        .map_err(|_| CallError::OutOfMemory)?;
     copy.extend_from_slice(bytes);
     Ok(copy)
 }
@@ -52,16 +52,16 @@ fn exact_copy(bytes: &[u8]) -> Result<Vec<u8>, Refused> {
 /// # Safety
 ///
 /// The text is null, or `length` bytes are there to be read.
-unsafe fn value_in(text: *const c_char, length: usize) -> Result<Value, Refused> {
+unsafe fn parse_value(text: *const c_char, length: usize) -> Result<Value, CallError> {
     if text.is_null() {
-        return Err(Refused::Null);
+        return Err(CallError::Null);
     }
     if isize::try_from(length).is_err() {
-        return Err(Refused::NotJson);
+        return Err(CallError::NotJson);
     }
     // SAFETY: so many bytes are there, and they are no more than an object may have.
     let bytes = unsafe { slice::from_raw_parts(text.cast::<u8>(), length) };
-    let text = str::from_utf8(bytes).map_err(|_| Refused::NotJson)?;
+    let text = str::from_utf8(bytes).map_err(|_| CallError::NotJson)?;
     Ok(Value::from_str(Global, text)?)
 }
 
@@ -75,10 +75,10 @@ pub(crate) unsafe fn read<T>(
     length: usize,
     out: Out<*mut Handle<T>>,
     from_value: fn(Global, &Value) -> Result<T, ValueError>,
-) -> Result<(), Refused> {
-    let out = given(out)?;
+) -> Result<(), CallError> {
+    let out = non_null(out)?;
     // SAFETY: as the caller promises.
-    let value = unsafe { value_in(text, length) }?;
+    let value = unsafe { parse_value(text, length) }?;
     out.write(Handle::new(from_value(Global, &value)?)?);
     Ok(())
 }

@@ -1,3 +1,3 @@
 pub mod Making
 pub mod EveryAddressCall
-pub mod Amply
+pub mod BelowLimits

@@ -7,11 +7,11 @@ use Rattle.vm_ranges.specs.Range.{Range, IsIn, Overlaps, address_count, span}
 use Rattle.vm_engine.specs.Address.{AddressState, AreClear, IsPlace, IsAddressState, holding, releasing, without_range}
 use Rattle.vm_ranges.specs.Alignment.{IsAlignment}
 use Rattle.vm_ranges.specs.Request.{Request, request_for, IsRequest, IsStartAligned}
-use Rattle.vm_engine.specs.Answer.{IsChosen, IsSplitRefusal, Takes, Allocates, Frees}
-use Rattle.vm_allocator.specs.Ids.{IdState, IsIdState, IsHeld, IsLeastNotHeld, holding_id, ByLeastNotHeld, AllocatesId}
+use Rattle.vm_engine.specs.Answer.{IsChosen, IsSplitRefusal, AllocatesAt, Allocates, Frees}
+use Rattle.vm_allocator.specs.Ids.{IdState, IsIdState, IsHeld, IsLowestNotHeld, holding_id, ByLowestNotHeld, AllocatesId}
 use Rattle.vm_allocator.specs.Allocator.{SpaceInTree, state_of}
-use Rattle.vm_allocator.specs.Values.AllocatorValues.{StatesAllocator, StatesAddresses}
-use Rattle.vm_allocator.specs.Values.IdValues.{StatesIds}
+use Rattle.vm_allocator.specs.Values.AllocatorValues.{EncodesAllocator, EncodesAddresses}
+use Rattle.vm_allocator.specs.Values.IdValues.{EncodesIds}
 use Rattle.vm_ranges.specs.declared.error.Error.{Error}
 use Rattle.vm_ranges.specs.declared.error.Error.TheVariants.{Overflow, OutOfMemory}
 use Rattle.vm_ranges.specs.declared.constraint.AllocPolicy.{AllocPolicy}
@@ -23,8 +23,8 @@ use Rattle.vm_engine.proofs.Answers.AddressAnswers.{releases_held}
 use Rattle.vm_engine.proofs.Answers.Once.{chosen_place}
 use Rattle.vm_engine.proofs.Answers.Filling.{allocates_chosen}
 use Rattle.vm_engine.proofs.Answers.Outcomes.{allocates_outcome}
-use Rattle.vm_allocator.proofs.Reading.ReadAllocators.{one_allocator, stated_state as stated_addresses}
-use Rattle.vm_allocator.proofs.Ids.ReadIdStates.{one_stated, stated_state as stated_ids}
+use Rattle.vm_allocator.proofs.Reading.ReadAllocators.{one_allocator, encoded_state as encoded_addresses}
+use Rattle.vm_allocator.proofs.Ids.ReadIdStates.{one_encoded, encoded_state as encoded_ids}
 -- a list of held ranges or ids, no two the same, has all of them exactly if it has as many as are held
 pub use Rattle.vm_engine.proofs.Blocks.HeldLists.{ranges_listed}
 pub use Rattle.vm_allocator.proofs.Ids.IdCounts.{ids_listed}
@@ -32,15 +32,15 @@ pub use Rattle.vm_allocator.proofs.Ids.IdCounts.{ids_listed}
 pub use Rattle.vm_ranges.proofs.ReadRanges.{found-states, states-found}
 
 -- a range that was given: as long as was asked, from a multiple of the alignment on, clear before and held after
-pub record IsGiven (old : AddressState) (request : Request) (r : Range) (new : AddressState) : Type 0 where
+pub record IsAllocation (old : AddressState) (request : Request) (r : Range) (new : AddressState) : Type 0 where
   pub some : 0 < request.size
   pub long : r ≡ span r.start request.size
   pub chosen : IsChosen request old r.start
   pub place : IsPlace request.size request.align old r.start
   pub left : new ≡ holding r old
 
-pub given : (old new : AddressState) (request : Request) (r : Range) → Allocates old request (Ok r) new → IsGiven old request r new
-unfolding Takes
+pub given : (old new : AddressState) (request : Request) (r : Range) → Allocates old request (Ok r) new → IsAllocation old request r new
+unfolding AllocatesAt
 given old new request r h =
     ⊎_elim
     (λ l. absurd (cc (l.1)))
@@ -62,40 +62,40 @@ given old new request r h =
     (allocates_outcome old new (Ok r) request h)
 
 -- a range that was given starts at a multiple of the alignment
-pub given_aligned : (old new : AddressState) (size align : ℕ) (policy : AllocPolicy) (answer : Result Range Error) → Allocates old (request_for size align policy) answer new → IfOk answer (λ r. r.start % align ≡ 0)
+pub allocated_aligned : (old new : AddressState) (size align : ℕ) (policy : AllocPolicy) (answer : Result Range Error) → Allocates old (request_for size align policy) answer new → IfOk answer (λ r. r.start % align ≡ 0)
 unfolding IsPlace
-given_aligned old new size align policy (Ok r) h = (given old new (request_for size align policy) r h).place.0
-given_aligned old new size align policy (Err e) h = tt
+allocated_aligned old new size align policy (Ok r) h = (given old new (request_for size align policy) r h).place.0
+allocated_aligned old new size align policy (Err e) h = tt
 
 -- and has as many addresses as were asked for
-pub given_long : (old new : AddressState) (size align : ℕ) (policy : AllocPolicy) (answer : Result Range Error) → Allocates old (request_for size align policy) answer new → IfOk answer (λ r. address_count r ≡ size)
-given_long old new size align policy (Ok r) h =
+pub allocated_long : (old new : AddressState) (size align : ℕ) (policy : AllocPolicy) (answer : Result Range Error) → Allocates old (request_for size align policy) answer new → IfOk answer (λ r. address_count r ≡ size)
+allocated_long old new size align policy (Ok r) h =
     let g = given old new (request_for size align policy) r h in
     let some : 0 < size = g.some in
     let end : r.end ≡ r.start + size - 1 = ap (λ (v : Range). v.end) g.long in
     omega arith
-given_long old new size align policy (Err e) h = tt
+allocated_long old new size align policy (Err e) h = tt
 
 -- and is held from then on
-pub given_held : (old new : AddressState) (request : Request) (r : Range) → Allocates old request (Ok r) new → Contains new.held r
-given_held old new request r h =
+pub allocated_held : (old new : AddressState) (request : Request) (r : Range) → Allocates old request (Ok r) new → Contains new.held r
+allocated_held old new request r h =
     let g = given old new request r h in contains_held new.held r (subst (λ (v : AddressState). IsHeldRange v.held r) (sym g.left) (held_now r old.held))
 
 -- two that were given one after the other have no address in common
-pub given_apart : (old mid new : AddressState) (first second : Request) (r s : Range) → Allocates old first (Ok r) mid → Allocates mid second (Ok s) new → ¬ Overlaps r s
+pub allocated_apart : (old mid new : AddressState) (first second : Request) (r s : Range) → Allocates old first (Ok r) mid → Allocates mid second (Ok s) new → ¬ Overlaps r s
 unfolding IsPlace Overlaps
-given_apart old mid new first second r s h k o =
+allocated_apart old mid new first second r s h k o =
     let f = given mid new second s k in
     let some = f.some in
     let end : s.end ≡ s.start + second.size - 1 = ap (λ (v : Range). v.end) f.long in
-    let held = held_contains mid.held r (given_held old mid first r h) in
+    let held = held_contains mid.held r (allocated_held old mid first r h) in
     none_holds mid.held o.0 (f.place.1 o.0 o.2.0 (omega (arith, o.2.1))).1 (held_address mid.held r o.0 held o.1)
 
 -- ---- a range that is given back and asked for again by its start
 -- a range that was asked for by its start starts there
-given_at : (old new : AddressState) (size align start : ℕ) (r : Range) → Allocates old (request_for size align (ExactMatch start)) (Ok r) new → r ≡ span start size
+allocated_at_start : (old new : AddressState) (size align start : ℕ) (r : Range) → Allocates old (request_for size align (ExactMatch start)) (Ok r) new → r ≡ span start size
 unfolding IsChosen
-given_at old new size align start r h =
+allocated_at_start old new size align start r h =
     let g = given old new (request_for size align (ExactMatch start)) r h in
     g.long ∙ ap (λ (v : ℕ). span v size) g.chosen.0
 
@@ -103,9 +103,9 @@ given_at old new size align start r h =
 same_range : (r : Range) → r.start ≤ r.end → span r.start (address_count r) ≡ r
 same_range r l = let e : r.start + address_count r - 1 ≡ r.end = omega arith in ap (λ (v : ℕ). record { start = r.start; end = v }) e
 
-pub taken_again : (mid new : AddressState) (r : Range) (answer : Result Range Error) → r.start ≤ r.end → Allocates mid (request_for (address_count r) 1 (ExactMatch r.start)) answer new → IfOk answer (λ again. again ≡ r)
-taken_again mid new r (Ok again) l h = given_at mid new (address_count r) 1 r.start again h ∙ same_range r l
-taken_again mid new r (Err e) l h = tt
+pub allocated_same : (mid new : AddressState) (r : Range) (answer : Result Range Error) → r.start ≤ r.end → Allocates mid (request_for (address_count r) 1 (ExactMatch r.start)) answer new → IfOk answer (λ again. again ≡ r)
+allocated_same mid new r (Ok again) l h = allocated_at_start mid new (address_count r) 1 r.start again h ∙ same_range r l
+allocated_same mid new r (Err e) l h = tt
 
 -- a held address is one of a held range
 range_of : (hs : List Range) (x : ℕ) → IsHeldAddress hs x → (q : Range) × IsHeldRange hs q × IsIn q x
@@ -128,35 +128,35 @@ released_clear old r i h x low high =
     )
 
 -- so it is given again, unless the split is refused
-pub given_again : (old mid new : AddressState) (r : Range) (freed : Result (Unit {0}) Error) (answer : Result Range Error) → IsAddressState old → Contains old.held r → Frees old r freed mid → Allocates mid (request_for (address_count r) 1 (ExactMatch r.start)) answer new → (answer ≡ Ok r) ⊎ IsSplitRefusal mid answer
-unfolding Frees Takes IsPlace IsChosen IsStartAligned IsAlignment
-given_again old mid new r freed answer i c f h =
+pub allocated_again : (old mid new : AddressState) (r : Range) (freed : Result (Unit {0}) Error) (answer : Result Range Error) → IsAddressState old → Contains old.held r → Frees old r freed mid → Allocates mid (request_for (address_count r) 1 (ExactMatch r.start)) answer new → (answer ≡ Ok r) ⊎ IsSplitRefusal mid answer
+unfolding Frees AllocatesAt IsPlace IsChosen IsStartAligned IsAlignment
+allocated_again old mid new r freed answer i c f h =
     let held = held_contains old.held r c in
     let l = held_lies old.space.start old.space.end old.held r i.in_order held in
     let left : mid ≡ releasing r old = ⊎_elim (λ k. k.1.1) (λ k. absurd (k.0 c)) f in
     let request = request_for (address_count r) 1 (ExactMatch r.start) in
     let one : r.start % 1 ≡ 0 = grind arith in
-    let sensible : IsRequest request = record { some = omega arith; aligned = (0, omega arith, refl); start = one } in
+    let valid : IsRequest request = record { some = omega arith; aligned = (0, omega arith, refl); start = one } in
     let clear : AreClear (address_count r) mid r.start = subst (λ (v : AddressState). AreClear (address_count r) v r.start) (sym left) (released_clear old r i held) in
     let chosen : IsChosen request mid r.start = (refl, (one, clear)) in
     ⊎_elim
     (λ k. absurd (omega (arith, l.1, l.3, k.0)))
     (λ k. ⊎_elim (λ t. inl (t.0 ∙ ap (λ (v : Range). Ok v) (same_range r l.1))) (λ t. inr t.2) k.1)
-    (allocates_chosen request r.start mid new answer sensible (omega (arith, l.1, l.3)) chosen h)
+    (allocates_chosen request r.start mid new answer valid (omega (arith, l.1, l.3)) chosen h)
 
 -- and nothing but memory or depth refuses it
-pub refused_again : (old mid new : AddressState) (r : Range) (freed : Result (Unit {0}) Error) (answer : Result Range Error) → IsAddressState old → Contains old.held r → Frees old r freed mid → Allocates mid (request_for (address_count r) 1 (ExactMatch r.start)) answer new → IfErr answer (λ e. (e ≡ OutOfMemory) ⊎ (e ≡ Overflow))
-refused_again old mid new r freed (Ok again) i c f h = tt
-refused_again old mid new r freed (Err e) i c f h =
+pub refused_only_by_limits : (old mid new : AddressState) (r : Range) (freed : Result (Unit {0}) Error) (answer : Result Range Error) → IsAddressState old → Contains old.held r → Frees old r freed mid → Allocates mid (request_for (address_count r) 1 (ExactMatch r.start)) answer new → IfErr answer (λ e. (e ≡ OutOfMemory) ⊎ (e ≡ Overflow))
+refused_only_by_limits old mid new r freed (Ok again) i c f h = tt
+refused_only_by_limits old mid new r freed (Err e) i c f h =
     ⊎_elim
     (λ k. absurd (cc (k)))
     (λ k. ⊎_elim (λ o. inl (cc o)) (λ o. inr (cc (o.1))) k)
-    (given_again old mid new r freed (Err e) i c f h)
+    (allocated_again old mid new r freed (Err e) i c f h)
 
 -- ---- ids
 -- an id that was given was held by no one, and is held now
 pub id_was_free : (old new : IdState) (answer : Result ℕ Error) → AllocatesId old answer new → IfOk answer (λ id. ¬ IsHeld old id)
-unfolding AllocatesId ByLeastNotHeld IsLeastNotHeld
+unfolding AllocatesId ByLowestNotHeld IsLowestNotHeld
 id_was_free old new (Ok id) h =
     ⊎_elim
     (λ l. let e : l.0 ≡ id = cc (l.2.0) in subst (λ (v : ℕ). ¬ IsHeld old v) e l.1.0.1)
@@ -165,7 +165,7 @@ id_was_free old new (Ok id) h =
 id_was_free old new (Err e) h = tt
 
 pub id_is_held : (old new : IdState) (answer : Result ℕ Error) → AllocatesId old answer new → IfOk answer (λ id. IsHeld new id)
-unfolding AllocatesId ByLeastNotHeld
+unfolding AllocatesId ByLowestNotHeld
 id_is_held old new (Ok id) h =
     ⊎_elim
     (λ l.
@@ -192,20 +192,20 @@ frees_held old r c = releases_held old r (held_contains old.held r c)
 
 -- ---- saved values
 -- what is read of a written value is what was written
-pub allocator_again : (d : Data) (old new : SpaceInTree) → StatesAllocator d old → StatesAllocator d new → new ≡ old
+pub allocator_again : (d : Data) (old new : SpaceInTree) → EncodesAllocator d old → EncodesAllocator d new → new ≡ old
 allocator_again d old new s t = one_allocator d new old t s
 
-pub ids_again : (d : Data) (old new : IdState) → StatesIds d old → StatesIds d new → new ≡ old
-ids_again d old new s t = one_stated d new old t s
+pub ids_again : (d : Data) (old new : IdState) → EncodesIds d old → EncodesIds d new → new ≡ old
+ids_again d old new s t = one_encoded d new old t s
 
-pub addresses_again : (d : Data) (old new : AddressState) → StatesAddresses d old → StatesAddresses d new → new ≡ old
-addresses_again d old new s t = sym t.is ∙ ap state_of (one_allocator d t.allocator s.allocator t.stated s.stated) ∙ s.is
+pub addresses_again : (d : Data) (old new : AddressState) → EncodesAddresses d old → EncodesAddresses d new → new ≡ old
+addresses_again d old new s t = sym t.is ∙ ap state_of (one_allocator d t.allocator s.allocator t.encoded s.encoded) ∙ s.is
 
 -- and is the state of an allocator
-pub ids_stated : (d : Data) (state : IdState) → StatesIds d state → IsIdState state
-ids_stated d state s = stated_ids d state s
+pub ids_encoded : (d : Data) (state : IdState) → EncodesIds d state → IsIdState state
+ids_encoded d state s = encoded_ids d state s
 
-pub addresses_stated : (d : Data) (state : AddressState) → StatesAddresses d state → IsAddressState state
-addresses_stated d state s = subst IsAddressState s.is (stated_addresses d s.allocator s.stated)
+pub addresses_encoded : (d : Data) (state : AddressState) → EncodesAddresses d state → IsAddressState state
+addresses_encoded d state s = subst IsAddressState s.is (encoded_addresses d s.allocator s.encoded)
 
-pub ruleset callers = (given_aligned, given_long, given_held, given_apart, taken_again, refused_again, id_was_free, id_is_held, allocator_again, ids_again)
+pub ruleset callers = (allocated_aligned, allocated_long, allocated_held, allocated_apart, allocated_same, refused_only_by_limits, id_was_free, id_is_held, allocator_again, ids_again)

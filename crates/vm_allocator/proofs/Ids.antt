@@ -1,13 +1,13 @@
 pub mod IdSets
 pub mod IdFields
-pub mod TakingIds
+pub mod AllocatedIds
 pub mod IdCounts
-pub mod GivingBack
+pub mod FreedIds
 pub mod IdAnswers
 pub mod EveryIdCall
 pub mod AlongIdHistories
 pub mod IdEnds
-pub mod RisingNumbers
-pub mod RisingBounds
+pub mod IncreasingNumbers
+pub mod IncreasingBounds
 pub mod ReadIds
 pub mod ReadIdStates

@@ -1,4 +1,4 @@
-pub mod Rows
+pub mod KeyCursors
 pub mod KeyNodes
 pub mod AddedKeys
 pub mod HeldKeys

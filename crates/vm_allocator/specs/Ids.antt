@@ -34,8 +34,8 @@ abbrev pub IsOfRange : IdState → ℕ → Type 0
 IsOfRange state i = (state.lo ≤ i) × (i ≤ state.hi)
 
 -- an id that was handed out at some time
-abbrev pub IsHandedOut : IdState → ℕ → Type 0
-IsHandedOut state i = (state.lo ≤ i) × (i < state.bound)
+abbrev pub WasEverAllocated : IdState → ℕ → Type 0
+WasEverAllocated state i = (state.lo ≤ i) × (i < state.bound)
 
 -- an id that is held
 abbrev pub IsHeld : IdState → ℕ → Type 0
@@ -50,8 +50,8 @@ abbrev pub IsNotHeld : IdState → ℕ → Type 0
 IsNotHeld state i = IsOfRange state i × ¬ IsHeld state i
 
 -- the least id of the range that is not held
-unfoldable pub IsLeastNotHeld : IdState → ℕ → Type 0
-IsLeastNotHeld state i = IsNotHeld state i × ((j : ℕ) → IsNotHeld state j → i ≤ j)
+unfoldable pub IsLowestNotHeld : IdState → ℕ → Type 0
+IsLowestNotHeld state i = IsNotHeld state i × ((j : ℕ) → IsNotHeld state j → i ≤ j)
 
 -- each id of the range is held
 unfoldable pub AreAllHeld : IdState → Type 0
@@ -62,11 +62,11 @@ pub record IsIdState (state : IdState) : Type 0 where
   pub range : state.lo ≤ state.hi
   pub ids : state.hi ≤ MAX_ID
   pub bound : (state.lo ≤ state.bound) × (state.bound ≤ state.hi + 1)
-  pub held : (i : ℕ) → IsHeld state i → IsHandedOut state i
+  pub held : (i : ℕ) → IsHeld state i → WasEverAllocated state i
 
 -- no id was handed out yet
-abbrev pub fresh_ids : ℕ → ℕ → IdState
-fresh_ids lo hi = record { lo = lo; hi = hi; bound = lo; held = set.empty }
+abbrev pub new_ids : ℕ → ℕ → IdState
+new_ids lo hi = record { lo = lo; hi = hi; bound = lo; held = set.empty }
 
 -- the state with one more id held, and so handed out
 abbrev pub holding_id : ℕ → IdState → IdState
@@ -78,23 +78,23 @@ releasing_id i state = record state { held = set.remove state.held i }
 
 -- what making an allocator for the ids from lo to hi answers
 unfoldable pub MakesIds : ℕ → ℕ → Result IdState Error → Type 0
-MakesIds lo hi answer = IfElse (hi < lo) (answer ≡ Err (InvalidRange lo hi)) (answer ≡ Ok (fresh_ids lo hi))
+MakesIds lo hi answer = IfElse (hi < lo) (answer ≡ Err (InvalidRange lo hi)) (answer ≡ Ok (new_ids lo hi))
 
 -- the least id that is not held is taken; where all are held the request is refused, by Overflow in a range up to
 -- MAX_ID
-unfoldable pub ByLeastNotHeld : IdState → (ℕ → Type 0) → (Error → Type 0) → Type 0
-ByLeastNotHeld state takes refused =
-    ((i : ℕ) × IsLeastNotHeld state i × takes i)
+unfoldable pub ByLowestNotHeld : IdState → (ℕ → Type 0) → (Error → Type 0) → Type 0
+ByLowestNotHeld state takes refused =
+    ((i : ℕ) × IsLowestNotHeld state i × takes i)
     ⊎ (AreAllHeld state × IfElse (state.hi ≡ MAX_ID) (refused Overflow) (refused ResourceNotAvailable))
 
 -- the answer to a request for an id: the least id that is not held is held from now on, and a refusal changes nothing
 unfoldable pub AllocatesId : IdState → Result ℕ Error → IdState → Type 0
 AllocatesId old answer new =
-    ByLeastNotHeld old (λ i. (answer ≡ Ok i) × (new ≡ holding_id i old)) (λ e. (answer ≡ Err e) × (new ≡ old))
+    ByLowestNotHeld old (λ i. (answer ≡ Ok i) × (new ≡ holding_id i old)) (λ e. (answer ≡ Err e) × (new ≡ old))
 
 -- the answer that a request for an id would get
 unfoldable pub PeeksId : IdState → Result ℕ Error → Type 0
-PeeksId state answer = ByLeastNotHeld state (λ i. answer ≡ Ok i) (λ e. answer ≡ Err e)
+PeeksId state answer = ByLowestNotHeld state (λ i. answer ≡ Ok i) (λ e. answer ≡ Err e)
 
 -- the answer to giving an id back: one that is held is held no more, unless there is no memory for that, and any other
 -- is refused by the first that applies: it is outside the range, it was never handed out, it is not held
@@ -102,7 +102,7 @@ unfoldable pub FreesId : IdState → ℕ → Result ℕ Error → IdState → Ty
 FreesId old i answer new =
     let refused : Error → Type 0 = λ e. (answer ≡ Err e) × (new ≡ old) in
     Unless (IsOfRange old i) (refused (OutOfRange i)) (
-    Unless (IsHandedOut old i) (refused (NeverAllocated i)) (
+    Unless (WasEverAllocated old i) (refused (NeverAllocated i)) (
     Unless (IsHeld old i) (refused (AlreadyReleased i))
     (((answer ≡ Ok i) × (new ≡ releasing_id i old)) ⊎ refused OutOfMemory)))
 

@@ -12,7 +12,7 @@ ghost use Rattle.vm_allocator.specs.Allocator.{state_of, made_state};
 ghost use Rattle.vm_ranges.specs.Cloning.{Clones};
 ghost use Rattle.vm_engine.specs.Tree.Shape.{height_of};
 ghost use Rattle.vm_engine.specs.Counts.GapSearch.{SearchesGaps, SearchesAligned};
-ghost use Rattle.vm_engine.specs.Counts.Steps.{EntersToAllocate, EntersToFree, IsAllocationCount, IsReleaseCount, IsBalancedTreeOf, SplitsIfLow};
+ghost use Rattle.vm_engine.specs.Counts.Steps.{EntersToAllocate, EntersToFree, IsAllocationCount, IsFreeCount, IsBalancedTreeOf, SplitsIfLow};
 
 use std::alloc::Global;
 use std::marker::Model;
@@ -105,7 +105,7 @@ impl AddressAllocator {
         ensures state { IsAddressState (state_of self.new) }
     {
         let answer = self.allocate_counted(alloc, size, alignment, policy).0;
-        self.known();
+        self.recall_invariant();
         answer
     }
 
@@ -171,7 +171,7 @@ impl AddressAllocator {
         // Giving back needs no memory, and succeeds.
         ensures held { Contains (state_of self.old).held key.now → IsOk result.0 }
         ensures count { EntersToFree self.old.tree key.now result.0 0 result.1 }
-        ensures steps { IsReleaseCount (height_of self.old.tree) result.1 }
+        ensures steps { IsFreeCount (height_of self.old.tree) result.1 }
         ensures state { IsAddressState (state_of self.new) }
     {
         self.interval_tree.free_counted(key)
@@ -192,14 +192,14 @@ impl AddressAllocator {
         ensures value { result ≡ (state_of self.now).space.start }
         ensures state { IsAddressState (state_of self.now) }
     {
-        self.known();
+        self.recall_invariant();
         self.address_space.start()
     }
 
     /// For the prover alone: what holds of every state is known from here on.
     #[inline(always)]
     #[tactic(auto, using(vm_engine::proofs::Blocks::BlockStates::is_state))]
-    fn known(&self)
+    fn recall_invariant(&self)
         ensures { IsAddressState (state_of self.now) }
     {
         let _ = self.interval_tree.height();

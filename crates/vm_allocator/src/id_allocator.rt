@@ -9,7 +9,7 @@ ghost use Rattle.vm_allocator.specs.Ids.{
   FreesId,
   NextId,
   IsOfRange,
-  IsHandedOut,
+  WasEverAllocated,
   IsHeld,
   IsNotHeld,
   IsIdState,
@@ -46,7 +46,7 @@ impl Model for IdAllocator {
 }
 
 /// The next id, where it is one of the range up to `range_end`.
-fn next_of_range(next_id: Option<u32>, range_end: u32) -> Result<u32>
+fn next_in_range(next_id: Option<u32>, range_end: u32) -> Result<u32>
     ensures { NextId next_id range_end result }
 {
     match next_id {
@@ -104,7 +104,7 @@ impl IdAllocator {
 
     /// Takes the least id of the range that is not held. Where all are held, `Overflow` in a range up
     /// to `u32::MAX`, and else `ResourceNotAvailable`. It takes no memory.
-    #[tactic(auto, using(crate::proofs::Ids::TakingIds::allocates))]
+    #[tactic(auto, using(crate::proofs::Ids::AllocatedIds::allocates))]
     pub fn allocate_id(&mut self) -> Result<u32>
         ensures answer { AllocatesId self.old result self.new }
         ensures succeeds { (id : ℕ) → IsNotHeld self.old id → IsOk result }
@@ -113,13 +113,13 @@ impl IdAllocator {
         if let Some(id) = self.freed_ids.pop_first() {
             return Ok(id);
         }
-        let id = next_of_range(self.next_id, self.range_end)?;
+        let id = next_in_range(self.next_id, self.range_end)?;
         self.next_id = id.checked_add(1);
         Ok(id)
     }
 
     /// What `allocate_id` would answer, its refusals included; nothing is taken.
-    #[tactic(auto, using(crate::proofs::Ids::TakingIds::peeks, crate::proofs::Ids::IdFields::states))]
+    #[tactic(auto, using(crate::proofs::Ids::AllocatedIds::peeks, crate::proofs::Ids::IdFields::states))]
     pub fn peek_id(&self) -> Result<u32>
         ensures answer { PeeksId self.now result }
         ensures succeeds { (id : ℕ) → IsNotHeld self.now id → IsOk result }
@@ -127,7 +127,7 @@ impl IdAllocator {
     {
         match self.freed_ids.first() {
             Some(id) => Ok(*id),
-            None => next_of_range(self.next_id, self.range_end),
+            None => next_in_range(self.next_id, self.range_end),
         }
     }
 
@@ -137,7 +137,7 @@ impl IdAllocator {
         ensures value { IsTrue result ↔ IsHeld self.now id }
         ensures state { IsIdState self.now }
     {
-        self.was_handed_out(id) && !self.freed_ids.contains(&id)
+        self.was_allocated(id) && !self.freed_ids.contains(&id)
     }
 
     /// How many ids are held. It takes no memory, and looks at none of them.
@@ -145,15 +145,15 @@ impl IdAllocator {
     pub fn held_count(&self) -> u64
         ensures { result ≡ held_count self.now }
     {
-        let handed_out = bound_of(self.next_id, self.range_end) - u64::from(self.range_base);
-        handed_out - self.freed_ids.len() as u64
+        let ever_allocated = bound_of(self.next_id, self.range_end) - u64::from(self.range_base);
+        ever_allocated - self.freed_ids.len() as u64
     }
 
     /// Gives back an id that is held, and answers it. In this order: `OutOfRange(id)` where it is
     /// outside the range, `NeverAllocated(id)` where it was never handed out, `AlreadyReleased(id)`
     /// where it is not held any more, and `OutOfMemory` where a request for memory was refused. A
     /// refusal changes nothing.
-    #[tactic(auto, using(crate::proofs::Ids::GivingBack::frees))]
+    #[tactic(auto, using(crate::proofs::Ids::FreedIds::frees))]
     pub fn free_id(&mut self, id: u32) -> Result<u32>
         ensures answer { FreesId self.old id result self.new }
         ensures held { IsHeld self.old id → (result ≡ Ok id) ⊎ (result ≡ Err Error.OutOfMemory) }
@@ -162,7 +162,7 @@ impl IdAllocator {
         if !self.id_in_range(id) {
             return Err(Error::OutOfRange(id));
         }
-        if !self.was_handed_out(id) {
+        if !self.was_allocated(id) {
             return Err(Error::NeverAllocated(id));
         }
         // Only an id that is not in the set yet asks for memory.
@@ -184,8 +184,8 @@ impl IdAllocator {
 
     /// Whether the id was handed out at some time.
     #[tactic(auto, using(crate::proofs::Ids::IdFields::states), unfolding(crate::specs::Ids::ids_of))]
-    fn was_handed_out(&self, id: u32) -> bool
-        ensures value { IsTrue result ↔ IsHandedOut self.now id }
+    fn was_allocated(&self, id: u32) -> bool
+        ensures value { IsTrue result ↔ WasEverAllocated self.now id }
         ensures state { IsIdState self.now }
     {
         match self.next_id {

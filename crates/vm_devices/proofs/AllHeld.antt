@@ -17,12 +17,12 @@ use Rattle.vm_allocator.specs.Ids.{IdState, IsHeld}
 use Rattle.vm_engine.proofs.Answers.AddressAnswers.{lie_apart}
 use Rattle.vm_allocator.proofs.Callers.{ranges_listed, ids_listed}
 use Rattle.vm_devices.specs.Devices.{DeviceState, IsDevice, ArePaired}
-use Rattle.vm_devices.specs.SavedChecks.{AreHeldApart, AreAllHeld}
-use Rattle.vm_devices.proofs.Entries.{IsEntry, Rise, head_below, rest_rises, found_entry, entry_found, entry_of_id, entry_of_range, has_id, has_range, ids_differ}
+use Rattle.vm_devices.specs.SavedChecks.{AreHeldAndDistinct, AreAllHeld}
+use Rattle.vm_devices.proofs.Entries.{IsEntry, Rise, head_below, rest_increases, found_entry, entry_found, entry_of_id, entry_of_range, has_id, has_range, ids_differ}
 
 -- ---- each has its own
 module _ (ids : IdState) (space : AddressState) where
-  each_held : (seen : set.FinSet nat_cmp) (es : List (ℕ × Range)) (id : ℕ) (r : Range) → AreHeldApart ids space seen es → IsEntry es id r →
+  each_held : (seen : set.FinSet nat_cmp) (es : List (ℕ × Range)) (id : ℕ) (r : Range) → AreHeldAndDistinct ids space seen es → IsEntry es id r →
       IsHeld ids id × Contains space.held r × ¬ IsTrue (set.contains seen r.start)
   each_held seen [] id r a h = absurd h
   each_held seen (e ∷ es) id r a (inl k) = (
@@ -35,26 +35,26 @@ module _ (ids : IdState) (space : AddressState) where
       (i.0, i.1, λ t. i.2 (inserted_other seen e.1.start r.start t))
 
   -- what stands behind a device starts elsewhere
-  starts_elsewhere : (seen : set.FinSet nat_cmp) (e : ℕ × Range) (es : List (ℕ × Range)) (id : ℕ) (r : Range) → AreHeldApart ids space seen (e ∷ es) → IsEntry es id r → ¬ (r.start ≡ e.1.start)
+  starts_elsewhere : (seen : set.FinSet nat_cmp) (e : ℕ × Range) (es : List (ℕ × Range)) (id : ℕ) (r : Range) → AreHeldAndDistinct ids space seen (e ∷ es) → IsEntry es id r → ¬ (r.start ≡ e.1.start)
   starts_elsewhere seen e es id r a h same =
       (each_held (set.insert seen e.1.start) es id r a.3 h).2 (subst (λ (v : ℕ). IsTrue (set.contains (set.insert seen e.1.start) v)) (sym same) (inserted_here seen e.1.start))
 
-  one_id : (seen : set.FinSet nat_cmp) (es : List (ℕ × Range)) (i j : ℕ) (r : Range) → AreHeldApart ids space seen es → IsEntry es i r → IsEntry es j r → i ≡ j
+  one_id : (seen : set.FinSet nat_cmp) (es : List (ℕ × Range)) (i j : ℕ) (r : Range) → AreHeldAndDistinct ids space seen es → IsEntry es i r → IsEntry es j r → i ≡ j
   one_id seen [] i j r a h k = absurd h
   one_id seen (e ∷ es) i j r a (inl h) (inl k) = ap (λ (v : ℕ × Range). v.0) (sym h ∙ k)
   one_id seen (e ∷ es) i j r a (inl h) (inr k) = absurd (starts_elsewhere seen e es j r a k (ap (λ (v : ℕ × Range). v.1.start) (sym h)))
   one_id seen (e ∷ es) i j r a (inr h) (inl k) = absurd (starts_elsewhere seen e es i r a h (ap (λ (v : ℕ × Range). v.1.start) (sym k)))
   one_id seen (e ∷ es) i j r a (inr h) (inr k) = one_id (set.insert seen e.1.start) es i j r a.3 h k
 
-  ids_held : (seen : set.FinSet nat_cmp) (es : List (ℕ × Range)) → AreHeldApart ids space seen es → All (IsHeld ids) (keys_of es)
+  ids_held : (seen : set.FinSet nat_cmp) (es : List (ℕ × Range)) → AreHeldAndDistinct ids space seen es → All (IsHeld ids) (keys_of es)
   ids_held seen [] a = All-nil (IsHeld ids)
   ids_held seen (e ∷ es) a = All-cons (IsHeld ids) e.0 (keys_of es) a.0 (ids_held (set.insert seen e.1.start) es a.3)
 
-  ranges_held : (seen : set.FinSet nat_cmp) (es : List (ℕ × Range)) → AreHeldApart ids space seen es → All (Contains space.held) (values_of es)
+  ranges_held : (seen : set.FinSet nat_cmp) (es : List (ℕ × Range)) → AreHeldAndDistinct ids space seen es → All (Contains space.held) (values_of es)
   ranges_held seen [] a = All-nil (Contains space.held)
   ranges_held seen (e ∷ es) a = All-cons (Contains space.held) e.1 (values_of es) a.1 (ranges_held (set.insert seen e.1.start) es a.3)
 
-  ranges_differ : (seen : set.FinSet nat_cmp) (es : List (ℕ × Range)) → AreHeldApart ids space seen es → AllPairs (λ r s. r ≢ s) (values_of es)
+  ranges_differ : (seen : set.FinSet nat_cmp) (es : List (ℕ × Range)) → AreHeldAndDistinct ids space seen es → AllPairs (λ r s. r ≢ s) (values_of es)
   ranges_differ seen [] a = λ i j d l m. absurd (omega (arith, m))
   ranges_differ seen (e ∷ es) a =
       AllPairs-cons (λ r s. r ≢ s) e.1 (values_of es)
@@ -113,14 +113,14 @@ module _ (state : DeviceState) (es : List (ℕ × Range)) (is : state.devices �
   -- so some of the devices, which do not start where those seen before them do, have each its own
   apart_from : IsAddressState state.space → ArePaired state → (seen : set.FinSet nat_cmp) (fs : List (ℕ × Range)) → Rise fs →
       ((id : ℕ) (r : Range) → IsEntry fs id r → IsEntry es id r) → ((id : ℕ) (r : Range) → IsEntry fs id r → ¬ IsTrue (set.contains seen r.start)) →
-      AreHeldApart state.ids state.space seen fs
+      AreHeldAndDistinct state.ids state.space seen fs
   apart_from i p seen [] t among new = tt
   apart_from i p seen (f ∷ fs) t among new =
       let d = entry_device f.0 f.1 (among f.0 f.1 (inl refl)) in (
         (p.ids f.0).1 (subst IsSome (sym d) refl),
         p.held f.0 f.1 d,
         new f.0 f.1 (inl refl),
-        apart_from i p (set.insert seen f.1.start) fs (rest_rises f fs t) (λ id r h. among id r (inr h))
+        apart_from i p (set.insert seen f.1.start) fs (rest_increases f fs t) (λ id r h. among id r (inr h))
             (λ id r h c.
             ⊎_elim
             (λ (e : r.start ≡ f.1.start).

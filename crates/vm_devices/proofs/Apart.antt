@@ -10,7 +10,7 @@ use Rattle.vm_ranges.proofs.NumberSets.{same_members, inserted_here, inserted_ot
 use Rattle.vm_ranges.specs.Range.{Range}
 use Rattle.vm_engine.specs.Address.{AddressState}
 use Rattle.vm_allocator.specs.Ids.{IdState, IsHeld}
-use Rattle.vm_devices.specs.SavedChecks.{AreHeldApart}
+use Rattle.vm_devices.specs.SavedChecks.{AreHeldAndDistinct}
 
 -- the starts in a set, as a finite set
 abbrev seen : BTreeSet ℕ → set.FinSet nat_cmp
@@ -42,25 +42,25 @@ one_more_seen starts more k u =
 pub record IsAt (ids : IdState) (space : AddressState) (whole : Type 0) (starts : BTreeSet ℕ) (e : ℕ × Range) (rest : List (ℕ × Range)) : Type 0 where
   pub left : List (ℕ × Range)
   pub at : left ≡ e ∷ rest
-  pub so_far : whole ↔ AreHeldApart ids space (seen starts) left
+  pub so_far : whole ↔ AreHeldAndDistinct ids space (seen starts) left
 
 module _ {ids : IdState} {space : AddressState} {whole : Type 0} {starts : BTreeSet ℕ} {e : ℕ × Range} {rest : List (ℕ × Range)} (h : IsAt ids space whole starts e rest) where
   -- behind one that has its own
   pub one_apart : (more : BTreeSet ℕ) → IsHeld ids e.0 → Contains space.held e.1 → contains nat_cmp starts e.1.start ≡ false →
-      Updates nat_cmp starts more e.1.start true → whole ↔ AreHeldApart ids space (seen more) rest
+      Updates nat_cmp starts more e.1.start true → whole ↔ AreHeldAndDistinct ids space (seen more) rest
   one_apart more id range new u =
       let is = one_more_seen starts more e.1.start u in
       let fresh : ¬ IsTrue (set.contains (seen starts) e.1.start) = λ t. both_ways _ (is_seen starts e.1.start ∙ new) t in (
         λ w.
-            let all = subst (AreHeldApart ids space (seen starts)) h.at (h.so_far.0 w) in
-            subst (λ (v : set.FinSet nat_cmp). AreHeldApart ids space v rest) (sym is) all.3,
+            let all = subst (AreHeldAndDistinct ids space (seen starts)) h.at (h.so_far.0 w) in
+            subst (λ (v : set.FinSet nat_cmp). AreHeldAndDistinct ids space v rest) (sym is) all.3,
         λ a.
-            let others = subst (λ (v : set.FinSet nat_cmp). AreHeldApart ids space v rest) is a in
-            h.so_far.1 (subst (AreHeldApart ids space (seen starts)) (sym h.at) (id, range, fresh, others)),
+            let others = subst (λ (v : set.FinSet nat_cmp). AreHeldAndDistinct ids space v rest) is a in
+            h.so_far.1 (subst (AreHeldAndDistinct ids space (seen starts)) (sym h.at) (id, range, fresh, others)),
       )
 
   -- one that starts where an earlier one does
   pub one_twice : contains nat_cmp starts e.1.start ≡ true → ¬ whole
   one_twice old w =
-      let all = subst (AreHeldApart ids space (seen starts)) h.at (h.so_far.0 w) in
+      let all = subst (AreHeldAndDistinct ids space (seen starts)) h.at (h.so_far.0 w) in
       all.2 (is_seen starts e.1.start ∙ old)

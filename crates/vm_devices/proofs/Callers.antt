@@ -6,7 +6,7 @@ use Rattle.vm_ranges.specs.Request.{Request, request_for}
 use Rattle.vm_engine.specs.Answer.{Allocates}
 use Rattle.vm_ranges.specs.declared.error.Error.{Error}
 use Rattle.vm_ranges.specs.declared.constraint.AllocPolicy.{AllocPolicy}
-use Rattle.vm_allocator.proofs.Callers.{given_aligned, given_long, given_apart}
+use Rattle.vm_allocator.proofs.Callers.{allocated_aligned, allocated_long, allocated_apart}
 use Rattle.vm_devices.specs.declared.device_slot.DeviceSlot.{DeviceSlot}
 use Rattle.vm_devices.specs.Devices.{DeviceState, IsDevice, IsDeviceState, Reserves, Releases}
 use Rattle.vm_devices.proofs.DevicesAgain.{reserved_again}
@@ -18,7 +18,7 @@ pub device_aligned : (old new : DeviceState) (size align : ℕ) (policy : AllocP
     Reserves old (request_for size align policy) answer new → IfOk answer (λ slot. slot.range.start % align ≡ 0)
 device_aligned old new size align policy (Ok slot) h =
     let d = reserved_device old new (request_for size align policy) slot h in
-    given_aligned old.space (holding slot.range old.space) size align policy (Ok slot.range) d.given
+    allocated_aligned old.space (holding slot.range old.space) size align policy (Ok slot.range) d.given
 device_aligned old new size align policy (Err e) h = tt
 
 -- and has as many addresses as were asked for
@@ -26,7 +26,7 @@ pub device_long : (old new : DeviceState) (size align : ℕ) (policy : AllocPoli
     Reserves old (request_for size align policy) answer new → IfOk answer (λ slot. address_count slot.range ≡ size)
 device_long old new size align policy (Ok slot) h =
     let d = reserved_device old new (request_for size align policy) slot h in
-    given_long old.space (holding slot.range old.space) size align policy (Ok slot.range) d.given
+    allocated_long old.space (holding slot.range old.space) size align policy (Ok slot.range) d.given
 device_long old new size align policy (Err e) h = tt
 
 -- it is a device from then on
@@ -43,7 +43,7 @@ devices_share_none old mid new first second slot other h k =
     let d = reserved_device old mid first slot h in
     let e = reserved_device mid new second other k in
     let space : mid.space ≡ holding slot.range old.space = ap (λ (s : DeviceState). s.space) d.left in
-    given_apart old.space mid.space (holding other.range mid.space) first second slot.range other.range (subst (Allocates old.space first (Ok slot.range)) (sym space) d.given) e.given
+    allocated_apart old.space mid.space (holding other.range mid.space) first second slot.range other.range (subst (Allocates old.space first (Ok slot.range)) (sym space) d.given) e.given
 
 -- a device that is released at once is reserved again by the same request
 pub device_again : (old mid new later : DeviceState) (request : Request) (slot : DeviceSlot) (answer : Result DeviceSlot Error) → IsDeviceState old →

@@ -8,13 +8,13 @@ use Rattle.vm_ranges.specs.Range.{Range}
 use Rattle.vm_engine.specs.Address.{AddressState, releasing}
 use Rattle.vm_ranges.specs.Request.{Request}
 use Rattle.vm_engine.specs.Answer.{Allocates, Frees, Makes}
-use Rattle.vm_allocator.specs.Ids.{IdState, IsHeld, MakesIds, ByLeastNotHeld, PeeksId, AllocatesId, FreesId, releasing_id}
+use Rattle.vm_allocator.specs.Ids.{IdState, IsHeld, MakesIds, ByLowestNotHeld, PeeksId, AllocatesId, FreesId, releasing_id}
 use Rattle.vm_ranges.specs.declared.error.Error.{Error}
 use Rattle.vm_ranges.specs.declared.error.Error.TheVariants.{Overflow, ResourceNotAvailable, NeverAllocated, OutOfMemory}
 use Rattle.vm_engine.proofs.Answers.AddressAnswers.{freeing_undoes}
 use Rattle.vm_allocator.proofs.Answers.EveryAddressCall.{every_call}
 use Rattle.vm_allocator.proofs.Callers.{given}
-use Rattle.vm_allocator.proofs.Ids.IdAnswers.{peeking_foretells}
+use Rattle.vm_allocator.proofs.Ids.IdAnswers.{peeking_predicts}
 use Rattle.vm_devices.specs.declared.device_slot.DeviceSlot.{DeviceSlot}
 use Rattle.vm_devices.specs.Devices.{DeviceState, IsDeviceState, IsDevice, devices_of, MakesManager, Reserves, Releases}
 use Rattle.vm_devices.proofs.Tables.{table_with, table_without, no_entries}
@@ -56,14 +56,14 @@ pub ruleset makes_managers = (ids_refused, space_refused, manager_made)
 
 -- ---- reserving
 -- an id that is foretold is the least
-for_peeked : (ids : IdState) (id : ℕ) (takes : ℕ → Type 0) (refused : Error → Type 0) → PeeksId ids (Ok id) → takes id → ByLeastNotHeld ids takes refused
-unfolding PeeksId ByLeastNotHeld
+for_peeked : (ids : IdState) (id : ℕ) (takes : ℕ → Type 0) (refused : Error → Type 0) → PeeksId ids (Ok id) → takes id → ByLowestNotHeld ids takes refused
+unfolding PeeksId ByLowestNotHeld
 for_peeked ids id takes refused (inl h) t = let same : id ≡ h.0 = cc (h.2) in inl (h.0, h.1, subst takes same t)
 for_peeked ids id takes refused (inr (all, inl h)) t = absurd (cc (h.1))
 for_peeked ids id takes refused (inr (all, inr h)) t = absurd (cc (h.1))
 
 pub id_refused : (old new : DeviceState) (request : Request) (e : Error) → PeeksId old.ids (Err e) → new ≡ old → Reserves old request (Err e) new
-unfolding Reserves PeeksId ByLeastNotHeld
+unfolding Reserves PeeksId ByLowestNotHeld
 id_refused old new request e (inl h) same = absurd (cc (h.2))
 id_refused old new request e (inr (all, inl h)) same = let is : e ≡ Overflow = cc (h.1) in inr (all, inl (h.0, (ap (λ (v : Error). Err v) is, same)))
 id_refused old new request e (inr (all, inr h)) same =
@@ -73,17 +73,17 @@ id_refused old new request e (inr (all, inr h)) same =
 pub record IsAsked (old : DeviceState) (request : Request) (given : Result Range Error) : Type 0 where
   pub id : ℕ
   pub space : AddressState
-  pub foretold : PeeksId old.ids (Ok id)
+  pub predicted : PeeksId old.ids (Ok id)
   pub answer : Allocates old.space request given space
 
 pub range_refused : {old new : DeviceState} {request : Request} {e : Error} → IsAsked old request (Err e) → new ≡ old → Reserves old request (Err e) new
 unfolding Reserves
-range_refused {old} {new} {request} {e} a same = for_peeked old.ids a.id _ _ a.foretold (Err e, a.space, a.answer, (refl, same))
+range_refused {old} {new} {request} {e} a same = for_peeked old.ids a.id _ _ a.predicted (Err e, a.space, a.answer, (refl, same))
 
 pub table_refused : {old new : DeviceState} {request : Request} {r : Range} → IsAsked old request (Ok r) → new ≡ old →
     Reserves old request (Err OutOfMemory) new
 unfolding Reserves
-table_refused {old} {new} {request} {r} a same = for_peeked old.ids a.id _ _ a.foretold (Ok r, a.space, a.answer, inr (refl, same))
+table_refused {old} {new} {request} {r} a same = for_peeked old.ids a.id _ _ a.predicted (Ok r, a.space, a.answer, inr (refl, same))
 
 -- a range is given and given back, and the table left as it was
 pub record IsUndone (old : Parts) (later : AddressState) (left : BTreeMap ℕ Range) : Type 0 where
@@ -106,7 +106,7 @@ undone {old} {later} {left} i u =
 -- the id that was foretold and a range are given, and entered in the table
 pub record Comes (old new : Parts) (request : Request) (slot : DeviceSlot) : Type 0 where
   pub answer : Result ℕ Error
-  pub foretold : PeeksId old.ids (Ok slot.id)
+  pub predicted : PeeksId old.ids (Ok slot.id)
   pub taken : AllocatesId old.ids answer new.ids
   pub given : Allocates old.space request (Ok slot.range) new.space
   pub entered : Updates nat_cmp old.slots new.slots slot.id (Some slot.range)
@@ -115,10 +115,10 @@ pub record Comes (old new : Parts) (request : Request) (slot : DeviceSlot) : Typ
 pub come : {old new : Parts} {request : Request} {slot : DeviceSlot} → Comes old new request slot → Reserves (state_in old) request (Ok slot) (state_in new)
 unfolding Reserves
 come {old} {new} {request} {slot} c =
-    let foretold = (peeking_foretells.held old.ids new.ids slot.id c.answer c.foretold c.taken).1 in
+    let predicted = (peeking_predicts.held old.ids new.ids slot.id c.answer c.predicted c.taken).1 in
     let given = (given old.space new.space request slot.range c.given).left in
     let table = table_with old.slots new.slots slot.id slot.range c.entered in
-    for_peeked old.ids slot.id _ _ c.foretold (Ok slot.range, new.space, c.given, inl (refl, cc (foretold, given, table)))
+    for_peeked old.ids slot.id _ _ c.predicted (Ok slot.range, new.space, c.given, inl (refl, cc (predicted, given, table)))
 
 pub come_state : {old new : Parts} {request : Request} {slot : DeviceSlot} → IsDeviceState (state_in old) → Comes old new request slot →
     IsDeviceState (state_in new)

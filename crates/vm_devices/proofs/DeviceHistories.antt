@@ -8,15 +8,15 @@ use Rattle.vm_engine.specs.Address.{holding}
 use Rattle.vm_engine.specs.Answer.{Allocates}
 use Rattle.vm_allocator.specs.Ids.{IsOfRange}
 use Rattle.vm_engine.proofs.Answers.AddressAnswers.{lie_apart}
-use Rattle.vm_allocator.proofs.Callers.{given, given_aligned}
+use Rattle.vm_allocator.proofs.Callers.{given, allocated_aligned}
 use Rattle.vm_devices.specs.declared.device_slot.DeviceSlot.{DeviceSlot}
 use Rattle.vm_devices.specs.Devices.{DeviceState, IsDevice, IsDeviceState}
-use Rattle.vm_devices.specs.Histories.{DeviceCall, Reservation, Release, IsDeviceCallFrom, IsDeviceHistoryFrom, IsManagerMade, IsManagerRead, AreDevicesReached, WasReserved, WasStated}
-use Rattle.vm_devices.specs.Laws.{DevicesAreGood}
+use Rattle.vm_devices.specs.Histories.{DeviceCall, Reservation, Release, IsDeviceCallFrom, IsDeviceHistoryFrom, IsManagerMade, IsManagerRead, AreDevicesReached, WasReserved, WasRead}
+use Rattle.vm_devices.specs.Laws.{DevicesAreValid}
 use Rattle.vm_devices.proofs.Tables.{with_here, with_other}
 use Rattle.vm_devices.proofs.Pairs.{one_range, was, id_held}
 use Rattle.vm_devices.proofs.NewManagers.{made_state}
-use Rattle.vm_devices.proofs.SavedManagers.{stated_state}
+use Rattle.vm_devices.proofs.SavedManagers.{encoded_state}
 use Rattle.vm_devices.proofs.Reserving.{reserving_outcome, releasing_outcome, reserved_state, released_state}
 
 -- ---- every state that is reached is one
@@ -30,7 +30,7 @@ history_state (call ∷ calls) first last h i = history_state calls h.0 last h.2
 
 first_state : (first : DeviceState) → IsManagerMade first ⊎ IsManagerRead first → IsDeviceState first
 first_state first (inl m) = (made_state m.lo m.hi m.base m.size first m.id m.word m.made).0
-first_state first (inr r) = stated_state r.value first r.stated
+first_state first (inr r) = encoded_state r.value first r.encoded
 
 reached_state : (calls : List DeviceCall) (old : DeviceState) → AreDevicesReached calls old → IsDeviceState old
 reached_state calls old r = history_state calls r.first old r.history (first_state r.first r.begins)
@@ -59,7 +59,7 @@ call_reserves old new (Reservation request answer) calls id r h i d =
     inr (record {
       request = request;
       call = (0, omega arith, ap (Reservation request) (made.1 ∙ ap (λ (s : DeviceSlot). Ok s) named));
-      aligned = given_aligned old.space (holding slot.range old.space) request.size request.align request.policy (Ok r) a;
+      aligned = allocated_aligned old.space (holding slot.range old.space) request.size request.align request.policy (Ok r) a;
       long = (given old.space (holding slot.range old.space) request r a).long;
     }))
     (λ (ne : id ≡ slot.id → ⊥). inl (sym (with_other old.devices slot.id slot.range id ne) ∙ now))
@@ -81,14 +81,14 @@ history_reserves (call ∷ calls) first last id r h i d =
     (history_reserves calls h.0 last id r h.2 (call_state first h.0 call h.1 i) d)
 
 -- a new manager has no device, so each was reserved, or stated by the value that was read
-first_devices : (first : DeviceState) (id : ℕ) (r : Range) → IsManagerMade first ⊎ IsManagerRead first → IsDevice first id r → WasStated first id r
+first_devices : (first : DeviceState) (id : ℕ) (r : Range) → IsManagerMade first ⊎ IsManagerRead first → IsDevice first id r → WasRead first id r
 first_devices first id r (inl m) k =
     let made = made_state m.lo m.hi m.base m.size first m.id m.word m.made in
     let none : None ≡ Some r = sym (ap (λ (t : map.FinMap nat_cmp Range). map.get t id) made.1 ∙ map.get-empty nat_cmp id) ∙ k in
     absurd (cc (none))
 first_devices first id r (inr read) k = record { read = read; device = k }
 
-reached_reserved : (calls : List DeviceCall) (old : DeviceState) (id : ℕ) (r : Range) (h : AreDevicesReached calls old) → IsDevice old id r → WasReserved calls id r ⊎ WasStated h.first id r
+reached_reserved : (calls : List DeviceCall) (old : DeviceState) (id : ℕ) (r : Range) (h : AreDevicesReached calls old) → IsDevice old id r → WasReserved calls id r ⊎ WasRead h.first id r
 reached_reserved calls old id r h d =
     ⊎_elim
     (λ (k : IsDevice h.first id r). inr (first_devices h.first id r h.begins k))
@@ -109,8 +109,8 @@ device_inside old id r is d =
     let out = is.ids.held id (id_held old id r is d) in
     ((out.0, omega (arith, out.1, is.ids.bound.1)), (l.inside r c).1, l.below r c)
 
-pub devices_are_good : DevicesAreGood
-devices_are_good = record {
+pub devices_are_valid : DevicesAreValid
+devices_are_valid = record {
   state = reached_state;
   apart = λ calls old i j r s h. devices_apart old i j r s (reached_state calls old h);
   inside = λ calls old id r h. device_inside old id r (reached_state calls old h);

@@ -6,17 +6,17 @@ use Rattle.vm_ranges.specs.Range.{Range, address_count}
 use Rattle.vm_engine.specs.Address.{AddressState, holding, releasing}
 use Rattle.vm_ranges.specs.Request.{Request, request_for}
 use Rattle.vm_engine.specs.Answer.{IsSplitRefusal, Allocates}
-use Rattle.vm_allocator.specs.Ids.{IdState, IsHeld, IsLeastNotHeld, AreAllHeld, ByLeastNotHeld, holding_id, releasing_id}
+use Rattle.vm_allocator.specs.Ids.{IdState, IsHeld, IsLowestNotHeld, AreAllHeld, ByLowestNotHeld, holding_id, releasing_id}
 use Rattle.vm_ranges.specs.declared.error.Error.{Error}
 use Rattle.vm_ranges.specs.declared.error.Error.TheVariants.{NeverAllocated, OutOfMemory}
 use Rattle.vm_ranges.specs.declared.constraint.AllocPolicy.TheVariants.{ExactMatch}
-use Rattle.vm_allocator.proofs.Callers.{given_held, given_again, frees_held}
+use Rattle.vm_allocator.proofs.Callers.{allocated_held, allocated_again, frees_held}
 use Rattle.vm_engine.proofs.Answers.Once.{allocates_once}
 use Rattle.vm_engine.proofs.Answers.AddressAnswers.{freeing_undoes}
-use Rattle.vm_allocator.proofs.Ids.IdAnswers.{one_least}
+use Rattle.vm_allocator.proofs.Ids.IdAnswers.{one_lowest}
 use Rattle.vm_devices.specs.declared.device_slot.DeviceSlot.{DeviceSlot}
 use Rattle.vm_devices.specs.Devices.{DeviceState, IsDevice, with_device, without_device, Pairs, Reserves, Releases}
-use Rattle.vm_devices.specs.Laws.{IsExcused, ReservedAgain, RangeComesBack}
+use Rattle.vm_devices.specs.Laws.{IsLimit, ReservedAgain, RangeIsReservedAgain}
 use Rattle.vm_devices.proofs.Tables.{with_here}
 use Rattle.vm_devices.proofs.Pairs.{id_held}
 use Rattle.vm_devices.proofs.Reserving.{reserved_device}
@@ -33,7 +33,7 @@ device_released old new id r answer d h plain =
 
 -- what a request for a range comes to, for an id
 told : (old new : DeviceState) (id : ℕ) (given : Result Range Error) (answer : Result DeviceSlot Error) (r : Range) →
-    Pairs old id given answer new → (given ≡ Ok r) ⊎ IsSplitRefusal old.space given → (answer ≡ Ok (record { id = id; range = r })) ⊎ IsExcused old answer
+    Pairs old id given answer new → (given ≡ Ok r) ⊎ IsSplitRefusal old.space given → (answer ≡ Ok (record { id = id; range = r })) ⊎ IsLimit old answer
 told old new id given answer r p (inl e) =
     ⊎_elim (λ t. inl t.0) (λ m. inr (inl m.0)) (subst (λ (g : Result Range Error). Pairs old id g answer new) e p)
 told old new id given answer r p (inr (inl e)) =
@@ -43,18 +43,18 @@ told old new id given answer r p (inr (inr e)) =
 
 -- ---- the same request
 -- the id that was taken and given back is the least again
-least_again : (ids : IdState) (id : ℕ) → IsLeastNotHeld ids id → IsLeastNotHeld (releasing_id id (holding_id id ids)) id
-unfolding IsLeastNotHeld
-least_again ids id h = (
+lowest_again : (ids : IdState) (id : ℕ) → IsLowestNotHeld ids id → IsLowestNotHeld (releasing_id id (holding_id id ids)) id
+unfolding IsLowestNotHeld
+lowest_again ids id h = (
   (h.0.0, λ k. (from_removed (holding_id id ids).held id id k).0 refl),
   λ j n. h.1 j (n.0, λ k. n.1 (removed_other (holding_id id ids).held id j (λ e. h.0.1 (subst (IsHeld ids) e k)) (inserted_other ids.held id j k))),
 )
 
 -- where an id is the least that is not held, a request is for that one
-for_least : (ids : IdState) (id : ℕ) (takes : ℕ → Type 0) (refused : Error → Type 0) → IsLeastNotHeld ids id → ByLeastNotHeld ids takes refused → takes id
-unfolding ByLeastNotHeld AreAllHeld IsLeastNotHeld
-for_least ids id takes refused least (inl h) = subst takes (one_least ids h.0 id h.1 least) h.2
-for_least ids id takes refused least (inr h) = absurd (least.0.1 (h.0 id least.0.0))
+for_lowest : (ids : IdState) (id : ℕ) (takes : ℕ → Type 0) (refused : Error → Type 0) → IsLowestNotHeld ids id → ByLowestNotHeld ids takes refused → takes id
+unfolding ByLowestNotHeld AreAllHeld IsLowestNotHeld
+for_lowest ids id takes refused lowest (inl h) = subst takes (one_lowest ids h.0 id h.1 lowest) h.2
+for_lowest ids id takes refused lowest (inr h) = absurd (lowest.0.1 (h.0 id lowest.0.0))
 
 -- the same range is given, or the split is refused
 same_given : (old new : AddressState) (request : Request) (r : Range) (given : Result Range Error) →
@@ -74,22 +74,22 @@ reserved_again old mid new later request slot released answer i s f plain t =
     let device : IsDevice mid id r = ap (λ (v : DeviceState). map.get v.devices id) m.left ∙ with_here old.devices id r in
     let left : new ≡ without_device id r (with_device id r old) = device_released mid new id r released device f plain ∙ ap (without_device id r) m.left in
     let given = holding r old.space in
-    let frees = frees_held given r (given_held old.space given request r m.given) in
+    let frees = frees_held given r (allocated_held old.space given request r m.given) in
     let back : releasing r given ≡ old.space = (freeing_undoes old.space given (releasing r given) request r (Ok tt) i.space m.given frees).1 in
     let space : new.space ≡ old.space = ap (λ (v : DeviceState). v.space) left ∙ back in
-    let least : IsLeastNotHeld new.ids id = subst (λ (v : IdState). IsLeastNotHeld v id) (sym (ap (λ (v : DeviceState). v.ids) left)) (least_again old.ids id m.least) in
-    let u = for_least new.ids id _ _ least t in
+    let lowest : IsLowestNotHeld new.ids id = subst (λ (v : IdState). IsLowestNotHeld v id) (sym (ap (λ (v : DeviceState). v.ids) left)) (lowest_again old.ids id m.lowest) in
+    let u = for_lowest new.ids id _ _ lowest t in
     let first = subst (λ (v : AddressState). Allocates v request (Ok r) (holding r v)) (sym space) m.given in
     told new later id u.0 answer r u.3 (same_given new.space u.1 request r u.0 first u.2)
 
 -- ---- the same range
 -- an id that is given back leaves one that is not held
-for_some : (ids : IdState) (id : ℕ) (takes : ℕ → Type 0) (refused : Error → Type 0) → (ids.lo ≤ id) × (id ≤ ids.hi) → ByLeastNotHeld (releasing_id id ids) takes refused → (some : ℕ) × takes some
-unfolding ByLeastNotHeld AreAllHeld
+for_some : (ids : IdState) (id : ℕ) (takes : ℕ → Type 0) (refused : Error → Type 0) → (ids.lo ≤ id) × (id ≤ ids.hi) → ByLowestNotHeld (releasing_id id ids) takes refused → (some : ℕ) × takes some
+unfolding ByLowestNotHeld AreAllHeld
 for_some ids id takes refused inside (inl h) = (h.0, h.2)
 for_some ids id takes refused inside (inr h) = absurd ((from_removed ids.held id id (h.0 id inside)).0 refl)
 
-pub range_comes_back : RangeComesBack
+pub range_comes_back : RangeIsReservedAgain
 unfolding Reserves
 range_comes_back old new later id r released answer i d f plain t =
     let left = device_released old new id r released d f plain in
@@ -98,10 +98,10 @@ range_comes_back old new later id r released answer i d f plain t =
     let t' = subst (λ (v : DeviceState). Reserves v (request_for (address_count r) 1 (ExactMatch r.start)) answer later) left t in
     let u = for_some old.ids id _ _ (out.0, omega (arith, out.1, i.ids.bound.1)) t' in
     let frees = frees_held old.space r held in
-    let given = given_again old.space (releasing r old.space) u.1.1 r (Ok tt) u.1.0 i.space held frees u.1.2 in
+    let given = allocated_again old.space (releasing r old.space) u.1.1 r (Ok tt) u.1.0 i.space held frees u.1.2 in
     ⊎_elim
     (λ e. inl (u.0, e))
-    (λ e. inr (subst (λ (v : DeviceState). IsExcused v answer) (sym left) e))
+    (λ e. inr (subst (λ (v : DeviceState). IsLimit v answer) (sym left) e))
     (told (without_device id r old) later u.0 u.1.0 answer r u.1.3 given)
 
 pub ruleset again = (reserved_again, range_comes_back)

@@ -4,12 +4,12 @@ use Rattle.std.specs.FinMap as map
 use Rattle.vm_ranges.specs.Range.{Range}
 use Rattle.vm_engine.specs.Address.{AddressState}
 use Rattle.vm_ranges.specs.Request.{Request}
-use Rattle.vm_engine.specs.Answer.{FEWEST_TOO_DEEP, Makes}
+use Rattle.vm_engine.specs.Answer.{SPLIT_LIMIT_MIN_HELD, Makes}
 use Rattle.vm_allocator.specs.Ids.{IdState}
 use Rattle.vm_ranges.specs.declared.error.Error.{Error}
 use Rattle.vm_ranges.specs.declared.error.Error.TheVariants.{NeverAllocated, OutOfMemory}
-use Rattle.vm_allocator.proofs.Answers.Amply.{placed_once, made_once}
-use Rattle.vm_allocator.proofs.Ids.IdAnswers.{making_is_determined, by_same_least}
+use Rattle.vm_allocator.proofs.Answers.BelowLimits.{placed_once, made_once}
+use Rattle.vm_allocator.proofs.Ids.IdAnswers.{making_is_determined, by_same_lowest}
 use Rattle.vm_devices.specs.declared.device_slot.DeviceSlot.{DeviceSlot}
 use Rattle.vm_devices.specs.Devices.{DeviceState, made_devices, without_device, MakesManager, Pairs, Reserves, Releases}
 use Rattle.vm_devices.specs.Laws.{DevicesDecide}
@@ -47,10 +47,10 @@ plain_range old new id given answer plain p e =
     plain ((subst (λ (g : Result Range Error). Pairs old id g answer new) e p).0)
 
 reserved_once : (old new later : DeviceState) (request : Request) (answer other : Result DeviceSlot Error) → answer ≢ Err OutOfMemory → other ≢ Err OutOfMemory →
-    length old.space.held < FEWEST_TOO_DEEP → Reserves old request answer new → Reserves old request other later → (answer ≡ other) × (new ≡ later)
+    length old.space.held < SPLIT_LIMIT_MIN_HELD → Reserves old request answer new → Reserves old request other later → (answer ≡ other) × (new ≡ later)
 unfolding Reserves
 reserved_once old new later request answer other p q few a b =
-    by_same_least old.ids _ _ _ _ ((answer ≡ other) × (new ≡ later)) a b
+    by_same_lowest old.ids _ _ _ _ ((answer ≡ other) × (new ≡ later)) a b
     (λ id u v.
     let same = placed_once old.space u.1 v.1 request u.0 v.0 few (plain_range old new id u.0 answer p u.3) (plain_range old later id v.0 other q v.3) u.2 v.2 in
     pairs_once old new later id answer other p q v.0 (subst (λ (g : Result Range Error). Pairs old id g answer new) same.0 u.3) v.3)

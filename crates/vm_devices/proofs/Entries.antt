@@ -33,9 +33,9 @@ pub head_below : (e : ℕ × Range) (es : List (ℕ × Range)) (id : ℕ) (r : R
 unfolding IsStrictlySortedBy
 head_below e es id r s h = key_above e.0 es id r s.0 h
 
-pub rest_rises : (e : ℕ × Range) (es : List (ℕ × Range)) → Rise (e ∷ es) → Rise es
+pub rest_increases : (e : ℕ × Range) (es : List (ℕ × Range)) → Rise (e ∷ es) → Rise es
 unfolding IsStrictlySortedBy
-rest_rises e es s = s.1
+rest_increases e es s = s.1
 
 tied : (q k : ℕ) → q ≡ k → eq_by_cmp nat_cmp q k ≡ true
 tied q k e = unsigned_tied q k ∙ eq-eqb q k e
@@ -60,7 +60,7 @@ entry_found (e ∷ es) id r s (inl k) =
     ap (λ t. cond t (Some e.1) (map.find nat_cmp id es)) (tied id e.0 (sym (ap (λ (v : ℕ × Range). v.0) k))) ∙ ap (λ (v : ℕ × Range). Some v.1) k
 entry_found (e ∷ es) id r s (inr h) =
     let above = head_below e es id r s h in
-    ap (λ t. cond t (Some e.1) (map.find nat_cmp id es)) (not_tied id e.0 (λ k. omega (arith, above))) ∙ entry_found es id r (rest_rises e es s) h
+    ap (λ t. cond t (Some e.1) (map.find nat_cmp id es)) (not_tied id e.0 (λ k. omega (arith, above))) ∙ entry_found es id r (rest_increases e es s) h
 
 -- an id of the list stands in it with some range, and a range with some id
 pub entry_of_id : (es : List (ℕ × Range)) (id k : ℕ) → k < length (keys_of es) → slice_index_or (keys_of es) k id ≡ id → (r : Range) × IsEntry es id r
@@ -92,4 +92,4 @@ ids_differ (e ∷ es) s =
     let c : Contains (keys_of es) e.0 = subst (Contains (keys_of es)) (sym same) (Contains-get_or (keys_of es) k b l) in
     let i = entry_of_id es e.0 c.0 c.1 c.2 in
     omega (arith, head_below e es e.0 i.0 s i.1))
-    (ids_differ es (rest_rises e es s))
+    (ids_differ es (rest_increases e es s))

@@ -6,10 +6,10 @@ use Rattle.vm_ranges.specs.Range.{Range}
 use Rattle.vm_engine.specs.Address.{AddressState}
 use Rattle.vm_ranges.specs.Request.{Request}
 use Rattle.vm_engine.specs.Answer.{Allocates}
-use Rattle.vm_allocator.specs.Ids.{IdState, IsLeastNotHeld, ByLeastNotHeld, PeeksId}
+use Rattle.vm_allocator.specs.Ids.{IdState, IsLowestNotHeld, ByLowestNotHeld, PeeksId}
 use Rattle.vm_ranges.specs.declared.error.Error.{Error}
 use Rattle.vm_ranges.specs.declared.error.Error.TheVariants.{Overflow, ResourceNotAvailable, NeverAllocated, OutOfMemory}
-use Rattle.vm_allocator.proofs.Answers.Amply.{makes_ids_no_memory}
+use Rattle.vm_allocator.proofs.Answers.BelowLimits.{makes_ids_no_memory}
 use Rattle.vm_allocator.proofs.Answers.EveryAddressCall.{every_call}
 use Rattle.vm_allocator.proofs.Ids.EveryIdCall.{every_call as every_id_call}
 use Rattle.vm_devices.specs.declared.device_slot.DeviceSlot.{DeviceSlot}
@@ -39,16 +39,16 @@ abbrev IsAnswered : DeviceState → Request → Type 0
 IsAnswered old request =
     (answer : Result DeviceSlot Error) × (new : DeviceState) × Reserves old request answer new × (answer ≢ Err OutOfMemory)
 
-with_id : (old : DeviceState) (request : Request) (id : ℕ) (given : Result Range Error) (space : AddressState) → IsLeastNotHeld old.ids id →
+with_id : (old : DeviceState) (request : Request) (id : ℕ) (given : Result Range Error) (space : AddressState) → IsLowestNotHeld old.ids id →
     Allocates old.space request given space → given ≢ Err OutOfMemory → IsAnswered old request
-unfolding Reserves ByLeastNotHeld
-with_id old request id (Err e) space least a plain =
-    (Err e, old, inl (id, least, (Err e, space, a, (refl, refl))), λ h. let same : e ≡ OutOfMemory = cc (h) in plain (ap (λ (v : Error). Err v) same))
-with_id old request id (Ok r) space least a plain =
-    (Ok (record { id = id; range = r }), with_device id r old, inl (id, least, (Ok r, space, a, inl (refl, refl))), λ h. cc (h))
+unfolding Reserves ByLowestNotHeld
+with_id old request id (Err e) space lowest a plain =
+    (Err e, old, inl (id, lowest, (Err e, space, a, (refl, refl))), λ h. let same : e ≡ OutOfMemory = cc (h) in plain (ap (λ (v : Error). Err v) same))
+with_id old request id (Ok r) space lowest a plain =
+    (Ok (record { id = id; range = r }), with_device id r old, inl (id, lowest, (Ok r, space, a, inl (refl, refl))), λ h. cc (h))
 
 by_peeking : (old : DeviceState) (request : Request) (peeked : Result ℕ Error) → PeeksId old.ids peeked → IsAnswered old request
-unfolding Reserves PeeksId ByLeastNotHeld
+unfolding Reserves PeeksId ByLowestNotHeld
 by_peeking old request peeked (inl h) =
     let a = every_call.allocated old.space request in
     with_id old request h.0 a.0 a.1 h.1 a.2 a.3

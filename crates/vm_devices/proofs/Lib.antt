@@ -12,8 +12,8 @@ pub mod Entries
 pub mod AllHeld
 pub mod SavedDevices
 pub mod Apart
-pub mod RisingIds
+pub mod IncreasingIds
 pub mod ManagerFields
-pub mod AsMany
+pub mod MatchingCounts
 pub mod PairedLists
 pub mod SavedManagers

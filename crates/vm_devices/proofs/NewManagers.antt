@@ -8,10 +8,10 @@ use Rattle.std.specs.FinSet as set
 use Rattle.vm_ranges.specs.Range.{Range, MAX}
 use Rattle.vm_engine.specs.Address.{AddressState}
 use Rattle.vm_engine.specs.Answer.{Makes}
-use Rattle.vm_allocator.specs.Ids.{MAX_ID, IdState, IsHeld, MakesIds, fresh_ids}
+use Rattle.vm_allocator.specs.Ids.{MAX_ID, IdState, IsHeld, MakesIds, new_ids}
 use Rattle.vm_ranges.specs.declared.error.Error.{Error}
-use Rattle.vm_engine.proofs.Answers.AddressAnswers.{made_is, state_is_kept}
-use Rattle.vm_allocator.proofs.Ids.IdAnswers.{id_states_are_kept}
+use Rattle.vm_engine.proofs.Answers.AddressAnswers.{made_is, state_is_preserved}
+use Rattle.vm_allocator.proofs.Ids.IdAnswers.{id_states_are_preserved}
 use Rattle.vm_devices.proofs.Pairs.{none_there}
 use Rattle.vm_devices.specs.Devices.{DeviceState, IsDeviceState, made_devices, MakesManager}
 
@@ -28,12 +28,12 @@ pub no_devices : (lo hi base size : ℕ) (ids : IdState) (space : AddressState) 
 unfolding MakesIds
 no_devices lo hi base size ids space made =
     let none = λ (q : ℕ). map.get-empty {X = Range} nat_cmp q in
-    let fresh : ids ≡ fresh_ids lo hi = ⊎_elim (λ l. absurd (cc (l.1))) (λ r. cc (r.1)) made.ids_made in
+    let fresh : ids ≡ new_ids lo hi = ⊎_elim (λ l. absurd (cc (l.1))) (λ r. cc (r.1)) made.ids_made in
     let held : (r : Range) → ¬ Contains space.held r =
     λ r c. none_in r (subst (λ (v : AddressState). Contains v.held r) (made_is base size space made.space_made).2 c) in
     record {
-      ids = id_states_are_kept.made lo hi ids made.id made.ids_made;
-      space = state_is_kept.made base size space made.word made.space_made;
+      ids = id_states_are_preserved.made lo hi ids made.id made.ids_made;
+      space = state_is_preserved.made base size space made.word made.space_made;
       pairs = record {
         ids = λ q. (
           λ h. absurd (both_ways _ (set.contains-empty nat_cmp q) (subst (λ (v : IdState). IsHeld v q) fresh h)),

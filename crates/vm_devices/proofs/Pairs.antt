@@ -7,11 +7,11 @@ use Rattle.vm_ranges.specs.Range.{Range}
 use Rattle.vm_engine.specs.Address.{holding, releasing}
 use Rattle.vm_ranges.specs.Request.{Request}
 use Rattle.vm_engine.specs.Answer.{Allocates, Frees}
-use Rattle.vm_engine.specs.Laws.AddressLaws.{AddsRange, DropsRange}
+use Rattle.vm_engine.specs.Laws.AddressLaws.{AddsRange, RemovesRange}
 use Rattle.vm_allocator.specs.Ids.{IsHeld, AllocatesId, FreesId, holding_id, releasing_id}
-use Rattle.vm_allocator.specs.Laws.IdLaws.{AddsId, DropsId}
-use Rattle.vm_engine.proofs.Answers.AddressAnswers.{adds_range, drops_range, state_is_kept}
-use Rattle.vm_allocator.proofs.Ids.IdAnswers.{id_states_are_kept, allocating_adds, freeing_drops}
+use Rattle.vm_allocator.specs.Laws.IdLaws.{AddsId, RemovesId}
+use Rattle.vm_engine.proofs.Answers.AddressAnswers.{adds_range, removes_range, state_is_preserved}
+use Rattle.vm_allocator.proofs.Ids.IdAnswers.{id_states_are_preserved, allocating_adds, freeing_removes}
 use Rattle.vm_allocator.proofs.Callers.{range_was_free, frees_held, id_was_free}
 use Rattle.vm_devices.specs.Devices.{DeviceState, IsDevice, ArePaired, IsDeviceState, with_device, without_device}
 use Rattle.vm_devices.proofs.Tables.{with_here, with_other, without_here, without_other}
@@ -96,11 +96,11 @@ pub state_with : (old : DeviceState) (id : ℕ) (r : Range) (request : Request) 
     AllocatesId old.ids (Ok id) (holding_id id old.ids) → Allocates old.space request (Ok r) (holding r old.space) → IsDeviceState (with_device id r old)
 state_with old id r request i a s =
     let added = adds_range old.space (holding r old.space) request r i.space s in
-    let space = state_is_kept.allocated old.space (holding r old.space) request (Ok r) i.space s in
+    let space = state_is_preserved.allocated old.space (holding r old.space) request (Ok r) i.space s in
     let free = id_was_free old.ids (holding_id id old.ids) (Ok id) a in
     let clear = range_was_free old.space (holding r old.space) request r s in
     record {
-      ids = id_states_are_kept.allocated old.ids (holding_id id old.ids) (Ok id) i.ids a;
+      ids = id_states_are_preserved.allocated old.ids (holding_id id old.ids) (Ok id) i.ids a;
       space = space;
       pairs = pairs_with old id r i free (allocating_adds old.ids (holding_id id old.ids) id i.ids a) clear added;
     }
@@ -120,7 +120,7 @@ module _ (old : DeviceState) (id : ℕ) (r : Range) (i : IsDeviceState old) (d :
   pub was : (q : ℕ) (p : Range) → IsDevice (without_device id r old) q p → IsDevice old q p
   was q p k = sym (rest q (apart q p k)) ∙ k
 
-  module _ (a : DropsId old.ids (releasing_id id old.ids) id) (s : DropsRange old.space (releasing r old.space) r) where
+  module _ (a : RemovesId old.ids (releasing_id id old.ids) id) (s : RemovesRange old.space (releasing r old.space) r) where
     ids_without : (q : ℕ) → IsHeld (without_device id r old).ids q ↔ IsSome (map.get (without_device id r old).devices q)
     ids_without q =
         ⊎_elim
@@ -167,7 +167,7 @@ module _ (old : DeviceState) (id : ℕ) (r : Range) (i : IsDeviceState old) (d :
 
   pub state_without : IsDeviceState (without_device id r old)
   state_without = record {
-    ids = id_states_are_kept.freed old.ids (releasing_id id old.ids) id (Ok id) i.ids frees_id;
-    space = state_is_kept.freed old.space (releasing r old.space) r (Ok tt) i.space frees_range;
-    pairs = pairs_without (freeing_drops old.ids (releasing_id id old.ids) id id frees_id) (drops_range old.space (releasing r old.space) r i.space frees_range);
+    ids = id_states_are_preserved.freed old.ids (releasing_id id old.ids) id (Ok id) i.ids frees_id;
+    space = state_is_preserved.freed old.space (releasing r old.space) r (Ok tt) i.space frees_range;
+    pairs = pairs_without (freeing_removes old.ids (releasing_id id old.ids) id id frees_id) (removes_range old.space (releasing r old.space) r i.space frees_range);
   }

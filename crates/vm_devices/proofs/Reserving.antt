@@ -5,7 +5,7 @@ use Rattle.vm_ranges.specs.Range.{Range}
 use Rattle.vm_engine.specs.Address.{AddressState, holding}
 use Rattle.vm_ranges.specs.Request.{Request}
 use Rattle.vm_engine.specs.Answer.{Allocates}
-use Rattle.vm_allocator.specs.Ids.{IsLeastNotHeld, ByLeastNotHeld, AllocatesId, holding_id}
+use Rattle.vm_allocator.specs.Ids.{IsLowestNotHeld, ByLowestNotHeld, AllocatesId, holding_id}
 use Rattle.vm_ranges.specs.declared.error.Error.{Error}
 use Rattle.vm_ranges.specs.declared.error.Error.TheVariants.{NeverAllocated, OutOfMemory}
 use Rattle.vm_allocator.proofs.Callers.{given}
@@ -16,14 +16,14 @@ use Rattle.vm_devices.proofs.Pairs.{state_with, state_without}
 -- ---- a reservation
 -- a device that a reservation made: the least id that was not held, with the range that the request got
 pub record IsReserved (old : DeviceState) (request : Request) (slot : DeviceSlot) (new : DeviceState) : Type 0 where
-  pub least : IsLeastNotHeld old.ids slot.id
+  pub lowest : IsLowestNotHeld old.ids slot.id
   pub given : Allocates old.space request (Ok slot.range) (holding slot.range old.space)
   pub left : new ≡ with_device slot.id slot.range old
 
 -- the least id that is not held is what a request for one gets
-gets_least : (old : DeviceState) (id : ℕ) → IsLeastNotHeld old.ids id → AllocatesId old.ids (Ok id) (holding_id id old.ids)
-unfolding AllocatesId ByLeastNotHeld
-gets_least old id least = inl (id, least, (refl, refl))
+gets_lowest : (old : DeviceState) (id : ℕ) → IsLowestNotHeld old.ids id → AllocatesId old.ids (Ok id) (holding_id id old.ids)
+unfolding AllocatesId ByLowestNotHeld
+gets_lowest old id lowest = inl (id, lowest, (refl, refl))
 
 -- what is held after a range was given
 given_holding : (old new : AddressState) (request : Request) (r : Range) → Allocates old request (Ok r) new → Allocates old request (Ok r) (holding r old)
@@ -36,21 +36,21 @@ IsRefusedOrReserved old request answer new =
     ⊎ ((slot : DeviceSlot) × (answer ≡ Ok slot) × IsReserved old request slot new)
 
 paired_outcome : (old new : DeviceState) (space : AddressState) (request : Request) (id : ℕ) (given : Result Range Error) (answer : Result DeviceSlot Error) →
-    IsLeastNotHeld old.ids id → Allocates old.space request given space → Pairs old id given answer new → IsRefusedOrReserved old request answer new
-paired_outcome old new space request id (Err e) answer least a p = inl (e, p.0, p.1)
-paired_outcome old new space request id (Ok r) answer least a p =
+    IsLowestNotHeld old.ids id → Allocates old.space request given space → Pairs old id given answer new → IsRefusedOrReserved old request answer new
+paired_outcome old new space request id (Err e) answer lowest a p = inl (e, p.0, p.1)
+paired_outcome old new space request id (Ok r) answer lowest a p =
     ⊎_elim
     (λ t.
     inr (
       record { id = id; range = r },
       t.0,
-      record { least = least; given = given_holding old.space space request r a; left = t.1 },
+      record { lowest = lowest; given = given_holding old.space space request r a; left = t.1 },
     ))
     (λ m. inl (OutOfMemory, m.0, m.1))
     p
 
 pub reserving_outcome : (old new : DeviceState) (request : Request) (answer : Result DeviceSlot Error) → Reserves old request answer new → IsRefusedOrReserved old request answer new
-unfolding Reserves ByLeastNotHeld
+unfolding Reserves ByLowestNotHeld
 reserving_outcome old new request answer (inl h) =
     paired_outcome old new h.2.1 request h.0 h.2.0 answer h.1 h.2.2 h.2.3
 reserving_outcome old new request answer (inr (all, inl h)) = inl (_, h.1.0, h.1.1)
@@ -89,7 +89,7 @@ reserved_state old new request answer i h =
     (λ d.
     let slot = d.0 in
     let made = d.2 in
-    subst IsDeviceState (sym made.left) (state_with old slot.id slot.range request i (gets_least old slot.id made.least) made.given))
+    subst IsDeviceState (sym made.left) (state_with old slot.id slot.range request i (gets_lowest old slot.id made.lowest) made.given))
     (reserving_outcome old new request answer h)
 
 pub released_state : (old new : DeviceState) (id : ℕ) (answer : Result (Unit {0}) Error) → IsDeviceState old → Releases old id answer new → IsDeviceState new

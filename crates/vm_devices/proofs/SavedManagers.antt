@@ -9,7 +9,7 @@ use Rattle.std.specs.Ordering.{nat_cmp}
 use Rattle.std.specs.FinMap as map
 use Rattle.serde_json.specs.Data.{Data, Items}
 use Rattle.serde_json.specs.Find.{get, as_array}
-use Rattle.vm_ranges.proofs.Lists.{list_stated}
+use Rattle.vm_ranges.proofs.Lists.{list_encoded}
 use Rattle.vm_ranges.proofs.FieldSteps.{count-true, field_is}
 use Rattle.vm_ranges.proofs.Steps.{and_then_some, map_some, if_some}
 use Rattle.vm_ranges.specs.Fields.{field_count, is_count}
@@ -17,51 +17,51 @@ use Rattle.vm_ranges.specs.Numbers.{number_in}
 use Rattle.vm_ranges.specs.Range.{Range}
 use Rattle.vm_allocator.specs.Ids.{IdState}
 use Rattle.vm_allocator.specs.Allocator.{SpaceInTree, state_of}
-use Rattle.vm_allocator.specs.Values.AllocatorValues.{StatesAllocator, StatesAddresses}
-use Rattle.vm_allocator.specs.Values.IdValues.{StatesIds}
+use Rattle.vm_allocator.specs.Values.AllocatorValues.{EncodesAllocator, EncodesAddresses}
+use Rattle.vm_allocator.specs.Values.IdValues.{EncodesIds}
 use Rattle.vm_ranges.specs.declared.saved.ValueError.{ValueError}
 use Rattle.vm_ranges.specs.declared.saved.ValueError.TheVariants.{NotAState, OutOfMemory}
-use Rattle.vm_allocator.proofs.Callers.{ids_again, ids_stated, addresses_again, addresses_stated}
+use Rattle.vm_allocator.proofs.Callers.{ids_again, ids_encoded, addresses_again, addresses_encoded}
 use Rattle.vm_devices.specs.Devices.{DeviceState, IsDeviceState, devices_of}
-use Rattle.vm_devices.specs.Saved.{StatesDevice, StatesList, StatesManager, ReadsInParts}
+use Rattle.vm_devices.specs.Saved.{EncodesDevice, EncodesList, EncodesManager, ReadsInParts}
 use Rattle.vm_devices.specs.Laws.{ManagerIsReadAgain}
 use Rattle.vm_devices.specs.SavedChecks.{AreAllHeld, FindsPaired, ManagerParts}
 use Rattle.vm_devices.proofs.AllHeld.{pairs_all, all_paired}
-use Rattle.vm_devices.proofs.SavedDevices.{rising-states}
-use Rattle.vm_devices.proofs.RisingIds.{rising_sorted}
+use Rattle.vm_devices.proofs.SavedDevices.{increasing-states}
+use Rattle.vm_devices.proofs.IncreasingIds.{increasing_sorted}
 use Rattle.vm_devices.proofs.ManagerFields.{parts_of, fields_found, ReadOf, its_ids, its_space, its_slots}
 
 -- ---- what is read of both allocators
 module _ {d : Data} (r : ReadOf d) where
   -- a manager that is stated pairs them
-  all_its_own : (state : DeviceState) (s : StatesManager d state) → AreAllHeld r.ids r.space s.listed
+  all_its_own : (state : DeviceState) (s : EncodesManager d state) → AreAllHeld r.ids r.space s.listed
   all_its_own state s =
       let f = r.fields in
-      let same_ids : state.ids ≡ r.ids = ids_again f.ids r.ids state.ids r.ids_stated (its_ids f state s) in
-      let same_space : state.space ≡ r.space = addresses_again f.space r.space state.space r.space_stated (its_space f state s) in
-      let all = all_paired state s.listed s.devices s.rising (addresses_stated f.space state.space (its_space f state s)) s.pairs in
+      let same_ids : state.ids ≡ r.ids = ids_again f.ids r.ids state.ids r.ids_encoded (its_ids f state s) in
+      let same_space : state.space ≡ r.space = addresses_again f.space r.space state.space r.space_encoded (its_space f state s) in
+      let all = all_paired state s.listed s.devices s.increasing (addresses_encoded f.space state.space (its_space f state s)) s.pairs in
       rw (← same_ids, ← same_space) all
 
   -- a refused list refuses the whole
-  pub devices_refused : (e : ValueError) → FindsPaired r.ids r.space r.fields.slots (Err e) → ReadsInParts (StatesManager d) (Err e)
+  pub devices_refused : (e : ValueError) → FindsPaired r.ids r.space r.fields.slots (Err e) → ReadsInParts (EncodesManager d) (Err e)
   devices_refused NotAState none = λ h. none (h.1.listed, its_slots r.fields h.0 h.1, all_its_own h.0 h.1)
   devices_refused OutOfMemory found = tt
 
   -- what is read is stated: devices that pair the held ids with the held ranges
   module _ (table : BTreeMap ℕ Range) (paired : FindsPaired r.ids r.space r.fields.slots (Ok table)) where
-    rising : IsStrictlySortedBy nat_cmp (keys_of table.entries)
-    rising = rising_sorted r.fields.slots table.entries paired.0
+    increasing : IsStrictlySortedBy nat_cmp (keys_of table.entries)
+    increasing = increasing_sorted r.fields.slots table.entries paired.0
 
     pub read_state : IsDeviceState (devices_of r.ids r.space table)
     read_state =
-        let space = addresses_stated r.fields.space r.space r.space_stated in
+        let space = addresses_encoded r.fields.space r.space r.space_encoded in
         record {
-          ids = ids_stated r.fields.ids r.ids r.ids_stated;
+          ids = ids_encoded r.fields.ids r.ids r.ids_encoded;
           space = space;
-          pairs = pairs_all (devices_of r.ids r.space table) table.entries refl rising space paired.1;
+          pairs = pairs_all (devices_of r.ids r.space table) table.entries refl increasing space paired.1;
         }
 
-    pub manager_read : StatesManager d (devices_of r.ids r.space table)
+    pub manager_read : EncodesManager d (devices_of r.ids r.space table)
     manager_read =
         let f = r.fields in
         let found : Data × Data × Items = (f.ids, f.space, f.slots) in
@@ -75,38 +75,38 @@ module _ {d : Data} (r : ReadOf d) where
         let at_ids : x.0 ≡ f.ids = ap (λ (p : Data × Data × Items). p.0) z.2 in
         let at_space : y.0 ≡ f.space = ap (λ (p : Data × Data × Items). p.1) z.2 in
         let at_slots : z.0 ≡ f.slots = ap (λ (p : Data × Data × Items). p.2) z.2 in
-        let devices = list_stated StatesDevice list.0 f.slots table.entries (list.2 ∙ ap Some at_slots) (rising-states 0 f.slots table.entries paired.0) in
+        let devices = list_encoded EncodesDevice list.0 f.slots table.entries (list.2 ∙ ap Some at_slots) (increasing-states 0 f.slots table.entries paired.0) in
         record {
           four_fields = count-true 4 (field_count d) four.0;
           version = version.1 ∙ ap Some (eqb-true version.0 1 one.0);
-          id_allocator = field_is (codes "id_allocator") d f.ids (λ v. StatesIds v r.ids) (x.1 ∙ ap Some at_ids) r.ids_stated;
-          mmio_allocator = field_is (codes "mmio_allocator") d f.space (λ v. StatesAddresses v r.space) (y.1 ∙ ap Some at_space) r.space_stated;
+          id_allocator = field_is (codes "id_allocator") d f.ids (λ v. EncodesIds v r.ids) (x.1 ∙ ap Some at_ids) r.ids_encoded;
+          mmio_allocator = field_is (codes "mmio_allocator") d f.space (λ v. EncodesAddresses v r.space) (y.1 ∙ ap Some at_space) r.space_encoded;
           listed = table.entries;
-          slots = field_is (codes "slots") d list.0 (λ v. StatesList v table.entries) list.1 devices;
-          rising = rising;
+          slots = field_is (codes "slots") d list.0 (λ v. EncodesList v table.entries) list.1 devices;
+          increasing = increasing;
           devices = refl;
           pairs = read_state.pairs;
         }
 
 -- ---- one manager
-pub stated_state : (d : Data) (state : DeviceState) → StatesManager d state → IsDeviceState state
-stated_state d state s =
+pub encoded_state : (d : Data) (state : DeviceState) → EncodesManager d state → IsDeviceState state
+encoded_state d state s =
     let p = parts_of d state s in
-    record { ids = ids_stated p.ids state.ids p.ids_stated; space = addresses_stated p.space state.space p.space_stated; pairs = s.pairs }
+    record { ids = ids_encoded p.ids state.ids p.ids_encoded; space = addresses_encoded p.space state.space p.space_encoded; pairs = s.pairs }
 
-one_manager : (d : Data) (a b : DeviceState) → StatesManager d a → StatesManager d b → a ≡ b
+one_manager : (d : Data) (a b : DeviceState) → EncodesManager d a → EncodesManager d b → a ≡ b
 one_manager d a b s t =
     let p = parts_of d a s in
     let f = fields_found d p.ids p.space p.slots p.found in
-    let ids : a.ids ≡ b.ids = ids_again p.ids b.ids a.ids (its_ids f b t) p.ids_stated in
-    let space : a.space ≡ b.space = addresses_again p.space b.space a.space (its_space f b t) p.space_stated in
+    let ids : a.ids ≡ b.ids = ids_again p.ids b.ids a.ids (its_ids f b t) p.ids_encoded in
+    let space : a.space ≡ b.space = addresses_again p.space b.space a.space (its_space f b t) p.space_encoded in
     let list = same_Some s.listed t.listed (sym (its_slots f a s) ∙ its_slots f b t) in
     let devices : a.devices ≡ b.devices = s.devices ∙ ap (λ (es : List (ℕ × Range)). map.from_entries es) list ∙ sym t.devices in
     ap (λ v. record { ids = v; space = a.space; devices = a.devices }) ids
     ∙ ap (λ v. record { ids = b.ids; space = v; devices = a.devices }) space
     ∙ ap (λ v. record { ids = b.ids; space = b.space; devices = v }) devices
 
-read_again : (d : Data) (old : DeviceState) (answer : Result DeviceState ValueError) → StatesManager d old → ReadsInParts (StatesManager d) answer → (answer ≡ Ok old) ⊎ (answer ≡ Err OutOfMemory)
+read_again : (d : Data) (old : DeviceState) (answer : Result DeviceState ValueError) → EncodesManager d old → ReadsInParts (EncodesManager d) answer → (answer ≡ Ok old) ⊎ (answer ≡ Err OutOfMemory)
 read_again d old (Ok new) s r = inl (ap (λ (v : DeviceState). Ok v) (one_manager d new old r s))
 read_again d old (Err NotAState) s r = absurd (r (old, s))
 read_again d old (Err OutOfMemory) s r = inr refl
@@ -116,16 +116,16 @@ manager_again = record { one = one_manager; again = read_again }
 
 -- ---- what is written states the manager
 pub manager_written : {d ids space slots : Data} {i : IdState} {a : SpaceInTree} (table : BTreeMap ℕ Range) → ManagerParts d ids space slots →
-    StatesIds ids i → StatesAllocator space a → StatesList slots table.entries → IsStrictlySortedBy nat_cmp (keys_of table.entries) →
-    IsDeviceState (devices_of i (state_of a) table) → StatesManager d (devices_of i (state_of a) table)
+    EncodesIds ids i → EncodesAllocator space a → EncodesList slots table.entries → IsStrictlySortedBy nat_cmp (keys_of table.entries) →
+    IsDeviceState (devices_of i (state_of a) table) → EncodesManager d (devices_of i (state_of a) table)
 manager_written {d} {ids} {space} {slots} {i} {a} table p is held ss rise state = record {
   four_fields = p.four_fields;
   version = p.version_is;
-  id_allocator = field_is (codes "id_allocator") d ids (λ v. StatesIds v i) p.ids_is is;
-  mmio_allocator = field_is (codes "mmio_allocator") d space (λ v. StatesAddresses v (state_of a)) p.space_is (record { allocator = a; stated = held; is = refl });
+  id_allocator = field_is (codes "id_allocator") d ids (λ v. EncodesIds v i) p.ids_is is;
+  mmio_allocator = field_is (codes "mmio_allocator") d space (λ v. EncodesAddresses v (state_of a)) p.space_is (record { allocator = a; encoded = held; is = refl });
   listed = table.entries;
-  slots = field_is (codes "slots") d slots (λ v. StatesList v table.entries) p.slots_is ss;
-  rising = rise;
+  slots = field_is (codes "slots") d slots (λ v. EncodesList v table.entries) p.slots_is ss;
+  increasing = rise;
   devices = refl;
   pairs = state.pairs;
 }

@@ -9,7 +9,7 @@ use Rattle.vm_ranges.specs.Range.{Range, range_code}
 use Rattle.vm_engine.specs.Address.{AddressState, address_state_code, IsAddressState, holding, releasing}
 use Rattle.vm_ranges.specs.Request.{Request}
 use Rattle.vm_engine.specs.Answer.{Allocates, Makes}
-use Rattle.vm_allocator.specs.Ids.{IdState, id_state_code, IsHeld, IsIdState, MakesIds, ByLeastNotHeld, holding_id, releasing_id}
+use Rattle.vm_allocator.specs.Ids.{IdState, id_state_code, IsHeld, IsIdState, MakesIds, ByLowestNotHeld, holding_id, releasing_id}
 use Rattle.vm_ranges.specs.declared.error.Error.{Error}
 use Rattle.vm_ranges.specs.declared.error.Error.TheVariants.{NeverAllocated, OutOfMemory}
 use Rattle.vm_devices.specs.declared.device_slot.DeviceSlot.{DeviceSlot}
@@ -92,7 +92,7 @@ Pairs old id (Ok r) answer new =
 -- neither; the refusal of the id comes first
 unfoldable pub Reserves : DeviceState → Request → Result DeviceSlot Error → DeviceState → Type 0
 Reserves old request answer new =
-    ByLeastNotHeld old.ids
+    ByLowestNotHeld old.ids
     (λ id.
     (given : Result Range Error) × (space : AddressState)
     × Allocates old.space request given space × Pairs old id given answer new)

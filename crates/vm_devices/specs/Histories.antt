@@ -9,7 +9,7 @@ use Rattle.vm_ranges.specs.declared.error.Error.{Error}
 use Rattle.vm_ranges.specs.declared.error.Error.TheVariants.{OutOfMemory}
 use Rattle.vm_devices.specs.declared.device_slot.DeviceSlot.{DeviceSlot}
 use Rattle.vm_devices.specs.Devices.{DeviceState, IsDevice, MakesManager, Reserves, Releases}
-use Rattle.vm_devices.specs.Saved.{StatesManager}
+use Rattle.vm_devices.specs.Saved.{EncodesManager}
 
 -- a call with its answer: a request for a device, or the id of one that is given back
 pub data DeviceCall : Type 0 where
@@ -55,7 +55,7 @@ pub record IsManagerMade (state : DeviceState) : Type 0 where
 -- the state that a saved value states, and so that of the manager read from it
 pub record IsManagerRead (state : DeviceState) : Type 0 where
   pub value : Data
-  pub stated : StatesManager value state
+  pub encoded : EncodesManager value state
 
 -- the calls lead from a manager that was made or read to the state
 pub record AreDevicesReached (calls : List DeviceCall) (state : DeviceState) : Type 0 where
@@ -71,6 +71,6 @@ pub record WasReserved (calls : List DeviceCall) (id : ℕ) (r : Range) : Type 0
   pub long : r ≡ span r.start request.size
 
 -- a value that was read stated the device
-pub record WasStated (first : DeviceState) (id : ℕ) (r : Range) : Type 0 where
+pub record WasRead (first : DeviceState) (id : ℕ) (r : Range) : Type 0 where
   pub read : IsManagerRead first
   pub device : IsDevice first id r

@@ -4,7 +4,7 @@ use Rattle.std.specs.List.{All}
 use Rattle.serde_json.specs.Data.{Data}
 use Rattle.vm_ranges.specs.Range.{Range, MAX, Overlaps, Covers, address_count}
 use Rattle.vm_ranges.specs.Request.{Request, request_for}
-use Rattle.vm_engine.specs.Answer.{FEWEST_TOO_DEEP}
+use Rattle.vm_engine.specs.Answer.{SPLIT_LIMIT_MIN_HELD}
 use Rattle.vm_allocator.specs.Ids.{IsOfRange}
 use Rattle.vm_ranges.specs.declared.error.Error.{Error}
 use Rattle.vm_ranges.specs.declared.error.Error.TheVariants.{Overflow, OutOfMemory}
@@ -13,24 +13,24 @@ use Rattle.vm_ranges.specs.declared.saved.ValueError.TheVariants as unread
 use Rattle.vm_ranges.specs.declared.constraint.AllocPolicy.TheVariants.{ExactMatch}
 use Rattle.vm_devices.specs.declared.device_slot.DeviceSlot.{DeviceSlot}
 use Rattle.vm_devices.specs.Devices.{DeviceState, IsDevice, IsDeviceState, MakesManager, Reserves, Releases}
-use Rattle.vm_devices.specs.Saved.{StatesManager, ReadsInParts}
-use Rattle.vm_devices.specs.Histories.{DeviceCall, DeviceAsked, device_asked_by, RunsOutOfMemory, IsDeviceHistoryFrom, AreDevicesReached, WasReserved, WasStated}
+use Rattle.vm_devices.specs.Saved.{EncodesManager, ReadsInParts}
+use Rattle.vm_devices.specs.Histories.{DeviceCall, DeviceAsked, device_asked_by, RunsOutOfMemory, IsDeviceHistoryFrom, AreDevicesReached, WasReserved, WasRead}
 
 -- in each state the devices pair the held ids with the held ranges; no two share an address; each lies in the space,
 -- below MAX, and has an id of the range and what some call reserved for it, or what the value stated that was read
-pub record DevicesAreGood : Type 0 where
+pub record DevicesAreValid : Type 0 where
   pub state : (calls : List DeviceCall) (old : DeviceState) → AreDevicesReached calls old → IsDeviceState old
   pub apart : (calls : List DeviceCall) (old : DeviceState) (i j : ℕ) (r s : Range) → AreDevicesReached calls old →
       IsDevice old i r → IsDevice old j s → i ≢ j → ¬ Overlaps r s
   pub inside : (calls : List DeviceCall) (old : DeviceState) (id : ℕ) (r : Range) → AreDevicesReached calls old →
       IsDevice old id r → IsOfRange old.ids id × Covers old.space.space r × (r.end < MAX)
   pub reserved : (calls : List DeviceCall) (old : DeviceState) (id : ℕ) (r : Range) (reached : AreDevicesReached calls old) →
-      IsDevice old id r → WasReserved calls id r ⊎ WasStated reached.first id r
+      IsDevice old id r → WasReserved calls id r ⊎ WasRead reached.first id r
 
 -- the answer is a refusal for memory, or, where so many ranges are held that a tree of them may be too deep, for depth
-abbrev pub IsExcused : DeviceState → Result DeviceSlot Error → Type 0
-IsExcused old answer =
-    (answer ≡ Err OutOfMemory) ⊎ ((FEWEST_TOO_DEEP ≤ length old.space.held) × (answer ≡ Err Overflow))
+abbrev pub IsLimit : DeviceState → Result DeviceSlot Error → Type 0
+IsLimit old answer =
+    (answer ≡ Err OutOfMemory) ⊎ ((SPLIT_LIMIT_MIN_HELD ≤ length old.space.held) × (answer ≡ Err Overflow))
 
 -- a device that was just reserved and released is reserved again by the same request, with the same id and range
 abbrev pub ReservedAgain : Type 0
@@ -38,16 +38,16 @@ ReservedAgain =
     (old mid new later : DeviceState) (request : Request) (slot : DeviceSlot)
     (released : Result (Unit {0}) Error) (answer : Result DeviceSlot Error) → IsDeviceState old →
     Reserves old request (Ok slot) mid → Releases mid slot.id released new → released ≢ Err OutOfMemory →
-    Reserves new request answer later → (answer ≡ Ok slot) ⊎ IsExcused new answer
+    Reserves new request answer later → (answer ≡ Ok slot) ⊎ IsLimit new answer
 
 -- the range of any device that was released can be reserved at once, by its start
-abbrev pub RangeComesBack : Type 0
-RangeComesBack =
+abbrev pub RangeIsReservedAgain : Type 0
+RangeIsReservedAgain =
     (old new later : DeviceState) (id : ℕ) (r : Range)
     (released : Result (Unit {0}) Error) (answer : Result DeviceSlot Error) → IsDeviceState old →
     IsDevice old id r → Releases old id released new → released ≢ Err OutOfMemory →
     Reserves new (request_for (address_count r) 1 (ExactMatch r.start)) answer later →
-    ((some : ℕ) × (answer ≡ Ok (record { id = some; range = r }))) ⊎ IsExcused new answer
+    ((some : ℕ) × (answer ≡ Ok (record { id = some; range = r }))) ⊎ IsLimit new answer
 
 -- where memory suffices and few ranges are held, a call has one answer and one next state
 pub record DevicesDecide : Type 0 where
@@ -55,7 +55,7 @@ pub record DevicesDecide : Type 0 where
       answer ≢ Err OutOfMemory → other ≢ Err OutOfMemory →
       MakesManager lo hi base size answer → MakesManager lo hi base size other → answer ≡ other
   pub reserved : (old new later : DeviceState) (request : Request) (answer other : Result DeviceSlot Error) →
-      answer ≢ Err OutOfMemory → other ≢ Err OutOfMemory → length old.space.held < FEWEST_TOO_DEEP →
+      answer ≢ Err OutOfMemory → other ≢ Err OutOfMemory → length old.space.held < SPLIT_LIMIT_MIN_HELD →
       Reserves old request answer new → Reserves old request other later → (answer ≡ other) × (new ≡ later)
   pub released : (old new later : DeviceState) (id : ℕ) (answer other : Result (Unit {0}) Error) →
       answer ≢ Err OutOfMemory → other ≢ Err OutOfMemory →
@@ -81,7 +81,7 @@ EveryDeviceListHasHistory =
 
 -- what reading a written value answers is what was written, unless memory runs out; a value states one manager at most
 pub record ManagerIsReadAgain : Type 0 where
-  pub one : (d : Data) (a b : DeviceState) → StatesManager d a → StatesManager d b → a ≡ b
+  pub one : (d : Data) (a b : DeviceState) → EncodesManager d a → EncodesManager d b → a ≡ b
   pub again : (d : Data) (old : DeviceState) (answer : Result DeviceState ValueError) →
-      StatesManager d old → ReadsInParts (StatesManager d) answer →
+      EncodesManager d old → ReadsInParts (EncodesManager d) answer →
       (answer ≡ Ok old) ⊎ (answer ≡ Err unread.OutOfMemory)

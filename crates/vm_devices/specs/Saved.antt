@@ -6,38 +6,38 @@ use Rattle.std.specs.Ordering.{nat_cmp}
 use Rattle.std.specs.FinMap as map
 use Rattle.serde_json.specs.Data.{Data}
 use Rattle.vm_ranges.specs.Fields.{field_count, FieldIs}
-use Rattle.vm_ranges.specs.Lists.{StatesListOf}
+use Rattle.vm_ranges.specs.Lists.{EncodesListOf}
 use Rattle.vm_ranges.specs.Numbers.{number_in}
 use Rattle.vm_ranges.specs.Range.{Range}
 use Rattle.vm_allocator.specs.Ids.{MAX_ID}
-use Rattle.vm_ranges.specs.RangeValues.{StatesRange}
-use Rattle.vm_allocator.specs.Values.AllocatorValues.{StatesAddresses}
-use Rattle.vm_allocator.specs.Values.IdValues.{StatesIds}
+use Rattle.vm_ranges.specs.RangeValues.{EncodesRange}
+use Rattle.vm_allocator.specs.Values.AllocatorValues.{EncodesAddresses}
+use Rattle.vm_allocator.specs.Values.IdValues.{EncodesIds}
 use Rattle.vm_ranges.specs.declared.saved.ValueError.{ValueError}
 use Rattle.vm_ranges.specs.declared.saved.ValueError.TheVariants.{NotAState, OutOfMemory}
 use Rattle.vm_devices.specs.Devices.{DeviceState, ArePaired}
 
 -- the value is an object of an id and a range alone
-pub record StatesDevice (d : Data) (device : ℕ × Range) : Type 0 where
+pub record EncodesDevice (d : Data) (device : ℕ × Range) : Type 0 where
   pub two_fields : field_count d ≡ Some 2
   pub id : number_in (codes "id") d ≡ Some device.0
   pub word : device.0 ≤ MAX_ID
-  pub mmio_range : FieldIs (codes "mmio_range") d (λ v. StatesRange v device.1)
+  pub mmio_range : FieldIs (codes "mmio_range") d (λ v. EncodesRange v device.1)
 
 -- the value is the list of these devices
-abbrev pub StatesList : Data → List (ℕ × Range) → Type 0
-StatesList d es = StatesListOf StatesDevice d es
+abbrev pub EncodesList : Data → List (ℕ × Range) → Type 0
+EncodesList d es = EncodesListOf EncodesDevice d es
 
 -- the value is an object of a version, the two allocators and the devices alone; the version is 1, the ids of the
 -- devices rise, and they pair the held ids with the held ranges
-pub record StatesManager (d : Data) (state : DeviceState) : Type 0 where
+pub record EncodesManager (d : Data) (state : DeviceState) : Type 0 where
   pub four_fields : field_count d ≡ Some 4
   pub version : number_in (codes "version") d ≡ Some 1
-  pub id_allocator : FieldIs (codes "id_allocator") d (λ v. StatesIds v state.ids)
-  pub mmio_allocator : FieldIs (codes "mmio_allocator") d (λ v. StatesAddresses v state.space)
+  pub id_allocator : FieldIs (codes "id_allocator") d (λ v. EncodesIds v state.ids)
+  pub mmio_allocator : FieldIs (codes "mmio_allocator") d (λ v. EncodesAddresses v state.space)
   pub listed : List (ℕ × Range)
-  pub slots : FieldIs (codes "slots") d (λ v. StatesList v listed)
-  pub rising : IsStrictlySortedBy nat_cmp (keys_of listed)
+  pub slots : FieldIs (codes "slots") d (λ v. EncodesList v listed)
+  pub increasing : IsStrictlySortedBy nat_cmp (keys_of listed)
   pub devices : state.devices ≡ map.from_entries listed
   pub pairs : ArePaired state
 

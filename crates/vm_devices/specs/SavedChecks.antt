@@ -15,33 +15,33 @@ use Rattle.vm_engine.specs.Address.{AddressState}
 use Rattle.vm_allocator.specs.Ids.{IdState, IsHeld, held_count}
 use Rattle.vm_ranges.specs.declared.saved.ValueError.{ValueError}
 use Rattle.vm_ranges.specs.declared.saved.ValueError.TheVariants.{NotAState, OutOfMemory}
-use Rattle.vm_ranges.specs.RangeValues.{range_found}
+use Rattle.vm_ranges.specs.RangeValues.{decoded_range}
 
 -- the device that a value states
-abbrev pub device_found : Data → Option (ℕ × Range)
-device_found d =
+abbrev pub decoded_device : Data → Option (ℕ × Range)
+decoded_device d =
     if is_count 2 (field_count d) then
-    option_and_then (λ id. option_map (λ r. (id, r)) (option_and_then range_found (get (codes "mmio_range") d)))
+    option_and_then (λ id. option_map (λ r. (id, r)) (option_and_then decoded_range (get (codes "mmio_range") d)))
     (u32_in (codes "id") d)
     else None
 
--- the devices of the items, where their ids rise from `least` on
-abbrev pub rising_devices : ℕ → Items → Option (List (ℕ × Range))
-rising_devices least no_items = Some []
-rising_devices least (item d ds) =
+-- the devices of the items, where their ids rise from `lowest` on
+abbrev pub increasing_devices : ℕ → Items → Option (List (ℕ × Range))
+increasing_devices lowest no_items = Some []
+increasing_devices lowest (item d ds) =
     option_and_then (λ e.
-    if nat_le least e.0 then option_map (λ es. e ∷ es) (rising_devices (e.0 + 1) ds) else None)
-    (device_found d)
+    if nat_le lowest e.0 then option_map (λ es. e ∷ es) (increasing_devices (e.0 + 1) ds) else None)
+    (decoded_device d)
 
 -- what the reader of the items answers: these devices, or that there are none such
 abbrev pub FindsDevices : Items → Result (BTreeMap ℕ Range) ValueError → Type 0
-FindsDevices ds (Ok slots) = rising_devices 0 ds ≡ Some slots.entries
-FindsDevices ds (Err NotAState) = rising_devices 0 ds ≡ None
+FindsDevices ds (Ok slots) = increasing_devices 0 ds ≡ Some slots.entries
+FindsDevices ds (Err NotAState) = increasing_devices 0 ds ≡ None
 FindsDevices ds (Err OutOfMemory) = Unit {0}
 
 -- the values of a manager's fields, where the version is 1
-abbrev pub manager_found : Data → Option (Data × Data × Items)
-manager_found d =
+abbrev pub decoded_manager : Data → Option (Data × Data × Items)
+decoded_manager d =
     if is_count 4 (field_count d) then
     option_and_then (λ version.
     if version == 1 then
@@ -54,14 +54,14 @@ manager_found d =
     else None
 
 -- the id and the range of each device are held, and no range starts where an earlier one does, or one of `seen`
-abbrev pub AreHeldApart : IdState → AddressState → set.FinSet nat_cmp → List (ℕ × Range) → Type 0
-AreHeldApart ids space seen [] = Unit {0}
-AreHeldApart ids space seen (e ∷ es) =
+abbrev pub AreHeldAndDistinct : IdState → AddressState → set.FinSet nat_cmp → List (ℕ × Range) → Type 0
+AreHeldAndDistinct ids space seen [] = Unit {0}
+AreHeldAndDistinct ids space seen (e ∷ es) =
     IsHeld ids e.0 × Contains space.held e.1 × ¬ IsTrue (set.contains seen e.1.start)
-    × AreHeldApart ids space (set.insert seen e.1.start) es
+    × AreHeldAndDistinct ids space (set.insert seen e.1.start) es
 
 -- the items are as many as the held ids and as the held ranges
-pub record AreAsMany (ids : IdState) (space : AddressState) (ds : Items) : Type 0 where
+pub record CountsMatch (ids : IdState) (space : AddressState) (ds : Items) : Type 0 where
   pub ids_counted : items_len ds ≡ held_count ids
   pub ranges_counted : items_len ds ≡ length space.held
 
@@ -69,12 +69,12 @@ pub record AreAsMany (ids : IdState) (space : AddressState) (ds : Items) : Type 
 pub record AreAllHeld (ids : IdState) (space : AddressState) (es : List (ℕ × Range)) : Type 0 where
   pub ids_counted : length es ≡ held_count ids
   pub ranges_counted : length es ≡ length space.held
-  pub apart : AreHeldApart ids space set.empty es
+  pub apart : AreHeldAndDistinct ids space set.empty es
 
 -- what the reader of the list answers: these devices, which pair what is held, or that the list states none that do
 abbrev pub FindsPaired : IdState → AddressState → Items → Result (BTreeMap ℕ Range) ValueError → Type 0
-FindsPaired ids space ds (Ok slots) = (rising_devices 0 ds ≡ Some slots.entries) × AreAllHeld ids space slots.entries
-FindsPaired ids space ds (Err NotAState) = ¬ ((es : List (ℕ × Range)) × (rising_devices 0 ds ≡ Some es) × AreAllHeld ids space es)
+FindsPaired ids space ds (Ok slots) = (increasing_devices 0 ds ≡ Some slots.entries) × AreAllHeld ids space slots.entries
+FindsPaired ids space ds (Err NotAState) = ¬ ((es : List (ℕ × Range)) × (increasing_devices 0 ds ≡ Some es) × AreAllHeld ids space es)
 FindsPaired ids space ds (Err OutOfMemory) = Unit {0}
 
 -- a device's two fields, and no other

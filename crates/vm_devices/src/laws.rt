@@ -1,9 +1,9 @@
 //! Laws: theorems about the definitions that the contracts cite, each the contract of a function that
 //! does nothing.
 ghost use Rattle.vm_devices.specs.Laws.{
-  DevicesAreGood,
+  DevicesAreValid,
   ReservedAgain,
-  RangeComesBack,
+  RangeIsReservedAgain,
   DevicesDecide,
   EveryDeviceCallIsAnswered,
   EveryDeviceListHasHistory,
@@ -12,16 +12,16 @@ ghost use Rattle.vm_devices.specs.Laws.{
 
 /// In every history no two devices share an id or an address, and each lies in the space, aligned and
 /// as long as it was asked for, or as the value stated it that was read.
-#[tactic(auto, using(crate::proofs::DeviceHistories::devices_are_good))]
-fn devices_are_good()
-    ensures { DevicesAreGood }
+#[tactic(auto, using(crate::proofs::DeviceHistories::devices_are_valid))]
+fn devices_are_valid()
+    ensures { DevicesAreValid }
 {}
 
 /// What a released device held can be reserved again at once; the same request gets the same slot.
 #[tactic(auto, using(crate::proofs::DevicesAgain::again))]
-fn released_devices_come_back()
+fn released_devices_are_reserved_again()
     ensures same { ReservedAgain }
-    ensures range { RangeComesBack }
+    ensures range { RangeIsReservedAgain }
 {}
 
 /// Ids, space and devices alone decide what a call answers, where memory suffices and few ranges are

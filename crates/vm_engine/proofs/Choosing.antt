@@ -2,5 +2,5 @@ pub mod Fits
 pub mod Places
 pub mod PlaceSearch
 pub mod Searched
-pub mod NamedStart
-pub mod Named
+pub mod ExactStart
+pub mod ExactPlaces

@@ -1,8 +1,8 @@
 pub mod SideChange
 pub mod Rewriting
 pub mod Supersets
-pub mod Meetings
+pub mod FirstOverlaps
 pub mod TreeEdits
-pub mod FewestNodes
+pub mod MinNodes
 pub mod Spaces
-pub mod SettledNodes
+pub mod UpdatedNodes

@@ -1,4 +1,4 @@
-pub mod Fronts
+pub mod Cursors
 pub mod ReadNodes
 pub mod ReadTrees
 pub mod OneTree

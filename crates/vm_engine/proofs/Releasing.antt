@@ -2,5 +2,5 @@ pub mod Joining
 pub mod Neighbours
 pub mod Finding
 pub mod Apart
-pub mod Rejoining
+pub mod JoinedBlocks
 pub mod WidenedTrees

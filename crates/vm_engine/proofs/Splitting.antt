@@ -1,3 +1,3 @@
-pub mod Taking
-pub mod CarvedTrees
+pub mod TakenRanges
+pub mod SplitTrees
 pub mod SplitStates

@@ -1,2 +1,2 @@
-pub mod WalkWays
+pub mod WalkPaths
 pub mod HeldInTrees

@@ -31,16 +31,16 @@ unfoldable pub IsPlace : ℕ → ℕ → AddressState → ℕ → Type 0
 IsPlace n a state s = (s % a ≡ 0) × AreClear n state s
 
 -- the place that no place is below
-unfoldable pub IsLeastPlace : ℕ → ℕ → AddressState → ℕ → Type 0
-IsLeastPlace n a state s = IsPlace n a state s × ((t : ℕ) → IsPlace n a state t → s ≤ t)
+unfoldable pub IsLowestPlace : ℕ → ℕ → AddressState → ℕ → Type 0
+IsLowestPlace n a state s = IsPlace n a state s × ((t : ℕ) → IsPlace n a state t → s ≤ t)
 
 -- the place that no place is above
-unfoldable pub IsGreatestPlace : ℕ → ℕ → AddressState → ℕ → Type 0
-IsGreatestPlace n a state s = IsPlace n a state s × ((t : ℕ) → IsPlace n a state t → t ≤ s)
+unfoldable pub IsHighestPlace : ℕ → ℕ → AddressState → ℕ → Type 0
+IsHighestPlace n a state s = IsPlace n a state s × ((t : ℕ) → IsPlace n a state t → t ≤ s)
 
 -- a clear address stands right before or right after the range: holding the range splits its gap
-unfoldable pub LeavesClear : AddressState → Range → Type 0
-LeavesClear state r = (x : ℕ) × IsClear state x × ((x + 1 ≡ r.start) ⊎ (x ≡ r.end + 1))
+unfoldable pub SplitsGap : AddressState → Range → Type 0
+SplitsGap state r = (x : ℕ) × IsClear state x × ((x + 1 ≡ r.start) ⊎ (x ≡ r.end + 1))
 
 -- the ranges with one more, before the first that starts above it
 abbrev pub with_range : Range → List Range → List Range
@@ -61,12 +61,12 @@ abbrev pub releasing : Range → AddressState → AddressState
 releasing r state = record state { held = without_range r state.held }
 
 -- from lo to hi the ranges stand in order with no address in common, and none contains MAX
-abbrev pub StandInOrder : ℕ → List Range → ℕ → Type 0
-StandInOrder lo [] hi = Unit {0}
-StandInOrder lo (r ∷ rs) hi =
-    (lo ≤ r.start) × (r.start ≤ r.end) × (r.end ≤ hi) × (r.end < MAX) × StandInOrder (r.end + 1) rs hi
+abbrev pub AreInOrder : ℕ → List Range → ℕ → Type 0
+AreInOrder lo [] hi = Unit {0}
+AreInOrder lo (r ∷ rs) hi =
+    (lo ≤ r.start) × (r.start ≤ r.end) × (r.end ≤ hi) × (r.end < MAX) × AreInOrder (r.end + 1) rs hi
 
 -- the space is a range, and the held ranges lie apart in it and do not contain MAX
 pub record IsAddressState (state : AddressState) : Type 0 where
   pub space : IsRange state.space.start state.space.end
-  pub in_order : StandInOrder state.space.start state.held state.space.end
+  pub in_order : AreInOrder state.space.start state.held state.space.end

@@ -3,7 +3,7 @@ use Rattle.std.specs.Prelude.{◌≡◌, ℕ, ◌+◌, ◌-◌, ◌<◌, ◌≤�
 use Rattle.std.specs.List.{Contains}
 use Rattle.vm_ranges.specs.Cases.{IfElse, Unless}
 use Rattle.vm_ranges.specs.Range.{Range, MAX, IsIn, span}
-use Rattle.vm_engine.specs.Address.{AddressState, AreClear, IsPlace, IsLeastPlace, IsGreatestPlace, LeavesClear, holding, releasing}
+use Rattle.vm_engine.specs.Address.{AddressState, AreClear, IsPlace, IsLowestPlace, IsHighestPlace, SplitsGap, holding, releasing}
 use Rattle.vm_ranges.specs.Request.{Request, ByPolicy, IsRequest, ByConstraint}
 use Rattle.vm_ranges.specs.declared.error.Error.{Error}
 use Rattle.vm_ranges.specs.declared.error.Error.TheVariants.{Overflow, ResourceNotAvailable, InvalidStateTransition, Underflow, OutOfMemory}
@@ -13,8 +13,8 @@ use Rattle.vm_ranges.specs.declared.state.NodeState.TheVariants.{Allocated}
 unfoldable pub IsChosen : Request → AddressState → ℕ → Type 0
 IsChosen request state s =
     ByPolicy request.policy
-    (IsLeastPlace request.size request.align state s)
-    (IsGreatestPlace request.size request.align state s)
+    (IsLowestPlace request.size request.align state s)
+    (IsHighestPlace request.size request.align state s)
     (λ start. (s ≡ start) × IsPlace request.size request.align state s)
 
 -- The faults of a request for n addresses from the start t on, by the first that applies: the start is MAX; it is
@@ -30,8 +30,8 @@ ByStart t n state refused otherwise =
     IfElse (t + n - 1 ≡ MAX) (refused Overflow) otherwise)))))
 
 -- the faults of the start, where the request names one
-unfoldable pub ByExactStart : Request → AddressState → (Error → Type 0) → Type 0 → Type 0
-ByExactStart request state refused otherwise =
+unfoldable pub ByExactPolicy : Request → AddressState → (Error → Type 0) → Type 0 → Type 0
+ByExactPolicy request state refused otherwise =
     ByPolicy request.policy otherwise otherwise (λ start. ByStart start request.size state refused otherwise)
 
 -- where there is no place the request is refused, and else the range at the chosen place is taken, or refused if it
@@ -43,26 +43,26 @@ ByPlace request state refused takes =
     IfElse (s + request.size - 1 ≡ MAX) (refused Overflow) (takes (span s request.size)))
 
 -- the fewest held ranges with which a split may be refused for the depth of a tree: F(50) less one, halved
-abbrev pub FEWEST_TOO_DEEP : ℕ
-FEWEST_TOO_DEEP = 6_293_134_512
+abbrev pub SPLIT_LIMIT_MIN_HELD : ℕ
+SPLIT_LIMIT_MIN_HELD = 6_293_134_512
 
 -- a split is refused although there is a place: for memory, or, where so many ranges are held that a tree of them may
 -- be too deep, for depth
 abbrev pub IsSplitRefusal : AddressState → Result Range Error → Type 0
 IsSplitRefusal old answer =
-    (answer ≡ Err OutOfMemory) ⊎ ((FEWEST_TOO_DEEP ≤ length old.held) × (answer ≡ Err Overflow))
+    (answer ≡ Err OutOfMemory) ⊎ ((SPLIT_LIMIT_MIN_HELD ≤ length old.held) × (answer ≡ Err Overflow))
 
 -- the range is held from now on; only where holding it splits its gap may it be refused, with nothing changed
-unfoldable pub Takes : AddressState → Range → Result Range Error → AddressState → Type 0
-Takes old r answer new =
+unfoldable pub AllocatesAt : AddressState → Range → Result Range Error → AddressState → Type 0
+AllocatesAt old r answer new =
     ((answer ≡ Ok r) × (new ≡ holding r old))
-    ⊎ (LeavesClear old r × (new ≡ old) × IsSplitRefusal old answer)
+    ⊎ (SplitsGap old r × (new ≡ old) × IsSplitRefusal old answer)
 
 -- the answer to a request that makes sense
 unfoldable pub Grants : AddressState → Request → Result Range Error → AddressState → Type 0
 Grants old request answer new =
     let refused : Error → Type 0 = λ e. (answer ≡ Err e) × (new ≡ old) in
-    ByExactStart request old refused (ByPlace request old refused (λ r. Takes old r answer new))
+    ByExactPolicy request old refused (ByPlace request old refused (λ r. AllocatesAt old r answer new))
 
 -- the answer to a request: a refusal changes nothing
 unfoldable pub Allocates : AddressState → Request → Result Range Error → AddressState → Type 0
@@ -71,10 +71,10 @@ Allocates old request answer new =
 
 -- a request that makes sense and whose chosen place, s, ends below MAX and leaves nothing clear beside it
 pub record FillsGap (state : AddressState) (request : Request) (s : ℕ) : Type 0 where
-  pub sensible : IsRequest request
+  pub valid : IsRequest request
   pub chosen : IsChosen request state s
   pub below : s + request.size - 1 < MAX
-  pub fills : ¬ LeavesClear state (span s request.size)
+  pub fills : ¬ SplitsGap state (span s request.size)
 
 -- the answer to giving a range back: a held one is held no more, and any other is refused
 unfoldable pub Frees : AddressState → Range → Result (Unit {0}) Error → AddressState → Type 0

@@ -1,4 +1,4 @@
 pub mod Fibonacci
 pub mod Steps
 pub mod GapSearch
-pub mod Ways
+pub mod NodeCounts

@@ -1,11 +1,11 @@
 pub mod Changes
 pub mod Place
-pub mod Release
-pub mod Beside
+pub mod FreedBlocks
+pub mod NeighbourNodes
 pub mod NodeFields
-pub mod Settling
+pub mod NodeUpdate
 pub mod NodeAnswer
 pub mod Widening
-pub mod Carving
+pub mod SplitBlocks
 pub mod Walks
 pub mod Choosing

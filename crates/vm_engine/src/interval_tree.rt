@@ -1,8 +1,8 @@
-//! The blocks of a space in a balanced tree: which place a request gets (`placing`), how the range
+//! The blocks of a space in a balanced tree: which place a request gets (`placement`), how the range
 //! there is held (`holding`), how a held one is given back (`release`), which are held
 //! (`held_ranges`), and how two trees compare (`comparing`).
 //!
-//! A counted call is a counter at 0, what takes the counter (`grant`, `release`), and the counter; a
+//! A counted call is a counter at 0, what takes the counter (`allocate_inner`, `release`), and the counter; a
 //! plain call is the counted one without the count. So that the counter has room, as a tree of height
 //! 49 has fewer than 2^49 nodes, is shown once, and no caller has a condition.
 ghost use Rattle.std.specs.Prelude.{◌≡◌, OnErr, IfOk};
@@ -11,24 +11,24 @@ ghost use Rattle.vm_engine.specs.Answer.{Grants, Frees};
 ghost use Rattle.vm_ranges.specs.Cloning.{Clones};
 ghost use Rattle.vm_engine.specs.Tree.Shape.{blocks, height_of, IsTree};
 ghost use Rattle.vm_engine.specs.Counts.GapSearch.{SearchesGaps, SearchesAligned};
-ghost use Rattle.vm_engine.specs.Counts.Steps.{Enters, EntersToFree, IsBalancedTreeOf, IsGrantCount, IsReleaseCount, SplitsIfLow};
+ghost use Rattle.vm_engine.specs.Counts.Steps.{Enters, EntersToFree, IsBalancedTreeOf, IsGrantCount, IsFreeCount, SplitsIfLow};
 ghost use Rattle.vm_engine.specs.Tree.SpaceTree.{tree_state, IsSpaceTree, MakesTree};
 
 use crate::Steps;
-use crate::ends::known;
 use crate::node::walks::Walk;
 use crate::node::walks::copying::copy;
 use crate::node::{Child, InnerNode};
+use crate::ordering::recall_invariant;
 use std::alloc::Global;
 use std::marker::Model;
 use vm_ranges::{Constraint, NodeState, RangeInclusive, Result};
 
+mod allocation;
 mod comparing;
 pub(crate) mod counted;
+mod deallocation;
 pub(crate) mod held_ranges;
-mod holding;
-pub(crate) mod placing;
-mod release;
+pub(crate) mod placement;
 
 /// The blocks of a space of addresses, in a balanced tree.
 #[derive(Debug, Drop)]
@@ -61,7 +61,7 @@ impl IntervalTree {
         ensures answer { MakesTree key result }
         ensures state { IfOk result (λ tree. IsAddressState (tree_state tree)) }
     {
-        known(&key);
+        recall_invariant(&key);
         let node = Box::new(alloc, InnerNode::new(key, NodeState::Free))?;
         Ok(IntervalTree { root: Some(node) })
     }
@@ -80,7 +80,7 @@ impl IntervalTree {
     fn walk(&self) -> Walk<'_>
         ensures { result ≡ blocks self.now }
     {
-        Walk::over(&self.root)
+        Walk::new(&self.root)
     }
 
     /// The root, which is always there.
@@ -107,7 +107,7 @@ impl IntervalTree {
 
     /// For the prover alone: what holds of every tree of a space is known from here on.
     #[inline(always)]
-    pub(crate) fn known(&self)
+    pub(crate) fn recall_invariant(&self)
         ensures space { IsSpaceTree self.now }
         ensures tree { IsTree self.now }
     {
@@ -116,7 +116,7 @@ impl IntervalTree {
 
     /// `allocate`, which adds the nodes that it enters to a counter at 0.
     #[tactic(auto, using(crate::proofs::Choosing::Searched::granting, crate::proofs::Counts::Granting::grantings))]
-    fn grant(
+    fn allocate_inner(
         &mut self,
         alloc: Global,
         constraint: Constraint,
@@ -130,9 +130,9 @@ impl IntervalTree {
         ensures space { IsSpaceTree self.old }
         ensures tree { IsTree self.old }
     {
-        self.known();
-        let choice = self.place_for(constraint, count)?;
-        self.hold(alloc, choice, count)
+        self.recall_invariant();
+        let choice = self.choose_place(constraint, count)?;
+        self.allocate_chosen(alloc, choice, count)
     }
 
     /// Holds the range at the place that the policy chooses. In this order: where there is no such
@@ -147,7 +147,7 @@ impl IntervalTree {
         ensures depth { SplitsIfLow (height_of self.old) (tree_state self.old) result }
     {
         let answer = self.allocate_counted(alloc, constraint).0;
-        self.known();
+        self.recall_invariant();
         answer
     }
 

@@ -2,13 +2,13 @@
 #![tactic(auto)]
 
 mod block;
-mod ends;
 mod interval_tree;
 mod laws;
 mod node;
+mod ordering;
 mod saved;
 
 pub use interval_tree::IntervalTree;
 use interval_tree::counted::Steps;
 pub use interval_tree::held_ranges::HeldRanges;
-pub use saved::node::{SavedNode, node_of};
+pub use saved::node::{SavedNode, decode_node};

@@ -8,9 +8,7 @@ ghost use Rattle.vm_engine.specs.Tree.Shape.{Tip, Fork, height_of, single, root_
 ghost use Rattle.vm_engine.specs.Engine.NodeFields.{side};
 
 mod balance;
-pub(crate) mod carve;
 mod find;
-mod kept;
 mod laws;
 mod link;
 pub(crate) mod neighbours;
@@ -18,13 +16,15 @@ pub(crate) mod places;
 pub(crate) mod remove;
 pub(crate) mod rewrite;
 mod search_tree;
+pub(crate) mod split;
+mod summary;
 #[cfg(test)]
 mod tests;
 pub(crate) mod walks;
 pub(crate) mod widen;
 
 use self::balance::fork;
-use self::kept::room_of;
+use self::summary::free_summary_of;
 use std::alloc::{AllocError, Global};
 use std::marker::Model;
 use vm_ranges::{NodeState, RangeInclusive};
@@ -76,7 +76,7 @@ impl InnerNode {
     pub(crate) fn new(key: RangeInclusive, node_state: NodeState) -> InnerNode
         ensures { result ≡ single (record { key = key; state = node_state }) }
     {
-        let own = room_of(&key, node_state);
+        let own = free_summary_of(&key, node_state);
         InnerNode {
             key,
             node_state,
@@ -134,7 +134,7 @@ impl InnerNode {
 
 /// For the prover alone: what holds of the tree at a place is known from here on.
 #[inline(always)]
-fn known(child: &Child)
+fn recall_invariant(child: &Child)
     ensures tree { IsTree (side child.now) }
     ensures absent { IsNone child.now ↔ (side child.now ≡ Tip) }
 {

@@ -6,7 +6,7 @@ use Rattle.std.proofs.Math.Seq.{take-append-add}
 use Rattle.std.proofs.lemmas.Bool.{cases_lt}
 use Rattle.std.proofs.lemmas.Bool.Decides.{nat_tests}
 use Rattle.std.proofs.lemmas.List.{drop-set, take-take, length-take-le, length-drop, length-set}
-use Rattle.vm_lines.specs.Printing.{written}
+use Rattle.vm_lines.specs.Printing.{digits_from}
 use Rattle.vm_lines.specs.declared.buffer.TheConstants.{PAIRS}
 
 -- a number of 64 bits has at most 20 digits, and one at least
@@ -31,7 +31,7 @@ take_next : (n x : ℕ) (xs : List ℕ) → take (n + 1) (x ∷ xs) ≡ x ∷ ta
 take_next n x xs = rw (add-one n) refl
 
 pub put : (start digit : ℕ) (digits : List ℕ) → 0 < start → start ≤ 20 → start ≤ length digits
-    → written (start - 1) (set digits (start - 1) digit) ≡ digit ∷ written start digits
+    → digits_from (start - 1) (set digits (start - 1) digit) ≡ digit ∷ digits_from start digits
 put start digit digits some within room =
     let back : start - 1 + 1 ≡ start = omega arith in
     let count : 20 - (start - 1) ≡ 20 - start + 1 = omega arith in
@@ -41,14 +41,14 @@ put start digit digits some within room =
 pair_step : (n : ℕ) → 100 ≤ n → n < 2 ^ 64
     → decimal n ≡ decimal (n / 100) ++ (48 + n % 100 / 10) ∷ (48 + n % 100 % 10) ∷ []
 pair_step n h fits =
-    let front : n / 10 / 10 ≡ n / 100 = omega arith in
+    let prefix : n / 10 / 10 ≡ n / 100 = omega arith in
     let tens : n / 10 % 10 ≡ n % 100 / 10 = omega arith in
     let ones : n % 10 ≡ n % 100 % 10 = omega arith in
     let first = decimal_step (n / 10) (omega arith) (omega arith) in
     decimal_step n (omega arith) fits
     ∙ ap (λ d. d ++ (48 + n % 10) ∷ []) first
     ∙ append_assoc (decimal (n / 10 / 10)) ((48 + n / 10 % 10) ∷ []) ((48 + n % 10) ∷ [])
-    ∙ rw (front, tens, ones) refl
+    ∙ rw (prefix, tens, ones) refl
 
 -- two more digits are put before those that are there
 pub put_more : (n : ℕ) (more there text : List ℕ) → 100 ≤ n → n < 2 ^ 64
@@ -65,9 +65,9 @@ put_two n more there text h below two e =
 
 -- the first digit is put there
 pub put_one : (n start : ℕ) (digits text : List ℕ) → n < 10 → 0 < start → start ≤ 20 → start ≤ length digits
-    → decimal n ++ written start digits ≡ text → written (start - 1) (set digits (start - 1) (48 + n)) ≡ text
+    → decimal n ++ digits_from start digits ≡ text → digits_from (start - 1) (set digits (start - 1) (48 + n)) ≡ text
 put_one n start digits text h some within room e =
-    put start (48 + n) digits some within room ∙ ap (λ d. d ++ written start digits) (sym (decimal_digit n h)) ∙ e
+    put start (48 + n) digits some within room ∙ ap (λ d. d ++ digits_from start digits) (sym (decimal_digit n h)) ∙ e
 
 -- Pairs of digits, in a table.
 
@@ -93,7 +93,7 @@ pairs_are k h =
 
 -- two digits, one after the other
 pub put_both : (start one ten : ℕ) (digits : List ℕ) → 1 < start → start ≤ 20 → start ≤ length digits
-    → written (start - 2) (set (set digits (start - 1) one) (start - 2) ten) ≡ ten ∷ one ∷ written start digits
+    → digits_from (start - 2) (set (set digits (start - 1) one) (start - 2) ten) ≡ ten ∷ one ∷ digits_from start digits
 put_both start one ten digits some within room =
     let two : start - 1 - 1 ≡ start - 2 = omega arith in
     let first = put start one digits (omega arith) within room in
@@ -121,7 +121,7 @@ twenty_more bytes old digits total start within long room is =
 -- and what was too much is taken back
 pub cut_back : (bytes old digits : List ℕ) (total start : ℕ) → start ≤ 20 → length digits ≡ 40 → total ≤ length bytes
     → take total bytes ≡ old ++ take (start + 20 - start) (drop start digits)
-    → take (total - start) bytes ≡ old ++ written start digits
+    → take (total - start) bytes ≡ old ++ digits_from start digits
 cut_back bytes old digits total start within long room is =
     let sum = twenty_more bytes old digits total start within long room is in
     let behind = drop start digits in

@@ -10,7 +10,7 @@ use Rattle.std.proofs.lemmas.List.Folds.{list_all_at}
 use Rattle.std.proofs.lemmas.List.Splits.{slice_split_first}
 use Rattle.std.proofs.lemmas.List.Sums.{prefix_len_stops, prefix_len-le-length, passes_at_first, fails_before_first}
 use Rattle.vm_lines.specs.Numbers.{is_digit, number_of}
-use Rattle.vm_lines.specs.Reading.{digits_ahead, number_first}
+use Rattle.vm_lines.specs.Reading.{leading_digits, number_first}
 use Rattle.vm_lines.specs.Words.{blank, words_of, one_in, two_in, three_in}
 use Rattle.vm_lines.proofs.Splitting.{words_some, words_none}
 
@@ -92,11 +92,11 @@ abbrev end_of_word : List ℕ → ℕ
 end_of_word text = position_or_len (λ byte. byte == blank) text
 
 -- no digit is a blank
-digits_before_blank : (text : List ℕ) → digits_ahead text ≤ end_of_word text
+digits_before_blank : (text : List ℕ) → leading_digits text ≤ end_of_word text
 digits_before_blank [] = omega arith
 digits_before_blank (x ∷ xs) = step (is_digit x) refl (digits_before_blank xs)
   where
-    step : (b : Bool) → is_digit x ≡ b → digits_ahead xs ≤ end_of_word xs → digits_ahead (x ∷ xs) ≤ end_of_word (x ∷ xs)
+    step : (b : Bool) → is_digit x ≡ b → leading_digits xs ≤ end_of_word xs → leading_digits (x ∷ xs) ≤ end_of_word (x ∷ xs)
     step true e h = let other : (x == blank) ≡ false = grind (arith, nat_tests) in rw (e, other) (omega arith)
     step false e h = rw e (omega arith)
 
@@ -111,11 +111,11 @@ end_within : (text : List ℕ) → end_of_word text ≤ length text
 end_within text = prefix_len-le-length (λ byte. not (byte == blank)) text
 
 -- a word with more than digits says no number
-mixed_none : (text : List ℕ) (n : ℕ) → n ≡ digits_ahead text → n < end_of_word text → number_of (take (end_of_word text) text) ≡ None
+mixed_none : (text : List ℕ) (n : ℕ) → n ≡ leading_digits text → n < end_of_word text → number_of (take (end_of_word text) text) ≡ None
 mixed_none text n is more =
     let m = end_of_word text in
     let within : n < length (take m text) = omega (arith, length-take-le m text (end_within text)) in
-    let stops : is_digit (get_or text (digits_ahead text) 0) ≡ false = prefix_len_stops is_digit text 0 (omega (arith, end_within text)) in
+    let stops : is_digit (get_or text (leading_digits text) 0) ≡ false = prefix_len_stops is_digit text 0 (omega (arith, end_within text)) in
     let at : is_digit (get_or (take m text) n 0) ≡ false = rw (get_or-take m text n 0 more, is) stops in
     let mixed = list_all_at is_digit (take m text) n 0 within at in
     rw mixed (grind (arith, nat_tests))
@@ -124,13 +124,13 @@ mixed_none text n is more =
 says_word : (text : List ℕ) → number_of (take (end_of_word text) text) ≡ None → number_first (words_of text) ≡ None
 says_word text none = let first = first_word_is text in rw (first.1, none) refl
 
-pub no_number : (text : List ℕ) → number_of (take (digits_ahead text) text) ≡ None → number_first (words_of text) ≡ None
+pub no_number : (text : List ℕ) → number_of (take (leading_digits text) text) ≡ None → number_first (words_of text) ≡ None
 no_number text e =
-    ⊎_elim (λ more. says_word text (mixed_none text (digits_ahead text) refl more))
-    (λ all. let same : digits_ahead text ≡ end_of_word text = omega (arith, digits_before_blank text) in says_word text (rw same at e))
-    (cases_lt (digits_ahead text) (end_of_word text))
+    ⊎_elim (λ more. says_word text (mixed_none text (leading_digits text) refl more))
+    (λ all. let same : leading_digits text ≡ end_of_word text = omega (arith, digits_before_blank text) in says_word text (rw same at e))
+    (cases_lt (leading_digits text) (end_of_word text))
 
-pub then_other : (text : List ℕ) (n : ℕ) → n ≡ digits_ahead text → n < length text → get_or text n 0 ≢ 32
+pub then_other : (text : List ℕ) (n : ℕ) → n ≡ leading_digits text → n < length text → get_or text n 0 ≢ 32
     → number_first (words_of text) ≡ None
 then_other text n is within other =
     ⊎_elim (λ more. says_word text (mixed_none text n is more))
@@ -140,17 +140,17 @@ then_other text n is within other =
     absurd (other (grind (arith, nat_tests))))
     (cases_lt n (end_of_word text))
 
-pub alone_number : (text : List ℕ) (number : ℕ) → digits_ahead text ≡ length text
-    → number_of (take (digits_ahead text) text) ≡ Some number → number_first (words_of text) ≡ Some (number, [])
+pub alone_number : (text : List ℕ) (number : ℕ) → leading_digits text ≡ length text
+    → number_of (take (leading_digits text) text) ≡ Some number → number_first (words_of text) ≡ Some (number, [])
 alone_number text number all e =
-    let whole : take (digits_ahead text) text ≡ text = take_all (digits_ahead text) text (omega arith) in
+    let whole : take (leading_digits text) text ≡ text = take_all (leading_digits text) text (omega arith) in
     let far : length text ≤ end_of_word text = omega (arith, digits_before_blank text) in
     let word = words_none text (grind (arith, nat_tests)) in
     let says : number_of text ≡ Some number = rw whole at e in
     rw (word, says) refl
 
-pub then_blank : (text : List ℕ) (number n : ℕ) → n ≡ digits_ahead text → n < length text → get_or text n 0 ≡ 32
-    → number_of (take (digits_ahead text) text) ≡ Some number
+pub then_blank : (text : List ℕ) (number n : ℕ) → n ≡ leading_digits text → n < length text → get_or text n 0 ≡ 32
+    → number_of (take (leading_digits text) text) ≡ Some number
     → number_first (words_of text) ≡ Some (number, words_of (take (length text - (n + 1)) (drop (n + 1) text)))
 then_blank text number n is within at e =
     let there : (get_or text n 0 == blank) ≡ true = grind (arith, nat_tests) in

@@ -5,7 +5,7 @@ use Rattle.std.specs.Str.{bytes_eq}
 use Rattle.std.specs.List.{join_with_byte}
 use Rattle.std.proofs.lemmas.List.Splits.{join_with_byte-slice_split}
 use Rattle.std.proofs.lemmas.Slice.Eq.{bytes_eq-Decides}
-use Rattle.vm_lines.specs.Commands.{asked, asked_of_ids, asked_of_devices}
+use Rattle.vm_lines.specs.Commands.{asked, ids_command, devices_command}
 use Rattle.vm_lines.specs.Words.{blank, words_of, alone}
 use Rattle.vm_lines.specs.declared.command.Command.{Command}
 use Rattle.vm_lines.specs.declared.command.Command.TheVariants.{Id}
@@ -13,7 +13,7 @@ use Rattle.vm_lines.proofs.Splitting.{begins_with}
 
 -- a text does not begin so
 abbrev pub BeginsNot : List ℕ → List ℕ → Type 0
-BeginsNot front text = (rest : List ℕ) → text ≢ front ++ rest
+BeginsNot prefix text = (rest : List ℕ) → text ≢ prefix ++ rest
 
 -- then the name stands alone, if at all
 alone_so : (name text word : List ℕ) (words : List (List ℕ)) → words_of text ≡ word ∷ words
@@ -40,10 +40,10 @@ skip word name words found other alone none = other_name word name found other (
 -- a line that begins with none of these names asks for what it asks of ids and devices
 pub none_of_space : (line : List ℕ) → BeginsNot (codes "space ") line → BeginsNot (codes "first ") line
     → BeginsNot (codes "last ") line → BeginsNot (codes "exact ") line → BeginsNot (codes "free ") line
-    → asked (words_of line) ≡ asked_of_ids (words_of line)
+    → asked (words_of line) ≡ ids_command (words_of line)
 none_of_space line space first last exact free = step (words_of line) refl
   where
-    step : (parts : List (List ℕ)) → words_of line ≡ parts → asked parts ≡ asked_of_ids parts
+    step : (parts : List (List ℕ)) → words_of line ≡ parts → asked parts ≡ ids_command parts
     step [] e = refl
     step (word ∷ words) e =
         skip word (codes "space") words _ _ (alone_so (codes "space") line word words e space) (λ w n. rw (w, n) refl)
@@ -58,14 +58,14 @@ alone_is line word e = sym (join_with_byte-slice_split blank line) ∙ ap (join_
 
 -- a line that begins with none of these, and is not the name that stands alone, asks for what it asks of devices
 pub none_of_ids : (line : List ℕ) → BeginsNot (codes "ids ") line → BeginsNot (codes "unid ") line
-    → BeginsNot (codes "has ") line → line ≢ codes "id" → asked_of_ids (words_of line) ≡ asked_of_devices (words_of line)
+    → BeginsNot (codes "has ") line → line ≢ codes "id" → ids_command (words_of line) ≡ devices_command (words_of line)
 none_of_ids line ids unid has id = step (words_of line) refl
   where
     id_none : (word : List ℕ) (words : List (List ℕ)) → words_of line ≡ word ∷ words → word ≡ codes "id" → alone Id words ≡ None
     id_none word [] e same = absurd (id (alone_is line word e ∙ same))
     id_none word (next ∷ more) e same = refl
 
-    step : (parts : List (List ℕ)) → words_of line ≡ parts → asked_of_ids parts ≡ asked_of_devices parts
+    step : (parts : List (List ℕ)) → words_of line ≡ parts → ids_command parts ≡ devices_command parts
     step [] e = refl
     step (word ∷ words) e =
         skip word (codes "ids") words _ _ (alone_so (codes "ids") line word words e ids) (λ w n. rw (w, n) refl)
@@ -75,10 +75,10 @@ none_of_ids line ids unid has id = step (words_of line) refl
 
 -- a line that begins with none of these asks for nothing of devices
 pub none_of_devices : (line : List ℕ) → BeginsNot (codes "manager ") line → BeginsNot (codes "device ") line
-    → BeginsNot (codes "undevice ") line → asked_of_devices (words_of line) ≡ None
+    → BeginsNot (codes "undevice ") line → devices_command (words_of line) ≡ None
 none_of_devices line manager device undevice = step (words_of line) refl
   where
-    step : (parts : List (List ℕ)) → words_of line ≡ parts → asked_of_devices parts ≡ None
+    step : (parts : List (List ℕ)) → words_of line ≡ parts → devices_command parts ≡ None
     step [] e = refl
     step (word ∷ words) e =
         skip word (codes "manager") words _ _ (alone_so (codes "manager") line word words e manager) (λ w n. rw (w, n) refl)

@@ -8,7 +8,7 @@ use Rattle.std.proofs.lemmas.List.Elements.{All-get_or}
 use Rattle.std.proofs.lemmas.List.Sums.{prefix_len-le-length, AllPass-from_list_all}
 use Rattle.std.proofs.Math.Nat.{pow-le-pow_right}
 use Rattle.vm_lines.specs.Numbers.{value_from, is_digit, digit_zero, number_of}
-use Rattle.vm_lines.specs.Reading.{digits_ahead}
+use Rattle.vm_lines.specs.Reading.{leading_digits}
 
 -- Values.
 
@@ -39,14 +39,14 @@ next_fits value count h few =
 -- Digits at the beginning.
 
 -- the first of the digits are digits
-all_digits : (text : List ℕ) (n : ℕ) → n ≤ digits_ahead text → list_all is_digit (take n text) ≡ true
+all_digits : (text : List ℕ) (n : ℕ) → n ≤ leading_digits text → list_all is_digit (take n text) ≡ true
 all_digits text zero h = refl
 all_digits [] (suc n) h = refl
 all_digits (x ∷ xs) (suc n) h = step (is_digit x) refl (all_digits xs n)
   where
-    step : (b : Bool) → is_digit x ≡ b → (n ≤ digits_ahead xs → list_all is_digit (take n xs) ≡ true)
+    step : (b : Bool) → is_digit x ≡ b → (n ≤ leading_digits xs → list_all is_digit (take n xs) ≡ true)
         → list_all is_digit (take (suc n) (x ∷ xs)) ≡ true
-    step true e all = let rest : n ≤ digits_ahead xs = omega (arith, rw e at h) in rw (e, all rest)
+    step true e all = let rest : n ≤ leading_digits xs = omega (arith, rw e at h) in rw (e, all rest)
     step false e all = absurd (omega (arith, rw e at h))
 
 -- each of some digits is one
@@ -55,23 +55,23 @@ pub digit_at : (digits : List ℕ) (i : ℕ) → i < length digits → list_all 
 digit_at digits i h all = All-get_or (λ x. is_digit x ≡ true) digits i 0 h (AllPass-from_list_all is_digit digits all)
 
 -- the digits behind some of them
-pub ahead_drop : (text : List ℕ) (n : ℕ) → n ≤ digits_ahead text → digits_ahead text ≡ n + digits_ahead (drop n text)
+pub ahead_drop : (text : List ℕ) (n : ℕ) → n ≤ leading_digits text → leading_digits text ≡ n + leading_digits (drop n text)
 ahead_drop text zero h = omega arith
 ahead_drop [] (suc n) h = absurd (omega arith)
 ahead_drop (x ∷ xs) (suc n) h = step (is_digit x) refl (ahead_drop xs n)
   where
-    step : (b : Bool) → is_digit x ≡ b → (n ≤ digits_ahead xs → digits_ahead xs ≡ n + digits_ahead (drop n xs))
-        → digits_ahead (x ∷ xs) ≡ suc n + digits_ahead (drop n xs)
-    step true e more = let rest : n ≤ digits_ahead xs = omega (arith, rw e at h) in rw e (omega (arith, more rest))
+    step : (b : Bool) → is_digit x ≡ b → (n ≤ leading_digits xs → leading_digits xs ≡ n + leading_digits (drop n xs))
+        → leading_digits (x ∷ xs) ≡ suc n + leading_digits (drop n xs)
+    step true e more = let rest : n ≤ leading_digits xs = omega (arith, rw e at h) in rw e (omega (arith, more rest))
     step false e more = absurd (omega (arith, rw e at h))
 
-pub ahead_within : (text : List ℕ) → digits_ahead text ≤ length text
+pub ahead_within : (text : List ℕ) → leading_digits text ≤ length text
 ahead_within text = prefix_len-le-length is_digit text
 
 -- Numbers.
 
 -- what so few digits say, where it fits
-pub number_is : (text : List ℕ) (n value : ℕ) → n ≤ digits_ahead text → 0 < n → n ≤ 20 → value ≡ value_from 0 (take n text)
+pub number_is : (text : List ℕ) (n value : ℕ) → n ≤ leading_digits text → 0 < n → n ≤ 20 → value ≡ value_from 0 (take n text)
     → value < 2 ^ 64 → number_of (take n text) ≡ Some value
 number_is text n value h some few is fits =
     let all = all_digits text n h in
@@ -96,8 +96,8 @@ behind_is : (text : List ℕ) → behind text ≡ drop 19 text
 behind_is text = take_all (length text - 19) (drop 19 text) (omega (arith, length-drop 19 text))
 
 -- how many digits there are in all
-ahead_is : (text : List ℕ) (more : ℕ) → 19 ≤ digits_ahead text → more ≡ min (digits_ahead (behind text)) 19 → more < 19
-    → digits_ahead text ≡ 19 + more
+ahead_is : (text : List ℕ) (more : ℕ) → 19 ≤ leading_digits text → more ≡ min (leading_digits (behind text)) 19 → more < 19
+    → leading_digits text ≡ 19 + more
 ahead_is text more h is few = omega (arith, ahead_drop text 19 h, rw (behind_is text) at is)
 
 -- what twenty say
@@ -108,26 +108,26 @@ value_last text value last h is one =
     let same : get_or (drop 19 text) 0 0 ≡ get_or text 19 0 = get_or-drop 19 text 0 0 in
     omega (arith, value_more text 19 h, is, rw (behind_is text) at one, digit, same)
 
-pub last_none : (text : List ℕ) (value more : ℕ) → 19 ≤ digits_ahead text → value ≡ value_from 0 (take 19 text) → value < 2 ^ 64
-    → more ≡ min (digits_ahead (behind text)) 19 → more ≡ 0
-    → (number_of (take (digits_ahead text) text) ≡ Some value) × (19 ≡ digits_ahead text)
+pub last_none : (text : List ℕ) (value more : ℕ) → 19 ≤ leading_digits text → value ≡ value_from 0 (take 19 text) → value < 2 ^ 64
+    → more ≡ min (leading_digits (behind text)) 19 → more ≡ 0
+    → (number_of (take (leading_digits text) text) ≡ Some value) × (19 ≡ leading_digits text)
 last_none text value more h is fits count none =
-    let n : digits_ahead text ≡ 19 = omega (arith, ahead_is text more h count) in
+    let n : leading_digits text ≡ 19 = omega (arith, ahead_is text more h count) in
     (rw n (number_is text 19 value h (omega arith) (omega arith) is fits), sym n)
 
-pub last_one : (text : List ℕ) (value more last : ℕ) → 19 ≤ digits_ahead text → value ≡ value_from 0 (take 19 text)
-    → more ≡ min (digits_ahead (behind text)) 19 → more ≡ 1 → last ≡ value_from 0 (take 1 (behind text))
+pub last_one : (text : List ℕ) (value more last : ℕ) → 19 ≤ leading_digits text → value ≡ value_from 0 (take 19 text)
+    → more ≡ min (leading_digits (behind text)) 19 → more ≡ 1 → last ≡ value_from 0 (take 1 (behind text))
     → value * 10 + last < 2 ^ 64
-    → (number_of (take (digits_ahead text) text) ≡ Some (value * 10 + last)) × (20 ≡ digits_ahead text)
+    → (number_of (take (leading_digits text) text) ≡ Some (value * 10 + last)) × (20 ≡ leading_digits text)
 last_one text value more last h is count one digit fits =
-    let n : digits_ahead text ≡ 20 = omega (arith, ahead_is text more h count) in
+    let n : leading_digits text ≡ 20 = omega (arith, ahead_is text more h count) in
     let all = value_last text value last (omega (arith, ahead_within text)) is digit in
     (rw n (number_is text 20 (value * 10 + last) (omega arith) (omega arith) (omega arith) (sym all) fits), sym n)
 
-pub last_large : (text : List ℕ) (value more last : ℕ) → 19 ≤ digits_ahead text → value ≡ value_from 0 (take 19 text)
-    → more ≡ min (digits_ahead (behind text)) 19 → more ≡ 1 → last ≡ value_from 0 (take 1 (behind text))
-    → 2 ^ 64 ≤ value * 10 + last → number_of (take (digits_ahead text) text) ≡ None
+pub last_large : (text : List ℕ) (value more last : ℕ) → 19 ≤ leading_digits text → value ≡ value_from 0 (take 19 text)
+    → more ≡ min (leading_digits (behind text)) 19 → more ≡ 1 → last ≡ value_from 0 (take 1 (behind text))
+    → 2 ^ 64 ≤ value * 10 + last → number_of (take (leading_digits text) text) ≡ None
 last_large text value more last h is count one digit large =
-    let n : digits_ahead text ≡ 20 = omega (arith, ahead_is text more h count) in
+    let n : leading_digits text ≡ 20 = omega (arith, ahead_is text more h count) in
     let all = value_last text value last (omega (arith, ahead_within text)) is digit in
     rw n (number_large text 20 (omega (arith, all)))

@@ -2,7 +2,7 @@
 use Rattle.std.proofs.Common.{◌≡◌, ◌≢◌, ℕ, ◌<◌, ◌↔◌, Bool, true, false, List, [], ◌∷◌, ◌++◌, length, refl, sym, ap, ◌∙◌, subst, Option, Some, None, Result, Err}
 use Rattle.std.specs.Prelude.{IfSome, IsTrue}
 use Rattle.vm_engine.specs.Address.{AddressState}
-use Rattle.vm_engine.specs.Answer.{FEWEST_TOO_DEEP}
+use Rattle.vm_engine.specs.Answer.{SPLIT_LIMIT_MIN_HELD}
 use Rattle.vm_ranges.specs.Request.{Request}
 use Rattle.vm_allocator.specs.Ids.{IdState, IsHeld}
 use Rattle.vm_ranges.specs.declared.constraint.AllocPolicy.TheVariants.{FirstMatch, LastMatch, ExactMatch}
@@ -10,32 +10,32 @@ use Rattle.vm_ranges.specs.declared.error.Error.{Error}
 use Rattle.vm_ranges.specs.declared.error.Error.TheVariants.{OutOfMemory}
 use Rattle.vm_ranges.proofs.TwoFacts.{unless_same}
 use Rattle.vm_engine.proofs.Answers.Once.{frees_once}
-use Rattle.vm_allocator.proofs.Answers.Amply.{placed_once, made_once}
+use Rattle.vm_allocator.proofs.Answers.BelowLimits.{placed_once, made_once}
 use Rattle.vm_allocator.proofs.Ids.IdAnswers.{making_is_determined, allocating_is_determined, freeing_is_determined}
 use Rattle.vm_lines.specs.Commands.{command_of}
 use Rattle.vm_lines.specs.Lines.{newline}
 use Rattle.vm_devices.specs.Devices.{DeviceState}
 use Rattle.vm_devices.proofs.DevicesOnce.{devices_decide}
-use Rattle.vm_lines.specs.Machines.{Machine, start, with_space, with_ids, with_devices, OnPart, OnSpace, OnIds, OnDevices, Places, FreesRange, Does}
-use Rattle.vm_lines.specs.Replies.{text_of, done_or_refused, given_or_refused, id_or_refused, device_or_refused}
-use Rattle.vm_lines.specs.Laws.{HoldsFew, AreAnsweredInMemory, AreAnsweredAmply, OneText}
+use Rattle.vm_lines.specs.Machines.{Machine, start, with_space, with_ids, with_devices, OnPart, OnSpace, OnIds, OnDevices, AllocatesRange, FreesRange, Does}
+use Rattle.vm_lines.specs.Replies.{text_of, done_reply, range_reply, id_reply, device_reply}
+use Rattle.vm_lines.specs.Laws.{IsBelowLimits, AreAnsweredInMemory, AreAnsweredBelowLimits, OneText}
 use Rattle.vm_lines.specs.declared.command.Command.{Command}
 use Rattle.vm_lines.specs.declared.command.Command.TheVariants.{Space, First, Last, Exact, Free, Ids, Id, Unid, Has, Manager, Device, Undevice, Malformed}
 use Rattle.vm_lines.specs.declared.reply.Reply.{Reply}
-use Rattle.vm_lines.specs.declared.reply.Reply.TheVariants.{Held, Refused, NoSpace, NoIds, NoManager}
+use Rattle.vm_lines.specs.declared.reply.Reply.TheVariants.{Held, Failed, NoSpace, NoIds, NoManager}
 
 -- Answers.
 
 -- an answer that memory ran out is told
 not_memory : {A : Type 0} (tell : Result A Error → Reply) (reply : Reply) (answer : Result A Error)
-    → tell (Err OutOfMemory) ≡ Refused OutOfMemory → reply ≡ tell answer → reply ≢ Refused OutOfMemory
+    → tell (Err OutOfMemory) ≡ Failed OutOfMemory → reply ≡ tell answer → reply ≢ Failed OutOfMemory
     → answer ≢ Err OutOfMemory
 not_memory tell reply answer told is plain e = plain (is ∙ ap tell e ∙ told)
 
 -- one answer is told in one way
-same_told : {A : Type 0} (tell : Result A Error → Reply) (x y : Reply) (answer other : Result A Error) → x ≡ tell answer
+same_outcome : {A : Type 0} (tell : Result A Error → Reply) (x y : Reply) (answer other : Result A Error) → x ≡ tell answer
     → y ≡ tell other → answer ≡ other → x ≡ y
-same_told tell x y answer other p q e = p ∙ ap tell e ∙ sym q
+same_outcome tell x y answer other p q e = p ∙ ap tell e ∙ sym q
 
 released_once : (old m n : AddressState) (start end : ℕ) (x y : Result (Unit {0}) Error) → FreesRange old start end x m
     → FreesRange old start end y n → (x ≡ y) × (m ≡ n)
@@ -44,11 +44,11 @@ released_once old m n start end x y a b =
     unless_same _ _ _ _ _ a b (λ u v. (u.0 ∙ sym v.0, u.1 ∙ sym v.1)) (frees_once old m n (record { start = start; end = end }) x y)
 
 -- the ids that are held are known
-told_once : (state : IdState) (id : ℕ) (held other : Bool) → IsTrue held ↔ IsHeld state id → IsTrue other ↔ IsHeld state id → held ≡ other
-told_once state id true true p q = refl
-told_once state id true false p q = absurd (cc (q.1 (p.0 refl)))
-told_once state id false true p q = absurd (cc (p.1 (q.0 refl)))
-told_once state id false false p q = refl
+outcome_once : (state : IdState) (id : ℕ) (held other : Bool) → IsTrue held ↔ IsHeld state id → IsTrue other ↔ IsHeld state id → held ≡ other
+outcome_once state id true true p q = refl
+outcome_once state id true false p q = absurd (cc (q.1 (p.0 refl)))
+outcome_once state id false true p q = absurd (cc (p.1 (q.0 refl)))
+outcome_once state id false false p q = refl
 
 -- One line.
 
@@ -65,13 +65,13 @@ part_once (Some state) put old m n absent x y call other once a b =
     let same = once state a.0 b.0 refl a.1 b.1 in
     (same.0, a.2 ∙ ap put same.1 ∙ sym b.2)
 
-on_space_once : (old m n : Machine) (x y : Reply) (call other : AddressState → AddressState → Type 0) → HoldsFew old
-    → ((state later after : AddressState) → length state.held < FEWEST_TOO_DEEP → call state later → other state after → (x ≡ y) × (later ≡ after))
+on_space_once : (old m n : Machine) (x y : Reply) (call other : AddressState → AddressState → Type 0) → IsBelowLimits old
+    → ((state later after : AddressState) → length state.held < SPLIT_LIMIT_MIN_HELD → call state later → other state after → (x ≡ y) × (later ≡ after))
     → OnSpace old x m call → OnSpace old y n other → Agree x m y n
 unfolding OnSpace
 on_space_once old m n x y call other few once a b =
     part_once old.space (λ s. record old { space = Some s }) old m n NoSpace x y call other
-    (λ state later after e p q. once state later after (subst (λ (s : Option AddressState). IfSome s (λ t. length t.held < FEWEST_TOO_DEEP)) e few.0) p q) a b
+    (λ state later after e p q. once state later after (subst (λ (s : Option AddressState). IfSome s (λ t. length t.held < SPLIT_LIMIT_MIN_HELD)) e few.0) p q) a b
 
 on_ids_once : (old m n : Machine) (x y : Reply) (call other : IdState → IdState → Type 0)
     → ((state later after : IdState) → call state later → other state after → (x ≡ y) × (later ≡ after))
@@ -80,72 +80,72 @@ unfolding OnIds
 on_ids_once old m n x y call other once a b =
     part_once old.ids (λ s. record old { ids = Some s }) old m n NoIds x y call other (λ state later after e p q. once state later after p q) a b
 
-on_devices_once : (old m n : Machine) (x y : Reply) (call other : DeviceState → DeviceState → Type 0) → HoldsFew old
-    → ((state later after : DeviceState) → length state.space.held < FEWEST_TOO_DEEP → call state later → other state after → (x ≡ y) × (later ≡ after))
+on_devices_once : (old m n : Machine) (x y : Reply) (call other : DeviceState → DeviceState → Type 0) → IsBelowLimits old
+    → ((state later after : DeviceState) → length state.space.held < SPLIT_LIMIT_MIN_HELD → call state later → other state after → (x ≡ y) × (later ≡ after))
     → OnDevices old x m call → OnDevices old y n other → Agree x m y n
 unfolding OnDevices
 on_devices_once old m n x y call other few once a b =
     part_once old.devices (λ s. record old { devices = Some s }) old m n NoManager x y call other
-    (λ state later after e p q. once state later after (subst (λ (s : Option DeviceState). IfSome s (λ t. length t.space.held < FEWEST_TOO_DEEP)) e few.1) p q) a b
+    (λ state later after e p q. once state later after (subst (λ (s : Option DeviceState). IfSome s (λ t. length t.space.held < SPLIT_LIMIT_MIN_HELD)) e few.1) p q) a b
 
-places_once : (old m n : Machine) (request : Request) (x y : Reply) → HoldsFew old → x ≢ Refused OutOfMemory
-    → y ≢ Refused OutOfMemory → Places old request x m → Places old request y n → Agree x m y n
-unfolding Places
+places_once : (old m n : Machine) (request : Request) (x y : Reply) → IsBelowLimits old → x ≢ Failed OutOfMemory
+    → y ≢ Failed OutOfMemory → AllocatesRange old request x m → AllocatesRange old request y n → Agree x m y n
+unfolding AllocatesRange
 places_once old m n request x y few p q a b =
     on_space_once old m n x y _ _ few (λ state later after f u v.
-    let same = placed_once state later after request u.0 v.0 f (not_memory given_or_refused x u.0 refl u.2 p) (not_memory given_or_refused y v.0 refl v.2 q) u.1 v.1 in
-    (same_told given_or_refused x y u.0 v.0 u.2 v.2 same.0, same.1)) a b
+    let same = placed_once state later after request u.0 v.0 f (not_memory range_reply x u.0 refl u.2 p) (not_memory range_reply y v.0 refl v.2 q) u.1 v.1 in
+    (same_outcome range_reply x y u.0 v.0 u.2 v.2 same.0, same.1)) a b
 
 -- a line has one reply and leaves one machine
-does_once : (command : Command) (old m n : Machine) (x y : Reply) → HoldsFew old → x ≢ Refused OutOfMemory
-    → y ≢ Refused OutOfMemory → Does old command x m → Does old command y n → Agree x m y n
+does_once : (command : Command) (old m n : Machine) (x y : Reply) → IsBelowLimits old → x ≢ Failed OutOfMemory
+    → y ≢ Failed OutOfMemory → Does old command x m → Does old command y n → Agree x m y n
 unfolding Does
 does_once Malformed old m n x y few p q a b = (a.0 ∙ sym b.0, a.1 ∙ sym b.1)
 does_once (Space base size) old m n x y few p q a b =
-    let e = made_once base size a.0 b.0 (not_memory done_or_refused x a.0 refl a.2 p) (not_memory done_or_refused y b.0 refl b.2 q) a.1 b.1 in
-    (same_told done_or_refused x y a.0 b.0 a.2 b.2 e, a.3 ∙ ap (with_space old) e ∙ sym b.3)
+    let e = made_once base size a.0 b.0 (not_memory done_reply x a.0 refl a.2 p) (not_memory done_reply y b.0 refl b.2 q) a.1 b.1 in
+    (same_outcome done_reply x y a.0 b.0 a.2 b.2 e, a.3 ∙ ap (with_space old) e ∙ sym b.3)
 does_once (First size alignment) old m n x y few p q a b = places_once old m n (record { size = size; align = alignment; policy = FirstMatch }) x y few p q a b
 does_once (Last size alignment) old m n x y few p q a b = places_once old m n (record { size = size; align = alignment; policy = LastMatch }) x y few p q a b
 does_once (Exact size alignment start) old m n x y few p q a b = places_once old m n (record { size = size; align = alignment; policy = ExactMatch start }) x y few p q a b
 does_once (Free start end) old m n x y few p q a b =
     on_space_once old m n x y _ _ few (λ state later after f u v.
     let same = released_once state later after start end u.0 v.0 u.1 v.1 in
-    (same_told done_or_refused x y u.0 v.0 u.2 v.2 same.0, same.1)) a b
+    (same_outcome done_reply x y u.0 v.0 u.2 v.2 same.0, same.1)) a b
 does_once (Ids range_base range_end) old m n x y few p q a b =
     let e = making_is_determined range_base range_end a.0 b.0 a.1 b.1 in
-    (same_told done_or_refused x y a.0 b.0 a.2 b.2 e, a.3 ∙ ap (with_ids old) e ∙ sym b.3)
+    (same_outcome done_reply x y a.0 b.0 a.2 b.2 e, a.3 ∙ ap (with_ids old) e ∙ sym b.3)
 does_once Id old m n x y few p q a b =
     on_ids_once old m n x y _ _ (λ state later after u v.
     let same = allocating_is_determined state later after u.0 v.0 u.1 v.1 in
-    (same_told id_or_refused x y u.0 v.0 u.2 v.2 same.0, same.1)) a b
+    (same_outcome id_reply x y u.0 v.0 u.2 v.2 same.0, same.1)) a b
 does_once (Unid id) old m n x y few p q a b =
     on_ids_once old m n x y _ _ (λ state later after u v.
-    let same = freeing_is_determined state later after id u.0 v.0 (not_memory id_or_refused x u.0 refl u.2 p) (not_memory id_or_refused y v.0 refl v.2 q) u.1 v.1 in
-    (same_told id_or_refused x y u.0 v.0 u.2 v.2 same.0, same.1)) a b
+    let same = freeing_is_determined state later after id u.0 v.0 (not_memory id_reply x u.0 refl u.2 p) (not_memory id_reply y v.0 refl v.2 q) u.1 v.1 in
+    (same_outcome id_reply x y u.0 v.0 u.2 v.2 same.0, same.1)) a b
 does_once (Has id) old m n x y few p q a b =
     on_ids_once old m n x y _ _ (λ state later after u v.
-    (u.2 ∙ ap Held (told_once state id u.0 v.0 u.1 v.1) ∙ sym v.2, u.3 ∙ sym v.3)) a b
+    (u.2 ∙ ap Held (outcome_once state id u.0 v.0 u.1 v.1) ∙ sym v.2, u.3 ∙ sym v.3)) a b
 does_once (Manager id_lo id_hi base size) old m n x y few p q a b =
-    let e = devices_decide.made id_lo id_hi base size a.0 b.0 (not_memory done_or_refused x a.0 refl a.2 p) (not_memory done_or_refused y b.0 refl b.2 q) a.1 b.1 in
-    (same_told done_or_refused x y a.0 b.0 a.2 b.2 e, a.3 ∙ ap (with_devices old) e ∙ sym b.3)
+    let e = devices_decide.made id_lo id_hi base size a.0 b.0 (not_memory done_reply x a.0 refl a.2 p) (not_memory done_reply y b.0 refl b.2 q) a.1 b.1 in
+    (same_outcome done_reply x y a.0 b.0 a.2 b.2 e, a.3 ∙ ap (with_devices old) e ∙ sym b.3)
 does_once (Device size alignment) old m n x y few p q a b =
     on_devices_once old m n x y _ _ few (λ state later after f u v.
-    let same = devices_decide.reserved state later after (record { size = size; align = alignment; policy = FirstMatch }) u.0 v.0 (not_memory device_or_refused x u.0 refl u.2 p) (not_memory device_or_refused y v.0 refl v.2 q) f u.1 v.1 in
-    (same_told device_or_refused x y u.0 v.0 u.2 v.2 same.0, same.1)) a b
+    let same = devices_decide.reserved state later after (record { size = size; align = alignment; policy = FirstMatch }) u.0 v.0 (not_memory device_reply x u.0 refl u.2 p) (not_memory device_reply y v.0 refl v.2 q) f u.1 v.1 in
+    (same_outcome device_reply x y u.0 v.0 u.2 v.2 same.0, same.1)) a b
 does_once (Undevice id) old m n x y few p q a b =
     on_devices_once old m n x y _ _ few (λ state later after f u v.
-    let same = devices_decide.released state later after id u.0 v.0 (not_memory done_or_refused x u.0 refl u.2 p) (not_memory done_or_refused y v.0 refl v.2 q) u.1 v.1 in
-    (same_told done_or_refused x y u.0 v.0 u.2 v.2 same.0, same.1)) a b
+    let same = devices_decide.released state later after id u.0 v.0 (not_memory done_reply x u.0 refl u.2 p) (not_memory done_reply y v.0 refl v.2 q) u.1 v.1 in
+    (same_outcome done_reply x y u.0 v.0 u.2 v.2 same.0, same.1)) a b
 
 -- Lines one after the other.
 
 -- from any machine such lines have one text, and leave one machine
 answered_once : (lines : List (List ℕ)) (old new end : Machine) (text other : List ℕ)
-    → AreAnsweredAmply old lines text new → AreAnsweredInMemory old lines other end → (text ≡ other) × (new ≡ end)
+    → AreAnsweredBelowLimits old lines text new → AreAnsweredInMemory old lines other end → (text ≡ other) × (new ≡ end)
 answered_once [] old new end text other a b = (a.0 ∙ sym b.0, a.1 ∙ sym b.1)
 answered_once (line ∷ lines) old new end text other a b =
     let same = does_once (command_of line) old a.1 b.1 a.0 b.0 a.5 a.4 b.4 a.3 b.3 in
-    let after = answered_once lines b.1 new end a.2 b.2 (subst (λ (m : Machine). AreAnsweredAmply m lines a.2 new) same.1 a.6) b.5 in
+    let after = answered_once lines b.1 new end a.2 b.2 (subst (λ (m : Machine). AreAnsweredBelowLimits m lines a.2 new) same.1 a.6) b.5 in
     let told : text_of a.0 ++ newline ∷ a.2 ≡ text_of b.0 ++ newline ∷ b.2 = cc in
     (a.7 ∙ told ∙ sym b.6, after.1)
 

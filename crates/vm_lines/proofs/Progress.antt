@@ -2,37 +2,37 @@
 use Rattle.std.proofs.Common.{◌≡◌, ℕ, ◌+◌, ◌-◌, ◌<◌, Bool, true, false, List, [], ◌∷◌, ◌++◌, length, take, drop, ◌==◌, nat_le, nat_lt, Some, None, refl, sym, ap, ◌∙◌, subst, append-nil, append_assoc, length-append, arith}
 use Rattle.std.specs.Prelude.{if◌then◌else◌, MatchBool, position}
 use Rattle.std.proofs.lemmas.Bool.Decides.{nat_tests}
-use Rattle.vm_lines.specs.Commands.{command_of, longest_line}
+use Rattle.vm_lines.specs.Commands.{command_of, max_line_len}
 use Rattle.vm_lines.specs.declared.reply.Reply.{Reply}
 use Rattle.vm_lines.specs.Lines.{newline, parts_of, lines_of, ended_lines_of, lines_among, ended_among}
 use Rattle.vm_lines.specs.Machines.{Machine, start, Does}
 use Rattle.vm_lines.specs.Replies.{text_of}
 use Rattle.vm_lines.specs.Runs.{AreAnswered, MayAnswer}
-use Rattle.vm_lines.specs.Sessions.{Session, kept_of, line_after, with_more, asked_by, has_begun, Ends, FeedsParts, Feeds, Finishes}
+use Rattle.vm_lines.specs.Sessions.{Session, within_max_len, line_after, with_more, pending_command, has_begun, EndsLine, AnswersParts, AnswersPiece, AnswersLastLine}
 use Rattle.vm_lines.proofs.Parts.{glued, some_parts, parts_glued, glued_is, ended_is, lines_are}
 use Rattle.vm_lines.proofs.Splitting.{parts_some, parts_none}
 
 -- what is kept of a line, with more bytes
-kept_more : (line bytes : List ℕ) → line_after (kept_of line) bytes ≡ kept_of (line ++ bytes)
-kept_more line bytes = step (nat_le (length line) longest_line) refl
+append_more : (line bytes : List ℕ) → line_after (within_max_len line) bytes ≡ within_max_len (line ++ bytes)
+append_more line bytes = step (nat_le (length line) max_line_len) refl
   where
-    step : (b : Bool) → nat_le (length line) longest_line ≡ b → line_after (kept_of line) bytes ≡ kept_of (line ++ bytes)
+    step : (b : Bool) → nat_le (length line) max_line_len ≡ b → line_after (within_max_len line) bytes ≡ within_max_len (line ++ bytes)
     step true e = rw e refl
     step false e = rw (e, length-append line bytes) (grind (arith, nat_tests))
 
 -- what is kept asks what the line asks
-pub asked_of_kept : (line : List ℕ) → asked_by (kept_of line) ≡ command_of line
-asked_of_kept line = step (nat_le (length line) longest_line) refl
+pub pending_of_line : (line : List ℕ) → pending_command (within_max_len line) ≡ command_of line
+pending_of_line line = step (nat_le (length line) max_line_len) refl
   where
-    step : (b : Bool) → nat_le (length line) longest_line ≡ b → asked_by (kept_of line) ≡ command_of line
+    step : (b : Bool) → nat_le (length line) max_line_len ≡ b → pending_command (within_max_len line) ≡ command_of line
     step true e = rw e (rw e)
     step false e = rw e
 
 -- a line has begun if it has a byte
-begun_of_kept : (line : List ℕ) → has_begun (kept_of line) ≡ nat_lt 0 (length line)
-begun_of_kept line = step (nat_le (length line) longest_line) refl
+begun_of_line : (line : List ℕ) → has_begun (within_max_len line) ≡ nat_lt 0 (length line)
+begun_of_line line = step (nat_le (length line) max_line_len) refl
   where
-    step : (b : Bool) → nat_le (length line) longest_line ≡ b → has_begun (kept_of line) ≡ nat_lt 0 (length line)
+    step : (b : Bool) → nat_le (length line) max_line_len ≡ b → has_begun (within_max_len line) ≡ nat_lt 0 (length line)
     step true e = rw e
     step false e = rw e (grind (arith, nat_tests))
 
@@ -49,7 +49,7 @@ pub record Holds (parts : List (List ℕ)) (text : List ℕ) (session : Session)
   pub ended : List (List ℕ)
   pub begun : List ℕ
   pub parts_are : parts ≡ ended ++ begun ∷ []
-  pub kept : session.line ≡ kept_of begun
+  pub replaced_if_ok : session.line ≡ within_max_len begun
   pub answered : AreAnswered start ended text session.machine
 
 -- the same of the parts of what was read
@@ -58,32 +58,32 @@ At read text session = Holds (parts_of read) text session
 
 -- before the first byte
 pub at_start : At [] [] (record { machine = start; line = Some [] })
-at_start = record { ended = []; begun = []; parts_are = refl; kept = refl; answered = (refl, refl) }
+at_start = record { ended = []; begun = []; parts_are = refl; replaced_if_ok = refl; answered = (refl, refl) }
 
 -- one more line ends
 holds_line : (parts : List (List ℕ)) (part text added : List ℕ) (old new : Session) (h : Holds parts text old)
-    → Ends (with_more old part) added new
+    → EndsLine (with_more old part) added new
     → Holds ((h.ended ++ (h.begun ++ part) ∷ []) ++ [] ∷ []) (text ++ added) new
 holds_line parts part text added old new h f =
-    let asks = ap (λ l. asked_by (line_after l part)) h.kept ∙ ap asked_by (kept_more h.begun part) ∙ asked_of_kept (h.begun ++ part) in
+    let asks = ap (λ l. pending_command (line_after l part)) h.replaced_if_ok ∙ ap pending_command (append_more h.begun part) ∙ pending_of_line (h.begun ++ part) in
     record {
       ended = h.ended ++ (h.begun ++ part) ∷ [];
       begun = [];
       parts_are = refl;
-      kept = f.2;
+      replaced_if_ok = f.2;
       answered = subst (λ t. AreAnswered start (h.ended ++ (h.begun ++ part) ∷ []) (text ++ t) new.machine) (sym f.3) (answered_push start old.machine new.machine h.ended (h.begun ++ part) text f.0 h.answered (subst (λ q. Does old.machine q f.0 new.machine) asks f.1));
     }
 
 -- more parts come
 holds_parts : (others parts : List (List ℕ)) (text added : List ℕ) (old new : Session) → 0 < length others
-    → Holds parts text old → FeedsParts old others added new → Holds (glued parts others) (text ++ added) new
+    → Holds parts text old → AnswersParts old others added new → Holds (glued parts others) (text ++ added) new
 holds_parts [] parts text added old new some h f = absurd (omega arith)
 holds_parts (last ∷ []) parts text added old new some h f =
     record {
       ended = h.ended;
       begun = h.begun ++ last;
       parts_are = ap (λ ps. glued ps (last ∷ [])) h.parts_are ∙ glued_is h.ended h.begun last [];
-      kept = ap (λ (s : Session). s.line) f.1 ∙ ap (λ l. line_after l last) h.kept ∙ kept_more h.begun last;
+      replaced_if_ok = ap (λ (s : Session). s.line) f.1 ∙ ap (λ l. line_after l last) h.replaced_if_ok ∙ append_more h.begun last;
       answered = rw (f.0, append-nil, ap (λ (s : Session). s.machine) f.1) h.answered;
     }
 holds_parts (part ∷ next ∷ others) parts text added old new some h f =
@@ -96,27 +96,27 @@ holds_parts (part ∷ next ∷ others) parts text added old new some h f =
     subst (λ t. Holds (glued parts (part ∷ next ∷ others)) t new) (append_assoc text f.1 f.2 ∙ ap (λ t. text ++ t) (sym f.5)) (subst (λ ps. Holds ps ((text ++ f.1) ++ f.2) new) behind all)
 
 -- a piece more
-pub at_feeds : (piece read text added : List ℕ) (old new : Session) → At read text old → Feeds old piece added new
+pub at_feeds : (piece read text added : List ℕ) (old new : Session) → At read text old → AnswersPiece old piece added new
     → At (read ++ piece) (text ++ added) new
 at_feeds piece read text added old new a f =
     rw (parts_glued read piece) (holds_parts (parts_of piece) (parts_of read) text added old new (some_parts piece) a f)
 
 -- a piece begins with the end of a line
 pub feeds_line : (piece : List ℕ) (i : ℕ) (first rest : List ℕ) (old mid new : Session)
-    → position (λ byte. byte == newline) piece ≡ Some i → Ends (with_more old (take i piece)) first mid
-    → Feeds mid (take (length piece - (i + 1)) (drop (i + 1) piece)) rest new → Feeds old piece (first ++ rest) new
+    → position (λ byte. byte == newline) piece ≡ Some i → EndsLine (with_more old (take i piece)) first mid
+    → AnswersPiece mid (take (length piece - (i + 1)) (drop (i + 1) piece)) rest new → AnswersPiece old piece (first ++ rest) new
 feeds_line piece i first rest old mid new e h f =
     let behind = take (length piece - (i + 1)) (drop (i + 1) piece) in
     rw (parts_some piece i e) (cons (take i piece) (parts_of behind) (some_parts behind) h f)
   where
-    cons : (part : List ℕ) (parts : List (List ℕ)) → 0 < length parts → Ends (with_more old part) first mid
-        → FeedsParts mid parts rest new → FeedsParts old (part ∷ parts) (first ++ rest) new
+    cons : (part : List ℕ) (parts : List (List ℕ)) → 0 < length parts → EndsLine (with_more old part) first mid
+        → AnswersParts mid parts rest new → AnswersParts old (part ∷ parts) (first ++ rest) new
     cons part [] some h f = absurd (omega arith)
     cons part (next ∷ parts) some h f = (mid, first, rest, h, f, refl)
 
 -- a piece in which no line ends
 pub feeds_none : (piece : List ℕ) (old : Session) → position (λ byte. byte == newline) piece ≡ None
-    → Feeds old piece [] (with_more old piece)
+    → AnswersPiece old piece [] (with_more old piece)
 feeds_none piece old e = rw (parts_none piece e) (refl, refl)
 
 -- at a fault the ended lines are answered
@@ -125,27 +125,27 @@ at_fault read text session a = (session.machine, subst (λ ls. AreAnswered start
 
 -- the end of the input, by whether a line has begun
 at_end : (read text added : List ℕ) (session : Session) (b : Bool) (a : At read text session)
-    → nat_lt 0 (length a.begun) ≡ b → MatchBool b ((new : Session) × Ends (with_more session []) added new) (added ≡ [])
+    → nat_lt 0 (length a.begun) ≡ b → MatchBool b ((new : Session) × EndsLine (with_more session []) added new) (added ≡ [])
     → MayAnswer (a.ended ++ (if length a.begun == 0 then [] else a.begun ∷ [])) (text ++ added)
 at_end read text added session true a e f =
     let some : (length a.begun == 0) ≡ false = grind (arith, nat_tests) in
-    let asks = ap (λ l. asked_by (line_after l [])) a.kept ∙ ap asked_by (kept_more a.begun []) ∙ asked_of_kept (a.begun ++ []) ∙ ap command_of (append-nil a.begun) in
+    let asks = ap (λ l. pending_command (line_after l [])) a.replaced_if_ok ∙ ap pending_command (append_more a.begun []) ∙ pending_of_line (a.begun ++ []) ∙ ap command_of (append-nil a.begun) in
     rw some (f.0.machine, subst (λ t. AreAnswered start (a.ended ++ a.begun ∷ []) (text ++ t) f.0.machine) (sym f.1.3) (answered_push start session.machine f.0.machine a.ended a.begun text f.1.0 a.answered (subst (λ q. Does session.machine q f.1.0 f.0.machine) asks f.1.1)))
 at_end read text added session false a e f =
     let none : (length a.begun == 0) ≡ true = grind (arith, nat_tests) in
     rw (none, f, append-nil a.ended, append-nil text) (session.machine, a.answered)
 
 -- at the end of the input all lines are answered
-pub at_finish : (read text added : List ℕ) (session : Session) → At read text session → Finishes session added
+pub at_finish : (read text added : List ℕ) (session : Session) → At read text session → AnswersLastLine session added
     → MayAnswer (lines_of read) (text ++ added)
 at_finish read text added session a f =
     subst (λ ls. MayAnswer ls (text ++ added)) (sym (ap lines_among a.parts_are ∙ lines_are a.ended a.begun))
-    (at_end read text added session (nat_lt 0 (length a.begun)) a refl (subst (λ b. MatchBool b ((new : Session) × Ends (with_more session []) added new) (added ≡ [])) (ap has_begun a.kept ∙ begun_of_kept a.begun) f))
+    (at_end read text added session (nat_lt 0 (length a.begun)) a refl (subst (λ b. MatchBool b ((new : Session) × EndsLine (with_more session []) added new) (added ≡ [])) (ap has_begun a.replaced_if_ok ∙ begun_of_line a.begun) f))
 
 -- a line that has begun is answered at the end
-pub finishes_some : (old new : Session) (text : List ℕ) → has_begun old.line ≡ true → Ends (with_more old []) text new → Finishes old text
-finishes_some old new text e h = rw e (new, h)
+pub answers_last_some : (old new : Session) (text : List ℕ) → has_begun old.line ≡ true → EndsLine (with_more old []) text new → AnswersLastLine old text
+answers_last_some old new text e h = rw e (new, h)
 
 -- where no line has begun, nothing is written at the end
-pub finishes_none : (old : Session) → has_begun old.line ≡ false → Finishes old []
-finishes_none old e = rw e
+pub answers_last_none : (old : Session) → has_begun old.line ≡ false → AnswersLastLine old []
+answers_last_none old e = rw e

@@ -14,52 +14,52 @@ use Rattle.vm_lines.specs.Lines.{newline}
 use Rattle.vm_devices.specs.declared.device_slot.DeviceSlot.{DeviceSlot}
 use Rattle.vm_devices.specs.Devices.{DeviceState}
 use Rattle.vm_devices.proofs.EveryDeviceCall.{every_device_call}
-use Rattle.vm_lines.specs.Machines.{Machine, start, with_space, with_ids, with_devices, OnPart, OnSpace, OnIds, OnDevices, Places, Does}
-use Rattle.vm_lines.specs.Replies.{text_of, done_or_refused, given_or_refused, id_or_refused, device_or_refused}
+use Rattle.vm_lines.specs.Machines.{Machine, start, with_space, with_ids, with_devices, OnPart, OnSpace, OnIds, OnDevices, AllocatesRange, Does}
+use Rattle.vm_lines.specs.Replies.{text_of, done_reply, range_reply, id_reply, device_reply}
 use Rattle.vm_lines.specs.Runs.{AreAnswered}
 use Rattle.vm_lines.specs.declared.command.Command.{Command}
 use Rattle.vm_lines.specs.declared.command.Command.TheVariants.{Space, First, Last, Exact, Free, Ids, Id, Unid, Has, Manager, Device, Undevice, Malformed}
 use Rattle.vm_lines.specs.declared.reply.Reply.{Reply}
-use Rattle.vm_lines.specs.declared.reply.Reply.TheVariants.{Held, Refused, NoSpace, NoIds, NoManager, NotInLanguage}
+use Rattle.vm_lines.specs.declared.reply.Reply.TheVariants.{Held, Failed, NoSpace, NoIds, NoManager, NotInLanguage}
 use Rattle.vm_lines.proofs.SomeAnswer.{IsAnswered, allocates_answered, releases_answered, makes_answered, allocates_id_answered, frees_id_answered, makes_ids_answered}
 
 -- One line.
 
 -- some reply, not that memory ran out, and some next state are allowed
 abbrev IsReplied : {S : Type 0} → (Reply → S → Type 0) → Type 0
-IsReplied {S} allowed = (reply : Reply) × (new : S) × allowed reply new × (reply ≢ Refused OutOfMemory)
+IsReplied {S} allowed = (reply : Reply) × (new : S) × allowed reply new × (reply ≢ Failed OutOfMemory)
 
 -- a refusal is told with its error
 plain_refused : (e : Error) {A : Type 0} → (let answer : Result A Error = Err e in answer ≢ Err OutOfMemory)
-    → Refused e ≢ Refused OutOfMemory
+    → Failed e ≢ Failed OutOfMemory
 plain_refused e {A} plain same = let told : e ≡ OutOfMemory = cc in plain (ap (λ (f : Error). let answer : Result A Error = Err f in answer) told)
 
-plain_done : {A : Type 0} (answer : Result A Error) → answer ≢ Err OutOfMemory → done_or_refused answer ≢ Refused OutOfMemory
+plain_done : {A : Type 0} (answer : Result A Error) → answer ≢ Err OutOfMemory → done_reply answer ≢ Failed OutOfMemory
 plain_done (Ok value) plain = λ e. cc
 plain_done {A} (Err e) plain = plain_refused e {A = A} plain
 
-plain_given : (answer : Result Range Error) → answer ≢ Err OutOfMemory → given_or_refused answer ≢ Refused OutOfMemory
+plain_given : (answer : Result Range Error) → answer ≢ Err OutOfMemory → range_reply answer ≢ Failed OutOfMemory
 plain_given (Ok range) plain = λ e. cc
 plain_given (Err e) plain = plain_refused e {A = Range} plain
 
-plain_id : (answer : Result ℕ Error) → answer ≢ Err OutOfMemory → id_or_refused answer ≢ Refused OutOfMemory
+plain_id : (answer : Result ℕ Error) → answer ≢ Err OutOfMemory → id_reply answer ≢ Failed OutOfMemory
 plain_id (Ok id) plain = λ e. cc
 plain_id (Err e) plain = plain_refused e {A = ℕ} plain
 
-plain_device : (answer : Result DeviceSlot Error) → answer ≢ Err OutOfMemory → device_or_refused answer ≢ Refused OutOfMemory
+plain_device : (answer : Result DeviceSlot Error) → answer ≢ Err OutOfMemory → device_reply answer ≢ Failed OutOfMemory
 plain_device (Ok slot) plain = λ e. cc
 plain_device (Err e) plain = plain_refused e {A = DeviceSlot} plain
 
 -- a call that is answered is replied to in the words for its answer
 replied : {A S : Type 0} (tell : Result A Error → Reply)
-    → ((answer : Result A Error) → answer ≢ Err OutOfMemory → tell answer ≢ Refused OutOfMemory)
+    → ((answer : Result A Error) → answer ≢ Err OutOfMemory → tell answer ≢ Failed OutOfMemory)
     → (call : Result A Error → S → Type 0) → IsAnswered call
     → IsReplied (λ reply new. (answer : Result A Error) × call answer new × (reply ≡ tell answer))
 replied tell plain call h = (tell h.0, h.1, (h.0, h.2, refl), plain h.0 h.3)
 
 -- a line on a part that may be there
 on_part : {S : Type 0} (part : Option S) (put : S → Machine) (old : Machine) (absent : Reply)
-    → absent ≢ Refused OutOfMemory → (call : Reply → S → S → Type 0)
+    → absent ≢ Failed OutOfMemory → (call : Reply → S → S → Type 0)
     → ((state : S) → IsReplied (λ reply later. call reply state later))
     → IsReplied (λ reply new. OnPart part put absent old reply new (call reply))
 on_part None put old absent plain call each = (absent, old, (refl, refl), plain)
@@ -83,10 +83,10 @@ on_devices : (old : Machine) (call : Reply → DeviceState → DeviceState → T
 unfolding OnDevices
 on_devices old call each = on_part old.devices (λ s. record old { devices = Some s }) old NoManager (λ e. cc) call each
 
-places_replied : (old : Machine) (request : Request) → IsReplied (λ reply new. Places old request reply new)
-unfolding Places
+places_replied : (old : Machine) (request : Request) → IsReplied (λ reply new. AllocatesRange old request reply new)
+unfolding AllocatesRange
 places_replied old request =
-    on_space old _ (λ state. replied given_or_refused plain_given _ (allocates_answered state request))
+    on_space old _ (λ state. replied range_reply plain_given _ (allocates_answered state request))
 
 -- each command has a reply
 does_replied : (command : Command) (old : Machine) → IsReplied (λ reply new. Does old command reply new)
@@ -94,26 +94,26 @@ unfolding Does
 does_replied Malformed old = (NotInLanguage, old, (refl, refl), λ e. cc)
 does_replied (Space base size) old =
     let h = makes_answered base size in
-    (done_or_refused h.0, with_space old h.0, (h.0, h.1, refl, refl), plain_done h.0 h.2)
+    (done_reply h.0, with_space old h.0, (h.0, h.1, refl, refl), plain_done h.0 h.2)
 does_replied (First size alignment) old = places_replied old (record { size = size; align = alignment; policy = FirstMatch })
 does_replied (Last size alignment) old = places_replied old (record { size = size; align = alignment; policy = LastMatch })
 does_replied (Exact size alignment start) old = places_replied old (record { size = size; align = alignment; policy = ExactMatch start })
 does_replied (Free start end) old =
-    on_space old _ (λ state. replied done_or_refused plain_done _ (releases_answered state start end))
+    on_space old _ (λ state. replied done_reply plain_done _ (releases_answered state start end))
 does_replied (Ids range_base range_end) old =
     let h = makes_ids_answered range_base range_end in
-    (done_or_refused h.0, with_ids old h.0, (h.0, h.1, refl, refl), plain_done h.0 h.2)
-does_replied Id old = on_ids old _ (λ state. replied id_or_refused plain_id _ (allocates_id_answered state))
-does_replied (Unid id) old = on_ids old _ (λ state. replied id_or_refused plain_id _ (frees_id_answered state id))
+    (done_reply h.0, with_ids old h.0, (h.0, h.1, refl, refl), plain_done h.0 h.2)
+does_replied Id old = on_ids old _ (λ state. replied id_reply plain_id _ (allocates_id_answered state))
+does_replied (Unid id) old = on_ids old _ (λ state. replied id_reply plain_id _ (frees_id_answered state id))
 does_replied (Has id) old =
     on_ids old _ (λ state. let held = set.contains state.held id in (Held held, state, (held, (λ h. h, λ h. h), refl, refl), λ e. cc))
 does_replied (Manager id_lo id_hi base size) old =
     let h = every_device_call.made id_lo id_hi base size in
-    (done_or_refused h.0, with_devices old h.0, (h.0, h.1, refl, refl), plain_done h.0 h.2)
+    (done_reply h.0, with_devices old h.0, (h.0, h.1, refl, refl), plain_done h.0 h.2)
 does_replied (Device size alignment) old =
-    on_devices old _ (λ state. replied device_or_refused plain_device _ (every_device_call.reserved state (record { size = size; align = alignment; policy = FirstMatch })))
+    on_devices old _ (λ state. replied device_reply plain_device _ (every_device_call.reserved state (record { size = size; align = alignment; policy = FirstMatch })))
 does_replied (Undevice id) old =
-    on_devices old _ (λ state. replied done_or_refused plain_done _ (every_device_call.released state id))
+    on_devices old _ (λ state. replied done_reply plain_done _ (every_device_call.released state id))
 
 -- Lines one after the other.
 

@@ -64,17 +64,17 @@ begins_with text word next more e =
     (cases_lt m (length text))
 
 -- whether a text begins so
-pub too_short : (text front rest : List ℕ) → length text < length front → text ≢ front ++ rest
-too_short text front rest h e = omega (arith, front_fits text front rest e)
+pub too_short : (text prefix rest : List ℕ) → length text < length prefix → text ≢ prefix ++ rest
+too_short text prefix rest h e = omega (arith, front_fits text prefix rest e)
 
-pub begins_else : (text front rest : List ℕ) (i : ℕ) → i < length front → get_or text i 0 ≢ get_or front i 0 → text ≢ front ++ rest
-begins_else text front rest i within differs e = differs (front_reads 0 text front rest e i within)
+pub begins_else : (text prefix rest : List ℕ) (i : ℕ) → i < length prefix → get_or text i 0 ≢ get_or prefix i 0 → text ≢ prefix ++ rest
+begins_else text prefix rest i within differs e = differs (front_reads 0 text prefix rest e i within)
 
-pub begins_so : (text front : List ℕ) → length front ≤ length text
-    → ((i : ℕ) → i < length front → get_or text i 0 ≡ get_or front i 0)
-    → text ≡ front ++ take (length text - length front) (drop (length front) text)
-begins_so text front fits same =
-    rw (take_all (length text - length front) (drop (length front) text) (omega (arith, length-drop (length front) text))) (front_from_reads 0 text front fits same)
+pub begins_so : (text prefix : List ℕ) → length prefix ≤ length text
+    → ((i : ℕ) → i < length prefix → get_or text i 0 ≡ get_or prefix i 0)
+    → text ≡ prefix ++ take (length text - length prefix) (drop (length prefix) text)
+begins_so text prefix fits same =
+    rw (take_all (length text - length prefix) (drop (length prefix) text) (omega (arith, length-drop (length prefix) text))) (front_from_reads 0 text prefix fits same)
 
 -- the first part of a piece with a newline, and the parts behind it
 pub parts_some : (piece : List ℕ) (i : ℕ) → position (λ byte. byte == newline) piece ≡ Some i

@@ -8,23 +8,23 @@ use Rattle.vm_lines.specs.declared.command.Command.{Command}
 use Rattle.vm_lines.specs.declared.command.Command.TheVariants.{Space, First, Last, Exact, Free, Ids, Id, Unid, Has, Manager, Device, Undevice, Malformed}
 
 -- what they ask of devices
-abbrev pub asked_of_devices : List (List ℕ) → Option Command
-asked_of_devices [] = None
-asked_of_devices (name ∷ words) =
+abbrev pub devices_command : List (List ℕ) → Option Command
+devices_command [] = None
+devices_command (name ∷ words) =
     if bytes_eq name (codes "manager") then option_map (λ p. Manager p.0.0 p.0.1 p.1.0 p.1.1) (four_in id_of number_of words)
     else if bytes_eq name (codes "device") then option_map (λ p. Device p.0 p.1) (two_in number_of words)
     else if bytes_eq name (codes "undevice") then option_map (λ i. Undevice i) (one_in id_of words)
     else None
 
 -- what they ask of ids, and else of devices
-abbrev pub asked_of_ids : List (List ℕ) → Option Command
-asked_of_ids [] = None
-asked_of_ids (name ∷ words) =
+abbrev pub ids_command : List (List ℕ) → Option Command
+ids_command [] = None
+ids_command (name ∷ words) =
     if bytes_eq name (codes "ids") then option_map (λ p. Ids p.0 p.1) (two_in id_of words)
     else if bytes_eq name (codes "id") then alone Id words
     else if bytes_eq name (codes "unid") then option_map (λ i. Unid i) (one_in id_of words)
     else if bytes_eq name (codes "has") then option_map (λ i. Has i) (one_in id_of words)
-    else asked_of_devices (name ∷ words)
+    else devices_command (name ∷ words)
 
 -- what the words of a line ask for, where they are in the language: of a space, and else of ids or of devices
 abbrev pub asked : List (List ℕ) → Option Command
@@ -35,11 +35,11 @@ asked (name ∷ words) =
     else if bytes_eq name (codes "last") then option_map (λ p. Last p.0 p.1) (two_in number_of words)
     else if bytes_eq name (codes "exact") then option_map (λ p. Exact p.0 p.1 p.2) (three_in number_of words)
     else if bytes_eq name (codes "free") then option_map (λ p. Free p.0 p.1) (two_in number_of words)
-    else asked_of_ids (name ∷ words)
+    else ids_command (name ∷ words)
 
 -- a longer line is not in the language
-abbrev pub longest_line : ℕ
-longest_line = 120
+abbrev pub max_line_len : ℕ
+max_line_len = 120
 
 -- the command that is asked for, if there is one
 abbrev pub command_or_malformed : Option Command → Command
@@ -48,4 +48,4 @@ command_or_malformed (Some command) = command
 
 -- what a line asks for
 abbrev pub command_of : List ℕ → Command
-command_of line = if nat_le (length line) longest_line then command_or_malformed (asked (words_of line)) else Malformed
+command_of line = if nat_le (length line) max_line_len then command_or_malformed (asked (words_of line)) else Malformed

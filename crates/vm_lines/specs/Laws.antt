@@ -1,6 +1,6 @@
 -- What follows from the definitions alone.
 use Rattle.std.specs.Prelude.{◌≡◌, ◌≢◌, ℕ, ◌<◌, List, [], ◌∷◌, ◌++◌, length, IfSome}
-use Rattle.vm_engine.specs.Answer.{FEWEST_TOO_DEEP}
+use Rattle.vm_engine.specs.Answer.{SPLIT_LIMIT_MIN_HELD}
 use Rattle.vm_ranges.specs.declared.error.Error.TheVariants.{OutOfMemory}
 use Rattle.vm_lines.specs.Commands.{command_of}
 use Rattle.vm_lines.specs.Lines.{newline}
@@ -8,13 +8,13 @@ use Rattle.vm_lines.specs.Machines.{Machine, start, Does}
 use Rattle.vm_lines.specs.Replies.{text_of}
 use Rattle.vm_lines.specs.Runs.{MayAnswer}
 use Rattle.vm_lines.specs.declared.reply.Reply.{Reply}
-use Rattle.vm_lines.specs.declared.reply.Reply.TheVariants.{Refused}
+use Rattle.vm_lines.specs.declared.reply.Reply.TheVariants.{Failed}
 
 -- so few ranges are held, by lines on the space and by devices, that no split is refused for the depth of a tree
-abbrev pub HoldsFew : Machine → Type 0
-HoldsFew machine =
-    IfSome machine.space (λ state. length state.held < FEWEST_TOO_DEEP)
-    × IfSome machine.devices (λ state. length state.space.held < FEWEST_TOO_DEEP)
+abbrev pub IsBelowLimits : Machine → Type 0
+IsBelowLimits machine =
+    IfSome machine.space (λ state. length state.held < SPLIT_LIMIT_MIN_HELD)
+    × IfSome machine.devices (λ state. length state.space.held < SPLIT_LIMIT_MIN_HELD)
 
 -- As `AreAnswered`, where no line is refused because memory ran out.
 abbrev pub AreAnsweredInMemory : Machine → List (List ℕ) → List ℕ → Machine → Type 0
@@ -22,19 +22,19 @@ AreAnsweredInMemory old [] text new = (text ≡ []) × (new ≡ old)
 AreAnsweredInMemory old (line ∷ lines) text new =
     (reply : Reply) × (mid : Machine) × (rest : List ℕ)
     × Does old (command_of line) reply mid
-    × (reply ≢ Refused OutOfMemory)
+    × (reply ≢ Failed OutOfMemory)
     × AreAnsweredInMemory mid lines rest new
     × (text ≡ text_of reply ++ newline ∷ rest)
 
 -- As `AreAnsweredInMemory`, where few ranges are held before each line.
-abbrev pub AreAnsweredAmply : Machine → List (List ℕ) → List ℕ → Machine → Type 0
-AreAnsweredAmply old [] text new = (text ≡ []) × (new ≡ old)
-AreAnsweredAmply old (line ∷ lines) text new =
+abbrev pub AreAnsweredBelowLimits : Machine → List (List ℕ) → List ℕ → Machine → Type 0
+AreAnsweredBelowLimits old [] text new = (text ≡ []) × (new ≡ old)
+AreAnsweredBelowLimits old (line ∷ lines) text new =
     (reply : Reply) × (mid : Machine) × (rest : List ℕ)
     × Does old (command_of line) reply mid
-    × (reply ≢ Refused OutOfMemory)
-    × HoldsFew old
-    × AreAnsweredAmply mid lines rest new
+    × (reply ≢ Failed OutOfMemory)
+    × IsBelowLimits old
+    × AreAnsweredBelowLimits mid lines rest new
     × (text ≡ text_of reply ++ newline ∷ rest)
 
 -- where few ranges are held, lines have no other text in which none is refused because memory ran out, and leave one
@@ -42,13 +42,13 @@ AreAnsweredAmply old (line ∷ lines) text new =
 unfoldable pub OneText : Type 0
 OneText =
     (lines : List (List ℕ)) (text other : List ℕ) (new end : Machine) →
-    AreAnsweredAmply start lines text new → AreAnsweredInMemory start lines other end → (text ≡ other) × (new ≡ end)
+    AreAnsweredBelowLimits start lines text new → AreAnsweredInMemory start lines other end → (text ≡ other) × (new ≡ end)
 
 -- whatever the lines so far have made, each line has a reply, other than that memory ran out
 unfoldable pub HasReply : Type 0
 HasReply =
     (old : Machine) (line : List ℕ) →
-    (reply : Reply) × (new : Machine) × Does old (command_of line) reply new × (reply ≢ Refused OutOfMemory)
+    (reply : Reply) × (new : Machine) × Does old (command_of line) reply new × (reply ≢ Failed OutOfMemory)
 
 -- and so the lines of each input have a text in which none is refused because memory ran out
 unfoldable pub HasText : Type 0

@@ -13,7 +13,7 @@ use Rattle.vm_ranges.specs.declared.error.Error.{Error}
 use Rattle.vm_ranges.specs.declared.error.Error.TheVariants.{InvalidRange}
 use Rattle.vm_devices.specs.declared.device_slot.DeviceSlot.{DeviceSlot}
 use Rattle.vm_devices.specs.Devices.{DeviceState, device_state_code, MakesManager, Reserves, Releases as ReleasesDevice}
-use Rattle.vm_lines.specs.Replies.{done_or_refused, given_or_refused, id_or_refused, device_or_refused}
+use Rattle.vm_lines.specs.Replies.{done_reply, range_reply, id_reply, device_reply}
 use Rattle.vm_lines.specs.declared.command.Command.{Command}
 use Rattle.vm_lines.specs.declared.command.Command.TheVariants.{Space, First, Last, Exact, Free, Ids, Id, Unid, Has, Manager, Device, Undevice, Malformed}
 use Rattle.vm_lines.specs.declared.reply.Reply.{Reply}
@@ -40,21 +40,21 @@ abbrev pub start : Machine
 start = record { space = None; ids = None; devices = None }
 
 -- what is made takes the place of what was there, and what is refused does not
-abbrev pub kept : {A : Type 0} → Result A Error → Option A → Option A
-kept (Ok made) old = Some made
-kept (Err error) old = old
+abbrev pub replaced_if_ok : {A : Type 0} → Result A Error → Option A → Option A
+replaced_if_ok (Ok made) old = Some made
+replaced_if_ok (Err error) old = old
 
 -- the machine with the space that was made, if it was
 abbrev pub with_space : Machine → Result AddressState Error → Machine
-with_space old answer = record old { space = kept answer old.space }
+with_space old answer = record old { space = replaced_if_ok answer old.space }
 
 -- with the ids that were made
 abbrev pub with_ids : Machine → Result IdState Error → Machine
-with_ids old answer = record old { ids = kept answer old.ids }
+with_ids old answer = record old { ids = replaced_if_ok answer old.ids }
 
 -- with the devices that were made
 abbrev pub with_devices : Machine → Result DeviceState Error → Machine
-with_devices old answer = record old { devices = kept answer old.devices }
+with_devices old answer = record old { devices = replaced_if_ok answer old.devices }
 
 -- the line needs this part: where it is absent this is the reply; else this call decides the reply, and the state that is
 -- put back
@@ -78,10 +78,10 @@ OnDevices old reply new call =
     OnPart old.devices (λ later. record old { devices = Some later }) NoManager old reply new call
 
 -- an allocation
-unfoldable pub Places : Machine → Request → Reply → Machine → Type 0
-Places old request reply new =
+unfoldable pub AllocatesRange : Machine → Request → Reply → Machine → Type 0
+AllocatesRange old request reply new =
     OnSpace old reply new (λ state later.
-    (answer : Result Range Error) × Allocates state request answer later × (reply ≡ given_or_refused answer))
+    (answer : Result Range Error) × Allocates state request answer later × (reply ≡ range_reply answer))
 
 -- the release of what is to be a range
 unfoldable pub FreesRange : AddressState → ℕ → ℕ → Result (Unit {0}) Error → AddressState → Type 0
@@ -96,41 +96,41 @@ Does old Malformed reply new = (reply ≡ NotInLanguage) × (new ≡ old)
 Does old (Space base size) reply new =
     (answer : Result AddressState Error)
     × Makes base size answer
-    × (reply ≡ done_or_refused answer)
+    × (reply ≡ done_reply answer)
     × (new ≡ with_space old answer)
 Does old (First size alignment) reply new =
-    Places old (record { size = size; align = alignment; policy = FirstMatch }) reply new
+    AllocatesRange old (record { size = size; align = alignment; policy = FirstMatch }) reply new
 Does old (Last size alignment) reply new =
-    Places old (record { size = size; align = alignment; policy = LastMatch }) reply new
+    AllocatesRange old (record { size = size; align = alignment; policy = LastMatch }) reply new
 Does old (Exact size alignment start) reply new =
-    Places old (record { size = size; align = alignment; policy = ExactMatch start }) reply new
+    AllocatesRange old (record { size = size; align = alignment; policy = ExactMatch start }) reply new
 Does old (Free start end) reply new =
     OnSpace old reply new (λ state later.
-    (answer : Result (Unit {0}) Error) × FreesRange state start end answer later × (reply ≡ done_or_refused answer))
+    (answer : Result (Unit {0}) Error) × FreesRange state start end answer later × (reply ≡ done_reply answer))
 Does old (Ids range_base range_end) reply new =
     (answer : Result IdState Error)
     × MakesIds range_base range_end answer
-    × (reply ≡ done_or_refused answer)
+    × (reply ≡ done_reply answer)
     × (new ≡ with_ids old answer)
 Does old Id reply new =
     OnIds old reply new (λ state later.
-    (answer : Result ℕ Error) × AllocatesId state answer later × (reply ≡ id_or_refused answer))
+    (answer : Result ℕ Error) × AllocatesId state answer later × (reply ≡ id_reply answer))
 Does old (Unid id) reply new =
     OnIds old reply new (λ state later.
-    (answer : Result ℕ Error) × FreesId state id answer later × (reply ≡ id_or_refused answer))
+    (answer : Result ℕ Error) × FreesId state id answer later × (reply ≡ id_reply answer))
 Does old (Has id) reply new =
     OnIds old reply new (λ state later.
     (held : Bool) × (IsTrue held ↔ IsHeld state id) × (reply ≡ Held held) × (later ≡ state))
 Does old (Manager id_lo id_hi base size) reply new =
     (answer : Result DeviceState Error)
     × MakesManager id_lo id_hi base size answer
-    × (reply ≡ done_or_refused answer)
+    × (reply ≡ done_reply answer)
     × (new ≡ with_devices old answer)
 Does old (Device size alignment) reply new =
     OnDevices old reply new (λ state later.
     (answer : Result DeviceSlot Error)
     × Reserves state (record { size = size; align = alignment; policy = FirstMatch }) answer later
-    × (reply ≡ device_or_refused answer))
+    × (reply ≡ device_reply answer))
 Does old (Undevice id) reply new =
     OnDevices old reply new (λ state later.
-    (answer : Result (Unit {0}) Error) × ReleasesDevice state id answer later × (reply ≡ done_or_refused answer))
+    (answer : Result (Unit {0}) Error) × ReleasesDevice state id answer later × (reply ≡ done_reply answer))

@@ -11,8 +11,8 @@ abbrev pub digit_nine : ℕ
 digit_nine = 57
 
 -- no number has more digits
-abbrev pub most_digits : ℕ
-most_digits = 20
+abbrev pub max_digits : ℕ
+max_digits = 20
 
 -- one of the ASCII digits
 abbrev pub is_digit : ℕ → Bool
@@ -25,7 +25,7 @@ value_from before (digit ∷ digits) = value_from (before * 10 + (digit - digit_
 
 -- one digit or more, and not too many
 abbrev pub is_numeral : List ℕ → Bool
-is_numeral word = nat_le 1 (length word) && nat_le (length word) most_digits && list_all is_digit word
+is_numeral word = nat_le 1 (length word) && nat_le (length word) max_digits && list_all is_digit word
 
 -- the value of a numeral, where it is below the bound
 abbrev pub number_below : ℕ → List ℕ → Option ℕ

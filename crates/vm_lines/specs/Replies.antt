@@ -6,7 +6,7 @@ use Rattle.vm_ranges.specs.declared.error.Error.TheVariants.{Overflow, OutOfRang
 use Rattle.vm_devices.specs.declared.device_slot.DeviceSlot.{DeviceSlot}
 use Rattle.vm_lines.specs.Words.{blank}
 use Rattle.vm_lines.specs.declared.reply.Reply.{Reply}
-use Rattle.vm_lines.specs.declared.reply.Reply.TheVariants.{Done, Given, Id, Held, Device, Refused, NoSpace, NoIds, NoManager, NotInLanguage}
+use Rattle.vm_lines.specs.declared.reply.Reply.TheVariants.{Done, Given, Id, Held, Device, Failed, NoSpace, NoIds, NoManager, NotInLanguage}
 
 -- two numbers, with a blank between them
 abbrev pub pair_text : ℕ → ℕ → List ℕ
@@ -17,20 +17,20 @@ abbrev pub device_text : DeviceSlot → List ℕ
 device_text slot = codes "device " ++ decimal slot.id ++ blank ∷ pair_text slot.range.start slot.range.end
 
 -- how a refusal reads: no call answers an overlap
-abbrev pub refusal_text : Error → List ℕ
-refusal_text Overflow = codes "error overflow"
-refusal_text (OutOfRange id) = codes "error out-of-range " ++ decimal id
-refusal_text (AlreadyReleased id) = codes "error already-released " ++ decimal id
-refusal_text (NeverAllocated id) = codes "error never-allocated " ++ decimal id
-refusal_text ResourceNotAvailable = codes "error not-available"
-refusal_text (InvalidRange start end) = codes "error invalid-range " ++ pair_text start end
-refusal_text InvalidAlignment = codes "error invalid-alignment"
-refusal_text (Overlap new met) = codes "error overlap"
-refusal_text (InvalidStateTransition slot state) = codes "error state " ++ pair_text slot.start slot.end
-refusal_text UnalignedAddress = codes "error unaligned"
-refusal_text Underflow = codes "error underflow"
-refusal_text (InvalidSize size) = codes "error invalid-size " ++ decimal size
-refusal_text OutOfMemory = codes "error memory"
+abbrev pub error_text : Error → List ℕ
+error_text Overflow = codes "error overflow"
+error_text (OutOfRange id) = codes "error out-of-range " ++ decimal id
+error_text (AlreadyReleased id) = codes "error already-released " ++ decimal id
+error_text (NeverAllocated id) = codes "error never-allocated " ++ decimal id
+error_text ResourceNotAvailable = codes "error not-available"
+error_text (InvalidRange start end) = codes "error invalid-range " ++ pair_text start end
+error_text InvalidAlignment = codes "error invalid-alignment"
+error_text (Overlap new met) = codes "error overlap"
+error_text (InvalidStateTransition slot state) = codes "error state " ++ pair_text slot.start slot.end
+error_text UnalignedAddress = codes "error unaligned"
+error_text Underflow = codes "error underflow"
+error_text (InvalidSize size) = codes "error invalid-size " ++ decimal size
+error_text OutOfMemory = codes "error memory"
 
 -- how a reply reads
 abbrev pub text_of : Reply → List ℕ
@@ -39,28 +39,28 @@ text_of (Given range) = codes "range " ++ pair_text range.start range.end
 text_of (Id id) = codes "id " ++ decimal id
 text_of (Held held) = if held then codes "yes" else codes "no"
 text_of (Device slot) = device_text slot
-text_of (Refused error) = refusal_text error
+text_of (Failed error) = error_text error
 text_of NoSpace = codes "error no-space"
 text_of NoIds = codes "error no-ids"
 text_of NoManager = codes "error no-manager"
 text_of NotInLanguage = codes "error line"
 
 -- the reply to a call that gives nothing which is told
-abbrev pub done_or_refused : {A : Type 0} → Result A Error → Reply
-done_or_refused (Ok value) = Done
-done_or_refused (Err error) = Refused error
+abbrev pub done_reply : {A : Type 0} → Result A Error → Reply
+done_reply (Ok value) = Done
+done_reply (Err error) = Failed error
 
 -- the reply to a call that gives a range
-abbrev pub given_or_refused : Result Range Error → Reply
-given_or_refused (Ok range) = Given range
-given_or_refused (Err error) = Refused error
+abbrev pub range_reply : Result Range Error → Reply
+range_reply (Ok range) = Given range
+range_reply (Err error) = Failed error
 
 -- the reply to a call that gives an id
-abbrev pub id_or_refused : Result ℕ Error → Reply
-id_or_refused (Ok id) = Id id
-id_or_refused (Err error) = Refused error
+abbrev pub id_reply : Result ℕ Error → Reply
+id_reply (Ok id) = Id id
+id_reply (Err error) = Failed error
 
 -- the reply to a call that gives a device
-abbrev pub device_or_refused : Result DeviceSlot Error → Reply
-device_or_refused (Ok slot) = Device slot
-device_or_refused (Err error) = Refused error
+abbrev pub device_reply : Result DeviceSlot Error → Reply
+device_reply (Ok slot) = Device slot
+device_reply (Err error) = Failed error

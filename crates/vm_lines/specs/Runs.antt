@@ -20,20 +20,20 @@ abbrev pub MayAnswer : List (List ℕ) → List ℕ → Type 0
 MayAnswer lines text = (end : Machine) × AreAnswered start lines text end
 
 -- The writer had these bytes before, and now has them and a text that may answer the lines.
-abbrev pub GainsAnswers : List (List ℕ) → Option (List ℕ) → Option (List ℕ) → Type 0
-GainsAnswers lines written_old written_new =
+abbrev pub AppendsAnswers : List (List ℕ) → Option (List ℕ) → Option (List ℕ) → Type 0
+AppendsAnswers lines written_old written_new =
     IfSome written_old (λ before. (text : List ℕ) × MayAnswer lines text × (written_new ≡ Some (before ++ text)))
 
 -- All of the input was read, and its lines are answered. This speaks of a reader and a writer that tell their bytes:
 -- those that are left to read, and those that were written.
 abbrev pub AnswersInput : Option (List ℕ) → Option (List ℕ) → Option (List ℕ) → Option (List ℕ) → Type 0
 AnswersInput left_old left_new written_old written_new =
-    IfSome left_old (λ input. (left_new ≡ Some []) × GainsAnswers (lines_of input) written_old written_new)
+    IfSome left_old (λ input. (left_new ≡ Some []) × AppendsAnswers (lines_of input) written_old written_new)
 
 -- Of what was read, the lines that a newline ended are answered, and nothing else was written.
 abbrev pub AnswersEndedLines : Option (List ℕ) → Option (List ℕ) → Option (List ℕ) → Option (List ℕ) → Type 0
 AnswersEndedLines left_old left_new written_old written_new =
-    IfSome left_old (λ input. (front : List ℕ) × (rest : List ℕ)
-    × (input ≡ front ++ rest)
+    IfSome left_old (λ input. (prefix : List ℕ) × (rest : List ℕ)
+    × (input ≡ prefix ++ rest)
     × (left_new ≡ Some rest)
-    × GainsAnswers (ended_lines_of front) written_old written_new)
+    × AppendsAnswers (ended_lines_of prefix) written_old written_new)

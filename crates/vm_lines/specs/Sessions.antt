@@ -1,7 +1,7 @@
 -- A session between two pieces of its input.
 use Rattle.std.specs.Prelude.{◌≡◌, ℕ, if◌then◌else◌, nat_le, nat_lt, List, [], ◌∷◌, ◌++◌, length, Option, Some, None, Bool, true, MatchBool, refl}
 use Rattle.std.specs.Coded.{Coded, code_by, coded×, coded_ℕ, coded_list, coded_option}
-use Rattle.vm_lines.specs.Commands.{command_of, longest_line}
+use Rattle.vm_lines.specs.Commands.{command_of, max_line_len}
 use Rattle.vm_lines.specs.declared.command.Command.TheVariants.{Malformed}
 use Rattle.vm_lines.specs.Lines.{newline, parts_of}
 use Rattle.vm_lines.specs.Machines.{Machine, machine_code, Does}
@@ -24,22 +24,22 @@ session_code =
     (λ _. refl)
 
 -- a line that has begun is kept unless it is too long
-abbrev pub kept_of : List ℕ → Option (List ℕ)
-kept_of line = if nat_le (length line) longest_line then Some line else None
+abbrev pub within_max_len : List ℕ → Option (List ℕ)
+within_max_len line = if nat_le (length line) max_line_len then Some line else None
 
 -- the line that has begun, after more bytes
 abbrev pub line_after : Option (List ℕ) → List ℕ → Option (List ℕ)
 line_after None bytes = None
-line_after (Some line) bytes = kept_of (line ++ bytes)
+line_after (Some line) bytes = within_max_len (line ++ bytes)
 
 -- the session, after more bytes of the line that has begun
 abbrev pub with_more : Session → List ℕ → Session
 with_more old bytes = record old { line = line_after old.line bytes }
 
 -- what the line that has begun asks
-abbrev pub asked_by : Option (List ℕ) → Command
-asked_by None = Malformed
-asked_by (Some line) = command_of line
+abbrev pub pending_command : Option (List ℕ) → Command
+pending_command None = Malformed
+pending_command (Some line) = command_of line
 
 -- some of a line has come
 abbrev pub has_begun : Option (List ℕ) → Bool
@@ -47,27 +47,27 @@ has_begun None = true
 has_begun (Some line) = nat_lt 0 (length line)
 
 -- the line ends, and is answered by this text
-abbrev pub Ends : Session → List ℕ → Session → Type 0
-Ends old text new =
+abbrev pub EndsLine : Session → List ℕ → Session → Type 0
+EndsLine old text new =
     (reply : Reply)
-    × Does old.machine (asked_by old.line) reply new.machine
+    × Does old.machine (pending_command old.line) reply new.machine
     × (new.line ≡ Some [])
     × (text ≡ text_of reply ++ newline ∷ [])
 
 -- the parts of a piece come, each of them but the last the end of a line, and this text is written
-abbrev pub FeedsParts : Session → List (List ℕ) → List ℕ → Session → Type 0
-FeedsParts old [] text new = (text ≡ []) × (new ≡ old)
-FeedsParts old (last ∷ []) text new = (text ≡ []) × (new ≡ with_more old last)
-FeedsParts old (part ∷ next ∷ parts) text new =
+abbrev pub AnswersParts : Session → List (List ℕ) → List ℕ → Session → Type 0
+AnswersParts old [] text new = (text ≡ []) × (new ≡ old)
+AnswersParts old (last ∷ []) text new = (text ≡ []) × (new ≡ with_more old last)
+AnswersParts old (part ∷ next ∷ parts) text new =
     (mid : Session) × (first : List ℕ) × (rest : List ℕ)
-    × Ends (with_more old part) first mid
-    × FeedsParts mid (next ∷ parts) rest new
+    × EndsLine (with_more old part) first mid
+    × AnswersParts mid (next ∷ parts) rest new
     × (text ≡ first ++ rest)
 
 -- a piece comes, and this text is written
-abbrev pub Feeds : Session → List ℕ → List ℕ → Session → Type 0
-Feeds old piece text new = FeedsParts old (parts_of piece) text new
+abbrev pub AnswersPiece : Session → List ℕ → List ℕ → Session → Type 0
+AnswersPiece old piece text new = AnswersParts old (parts_of piece) text new
 
 -- the input ends, and this text is written
-abbrev pub Finishes : Session → List ℕ → Type 0
-Finishes old text = MatchBool (has_begun old.line) ((new : Session) × Ends (with_more old []) text new) (text ≡ [])
+abbrev pub AnswersLastLine : Session → List ℕ → Type 0
+AnswersLastLine old text = MatchBool (has_begun old.line) ((new : Session) × EndsLine (with_more old []) text new) (text ≡ [])

@@ -12,9 +12,9 @@ abbrev pub words_of : List ℕ → List (List ℕ)
 words_of text = slice_split (λ byte. byte == blank) text
 
 -- the words of what stands behind a word and its blank, if a blank stands there
-abbrev pub words_behind : Option (List ℕ) → List (List ℕ)
-words_behind None = []
-words_behind (Some rest) = words_of rest
+abbrev pub words_after : Option (List ℕ) → List (List ℕ)
+words_after None = []
+words_after (Some rest) = words_of rest
 
 -- what is asked, where no word stands behind it
 abbrev pub alone : {A : Type 0} → A → List (List ℕ) → Option A

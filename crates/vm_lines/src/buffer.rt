@@ -2,16 +2,16 @@
 //! as twenty bytes whatever its length, two moves and no call: with the reading of numbers this took
 //! half of the instructions off that the text of a line costs.
 ghost use Rattle.std.specs.Prelude.{◌≡◌, ◌++◌, ◌∷◌, [], ◌+◌, ◌-◌, ◌/◌, ◌%◌, ◌≤◌, ◌<◌, length, decimal};
-ghost use Rattle.vm_lines.specs.Printing.{written};
+ghost use Rattle.vm_lines.specs.Printing.{digits_from};
 
-use crate::number::MOST_DIGITS;
+use crate::number::MAX_DIGITS;
 use std::marker::Model;
 
 /// How many bytes a buffer has room for.
 pub(crate) const CAPACITY: usize = 4096;
 
 /// Room for the digits of a number, and for as many bytes behind them.
-const DIGITS_ROOM: usize = 40;
+const DIGITS_LEN: usize = 40;
 
 /// The two digits of each number below a hundred.
 static PAIRS: [u8; 200] = *b"\
@@ -82,7 +82,7 @@ impl Buffer {
     }
 
     /// Adds a text.
-    pub(crate) fn push_all(&mut self, text: &[u8])
+    pub(crate) fn extend_from_slice(&mut self, text: &[u8])
         requires { length self.old + length text.now ≤ CAPACITY }
         ensures { self.new ≡ self.old ++ text.now }
     {
@@ -94,33 +94,33 @@ impl Buffer {
     /// Adds a number, in decimal.
     #[tactic(auto, using(crate::proofs::Decimals::long, crate::proofs::Decimals::cut_back))]
     pub(crate) fn push_number(&mut self, number: u64)
-        requires { length self.old + MOST_DIGITS ≤ CAPACITY }
+        requires { length self.old + MAX_DIGITS ≤ CAPACITY }
         ensures text { self.new ≡ self.old ++ decimal number }
-        ensures room { length self.new ≤ length self.old + MOST_DIGITS }
+        ensures room { length self.new ≤ length self.old + MAX_DIGITS }
     {
-        let mut digits = [0u8; DIGITS_ROOM];
+        let mut digits = [0u8; DIGITS_LEN];
         let start = write_digits(number, &mut digits);
         // The same length for each number makes this two moves. What is too much is taken back.
-        self.push_all(&digits[start..start + MOST_DIGITS]);
+        self.extend_from_slice(&digits[start..start + MAX_DIGITS]);
         self.length -= start;
     }
 }
 
-/// Writes the digits of a number before place `MOST_DIGITS`, and tells where they start.
+/// Writes the digits of a number before place `MAX_DIGITS`, and tells where they start.
 #[tactic(auto, using(crate::proofs::Decimals::two_long, crate::proofs::Decimals::some_long))]
-fn write_digits(number: u64, digits: &mut [u8; DIGITS_ROOM]) -> usize
-    ensures within { result ≤ MOST_DIGITS }
-    ensures text { written result digits.new ≡ decimal number }
+fn write_digits(number: u64, digits: &mut [u8; DIGITS_LEN]) -> usize
+    ensures within { result ≤ MAX_DIGITS }
+    ensures text { digits_from result digits.new ≡ decimal number }
 {
-    let mut start = MOST_DIGITS;
+    let mut start = MAX_DIGITS;
     let mut rest = number;
     while rest >= 100 {
-        put_pair(digits, start, (rest % 100) as u8);
+        write_two_digits(digits, start, (rest % 100) as u8);
         start -= 2;
         rest /= 100;
     }
     if rest >= 10 {
-        put_pair(digits, start, rest as u8);
+        write_two_digits(digits, start, rest as u8);
         return start - 2;
     }
     digits[start - 1] = b'0' + rest as u8;
@@ -129,11 +129,11 @@ fn write_digits(number: u64, digits: &mut [u8; DIGITS_ROOM]) -> usize
 
 /// Writes two digits right before the place where the others start.
 #[inline(always)]
-fn put_pair(digits: &mut [u8; DIGITS_ROOM], start: usize, pair: u8)
+fn write_two_digits(digits: &mut [u8; DIGITS_LEN], start: usize, pair: u8)
     requires pair { pair < 100 }
     requires some { 1 < start }
-    requires within { start ≤ MOST_DIGITS }
-    ensures { written (start - 2) digits.new ≡ (48 + pair / 10) ∷ (48 + pair % 10) ∷ written start digits.old }
+    requires within { start ≤ MAX_DIGITS }
+    ensures { digits_from (start - 2) digits.new ≡ (48 + pair / 10) ∷ (48 + pair % 10) ∷ digits_from start digits.old }
 {
     let place = pair as usize * 2;
     digits[start - 1] = PAIRS[place + 1];

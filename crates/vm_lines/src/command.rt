@@ -1,12 +1,12 @@
 //! What a line asks for: each first word is of a space, of ids or of devices.
 ghost use Rattle.std.specs.Prelude.{◌≡◌};
-ghost use Rattle.vm_lines.specs.Commands.{asked, asked_of_ids, asked_of_devices, command_of};
+ghost use Rattle.vm_lines.specs.Commands.{asked, ids_command, devices_command, command_of};
 ghost use Rattle.vm_lines.specs.Words.{words_of};
 
-use crate::words::{behind, ids_and_numbers, one_id, three_numbers, two_ids, two_numbers};
+use crate::words::{ids_and_numbers, one_id, strip_prefix, three_numbers, two_ids, two_numbers};
 
 /// A longer line is not in the language.
-pub(crate) const LONGEST_LINE: usize = 120;
+pub(crate) const MAX_LINE_LEN: usize = 120;
 
 /// What a line asks for.
 #[derive(Clone, Copy)]
@@ -79,7 +79,7 @@ pub(crate) enum Command {
 pub(crate) fn parse(line: &[u8]) -> Command
     ensures { result ≡ command_of line.now }
 {
-    if line.len() > LONGEST_LINE {
+    if line.len() > MAX_LINE_LEN {
         return Command::Malformed;
     }
     match parse_words(line) {
@@ -95,19 +95,19 @@ pub(crate) fn parse(line: &[u8]) -> Command
 fn parse_words(line: &[u8]) -> Option<Command>
     ensures { result ≡ asked (words_of line.now) }
 {
-    if let Some(rest) = behind(b"space ", line) {
+    if let Some(rest) = strip_prefix(b"space ", line) {
         let (base, size) = two_numbers(rest)?;
         return Some(Command::Space { base, size });
     }
-    if let Some(rest) = behind(b"first ", line) {
+    if let Some(rest) = strip_prefix(b"first ", line) {
         let (size, alignment) = two_numbers(rest)?;
         return Some(Command::First { size, alignment });
     }
-    if let Some(rest) = behind(b"last ", line) {
+    if let Some(rest) = strip_prefix(b"last ", line) {
         let (size, alignment) = two_numbers(rest)?;
         return Some(Command::Last { size, alignment });
     }
-    if let Some(rest) = behind(b"exact ", line) {
+    if let Some(rest) = strip_prefix(b"exact ", line) {
         let (size, alignment, start) = three_numbers(rest)?;
         return Some(Command::Exact {
             size,
@@ -115,53 +115,53 @@ fn parse_words(line: &[u8]) -> Option<Command>
             start,
         });
     }
-    if let Some(rest) = behind(b"free ", line) {
+    if let Some(rest) = strip_prefix(b"free ", line) {
         let (start, end) = two_numbers(rest)?;
         return Some(Command::Free { start, end });
     }
-    parse_on_ids(line)
+    parse_ids_command(line)
 }
 
 /// What a line asks of ids, and else of devices.
 #[tactic(auto, using(crate::proofs::Names::none_of_ids))]
-fn parse_on_ids(line: &[u8]) -> Option<Command>
-    ensures { result ≡ asked_of_ids (words_of line.now) }
+fn parse_ids_command(line: &[u8]) -> Option<Command>
+    ensures { result ≡ ids_command (words_of line.now) }
 {
-    if let Some(rest) = behind(b"ids ", line) {
+    if let Some(rest) = strip_prefix(b"ids ", line) {
         let (range_base, range_end) = two_ids(rest)?;
         return Some(Command::Ids {
             range_base,
             range_end,
         });
     }
-    if let Some(rest) = behind(b"unid ", line) {
+    if let Some(rest) = strip_prefix(b"unid ", line) {
         let id = one_id(rest)?;
         return Some(Command::Unid { id });
     }
-    if let Some(rest) = behind(b"has ", line) {
+    if let Some(rest) = strip_prefix(b"has ", line) {
         let id = one_id(rest)?;
         return Some(Command::Has { id });
     }
     if line == b"id".as_slice() {
         return Some(Command::Id);
     }
-    parse_on_devices(line)
+    parse_devices_command(line)
 }
 
 /// What a line asks of devices.
 #[tactic(auto, using(crate::proofs::Names::none_of_devices))]
-fn parse_on_devices(line: &[u8]) -> Option<Command>
-    ensures { result ≡ asked_of_devices (words_of line.now) }
+fn parse_devices_command(line: &[u8]) -> Option<Command>
+    ensures { result ≡ devices_command (words_of line.now) }
 {
-    if let Some(rest) = behind(b"device ", line) {
+    if let Some(rest) = strip_prefix(b"device ", line) {
         let (size, alignment) = two_numbers(rest)?;
         return Some(Command::Device { size, alignment });
     }
-    if let Some(rest) = behind(b"undevice ", line) {
+    if let Some(rest) = strip_prefix(b"undevice ", line) {
         let id = one_id(rest)?;
         return Some(Command::Undevice { id });
     }
-    if let Some(rest) = behind(b"manager ", line) {
+    if let Some(rest) = strip_prefix(b"manager ", line) {
         let ((id_lo, id_hi), (base, size)) = ids_and_numbers(rest)?;
         return Some(Command::Manager {
             id_lo,

@@ -1,11 +1,11 @@
 //! What a line does to what the lines so far have made: a space, ids, devices.
 ghost use Rattle.std.specs.Prelude.{◌≡◌};
 ghost use Rattle.vm_allocator.specs.Allocator.{state_of};
-ghost use Rattle.vm_lines.specs.Machines.{Places, FreesRange, kept};
-ghost use Rattle.vm_lines.specs.Replies.{done_or_refused};
+ghost use Rattle.vm_lines.specs.Machines.{AllocatesRange, FreesRange, replaced_if_ok};
+ghost use Rattle.vm_lines.specs.Replies.{done_reply};
 
 use crate::command::Command;
-use crate::reply::{Reply, device_or_refused, done_or_refused, given_or_refused, id_or_refused};
+use crate::reply::{Reply, device_reply, done_reply, id_reply, range_reply};
 use std::alloc::Global;
 use std::marker::Model;
 use vm_allocator::{AddressAllocator, AllocPolicy, IdAllocator, RangeInclusive, Result};
@@ -53,23 +53,23 @@ impl Machine {
         match command {
             Command::Space { base, size } => self.make_space(alloc, base, size),
             Command::First { size, alignment } => {
-                self.place(alloc, size, alignment, AllocPolicy::FirstMatch)
+                self.allocate(alloc, size, alignment, AllocPolicy::FirstMatch)
             }
             Command::Last { size, alignment } => {
-                self.place(alloc, size, alignment, AllocPolicy::LastMatch)
+                self.allocate(alloc, size, alignment, AllocPolicy::LastMatch)
             }
             Command::Exact {
                 size,
                 alignment,
                 start,
-            } => self.place(alloc, size, alignment, AllocPolicy::ExactMatch(start)),
+            } => self.allocate(alloc, size, alignment, AllocPolicy::ExactMatch(start)),
             Command::Free { start, end } => self.free(start, end),
             Command::Ids {
                 range_base,
                 range_end,
             } => self.make_ids(alloc, range_base, range_end),
-            Command::Id => self.take_id(),
-            Command::Unid { id } => self.release_id(id),
+            Command::Id => self.allocate_id(),
+            Command::Unid { id } => self.free_id(id),
             Command::Has { id } => self.has_id(id),
             Command::Manager {
                 id_lo,
@@ -88,18 +88,18 @@ impl Machine {
     fn make_space(&mut self, alloc: Global, base: u64, size: u64) -> Reply
         ensures { Does self.old (Command.Space base size) result self.new }
     {
-        keep(AddressAllocator::new(alloc, base, size), &mut self.space)
+        replace_if_ok(AddressAllocator::new(alloc, base, size), &mut self.space)
     }
 
     /// Holds the `size` addresses at the place that the policy chooses.
-    #[tactic(auto, unfolding(crate::specs::Machines::Places, crate::specs::Machines::OnSpace))]
-    fn place(&mut self, alloc: Global, size: u64, alignment: u64, policy: AllocPolicy) -> Reply
-        ensures { Places self.old (record { size = size; align = alignment; policy = policy }) result self.new }
+    #[tactic(auto, unfolding(crate::specs::Machines::AllocatesRange, crate::specs::Machines::OnSpace))]
+    fn allocate(&mut self, alloc: Global, size: u64, alignment: u64, policy: AllocPolicy) -> Reply
+        ensures { AllocatesRange self.old (record { size = size; align = alignment; policy = policy }) result self.new }
     {
         let Some(space) = &mut self.space else {
             return Reply::NoSpace;
         };
-        given_or_refused(space.allocate(alloc, size, alignment, policy))
+        range_reply(space.allocate(alloc, size, alignment, policy))
     }
 
     /// Gives a range back.
@@ -110,7 +110,7 @@ impl Machine {
         let Some(space) = &mut self.space else {
             return Reply::NoSpace;
         };
-        done_or_refused(release(space, start, end))
+        done_reply(free_range(space, start, end))
     }
 
     /// Makes ids, which take the place of the old ones. Refused ones do not.
@@ -118,7 +118,7 @@ impl Machine {
     fn make_ids(&mut self, alloc: Global, range_base: u32, range_end: u32) -> Reply
         ensures { Does self.old (Command.Ids range_base range_end) result self.new }
     {
-        keep(
+        replace_if_ok(
             IdAllocator::new(alloc, range_base, range_end),
             &mut self.ids,
         )
@@ -126,24 +126,24 @@ impl Machine {
 
     /// Holds the least id that is not held.
     #[tactic(auto, unfolding(crate::specs::Machines::Does, crate::specs::Machines::OnIds))]
-    fn take_id(&mut self) -> Reply
+    fn allocate_id(&mut self) -> Reply
         ensures { Does self.old Command.Id result self.new }
     {
         let Some(ids) = &mut self.ids else {
             return Reply::NoIds;
         };
-        id_or_refused(ids.allocate_id())
+        id_reply(ids.allocate_id())
     }
 
     /// Gives an id back.
     #[tactic(auto, unfolding(crate::specs::Machines::Does, crate::specs::Machines::OnIds))]
-    fn release_id(&mut self, id: u32) -> Reply
+    fn free_id(&mut self, id: u32) -> Reply
         ensures { Does self.old (Command.Unid id) result self.new }
     {
         let Some(ids) = &mut self.ids else {
             return Reply::NoIds;
         };
-        id_or_refused(ids.free_id(id))
+        id_reply(ids.free_id(id))
     }
 
     /// Tells whether an id is held.
@@ -163,7 +163,7 @@ impl Machine {
         ensures { Does self.old (Command.Manager id_lo id_hi base size) result self.new }
     {
         let made = DeviceManager::new(alloc, id_lo, id_hi, base, size);
-        keep(made, &mut self.devices)
+        replace_if_ok(made, &mut self.devices)
     }
 
     /// Holds the least id that is not held, and `size` addresses at the first place, for one device.
@@ -174,7 +174,7 @@ impl Machine {
         let Some(devices) = &mut self.devices else {
             return Reply::NoManager;
         };
-        device_or_refused(devices.reserve(alloc, size, alignment, AllocPolicy::FirstMatch))
+        device_reply(devices.reserve(alloc, size, alignment, AllocPolicy::FirstMatch))
     }
 
     /// Gives back the id and the range of a device.
@@ -185,28 +185,28 @@ impl Machine {
         let Some(devices) = &mut self.devices else {
             return Reply::NoManager;
         };
-        done_or_refused(devices.release(id))
+        done_reply(devices.release(id))
     }
 }
 
 /// Keeps what was made, in the place of what was there. What was refused leaves that.
 #[inline(always)]
-fn keep<T: Drop>(made: Result<T>, part: &mut Option<T>) -> Reply
-    ensures reply { result ≡ done_or_refused made }
-    ensures part { part.new ≡ kept made part.old }
+fn replace_if_ok<T: Drop>(made: Result<T>, part: &mut Option<T>) -> Reply
+    ensures reply { result ≡ done_reply made }
+    ensures part { part.new ≡ replaced_if_ok made part.old }
 {
     match made {
         Ok(new) => {
             *part = Some(new);
             Reply::Done
         }
-        Err(error) => Reply::Refused(error),
+        Err(error) => Reply::Failed(error),
     }
 }
 
 /// Gives back the range from `start` to `end`. `InvalidRange(start, end)` where that is none.
 #[tactic(auto, unfolding(crate::specs::Machines::FreesRange))]
-fn release(space: &mut AddressAllocator, start: u64, end: u64) -> Result<()>
+fn free_range(space: &mut AddressAllocator, start: u64, end: u64) -> Result<()>
     ensures { FreesRange (state_of space.old) start end result (state_of space.new) }
 {
     let range = RangeInclusive::new(start, end)?;

@@ -5,19 +5,19 @@
 ghost use Rattle.std.specs.Prelude.{◌≡◌, ◌++◌, [], ◌+◌, ◌<◌, ℕ, List, length, OnOk, IfErr, IsErrOf, Some};
 ghost use Rattle.std.specs.Io.KnownBytes.{Appends};
 ghost use Rattle.vm_lines.specs.Machines.{start};
-ghost use Rattle.vm_lines.specs.Sessions.{Feeds, Finishes};
-ghost use Rattle.vm_lines.specs.Moving.{Moves};
+ghost use Rattle.vm_lines.specs.Sessions.{AnswersPiece, AnswersLastLine};
+ghost use Rattle.vm_lines.specs.Moving.{MovesText};
 ghost use Rattle.vm_lines.specs.Runs.{AnswersInput, AnswersEndedLines};
 
 use crate::buffer::{Buffer, CAPACITY};
 use crate::newline::newline_at;
-use crate::reply::LONGEST_REPLY;
+use crate::reply::MAX_REPLY_LEN;
 use crate::session::Session;
 use std::alloc::Global;
 use std::io::{Read, Write};
 
 /// The most bytes that are read at a time.
-const PIECE: usize = 4096;
+const READ_SIZE: usize = 4096;
 
 /// Why a run ended before the end of its input.
 #[derive(Clone, Copy, Debug, PartialEq, Eq)]
@@ -59,31 +59,31 @@ fn answer_pieces<R: Read, W: Write>(
     ensures read { IsErrOf result RunError.Read → AnswersEndedLines
         (R.remaining reader.old) (R.remaining reader.new) (W.contents writer.old) (W.contents writer.new) }
 {
-    let mut bytes = [0u8; PIECE];
+    let mut bytes = [0u8; READ_SIZE];
     for _ in 0..u64::MAX {
         match reader.read(&mut bytes) {
             Ok(0) => {
-                finish(alloc, session, output, writer)?;
+                answer_end(alloc, session, output, writer)?;
                 return Ok(());
             }
-            Ok(count) => feed_all(alloc, session, &bytes[..count], output, writer)?,
+            Ok(count) => feed(alloc, session, &bytes[..count], output, writer)?,
             Err(_) => break,
         }
     }
-    drain(output, writer)?;
+    flush_buffer(output, writer)?;
     Err(RunError::Read)
 }
 
 /// Takes a piece of the input.
-fn feed_all<W: Write>(
+fn feed<W: Write>(
     alloc: Global,
     session: &mut Session,
     piece: &[u8],
     output: &mut Buffer,
     writer: &mut W,
 ) -> Result<(), RunError>
-    ensures ok { OnOk result ((text : List ℕ) × Feeds session.old piece.now text session.new
-        × Moves (W.contents writer.old) output.old text (W.contents writer.new) output.new) }
+    ensures ok { OnOk result ((text : List ℕ) × AnswersPiece session.old piece.now text session.new
+        × MovesText (W.contents writer.old) output.old text (W.contents writer.new) output.new) }
     ensures err { IfErr result (λ error. error ≡ RunError.Write) }
 {
     let mut rest = piece;
@@ -92,23 +92,23 @@ fn feed_all<W: Write>(
         session.end_line(alloc, &rest[..end], output);
         rest = &rest[end + 1..];
     }
-    session.keep(rest);
+    session.append(rest);
     Ok(())
 }
 
 /// Takes the end of the input.
-fn finish<W: Write>(
+fn answer_end<W: Write>(
     alloc: Global,
     session: &mut Session,
     output: &mut Buffer,
     writer: &mut W,
 ) -> Result<(), RunError>
-    ensures ok { OnOk result ((text : List ℕ) × Finishes session.old text
+    ensures ok { OnOk result ((text : List ℕ) × AnswersLastLine session.old text
         × Appends (W.contents writer.old) (W.contents writer.new) (output.old ++ text)) }
     ensures err { IfErr result (λ error. error ≡ RunError.Write) }
 {
-    answer_rest(alloc, session, output, writer)?;
-    drain(output, writer)?;
+    answer_last_line(alloc, session, output, writer)?;
+    flush_buffer(output, writer)?;
     match writer.flush() {
         Ok(()) => Ok(()),
         Err(_) => Err(RunError::Write),
@@ -116,15 +116,15 @@ fn finish<W: Write>(
 }
 
 /// Answers the line that no newline ended, if there is one.
-#[tactic(auto, using(crate::proofs::Progress::finishes_some, crate::proofs::Progress::finishes_none))]
-fn answer_rest<W: Write>(
+#[tactic(auto, using(crate::proofs::Progress::answers_last_some, crate::proofs::Progress::answers_last_none))]
+fn answer_last_line<W: Write>(
     alloc: Global,
     session: &mut Session,
     output: &mut Buffer,
     writer: &mut W,
 ) -> Result<(), RunError>
-    ensures ok { OnOk result ((text : List ℕ) × Finishes session.old text
-        × Moves (W.contents writer.old) output.old text (W.contents writer.new) output.new) }
+    ensures ok { OnOk result ((text : List ℕ) × AnswersLastLine session.old text
+        × MovesText (W.contents writer.old) output.old text (W.contents writer.new) output.new) }
     ensures err { IfErr result (λ error. error ≡ RunError.Write) }
 {
     if !session.has_begun() {
@@ -137,18 +137,18 @@ fn answer_rest<W: Write>(
 
 /// Makes room for one answer with its newline.
 fn make_room<W: Write>(output: &mut Buffer, writer: &mut W) -> Result<(), RunError>
-    ensures moves { OnOk result (Moves (W.contents writer.old) output.old [] (W.contents writer.new) output.new) }
-    ensures room { OnOk result (length output.new + LONGEST_REPLY < CAPACITY) }
+    ensures moves { OnOk result (MovesText (W.contents writer.old) output.old [] (W.contents writer.new) output.new) }
+    ensures room { OnOk result (length output.new + MAX_REPLY_LEN < CAPACITY) }
     ensures err { IfErr result (λ error. error ≡ RunError.Write) }
 {
-    if output.len() >= CAPACITY - LONGEST_REPLY {
-        drain(output, writer)?;
+    if output.len() >= CAPACITY - MAX_REPLY_LEN {
+        flush_buffer(output, writer)?;
     }
     Ok(())
 }
 
 /// Writes what waits.
-fn drain<W: Write>(output: &mut Buffer, writer: &mut W) -> Result<(), RunError>
+fn flush_buffer<W: Write>(output: &mut Buffer, writer: &mut W) -> Result<(), RunError>
     ensures sent { OnOk result (Appends (W.contents writer.old) (W.contents writer.new) output.old) }
     ensures empty { OnOk result (output.new ≡ []) }
     ensures err { IfErr result (λ error. error ≡ RunError.Write) }

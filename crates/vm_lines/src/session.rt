@@ -2,12 +2,12 @@
 //! piece; only one that began in an earlier piece is kept.
 ghost use Rattle.std.specs.Prelude.{◌≡◌, ◌++◌, [], ◌+◌, ◌<◌, ℕ, List, length, Some};
 ghost use Rattle.vm_lines.specs.Machines.{start};
-ghost use Rattle.vm_lines.specs.Sessions.{Ends, asked_by, line_after, with_more, has_begun};
+ghost use Rattle.vm_lines.specs.Sessions.{EndsLine, pending_command, line_after, with_more, has_begun};
 
 use crate::buffer::{Buffer, CAPACITY};
-use crate::command::{Command, LONGEST_LINE, parse};
+use crate::command::{Command, MAX_LINE_LEN, parse};
 use crate::machine::Machine;
-use crate::reply::{LONGEST_REPLY, write_reply};
+use crate::reply::{MAX_REPLY_LEN, write_reply};
 use std::alloc::Global;
 use std::marker::Model;
 
@@ -15,7 +15,7 @@ use std::marker::Model;
 #[derive(Drop)]
 pub(crate) struct Session {
     machine: Machine,
-    line: [u8; LONGEST_LINE],
+    line: [u8; MAX_LINE_LEN],
     filled: usize,
     is_too_long: bool,
 }
@@ -23,7 +23,7 @@ pub(crate) struct Session {
 impl Model for Session {
     ghost use Rattle.std.specs.Prelude.{◌≡◌, ◌≤◌, Some, None, if◌then◌else◌, length, take};
     ghost use Rattle.vm_lines.specs.Sessions.{Session, session_code};
-    ghost use Rattle.vm_lines.specs.declared.command.TheConstants.{LONGEST_LINE};
+    ghost use Rattle.vm_lines.specs.declared.command.TheConstants.{MAX_LINE_LEN};
 
     ghost Value = { Session };
 
@@ -34,7 +34,7 @@ impl Model for Session {
       line = if a.is_too_long then None else Some (take a.filled a.line);
     } };
 
-    ghost invariant = { λ a. (a.filled ≤ LONGEST_LINE) × (length a.line ≡ LONGEST_LINE) };
+    ghost invariant = { λ a. (a.filled ≤ MAX_LINE_LEN) × (length a.line ≡ MAX_LINE_LEN) };
 }
 
 impl Session {
@@ -44,7 +44,7 @@ impl Session {
     {
         Session {
             machine: Machine::new(),
-            line: [0; LONGEST_LINE],
+            line: [0; MAX_LINE_LEN],
             filled: 0,
             is_too_long: false,
         }
@@ -52,9 +52,9 @@ impl Session {
 
     /// Ends the line that has begun, of which these are the last bytes, and writes the answer to it.
     pub(crate) fn end_line(&mut self, alloc: Global, last: &[u8], output: &mut Buffer)
-        requires { length output.old + LONGEST_REPLY < CAPACITY }
+        requires { length output.old + MAX_REPLY_LEN < CAPACITY }
         ensures { (text : List ℕ)
-            × Ends (with_more self.old last.now) text self.new
+            × EndsLine (with_more self.old last.now) text self.new
             × (output.new ≡ output.old ++ text) }
     {
         let command = self.take_line(last);
@@ -65,21 +65,21 @@ impl Session {
 
     /// Tells what the line asks of which these are the last bytes. After that no line has begun.
     fn take_line(&mut self, last: &[u8]) -> Command
-        ensures asked { result ≡ asked_by (line_after self.old.line last.now) }
+        ensures asked { result ≡ pending_command (line_after self.old.line last.now) }
         ensures machine { self.new.machine ≡ self.old.machine }
         ensures line { self.new.line ≡ Some [] }
     {
         if !self.has_begun() {
             return parse(last);
         }
-        self.keep(last);
-        self.take_kept()
+        self.append(last);
+        self.take_appended()
     }
 
     /// Tells what the line asks of which all bytes are kept. After that no line has begun.
     #[cold]
-    fn take_kept(&mut self) -> Command
-        ensures asked { result ≡ asked_by self.old.line }
+    fn take_appended(&mut self) -> Command
+        ensures asked { result ≡ pending_command self.old.line }
         ensures machine { self.new.machine ≡ self.old.machine }
         ensures line { self.new.line ≡ Some [] }
     {
@@ -94,11 +94,11 @@ impl Session {
     }
 
     /// Takes more bytes of the line that has begun.
-    pub(crate) fn keep(&mut self, bytes: &[u8])
+    pub(crate) fn append(&mut self, bytes: &[u8])
         ensures machine { self.new.machine ≡ self.old.machine }
         ensures line { self.new.line ≡ line_after self.old.line bytes.now }
     {
-        if self.is_too_long || bytes.len() > LONGEST_LINE - self.filled {
+        if self.is_too_long || bytes.len() > MAX_LINE_LEN - self.filled {
             self.is_too_long = true;
             return;
         }

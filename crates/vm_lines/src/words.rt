@@ -3,24 +3,24 @@
 ghost use Rattle.std.specs.Prelude.{◌≡◌, ◌≢◌, ◌++◌, ℕ, List, None, Some, MatchOption};
 ghost use Rattle.std.specs.Option.{option_copied};
 ghost use Rattle.vm_lines.specs.Numbers.{number_of, id_of};
-ghost use Rattle.vm_lines.specs.Words.{words_of, words_behind, one_in, two_in, three_in, four_in};
+ghost use Rattle.vm_lines.specs.Words.{words_of, words_after, one_in, two_in, three_in, four_in};
 ghost use Rattle.vm_lines.specs.Reading.{number_first};
 
-use crate::number::number_ahead;
+use crate::number::leading_number;
 
 /// What stands behind the beginning of a text, where the text begins so.
 #[inline(always)]
 #[tactic(auto, using(crate::proofs::Splitting::too_short, crate::proofs::Splitting::begins_else, crate::proofs::Splitting::begins_so))]
-pub(crate) fn behind<'a, const N: usize>(front: &[u8; N], text: &'a [u8]) -> Option<&'a [u8]>
+pub(crate) fn strip_prefix<'a, const N: usize>(prefix: &[u8; N], text: &'a [u8]) -> Option<&'a [u8]>
     ensures { MatchOption result
-        ((rest : List ℕ) → text.now ≢ front.now ++ rest)
-        (λ rest. text.now ≡ front.now ++ rest.now) }
+        ((rest : List ℕ) → text.now ≢ prefix.now ++ rest)
+        (λ rest. text.now ≡ prefix.now ++ rest.now) }
 {
     if text.len() < N {
         return None;
     }
     for i in 0..N {
-        if text[i] != front[i] {
+        if text[i] != prefix[i] {
             return None;
         }
     }
@@ -33,9 +33,9 @@ pub(crate) fn behind<'a, const N: usize>(front: &[u8; N], text: &'a [u8]) -> Opt
 fn first_number(text: &[u8]) -> Option<(u64, Option<&[u8]>)>
     ensures { MatchOption result
         (number_first (words_of text.now) ≡ None)
-        (λ found. number_first (words_of text.now) ≡ Some (found.0, words_behind (option_copied found.1))) }
+        (λ found. number_first (words_of text.now) ≡ Some (found.0, words_after (option_copied found.1))) }
 {
-    let (number, count) = number_ahead(text)?;
+    let (number, count) = leading_number(text)?;
     if count == text.len() {
         return Some((number, None));
     }

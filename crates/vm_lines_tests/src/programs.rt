@@ -2,14 +2,14 @@
 ghost use Rattle.std.specs.Prelude.{◌≤◌, length};
 
 mod device_rows;
-mod fronts;
-mod refused_requests;
+mod failed_allocations;
+mod prefixes;
 mod rows;
 
-use device_rows::{MANAGER_BESIDE_OTHERS, PROGRAM_DEVICES, REFUSALS_OF_DEVICES, WORDS_ON_DEVICES};
+use device_rows::{ERRORS_OF_DEVICES, MANAGER_BESIDE_OTHERS, PROGRAM_DEVICES, WORDS_ON_DEVICES};
 use rows::{
-    ALL_POLICIES, FIRST_PROGRAM, FULL_SPACE, HELD_IDS, LINE_GRAMMAR, NUMBERS_OF_32_BITS,
-    PLACES_OF_A_START, PROGRAM_IDS, PROGRAM_REFUSALS, REFUSALS_IN_ORDER, REFUSALS_OF_IDS, Rows,
+    ALL_POLICIES, ERRORS_IN_ORDER, ERRORS_OF_IDS, FIRST_PROGRAM, FULL_SPACE, HELD_IDS,
+    LINE_GRAMMAR, NUMBERS_OF_32_BITS, PLACES_OF_A_START, PROGRAM_ERRORS, PROGRAM_IDS, Rows,
     SPACE_BESIDE_IDS, WORDS_AND_NUMBERS,
 };
 use std::alloc::Global;
@@ -266,15 +266,15 @@ fn programs_on_a_space(rt: HostRuntime) {
 }
 
 #[test]
-fn programs_of_refusals(rt: HostRuntime) {
-    expect_rows(&rt, rt.alloc(), "refusals-in-order", REFUSALS_IN_ORDER);
-    expect_rows(&rt, rt.alloc(), "program-refusals", PROGRAM_REFUSALS);
+fn programs_of_errors(rt: HostRuntime) {
+    expect_rows(&rt, rt.alloc(), "refusals-in-order", ERRORS_IN_ORDER);
+    expect_rows(&rt, rt.alloc(), "program-refusals", PROGRAM_ERRORS);
 }
 
 #[test]
 fn programs_on_ids(rt: HostRuntime) {
     expect_rows(&rt, rt.alloc(), "program-ids", PROGRAM_IDS);
-    expect_rows(&rt, rt.alloc(), "refusals-of-ids", REFUSALS_OF_IDS);
+    expect_rows(&rt, rt.alloc(), "refusals-of-ids", ERRORS_OF_IDS);
     expect_rows(&rt, rt.alloc(), "held-ids", HELD_IDS);
     expect_rows(&rt, rt.alloc(), "space-beside-ids", SPACE_BESIDE_IDS);
 }
@@ -282,7 +282,7 @@ fn programs_on_ids(rt: HostRuntime) {
 #[test]
 fn programs_on_devices(rt: HostRuntime) {
     expect_rows(&rt, rt.alloc(), "program-devices", PROGRAM_DEVICES);
-    expect_rows(&rt, rt.alloc(), "refusals-of-devices", REFUSALS_OF_DEVICES);
+    expect_rows(&rt, rt.alloc(), "refusals-of-devices", ERRORS_OF_DEVICES);
     expect_rows(&rt, rt.alloc(), "words-on-devices", WORDS_ON_DEVICES);
     expect_rows(
         &rt,
@@ -295,14 +295,14 @@ fn programs_on_devices(rt: HostRuntime) {
 /// A line may begin and end anywhere in a piece.
 #[test]
 fn pieces_of_each_small_size(rt: HostRuntime) {
-    let input = input_of(PROGRAM_REFUSALS);
+    let input = input_of(PROGRAM_ERRORS);
     for longest in 1..=40 {
         let outcome = run_on(rt.alloc(), input.as_slice(), longest, 0, ErrorKind::Other);
         assert_eq!(rt; outcome.result, Ok(()), "in pieces of {longest}");
         expect_answers(
             &rt,
             outcome.sink.text.as_slice(),
-            PROGRAM_REFUSALS,
+            PROGRAM_ERRORS,
             "an input in small pieces",
         );
     }
@@ -363,8 +363,8 @@ fn each_read_fails(rt: HostRuntime) {
             );
             assert_eq!(rt; outcome.reads, bad_read as u64, "reads after {fault:?}");
             assert_eq!(rt; outcome.sink.flushes, 0, "flushes after {fault:?}");
-            let front = &whole[..bad_read - 1];
-            let ended = front.iter().filter(|byte| **byte == b'\n').count();
+            let prefix = &whole[..bad_read - 1];
+            let ended = prefix.iter().filter(|byte| **byte == b'\n').count();
             expect_answers(
                 &rt,
                 outcome.sink.text.as_slice(),

@@ -119,7 +119,7 @@ impl Addresses {
         start.checked_rem(alignment) == Some(0) && self.is_clear(start, size)
     }
 
-    fn least_place(&self, size: u64, alignment: u64) -> Option<u64> {
+    fn lowest_place(&self, size: u64, alignment: u64) -> Option<u64> {
         for start in 0..ADDRESSES {
             if self.is_place(size, alignment, start) {
                 return Some(start);
@@ -128,21 +128,21 @@ impl Addresses {
         None
     }
 
-    fn greatest_place(&self, size: u64, alignment: u64) -> Option<u64> {
-        let mut greatest = None;
+    fn highest_place(&self, size: u64, alignment: u64) -> Option<u64> {
+        let mut highest = None;
         for start in 0..ADDRESSES {
             if self.is_place(size, alignment, start) {
-                greatest = Some(start);
+                highest = Some(start);
             }
         }
-        greatest
+        highest
     }
 
     /// What a call has to answer.
     pub fn answer(&self, call: Call) -> Answer {
         match call {
-            First(size, alignment) => range_from(self.least_place(size, alignment), size),
-            Last(size, alignment) => range_from(self.greatest_place(size, alignment), size),
+            First(size, alignment) => range_from(self.lowest_place(size, alignment), size),
+            Last(size, alignment) => range_from(self.highest_place(size, alignment), size),
             Exact(size, alignment, start) => self.answer_of_exact(size, alignment, start),
             Free(start, end) if self.range_at(start) == Some((start, end)) => Done,
             Free(..) => NotAvailable,

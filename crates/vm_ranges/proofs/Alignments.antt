@@ -2,10 +2,10 @@
 use Rattle.std.proofs.Common.{◌≡◌, ℕ, ◌+◌, ◌-◌, ◌^◌, ◌<◌, ◌≤◌, true, false, refl, arith, inl, inr, bit_and, Result, Ok, Err, ⊎_elim}
 use Rattle.std.specs.Int.{is_power_of_two}
 use Rattle.vm_ranges.specs.Range.{MAX}
-use Rattle.vm_ranges.specs.Alignment.{AlignsDown, AlignsUp, IsGreatestMultiple}
+use Rattle.vm_ranges.specs.Alignment.{AlignsDown, AlignsUp, IsHighestMultiple}
 use Rattle.vm_ranges.specs.declared.error.Error.{Error}
 use Rattle.vm_ranges.specs.declared.error.Error.TheVariants.{InvalidAlignment, Overflow}
-use Rattle.vm_ranges.proofs.Power.{alignment_if_true, no_alignment_if_false, alignment_pos, masked, greatest_multiple, least_multiple}
+use Rattle.vm_ranges.proofs.Power.{alignment_if_true, no_alignment_if_false, alignment_pos, masked, highest_multiple, lowest_multiple}
 
 pub down_refused : (x a : ℕ) → is_power_of_two a ≡ false → AlignsDown x a (Err InvalidAlignment)
 unfolding AlignsDown
@@ -15,8 +15,8 @@ pub down_given : (x a : ℕ) → x < 2 ^ 64 → a < 2 ^ 64 → is_power_of_two a
 unfolding AlignsDown
 down_given x a p q e =
     let h = alignment_if_true a q e in
-    let g : IsGreatestMultiple a x (bit_and x (18446744073709551615 - (a - 1))) =
-    rw (masked x a p h) (greatest_multiple a x (alignment_pos a h)) in
+    let g : IsHighestMultiple a x (bit_and x (18446744073709551615 - (a - 1))) =
+    rw (masked x a p h) (highest_multiple a x (alignment_pos a h)) in
     inr (h, (_, refl, g))
 
 pub up_zero : (x a : ℕ) → a ≡ 0 → AlignsUp x a (Err InvalidAlignment)
@@ -30,6 +30,6 @@ up_over x a z p = inr (λ e. omega arith, inl (omega arith, refl))
 pub up_given : (x a : ℕ) (answer : Result ℕ Error) → 0 < a → x + (a - 1) ≤ MAX → AlignsDown (x + (a - 1)) a answer → AlignsUp x a answer
 unfolding AlignsUp AlignsDown
 up_given x a answer z p h =
-    inr (λ e. omega arith, inr (λ k. omega arith, ⊎_elim (λ l. inl l) (λ r. inr (r.0, (r.1.0, r.1.1, least_multiple a x r.1.0 z r.1.2))) h))
+    inr (λ e. omega arith, inr (λ k. omega arith, ⊎_elim (λ l. inl l) (λ r. inr (r.0, (r.1.0, r.1.1, lowest_multiple a x r.1.0 z r.1.2))) h))
 
 pub ruleset aligns = (down_refused, down_given, up_zero, up_over, up_given)

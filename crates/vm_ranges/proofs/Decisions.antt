@@ -64,9 +64,9 @@ decided_start a (ExactMatch t) = cases_eq (t % a) 0
 
 -- ---- searches
 -- the least number of all that has the fact, or none below the bound has
-pub least_or_none : (P : ℕ → Type 0) → ((x : ℕ) → Decided (P x)) → (bound : ℕ) → ((x : ℕ) → x < bound → ¬ P x) ⊎ ((x : ℕ) × P x × ((y : ℕ) → P y → x ≤ y))
-least_or_none P decide zero = inl (λ x l p. omega arith)
-least_or_none P decide (suc bound) =
+pub lowest_or_none : (P : ℕ → Type 0) → ((x : ℕ) → Decided (P x)) → (bound : ℕ) → ((x : ℕ) → x < bound → ¬ P x) ⊎ ((x : ℕ) × P x × ((y : ℕ) → P y → x ≤ y))
+lowest_or_none P decide zero = inl (λ x l p. omega arith)
+lowest_or_none P decide (suc bound) =
     ⊎_elim
     (λ (none : (x : ℕ) → x < bound → ¬ P x).
     ⊎_elim
@@ -74,17 +74,17 @@ least_or_none P decide (suc bound) =
     (λ (n : P bound → ⊥). inl (λ x l p. ⊎_elim (λ (e : x ≡ bound). n (subst P e p)) (λ (d : x ≡ bound → ⊥). none x (omega arith) p) (cases_eq x bound)))
     (decide bound))
     (λ found. inr found)
-    (least_or_none P decide bound)
+    (lowest_or_none P decide bound)
 
 -- the greatest number below the bound that has the fact, or none has
-pub greatest_or_none : (P : ℕ → Type 0) → ((x : ℕ) → Decided (P x)) → (bound : ℕ) → ((x : ℕ) → x < bound → ¬ P x) ⊎ ((x : ℕ) × P x × ((y : ℕ) → y < bound → P y → y ≤ x))
-greatest_or_none P decide zero = inl (λ x l p. omega arith)
-greatest_or_none P decide (suc bound) =
+pub highest_or_none : (P : ℕ → Type 0) → ((x : ℕ) → Decided (P x)) → (bound : ℕ) → ((x : ℕ) → x < bound → ¬ P x) ⊎ ((x : ℕ) × P x × ((y : ℕ) → y < bound → P y → y ≤ x))
+highest_or_none P decide zero = inl (λ x l p. omega arith)
+highest_or_none P decide (suc bound) =
     ⊎_elim
     (λ (p : P bound). inr (bound, p, λ y l q. omega arith))
     (λ (n : P bound → ⊥).
     ⊎_elim
     (λ (none : (x : ℕ) → x < bound → ¬ P x). inl (λ x l p. ⊎_elim (λ (e : x ≡ bound). n (subst P e p)) (λ (d : x ≡ bound → ⊥). none x (omega arith) p) (cases_eq x bound)))
     (λ found. inr (found.0, found.1, λ y l q. ⊎_elim (λ (e : y ≡ bound). absurd (n (subst P e q))) (λ (d : y ≡ bound → ⊥). found.2 y (omega arith) q) (cases_eq y bound)))
-    (greatest_or_none P decide bound))
+    (highest_or_none P decide bound))
     (decide bound)

@@ -4,21 +4,21 @@ use Rattle.serde_json.specs.Data.{Data, Items}
 use Rattle.serde_json.specs.Find.{as_array}
 use Rattle.serde_json.specs.View.{view, items_view}
 use Rattle.serde_json.specs.declared.value.Value.{Value}
-use Rattle.vm_ranges.specs.Lists.{StatesItems, StatesListOf}
+use Rattle.vm_ranges.specs.Lists.{EncodesItems, EncodesListOf}
 
 module _ {X : Type 0} (States : Data → X → Type 0) where
   -- the items of a list that states something
-  pub in_list : (d : Data) (xs : List X) → StatesListOf States d xs → (ds : Items) × (as_array d ≡ Some ds) × StatesItems States ds xs
+  pub in_list : (d : Data) (xs : List X) → EncodesListOf States d xs → (ds : Items) × (as_array d ≡ Some ds) × EncodesItems States ds xs
   in_list d xs s = found (as_array d) s where
-    found : (o : Option Items) → MatchOption o ⊥ (λ ds. StatesItems States ds xs) → (ds : Items) × (o ≡ Some ds) × StatesItems States ds xs
+    found : (o : Option Items) → MatchOption o ⊥ (λ ds. EncodesItems States ds xs) → (ds : Items) × (o ≡ Some ds) × EncodesItems States ds xs
     found None s = absurd s
     found (Some ds) s = (ds, refl, s)
 
-  pub list_stated : (d : Data) (ds : Items) (xs : List X) → as_array d ≡ Some ds → StatesItems States ds xs → StatesListOf States d xs
-  list_stated d ds xs e s = rw e s
+  pub list_encoded : (d : Data) (ds : Items) (xs : List X) → as_array d ≡ Some ds → EncodesItems States ds xs → EncodesListOf States d xs
+  list_encoded d ds xs e s = rw e s
 
-  push_item : (vs : List Value) (v : Value) (xs : List X) (x : X) → StatesItems States (items_view vs) xs → States (view v) x →
-      StatesItems States (items_view (vs ++ v ∷ [])) (xs ++ x ∷ [])
+  push_item : (vs : List Value) (v : Value) (xs : List X) (x : X) → EncodesItems States (items_view vs) xs → States (view v) x →
+      EncodesItems States (items_view (vs ++ v ∷ [])) (xs ++ x ∷ [])
   push_item [] v [] x s t = (t, tt)
   push_item [] v (y ∷ xs) x s t = absurd s
   push_item (w ∷ vs) v [] x s t = absurd s
@@ -29,6 +29,6 @@ module _ {X : Type 0} (States : Data → X → Type 0) where
   map_last f (z ∷ ys) y = ap (λ (l : List X). f z ∷ l) (map_last f ys y)
 
   -- a list that is written up to one more item
-  pub states_more : {Y : Type 0} (f : Y → X) (vs ws : List Value) (v : Value) (ys : List Y) (y : Y) → ws ≡ vs ++ v ∷ [] → States (view v) (f y) →
-      StatesItems States (items_view vs) (map f ys) → StatesItems States (items_view ws) (map f (ys ++ y ∷ []))
-  states_more f vs ws v ys y e t s = rw (e, map_last f ys y) (push_item vs v (map f ys) (f y) s t)
+  pub encodes_more : {Y : Type 0} (f : Y → X) (vs ws : List Value) (v : Value) (ys : List Y) (y : Y) → ws ≡ vs ++ v ∷ [] → States (view v) (f y) →
+      EncodesItems States (items_view vs) (map f ys) → EncodesItems States (items_view ws) (map f (ys ++ y ∷ []))
+  encodes_more f vs ws v ys y e t s = rw (e, map_last f ys y) (push_item vs v (map f ys) (f y) s t)

@@ -5,7 +5,7 @@ use Rattle.std.specs.Int.{is_power_of_two}
 use Rattle.std.proofs.lemmas.Nat.{ones_cat, zero_from_ones, pow_pos, and_mask, and-not, pow_below, and_comm, div-add-mod', mul-le, mod_below}
 use Rattle.std.proofs.lemmas.Bool.{eqb-true, cases_lt}
 use Rattle.std.proofs.Math.Nat.{pow-suc, mul-add-mod_self_right, add-mul, zero-mod}
-use Rattle.vm_ranges.specs.Alignment.{IsAlignment, IsGreatestMultiple, IsLeastMultiple}
+use Rattle.vm_ranges.specs.Alignment.{IsAlignment, IsHighestMultiple, IsLowestMultiple}
 
 ones_of_zero : count_ones 0 ≡ 0
 unfolding count_ones
@@ -91,9 +91,9 @@ less_remainder a x =
     let d : x - x % a ≡ x / a * a + 0 = omega arith in
     ap (λ (v : ℕ). v % a) d ∙ mul-add-mod_self_right (x / a) a 0 ∙ zero-mod a
 
-pub greatest_multiple : (a x : ℕ) → 0 < a → IsGreatestMultiple a x (x - x % a)
-unfolding IsGreatestMultiple
-greatest_multiple a x z =
+pub highest_multiple : (a x : ℕ) → 0 < a → IsHighestMultiple a x (x - x % a)
+unfolding IsHighestMultiple
+highest_multiple a x z =
     let low : x % a < a = mod_below x a z in
     let d = less_remainder a x in (
       d,
@@ -103,9 +103,9 @@ greatest_multiple a x z =
     )
 
 -- rounding the last address of a stretch down is rounding its first up
-pub least_multiple : (a x r : ℕ) → 0 < a → IsGreatestMultiple a (x + (a - 1)) r → IsLeastMultiple a x r
-unfolding IsGreatestMultiple IsLeastMultiple
-least_multiple a x r z h =
+pub lowest_multiple : (a x r : ℕ) → 0 < a → IsHighestMultiple a (x + (a - 1)) r → IsLowestMultiple a x r
+unfolding IsHighestMultiple IsLowestMultiple
+lowest_multiple a x r z h =
     let y = x + (a - 1) in
     let low : y % a < a = mod_below y a z in
     let up : y - y % a ≤ r = h.2 (y - y % a) (less_remainder a y) (omega arith) in (

@@ -54,7 +54,7 @@ pub apart_above : (r s : Range) → r.end < s.start → ¬ Overlaps r s
 unfolding Overlaps
 apart_above r s l o = omega (arith, o.1, o.2)
 
-pub ruleset meetings = (meet, apart_below, apart_above)
+pub ruleset overlappings = (meet, apart_below, apart_above)
 
 pub covers : (r s : Range) → r.start ≤ s.start → s.end ≤ r.end → Covers r s
 unfolding Covers

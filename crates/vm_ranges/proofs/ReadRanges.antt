@@ -9,7 +9,7 @@ use Rattle.vm_ranges.specs.Fields.{field_count, is_count}
 use Rattle.vm_ranges.specs.Numbers.{number_in}
 use Rattle.vm_ranges.specs.Range.{Range, MAX, IsRange}
 use Rattle.vm_ranges.specs.Making.{MakesRange}
-use Rattle.vm_ranges.specs.RangeValues.{StatesRange, are_ends, range_between, range_found}
+use Rattle.vm_ranges.specs.RangeValues.{EncodesRange, are_ends, range_between, decoded_range}
 use Rattle.vm_ranges.specs.declared.error.Error.{Error}
 
 ends_of : (s e : ℕ) → are_ends s e ≡ true → IsRange s e
@@ -38,23 +38,23 @@ no_range_made s e x (inl m) = no_range_if (are_ends s e) (record { start = s; en
 
 pub ruleset made = (made_range, no_range_made)
 
-pub found-states : (d : Data) (r : Range) → range_found d ≡ Some r → StatesRange d r
+pub found-states : (d : Data) (r : Range) → decoded_range d ≡ Some r → EncodesRange d r
 found-states d r h =
     let two = if_some (is_count 2 (field_count d)) _ r h in
     let start = and_then_some _ (number_in (codes "start") d) r two.1 in
     let end = and_then_some _ (number_in (codes "end") d) r start.2 in
     let ends = if_some (are_ends start.0 end.0) _ r end.2 in
     let is = same_Some _ r ends.1 in
-    subst (StatesRange d) is (record { two_fields = count-true 2 (field_count d) two.0; start = start.1; end = end.1; range = ends_of start.0 end.0 ends.0 })
+    subst (EncodesRange d) is (record { two_fields = count-true 2 (field_count d) two.0; start = start.1; end = end.1; range = ends_of start.0 end.0 ends.0 })
 
-pub states-found : (d : Data) (r : Range) → StatesRange d r → range_found d ≡ Some r
+pub states-found : (d : Data) (r : Range) → EncodesRange d r → decoded_range d ≡ Some r
 states-found d r s = rw (true-count 2 (field_count d) s.two_fields, s.start, s.end, true_ends r.start r.end s.range) refl
 
-pub none_stated : (d : Data) → range_found d ≡ None → ((r : Range) × StatesRange d r) → ⊥
-none_stated d e p = let t = states-found d p.0 p.1 in cc
+pub none_encoded : (d : Data) → decoded_range d ≡ None → ((r : Range) × EncodesRange d r) → ⊥
+none_encoded d e p = let t = states-found d p.0 p.1 in cc
 
-pub ruleset read = (found-states, none_stated)
+pub ruleset read = (found-states, none_encoded)
 
 -- a value states one range at most
-pub one_range : (d : Data) (a b : Range) → StatesRange d a → StatesRange d b → a ≡ b
+pub one_range : (d : Data) (a b : Range) → EncodesRange d a → EncodesRange d b → a ≡ b
 one_range d a b p q = same_Some a b (sym (states-found d a p) ∙ states-found d b q)

@@ -5,7 +5,7 @@ use Rattle.std.proofs.lemmas.Slice.Eq.{bytes_eq-Decides}
 use Rattle.serde_json.specs.Data.{Data, null, boolean, number, string, array, object}
 use Rattle.serde_json.specs.Find.{as_str}
 use Rattle.vm_ranges.proofs.Steps.{if_some}
-use Rattle.vm_ranges.specs.RangeValues.{StatesState, state_name, state_named, state_found}
+use Rattle.vm_ranges.specs.RangeValues.{EncodesState, state_name, state_named, decoded_state}
 use Rattle.vm_ranges.specs.declared.state.NodeState.{NodeState}
 use Rattle.vm_ranges.specs.declared.state.NodeState.TheVariants.{Free, Allocated}
 
@@ -27,18 +27,18 @@ text_of (string s) t e = ap string (same_Some s t e)
 text_of (array ds) t e = absurd (cc)
 text_of (object ms) t e = absurd (cc)
 
-pub found-states : (d : Data) (s : NodeState) → state_found d ≡ Some s → StatesState d s
+pub found-states : (d : Data) (s : NodeState) → decoded_state d ≡ Some s → EncodesState d s
 found-states d s h = text_of d (state_name s) (spelled (as_str d) s h)
 
-pub states-found : (d : Data) (s : NodeState) → StatesState d s → state_found d ≡ Some s
+pub states-found : (d : Data) (s : NodeState) → EncodesState d s → decoded_state d ≡ Some s
 states-found d Free h = rw h refl
 states-found d Allocated h = rw h refl
 
-pub none_stated : (d : Data) → state_found d ≡ None → ((s : NodeState) × StatesState d s) → ⊥
-none_stated d e p = let t = states-found d p.0 p.1 in cc
+pub none_encoded : (d : Data) → decoded_state d ≡ None → ((s : NodeState) × EncodesState d s) → ⊥
+none_encoded d e p = let t = states-found d p.0 p.1 in cc
 
-pub ruleset read = (found-states, none_stated)
+pub ruleset read = (found-states, none_encoded)
 
 -- a value states one state at most
-pub one_state : (d : Data) (a b : NodeState) → StatesState d a → StatesState d b → a ≡ b
+pub one_state : (d : Data) (a b : NodeState) → EncodesState d a → EncodesState d b → a ≡ b
 one_state d a b p q = same_Some a b (sym (states-found d a p) ∙ states-found d b q)

@@ -23,10 +23,10 @@ pub constrains_given : (request : Request) → 0 < request.size → request.alig
 unfolding MakesConstraint ByConstraint
 constrains_given request z l e u = inr (λ e. omega arith, inr (alignment_if_true request.align l e, inr (u, refl)))
 
-pub makes_sense : (size align : ℕ) (policy : AllocPolicy) → 0 < size → align < 2 ^ 64 → is_power_of_two align ≡ true → IsStartAligned align policy → IsRequest (request_for size align policy)
-makes_sense size align policy z l e u = record { some = z; aligned = alignment_if_true align l e; start = u }
+pub is_valid_request : (size align : ℕ) (policy : AllocPolicy) → 0 < size → align < 2 ^ 64 → is_power_of_two align ≡ true → IsStartAligned align policy → IsRequest (request_for size align policy)
+is_valid_request size align policy z l e u = record { some = z; aligned = alignment_if_true align l e; start = u }
 
-pub ruleset constrains = (constrains_size, constrains_alignment, constrains_start, constrains_given, makes_sense)
+pub ruleset constrains = (constrains_size, constrains_alignment, constrains_start, constrains_given, is_valid_request)
 
 -- a request that is refused or not is refused alike where each refusal says more
 pub constraint_map : (request : Request) (P Q : Error → Type 0) (R S : Type 0) → ((e : Error) → P e → Q e) → (R → S) → ByConstraint request P R → ByConstraint request Q S

@@ -10,18 +10,18 @@ unfoldable pub IsAlignment : ℕ → Type 0
 IsAlignment a = (k : ℕ) × (k < 64) × (a ≡ 2 ^ k)
 
 -- the greatest multiple of a that is x or less
-unfoldable pub IsGreatestMultiple : ℕ → ℕ → ℕ → Type 0
-IsGreatestMultiple a x r = (r % a ≡ 0) × (r ≤ x) × ((m : ℕ) → m % a ≡ 0 → m ≤ x → m ≤ r)
+unfoldable pub IsHighestMultiple : ℕ → ℕ → ℕ → Type 0
+IsHighestMultiple a x r = (r % a ≡ 0) × (r ≤ x) × ((m : ℕ) → m % a ≡ 0 → m ≤ x → m ≤ r)
 
 -- the least multiple of a that is x or more
-unfoldable pub IsLeastMultiple : ℕ → ℕ → ℕ → Type 0
-IsLeastMultiple a x r = (r % a ≡ 0) × (x ≤ r) × ((m : ℕ) → m % a ≡ 0 → x ≤ m → r ≤ m)
+unfoldable pub IsLowestMultiple : ℕ → ℕ → ℕ → Type 0
+IsLowestMultiple a x r = (r % a ≡ 0) × (x ≤ r) × ((m : ℕ) → m % a ≡ 0 → x ≤ m → r ≤ m)
 
 -- what aligning an address down answers
 unfoldable pub AlignsDown : ℕ → ℕ → Result ℕ Error → Type 0
 AlignsDown x a answer =
     Unless (IsAlignment a) (answer ≡ Err InvalidAlignment)
-    ((r : ℕ) × (answer ≡ Ok r) × IsGreatestMultiple a x r)
+    ((r : ℕ) × (answer ≡ Ok r) × IsHighestMultiple a x r)
 
 -- what aligning an address up answers, by the first that applies
 unfoldable pub AlignsUp : ℕ → ℕ → Result ℕ Error → Type 0
@@ -29,4 +29,4 @@ AlignsUp x a answer =
     IfElse (a ≡ 0) (answer ≡ Err InvalidAlignment) (
     IfElse (MAX < x + a - 1) (answer ≡ Err Overflow) (
     Unless (IsAlignment a) (answer ≡ Err InvalidAlignment)
-    ((r : ℕ) × (answer ≡ Ok r) × IsLeastMultiple a x r)))
+    ((r : ℕ) × (answer ≡ Ok r) × IsLowestMultiple a x r)))

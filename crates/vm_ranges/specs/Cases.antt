@@ -10,5 +10,5 @@ abbrev pub Unless : Type 0 → Type 0 → Type 0 → Type 0
 Unless condition then otherwise = (¬ condition × then) ⊎ (condition × otherwise)
 
 -- a test tells whether a fact holds
-abbrev pub Tells : Bool → Type 0 → Type 0
-Tells test fact = MatchBool test fact (¬ fact)
+abbrev pub IsTestOf : Bool → Type 0 → Type 0
+IsTestOf test fact = MatchBool test fact (¬ fact)

@@ -4,12 +4,12 @@ use Rattle.serde_json.specs.Data.{Data, Items, no_items, item}
 use Rattle.serde_json.specs.Find.{as_array}
 
 -- the items state these things, in this order
-abbrev pub StatesItems : {X : Type 0} → (Data → X → Type 0) → Items → List X → Type 0
-StatesItems States no_items [] = Unit {0}
-StatesItems States no_items (x ∷ xs) = ⊥
-StatesItems States (item d ds) [] = ⊥
-StatesItems States (item d ds) (x ∷ xs) = States d x × StatesItems States ds xs
+abbrev pub EncodesItems : {X : Type 0} → (Data → X → Type 0) → Items → List X → Type 0
+EncodesItems States no_items [] = Unit {0}
+EncodesItems States no_items (x ∷ xs) = ⊥
+EncodesItems States (item d ds) [] = ⊥
+EncodesItems States (item d ds) (x ∷ xs) = States d x × EncodesItems States ds xs
 
 -- the value is a list, and its items state these things
-abbrev pub StatesListOf : {X : Type 0} → (Data → X → Type 0) → Data → List X → Type 0
-StatesListOf States d xs = MatchOption (as_array d) ⊥ (λ ds. StatesItems States ds xs)
+abbrev pub EncodesListOf : {X : Type 0} → (Data → X → Type 0) → Data → List X → Type 0
+EncodesListOf States d xs = MatchOption (as_array d) ⊥ (λ ds. EncodesItems States ds xs)

@@ -7,12 +7,12 @@ use Rattle.std.proofs.lemmas.Cmp.{then_total, on_total, nat_cmp_total}
 use Rattle.vm_ranges.specs.Range.{Range}
 
 -- whether a comes first, by the start and then by the end
-abbrev pub comes_first : Range → Range → Bool
-comes_first a b = nat_lt a.start b.start || a.start == b.start && nat_lt a.end b.end
+abbrev pub is_before : Range → Range → Bool
+is_before a b = nat_lt a.start b.start || a.start == b.start && nat_lt a.end b.end
 
 -- a comes first
 unfoldable pub Before : Range → Range → Type 0
-Before a b = comes_first a b ≡ true
+Before a b = is_before a b ≡ true
 
 -- a starts before b
 unfoldable pub StartsBefore : Range → Range → Type 0
@@ -27,8 +27,8 @@ unfoldable pub EndsBefore : Range → Range → Type 0
 EndsBefore a b = a.end < b.start
 
 -- a does not end before b starts
-unfoldable pub ReachesStartOf : Range → Range → Type 0
-ReachesStartOf a b = b.start ≤ a.end
+unfoldable pub EndsAtOrAfterStartOf : Range → Range → Type 0
+EndsAtOrAfterStartOf a b = b.start ≤ a.end
 
 -- the start is at most the end
 unfoldable pub IsInOrder : Range → Type 0

@@ -9,7 +9,7 @@ use Rattle.vm_ranges.specs.declared.state.NodeState.{NodeState}
 use Rattle.vm_ranges.specs.declared.state.NodeState.TheVariants.{Free, Allocated}
 
 -- the value is an object of a start and an end alone, which are those of the range
-pub record StatesRange (d : Data) (r : Range) : Type 0 where
+pub record EncodesRange (d : Data) (r : Range) : Type 0 where
   pub two_fields : field_count d ≡ Some 2
   pub start : number_in (codes "start") d ≡ Some r.start
   pub end : number_in (codes "end") d ≡ Some r.end
@@ -24,8 +24,8 @@ abbrev pub range_between : ℕ → ℕ → Option Range
 range_between s e = if are_ends s e then Some (record { start = s; end = e }) else None
 
 -- the range that a value states
-abbrev pub range_found : Data → Option Range
-range_found d =
+abbrev pub decoded_range : Data → Option Range
+decoded_range d =
     if is_count 2 (field_count d) then
     option_and_then (λ s. option_and_then (λ e. range_between s e) (number_in (codes "end") d))
     (number_in (codes "start") d)
@@ -37,8 +37,8 @@ state_name Free = codes "Free"
 state_name Allocated = codes "Allocated"
 
 -- the value is the text of the state
-abbrev pub StatesState : Data → NodeState → Type 0
-StatesState d state = d ≡ string (state_name state)
+abbrev pub EncodesState : Data → NodeState → Type 0
+EncodesState d state = d ≡ string (state_name state)
 
 -- the state of this name
 abbrev pub state_named : Option (List ℕ) → Option NodeState
@@ -48,5 +48,5 @@ state_named (Some t) =
     else (if bytes_eq t (codes "Allocated") then Some Allocated else None)
 
 -- the state that a value states
-abbrev pub state_found : Data → Option NodeState
-state_found d = state_named (as_str d)
+abbrev pub decoded_state : Data → Option NodeState
+decoded_state d = state_named (as_str d)

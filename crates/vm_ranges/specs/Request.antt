@@ -20,9 +20,9 @@ request_for size align policy = record { size = size; align = align; policy = po
 
 -- one fact for each policy: for the least place, for the greatest, and for the named start
 abbrev pub ByPolicy : AllocPolicy → Type 0 → Type 0 → (ℕ → Type 0) → Type 0
-ByPolicy FirstMatch least greatest named = least
-ByPolicy LastMatch least greatest named = greatest
-ByPolicy (ExactMatch start) least greatest named = named start
+ByPolicy FirstMatch lowest highest named = lowest
+ByPolicy LastMatch lowest highest named = highest
+ByPolicy (ExactMatch start) lowest highest named = named start
 
 -- the alignment divides the start, where one is named
 unfoldable pub IsStartAligned : ℕ → AllocPolicy → Type 0

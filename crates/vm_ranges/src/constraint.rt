@@ -2,7 +2,7 @@
 //! condition.
 ghost use Rattle.std.specs.Prelude.{◌≡◌};
 ghost use Rattle.vm_ranges.specs.Alignment.{IsAlignment};
-ghost use Rattle.vm_ranges.specs.Cases.{Tells};
+ghost use Rattle.vm_ranges.specs.Cases.{IsTestOf};
 ghost use Rattle.vm_ranges.specs.Request.{request_for, MakesConstraint, IsStartAligned, IsRequest};
 
 use crate::error::{Error, Result};
@@ -27,7 +27,7 @@ pub enum AllocPolicy {
 #[tactic(auto, unfolding(crate::specs::Request::IsStartAligned), using(crate::proofs::Power::low_bits, crate::proofs::Power::alignment_pos))]
 fn is_start_aligned(align: u64, policy: AllocPolicy) -> bool
     requires { IsAlignment align }
-    ensures { Tells result (IsStartAligned align policy) }
+    ensures { IsTestOf result (IsStartAligned align policy) }
 {
     match policy {
         AllocPolicy::ExactMatch(start) => start & (align - 1) == 0,
@@ -91,7 +91,7 @@ impl Constraint {
     /// How many addresses are asked for.
     pub fn size(self) -> u64
         ensures value { result ≡ self.size }
-        ensures sensible { IsRequest self }
+        ensures valid { IsRequest self }
     {
         self.size
     }

@@ -57,7 +57,7 @@ impl RangeInclusive {
     }
 
     /// Whether some address lies in both ranges.
-    #[tactic(auto, using(crate::proofs::RangeCalls::meetings))]
+    #[tactic(auto, using(crate::proofs::RangeCalls::overlappings))]
     pub fn overlaps(&self, other: &RangeInclusive) -> bool
         ensures { IsTrue result ↔ Overlaps self.now other.now }
     {

@@ -1,9 +1,9 @@
 //! Address allocators.
-use crate::fixtures::{block_count, cloned, expect_same, expect_so, made};
+use crate::fixtures::{block_count, cloned, expect_eq, expect_true, made};
 use AllocPolicy::{ExactMatch, FirstMatch, LastMatch};
 use Call::{Exact, First, Free, Last, Space};
+use Expected::{Held, NoAlignment, NoSize, NotAvailable, Overflow, Range, Unaligned, Underflow};
 use Form::{Counted, Plain};
-use Want::{Held, NoAlignment, NoSize, NotAvailable, Overflow, Range, Unaligned, Underflow};
 use std::alloc::Global;
 use std::process::Abort;
 use vm_allocator::allocation_engine::NodeState::Allocated;
@@ -11,7 +11,7 @@ use vm_allocator::{AddressAllocator, AllocPolicy, Error, RangeInclusive, Result}
 
 mod aligned;
 mod comparing;
-mod departures;
+mod differences;
 mod ends;
 mod held;
 mod long_run;
@@ -48,7 +48,7 @@ type Answer = Result<(u64, u64)>;
 
 /// The answer that a call has to have.
 #[derive(Clone, Copy)]
-enum Want {
+enum Expected {
     /// The first and the last address of what is made, given out or given back.
     Range(u64, u64),
     /// A refusal, since exactly this range is held.
@@ -61,7 +61,7 @@ enum Want {
     NoSize,
 }
 
-impl Want {
+impl Expected {
     fn answer(self) -> Answer {
         match self {
             Range(start, end) => Ok((start, end)),
@@ -96,7 +96,7 @@ impl Call {
     fn count(self, space: &mut AddressAllocator, alloc: Global, form: Form) -> (Answer, u64) {
         let (size, alignment, policy) = match self {
             Space(base, size) => return (replace(space, alloc, base, size), 0),
-            Free(start, end) => return give_back(space, start, end, form),
+            Free(start, end) => return free_all(space, start, end, form),
             First(size, alignment) => (size, alignment, FirstMatch),
             Last(size, alignment) => (size, alignment, LastMatch),
             Exact(size, alignment, start) => (size, alignment, ExactMatch(start)),
@@ -119,7 +119,7 @@ fn replace(space: &mut AddressAllocator, alloc: Global, base: u64, size: u64) ->
 }
 
 /// Gives a range back, and says how many nodes that entered, where they are counted.
-fn give_back(space: &mut AddressAllocator, start: u64, end: u64, form: Form) -> (Answer, u64) {
+fn free_all(space: &mut AddressAllocator, start: u64, end: u64, form: Form) -> (Answer, u64) {
     let range = match RangeInclusive::new(start, end) {
         Ok(range) => range,
         Err(error) => return (Err(error), 0),
@@ -139,7 +139,7 @@ fn ask(rt: &(impl Abort + AllocGlobal), space: &mut AddressAllocator, call: Call
     let before = cloned(rt, space);
     match call.ask(space, rt.alloc(), Plain) {
         Err(Error::OutOfMemory) => {
-            expect_so(rt, *space == before, &"a refusal changes nothing");
+            expect_true(rt, *space == before, &"a refusal changes nothing");
             call.ask(space, rt.alloc(), Plain)
         }
         answer => answer,
@@ -147,7 +147,7 @@ fn ask(rt: &(impl Abort + AllocGlobal), space: &mut AddressAllocator, call: Call
 }
 
 /// The answer to a call, which is made again where memory ran out.
-fn ask_again(rt: &impl AllocGlobal, space: &mut AddressAllocator, call: Call) -> Answer {
+fn call_again(rt: &impl AllocGlobal, space: &mut AddressAllocator, call: Call) -> Answer {
     match call.ask(space, rt.alloc(), Plain) {
         Err(Error::OutOfMemory) => call.ask(space, rt.alloc(), Plain),
         answer => answer,
@@ -155,14 +155,18 @@ fn ask_again(rt: &impl AllocGlobal, space: &mut AddressAllocator, call: Call) ->
 }
 
 /// Does the calls in turn, each with the answer that it has to have.
-fn replay(rt: &(impl Abort + AllocGlobal), space: &mut AddressAllocator, rows: &[(Call, Want)]) {
+fn replay(
+    rt: &(impl Abort + AllocGlobal),
+    space: &mut AddressAllocator,
+    rows: &[(Call, Expected)],
+) {
     for (call, want) in rows {
-        expect_same(rt, &ask(rt, space, *call), &want.answer(), call);
+        expect_eq(rt, &ask(rt, space, *call), &want.answer(), call);
     }
 }
 
 /// Does the calls in turn in a fresh allocator of a space.
-fn replay_in(rt: &(impl Abort + AllocGlobal), base: u64, size: u64, rows: &[(Call, Want)]) {
+fn replay_in(rt: &(impl Abort + AllocGlobal), base: u64, size: u64, rows: &[(Call, Expected)]) {
     replay(rt, &mut made(rt, base, size), rows);
 }
 
@@ -319,13 +323,13 @@ fn answers_for_one_start(rt: HostRuntime) {
 #[test]
 fn a_tree_of_one_block(rt: HostRuntime) {
     let mut space = made(&rt, 0, 0x1000);
-    expect_so(&rt, space.height() == 1, &"a height of 1");
+    expect_true(&rt, space.height() == 1, &"a height of 1");
     let found = First(0, 1).count(&mut space, rt.alloc(), Counted);
     expect_counted(&rt, First(0, 1), &found, NoSize, (0, 0));
 }
 
 /// Each address of [0, 5], given back in three orders.
-const ORDERS: [[(Call, Want); 6]; 3] = [
+const ORDERS: [[(Call, Expected); 6]; 3] = [
     [
         (Free(0, 0), Range(0, 0)),
         (Free(1, 1), Range(1, 1)),
@@ -353,7 +357,7 @@ const ORDERS: [[(Call, Want); 6]; 3] = [
 ];
 
 #[test]
-fn joins_what_is_given_back(rt: HostRuntime) {
+fn joins_freed_ranges(rt: HostRuntime) {
     let taken = &[
         (First(1, 1), Range(0, 0)),
         (First(1, 1), Range(1, 1)),
@@ -367,7 +371,7 @@ fn joins_what_is_given_back(rt: HostRuntime) {
         let mut space = made(&rt, 0, 6);
         replay(&rt, &mut space, taken);
         replay(&rt, &mut space, order);
-        expect_so(&rt, space == made(&rt, 0, 6), &"all is joined again");
+        expect_true(&rt, space == made(&rt, 0, 6), &"all is joined again");
     }
 }
 
@@ -389,7 +393,7 @@ fn is_low(space: &AddressAllocator, held: u64) -> bool {
 }
 
 /// The most nodes that a release may enter in a tree of a height.
-fn most_on_ways(height: u64) -> u64 {
+fn max_on_paths(height: u64) -> u64 {
     height.saturating_mul(8).saturating_add(8)
 }
 
@@ -406,10 +410,10 @@ fn expect_counted(
     rt: &impl Abort,
     call: Call,
     found: &(Answer, u64),
-    want: Want,
+    want: Expected,
     bounds: (u64, u64),
 ) {
-    expect_same(rt, &found.0, &want.answer(), &call);
+    expect_eq(rt, &found.0, &want.answer(), &call);
     let count = found.1;
     assert!(rt;
         bounds.0 <= count && count <= bounds.1,
@@ -422,7 +426,7 @@ fn expect_counted(
 fn take_first_counted(rt: &(impl Abort + AllocGlobal), space: &mut AddressAllocator, held: u64) {
     let blocks = held.saturating_mul(2).saturating_add(1);
     let height = space.height();
-    let most = blocks.saturating_add(most_on_ways(height));
+    let most = blocks.saturating_add(max_on_paths(height));
     let fewest = if held < 2046 {
         height / 2 + height % 2
     } else {
@@ -430,7 +434,7 @@ fn take_first_counted(rt: &(impl Abort + AllocGlobal), space: &mut AddressAlloca
     };
     let found = count_again(rt, space, First(1, 1));
     expect_counted(rt, First(1, 1), &found, Range(held, held), (fewest, most));
-    expect_so(
+    expect_true(
         rt,
         is_low(space, held.saturating_add(1)),
         &("low with", held),
@@ -438,12 +442,12 @@ fn take_first_counted(rt: &(impl Abort + AllocGlobal), space: &mut AddressAlloca
 }
 
 /// A single address given back, after which `held` ranges are held.
-fn give_back_counted(rt: &impl Abort, space: &mut AddressAllocator, address: u64, held: u64) {
-    let most = most_on_ways(space.height());
-    let found = give_back(space, address, address, Counted);
+fn free_counted_range(rt: &impl Abort, space: &mut AddressAllocator, address: u64, held: u64) {
+    let most = max_on_paths(space.height());
+    let found = free_all(space, address, address, Counted);
     let call = Free(address, address);
     expect_counted(rt, call, &found, Range(address, address), (1, most));
-    expect_so(rt, is_low(space, held), &("low without", address));
+    expect_true(rt, is_low(space, held), &("low without", address));
 }
 
 #[test]
@@ -453,10 +457,10 @@ fn balanced_and_counted(rt: HostRuntime) {
         take_first_counted(&rt, &mut space, i);
     }
     for i in 0..1023 {
-        give_back_counted(&rt, &mut space, 2 * i + 1, 2046 - i);
+        free_counted_range(&rt, &mut space, 2 * i + 1, 2046 - i);
     }
-    expect_so(&rt, space.height() <= 15, &"a height of 15 at most");
-    expect_same(&rt, &block_count(&rt, &space), &2047, &"blocks");
+    expect_true(&rt, space.height() <= 15, &"a height of 15 at most");
+    expect_eq(&rt, &block_count(&rt, &space), &2047, &"blocks");
     every_second_is_clear(&rt, &mut space);
 }
 

@@ -1,7 +1,7 @@
 //! Managers of devices.
-use crate::fixtures::{expect_same, expect_so};
+use crate::fixtures::{expect_eq, expect_true};
 use Call::{Exact, First, Last, LookUp, Release};
-use Want::{Device, Gone, Held, NeverAllocated, NoSize, NotAvailable, Overflow, Unaligned};
+use Expected::{Device, Gone, Held, NeverAllocated, NoSize, NotAvailable, Overflow, Unaligned};
 use serde_json::Value;
 use std::alloc::Global;
 use std::process::Abort;
@@ -30,7 +30,7 @@ enum Call {
 
 /// The answer that a call has to have.
 #[derive(Clone, Copy)]
-enum Want {
+enum Expected {
     /// The id of a device, new or looked up, and the first and the last address of its range.
     Device(u32, u64, u64),
     /// A device was given back, or there is none with that id.
@@ -47,7 +47,7 @@ enum Want {
 /// The id of a device with the ends of its range, or none where there is none any more.
 type Answer = Result<Option<(u32, u64, u64)>>;
 
-impl Want {
+impl Expected {
     fn answer(self) -> Answer {
         match self {
             Device(id, start, end) => Ok(Some((id, start, end))),
@@ -125,10 +125,10 @@ impl Parts {
     /// The ids, the devices and the held ranges are the same.
     fn expect_of(&self, rt: &(impl Abort + AllocGlobal), devices: &DeviceManager) {
         let other = Parts::of(rt, devices);
-        let is_so = self.share(&other, "id_allocator")
+        let is_true = self.share(&other, "id_allocator")
             && self.share(&other, "slots")
             && self.space == other.space;
-        expect_so(rt, is_so, &"the same manager");
+        expect_true(rt, is_true, &"the same manager");
     }
 }
 
@@ -144,21 +144,21 @@ fn saved_devices(rt: &(impl Abort + AllocGlobal), devices: &DeviceManager) -> Va
 
 /// Does a call, which has to have its answer. Where memory is refused everything stays, and the same
 /// call is made again.
-fn ask(rt: &(impl Abort + AllocGlobal), devices: &mut DeviceManager, call: Call, want: Want) {
+fn ask(rt: &(impl Abort + AllocGlobal), devices: &mut DeviceManager, call: Call, want: Expected) {
     let before = Parts::of(rt, devices);
     let mut answer = call.ask(devices, rt.alloc());
     if let Err(Error::OutOfMemory) = answer {
         before.expect_of(rt, devices);
         answer = call.ask(devices, rt.alloc());
     }
-    expect_same(rt, &answer, &want.answer(), &call);
+    expect_eq(rt, &answer, &want.answer(), &call);
     if answer.is_err() {
         before.expect_of(rt, devices);
     }
 }
 
 /// Does the calls in turn, each with the answer that it has to have.
-fn replay(rt: &(impl Abort + AllocGlobal), devices: &mut DeviceManager, rows: &[(Call, Want)]) {
+fn replay(rt: &(impl Abort + AllocGlobal), devices: &mut DeviceManager, rows: &[(Call, Expected)]) {
     for (call, want) in rows {
         ask(rt, devices, *call, *want);
     }
@@ -166,14 +166,19 @@ fn replay(rt: &(impl Abort + AllocGlobal), devices: &mut DeviceManager, rows: &[
 
 /// Does a call of many, which has to have its answer. Where memory is refused the devices stay, and
 /// the same call is made again.
-fn ask_again(rt: &(impl Abort + AllocGlobal), devices: &mut DeviceManager, call: Call, want: Want) {
+fn call_again(
+    rt: &(impl Abort + AllocGlobal),
+    devices: &mut DeviceManager,
+    call: Call,
+    want: Expected,
+) {
     let before = slots_of(devices);
     let mut answer = call.ask(devices, rt.alloc());
     if let Err(Error::OutOfMemory) = answer {
-        expect_so(rt, slots_of(devices) == before, &"the same devices");
+        expect_true(rt, slots_of(devices) == before, &"the same devices");
         answer = call.ask(devices, rt.alloc());
     }
-    expect_same(rt, &answer, &want.answer(), &call);
+    expect_eq(rt, &answer, &want.answer(), &call);
 }
 
 /// Reserves 16 addresses for the device with an id, at a start.
@@ -184,7 +189,7 @@ fn reserve_sixteen(
     start: u64,
 ) {
     let want = Device(id, start, start.saturating_add(15));
-    ask_again(rt, devices, First(16, 16), want);
+    call_again(rt, devices, First(16, 16), want);
 }
 
 /// The ranges of the devices with the first ids.
@@ -205,5 +210,5 @@ fn expect_no_manager(
     want: Error,
 ) {
     let refused = DeviceManager::new(rt.alloc(), ids.0, ids.1, base, size).err();
-    expect_so(rt, refused == Some(want), &"a refusal");
+    expect_true(rt, refused == Some(want), &"a refusal");
 }

@@ -8,33 +8,28 @@ use vm_allocator::allocation_engine::NodeState;
 use vm_allocator::{AddressAllocator, AllocPolicy, IdAllocator, RangeInclusive, ValueError};
 use vm_devices::DeviceManager;
 
-/// How many bytes `end_of_memory` asks for. Nothing else asks for as many, and tests/refused_memory
+/// How many bytes `fail_from_here` asks for. Nothing else asks for as many, and tests/refused_memory
 /// has the same number.
-const LAST_REQUEST: usize = 1_000_003;
+const LAST_ALLOCATION: usize = 1_000_003;
 
 /// How many bytes `balance` asks for; tests/refused_memory has the same number.
-const BALANCE_REQUEST: usize = 1_000_005;
+const BALANCE_ALLOCATION: usize = 1_000_005;
 
-/// How many bytes `count_requests` asks for, and `expect_requests` one more and one for each request;
+/// How many bytes `count_allocations` asks for, and `expect_allocations` one more and one for each request;
 /// tests/refused_memory has the same number.
-const COUNT_REQUEST: usize = 1_000_100;
+const COUNT_ALLOCATION: usize = 1_000_100;
 
 /// What a second try says where it fails too.
-const REFUSED_ONCE: &str = "memory is refused once";
+const FAILED_ONCE: &str = "memory is refused once";
 
 /// Ends the test where an answer is not the one that it has to be; `of` says of what.
-pub(crate) fn expect_same<T: PartialEq + Debug>(
-    rt: &impl Abort,
-    got: &T,
-    want: &T,
-    of: &impl Debug,
-) {
+pub(crate) fn expect_eq<T: PartialEq + Debug>(rt: &impl Abort, got: &T, want: &T, of: &impl Debug) {
     assert!(rt; got == want, "{of:?}: {got:?} where {want:?} is due");
 }
 
 /// Ends the test where something is not so; `of` says what.
-pub(crate) fn expect_so(rt: &impl Abort, is_so: bool, of: &impl Debug) {
-    assert!(rt; is_so, "{of:?} is not so");
+pub(crate) fn expect_true(rt: &impl Abort, is_true: bool, of: &impl Debug) {
+    assert!(rt; is_true, "{of:?} is not so");
 }
 
 /// The range from one address to another.
@@ -43,25 +38,25 @@ pub(crate) fn range(rt: &impl Abort, start: u64, end: u64) -> RangeInclusive {
 }
 
 /// Asks for memory, whether it is there or not. tests/refused_memory refuses every later request.
-pub(crate) fn end_of_memory(alloc: Global) {
-    let _ = Vec::<u8>::with_capacity(alloc, LAST_REQUEST);
+pub(crate) fn fail_from_here(alloc: Global) {
+    let _ = Vec::<u8>::with_capacity(alloc, LAST_ALLOCATION);
 }
 
 /// Asks for memory, whether it is there or not. From one call of this to the next as much has to be
 /// given back as was given: tests/refused_memory counts.
 pub(crate) fn balance(alloc: Global) {
-    let _ = Vec::<u8>::with_capacity(alloc, BALANCE_REQUEST);
+    let _ = Vec::<u8>::with_capacity(alloc, BALANCE_ALLOCATION);
 }
 
 /// Asks for memory, whether it is there or not: from here on tests/refused_memory counts requests.
-pub(crate) fn count_requests(alloc: Global) {
-    let _ = Vec::<u8>::with_capacity(alloc, COUNT_REQUEST);
+pub(crate) fn count_allocations(alloc: Global) {
+    let _ = Vec::<u8>::with_capacity(alloc, COUNT_ALLOCATION);
 }
 
 /// Asks for memory, whether it is there or not. So many requests were made since they are counted,
 /// where none was refused.
-pub(crate) fn expect_requests(alloc: Global, number: usize) {
-    let size = COUNT_REQUEST.saturating_add(number).saturating_add(1);
+pub(crate) fn expect_allocations(alloc: Global, number: usize) {
+    let size = COUNT_ALLOCATION.saturating_add(number).saturating_add(1);
     let _ = Vec::<u8>::with_capacity(alloc, size);
 }
 
@@ -69,7 +64,7 @@ pub(crate) fn expect_requests(alloc: Global, number: usize) {
 pub(crate) fn made(rt: &(impl Abort + AllocGlobal), base: u64, size: u64) -> AddressAllocator {
     match AddressAllocator::new(rt.alloc(), base, size) {
         Ok(space) => space,
-        Err(_) => AddressAllocator::new(rt.alloc(), base, size).expect(rt, REFUSED_ONCE),
+        Err(_) => AddressAllocator::new(rt.alloc(), base, size).expect(rt, FAILED_ONCE),
     }
 }
 
@@ -80,12 +75,12 @@ pub(crate) fn cloned(
 ) -> AddressAllocator {
     match space.try_clone(rt.alloc()) {
         Ok(clone) => clone,
-        Err(_) => space.try_clone(rt.alloc()).expect(rt, REFUSED_ONCE),
+        Err(_) => space.try_clone(rt.alloc()).expect(rt, FAILED_ONCE),
     }
 }
 
 /// Whether these ranges are held, and no others.
-pub(crate) fn holds_just(space: &AddressAllocator, ranges: &[(u64, u64)]) -> bool {
+pub(crate) fn holds_exactly(space: &AddressAllocator, ranges: &[(u64, u64)]) -> bool {
     let mut held = space.held_ranges();
     for range in ranges {
         match held.next() {
@@ -100,7 +95,7 @@ pub(crate) fn holds_just(space: &AddressAllocator, ranges: &[(u64, u64)]) -> boo
 pub(crate) fn parsed(rt: &(impl Abort + AllocGlobal), text: &str) -> Value {
     match Value::from_str(rt.alloc(), text) {
         Ok(value) => value,
-        Err(_) => Value::from_str(rt.alloc(), text).expect(rt, REFUSED_ONCE),
+        Err(_) => Value::from_str(rt.alloc(), text).expect(rt, FAILED_ONCE),
     }
 }
 
@@ -113,7 +108,7 @@ pub(crate) fn items<'a>(rt: &impl Abort, list: &'a Value) -> &'a [Value] {
 pub(crate) fn text_of(rt: &(impl Abort + AllocGlobal), value: &Value) -> String {
     match value.to_string(rt.alloc()) {
         Ok(text) => text,
-        Err(_) => value.to_string(rt.alloc()).expect(rt, REFUSED_ONCE),
+        Err(_) => value.to_string(rt.alloc()).expect(rt, FAILED_ONCE),
     }
 }
 
@@ -121,7 +116,7 @@ pub(crate) fn text_of(rt: &(impl Abort + AllocGlobal), value: &Value) -> String 
 pub(crate) fn saved(rt: &(impl Abort + AllocGlobal), space: &AddressAllocator) -> Value {
     match space.to_value(rt.alloc()) {
         Ok(value) => value,
-        Err(_) => space.to_value(rt.alloc()).expect(rt, REFUSED_ONCE),
+        Err(_) => space.to_value(rt.alloc()).expect(rt, FAILED_ONCE),
     }
 }
 
@@ -135,7 +130,7 @@ pub(crate) fn hold(
     let policy = AllocPolicy::ExactMatch(start);
     if space.allocate(rt.alloc(), size, 1, policy).is_err() {
         let again = space.allocate(rt.alloc(), size, 1, policy);
-        assert!(rt; again.is_ok(), "{REFUSED_ONCE}");
+        assert!(rt; again.is_ok(), "{FAILED_ONCE}");
     }
 }
 
@@ -149,7 +144,7 @@ pub(crate) fn block_count(rt: &(impl Abort + AllocGlobal), space: &AddressAlloca
 pub(crate) fn saved_ids(rt: &(impl Abort + AllocGlobal), ids: &IdAllocator) -> Value {
     match ids.to_value(rt.alloc()) {
         Ok(value) => value,
-        Err(_) => ids.to_value(rt.alloc()).expect(rt, REFUSED_ONCE),
+        Err(_) => ids.to_value(rt.alloc()).expect(rt, FAILED_ONCE),
     }
 }
 
@@ -240,7 +235,7 @@ pub(crate) fn expect_refused(
 }
 
 /// No value of the list states something to this reader.
-pub(crate) fn refuse_each(rt: &(impl Abort + AllocGlobal), reader: Reader, list: &Value) {
+pub(crate) fn reject_each(rt: &(impl Abort + AllocGlobal), reader: Reader, list: &Value) {
     for (number, value) in items(rt, list).iter().enumerate() {
         expect_refused(rt, reader, value, &number);
     }

@@ -1,9 +1,9 @@
 //! Id allocators.
 use crate::fixtures::{
-    balance, end_of_memory, expect_same, expect_so, parsed, read_ids, saved_ids,
+    balance, expect_eq, expect_true, fail_from_here, parsed, read_ids, saved_ids,
 };
 use Call::{Allocate, Count, Fields, Free, Holds, Peek, TakeAll};
-use Want::{AlreadyReleased, Id, NeverAllocated, NotAvailable, OutOfRange, Overflow};
+use Expected::{AlreadyReleased, Id, NeverAllocated, NotAvailable, OutOfRange, Overflow};
 use std::process::Abort;
 use vm_allocator::{Error, IdAllocator, Result};
 
@@ -20,11 +20,11 @@ fn answers(ids: &IdAllocator) -> ([bool; 24], u64, Result<u32>) {
 }
 
 /// Gives an id back. Where memory is refused the answers stay, and the same call is made again.
-fn give_back(rt: &impl Abort, ids: &mut IdAllocator, id: u32) -> Result<u32> {
+fn free_all(rt: &impl Abort, ids: &mut IdAllocator, id: u32) -> Result<u32> {
     let before = answers(ids);
     match ids.free_id(id) {
         Err(Error::OutOfMemory) => {
-            expect_so(rt, answers(ids) == before, &"the same ids");
+            expect_true(rt, answers(ids) == before, &"the same ids");
             ids.free_id(id)
         }
         answer => answer,
@@ -34,14 +34,14 @@ fn give_back(rt: &impl Abort, ids: &mut IdAllocator, id: u32) -> Result<u32> {
 /// Takes ids, which have to be those from `first` to `last`.
 fn take_all(rt: &impl Abort, ids: &mut IdAllocator, first: u32, last: u32) {
     for id in first..=last {
-        expect_same(rt, &ids.peek_id(), &Ok(id), &id);
-        expect_same(rt, &ids.allocate_id(), &Ok(id), &id);
+        expect_eq(rt, &ids.peek_id(), &Ok(id), &id);
+        expect_eq(rt, &ids.allocate_id(), &Ok(id), &id);
     }
 }
 
 /// The range, the next fresh id and the ids given back are those of the text.
 fn expect_fields(rt: &(impl Abort + AllocGlobal), ids: &IdAllocator, text: &str) {
-    expect_so(rt, saved_ids(rt, ids) == parsed(rt, text), &text);
+    expect_true(rt, saved_ids(rt, ids) == parsed(rt, text), &text);
 }
 
 /// The allocator of the ids from `first` to `last`.
@@ -62,9 +62,9 @@ fn cloned(rt: &(impl Abort + AllocGlobal), ids: &IdAllocator) -> IdAllocator {
 /// A call, with the answer that it has to have.
 #[derive(Clone, Copy)]
 enum Call {
-    Allocate(Want),
-    Peek(Want),
-    Free(u32, Want),
+    Allocate(Expected),
+    Peek(Expected),
+    Free(u32, Expected),
     Holds(u32, bool),
     Count(u64),
     /// The first and the last of the ids that are taken, one by one.
@@ -75,7 +75,7 @@ enum Call {
 
 /// An id, or why there is none.
 #[derive(Clone, Copy)]
-enum Want {
+enum Expected {
     Id(u32),
     Overflow,
     NotAvailable,
@@ -84,7 +84,7 @@ enum Want {
     AlreadyReleased(u32),
 }
 
-impl Want {
+impl Expected {
     fn answer(self) -> Result<u32> {
         match self {
             Id(id) => Ok(id),
@@ -101,11 +101,11 @@ impl Want {
 fn replay(rt: &(impl Abort + AllocGlobal), ids: &mut IdAllocator, calls: &[Call]) {
     for call in calls {
         match *call {
-            Allocate(want) => expect_same(rt, &ids.allocate_id(), &want.answer(), &"taken"),
-            Peek(want) => expect_same(rt, &ids.peek_id(), &want.answer(), &"next"),
-            Free(id, want) => expect_same(rt, &give_back(rt, ids, id), &want.answer(), &id),
-            Holds(id, want) => expect_same(rt, &ids.is_allocated(id), &want, &id),
-            Count(want) => expect_same(rt, &ids.held_count(), &want, &"count"),
+            Allocate(want) => expect_eq(rt, &ids.allocate_id(), &want.answer(), &"taken"),
+            Peek(want) => expect_eq(rt, &ids.peek_id(), &want.answer(), &"next"),
+            Free(id, want) => expect_eq(rt, &free_all(rt, ids, id), &want.answer(), &id),
+            Holds(id, want) => expect_eq(rt, &ids.is_allocated(id), &want, &id),
+            Count(want) => expect_eq(rt, &ids.held_count(), &want, &"count"),
             TakeAll(first, last) => take_all(rt, ids, first, last),
             Fields(text) => expect_fields(rt, ids, text),
         }
@@ -121,7 +121,7 @@ fn replay_in(rt: &(impl Abort + AllocGlobal), first: u32, last: u32, calls: &[Ca
 fn expect_no_range(rt: &(impl Abort + AllocGlobal), first: u32, last: u32) {
     let refused = IdAllocator::new(rt.alloc(), first, last).err();
     let want = Some(Error::InvalidRange(u64::from(first), u64::from(last)));
-    expect_so(rt, refused == want, &(first, last));
+    expect_true(rt, refused == want, &(first, last));
 }
 
 #[test]
@@ -237,7 +237,7 @@ fn test_is_allocated_with_freed(rt: HostRuntime) {
 }
 
 #[test]
-fn greatest_id_alone(rt: HostRuntime) {
+fn highest_id_alone(rt: HostRuntime) {
     let calls = &[
         Free(HIGH, NeverAllocated(HIGH)),
         Allocate(Id(HIGH)),
@@ -253,18 +253,18 @@ fn greatest_id_alone(rt: HostRuntime) {
 }
 
 /// The greatest id alone, taken and given back.
-fn take_greatest(rt: &(impl Abort + AllocGlobal)) {
+fn allocate_highest(rt: &(impl Abort + AllocGlobal)) {
     let mut ids = made(rt, u32::MAX, u32::MAX);
     let calls = &[Allocate(Id(u32::MAX)), Peek(Overflow), Allocate(Overflow)];
     replay(rt, &mut ids, calls);
     // An id given back for the first time asks for memory: what a run without memory is known by.
     let answer = ids.free_id(u32::MAX);
-    let is_so = match &answer {
+    let is_true = match &answer {
         Ok(id) => *id == u32::MAX,
         Err(Error::OutOfMemory) => true,
         Err(_) => false,
     };
-    expect_so(rt, is_so, &answer);
+    expect_true(rt, is_true, &answer);
 }
 
 #[test]
@@ -290,28 +290,28 @@ fn without_memory(rt: HostRuntime) {
         Peek(NotAvailable),
         Allocate(NotAvailable),
     ];
-    end_of_memory(rt.alloc());
+    fail_from_here(rt.alloc());
     replay(&rt, &mut ids, calls);
     expect_no_range(&rt, 23, 5);
-    take_greatest(&rt);
+    allocate_highest(&rt);
 }
 
 /// Clones an allocator: the clone answers alike, or memory is refused. Nothing changes either way.
 fn clone_or_refuse(rt: &(impl Abort + AllocGlobal), ids: &IdAllocator) {
     let before = answers(ids);
     balance(rt.alloc());
-    let is_so = match ids.try_clone(rt.alloc()) {
+    let is_true = match ids.try_clone(rt.alloc()) {
         Ok(clone) => answers(&clone) == before,
         Err(Error::OutOfMemory) => true,
         Err(_) => false,
     };
-    expect_so(rt, is_so, &"a whole clone or none");
+    expect_true(rt, is_true, &"a whole clone or none");
     balance(rt.alloc());
-    expect_so(rt, answers(ids) == before, &"the same ids");
+    expect_true(rt, answers(ids) == before, &"the same ids");
 }
 
 #[test]
-fn cloned_whole_or_not_at_all(rt: HostRuntime) {
+fn cloned_or_unchanged(rt: HostRuntime) {
     let mut ids = made(&rt, 5, 23);
     replay(&rt, &mut ids, &[TakeAll(5, 7), Free(6, Id(6))]);
     clone_or_refuse(&rt, &ids);
@@ -323,8 +323,8 @@ fn cloned_whole_or_not_at_all(rt: HostRuntime) {
 /// What is written of an allocator that holds twelve ids is read, and answers alike.
 fn write_and_read(rt: &(impl Abort + AllocGlobal), ids: &IdAllocator) {
     let again = read_ids(rt, &saved_ids(rt, ids)).expect(rt, "it states ids");
-    let is_so = answers(&again) == answers(ids) && again.held_count() == 12;
-    expect_so(rt, is_so, &"the same twelve ids");
+    let is_true = answers(&again) == answers(ids) && again.held_count() == 12;
+    expect_true(rt, is_true, &"the same twelve ids");
 }
 
 /// A clone without ids given back; then twelve given back, one by one, written and read.

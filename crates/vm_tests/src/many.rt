@@ -2,8 +2,8 @@
 //! is stopped at the limit of a test where one of them takes its square, or goes down a value as deep
 //! as that goes. tests/refused_memory passes over these, and runs the deep ones on a small stack.
 use crate::fixtures::{
-    Reader, chain, cloned, expect_refused, expect_same, expect_space, hold, items, made, parsed,
-    put, range, read, read_ids, read_repaired, saved, saved_ids,
+    Reader, chain, cloned, expect_eq, expect_refused, expect_space, hold, items, made, parsed, put,
+    range, read, read_ids, read_repaired, saved, saved_ids,
 };
 use serde_json::Value;
 use std::cmp::Ordering;
@@ -24,11 +24,11 @@ const DEPTH: u64 = 1_000_000;
 const ENOUGH: &str = "there is enough memory";
 
 /// Each even address of a space is held, from the first on or from the last on.
-fn half_held(rt: &(impl Abort + AllocGlobal), rises: bool) -> AddressAllocator {
+fn half_held(rt: &(impl Abort + AllocGlobal), increases: bool) -> AddressAllocator {
     let mut space = made(rt, 0, 2 * MANY);
     for number in 0..MANY {
         let from_end = MANY.saturating_sub(number).saturating_sub(1);
-        let start = if rises { number } else { from_end };
+        let start = if increases { number } else { from_end };
         hold(rt, &mut space, start.saturating_mul(2), 1);
     }
     space
@@ -70,10 +70,10 @@ fn ranges_looked_up(rt: HostRuntime) {
     let mut space = half_held(&rt, true);
     let mut start = 0;
     for range in space.held_ranges() {
-        expect_same(&rt, &(range.start(), range.end()), &(start, start), &"held");
+        expect_eq(&rt, &(range.start(), range.end()), &(start, start), &"held");
         start = start.saturating_add(2);
     }
-    expect_same(
+    expect_eq(
         &rt,
         &(start, space.held_count()),
         &(2 * MANY, MANY),
@@ -81,11 +81,11 @@ fn ranges_looked_up(rt: HostRuntime) {
     );
     for address in 0..2 * MANY {
         let is_held = space.holds(&range(&rt, address, address));
-        expect_same(&rt, &is_held, &(address % 2 == 0), &address);
+        expect_eq(&rt, &is_held, &(address % 2 == 0), &address);
     }
     for number in 0..MANY {
         let (answer, _) = space.free_counted(&range(&rt, 2 * number, 2 * number));
-        expect_same(&rt, &answer, &Ok(()), &number);
+        expect_eq(&rt, &answer, &Ok(()), &number);
         assert!(rt; space.height() <= 20 && (space.base(), space.end()) == (0, 2 * MANY - 1));
     }
     let (answer, _) = space.allocate_counted(rt.alloc(), 2 * MANY, 1, AllocPolicy::LastMatch);
@@ -96,7 +96,7 @@ fn ranges_looked_up(rt: HostRuntime) {
 fn take_ids(rt: &impl Abort, ids: &mut IdAllocator, count: u32, step: u32) {
     for number in 0..count {
         let want = Ok(step.saturating_mul(number));
-        expect_same(rt, &ids.allocate_id(), &want, &number);
+        expect_eq(rt, &ids.allocate_id(), &want, &number);
     }
 }
 
@@ -111,7 +111,7 @@ fn ids_looked_up_and_saved(rt: HostRuntime) {
     let mut again = read_ids(&rt, &saved_ids(&rt, &clone)).expect(&rt, ENOUGH);
     for id in 0..2 * MANY_IDS {
         let answers = (again.is_allocated(id), again.held_count());
-        expect_same(&rt, &answers, &(id % 2 == 1, MANY), &id);
+        expect_eq(&rt, &answers, &(id % 2 == 1, MANY), &id);
     }
     take_ids(&rt, &mut again, MANY_IDS, 2);
 }
@@ -213,7 +213,7 @@ const READERS: [Reader; 6] = [
 ];
 
 /// No reader accepts the value.
-fn refuse_by_all(rt: &(impl Abort + AllocGlobal), value: Option<&Value>, place: &str) {
+fn reject_by_all(rt: &(impl Abort + AllocGlobal), value: Option<&Value>, place: &str) {
     let value = value.expect(rt, "there is a value");
     for reader in READERS {
         expect_refused(rt, reader, value, &place);
@@ -222,12 +222,12 @@ fn refuse_by_all(rt: &(impl Abort + AllocGlobal), value: Option<&Value>, place: 
 
 /// No reader accepts a value with this part, wherever it stands. The part is taken apart level by
 /// level at the end: to drop it whole would take a frame of the stack for each.
-fn refuse_with(rt: &(impl Abort + AllocGlobal), part: Value, inner: &str) {
+fn reject_with(rt: &(impl Abort + AllocGlobal), part: Value, inner: &str) {
     let mut deep = part;
     let mut values = parsed(rt, VALUES);
     for (number, place) in PLACES.iter().enumerate() {
         put(rt, &mut values, place, deep);
-        refuse_by_all(rt, items(rt, &values).get(number), place);
+        reject_by_all(rt, items(rt, &values).get(number), place);
         deep = taken(rt, &mut values, place);
     }
     take_apart(deep, inner);
@@ -255,7 +255,7 @@ fn take_apart(deep: Value, inner: &str) {
 #[test]
 fn a_million_deep_on_a_small_stack(rt: HostRuntime) {
     for side in ["/left", "/right"] {
-        refuse_with(&rt, chain(&rt, NODE, DEPTH, 0, side), side);
+        reject_with(&rt, chain(&rt, NODE, DEPTH, 0, side), side);
     }
-    refuse_with(&rt, deep_list(&rt), "/0");
+    reject_with(&rt, deep_list(&rt), "/0");
 }

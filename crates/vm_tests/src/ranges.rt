@@ -1,5 +1,5 @@
 //! Ranges, constraints, and errors with their texts.
-use crate::fixtures::{expect_same, range};
+use crate::fixtures::{expect_eq, range};
 use std::cmp::Ordering;
 use std::fmt::Display;
 use std::process::Abort;
@@ -18,7 +18,7 @@ fn expect_lengths(rt: &impl Abort, rows: &[(u64, u64, std::result::Result<u64, E
             Ok(range) => Ok(range.len()),
             Err(error) => Err(error),
         };
-        expect_same(rt, &length, want, &(*start, *end));
+        expect_eq(rt, &length, want, &(*start, *end));
     }
 }
 
@@ -50,7 +50,7 @@ fn test_range_overlaps(rt: HostRuntime) {
         let first = range(&rt, start, end);
         let second = range(&rt, other.0, other.1);
         let answers = (first.overlaps(&second), second.overlaps(&first));
-        expect_same(&rt, &answers, &(want, want), &(first, second));
+        expect_eq(&rt, &answers, &(want, want), &(first, second));
     }
     expect_lengths(&rt, &[(1, 4, Ok(4))]);
 }
@@ -71,7 +71,7 @@ fn test_range_contain(rt: HostRuntime) {
     for ((start, end), other, want) in rows {
         let first = range(&rt, start, end);
         let second = range(&rt, other.0, other.1);
-        expect_same(&rt, &first.contains(&second), &want, &(first, second));
+        expect_eq(&rt, &first.contains(&second), &want, &(first, second));
     }
 }
 
@@ -88,14 +88,14 @@ fn test_range_ord(rt: HostRuntime) {
         let second = range(&rt, other.0, other.1);
         let answers = (first < second, first == second, first.cmp(&second));
         let wanted = (want == Ordering::Less, want == Ordering::Equal, want);
-        expect_same(&rt, &answers, &wanted, &(first, second));
+        expect_eq(&rt, &answers, &wanted, &(first, second));
     }
 }
 
 #[test]
 fn test_getters(rt: HostRuntime) {
     let range = range(&rt, 3, 5);
-    expect_same(&rt, &(range.start(), range.end()), &(3, 5), &range);
+    expect_eq(&rt, &(range.start(), range.end()), &(3, 5), &range);
 }
 
 /// A request, its fields, and why it is none.
@@ -107,13 +107,13 @@ type Request = (
 );
 
 /// Each request has this size and this alignment, or is none for this reason.
-fn expect_requests(rt: &impl Abort, rows: &[Request]) {
+fn expect_allocations(rt: &impl Abort, rows: &[Request]) {
     for (size, align, policy, want) in rows {
         let got = match Constraint::new(*size, *align, *policy) {
             Ok(constraint) => Ok((constraint.size(), constraint.align())),
             Err(error) => Err(error),
         };
-        expect_same(rt, &got, want, policy);
+        expect_eq(rt, &got, want, policy);
     }
 }
 
@@ -124,7 +124,7 @@ fn constraint_getter(rt: HostRuntime) {
         (0x1000, 0x1000, AllocPolicy::ExactMatch(0xC), unaligned),
         (0x1000, 0x1000, AllocPolicy::default(), Ok((0x1000, 0x1000))),
     ];
-    expect_requests(&rt, &rows);
+    expect_allocations(&rt, &rows);
 }
 
 #[test]
@@ -148,7 +148,7 @@ fn constraints(rt: HostRuntime) {
         (0, 4, AllocPolicy::ExactMatch(3), Err(Error::InvalidSize(0))),
         (4, default, AllocPolicy::FirstMatch, Ok((4, 4))),
     ];
-    expect_requests(&rt, &rows);
+    expect_allocations(&rt, &rows);
     assert!(rt; AllocPolicy::default() == AllocPolicy::FirstMatch);
 }
 
@@ -196,7 +196,7 @@ fn texts_of_errors(rt: HostRuntime) {
         (Error::OutOfMemory, "There is not enough memory."),
     ];
     for (error, want) in &rows {
-        expect_same(&rt, &text_of(&rt, error).as_str(), want, error);
+        expect_eq(&rt, &text_of(&rt, error).as_str(), want, error);
     }
 }
 
@@ -231,7 +231,7 @@ fn texts_of_value_errors(rt: HostRuntime) {
         (ValueError::OutOfMemory, "There is not enough memory."),
     ];
     for (error, want) in &rows {
-        expect_same(&rt, &text_of(&rt, error).as_str(), want, error);
+        expect_eq(&rt, &text_of(&rt, error).as_str(), want, error);
     }
     let (not_a_state, out_of_memory) = (ValueError::NotAState, ValueError::OutOfMemory);
     assert!(rt; not_a_state == ValueError::NotAState && not_a_state != out_of_memory);
@@ -239,10 +239,10 @@ fn texts_of_value_errors(rt: HostRuntime) {
 
 /// By the kind of error first, and then by its fields.
 #[test]
-fn errors_rise(rt: HostRuntime) {
+fn errors_increase(rt: HostRuntime) {
     let (low, middle) = (range(&rt, 1, 2), range(&rt, 1, 3));
     let high = range(&rt, 2, 2);
-    let rising = [
+    let increasing = [
         Error::Overflow,
         Error::OutOfRange(0),
         Error::OutOfRange(1),
@@ -267,10 +267,10 @@ fn errors_rise(rt: HostRuntime) {
         Error::InvalidSize(1),
         Error::OutOfMemory,
     ];
-    for (i, first) in rising.iter().enumerate() {
-        for (j, second) in rising.iter().enumerate() {
+    for (i, first) in increasing.iter().enumerate() {
+        for (j, second) in increasing.iter().enumerate() {
             let answers = (first.cmp(second), first == second);
-            expect_same(&rt, &answers, &(i.cmp(&j), i == j), &(i, j));
+            expect_eq(&rt, &answers, &(i.cmp(&j), i == j), &(i, j));
         }
     }
 }
@@ -302,9 +302,9 @@ fn fields_compared(rt: HostRuntime) {
                 range: range(&rt, 1, *end),
             };
             let answers = (first == second, policy == other_policy, device == other);
-            expect_same(&rt, &answers, &(i == j, i == j, i == j), &(i, j));
+            expect_eq(&rt, &answers, &(i == j, i == j, i == j), &(i, j));
         }
         let first_match = request(&rt, *size, *align, AllocPolicy::FirstMatch);
-        expect_same(&rt, &(first == first_match), &(i == 0), &i);
+        expect_eq(&rt, &(first == first_match), &(i == 0), &i);
     }
 }

@@ -1,8 +1,8 @@
 //! Values that are written and read.
 use crate::fixtures::{
-    Reader, balance, block_count, chain, end_of_memory, expect_same, expect_space, hold,
-    holds_just, made, parsed, put, range, read_ids, read_repaired, refuse_each, saved, saved_ids,
-    text_of,
+    Reader, balance, block_count, chain, expect_eq, expect_space, fail_from_here, hold,
+    holds_exactly, made, parsed, put, range, read_ids, read_repaired, reject_each, saved,
+    saved_ids, text_of,
 };
 use serde_json::Value;
 use std::fmt::Debug;
@@ -36,7 +36,7 @@ fn expect_no_state(
     answer: std::result::Result<AddressAllocator, ValueError>,
     of: &impl Debug,
 ) {
-    expect_same(rt, &answer.err(), &Some(ValueError::NotAState), of);
+    expect_eq(rt, &answer.err(), &Some(ValueError::NotAState), of);
 }
 
 /// The value of the text states no allocator.
@@ -51,7 +51,7 @@ fn expect_held_or_no_memory(
     held: &[(u64, u64)],
 ) {
     match answer {
-        Ok(space) => assert!(rt; holds_just(&space, held)),
+        Ok(space) => assert!(rt; holds_exactly(&space, held)),
         Err(error) => assert!(rt; error == ValueError::OutOfMemory),
     }
 }

@@ -1,5 +1,5 @@
 //! Trees by themselves.
-use crate::fixtures::{count_requests, expect_requests, expect_same, expect_so, range};
+use crate::fixtures::{count_allocations, expect_allocations, expect_eq, expect_true, range};
 use AllocPolicy::{ExactMatch, FirstMatch, LastMatch};
 use std::alloc::Global;
 use std::process::Abort;
@@ -25,7 +25,7 @@ fn hold(rt: &(impl Abort + AllocGlobal), tree: &mut IntervalTree, start: u64, si
     let constraint = request(rt, size, 1, ExactMatch(start));
     if tree.allocate(rt.alloc(), constraint).is_err() {
         let again = tree.allocate(rt.alloc(), constraint);
-        expect_so(rt, again.is_ok(), &"the second try");
+        expect_true(rt, again.is_ok(), &"the second try");
     }
 }
 
@@ -34,15 +34,15 @@ fn test_integer_wrapping(rt: HostRuntime) {
     let mut tree = tree_of(&rt, 1, u64::MAX);
     let half = 1 << 63;
     let answer = tree.allocate(rt.alloc(), request(&rt, half, half, ExactMatch(half)));
-    expect_same(&rt, &answer, &Err(Error::Overflow), &"half of all");
+    expect_eq(&rt, &answer, &Err(Error::Overflow), &"half of all");
 }
 
 /// A tree made by one request.
 fn tree_of_one_request(rt: &(impl Abort + AllocGlobal), start: u64, end: u64) -> IntervalTree {
     let space = range(rt, start, end);
-    count_requests(rt.alloc());
+    count_allocations(rt.alloc());
     let tree = IntervalTree::new(rt.alloc(), space);
-    expect_requests(rt.alloc(), 1);
+    expect_allocations(rt.alloc(), 1);
     match tree {
         Err(Error::OutOfMemory) => tree_of(rt, start, end),
         answer => answer.expect(rt, "only memory is refused"),
@@ -57,20 +57,20 @@ fn hold_counting(
 ) {
     let (size, policy, start, requests) = *row;
     let constraint = request(rt, size, 1, policy);
-    count_requests(rt.alloc());
+    count_allocations(rt.alloc());
     let mut answer = tree.allocate(rt.alloc(), constraint);
-    expect_requests(rt.alloc(), requests);
+    expect_allocations(rt.alloc(), requests);
     if let Err(Error::OutOfMemory) = answer {
         answer = tree.allocate(rt.alloc(), constraint);
     }
     let end = start.saturating_add(size).saturating_sub(1);
-    expect_same(rt, &answer, &Ok(range(rt, start, end)), &policy);
+    expect_eq(rt, &answer, &Ok(range(rt, start, end)), &policy);
 }
 
 /// A split asks for a box for each part of its gap that is left over; what fills its gap, and a
 /// release, ask for none.
 #[test]
-fn requests_of_a_tree(rt: HostRuntime) {
+fn allocations_of_a_tree(rt: HostRuntime) {
     let mut tree = tree_of_one_request(&rt, 0, 15);
     let rows = &[
         (2, FirstMatch, 0, 1),
@@ -82,10 +82,10 @@ fn requests_of_a_tree(rt: HostRuntime) {
     for row in rows {
         hold_counting(&rt, &mut tree, row);
     }
-    count_requests(rt.alloc());
+    count_allocations(rt.alloc());
     let answer = tree.free(&range(&rt, 6, 7));
-    expect_requests(rt.alloc(), 0);
-    expect_so(&rt, answer.is_ok(), &"a release");
+    expect_allocations(rt.alloc(), 0);
+    expect_true(&rt, answer.is_ok(), &"a release");
 }
 
 /// The blocks of the one tree are a beginning of those of the other.
@@ -96,5 +96,5 @@ fn a_beginning_is_less(rt: HostRuntime) {
     let mut long = tree_of(&rt, 0, 15);
     hold(&rt, &mut long, 0, 4);
     hold(&rt, &mut long, 8, 8);
-    expect_so(&rt, short < long && short != long, &"less");
+    expect_true(&rt, short < long && short != long, &"less");
 }

@@ -5,7 +5,7 @@ ghost use Rattle.vm_allocator.specs.Range.{address_count};
 ghost use Rattle.vm_allocator.specs.Allocator.{state_of};
 ghost use Rattle.vm_allocator.specs.Ids.{IsHeld};
 
-use crate::fixtures::{expect_so, made, range};
+use crate::fixtures::{expect_true, made, range};
 use crate::plugging::replugged;
 use crate::windows::{restored, windows};
 use std::alloc::Global;
@@ -55,7 +55,7 @@ fn use_windows(rt: &(impl Abort + AllocGlobal)) {
     };
     let (first, second) = both.expect(rt, "there is room");
     let are_there = first.start() == 0xD000_0000 && second.start() == 0xD000_1000;
-    expect_so(rt, are_there, &"both windows");
+    expect_true(rt, are_there, &"both windows");
 }
 
 /// A gap written and read.
@@ -64,7 +64,7 @@ fn use_restored(rt: &(impl Abort + AllocGlobal), gap: &AddressAllocator) {
         Ok(empty) => empty,
         Err(_) => restored(rt.alloc(), gap).expect(rt, "memory is refused once"),
     };
-    expect_so(rt, empty == *gap, &"the same gap");
+    expect_true(rt, empty == *gap, &"the same gap");
 }
 
 /// A bar in a gap.
@@ -74,7 +74,7 @@ fn use_bar(rt: &(impl Abort + AllocGlobal), gap: &mut AddressAllocator) {
         answer => answer,
     };
     let want = Ok(range(rt, 0xE010_0000, 0xE01F_FFFF));
-    expect_so(rt, bar == want, &bar);
+    expect_true(rt, bar == want, &bar);
 }
 
 /// A slot of a memory, plugged out and in.
@@ -85,14 +85,14 @@ fn use_memory(rt: &(impl Abort + AllocGlobal)) {
         .allocate(rt.alloc(), 0x4000_0000, 0x1000, AllocPolicy::LastMatch)
         .expect(rt, "there is room");
     let again = replug(rt.alloc(), &mut memory, &slot);
-    expect_so(rt, again == Ok(slot), &again);
+    expect_true(rt, again == Ok(slot), &again);
 }
 
 /// The first two numbers for devices.
 fn use_numbers(rt: &(impl Abort + AllocGlobal)) {
     let mut numbers = IdAllocator::new(rt.alloc(), 5, 23).expect(rt, "it is a range");
-    expect_so(rt, take_interrupt(&mut numbers) == Ok(5), &"5");
-    expect_so(rt, take_interrupt(&mut numbers) == Ok(6), &"6");
+    expect_true(rt, take_interrupt(&mut numbers) == Ok(5), &"5");
+    expect_true(rt, take_interrupt(&mut numbers) == Ok(6), &"6");
 }
 
 #[test]
@@ -113,6 +113,6 @@ fn replugs(rt: HostRuntime) {
     };
     let (first, again) = both.expect(&rt, "there is room");
     let window = range(&rt, 0xD000_0000, 0xD000_0FFF);
-    expect_so(&rt, first.id == 0 && first.range == window, &first);
-    expect_so(&rt, again == first, &again);
+    expect_true(&rt, first.id == 0 && first.range == window, &first);
+    expect_true(&rt, again == first, &again);
 }

@@ -121,7 +121,7 @@ impl Drawing<'_> {
     /// How a block is drawn.
     fn class(&self, block: &Block) -> &'static str {
         let is_placed = |placed: &&Placed| placed.range == block.range;
-        let is_vain = |placed: &&Placed| is_long_enough_in_vain(&block.range, placed);
+        let is_vain = |placed: &&Placed| is_misaligned(&block.range, placed);
         match block.state {
             NodeState::Allocated if self.placed.filter(is_placed).is_some() => "place",
             NodeState::Allocated => "held",
@@ -248,7 +248,7 @@ fn write_keys(f: &mut fmt::Formatter<'_>, keys: &[(&str, &str)]) -> fmt::Result 
 }
 
 /// Whether a gap is long enough for a request, and has no place for it all the same.
-fn is_long_enough_in_vain(gap: &RangeInclusive, request: &Placed) -> bool {
+fn is_misaligned(gap: &RangeInclusive, request: &Placed) -> bool {
     let place = gap.start().checked_next_multiple_of(request.alignment);
     let last = place.and_then(|start| start.checked_add(request.size - 1));
     gap.len() >= request.size && last.is_none_or(|last| last > gap.end())

@@ -1,4 +1,4 @@
-use crate::error::{out_of_memory, settled, tried};
+use crate::error::{or_abort, or_try_error, out_of_memory};
 use crate::{AllocPolicy, Layout, RangeInclusive, Result, TryError};
 use core::fmt;
 use core::iter::FusedIterator;
@@ -37,7 +37,7 @@ impl AddressAllocator {
     ///
     /// In this order: `Underflow` for a size of 0; `Overflow` for an end past `u64::MAX`.
     pub fn new(base: u64, size: u64) -> Result<Self> {
-        settled(proved::AddressAllocator::new(Global, base, size)).map(AddressAllocator)
+        or_abort(proved::AddressAllocator::new(Global, base, size)).map(AddressAllocator)
     }
 
     /// Does what [`new`](Self::new) does, and answers where there is no memory.
@@ -47,7 +47,7 @@ impl AddressAllocator {
     /// `Refused(Underflow)` and `Refused(Overflow)` where `new` answers so; `OutOfMemory` where a
     /// request for memory was refused.
     pub fn try_new(base: u64, size: u64) -> core::result::Result<Self, TryError> {
-        tried(proved::AddressAllocator::new(Global, base, size)).map(AddressAllocator)
+        or_try_error(proved::AddressAllocator::new(Global, base, size)).map(AddressAllocator)
     }
 
     /// Holds the `size` addresses at the place that the policy chooses, a multiple of `alignment`
@@ -74,7 +74,7 @@ impl AddressAllocator {
         alignment: u64,
         policy: AllocPolicy,
     ) -> Result<RangeInclusive> {
-        settled(self.0.allocate(Global, size, alignment, policy)).map(RangeInclusive)
+        or_abort(self.0.allocate(Global, size, alignment, policy)).map(RangeInclusive)
     }
 
     /// Does what [`allocate`](Self::allocate) does, and answers where there is no memory.
@@ -91,7 +91,7 @@ impl AddressAllocator {
         alignment: u64,
         policy: AllocPolicy,
     ) -> core::result::Result<RangeInclusive, TryError> {
-        tried(self.0.allocate(Global, size, alignment, policy)).map(RangeInclusive)
+        or_try_error(self.0.allocate(Global, size, alignment, policy)).map(RangeInclusive)
     }
 
     /// Does what [`allocate`](Self::allocate) does, and answers besides how many nodes of the tree
@@ -112,7 +112,7 @@ impl AddressAllocator {
         policy: AllocPolicy,
     ) -> (Result<RangeInclusive>, u64) {
         let (answer, count) = self.0.allocate_counted(Global, size, alignment, policy);
-        (settled(answer).map(RangeInclusive), count)
+        (or_abort(answer).map(RangeInclusive), count)
     }
 
     /// Gives a held range back. It takes no memory.
@@ -122,7 +122,7 @@ impl AddressAllocator {
     /// `ResourceNotAvailable` for any other range, a part of a held one and a clear one among them.
     /// A refusal changes nothing.
     pub fn free(&mut self, key: &RangeInclusive) -> Result<()> {
-        settled(self.0.free(&key.0))
+        or_abort(self.0.free(&key.0))
     }
 
     /// Does what [`free`](Self::free) does, and answers besides how many nodes of the tree it
@@ -133,7 +133,7 @@ impl AddressAllocator {
     /// `ResourceNotAvailable` for any range that is not held, as `free` answers.
     pub fn free_counted(&mut self, key: &RangeInclusive) -> (Result<()>, u64) {
         let (answer, count) = self.0.free_counted(&key.0);
-        (settled(answer), count)
+        (or_abort(answer), count)
     }
 
     /// The first address of the space.
@@ -180,7 +180,7 @@ impl AddressAllocator {
     ///
     /// `OutOfMemory` where a request for memory was refused; what was taken is given back then.
     pub fn try_clone(&self) -> core::result::Result<Self, TryError> {
-        tried(self.0.try_clone(Global)).map(AddressAllocator)
+        or_try_error(self.0.try_clone(Global)).map(AddressAllocator)
     }
 }
 

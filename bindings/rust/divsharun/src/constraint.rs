@@ -1,4 +1,4 @@
-use crate::error::settled;
+use crate::error::or_abort;
 use crate::Result;
 use core::fmt;
 
@@ -49,7 +49,7 @@ impl Constraint {
     /// no power of two; `UnalignedAddress` for an `ExactMatch` of a start that is no multiple of
     /// the alignment.
     pub fn new(size: u64, align: u64, policy: AllocPolicy) -> Result<Self> {
-        settled(proved::Constraint::new(size, align, policy)).map(Constraint)
+        or_abort(proved::Constraint::new(size, align, policy)).map(Constraint)
     }
 
     /// What has to divide the first address.

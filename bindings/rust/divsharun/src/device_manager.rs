@@ -1,4 +1,4 @@
-use crate::error::settled;
+use crate::error::or_abort;
 use crate::{AllocPolicy, RangeInclusive, Result};
 use core::fmt;
 use rattle::Global;
@@ -56,7 +56,7 @@ impl DeviceManager {
     /// In this order: `InvalidRange(id_lo, id_hi)` where the last id is below the first;
     /// `Underflow` for a size of 0; `Overflow` for an end past `u64::MAX`.
     pub fn new(id_lo: u32, id_hi: u32, base: u64, size: u64) -> Result<Self> {
-        settled(proved_devices::DeviceManager::new(
+        or_abort(proved_devices::DeviceManager::new(
             Global, id_lo, id_hi, base, size,
         ))
         .map(DeviceManager)
@@ -74,7 +74,7 @@ impl DeviceManager {
     /// [`AddressAllocator::allocate`](crate::AddressAllocator::allocate) answers. A refusal leaves
     /// ids, ranges and devices as they were.
     pub fn reserve(&mut self, size: u64, align: u64, policy: AllocPolicy) -> Result<DeviceSlot> {
-        let slot = settled(self.0.reserve(Global, size, align, policy))?;
+        let slot = or_abort(self.0.reserve(Global, size, align, policy))?;
         Ok(DeviceSlot {
             id: slot.id,
             range: RangeInclusive(slot.range),
@@ -87,7 +87,7 @@ impl DeviceManager {
     ///
     /// `NeverAllocated(id)` where no device has the id.
     pub fn release(&mut self, id: u32) -> Result<()> {
-        settled(self.0.release(id))
+        or_abort(self.0.release(id))
     }
 
     /// The range of the device with this id, where there is one. It takes no memory.

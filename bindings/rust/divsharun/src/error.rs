@@ -146,7 +146,7 @@ impl From<Error> for TryError {
 }
 
 /// The answer of the proved code, out of memory among its refusals.
-pub(crate) fn tried<T>(answer: proved::Result<T>) -> core::result::Result<T, TryError> {
+pub(crate) fn or_try_error<T>(answer: proved::Result<T>) -> core::result::Result<T, TryError> {
     use proved::Error as Proved;
 
     answer.map_err(|error| match error {
@@ -171,8 +171,8 @@ pub(crate) fn tried<T>(answer: proved::Result<T>) -> core::result::Result<T, Try
 }
 
 /// The answer of the proved code; where a request for memory was refused, the process ends.
-pub(crate) fn settled<T>(answer: proved::Result<T>) -> Result<T> {
-    tried(answer).map_err(|error| match error {
+pub(crate) fn or_abort<T>(answer: proved::Result<T>) -> Result<T> {
+    or_try_error(answer).map_err(|error| match error {
         TryError::Refused(error) => error,
         TryError::OutOfMemory => out_of_memory(),
     })
@@ -212,12 +212,12 @@ mod tests {
         ];
         for error in errors {
             let (name, text) = (format!("Refused({error:?})"), error.to_string());
-            let refused = tried::<()>(Err(error)).unwrap_err();
+            let refused = or_try_error::<()>(Err(error)).unwrap_err();
             assert_eq!((format!("{refused:?}"), refused.to_string()), (name, text));
             assert!(refused < TryError::OutOfMemory);
         }
         let text = Proved::OutOfMemory.to_string();
-        let refused = tried::<()>(Err(Proved::OutOfMemory)).unwrap_err();
+        let refused = or_try_error::<()>(Err(Proved::OutOfMemory)).unwrap_err();
         assert_eq!(
             (refused, refused.to_string()),
             (TryError::OutOfMemory, text)

@@ -1,4 +1,4 @@
-use crate::error::{out_of_memory, settled};
+use crate::error::{or_abort, out_of_memory};
 use crate::Result;
 use core::fmt;
 use rattle::Global;
@@ -33,7 +33,7 @@ impl IdAllocator {
     ///
     /// `InvalidRange(range_base, range_end)` where the end is below the base.
     pub fn new(range_base: u32, range_end: u32) -> Result<Self> {
-        settled(proved::IdAllocator::new(Global, range_base, range_end)).map(IdAllocator)
+        or_abort(proved::IdAllocator::new(Global, range_base, range_end)).map(IdAllocator)
     }
 
     /// Takes the least id of the range that is not held. It takes no memory.
@@ -43,7 +43,7 @@ impl IdAllocator {
     /// Where all ids are held: `Overflow` in a range up to `u32::MAX`, and else
     /// `ResourceNotAvailable`.
     pub fn allocate_id(&mut self) -> Result<u32> {
-        settled(self.0.allocate_id())
+        or_abort(self.0.allocate_id())
     }
 
     /// What [`allocate_id`](Self::allocate_id) would answer; nothing is taken.
@@ -52,7 +52,7 @@ impl IdAllocator {
     ///
     /// `Overflow` or `ResourceNotAvailable` where all ids are held, as `allocate_id` answers.
     pub fn peek_id(&self) -> Result<u32> {
-        settled(self.0.peek_id())
+        or_abort(self.0.peek_id())
     }
 
     /// Whether the id is held. No id outside the range is.
@@ -68,7 +68,7 @@ impl IdAllocator {
     /// where it was never handed out; `AlreadyReleased(id)` where it is not held any more. A
     /// refusal changes nothing.
     pub fn free_id(&mut self, id: u32) -> Result<u32> {
-        settled(self.0.free_id(id))
+        or_abort(self.0.free_id(id))
     }
 
     /// How many ids are held. It takes no memory, and looks at none of them.

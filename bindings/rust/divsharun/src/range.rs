@@ -1,4 +1,4 @@
-use crate::error::settled;
+use crate::error::or_abort;
 use crate::Result;
 use core::fmt;
 
@@ -31,7 +31,7 @@ impl RangeInclusive {
     /// `InvalidRange(start, end)` where the start is past the end, or where they are 0 and
     /// `u64::MAX`.
     pub fn new(start: u64, end: u64) -> Result<Self> {
-        settled(proved::RangeInclusive::new(start, end)).map(RangeInclusive)
+        or_abort(proved::RangeInclusive::new(start, end)).map(RangeInclusive)
     }
 
     /// How many addresses the range has.

@@ -9,7 +9,7 @@ mod reading;
 mod tests;
 mod writing;
 
-use crate::error::{out_of_memory, settled};
+use crate::error::{or_abort, out_of_memory};
 use crate::{AddressAllocator, DeviceManager, IdAllocator, NodeState, RangeInclusive};
 use form::Form;
 use rattle::{Global, Value};
@@ -24,7 +24,7 @@ fn write<S: Serializer>(
     value: proved::Result<Value>,
     to: S,
 ) -> Result<S::Ok, S::Error> {
-    let value = settled(value).map_err(serde::ser::Error::custom)?;
+    let value = or_abort(value).map_err(serde::ser::Error::custom)?;
     Writing::new(form, &value).serialize(to)
 }
 

@@ -80,7 +80,7 @@ const WIDTH: u64 = 1 << 12;
 struct Spaces {
     plain: AddressAllocator,
     counted: AddressAllocator,
-    tried: AddressAllocator,
+    or_try_error: AddressAllocator,
     proved: proved::AddressAllocator,
 }
 
@@ -90,7 +90,7 @@ impl Spaces {
         Spaces {
             plain: space(),
             counted: space(),
-            tried: space(),
+            or_try_error: space(),
             proved: proved::AddressAllocator::new(Global, base, WIDTH).unwrap(),
         }
     }
@@ -106,7 +106,7 @@ impl Spaces {
         let proved = self.proved.allocate_counted(Global, size, align, policy);
         same(self.plain.allocate(size, align, policy), &proved.0);
         same(self.counted.allocate_counted(size, align, policy), &proved);
-        match self.tried.try_allocate(size, align, policy) {
+        match self.or_try_error.try_allocate(size, align, policy) {
             Err(TryError::Refused(error)) => same(Err::<(), _>(error), proved.0),
             answer => same(answer, proved.0),
         }
@@ -128,14 +128,14 @@ impl Spaces {
         let proved = self.proved.free_counted(&proved_key);
         same(self.plain.free(&key), &proved.0);
         same(self.counted.free_counted(&key), &proved);
-        same(self.tried.free(&key), &proved.0);
+        same(self.or_try_error.free(&key), &proved.0);
         same(self.plain.holds(&key), self.proved.holds(&proved_key));
     }
 
     fn compare(&self, before: &(AddressAllocator, proved::AddressAllocator)) {
         let (space, proved) = (&self.plain, &self.proved);
         same(space, proved);
-        assert!(*space == self.counted && *space == self.tried);
+        assert!(*space == self.counted && *space == self.or_try_error);
         same(
             (
                 space.base(),
@@ -168,7 +168,7 @@ fn address_calls() {
         let mut spaces = Spaces::new(base);
         for _ in 0..100 {
             let proved = spaces.proved.try_clone(Global).unwrap();
-            let before = (spaces.tried.try_clone().unwrap(), proved);
+            let before = (spaces.or_try_error.try_clone().unwrap(), proved);
             for _ in 0..draw.below(40) {
                 spaces.allocate(&mut draw);
                 if draw.below(3) == 0 {
@@ -186,8 +186,8 @@ fn spaces() {
     for (base, size) in pairs() {
         let space = AddressAllocator::new(base, size);
         same(&space, proved::AddressAllocator::new(Global, base, size));
-        let tried = AddressAllocator::try_new(base, size);
-        assert_eq!(tried, space.map_err(TryError::Refused));
+        let or_try_error = AddressAllocator::try_new(base, size);
+        assert_eq!(or_try_error, space.map_err(TryError::Refused));
     }
 }
 

@@ -182,7 +182,7 @@ fn states_and_lists_of_fields_are_whole() {
 }
 
 #[test]
-fn what_is_written_is_read() {
+fn written_values_are_read() {
     for count in [0, 1, 2, 10, 300] {
         let space = windows(count);
         let text: AddressAllocator = serde_json::from_str(&json(&space)).unwrap();
@@ -249,7 +249,7 @@ fn managers_are_saved_with_their_devices() {
 }
 
 #[test]
-fn what_the_faults_left_is_repaired() {
+fn states_after_upstream_faults_are_repaired() {
     let fresh = AddressAllocator::new(16, 4).unwrap();
     let read = |root: &str| serde_json::from_str::<AddressAllocator>(&space_over(root));
     // The tree was lost.
@@ -350,7 +350,7 @@ fn nesting_without_end_is_refused_early() {
 }
 
 /// The bytes of an id allocator that says it has so many ids given back, and of these ids.
-fn ids_given_back(count: u64, ids: impl Iterator<Item = u32>) -> impl Iterator<Item = u8> {
+fn ids_freed(count: u64, ids: impl Iterator<Item = u32>) -> impl Iterator<Item = u8> {
     let mut head = [0u32.to_le_bytes().as_slice(), &[1], &[255; 4], &[255; 4]].concat();
     head.extend(count.to_le_bytes());
     head.into_iter().chain(ids.flat_map(u32::to_le_bytes))
@@ -360,17 +360,17 @@ fn ids_given_back(count: u64, ids: impl Iterator<Item = u32>) -> impl Iterator<I
 fn long_lists_are_refused_early() {
     let count = 100_000_000;
     let asked = Cell::new(0);
-    let bytes = ids_given_back(count, 0..count as u32);
+    let bytes = ids_freed(count, 0..count as u32);
     assert!(packed::from_bytes::<IdAllocator>(counted(bytes, &asked)).is_err());
     assert!(asked.get() <= 4 * ((1 << 20) + 1) + 21);
 
     asked.set(0);
-    let bytes = ids_given_back(count, std::iter::repeat(7));
+    let bytes = ids_freed(count, std::iter::repeat(7));
     assert!(packed::from_bytes::<IdAllocator>(counted(bytes, &asked)).is_err());
     assert_eq!(asked.get(), 21 + 8);
 
     asked.set(0);
-    let bytes = ids_given_back(u64::MAX, 0..3);
+    let bytes = ids_freed(u64::MAX, 0..3);
     assert!(packed::from_bytes::<IdAllocator>(counted(bytes, &asked)).is_err());
     assert_eq!(asked.get(), 21 + 12);
 }

@@ -47,7 +47,7 @@ impl Value {
     pub fn from_str(_alloc: Global, text: &str) -> Result<Value, TextError> {
         let mut reader = Reader { rest: text };
         let value = reader.value(MOST_NESTED)?;
-        reader.blanks();
+        reader.skip_whitespace();
         match reader.rest {
             "" => Ok(value),
             _ => Err(NotJson),
@@ -61,13 +61,13 @@ struct Reader<'a> {
 }
 
 impl Reader<'_> {
-    fn blanks(&mut self) {
+    fn skip_whitespace(&mut self) {
         self.rest = self.rest.trim_start_matches([' ', '\t', '\n', '\r']);
     }
 
     /// Takes a mark, where it stands next.
-    fn takes(&mut self, mark: &str) -> bool {
-        self.blanks();
+    fn skip_if(&mut self, mark: &str) -> bool {
+        self.skip_whitespace();
         match self.rest.strip_prefix(mark) {
             Some(rest) => self.rest = rest,
             None => return false,
@@ -76,8 +76,8 @@ impl Reader<'_> {
     }
 
     /// Takes a mark, which has to stand next.
-    fn expects(&mut self, mark: &str) -> Result<(), TextError> {
-        match self.takes(mark) {
+    fn expect(&mut self, mark: &str) -> Result<(), TextError> {
+        match self.skip_if(mark) {
             true => Ok(()),
             false => Err(NotJson),
         }
@@ -85,13 +85,13 @@ impl Reader<'_> {
 
     fn value(&mut self, levels: u32) -> Result<Value, TextError> {
         let levels = levels.checked_sub(1).ok_or(NotJson)?;
-        if self.takes("{") {
+        if self.skip_if("{") {
             return self.object(levels);
         }
-        if self.takes("[") {
+        if self.skip_if("[") {
             return self.array(levels);
         }
-        if self.takes("\"") {
+        if self.skip_if("\"") {
             return Ok(Value::String(self.text()?));
         }
         for (word, value) in [
@@ -99,7 +99,7 @@ impl Reader<'_> {
             ("true", Value::Bool(true)),
             ("false", Value::Bool(false)),
         ] {
-            if self.takes(word) {
+            if self.skip_if(word) {
                 return Ok(value);
             }
         }
@@ -108,36 +108,36 @@ impl Reader<'_> {
 
     fn object(&mut self, levels: u32) -> Result<Value, TextError> {
         let mut fields: alloc::vec::Vec<Field> = alloc::vec::Vec::new();
-        if self.takes("}") {
+        if self.skip_if("}") {
             return Ok(Value::Object(fields.into()));
         }
         loop {
-            self.expects("\"")?;
+            self.expect("\"")?;
             let name = self.text()?;
-            self.expects(":")?;
+            self.expect(":")?;
             let value = self.value(levels)?;
             fields.try_reserve(1).map_err(|_| AllocError)?;
             fields.push((name, value));
-            if !self.takes(",") {
+            if !self.skip_if(",") {
                 break;
             }
         }
-        self.expects("}")?;
+        self.expect("}")?;
         Ok(Value::Object(fields.into()))
     }
 
     fn array(&mut self, levels: u32) -> Result<Value, TextError> {
         let mut items = Vec::new(Global);
-        if self.takes("]") {
+        if self.skip_if("]") {
             return Ok(Value::Array(items));
         }
         loop {
             items.push(self.value(levels)?)?;
-            if !self.takes(",") {
+            if !self.skip_if(",") {
                 break;
             }
         }
-        self.expects("]")?;
+        self.expect("]")?;
         Ok(Value::Array(items))
     }
 
@@ -149,15 +149,15 @@ impl Reader<'_> {
             let end = self.rest.find(ends).ok_or(NotJson)?;
             add_to(&mut text, &self.rest[..end])?;
             self.rest = &self.rest[end..];
-            match self.letter()? {
+            match self.next_char()? {
                 '"' => return Ok(text),
-                '\\' => add_to(&mut text, self.escaped()?.encode_utf8(&mut [0; 4]))?,
+                '\\' => add_to(&mut text, self.escape()?.encode_utf8(&mut [0; 4]))?,
                 _ => return Err(NotJson),
             }
         }
     }
 
-    fn letter(&mut self) -> Result<char, TextError> {
+    fn next_char(&mut self) -> Result<char, TextError> {
         let mut letters = self.rest.chars();
         let letter = letters.next().ok_or(NotJson)?;
         self.rest = letters.as_str();
@@ -165,26 +165,26 @@ impl Reader<'_> {
     }
 
     /// The letter that an escape stands for, behind its backslash.
-    fn escaped(&mut self) -> Result<char, TextError> {
-        match self.letter()? {
+    fn escape(&mut self) -> Result<char, TextError> {
+        match self.next_char()? {
             same @ ('"' | '\\' | '/') => Ok(same),
             'b' => Ok('\x08'),
             'f' => Ok('\x0c'),
             'n' => Ok('\n'),
             'r' => Ok('\r'),
             't' => Ok('\t'),
-            'u' => self.by_number(),
+            'u' => self.unicode_escape(),
             _ => Err(NotJson),
         }
     }
 
     /// The letter of one unit of UTF-16, or of two where the first is the front of a pair.
-    fn by_number(&mut self) -> Result<char, TextError> {
-        let first = self.unit()?;
+    fn unicode_escape(&mut self) -> Result<char, TextError> {
+        let first = self.utf16_unit()?;
         let second = match first {
             0xd800..=0xdbff => {
                 self.rest = self.rest.strip_prefix("\\u").ok_or(NotJson)?;
-                Some(self.unit()?)
+                Some(self.utf16_unit()?)
             }
             _ => None,
         };
@@ -196,7 +196,7 @@ impl Reader<'_> {
     }
 
     /// The number of four hexadecimal digits.
-    fn unit(&mut self) -> Result<u16, TextError> {
+    fn utf16_unit(&mut self) -> Result<u16, TextError> {
         let (digits, rest) = self.rest.split_at_checked(4).ok_or(NotJson)?;
         if !digits.bytes().all(|digit| digit.is_ascii_hexdigit()) {
             return Err(NotJson);
@@ -206,7 +206,7 @@ impl Reader<'_> {
     }
 
     fn number(&mut self) -> Result<Number, TextError> {
-        let rest = behind_number(self.rest).ok_or(NotJson)?;
+        let rest = skip_number(self.rest).ok_or(NotJson)?;
         let number = &self.rest[..self.rest.len() - rest.len()];
         self.rest = rest;
         if let Ok(whole) = u64::from_str(number) {
@@ -220,23 +220,23 @@ impl Reader<'_> {
 }
 
 /// What stands behind the number that a text begins with.
-fn behind_number(text: &str) -> Option<&str> {
+fn skip_number(text: &str) -> Option<&str> {
     let unsigned = text.strip_prefix('-').unwrap_or(text);
     let mut rest = match unsigned.strip_prefix('0') {
         Some(rest) => rest,
-        None => behind_digits(unsigned)?,
+        None => skip_digits(unsigned)?,
     };
     if let Some(fraction) = rest.strip_prefix('.') {
-        rest = behind_digits(fraction)?;
+        rest = skip_digits(fraction)?;
     }
     if let Some(power) = rest.strip_prefix(['e', 'E']) {
-        rest = behind_digits(power.strip_prefix(['+', '-']).unwrap_or(power))?;
+        rest = skip_digits(power.strip_prefix(['+', '-']).unwrap_or(power))?;
     }
     Some(rest)
 }
 
 /// What stands behind the digits that a text begins with, of which there is one at least.
-fn behind_digits(text: &str) -> Option<&str> {
+fn skip_digits(text: &str) -> Option<&str> {
     let rest = text.trim_start_matches(|letter: char| letter.is_ascii_digit());
     (rest.len() < text.len()).then_some(rest)
 }

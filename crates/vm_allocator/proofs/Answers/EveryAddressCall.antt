@@ -4,9 +4,9 @@ use Rattle.std.proofs.lemmas.Bool.{cases_eq}
 use Rattle.std.specs.List.{Contains}
 use Rattle.vm_ranges.specs.Cases.{IfElse, Unless}
 use Rattle.vm_ranges.specs.Range.{Range, MAX, span}
-use Rattle.vm_engine.specs.Address.{AddressState, AreClear, IsPlace, IsLeastPlace, IsGreatestPlace, holding, releasing}
+use Rattle.vm_engine.specs.Address.{AddressState, AreClear, IsPlace, IsLowestPlace, IsHighestPlace, holding, releasing}
 use Rattle.vm_ranges.specs.Request.{Request, request_for, IsStartAligned, ByConstraint}
-use Rattle.vm_engine.specs.Answer.{IsChosen, ByStart, ByExactStart, ByPlace, Takes, Grants, Allocates, Frees, Makes}
+use Rattle.vm_engine.specs.Answer.{IsChosen, ByStart, ByExactPolicy, ByPlace, AllocatesAt, Grants, Allocates, Frees, Makes}
 use Rattle.vm_ranges.specs.Cloning.{Clones}
 use Rattle.vm_allocator.specs.Histories.AddressHistories.{Allocation, Release, Cloning, Asked, Allocate, Free, Clone, RunsOutOfMemory}
 use Rattle.vm_allocator.specs.Laws.HistoryLaws.{EveryCallIsAnswered, EveryListHasHistory}
@@ -16,7 +16,7 @@ use Rattle.vm_ranges.specs.declared.state.NodeState.TheVariants.{Allocated}
 use Rattle.vm_ranges.specs.declared.constraint.AllocPolicy.{AllocPolicy}
 use Rattle.vm_ranges.specs.declared.constraint.AllocPolicy.TheVariants.{FirstMatch, LastMatch, ExactMatch}
 use Rattle.std.proofs.lemmas.List.Elements.{All-nil, All-cons}
-use Rattle.vm_ranges.proofs.Decisions.{Decided, decided_below, decided_alignment, decided_start, least_or_none, greatest_or_none}
+use Rattle.vm_ranges.proofs.Decisions.{Decided, decided_below, decided_alignment, decided_start, lowest_or_none, highest_or_none}
 use Rattle.vm_allocator.proofs.Decisions.{decided_all_clear, decided_place, decided_inside, decided_held}
 
 -- ---- an answer by the tests of a relation
@@ -40,8 +40,8 @@ total_unless old C P Q (inl y) p q = let k = q y in (k.0, k.1, inr (y, k.2), k.3
 total_unless old C P Q (inr n) p q = (p.0, p.1, inl (n, p.2), p.3)
 
 -- ---- a request is answered
-taken : (old : AddressState) (r : Range) → IsTotal (Takes old r)
-unfolding Takes
+taken : (old : AddressState) (r : Range) → IsTotal (AllocatesAt old r)
+unfolding AllocatesAt
 taken old r = (Ok r, holding r old, inl (refl, refl), λ h. absurd (cc h))
 
 -- a place is chosen or there is none
@@ -53,31 +53,31 @@ place_inside : (n a s : ℕ) (old : AddressState) → 0 < n → IsPlace n a old 
 unfolding IsPlace
 place_inside n a s old some p = let first = p.1 s (omega arith) (omega arith) in omega (arith, first.0.1)
 
-least_choice : (n a : ℕ) (old : AddressState) → 0 < n → HasChoice (request_for n a FirstMatch) old
-unfolding IsChosen IsLeastPlace
-least_choice n a old some =
+lowest_choice : (n a : ℕ) (old : AddressState) → 0 < n → HasChoice (request_for n a FirstMatch) old
+unfolding IsChosen IsLowestPlace
+lowest_choice n a old some =
     ⊎_elim
     (λ none. inl (λ s p. none s (place_inside n a s old some p) p))
     (λ found. inr (found.0, (found.1, found.2)))
-    (least_or_none (IsPlace n a old) (decided_place n a old) (old.space.end + 1))
+    (lowest_or_none (IsPlace n a old) (decided_place n a old) (old.space.end + 1))
 
-greatest_choice : (n a : ℕ) (old : AddressState) → 0 < n → HasChoice (request_for n a LastMatch) old
-unfolding IsChosen IsGreatestPlace
-greatest_choice n a old some =
+highest_choice : (n a : ℕ) (old : AddressState) → 0 < n → HasChoice (request_for n a LastMatch) old
+unfolding IsChosen IsHighestPlace
+highest_choice n a old some =
     ⊎_elim
     (λ none. inl (λ s p. none s (place_inside n a s old some p) p))
     (λ found. inr (found.0, (found.1, λ t p. found.2 t (place_inside n a t old some p) p)))
-    (greatest_or_none (IsPlace n a old) (decided_place n a old) (old.space.end + 1))
+    (highest_or_none (IsPlace n a old) (decided_place n a old) (old.space.end + 1))
 
-named_choice : (n a t : ℕ) (old : AddressState) → IsPlace n a old t → HasChoice (request_for n a (ExactMatch t)) old
+exact_choice_of : (n a t : ℕ) (old : AddressState) → IsPlace n a old t → HasChoice (request_for n a (ExactMatch t)) old
 unfolding IsChosen
-named_choice n a t old p = inr (t, (refl, p))
+exact_choice_of n a t old p = inr (t, (refl, p))
 
-total_place : (request : Request) (old : AddressState) → HasChoice request old → IsTotal (λ answer new. ByPlace request old (λ e. Refuses old e answer new) (λ r. Takes old r answer new))
+total_place : (request : Request) (old : AddressState) → HasChoice request old → IsTotal (λ answer new. ByPlace request old (λ e. Refuses old e answer new) (λ r. AllocatesAt old r answer new))
 unfolding ByPlace
 total_place request old (inl none) = (Err ResourceNotAvailable, old, inl (none, (refl, refl)), λ h. absurd (cc h))
 total_place request old (inr (s, chosen)) =
-    let last = total_if old (s + request.size - 1 ≡ MAX) (Refuses old Overflow) (Takes old (span s request.size)) (cases_eq (s + request.size - 1) MAX) (refusal old Overflow (λ e. cc e)) (λ n. taken old (span s request.size)) in
+    let last = total_if old (s + request.size - 1 ≡ MAX) (Refuses old Overflow) (AllocatesAt old (span s request.size)) (cases_eq (s + request.size - 1) MAX) (refusal old Overflow (λ e. cc e)) (λ n. taken old (span s request.size)) in
     (last.0, last.1, inr (s, chosen, last.2), last.3)
 
 total_start : (t n : ℕ) (old : AddressState) (Rest : Result Range Error → AddressState → Type 0) → (AreClear n old t → IsTotal Rest) → IsTotal (λ answer new. ByStart t n old (λ e. Refuses old e answer new) (Rest answer new))
@@ -92,11 +92,11 @@ total_start t n old Rest rest =
     total_if old _ (Refuses old Overflow) Rest (cases_eq (t + n - 1) MAX) (refusal old Overflow (λ e. cc e)) (λ _. rest clear))))))
 
 total_grants : (policy : AllocPolicy) (n a : ℕ) (old : AddressState) → 0 < n → IsStartAligned a policy → IsTotal (Grants old (request_for n a policy))
-unfolding Grants ByExactStart IsStartAligned IsPlace
-total_grants FirstMatch n a old some aligned = total_place (request_for n a FirstMatch) old (least_choice n a old some)
-total_grants LastMatch n a old some aligned = total_place (request_for n a LastMatch) old (greatest_choice n a old some)
+unfolding Grants ByExactPolicy IsStartAligned IsPlace
+total_grants FirstMatch n a old some aligned = total_place (request_for n a FirstMatch) old (lowest_choice n a old some)
+total_grants LastMatch n a old some aligned = total_place (request_for n a LastMatch) old (highest_choice n a old some)
 total_grants (ExactMatch t) n a old some aligned =
-    total_start t n old _ (λ clear. total_place (request_for n a (ExactMatch t)) old (named_choice n a t old (aligned, clear)))
+    total_start t n old _ (λ clear. total_place (request_for n a (ExactMatch t)) old (exact_choice_of n a t old (aligned, clear)))
 
 total_allocates : (old : AddressState) (request : Request) → IsTotal (Allocates old request)
 unfolding Allocates ByConstraint

@@ -1,10 +1,10 @@
 -- Where a history ends: in a clone, or in a state that others end in.
 use Rattle.std.proofs.Common.{List, [], ◌∷◌, ◌++◌, refl, subst, inl, inr, Ok}
 use Rattle.vm_engine.specs.Address.{AddressState}
-use Rattle.vm_allocator.specs.Values.AllocatorValues.{StatesAddresses}
-use Rattle.vm_allocator.specs.Values.RepairedValues.{StatesRepaired}
+use Rattle.vm_allocator.specs.Values.AllocatorValues.{EncodesAddresses}
+use Rattle.vm_allocator.specs.Values.RepairedValues.{EncodesRepaired}
 use Rattle.vm_allocator.specs.Histories.AddressHistories.{Call, Cloning, IsHistoryFrom}
-use Rattle.vm_allocator.specs.Laws.HistoryLaws.{CloneIsReached, ReadIsReached, OneEndIsEqual, ReleaseMakesEqual, OrderOfReleasesMakesEqual}
+use Rattle.vm_allocator.specs.Laws.HistoryLaws.{CloneIsReached, ReadIsReached, EqualStatesAreEqual, FreeMakesEqual, FreesInAnyOrderMakeEqual}
 use Rattle.vm_ranges.proofs.CloneAnswers.{clone_is}
 use Rattle.vm_engine.proofs.Comparing.StateOrders.{equal_states}
 use Rattle.vm_allocator.proofs.Histories.AlongHistories.{alike_state, release_undoes}
@@ -25,17 +25,17 @@ clone_is_reached old clone c =
       },
     )
 
-pub read_is_reached : ReadIsReached StatesAddresses
-read_is_reached value state s = record { first = state; begins = inr (record { value = value; stated = inl s }); history = refl }
+pub read_is_reached : ReadIsReached EncodesAddresses
+read_is_reached value state s = record { first = state; begins = inr (record { value = value; encoded = inl s }); history = refl }
 
-pub repaired_is_reached : ReadIsReached StatesRepaired
-repaired_is_reached value state s = record { first = state; begins = inr (record { value = value; stated = inr s }); history = refl }
+pub repaired_is_reached : ReadIsReached EncodesRepaired
+repaired_is_reached value state s = record { first = state; begins = inr (record { value = value; encoded = inr s }); history = refl }
 
-pub one_end_is_equal : OneEndIsEqual
+pub one_end_is_equal : EqualStatesAreEqual
 one_end_is_equal first second h = equal_states first.state second.state (alike_state first second h)
 
-pub release_makes_equal : ReleaseMakesEqual
+pub release_makes_equal : FreeMakesEqual
 release_makes_equal old mid new request r answer s f = equal_states new old.state (release_undoes old mid new request r answer s f).1
 
-pub order_makes_equal : OrderOfReleasesMakesEqual
+pub order_makes_equal : FreesInAnyOrderMakeEqual
 order_makes_equal old first second rs qs e s t = equal_states first second (order_is_free.same old first second rs qs e s t)

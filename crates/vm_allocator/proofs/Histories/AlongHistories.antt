@@ -5,18 +5,18 @@ use Rattle.vm_ranges.specs.Range.{Range, span}
 use Rattle.vm_engine.specs.Address.{AddressState, IsPlace, IsAddressState}
 use Rattle.vm_ranges.specs.Request.{Request}
 use Rattle.vm_engine.specs.Answer.{Allocates, Frees}
-use Rattle.vm_allocator.specs.Histories.AddressHistories.{Call, Allocation, Release, Cloning, IsCallFrom, IsHistoryFrom, Begins, Reached, WasGiven, WasStated}
-use Rattle.vm_allocator.specs.Laws.HistoryLaws.{HeldAreGood, AreAlike, StateDecides, ReleaseUndoes}
+use Rattle.vm_allocator.specs.Histories.AddressHistories.{Call, Allocation, Release, Cloning, IsCallFrom, IsHistoryFrom, Begins, Reached, WasAllocated, WasRead}
+use Rattle.vm_allocator.specs.Laws.HistoryLaws.{HeldAreValid, HaveSameState, StateDecides, FreeUndoes}
 use Rattle.vm_ranges.specs.declared.error.Error.{Error}
 use Rattle.vm_engine.proofs.Blocks.PlainWords.{IsHeld, contains_held, held_contains}
 use Rattle.vm_engine.proofs.Answers.Outcomes.{IsRefused}
-use Rattle.vm_allocator.proofs.Reading.ReadAllocators.{stated_state}
+use Rattle.vm_allocator.proofs.Reading.ReadAllocators.{encoded_state}
 use Rattle.vm_allocator.proofs.Repairing.RepairedReading.{repaired_state}
 use Rattle.vm_ranges.proofs.CloneAnswers.{cloning_keeps}
 use Rattle.vm_engine.proofs.Answers.Once.{allocates_once, frees_once}
 use Rattle.vm_engine.proofs.Blocks.HeldSets.{same_ranges_held}
 use Rattle.vm_engine.proofs.Blocks.HeldChanges.{held_with, held_without}
-use Rattle.vm_engine.proofs.Answers.AddressAnswers.{IsGiven, outcome, allocated_state, freed_state, made_is, made_state, lie_apart, freeing_undoes}
+use Rattle.vm_engine.proofs.Answers.AddressAnswers.{IsAllocation, outcome, allocated_state, freed_state, made_is, made_state, lie_apart, freeing_undoes}
 
 -- ---- every state that is reached is one
 call_state : (old new : AddressState) (call : Call) → IsCallFrom old call new → IsAddressState old → IsAddressState new
@@ -30,7 +30,7 @@ history_state (call ∷ calls) first last h i = history_state calls h.0 last h.2
 
 first_state : (first : AddressState) → Begins first → IsAddressState first
 first_state first (inl m) = made_state m.base m.size first m.word m.made
-first_state first (inr r) = ⊎_elim (λ s. subst IsAddressState s.is (stated_state r.value s.allocator s.stated)) (repaired_state r.value first) r.stated
+first_state first (inr r) = ⊎_elim (λ s. subst IsAddressState s.is (encoded_state r.value s.allocator s.encoded)) (repaired_state r.value first) r.encoded
 
 pub reached_state : (old : Reached) → IsAddressState old.state
 reached_state old =
@@ -38,27 +38,27 @@ reached_state old =
 
 -- ---- the held ranges
 -- what a call gave a longer list of calls gave
-given_later : (call : Call) (calls : List Call) (r : Range) → WasGiven calls r → WasGiven (call ∷ calls) r
+given_later : (call : Call) (calls : List Call) (r : Range) → WasAllocated calls r → WasAllocated (call ∷ calls) r
 given_later call calls r g =
     let c = g.call in
     record { request = g.request; call = (suc c.0, omega (arith, c.1), c.2); aligned = g.aligned; long = g.long }
 
-given_here : (old new : AddressState) (request : Request) (answer : Result Range Error) (calls : List Call) (g : IsGiven old request answer new) → WasGiven (Allocation request answer ∷ calls) (span g.from request.size)
+given_here : (old new : AddressState) (request : Request) (answer : Result Range Error) (calls : List Call) (g : IsAllocation old request answer new) → WasAllocated (Allocation request answer ∷ calls) (span g.from request.size)
 unfolding IsPlace
 given_here old new request answer calls g =
     record { request = request; call = (0, omega arith, ap (Allocation request) g.given); aligned = g.place.0; long = refl }
 
 -- a range that is held after a call was held before it, or given by it
-call_gives : (old new : AddressState) (call : Call) (calls : List Call) (r : Range) → IsCallFrom old call new → IsHeld new.held r → IsHeld old.held r ⊎ WasGiven (call ∷ calls) r
+call_gives : (old new : AddressState) (call : Call) (calls : List Call) (r : Range) → IsCallFrom old call new → IsHeld new.held r → IsHeld old.held r ⊎ WasAllocated (call ∷ calls) r
 unfolding Frees
 call_gives old new (Allocation request answer) calls r s h =
     let P : AddressState → Type 0 = λ v. IsHeld v.held r in
     let made : List Call = Allocation request answer ∷ calls in
     ⊎_elim
     (λ (l : IsRefused old answer new). inl (subst P l.2 h))
-    (λ (g : IsGiven old request answer new).
+    (λ (g : IsAllocation old request answer new).
     ⊎_elim
-    (λ (e : span g.from request.size ≡ r). inr (subst (WasGiven made) e (given_here old new request answer calls g)))
+    (λ (e : span g.from request.size ≡ r). inr (subst (WasAllocated made) e (given_here old new request answer calls g)))
     (λ (k : IsHeld old.held r). inl k)
     (held_with (span g.from request.size) r old.held (subst P g.left h)))
     (outcome request old new answer s)
@@ -69,28 +69,28 @@ call_gives old new (Cloning answer) calls r s h =
     let P : AddressState → Type 0 = λ v. IsHeld v.held r in
     inl (subst P (cloning_keeps old new answer s.0 s.1) h)
 
-history_gives : (calls : List Call) (first last : AddressState) (r : Range) → IsHistoryFrom first calls last → IsHeld last.held r → IsHeld first.held r ⊎ WasGiven calls r
+history_gives : (calls : List Call) (first last : AddressState) (r : Range) → IsHistoryFrom first calls last → IsHeld last.held r → IsHeld first.held r ⊎ WasAllocated calls r
 history_gives [] first last r s h = inl (subst (λ (v : AddressState). IsHeld v.held r) s h)
 history_gives (call ∷ calls) first last r s h =
     ⊎_elim
     (λ (k : IsHeld s.0.held r). call_gives first s.0 call calls r s.1 k)
-    (λ (g : WasGiven calls r). inr (given_later call calls r g))
+    (λ (g : WasAllocated calls r). inr (given_later call calls r g))
     (history_gives calls s.0 last r s.2 h)
 
 -- a new allocator holds none, so each held range was given, or stated by the value that was read
-first_holds : (first : AddressState) (r : Range) → Begins first → IsHeld first.held r → WasStated first r
+first_holds : (first : AddressState) (r : Range) → Begins first → IsHeld first.held r → WasRead first r
 first_holds first r (inl m) k = absurd (subst (λ (v : AddressState). IsHeld v.held r) (made_is m.base m.size first m.made).2 k)
 first_holds first r (inr read) k = record { read = read; held = contains_held first.held r k }
 
-reached_given : (old : Reached) (r : Range) → Contains old.state.held r → WasGiven old.calls r ⊎ WasStated old.reached.first r
+reached_given : (old : Reached) (r : Range) → Contains old.state.held r → WasAllocated old.calls r ⊎ WasRead old.reached.first r
 reached_given old r c =
     let h = old.reached in
     ⊎_elim
     (λ (k : IsHeld h.first.held r). inr (first_holds h.first r h.begins k))
-    (λ (g : WasGiven old.calls r). inl g)
+    (λ (g : WasAllocated old.calls r). inl g)
     (history_gives old.calls h.first old.state r h.history (held_contains old.state.held r c))
 
-pub held_good : HeldAreGood
+pub held_good : HeldAreValid
 held_good = record { state = reached_state; apart = λ old. lie_apart old.state (reached_state old); given = reached_given }
 
 -- ---- the space and the held ranges decide
@@ -104,7 +104,7 @@ same_state x y i j e h =
     let g : f x.space x.held ≡ f y.space x.held = ap (λ s. f s x.held) e in
     g ∙ ap (λ hs. f y.space hs) same
 
-pub alike_state : (first second : Reached) → AreAlike first.state second.state → first.state ≡ second.state
+pub alike_state : (first second : Reached) → HaveSameState first.state second.state → first.state ≡ second.state
 alike_state first second h = same_state first.state second.state (reached_state first) (reached_state second) h.space (same_members first.state.held second.state.held h.held)
 
 pub decided : StateDecides
@@ -117,5 +117,5 @@ decided = record {
       frees_once first.state new later r answer other s (subst (λ (v : AddressState). Frees v r other later) (sym e) t);
 }
 
-pub release_undoes : ReleaseUndoes
+pub release_undoes : FreeUndoes
 release_undoes old mid new request r answer s f = freeing_undoes old.state mid new request r answer (reached_state old) s f

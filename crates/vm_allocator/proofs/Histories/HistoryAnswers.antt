@@ -4,8 +4,8 @@ use Rattle.std.proofs.lemmas.Bool.{cases_eq}
 use Rattle.vm_ranges.specs.Range.{Range, MAX, IsIn, span}
 use Rattle.vm_engine.specs.Address.{AddressState, IsPlace, IsAddressState}
 use Rattle.vm_ranges.specs.Request.{Request, request_for, IsRequest, ByConstraint, MakesConstraint}
-use Rattle.vm_engine.specs.Answer.{IsChosen, ByStart, ByExactStart, ByPlace, Takes, Grants, Allocates, Frees}
-use Rattle.vm_allocator.specs.Laws.HistoryLaws.{FirstIsLeast, LastIsGreatest, ExactIsNamed, IsRefusedInOrder, IsAnswered, PlacesAnswer, RefusalsChangeNothing}
+use Rattle.vm_engine.specs.Answer.{IsChosen, ByStart, ByExactPolicy, ByPlace, AllocatesAt, Grants, Allocates, Frees}
+use Rattle.vm_allocator.specs.Laws.HistoryLaws.{FirstIsLowest, LastIsHighest, ExactIsAtItsStart, FailsInOrder, IsAnswered, PlacesAnswer, ErrorsChangeNothing}
 use Rattle.vm_ranges.specs.declared.error.Error.{Error}
 use Rattle.vm_ranges.specs.declared.error.Error.TheVariants.{Overflow, ResourceNotAvailable}
 use Rattle.vm_ranges.specs.declared.constraint.AllocPolicy.{AllocPolicy}
@@ -19,12 +19,12 @@ use Rattle.vm_engine.proofs.Answers.Outcomes.{allocates_outcome}
 use Rattle.vm_allocator.proofs.Histories.AlongHistories.{reached_state}
 
 -- ---- a range that was given starts at the chosen place
-takes_given : (old new : AddressState) (r p : Range) → Takes old r (Ok p) new → p ≡ r
-unfolding Takes
+takes_given : (old new : AddressState) (r p : Range) → AllocatesAt old r (Ok p) new → p ≡ r
+unfolding AllocatesAt
 takes_given old new r p h = ⊎_elim (λ l. cc (l.0)) (λ k. ⊎_elim (λ o. absurd (cc o)) (λ o. absurd (cc (o.1))) k.2) h
 
-given_chosen : (request : Request) (old new : AddressState) (r : Range) → Allocates old request (Ok r) new → IsChosen request old r.start × (r ≡ span r.start request.size)
-given_chosen request old new r h =
+allocated_chosen : (request : Request) (old new : AddressState) (r : Range) → Allocates old request (Ok r) new → IsChosen request old r.start × (r ≡ span r.start request.size)
+allocated_chosen request old new r h =
     ⊎_elim
     (λ l. absurd (cc (l.1)))
     (λ k.
@@ -34,25 +34,25 @@ given_chosen request old new r h =
     (subst (IsChosen request old) start k.1.1, e ∙ ap (λ (s : ℕ). span s request.size) start))
     (allocates_outcome old new (Ok r) request h)
 
-pub first_is_least : FirstIsLeast
+pub first_is_lowest : FirstIsLowest
 unfolding IsChosen
-first_is_least old new size align r h = given_chosen (request_for size align FirstMatch) old.state new r h
+first_is_lowest old new size align r h = allocated_chosen (request_for size align FirstMatch) old.state new r h
 
-pub last_is_greatest : LastIsGreatest
+pub last_is_highest : LastIsHighest
 unfolding IsChosen
-last_is_greatest old new size align r h = given_chosen (request_for size align LastMatch) old.state new r h
+last_is_highest old new size align r h = allocated_chosen (request_for size align LastMatch) old.state new r h
 
-pub exact_is_named : ExactIsNamed
+pub exact_is_named : ExactIsAtItsStart
 unfolding IsChosen
 exact_is_named old new size align start r h =
-    let g = given_chosen (request_for size align (ExactMatch start)) old.state new r h in
+    let g = allocated_chosen (request_for size align (ExactMatch start)) old.state new r h in
     (subst (IsPlace size align old.state) g.0.0 g.0.1, g.1 ∙ ap (λ (s : ℕ). span s size) g.0.0)
 
 -- ---- each request is answered by the places
 -- what makes no constraint is refused alike
-senseless : (request : Request) (old new : AddressState) (answer : Result Range Error) (e : Error) → Allocates old request answer new → MakesConstraint request (Err e) → answer ≡ Err e
+invalid : (request : Request) (old new : AddressState) (answer : Result Range Error) (e : Error) → Allocates old request answer new → MakesConstraint request (Err e) → answer ≡ Err e
 unfolding MakesConstraint Allocates ByConstraint
-senseless request old new answer e h m =
+invalid request old new answer e h m =
     if_same _ _ _ _ _ m h (same _)
     (λ m h. unless_same _ _ _ _ _ m h (same _)
     (λ m h. unless_same _ _ _ _ _ m h (same _) (λ m h. absurd (cc m))))
@@ -65,28 +65,28 @@ senseless request old new answer e h m =
 
 -- the answer to a request that makes sense, with the state that it leaves
 module _ (request : Request) (old new : AddressState) (answer : Result Range Error) (sense : IsRequest request) (h : Allocates old request answer new) where
-  chosen_taken : (s : ℕ) → IsChosen request old s → s + request.size - 1 < MAX → Takes old (span s request.size) answer new
+  chosen_taken : (s : ℕ) → IsChosen request old s → s + request.size - 1 < MAX → AllocatesAt old (span s request.size) answer new
   chosen_taken s c l = otherwise _ _ _ (λ k. omega arith) (allocates_chosen request s old new answer sense (omega arith) c h)
 
   chosen_at_max : (s : ℕ) → IsChosen request old s → s + request.size - 1 ≡ MAX → answer ≡ Err Overflow
   chosen_at_max s c e = ⊎_elim (λ k. k.1.0) (λ k. absurd (k.0 e)) (allocates_chosen request s old new answer sense (omega arith) c h)
 
-none_by_place : (request : Request) (old new : AddressState) (answer : Result Range Error) → ((s : ℕ) → ¬ IsPlace request.size request.align old s) → ByPlace request old (λ e. (answer ≡ Err e) × (new ≡ old)) (λ r. Takes old r answer new) → answer ≡ Err ResourceNotAvailable
+none_by_place : (request : Request) (old new : AddressState) (answer : Result Range Error) → ((s : ℕ) → ¬ IsPlace request.size request.align old s) → ByPlace request old (λ e. (answer ≡ Err e) × (new ≡ old)) (λ r. AllocatesAt old r answer new) → answer ≡ Err ResourceNotAvailable
 unfolding ByPlace
 none_by_place request old new answer none h = ⊎_elim (λ l. l.1.0) (λ k. absurd (none k.0 (chosen_place request k.0 old k.1))) h
 
 none_grants : (policy : AllocPolicy) (n a : ℕ) (old new : AddressState) (answer : Result Range Error) → (policy ≡ FirstMatch) ⊎ (policy ≡ LastMatch) → ((s : ℕ) → ¬ IsPlace n a old s) → Grants old (request_for n a policy) answer new → answer ≡ Err ResourceNotAvailable
-unfolding Grants ByExactStart
+unfolding Grants ByExactPolicy
 none_grants FirstMatch n a old new answer p none h = none_by_place (request_for n a FirstMatch) old new answer none h
 none_grants LastMatch n a old new answer p none h = none_by_place (request_for n a LastMatch) old new answer none h
 none_grants (ExactMatch t) n a old new answer p none h = ⊎_elim (λ e. absurd (cc e)) (λ e. absurd (cc e)) p
 
 -- where there is a place, what is refused is refused for memory, for depth or for its end
-taken_not_lacking : (old new : AddressState) (r : Range) (answer : Result Range Error) → Takes old r answer new → answer ≢ Err ResourceNotAvailable
-unfolding Takes
+taken_not_lacking : (old new : AddressState) (r : Range) (answer : Result Range Error) → AllocatesAt old r answer new → answer ≢ Err ResourceNotAvailable
+unfolding AllocatesAt
 taken_not_lacking old new r answer h e = ⊎_elim (λ l. cc (l.0, e)) (λ k. ⊎_elim (λ o. cc (o, e)) (λ o. cc (o.1, e)) k.2) h
 
-some_by_place : (request : Request) (old new : AddressState) (answer : Result Range Error) (s : ℕ) → IsPlace request.size request.align old s → ByPlace request old (λ e. (answer ≡ Err e) × (new ≡ old)) (λ r. Takes old r answer new) → answer ≢ Err ResourceNotAvailable
+some_by_place : (request : Request) (old new : AddressState) (answer : Result Range Error) (s : ℕ) → IsPlace request.size request.align old s → ByPlace request old (λ e. (answer ≡ Err e) × (new ≡ old)) (λ r. AllocatesAt old r answer new) → answer ≢ Err ResourceNotAvailable
 unfolding ByPlace
 some_by_place request old new answer s place h e =
     ⊎_elim
@@ -95,15 +95,15 @@ some_by_place request old new answer s place h e =
     h
 
 some_grants : (policy : AllocPolicy) (n a : ℕ) (old new : AddressState) (answer : Result Range Error) → (policy ≡ FirstMatch) ⊎ (policy ≡ LastMatch) → (s : ℕ) → IsPlace n a old s → Grants old (request_for n a policy) answer new → answer ≢ Err ResourceNotAvailable
-unfolding Grants ByExactStart
+unfolding Grants ByExactPolicy
 some_grants FirstMatch n a old new answer p s place h = some_by_place (request_for n a FirstMatch) old new answer s place h
 some_grants LastMatch n a old new answer p s place h = some_by_place (request_for n a LastMatch) old new answer s place h
 some_grants (ExactMatch t) n a old new answer p s place h = ⊎_elim (λ e. absurd (cc e)) (λ e. absurd (cc e)) p
 
 -- the faults of a request for the n addresses from t on, in order
-named_faults : (old new : AddressState) (answer : Result Range Error) (t n : ℕ) (Rest : Type 0) → IsAddressState old → 0 < n → ByStart t n old (λ e. (answer ≡ Err e) × (new ≡ old)) Rest → IsRefusedInOrder old t n answer
+exact_errors : (old new : AddressState) (answer : Result Range Error) (t n : ℕ) (Rest : Type 0) → IsAddressState old → 0 < n → ByStart t n old (λ e. (answer ≡ Err e) × (new ≡ old)) Rest → FailsInOrder old t n answer
 unfolding ByStart
-named_faults old new answer t n Rest state some h =
+exact_errors old new answer t n Rest state some h =
     record {
       start_is_max = λ is. faulty _ _ _ is (λ p. p.0) h;
       start_is_outside = λ below outside. lacking _ _ _ outside (λ p. p.0) (otherwise _ _ _ below h);
@@ -123,34 +123,34 @@ named_faults old new answer t n Rest state some h =
           (cases_eq t MAX);
     }
 
-named_grants : (policy : AllocPolicy) (n a t : ℕ) (old new : AddressState) (answer : Result Range Error) → IsAddressState old → 0 < n → policy ≡ ExactMatch t → Grants old (request_for n a policy) answer new → IsRefusedInOrder old t n answer
-unfolding Grants ByExactStart
-named_grants policy n a t old new answer state some p h =
+exact_grants : (policy : AllocPolicy) (n a t : ℕ) (old new : AddressState) (answer : Result Range Error) → IsAddressState old → 0 < n → policy ≡ ExactMatch t → Grants old (request_for n a policy) answer new → FailsInOrder old t n answer
+unfolding Grants ByExactPolicy
+exact_grants policy n a t old new answer state some p h =
     let g : Grants old (request_for n a (ExactMatch t)) answer new = subst (λ (v : AllocPolicy). Grants old (request_for n a v) answer new) p h in
-    named_faults old new answer t n _ state some g
+    exact_errors old new answer t n _ state some g
 
 answered : (request : Request) (old new : AddressState) (answer : Result Range Error) → IsAddressState old → Allocates old request answer new → IsAnswered old request answer new
 answered request old new answer state h =
     record {
-      senseless = λ e m. senseless request old new answer e h m;
-      sensible = λ sense.
+      invalid = λ e m. invalid request old new answer e h m;
+      valid = λ sense.
           let grants = request_grants request old new answer sense h in
           record {
             taken = chosen_taken request old new answer sense h;
             at_max = chosen_at_max request old new answer sense h;
             no_place = λ p none. none_grants request.policy request.size request.align old new answer p none grants;
             only_there = λ p s place. some_grants request.policy request.size request.align old new answer p s place grants;
-            named = λ t p. named_grants request.policy request.size request.align t old new answer state sense.some p grants;
+            named = λ t p. exact_grants request.policy request.size request.align t old new answer state sense.some p grants;
           };
-      given = λ r e. given_chosen request old new r (subst (λ (v : Result Range Error). Allocates old request v new) e h);
+      given = λ r e. allocated_chosen request old new r (subst (λ (v : Result Range Error). Allocates old request v new) e h);
     }
 
 pub places_answer : PlacesAnswer
 places_answer old new request answer h = answered request old.state new answer (reached_state old) h
 
 -- ---- a refusal changes nothing
-takes_refused : (old new : AddressState) (r : Range) (e : Error) → Takes old r (Err e) new → new ≡ old
-unfolding Takes
+takes_refused : (old new : AddressState) (r : Range) (e : Error) → AllocatesAt old r (Err e) new → new ≡ old
+unfolding AllocatesAt
 takes_refused old new r e h = ⊎_elim (λ l. absurd (cc (l.0))) (λ k. k.1) h
 
 allocation_refused : (request : Request) (old new : AddressState) (e : Error) → Allocates old request (Err e) new → new ≡ old
@@ -161,8 +161,8 @@ release_refused : (old new : AddressState) (r : Range) (e : Error) → Frees old
 unfolding Frees
 release_refused old new r e h = ⊎_elim (λ l. absurd (cc (l.1.0))) (λ k. k.1.1) h
 
-pub refusals_change_nothing : RefusalsChangeNothing
-refusals_change_nothing = record {
+pub errors_change_nothing : ErrorsChangeNothing
+errors_change_nothing = record {
   allocation = λ old new request e h. allocation_refused request old.state new e h;
   release = λ old new r e h. release_refused old.state new r e h;
 }

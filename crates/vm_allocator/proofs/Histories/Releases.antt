@@ -8,7 +8,7 @@ use Rattle.std.proofs.lemmas.List.Sorted.{Contains-permutation, IsPermutation-sy
 use Rattle.vm_ranges.specs.Range.{Range}
 use Rattle.vm_engine.specs.Address.{AddressState, IsAddressState, releasing, without_range}
 use Rattle.vm_allocator.specs.Histories.AddressHistories.{IsHistoryFrom, Reached, releases}
-use Rattle.vm_allocator.specs.Laws.HistoryLaws.{OrderOfReleasesIsFree}
+use Rattle.vm_allocator.specs.Laws.HistoryLaws.{FreesInAnyOrder}
 use Rattle.vm_engine.proofs.Blocks.PlainWords.{IsHeld, contains_held, held_contains}
 use Rattle.vm_engine.proofs.Blocks.HeldSets.{one_start}
 use Rattle.vm_engine.proofs.Blocks.HeldChanges.{held_without, not_held_without, others_held}
@@ -114,7 +114,7 @@ in_other_order old new rs qs p s =
     let other = give_back qs old.state i held (IsDistinct-IsPermutation same_start same_start-comm rs qs p (all_distinct rs old.state new i s)) in
     subst (IsHistoryFrom old.state (releases qs)) (sym (same_left old.state new other.0 rs qs i members s other.1)) other.1
 
-pub order_is_free : OrderOfReleasesIsFree
+pub order_is_free : FreesInAnyOrder
 order_is_free = record {
   succeeds = in_other_order;
   same = λ old first second rs qs e s t. same_left old.state first second rs qs (reached_state old) e s t;

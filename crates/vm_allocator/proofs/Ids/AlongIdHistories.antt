@@ -6,28 +6,28 @@ use Rattle.std.specs.List.{Contains}
 use Rattle.std.specs.Ordering.{nat_cmp}
 use Rattle.std.specs.FinSet as set
 use Rattle.vm_ranges.proofs.NumberSets.{same_test}
-use Rattle.vm_allocator.specs.Ids.{IdState, IsHeld, IsLeastNotHeld, IsIdState, fresh_ids, MakesIds, ByLeastNotHeld, AllocatesId, FreesId}
-use Rattle.vm_allocator.specs.Histories.IdHistories.{IdCall, Allocation, Release, Cloning, IsIdCallFrom, IsIdHistoryFrom, AreIdsMade, AreIdsRead, is_held_after, is_out_after}
-use Rattle.vm_allocator.specs.Laws.IdHistoryLaws.{EachIsLeastNotHeld, NoIdIsHeldTwice, HeldIsOut, StatesAreOfIds}
+use Rattle.vm_allocator.specs.Ids.{IdState, IsHeld, IsLowestNotHeld, IsIdState, new_ids, MakesIds, ByLowestNotHeld, AllocatesId, FreesId}
+use Rattle.vm_allocator.specs.Histories.IdHistories.{IdCall, Allocation, Release, Cloning, IsIdCallFrom, IsIdHistoryFrom, AreIdsMade, AreIdsRead, is_held_after, is_allocated_after}
+use Rattle.vm_allocator.specs.Laws.IdHistoryLaws.{EachIsLowestNotHeld, NoIdIsHeldTwice, HeldIsAllocated, StatesAreOfIds}
 use Rattle.vm_ranges.specs.declared.error.Error.{Error}
 use Rattle.vm_ranges.proofs.CloneAnswers.{cloning_keeps}
-use Rattle.vm_allocator.proofs.Ids.ReadIdStates.{stated_state}
-use Rattle.vm_allocator.proofs.Ids.IdAnswers.{id_states_are_kept, allocating_adds, freeing_drops}
+use Rattle.vm_allocator.proofs.Ids.ReadIdStates.{encoded_state}
+use Rattle.vm_allocator.proofs.Ids.IdAnswers.{id_states_are_preserved, allocating_adds, freeing_removes}
 
 -- What one call says.
 
-given_is_least : (old new : IdState) (id : ℕ) → AllocatesId old (Ok id) new → IsLeastNotHeld old id
-unfolding AllocatesId ByLeastNotHeld
-given_is_least old new id (inl a) = let same : a.0 ≡ id = cc (a.2.0) in subst (IsLeastNotHeld old) same a.1
-given_is_least old new id (inr (_, inl a)) = absurd (cc (a.1.0))
-given_is_least old new id (inr (_, inr a)) = absurd (cc (a.1.0))
+allocated_is_lowest : (old new : IdState) (id : ℕ) → AllocatesId old (Ok id) new → IsLowestNotHeld old id
+unfolding AllocatesId ByLowestNotHeld
+allocated_is_lowest old new id (inl a) = let same : a.0 ≡ id = cc (a.2.0) in subst (IsLowestNotHeld old) same a.1
+allocated_is_lowest old new id (inr (_, inl a)) = absurd (cc (a.1.0))
+allocated_is_lowest old new id (inr (_, inr a)) = absurd (cc (a.1.0))
 
-least_is_not_held : (state : IdState) (id : ℕ) → IsLeastNotHeld state id → ¬ IsHeld state id
-unfolding IsLeastNotHeld
-least_is_not_held state id a = a.0.1
+lowest_is_not_held : (state : IdState) (id : ℕ) → IsLowestNotHeld state id → ¬ IsHeld state id
+unfolding IsLowestNotHeld
+lowest_is_not_held state id a = a.0.1
 
 refused_request_keeps : (old new : IdState) (e : Error) → AllocatesId old (Err e) new → new ≡ old
-unfolding AllocatesId ByLeastNotHeld
+unfolding AllocatesId ByLowestNotHeld
 refused_request_keeps old new e (inl a) = absurd (cc (a.2.0))
 refused_request_keeps old new e (inr (_, inl a)) = a.1.1
 refused_request_keeps old new e (inr (_, inr a)) = a.1.1
@@ -55,8 +55,8 @@ same_held old new id e = ap (λ (s : IdState). set.contains s.held id) e
 -- Each state of a history is one of ids.
 
 call_state : (call : IdCall) (old new : IdState) → IsIdState old → IsIdCallFrom old call new → IsIdState new
-call_state (Allocation answer) old new s h = id_states_are_kept.allocated old new answer s h
-call_state (Release id answer) old new s h = id_states_are_kept.freed old new id answer s h
+call_state (Allocation answer) old new s h = id_states_are_preserved.allocated old new answer s h
+call_state (Release id answer) old new s h = id_states_are_preserved.freed old new id answer s h
 call_state (Cloning answer) old new s h = subst IsIdState (sym (cloning_keeps old new answer h.0 h.1)) s
 
 history_state : (calls : List IdCall) (first last : IdState) → IsIdState first → IsIdHistoryFrom first calls last → IsIdState last
@@ -65,8 +65,8 @@ history_state (call ∷ calls) first last s history =
     history_state calls history.0 last (call_state call first history.0 s history.1) history.2
 
 first_state : (first : IdState) → AreIdsMade first ⊎ AreIdsRead first → IsIdState first
-first_state first (inl m) = id_states_are_kept.made m.lo m.hi first m.word m.made
-first_state first (inr r) = stated_state r.value first r.stated
+first_state first (inl m) = id_states_are_preserved.made m.lo m.hi first m.word m.made
+first_state first (inr r) = encoded_state r.value first r.encoded
 
 pub states_are_of_ids : StatesAreOfIds
 unfolding StatesAreOfIds
@@ -86,7 +86,7 @@ held_after_taking old new i id s h =
 
 held_after_return : (old new : IdState) (i back id : ℕ) → FreesId old i (Ok back) new → set.contains new.held id ≡ cond (nat_eq i id) false (set.contains old.held id)
 held_after_return old new i back id h =
-    let held = (freeing_drops old new i back h).held id in
+    let held = (freeing_removes old new i back h).held id in
     ⊎_elim
     (λ (e : i ≡ id). false_from_ne_true _ (λ n. (held.0 n).1 (sym e)) ∙ sym (cond-true _ _ _ (eq-eqb i id e)))
     (λ (ne : i ≢ id).
@@ -101,26 +101,26 @@ held_after_call (Release i (Ok back)) old new id s h = held_after_return old new
 held_after_call (Release i (Err e)) old new id s h = same_held old new id (refused_return_keeps old new i e h)
 held_after_call (Cloning answer) old new id s h = same_held old new id (cloning_keeps old new answer h.0 h.1)
 
-held_after_history : (calls : List IdCall) (first last : IdState) (id : ℕ) → IsIdState first → IsIdHistoryFrom first calls last → set.contains last.held id ≡ is_out_after id (set.contains first.held id) calls
+held_after_history : (calls : List IdCall) (first last : IdState) (id : ℕ) → IsIdState first → IsIdHistoryFrom first calls last → set.contains last.held id ≡ is_allocated_after id (set.contains first.held id) calls
 held_after_history [] first last id s e = same_held first last id e
 held_after_history (call ∷ calls) first last id s history =
     held_after_history calls history.0 last id (call_state call first history.0 s history.1) history.2
-    ∙ ap (λ (b : Bool). is_out_after id b calls) (held_after_call call first history.0 id s history.1)
+    ∙ ap (λ (b : Bool). is_allocated_after id b calls) (held_after_call call first history.0 id s history.1)
 
 none_held_at_first : (lo hi : ℕ) (first : IdState) (id : ℕ) → MakesIds lo hi (Ok first) → set.contains first.held id ≡ false
 unfolding MakesIds
 none_held_at_first lo hi first id (inl a) = absurd (cc (a.1))
 none_held_at_first lo hi first id (inr a) =
-    let same : first ≡ fresh_ids lo hi = cc (a.1) in
-    same_held (fresh_ids lo hi) first id same ∙ set.contains-empty nat_cmp id
+    let same : first ≡ new_ids lo hi = cc (a.1) in
+    same_held (new_ids lo hi) first id same ∙ set.contains-empty nat_cmp id
 
-pub held_is_out : HeldIsOut
+pub held_is_out : HeldIsAllocated
 held_is_out = record {
   reached = λ calls state id r.
       let e = held_after_history calls r.first state id (first_state r.first r.begins) r.history in
       (λ h. sym e ∙ h, λ h. e ∙ h);
   made = λ calls first state id m history.
-      let e = held_after_history calls first state id (first_state first (inl m)) history ∙ ap (λ (b : Bool). is_out_after id b calls) (none_held_at_first m.lo m.hi first id m.made) in
+      let e = held_after_history calls first state id (first_state first (inl m)) history ∙ ap (λ (b : Bool). is_allocated_after id b calls) (none_held_at_first m.lo m.hi first id m.made) in
       (λ h. sym e ∙ h, λ h. e ∙ h);
 }
 
@@ -131,36 +131,36 @@ pub ruleset held_ids = (held_is_out, states_are_of_ids)
 given_is_held : (old new : IdState) (id : ℕ) → IsIdState old → AllocatesId old (Ok id) new → IsHeld new id
 given_is_held old new id s h = ((allocating_adds old new id s h).held id).1 (inr refl)
 
-pub each_is_least : EachIsLeastNotHeld
-unfolding EachIsLeastNotHeld StatesAreOfIds
-each_is_least calls old new id r h = (given_is_least old new id h, given_is_held old new id (states_are_of_ids calls old r) h)
+pub each_is_lowest : EachIsLowestNotHeld
+unfolding EachIsLowestNotHeld StatesAreOfIds
+each_is_lowest calls old new id r h = (allocated_is_lowest old new id h, given_is_held old new id (states_are_of_ids calls old r) h)
 
 -- only where it is given back is an id held no more
-call_gives_back : (call : IdCall) (old new : IdState) (id : ℕ) → IsIdState old → IsIdCallFrom old call new → IsHeld old id → ¬ IsHeld new id → call ≡ Release id (Ok id)
-call_gives_back (Allocation (Ok i)) old new id s h held gone =
+call_frees : (call : IdCall) (old new : IdState) (id : ℕ) → IsIdState old → IsIdCallFrom old call new → IsHeld old id → ¬ IsHeld new id → call ≡ Release id (Ok id)
+call_frees (Allocation (Ok i)) old new id s h held gone =
     absurd (gone (((allocating_adds old new i s h).held id).1 (inl held)))
-call_gives_back (Allocation (Err e)) old new id s h held gone =
+call_frees (Allocation (Err e)) old new id s h held gone =
     absurd (gone (same_held old new id (refused_request_keeps old new e h) ∙ held))
-call_gives_back (Release i (Ok back)) old new id s h held gone =
+call_frees (Release i (Ok back)) old new id s h held gone =
     let named : back ≡ i = answer_names_id old new i back h in
     ⊎_elim
     (λ (e : id ≡ i). cc)
-    (λ (ne : id ≢ i). absurd (gone (((freeing_drops old new i back h).held id).1 (held, ne))))
+    (λ (ne : id ≢ i). absurd (gone (((freeing_removes old new i back h).held id).1 (held, ne))))
     (cases_eq id i)
-call_gives_back (Release i (Err e)) old new id s h held gone =
+call_frees (Release i (Err e)) old new id s h held gone =
     absurd (gone (same_held old new id (refused_return_keeps old new i e h) ∙ held))
-call_gives_back (Cloning answer) old new id s h held gone =
+call_frees (Cloning answer) old new id s h held gone =
     absurd (gone (same_held old new id (cloning_keeps old new answer h.0 h.1) ∙ held))
 
 -- an id that is held at first and not at last was given back on the way
-history_gives_back : (calls : List IdCall) (first last : IdState) (id : ℕ) → IsIdState first → IsIdHistoryFrom first calls last → IsHeld first id → ¬ IsHeld last id → Contains calls (Release id (Ok id))
-history_gives_back [] first last id s e held gone = absurd (gone (same_held first last id e ∙ held))
-history_gives_back (call ∷ calls) first last id s history held gone =
+history_frees : (calls : List IdCall) (first last : IdState) (id : ℕ) → IsIdState first → IsIdHistoryFrom first calls last → IsHeld first id → ¬ IsHeld last id → Contains calls (Release id (Ok id))
+history_frees [] first last id s e held gone = absurd (gone (same_held first last id e ∙ held))
+history_frees (call ∷ calls) first last id s history held gone =
     ⊎_elim
     (λ (still : IsHeld history.0 id).
-    Contains-append_right (call ∷ []) calls _ (history_gives_back calls history.0 last id (call_state call first history.0 s history.1) history.2 still gone))
+    Contains-append_right (call ∷ []) calls _ (history_frees calls history.0 last id (call_state call first history.0 s history.1) history.2 still gone))
     (λ (not_now : set.contains history.0.held id ≡ false).
-    (0, omega arith, call_gives_back call first history.0 id s history.1 held (both_ways _ not_now)))
+    (0, omega arith, call_frees call first history.0 id s history.1 held (both_ways _ not_now)))
     (cases_Bool (set.contains history.0.held id))
 
 -- a history of two parts has a state between them
@@ -173,7 +173,7 @@ state_between (x ∷ xs) ys first last history =
 given_twice : (between : List IdCall) (old state : IdState) (id : ℕ) → IsIdState old → IsIdHistoryFrom old (Allocation (Ok id) ∷ (between ++ Allocation (Ok id) ∷ [])) state → Contains between (Release id (Ok id))
 given_twice between old state id s history =
     let cut = state_between between (Allocation (Ok id) ∷ []) history.0 state history.2 in
-    history_gives_back between history.0 cut.0 id (id_states_are_kept.allocated old history.0 (Ok id) s history.1) cut.1 (given_is_held old history.0 id s history.1) (least_is_not_held cut.0 id (given_is_least cut.0 cut.2.0 id cut.2.1))
+    history_frees between history.0 cut.0 id (id_states_are_preserved.allocated old history.0 (Ok id) s history.1) cut.1 (given_is_held old history.0 id s history.1) (lowest_is_not_held cut.0 id (allocated_is_lowest cut.0 cut.2.0 id cut.2.1))
 
 pub no_id_is_held_twice : NoIdIsHeldTwice
 unfolding NoIdIsHeldTwice
@@ -181,4 +181,4 @@ no_id_is_held_twice before between state id r =
     let cut = state_between before (Allocation (Ok id) ∷ (between ++ Allocation (Ok id) ∷ [])) r.first state r.history in
     given_twice between cut.0 state id (history_state before r.first cut.0 (first_state r.first r.begins) cut.1) cut.2
 
-pub ruleset least_ids = (each_is_least, no_id_is_held_twice)
+pub ruleset lowest_ids = (each_is_lowest, no_id_is_held_twice)

@@ -3,13 +3,13 @@ use Rattle.std.proofs.Common.{◌≡◌, ◌≢◌, ℕ, ◌+◌, ◌<◌, ◌�
 use Rattle.std.proofs.lemmas.Bool.{cases_eq, cases_Bool, both_ways}
 use Rattle.std.proofs.lemmas.List.Elements.{All-nil, All-cons}
 use Rattle.std.specs.FinSet as set
-use Rattle.vm_allocator.specs.Ids.{MAX_ID, IdState, IsOfRange, IsHandedOut, IsHeld, IsNotHeld, IsLeastNotHeld, AreAllHeld, fresh_ids, holding_id, releasing_id, MakesIds, ByLeastNotHeld, AllocatesId, PeeksId, FreesId}
+use Rattle.vm_allocator.specs.Ids.{MAX_ID, IdState, IsOfRange, WasEverAllocated, IsHeld, IsNotHeld, IsLowestNotHeld, AreAllHeld, new_ids, holding_id, releasing_id, MakesIds, ByLowestNotHeld, AllocatesId, PeeksId, FreesId}
 use Rattle.vm_ranges.specs.Cloning.{Clones}
 use Rattle.vm_allocator.specs.Histories.IdHistories.{Allocation, Release, Cloning, IdAsked, Allocate, Free, Clone, RunsOutOfMemory}
 use Rattle.vm_allocator.specs.Laws.IdHistoryLaws.{EveryIdCallIsAnswered, EveryIdListHasHistory}
 use Rattle.vm_ranges.specs.declared.error.Error.{Error}
 use Rattle.vm_ranges.specs.declared.error.Error.TheVariants.{OutOfMemory, Overflow, ResourceNotAvailable, InvalidRange, OutOfRange, NeverAllocated, AlreadyReleased}
-use Rattle.vm_ranges.proofs.Decisions.{Decided, decided_both, decided_below, decided_up_to, least_or_none}
+use Rattle.vm_ranges.proofs.Decisions.{Decided, decided_both, decided_below, decided_up_to, lowest_or_none}
 
 -- ---- what is decided of an id
 decided_held : (state : IdState) (i : ℕ) → Decided (IsHeld state i)
@@ -24,19 +24,19 @@ decided_not_held state i =
     decided_both _ _ (decided_of_range state i) (⊎_elim (λ (h : IsHeld state i). inr (λ n. n h)) (λ (n : IsHeld state i → ⊥). inl n) (decided_held state i))
 
 -- an id is the least that is not held, or all are held
-least_or_all : (state : IdState) → ((i : ℕ) × IsLeastNotHeld state i) ⊎ AreAllHeld state
-unfolding IsLeastNotHeld AreAllHeld
-least_or_all state =
+lowest_or_all : (state : IdState) → ((i : ℕ) × IsLowestNotHeld state i) ⊎ AreAllHeld state
+unfolding IsLowestNotHeld AreAllHeld
+lowest_or_all state =
     ⊎_elim
     (λ none. inr (λ i r. ⊎_elim (λ (h : IsHeld state i). h) (λ (n : IsHeld state i → ⊥). absurd (none i (omega (arith, r.1)) (r, n))) (decided_held state i)))
     (λ found. inl (found.0, (found.1, found.2)))
-    (least_or_none (IsNotHeld state) (decided_not_held state) (state.hi + 1))
+    (lowest_or_none (IsNotHeld state) (decided_not_held state) (state.hi + 1))
 
 -- ---- each call is answered
 -- the answer that a request gets: an id or an error
-by_least : (state : IdState) → ((i : ℕ) × IsLeastNotHeld state i) ⊎ ((e : Error) × ((takes : ℕ → Type 0) (refused : Error → Type 0) → refused e → ByLeastNotHeld state takes refused))
-unfolding ByLeastNotHeld
-by_least state =
+by_lowest : (state : IdState) → ((i : ℕ) × IsLowestNotHeld state i) ⊎ ((e : Error) × ((takes : ℕ → Type 0) (refused : Error → Type 0) → refused e → ByLowestNotHeld state takes refused))
+unfolding ByLowestNotHeld
+by_lowest state =
     ⊎_elim
     (λ found. inl found)
     (λ (all : AreAllHeld state).
@@ -44,25 +44,25 @@ by_least state =
     (λ (last : state.hi ≡ MAX_ID). inr (Overflow, λ takes refused r. inr (all, inl (last, r))))
     (λ (not_last : state.hi ≡ MAX_ID → ⊥). inr (ResourceNotAvailable, λ takes refused r. inr (all, inr (not_last, r))))
     (cases_eq state.hi MAX_ID))
-    (least_or_all state)
+    (lowest_or_all state)
 
 total_allocates : (old : IdState) → (answer : Result ℕ Error) × (new : IdState) × AllocatesId old answer new
-unfolding AllocatesId ByLeastNotHeld
+unfolding AllocatesId ByLowestNotHeld
 total_allocates old =
     ⊎_elim
     (λ found. (Ok found.0, holding_id found.0 old, inl (found.0, found.1, (refl, refl))))
     (λ refusal.
     let answer : Result ℕ Error = Err refusal.0 in
     (answer, old, refusal.1 (λ i. (answer ≡ Ok i) × (old ≡ holding_id i old)) (λ e. (answer ≡ Err e) × (old ≡ old)) (refl, refl)))
-    (by_least old)
+    (by_lowest old)
 
 total_peeks : (state : IdState) → (answer : Result ℕ Error) × PeeksId state answer
-unfolding PeeksId ByLeastNotHeld
+unfolding PeeksId ByLowestNotHeld
 total_peeks state =
     ⊎_elim
     (λ found. (Ok found.0, inl (found.0, found.1, refl)))
     (λ refusal. let answer : Result ℕ Error = Err refusal.0 in (answer, refusal.1 (λ i. answer ≡ Ok i) (λ e. answer ≡ Err e) refl))
-    (by_least state)
+    (by_lowest state)
 
 total_frees : (old : IdState) (id : ℕ) → (answer : Result ℕ Error) × (new : IdState) × FreesId old id answer new × (answer ≢ Err OutOfMemory)
 unfolding FreesId
@@ -70,12 +70,12 @@ total_frees old id =
     ⊎_elim
     (λ (range : IsOfRange old id).
     ⊎_elim
-    (λ (out : IsHandedOut old id).
+    (λ (out : WasEverAllocated old id).
     ⊎_elim
     (λ (held : IsHeld old id). (Ok id, releasing_id id old, inr (range, inr (out, inr (held, inl (refl, refl)))), λ h. absurd (cc h)))
     (λ (not_held : IsHeld old id → ⊥). (Err (AlreadyReleased id), old, inr (range, inr (out, inl (not_held, (refl, refl)))), λ h. absurd (cc h)))
     (decided_held old id))
-    (λ (never : IsHandedOut old id → ⊥). (Err (NeverAllocated id), old, inr (range, inl (never, (refl, refl))), λ h. absurd (cc h)))
+    (λ (never : WasEverAllocated old id → ⊥). (Err (NeverAllocated id), old, inr (range, inl (never, (refl, refl))), λ h. absurd (cc h)))
     (decided_both _ _ (decided_up_to old.lo id) (decided_below id old.bound)))
     (λ (outside : IsOfRange old id → ⊥). (Err (OutOfRange id), old, inl (outside, (refl, refl)), λ h. absurd (cc h)))
     (decided_of_range old id)
@@ -85,7 +85,7 @@ unfolding MakesIds
 total_makes lo hi =
     ⊎_elim
     (λ (no_range : hi < lo). (Err (InvalidRange lo hi), inl (no_range, refl)))
-    (λ (range : hi < lo → ⊥). (Ok (fresh_ids lo hi), inr (range, refl)))
+    (λ (range : hi < lo → ⊥). (Ok (new_ids lo hi), inr (range, refl)))
     (decided_below hi lo)
 
 total_clones : (old : IdState) → (answer : Result IdState Error) × Clones old answer × (answer ≢ Err OutOfMemory)

@@ -13,7 +13,7 @@ use Rattle.std.specs.BTreeSet.{BTreeSet, btree_set_len, IsOrdered}
 use Rattle.std.specs.FinSet as set
 use Rattle.vm_ranges.proofs.NumberSets.{tied_here, tied_is, apart_not_tied, same_members, removed_other}
 use Rattle.vm_allocator.specs.Ids.{IdState, IsHeld, held_count, bound_of, held_of, ids_of, AreIds}
-use Rattle.vm_allocator.specs.Laws.IdLaws.{IdCountTellsAll}
+use Rattle.vm_allocator.specs.Laws.IdLaws.{IdCountFindsAll}
 use Rattle.vm_ranges.proofs.Listed.{Differ, listed_is, each_listed}
 use Rattle.vm_allocator.proofs.Ids.IdSets.{in_row, bound_above}
 
@@ -99,17 +99,17 @@ len-but_for s (i ∷ is) d h =
     omega (arith, len-but_for s is d.1 (λ j m. h j (or_right _ _ m)), one_less (but_for s is) i here, ap set.len (but_for_more s i is))
 
 -- ---- of an allocator
-pub handed_out_above : (lo hi : ℕ) (next : Option ℕ) (freed : BTreeSet ℕ) → AreIds lo hi next freed → lo ≤ bound_of next hi
-handed_out_above lo hi next freed a = bound_above lo hi next a.range a.next_id
+pub allocated_above : (lo hi : ℕ) (next : Option ℕ) (freed : BTreeSet ℕ) → AreIds lo hi next freed → lo ≤ bound_of next hi
+allocated_above lo hi next freed a = bound_above lo hi next a.range a.next_id
 
 held_and_freed : (lo hi : ℕ) (next : Option ℕ) (freed : BTreeSet ℕ) → AreIds lo hi next freed → IsOrdered nat_cmp freed → held_count (ids_of lo hi next freed) + btree_set_len freed ≡ bound_of next hi - lo
 unfolding ids_of held_of
 held_and_freed lo hi next freed a o =
     let n = bound_of next hi - lo in
-    let row = set.from_list {R = nat_cmp} (range_with_len lo n) in
-    let whole : set.len row ≡ n = len-differing (range_with_len lo n) (row_differs n lo) ∙ length-range_with_len lo n in
-    let parts : set.len (but_for row freed.keys) + length freed.keys ≡ set.len row =
-    len-but_for row freed.keys (IsDistinct-from_sorted nat_cmp freed.keys o) (λ i m.
+    let cursor = set.from_list {R = nat_cmp} (range_with_len lo n) in
+    let whole : set.len cursor ≡ n = len-differing (range_with_len lo n) (row_differs n lo) ∙ length-range_with_len lo n in
+    let parts : set.len (but_for cursor freed.keys) + length freed.keys ≡ set.len cursor =
+    len-but_for cursor freed.keys (IsDistinct-from_sorted nat_cmp freed.keys o) (λ i m.
     let was = a.freed_ids i m in
     set.contains-from_list nat_cmp_total (range_with_len lo n) i ∙ in_row lo n i was.0 (omega (arith, was.1))) in
     parts ∙ whole
@@ -121,7 +121,7 @@ pub counted : (state : IdState) (lo hi : ℕ) (next : Option ℕ) (freed : BTree
 counted state lo hi next freed e a o =
     subst (λ (s : IdState). held_count s + btree_set_len freed ≡ bound_of next hi - lo) e (held_and_freed lo hi next freed a o)
 
-pub ruleset counts = (handed_out_above, freed_fit, counted)
+pub ruleset counts = (allocated_above, freed_fit, counted)
 
 -- ---- a list of held ids
 tells_apart : (i j : ℕ) → Decides (same i j) (i ≡ j)
@@ -146,7 +146,7 @@ as_many s is d a each =
     (λ q h. set.contains-from_list nat_cmp_total is q ∙ (is_member-Decides tells_apart is q).1 (each q h)) in
     sym (len-differing is (IsDistinct-from_AllPairs tells_apart is d)) ∙ ap set.len is_set
 
-pub ids_listed : IdCountTellsAll
+pub ids_listed : IdCountFindsAll
 ids_listed state list d a = (
   λ e i. each_listed tells_apart (IsHeld state) (held_count state) (λ is f h. few_in is state.held (IsDistinct-from_AllPairs tells_apart is f) h) list i d a e,
   as_many state.held list d a,

@@ -7,13 +7,13 @@ use Rattle.std.specs.FinSet as set
 use Rattle.std.specs.List.{AllZip}
 use Rattle.std.proofs.lemmas.List.Elements.{same_from_all_zip}
 use Rattle.vm_ranges.proofs.NumberSets.{same_members}
-use Rattle.vm_allocator.specs.Ids.{IdState, IsHandedOut, IsHeld, fresh_ids, MakesIds, bound_of, held_of, ids_of, AreIds, IsIdState}
+use Rattle.vm_allocator.specs.Ids.{IdState, WasEverAllocated, IsHeld, new_ids, MakesIds, bound_of, held_of, ids_of, AreIds, IsIdState}
 use Rattle.vm_ranges.specs.declared.error.Error.TheVariants.{InvalidRange}
 use Rattle.vm_allocator.proofs.Ids.IdSets.{from_held, from_holds, holds_of, bound_fits, bound_above}
 
 -- Making.
 
-pub fresh : (lo hi : ℕ) (freed : BTreeSet ℕ) → IsEmpty freed → ids_of lo hi (Some lo) freed ≡ fresh_ids lo hi
+pub fresh : (lo hi : ℕ) (freed : BTreeSet ℕ) → IsEmpty freed → ids_of lo hi (Some lo) freed ≡ new_ids lo hi
 unfolding ids_of
 fresh lo hi freed e =
     let none : held_of lo lo freed ≡ set.empty = same_members _ _ (λ q h. let p = from_held lo lo q freed h in absurd (omega (arith, p.0, p.1))) (λ q h. absurd (both_ways _ (set.contains-empty nat_cmp q) h)) in
@@ -45,9 +45,9 @@ is_state state lo hi next freed e h = subst IsIdState e (is_state_of lo hi next 
 
 pub ruleset states = (is_state)
 
-pub holds : (state : IdState) (lo hi i : ℕ) (next : Option ℕ) (freed : BTreeSet ℕ) → ids_of lo hi next freed ≡ state → IsHandedOut state i → contains nat_cmp freed i ≡ false → IsHeld state i
+pub holds : (state : IdState) (lo hi i : ℕ) (next : Option ℕ) (freed : BTreeSet ℕ) → ids_of lo hi next freed ≡ state → WasEverAllocated state i → contains nat_cmp freed i ≡ false → IsHeld state i
 holds state lo hi i next freed e =
-    subst (λ (s : IdState). IsHandedOut s i → contains nat_cmp freed i ≡ false → IsHeld s i) e (holds_of lo hi i next freed)
+    subst (λ (s : IdState). WasEverAllocated s i → contains nat_cmp freed i ≡ false → IsHeld s i) e (holds_of lo hi i next freed)
 
 pub holds_not : (state : IdState) (lo hi i : ℕ) (next : Option ℕ) (freed : BTreeSet ℕ) → ids_of lo hi next freed ≡ state → IsTrue (contains nat_cmp freed i) → IsHeld state i → ⊥
 holds_not state lo hi i next freed e t h =

@@ -7,7 +7,7 @@ use Rattle.std.specs.Cmp.{nat_cmp_total}
 use Rattle.std.specs.BTreeSet.{BTreeSet, contains}
 use Rattle.std.specs.FinSet as set
 use Rattle.vm_ranges.proofs.NumberSets.{tied_here, tied_is}
-use Rattle.vm_allocator.specs.Ids.{IsHandedOut, IsHeld, bound_of, held_of, ids_of, IsNext}
+use Rattle.vm_allocator.specs.Ids.{WasEverAllocated, IsHeld, bound_of, held_of, ids_of, IsNext}
 
 -- The numbers of a row.
 
@@ -33,9 +33,9 @@ pub from_held : (lo bound i : ℕ) (freed : BTreeSet ℕ) → IsTrue (set.contai
 unfolding held_of
 from_held lo bound i freed h =
     let parts = and_parts _ _ (sym (set.contains-difference nat_cmp_total _ _ i) ∙ h) in
-    let row = from_row lo (bound - lo) i (sym (set.contains-from_list nat_cmp_total _ i) ∙ parts.0) in (
-      row.0,
-      omega (arith, row.0, row.1),
+    let cursor = from_row lo (bound - lo) i (sym (set.contains-from_list nat_cmp_total _ i) ∙ parts.0) in (
+      cursor.0,
+      omega (arith, cursor.0, cursor.1),
       sym (set.contains-from_list nat_cmp_total freed.keys i) ∙ not-true _ parts.1,
     )
 
@@ -47,7 +47,7 @@ pub from_holds : (lo hi i : ℕ) (next : Option ℕ) (freed : BTreeSet ℕ) → 
 unfolding ids_of
 from_holds lo hi i next freed = from_held lo (bound_of next hi) i freed
 
-pub holds_of : (lo hi i : ℕ) (next : Option ℕ) (freed : BTreeSet ℕ) → IsHandedOut (ids_of lo hi next freed) i → contains nat_cmp freed i ≡ false → IsHeld (ids_of lo hi next freed) i
+pub holds_of : (lo hi i : ℕ) (next : Option ℕ) (freed : BTreeSet ℕ) → WasEverAllocated (ids_of lo hi next freed) i → contains nat_cmp freed i ≡ false → IsHeld (ids_of lo hi next freed) i
 unfolding ids_of
 holds_of lo hi i next freed h = held_from lo (bound_of next hi) i freed h.0 h.1
 

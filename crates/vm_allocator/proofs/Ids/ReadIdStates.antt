@@ -14,8 +14,8 @@ use Rattle.serde_json.specs.Data.{Data}
 use Rattle.vm_ranges.proofs.FieldSteps.{field_is}
 use Rattle.vm_ranges.proofs.NumberSets.{same_members, tied_is}
 use Rattle.vm_allocator.specs.Ids.{IdState, IsIdState, AreIds, bound_of, ids_of}
-use Rattle.vm_allocator.specs.Values.IdValues.{IdFields, HasIdFields, AreIdFields, AreIdsOf, StatesNext, StatesList, StatesIds}
-use Rattle.vm_allocator.specs.Checks.IdChecks.{IdParts, rising, ids_found}
+use Rattle.vm_allocator.specs.Values.IdValues.{IdFields, HasIdFields, AreIdFields, AreIdsOf, EncodesNext, EncodesList, EncodesIds}
+use Rattle.vm_allocator.specs.Checks.IdChecks.{IdParts, increasing, decoded_ids}
 use Rattle.vm_allocator.proofs.Ids.IdSets.{holds_from, from_holds}
 use Rattle.vm_allocator.proofs.Ids.IdFields.{is_state}
 use Rattle.vm_allocator.proofs.Ids.ReadIds.{Found, fields_of, checks, passes, one_fields}
@@ -51,18 +51,18 @@ are_ids lo hi next freed s = record {
   range = s.range;
   ids = s.ids;
   next_id = s.next_id;
-  freed_ids = λ i h. let c = is_among freed i h in all_of freed.keys i s.handed_out c;
+  freed_ids = λ i h. let c = is_among freed i h in all_of freed.keys i s.ever_allocated c;
 } where
   all_of : (ns : List ℕ) (i : ℕ) → All (λ n. (lo ≤ n) × (n < bound_of next hi)) ns → Contains ns i → (lo ≤ i) × (i < bound_of next hi)
   all_of ns i a c = subst (λ (x : ℕ). (lo ≤ x) × (x < bound_of next hi)) c.2 (a c.0 i c.1)
 
-sensible : (lo hi : ℕ) (next : Option ℕ) (freed : BTreeSet ℕ) → AreIds lo hi next freed → IsStrictlySortedBy nat_cmp freed.keys → AreIdFields (fields_of lo next hi freed.keys)
-sensible lo hi next freed i s = record {
+valid : (lo hi : ℕ) (next : Option ℕ) (freed : BTreeSet ℕ) → AreIds lo hi next freed → IsStrictlySortedBy nat_cmp freed.keys → AreIdFields (fields_of lo next hi freed.keys)
+valid lo hi next freed i s = record {
   range = i.range;
   ids = i.ids;
   next_id = i.next_id;
-  rising = s;
-  handed_out = λ k d l. i.freed_ids _ (among freed _ (k, l, same freed.keys k d l));
+  increasing = s;
+  ever_allocated = λ k d l. i.freed_ids _ (among freed _ (k, l, same freed.keys k d l));
 } where
   same : (ns : List ℕ) (k d : ℕ) → k < length ns → slice_index_or ns k (slice_index_or ns k d) ≡ slice_index_or ns k d
   same [] k d l = absurd (omega arith)
@@ -82,56 +82,56 @@ one_state f a b p q =
 
 -- What the code's clauses say.
 
-pub none_stated : (d : Data) → ids_found d ≡ None → ((state : IdState) × StatesIds d state) → ⊥
-none_stated d e p = true≢false (sym (passes d p.1.fields p.1.written p.1.sensible) ∙ ap is_some e)
+pub none_encoded : (d : Data) → decoded_ids d ≡ None → ((state : IdState) × EncodesIds d state) → ⊥
+none_encoded d e p = true≢false (sym (passes d p.1.fields p.1.written p.1.valid) ∙ ap is_some e)
 
-pub built_ids : (d : Data) (p : Found) (freed : BTreeSet ℕ) → ids_found d ≡ Some p → rising p.0 (bound_of p.1 p.2) p.3 ≡ Some freed.keys → AreIds p.0 p.2 p.1 freed
+pub built_ids : (d : Data) (p : Found) (freed : BTreeSet ℕ) → decoded_ids d ≡ Some p → increasing p.0 (bound_of p.1 p.2) p.3 ≡ Some freed.keys → AreIds p.0 p.2 p.1 freed
 built_ids d p freed e r =
     let c = checks d p e in
-    let same : c.freed ≡ freed.keys = same_Some c.freed freed.keys (sym c.rises ∙ r) in
-    are_ids p.0 p.2 p.1 freed (subst (λ (ns : List ℕ). AreIdFields (fields_of p.0 p.1 p.2 ns)) same c.sensible)
+    let same : c.freed ≡ freed.keys = same_Some c.freed freed.keys (sym c.increases ∙ r) in
+    are_ids p.0 p.2 p.1 freed (subst (λ (ns : List ℕ). AreIdFields (fields_of p.0 p.1 p.2 ns)) same c.valid)
 
-pub built_states : (d : Data) (p : Found) (freed : BTreeSet ℕ) → ids_found d ≡ Some p → rising p.0 (bound_of p.1 p.2) p.3 ≡ Some freed.keys → StatesIds d (ids_of p.0 p.2 p.1 freed)
+pub built_states : (d : Data) (p : Found) (freed : BTreeSet ℕ) → decoded_ids d ≡ Some p → increasing p.0 (bound_of p.1 p.2) p.3 ≡ Some freed.keys → EncodesIds d (ids_of p.0 p.2 p.1 freed)
 built_states d p freed e r =
     let c = checks d p e in
-    let same : c.freed ≡ freed.keys = same_Some c.freed freed.keys (sym c.rises ∙ r) in record {
+    let same : c.freed ≡ freed.keys = same_Some c.freed freed.keys (sym c.increases ∙ r) in record {
       fields = fields_of p.0 p.1 p.2 freed.keys;
       written = subst (λ (ns : List ℕ). HasIdFields d (fields_of p.0 p.1 p.2 ns)) same c.written;
-      sensible = subst (λ (ns : List ℕ). AreIdFields (fields_of p.0 p.1 p.2 ns)) same c.sensible;
+      valid = subst (λ (ns : List ℕ). AreIdFields (fields_of p.0 p.1 p.2 ns)) same c.valid;
       is = state_of_fields p.0 p.2 p.1 freed;
     }
 
-pub some_stated : (d : Data) (p : Found) → ids_found d ≡ Some p → (state : IdState) × StatesIds d state
-some_stated d p e =
+pub some_encoded : (d : Data) (p : Found) → decoded_ids d ≡ Some p → (state : IdState) × EncodesIds d state
+some_encoded d p e =
     let c = checks d p e in
     let freed : BTreeSet ℕ = record { keys = c.freed } in
-    (ids_of p.0 p.2 p.1 freed, built_states d p freed e c.rises)
+    (ids_of p.0 p.2 p.1 freed, built_states d p freed e c.increases)
 
-pub stated_state : (d : Data) (state : IdState) → StatesIds d state → IsIdState state
-stated_state d state s =
+pub encoded_state : (d : Data) (state : IdState) → EncodesIds d state → IsIdState state
+encoded_state d state s =
     let f = s.fields in
     let freed : BTreeSet ℕ = record { keys = f.freed_ids } in
-    let i = are_ids f.range_base f.range_end f.next_id freed s.sensible in
+    let i = are_ids f.range_base f.range_end f.next_id freed s.valid in
     is_state state f.range_base f.range_end f.next_id freed (one_state f (ids_of f.range_base f.range_end f.next_id freed) state (state_of_fields f.range_base f.range_end f.next_id freed) s.is) i
 
-pub states_ids : (d v w : Data) (state : IdState) (lo hi : ℕ) (next : Option ℕ) (freed : BTreeSet ℕ) → ids_of lo hi next freed ≡ state → IdParts d lo v hi w → StatesNext v next → StatesList w freed.keys → AreIds lo hi next freed → IsStrictlySortedBy nat_cmp freed.keys → StatesIds d state
-states_ids d v w state lo hi next freed e p next_stated freed_stated i s = subst (StatesIds d) e (record {
+pub encodes_ids : (d v w : Data) (state : IdState) (lo hi : ℕ) (next : Option ℕ) (freed : BTreeSet ℕ) → ids_of lo hi next freed ≡ state → IdParts d lo v hi w → EncodesNext v next → EncodesList w freed.keys → AreIds lo hi next freed → IsStrictlySortedBy nat_cmp freed.keys → EncodesIds d state
+encodes_ids d v w state lo hi next freed e p next_encoded freed_encoded i s = subst (EncodesIds d) e (record {
   fields = fields_of lo next hi freed.keys;
   written = record {
     four_fields = p.four_fields;
     range_base = p.base_is;
-    next_id = field_is (codes "next_id") d v (λ x. StatesNext x next) p.next_is next_stated;
+    next_id = field_is (codes "next_id") d v (λ x. EncodesNext x next) p.next_is next_encoded;
     range_end = p.end_is;
-    freed_ids = field_is (codes "freed_ids") d w (λ x. StatesList x freed.keys) p.freed_is freed_stated;
+    freed_ids = field_is (codes "freed_ids") d w (λ x. EncodesList x freed.keys) p.freed_is freed_encoded;
   };
-  sensible = sensible lo hi next freed i s;
+  valid = valid lo hi next freed i s;
   is = state_of_fields lo hi next freed;
 })
 
-pub ruleset written = (states_ids)
+pub ruleset written = (encodes_ids)
 
 -- a value states one state of ids at most
-pub one_stated : (d : Data) (a b : IdState) → StatesIds d a → StatesIds d b → a ≡ b
-one_stated d a b p q =
+pub one_encoded : (d : Data) (a b : IdState) → EncodesIds d a → EncodesIds d b → a ≡ b
+one_encoded d a b p q =
     let e = one_fields d p.fields q.fields p.written q.written in
     one_state q.fields a b (subst (λ (f : IdFields). AreIdsOf f a) e p.is) q.is

@@ -8,25 +8,25 @@ use Rattle.vm_ranges.specs.Fields.{field_count}
 use Rattle.vm_ranges.specs.Range.{Range}
 use Rattle.vm_engine.specs.Tree.Shape.{blocks}
 use Rattle.vm_engine.specs.Tree.SpaceTree.{space_of}
-use Rattle.vm_ranges.specs.RangeValues.{StatesRange}
-use Rattle.vm_engine.specs.Values.TreeValues.{StatesSpaceTree}
+use Rattle.vm_ranges.specs.RangeValues.{EncodesRange}
+use Rattle.vm_engine.specs.Values.TreeValues.{EncodesSpaceTree}
 use Rattle.vm_allocator.specs.Allocator.{SpaceInTree}
-use Rattle.vm_allocator.specs.Values.AllocatorValues.{StatesTree, StatesAllocator}
+use Rattle.vm_allocator.specs.Values.AllocatorValues.{EncodesTree, EncodesAllocator}
 use Rattle.vm_allocator.specs.Checks.AllocatorChecks.{AllocatorParts}
 
-pub states_allocator : (d space root : Data) (a : SpaceInTree) → AllocatorParts d space root → StatesRange space a.space → StatesSpaceTree root (space_of (blocks a.tree)) a.tree → space_of (blocks a.tree) ≡ a.space → StatesAllocator d a
-states_allocator d space root a p space_stated root_stated same =
+pub encodes_allocator : (d space root : Data) (a : SpaceInTree) → AllocatorParts d space root → EncodesRange space a.space → EncodesSpaceTree root (space_of (blocks a.tree)) a.tree → space_of (blocks a.tree) ≡ a.space → EncodesAllocator d a
+encodes_allocator d space root a p space_encoded root_encoded same =
     let one = and_then_some field_count (get (codes "interval_tree") d) 1 p.one_field in
     let at = and_then_some (get (codes "root")) (get (codes "interval_tree") d) root p.root_is in
     record {
       two_fields = p.two_fields;
-      address_space = field_is (codes "address_space") d space (λ v. StatesRange v a.space) p.space_is space_stated;
-      interval_tree = field_is (codes "interval_tree") d at.0 (λ v. StatesTree v (λ root. StatesSpaceTree root a.space a.tree)) at.1 (record {
+      address_space = field_is (codes "address_space") d space (λ v. EncodesRange v a.space) p.space_is space_encoded;
+      interval_tree = field_is (codes "interval_tree") d at.0 (λ v. EncodesTree v (λ root. EncodesSpaceTree root a.space a.tree)) at.1 (record {
         one_field = let e : one.0 ≡ at.0 = same_value one.0 at.0 (get (codes "interval_tree") d) one.1 at.1 in subst (λ (v : Data). field_count v ≡ Some 1) e one.2;
-        root = field_is (codes "root") at.0 root (λ v. StatesSpaceTree v a.space a.tree) at.2 (subst (λ (r : Range). StatesSpaceTree root r a.tree) same root_stated);
+        root = field_is (codes "root") at.0 root (λ v. EncodesSpaceTree v a.space a.tree) at.2 (subst (λ (r : Range). EncodesSpaceTree root r a.tree) same root_encoded);
       });
     } where
       same_value : (x y : Data) (o : Option Data) → o ≡ Some x → o ≡ Some y → x ≡ y
       same_value x y o p q = let e = sym p ∙ q in cc
 
-pub ruleset allocators = (states_allocator)
+pub ruleset allocators = (encodes_allocator)

@@ -4,9 +4,9 @@ use Rattle.std.proofs.lemmas.Bool.{le-ltb}
 use Rattle.std.proofs.lemmas.List.{append_assoc, append-nil, length-append}
 use Rattle.vm_ranges.specs.Range.{Range, MAX, IsIn, span, address_count}
 use Rattle.vm_ranges.specs.Alignment.{IsAlignment}
-use Rattle.vm_engine.specs.Address.{AddressState, IsPlace, AreClear, StandInOrder, IsAddressState, with_range}
+use Rattle.vm_engine.specs.Address.{AddressState, IsPlace, AreClear, AreInOrder, IsAddressState, with_range}
 use Rattle.vm_ranges.specs.Request.{Request, request_for, IsRequest, IsStartAligned}
-use Rattle.vm_engine.specs.Answer.{FEWEST_TOO_DEEP, IsChosen, Takes, Allocates}
+use Rattle.vm_engine.specs.Answer.{SPLIT_LIMIT_MIN_HELD, IsChosen, AllocatesAt, Allocates}
 use Rattle.vm_engine.specs.Tree.Blocks.{range_if_held}
 use Rattle.vm_allocator.specs.Checks.RepairChecks.{adding, CanAdd}
 use Rattle.vm_ranges.specs.declared.state.NodeState.{NodeState}
@@ -19,7 +19,7 @@ use Rattle.vm_engine.proofs.Blocks.HeldSets.{held_lies, later_above}
 use Rattle.vm_engine.proofs.Answers.Filling.{otherwise, allocates_chosen}
 
 -- ---- some ranges, and then others
-in_order_below : (xs ys : List Range) (lo hi : ℕ) → StandInOrder lo (xs ++ ys) hi → StandInOrder lo xs hi
+in_order_below : (xs ys : List Range) (lo hi : ℕ) → AreInOrder lo (xs ++ ys) hi → AreInOrder lo xs hi
 in_order_below [] ys lo hi s = tt
 in_order_below (x ∷ xs) ys lo hi s = (s.0, s.1, s.2, s.3, in_order_below xs ys (x.end + 1) hi s.4)
 
@@ -29,8 +29,8 @@ adding_both xs ys state = ap (λ (v : List Range). record state { held = v }) (a
 pub can_below : (xs ys : List Range) (state : AddressState) → CanAdd (xs ++ ys) state → CanAdd xs state
 can_below xs ys state c =
     let same : state.held ++ (xs ++ ys) ≡ (state.held ++ xs) ++ ys = sym (append_assoc state.held xs ys) in
-    let in_order = subst (λ (v : List Range). StandInOrder state.space.start v state.space.end) same c.reached.in_order in
-    let few : length ((state.held ++ xs) ++ ys) ≤ FEWEST_TOO_DEEP = subst (λ (v : List Range). length v ≤ FEWEST_TOO_DEEP) same c.few in
+    let in_order = subst (λ (v : List Range). AreInOrder state.space.start v state.space.end) same c.reached.in_order in
+    let few : length ((state.held ++ xs) ++ ys) ≤ SPLIT_LIMIT_MIN_HELD = subst (λ (v : List Range). length v ≤ SPLIT_LIMIT_MIN_HELD) same c.few in
     record {
       reached = record { space = c.reached.space; in_order = in_order_below (state.held ++ xs) ys state.space.start state.space.end in_order };
       few = omega (arith, length-append (state.held ++ xs) ys);
@@ -39,7 +39,7 @@ can_below xs ys state c =
 pub can_above : (xs ys : List Range) (state : AddressState) → CanAdd (xs ++ ys) state → CanAdd ys (adding xs state)
 can_above xs ys state c = record {
   reached = subst IsAddressState (sym (adding_both xs ys state)) c.reached;
-  few = subst (λ (v : AddressState). length v.held ≤ FEWEST_TOO_DEEP) (sym (adding_both xs ys state)) c.few;
+  few = subst (λ (v : AddressState). length v.held ≤ SPLIT_LIMIT_MIN_HELD) (sym (adding_both xs ys state)) c.few;
 }
 
 -- ---- one range above all others
@@ -48,7 +48,7 @@ last_held [] r = inl refl
 last_held (x ∷ xs) r = inr (last_held xs r)
 
 -- no other range has an address from its start on
-misses : (xs : List Range) (r : Range) (lo hi x : ℕ) → StandInOrder lo (xs ++ r ∷ []) hi → r.start ≤ x → ¬ IsHeldAddress xs x
+misses : (xs : List Range) (r : Range) (lo hi x : ℕ) → AreInOrder lo (xs ++ r ∷ []) hi → r.start ≤ x → ¬ IsHeldAddress xs x
 misses [] r lo hi x s l h = h
 misses (y ∷ ys) r lo hi x s l h =
     ⊎_elim
@@ -57,7 +57,7 @@ misses (y ∷ ys) r lo hi x s l h =
     h
 
 -- so it comes last
-goes_last : (xs : List Range) (r : Range) (lo hi : ℕ) → StandInOrder lo (xs ++ r ∷ []) hi → with_range r xs ≡ xs ++ r ∷ []
+goes_last : (xs : List Range) (r : Range) (lo hi : ℕ) → AreInOrder lo (xs ++ r ∷ []) hi → with_range r xs ≡ xs ++ r ∷ []
 goes_last [] r lo hi s = refl
 goes_last (y ∷ ys) r lo hi s =
     rw (le-ltb r.start y.start (omega (arith, s.1, later_above lo hi y (ys ++ r ∷ []) r s (last_held ys r))))
@@ -74,9 +74,9 @@ module _ (r : Range) (old : AddressState) (can : CanAdd (r ∷ []) old) where
   lies : (old.space.start ≤ r.start) × (r.start ≤ r.end) × (r.end ≤ old.space.end) × (r.end < MAX)
   lies = held_lies old.space.start old.space.end (old.held ++ r ∷ []) r can.reached.in_order (last_held old.held r)
 
-  sensible : IsRequest request
+  valid : IsRequest request
   unfolding IsStartAligned
-  sensible = record { some = omega arith; aligned = one_aligned; start = omega arith }
+  valid = record { some = omega arith; aligned = one_aligned; start = omega arith }
 
   clear : AreClear (address_count r) old r.start
   clear x low high =
@@ -93,8 +93,8 @@ module _ (r : Range) (old : AddressState) (can : CanAdd (r ∷ []) old) where
   is_span = let l = lies in let e : r.start + address_count r - 1 ≡ r.end = omega (arith, l.1) in ap (λ (v : ℕ). record r { end = v }) e
 
   -- the range is held, or memory ran out
-  takes : (new : AddressState) (answer : Result Range Error) → Takes old (span r.start (address_count r)) answer new → ((answer ≡ Ok r) × (new ≡ adding (r ∷ []) old)) ⊎ (answer ≡ Err OutOfMemory)
-  unfolding Takes
+  takes : (new : AddressState) (answer : Result Range Error) → AllocatesAt old (span r.start (address_count r)) answer new → ((answer ≡ Ok r) × (new ≡ adding (r ∷ []) old)) ⊎ (answer ≡ Err OutOfMemory)
+  unfolding AllocatesAt
   takes new answer t =
       ⊎_elim
       (λ g. inl (
@@ -107,7 +107,7 @@ module _ (r : Range) (old : AddressState) (can : CanAdd (r ∷ []) old) where
   pub taken : (new : AddressState) (answer : Result Range Error) → Allocates old request answer new → ((answer ≡ Ok r) × (new ≡ adding (r ∷ []) old)) ⊎ (answer ≡ Err OutOfMemory)
   taken new answer h =
       let l = lies in
-      takes new answer (otherwise _ _ _ (λ m. omega (arith, l.1, l.3)) (allocates_chosen request r.start old new answer sensible (omega (arith, l.1, l.3)) chosen h))
+      takes new answer (otherwise _ _ _ (λ m. omega (arith, l.1, l.3)) (allocates_chosen request r.start old new answer valid (omega (arith, l.1, l.3)) chosen h))
 
 -- ---- what the code's clauses say
 not_free : (s : NodeState) → s ≢ Free → s ≡ Allocated

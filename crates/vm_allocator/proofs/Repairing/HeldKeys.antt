@@ -8,7 +8,7 @@ use Rattle.vm_engine.specs.Address.{AddressState}
 use Rattle.vm_engine.specs.Tree.Block.{Block}
 use Rattle.vm_engine.specs.Tree.Blocks.{range_if_held, held_of}
 use Rattle.vm_engine.specs.Tree.Shape.{Shape, Tip, Fork, blocks, height_of}
-use Rattle.vm_engine.specs.Checks.NodeChecks.{NodeData, node_data}
+use Rattle.vm_engine.specs.Checks.NodeChecks.{NodeData, decoded_node}
 use Rattle.vm_engine.specs.Values.TreeValues.{HasNodes}
 use Rattle.vm_allocator.specs.Checks.RepairChecks.{adding, CanAdd, HasNodesToAdd, CanAddNodes, AddsNodes}
 use Rattle.vm_engine.proofs.Reading.ReadNodes.{no_data, fork_is, none_tip, one_tree}
@@ -36,7 +36,7 @@ pub record ToAdd (depth : ℕ) (d : Data) (old : AddressState) (n : NodeData) : 
   pub nodes : HasNodes d (Fork left n.block right)
   pub can : CanAdd (held_of (blocks left) ++ (own n ++ held_of (blocks right))) old
 
-to_add_of : (depth : ℕ) (d : Data) (old : AddressState) (n : NodeData) (s : Shape) → HasNodesToAdd depth d old s → node_data d ≡ Some n → ToAdd depth d old n
+to_add_of : (depth : ℕ) (d : Data) (old : AddressState) (n : NodeData) (s : Shape) → HasNodesToAdd depth d old s → decoded_node d ≡ Some n → ToAdd depth d old n
 to_add_of depth d old n Tip p e = absurd (no_data d n p.nodes e)
 to_add_of depth d old n (Fork l b r) p e =
     let m = fork_is d l r b p.nodes in
@@ -55,11 +55,11 @@ to_add_of depth d old n (Fork l b r) p e =
     } in
     subst (ToAdd depth d old) (same_Some m.0 n (sym m.1 ∙ e)) found
 
-pub to_add : (depth : ℕ) (d : Data) (old : AddressState) (n : NodeData) → CanAddNodes depth d old → node_data d ≡ Some n → ToAdd depth d old n
+pub to_add : (depth : ℕ) (d : Data) (old : AddressState) (n : NodeData) → CanAddNodes depth d old → decoded_node d ≡ Some n → ToAdd depth d old n
 to_add depth d old n p e = to_add_of depth d old n p.0 p.1 e
 
 -- a value without a node's fields has no keys
-pub none_added : (depth : ℕ) (d : Data) (old : AddressState) → CanAddNodes depth d old → node_data d ≡ None → AddsNodes d old old
+pub none_added : (depth : ℕ) (d : Data) (old : AddressState) → CanAddNodes depth d old → decoded_node d ≡ None → AddsNodes d old old
 none_added depth d old p e =
     let tip : HasNodes d Tip = subst (HasNodes d) (none_tip p.0 d p.1.nodes e) p.1.nodes in
     (Tip, tip, ap (λ (v : List Range). record old { held = v }) (sym (append-nil old.held)))

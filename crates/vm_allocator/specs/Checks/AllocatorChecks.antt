@@ -4,7 +4,7 @@ use Rattle.serde_json.specs.Data.{Data}
 use Rattle.serde_json.specs.Find.{get}
 use Rattle.vm_ranges.specs.Fields.{field_count, is_count}
 use Rattle.vm_ranges.specs.Range.{Range}
-use Rattle.vm_ranges.specs.RangeValues.{range_found}
+use Rattle.vm_ranges.specs.RangeValues.{decoded_range}
 
 -- an allocator's two fields, and no other
 pub record AllocatorParts (d space root : Data) : Type 0 where
@@ -14,14 +14,14 @@ pub record AllocatorParts (d space root : Data) : Type 0 where
   pub root_is : option_and_then (get (codes "root")) (get (codes "interval_tree") d) ≡ Some root
 
 -- the root of a tree's value
-abbrev pub root_found : Data → Option Data
-root_found d = if is_count 1 (field_count d) then get (codes "root") d else None
+abbrev pub decoded_root : Data → Option Data
+decoded_root d = if is_count 1 (field_count d) then get (codes "root") d else None
 
 -- the fields of an allocator's value: the space, and the root of the tree
-abbrev pub parts_found : Data → Option (Range × Data)
-parts_found d =
+abbrev pub decoded_parts : Data → Option (Range × Data)
+decoded_parts d =
     if is_count 2 (field_count d) then
     option_and_then (λ space. option_map (λ root. (space, root))
-    (option_and_then root_found (get (codes "interval_tree") d)))
-    (option_and_then range_found (get (codes "address_space") d))
+    (option_and_then decoded_root (get (codes "interval_tree") d)))
+    (option_and_then decoded_range (get (codes "address_space") d))
     else None

@@ -7,17 +7,17 @@ use Rattle.vm_ranges.specs.Fields.{field_count, is_count}
 use Rattle.vm_ranges.specs.Numbers.{whole_number, number_in, u32_from, u32_in}
 use Rattle.vm_allocator.specs.Ids.{MAX_ID, bound_of}
 
--- the whole numbers of the items, where they rise from `least` on and stay below `bound`
-abbrev pub rising : ℕ → ℕ → Items → Option (List ℕ)
-rising least bound no_items = Some []
-rising least bound (item d ds) =
+-- the whole numbers of the items, where they rise from `lowest` on and stay below `bound`
+abbrev pub increasing : ℕ → ℕ → Items → Option (List ℕ)
+increasing lowest bound no_items = Some []
+increasing lowest bound (item d ds) =
     option_and_then (λ n.
-    if nat_le least n && nat_lt n bound then option_map (λ ns. n ∷ ns) (rising (n + 1) bound ds) else None)
+    if nat_le lowest n && nat_lt n bound then option_map (λ ns. n ∷ ns) (increasing (n + 1) bound ds) else None)
     (whole_number d)
 
 -- the next id that a value states
-abbrev pub next_found : Data → Option (Option ℕ)
-next_found d =
+abbrev pub decoded_next : Data → Option (Option ℕ)
+decoded_next d =
     if is_some (as_null d) then Some None else option_map (λ n. Some n) (option_and_then u32_from (whole_number d))
 
 -- the next id may be that of the range
@@ -26,14 +26,14 @@ is_next None lo hi = hi == MAX_ID
 is_next (Some n) lo hi = nat_le lo n && nat_le n (hi + 1)
 
 -- the range, the next id and the items of the ids given back
-abbrev pub ids_found : Data → Option (ℕ × Option ℕ × ℕ × Items)
-ids_found d =
+abbrev pub decoded_ids : Data → Option (ℕ × Option ℕ × ℕ × Items)
+decoded_ids d =
     if is_count 4 (field_count d) then
     option_and_then (λ lo. option_and_then (λ hi. option_and_then (λ next. option_and_then (λ freed.
-    if nat_le lo hi && (is_next next lo hi && is_some (rising lo (bound_of next hi) freed))
+    if nat_le lo hi && (is_next next lo hi && is_some (increasing lo (bound_of next hi) freed))
     then Some (lo, next, hi, freed) else None)
     (option_and_then as_array (get (codes "freed_ids") d)))
-    (option_and_then next_found (get (codes "next_id") d)))
+    (option_and_then decoded_next (get (codes "next_id") d)))
     (u32_in (codes "range_end") d))
     (u32_in (codes "range_base") d)
     else None

@@ -8,8 +8,8 @@ use Rattle.vm_engine.specs.Address.{AddressState}
 use Rattle.vm_ranges.specs.Request.{Request}
 use Rattle.vm_engine.specs.Answer.{Allocates, Frees, Makes}
 use Rattle.vm_ranges.specs.Cloning.{Clones}
-use Rattle.vm_allocator.specs.Values.AllocatorValues.{StatesAddresses}
-use Rattle.vm_allocator.specs.Values.RepairedValues.{StatesRepaired}
+use Rattle.vm_allocator.specs.Values.AllocatorValues.{EncodesAddresses}
+use Rattle.vm_allocator.specs.Values.RepairedValues.{EncodesRepaired}
 use Rattle.vm_ranges.specs.declared.error.Error.{Error}
 use Rattle.vm_ranges.specs.declared.error.Error.TheVariants.{OutOfMemory}
 
@@ -58,7 +58,7 @@ pub record IsMade (state : AddressState) : Type 0 where
 -- the state that a saved value states, read with repairs or without, and so that of the allocator read from it
 pub record IsRead (state : AddressState) : Type 0 where
   pub value : Data
-  pub stated : StatesAddresses value state ⊎ StatesRepaired value state
+  pub encoded : EncodesAddresses value state ⊎ EncodesRepaired value state
 
 -- a history begins with an allocator that is new, or was read
 abbrev pub Begins : AddressState → Type 0
@@ -77,14 +77,14 @@ pub record Reached : Type 0 where
   pub reached : IsReached calls state
 
 -- some call gave the range, for as many addresses as it has, at a multiple of the alignment asked for
-pub record WasGiven (calls : List Call) (r : Range) : Type 0 where
+pub record WasAllocated (calls : List Call) (r : Range) : Type 0 where
   pub request : Request
   pub call : Contains calls (Allocation request (Ok r))
   pub aligned : r.start % request.align ≡ 0
   pub long : r ≡ span r.start request.size
 
 -- a value that was read stated the range as held
-pub record WasStated (first : AddressState) (r : Range) : Type 0 where
+pub record WasRead (first : AddressState) (r : Range) : Type 0 where
   pub read : IsRead first
   pub held : Contains first.held r
 

@@ -3,7 +3,7 @@ use Rattle.std.specs.Prelude.{◌≡◌, ℕ, ◌≤◌, ◌⊎◌, Bool, true, 
 use Rattle.std.specs.Result.{result_unwrap_or}
 use Rattle.serde_json.specs.Data.{Data}
 use Rattle.vm_ranges.specs.Cloning.{Clones}
-use Rattle.vm_allocator.specs.Values.IdValues.{StatesIds}
+use Rattle.vm_allocator.specs.Values.IdValues.{EncodesIds}
 use Rattle.vm_allocator.specs.Ids.{MAX_ID, IdState, MakesIds, AllocatesId, FreesId}
 use Rattle.vm_ranges.specs.declared.error.Error.{Error}
 use Rattle.vm_ranges.specs.declared.error.Error.TheVariants.{OutOfMemory}
@@ -53,7 +53,7 @@ pub record AreIdsMade (state : IdState) : Type 0 where
 -- the state of ids that a saved value states, and so that of the allocator read from it
 pub record AreIdsRead (state : IdState) : Type 0 where
   pub value : Data
-  pub stated : StatesIds value state
+  pub encoded : EncodesIds value state
 
 -- the calls lead from an allocator of ids that was made or read to the state, of it or of a clone that one of them made
 pub record AreIdsReached (calls : List IdCall) (state : IdState) : Type 0 where
@@ -70,6 +70,6 @@ is_held_after id before (Release i (Err e)) = before
 is_held_after id before (Cloning answer) = before
 
 -- whether it was given out by one of the calls and not given back since
-abbrev pub is_out_after : ℕ → Bool → List IdCall → Bool
-is_out_after id before [] = before
-is_out_after id before (call ∷ calls) = is_out_after id (is_held_after id before call) calls
+abbrev pub is_allocated_after : ℕ → Bool → List IdCall → Bool
+is_allocated_after id before [] = before
+is_allocated_after id before (call ∷ calls) = is_allocated_after id (is_held_after id before call) calls

@@ -3,18 +3,18 @@ use Rattle.std.specs.Prelude.{◌≡◌, ◌≢◌, ℕ, ◌↔◌, List, [], �
 use Rattle.std.specs.List.{All, Contains}
 use Rattle.std.specs.FinSet as set
 use Rattle.serde_json.specs.Data.{Data}
-use Rattle.vm_allocator.specs.Ids.{IdState, IsHeld, IsLeastNotHeld, IsIdState, MakesIds, AllocatesId, PeeksId, FreesId}
+use Rattle.vm_allocator.specs.Ids.{IdState, IsHeld, IsLowestNotHeld, IsIdState, MakesIds, AllocatesId, PeeksId, FreesId}
 use Rattle.vm_ranges.specs.Cloning.{Clones}
-use Rattle.vm_allocator.specs.Values.IdValues.{StatesIds}
-use Rattle.vm_allocator.specs.Histories.IdHistories.{IdCall, Allocation, Release, Cloning, IdAsked, id_asked_by, RunsOutOfMemory, IsIdHistoryFrom, AreIdsMade, AreIdsReached, is_out_after}
+use Rattle.vm_allocator.specs.Values.IdValues.{EncodesIds}
+use Rattle.vm_allocator.specs.Histories.IdHistories.{IdCall, Allocation, Release, Cloning, IdAsked, id_asked_by, RunsOutOfMemory, IsIdHistoryFrom, AreIdsMade, AreIdsReached, is_allocated_after}
 use Rattle.vm_ranges.specs.declared.error.Error.{Error}
 use Rattle.vm_ranges.specs.declared.error.Error.TheVariants.{OutOfMemory}
 
 -- each id given is the least that is not held, and is held from then on
-unfoldable pub EachIsLeastNotHeld : Type 0
-EachIsLeastNotHeld =
+unfoldable pub EachIsLowestNotHeld : Type 0
+EachIsLowestNotHeld =
     (calls : List IdCall) (old new : IdState) (id : ℕ) → AreIdsReached calls old →
-    AllocatesId old (Ok id) new → IsLeastNotHeld old id × IsHeld new id
+    AllocatesId old (Ok id) new → IsLowestNotHeld old id × IsHeld new id
 
 -- an id that is given twice was given back between
 unfoldable pub NoIdIsHeldTwice : Type 0
@@ -25,11 +25,11 @@ NoIdIsHeldTwice =
 
 -- an id is held exactly if it was held at first or given out, and not given back since; in a new allocator none is held
 -- at first
-pub record HeldIsOut : Type 0 where
+pub record HeldIsAllocated : Type 0 where
   pub reached : (calls : List IdCall) (state : IdState) (id : ℕ) (reached : AreIdsReached calls state) →
-      IsHeld state id ↔ IsTrue (is_out_after id (set.contains reached.first.held id) calls)
+      IsHeld state id ↔ IsTrue (is_allocated_after id (set.contains reached.first.held id) calls)
   pub made : (calls : List IdCall) (first state : IdState) (id : ℕ) → AreIdsMade first →
-      IsIdHistoryFrom first calls state → IsHeld state id ↔ IsTrue (is_out_after id false calls)
+      IsIdHistoryFrom first calls state → IsHeld state id ↔ IsTrue (is_allocated_after id false calls)
 
 -- in each state the ids handed out are the first of the range, and the held ones are among them
 unfoldable pub StatesAreOfIds : Type 0
@@ -59,4 +59,4 @@ IdCloneIsReached =
 
 -- the state of an allocator of ids that was read is reached, by no call
 abbrev pub IdReadIsReached : Type 0
-IdReadIsReached = (value : Data) (state : IdState) → StatesIds value state → AreIdsReached [] state
+IdReadIsReached = (value : Data) (state : IdState) → EncodesIds value state → AreIdsReached [] state

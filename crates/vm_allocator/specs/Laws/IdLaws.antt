@@ -1,7 +1,7 @@
 -- Laws of ids, which follow from the definitions alone.
 use Rattle.std.specs.Prelude.{◌≡◌, ◌≢◌, ℕ, ◌≤◌, ◌⊎◌, ◌↔◌, List, length, Result, Ok, Err}
 use Rattle.std.specs.List.{All, AllPairs, Contains}
-use Rattle.vm_allocator.specs.Ids.{MAX_ID, IdState, IsHandedOut, IsHeld, held_count, IsIdState, holding_id, MakesIds, AllocatesId, PeeksId, FreesId}
+use Rattle.vm_allocator.specs.Ids.{MAX_ID, IdState, WasEverAllocated, IsHeld, held_count, IsIdState, holding_id, MakesIds, AllocatesId, PeeksId, FreesId}
 use Rattle.vm_ranges.specs.declared.error.Error.{Error}
 use Rattle.vm_ranges.specs.declared.error.Error.TheVariants.{OutOfMemory}
 
@@ -17,7 +17,7 @@ AllocatingIsDetermined =
     AllocatesId old answer new → AllocatesId old other later → (answer ≡ other) × (new ≡ later)
 
 -- what peeking answers is what a request gets, and an id that it answers is held from then on
-pub record PeekingForetells : Type 0 where
+pub record PeekingPredicts : Type 0 where
   pub answer : (old new : IdState) (peeked answer : Result ℕ Error) →
       PeeksId old peeked → AllocatesId old answer new → peeked ≡ answer
   pub held : (old new : IdState) (id : ℕ) (answer : Result ℕ Error) →
@@ -31,7 +31,7 @@ FreeingIsDetermined =
     FreesId old id answer new → FreesId old id other later → (answer ≡ other) × (new ≡ later)
 
 -- a new allocator has the state of one, and each call keeps that
-pub record IdStateIsKept : Type 0 where
+pub record IdStateIsPreserved : Type 0 where
   pub made : (lo hi : ℕ) (state : IdState) → hi ≤ MAX_ID → MakesIds lo hi (Ok state) → IsIdState state
   pub allocated : (old new : IdState) (answer : Result ℕ Error) →
       IsIdState old → AllocatesId old answer new → IsIdState new
@@ -41,13 +41,13 @@ pub record IdStateIsKept : Type 0 where
 -- the id is handed out and held in the new state, and nothing else changes
 pub record AddsId (old new : IdState) (id : ℕ) : Type 0 where
   pub range : (new.lo ≡ old.lo) × (new.hi ≡ old.hi)
-  pub handed_out : (q : ℕ) → IsHandedOut new q ↔ (IsHandedOut old q ⊎ (q ≡ id))
+  pub ever_allocated : (q : ℕ) → WasEverAllocated new q ↔ (WasEverAllocated old q ⊎ (q ≡ id))
   pub held : (q : ℕ) → IsHeld new q ↔ (IsHeld old q ⊎ (q ≡ id))
 
 -- the id is held no more in the new state, and nothing else changes
-pub record DropsId (old new : IdState) (id : ℕ) : Type 0 where
+pub record RemovesId (old new : IdState) (id : ℕ) : Type 0 where
   pub range : (new.lo ≡ old.lo) × (new.hi ≡ old.hi)
-  pub handed_out : (q : ℕ) → IsHandedOut new q ↔ IsHandedOut old q
+  pub ever_allocated : (q : ℕ) → WasEverAllocated new q ↔ WasEverAllocated old q
   pub held : (q : ℕ) → IsHeld new q ↔ (IsHeld old q × (q ≢ id))
 
 -- a request that gets an id adds it
@@ -55,11 +55,11 @@ abbrev pub AllocatingAdds : Type 0
 AllocatingAdds = (old new : IdState) (id : ℕ) → IsIdState old → AllocatesId old (Ok id) new → AddsId old new id
 
 -- an id given back is taken away
-abbrev pub FreeingDrops : Type 0
-FreeingDrops = (old new : IdState) (id back : ℕ) → FreesId old id (Ok back) new → DropsId old new id
+abbrev pub FreeingRemoves : Type 0
+FreeingRemoves = (old new : IdState) (id back : ℕ) → FreesId old id (Ok back) new → RemovesId old new id
 
 -- a list of held ids, no two the same, has as many as are held exactly if each held id is in it
-abbrev pub IdCountTellsAll : Type 0
-IdCountTellsAll =
+abbrev pub IdCountFindsAll : Type 0
+IdCountFindsAll =
     (state : IdState) (list : List ℕ) → AllPairs (λ i j. i ≢ j) list → All (IsHeld state) list →
     (length list ≡ held_count state) ↔ ((i : ℕ) → IsHeld state i → Contains list i)

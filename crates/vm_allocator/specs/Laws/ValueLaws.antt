@@ -4,16 +4,16 @@ use Rattle.serde_json.specs.Data.{Data}
 use Rattle.serde_json.specs.View.{view}
 use Rattle.serde_json.specs.declared.value.Value.{Value}
 use Rattle.vm_engine.specs.Address.{AddressState}
-use Rattle.vm_engine.specs.Answer.{FEWEST_TOO_DEEP}
-use Rattle.vm_allocator.specs.Values.AllocatorValues.{StatesAddresses}
-use Rattle.vm_allocator.specs.Values.RepairedValues.{StatesRepaired}
+use Rattle.vm_engine.specs.Answer.{SPLIT_LIMIT_MIN_HELD}
+use Rattle.vm_allocator.specs.Values.AllocatorValues.{EncodesAddresses}
+use Rattle.vm_allocator.specs.Values.RepairedValues.{EncodesRepaired}
 use Rattle.vm_ranges.specs.Saving.{Saves, Reads}
 use Rattle.vm_ranges.specs.declared.saved.ValueError.{ValueError}
 use Rattle.vm_ranges.specs.declared.saved.ValueError.TheVariants.{OutOfMemory}
 
 -- a value states one object at most
-abbrev pub StatesOne : {X : Type 0} → (Data → X → Type 0) → Type 0
-StatesOne {X} States = (d : Data) (first second : X) → States d first → States d second → first ≡ second
+abbrev pub EncodesAtMostOne : {X : Type 0} → (Data → X → Type 0) → Type 0
+EncodesAtMostOne {X} States = (d : Data) (first second : X) → States d first → States d second → first ≡ second
 
 -- what is written of an object is read as this object, unless there is no memory for reading it
 abbrev pub ReadsWritten : {X : Type 0} → (Data → X → Type 0) → Type 0
@@ -24,9 +24,9 @@ ReadsWritten {X} States =
 
 -- a value that is read without repairs is read to the same state with them, unless there is no memory, where so few
 -- ranges are held that no split of them can be refused for depth
-abbrev pub ReadsAlike : Type 0
-ReadsAlike =
+abbrev pub ReadersAgree : Type 0
+ReadersAgree =
     (value : Value) (state : AddressState) (answer : Result AddressState ValueError) →
-    Reads (StatesAddresses (view value)) (Ok state) → length state.held ≤ FEWEST_TOO_DEEP →
-    Reads (StatesRepaired (view value)) answer →
+    Reads (EncodesAddresses (view value)) (Ok state) → length state.held ≤ SPLIT_LIMIT_MIN_HELD →
+    Reads (EncodesRepaired (view value)) answer →
     (answer ≡ Ok state) ⊎ (answer ≡ Err OutOfMemory)

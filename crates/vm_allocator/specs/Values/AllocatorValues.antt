@@ -3,24 +3,24 @@ use Rattle.std.specs.Prelude.{◌≡◌, Some, codes}
 use Rattle.serde_json.specs.Data.{Data}
 use Rattle.vm_ranges.specs.Fields.{field_count, FieldIs}
 use Rattle.vm_engine.specs.Address.{AddressState}
-use Rattle.vm_ranges.specs.RangeValues.{StatesRange}
-use Rattle.vm_engine.specs.Values.TreeValues.{StatesSpaceTree}
+use Rattle.vm_ranges.specs.RangeValues.{EncodesRange}
+use Rattle.vm_engine.specs.Values.TreeValues.{EncodesSpaceTree}
 use Rattle.vm_allocator.specs.Allocator.{SpaceInTree, state_of}
 
 -- the value is an object of a root alone: what stands for it
-pub record StatesTree (d : Data) (Root : Data → Type 0) : Type 0 where
+pub record EncodesTree (d : Data) (Root : Data → Type 0) : Type 0 where
   pub one_field : field_count d ≡ Some 1
   pub root : FieldIs (codes "root") d Root
 
 -- the value is an object of a space and of a tree of it alone
-pub record StatesAllocator (d : Data) (allocator : SpaceInTree) : Type 0 where
+pub record EncodesAllocator (d : Data) (allocator : SpaceInTree) : Type 0 where
   pub two_fields : field_count d ≡ Some 2
-  pub address_space : FieldIs (codes "address_space") d (λ v. StatesRange v allocator.space)
+  pub address_space : FieldIs (codes "address_space") d (λ v. EncodesRange v allocator.space)
   pub interval_tree : FieldIs (codes "interval_tree") d
-      (λ v. StatesTree v (λ root. StatesSpaceTree root allocator.space allocator.tree))
+      (λ v. EncodesTree v (λ root. EncodesSpaceTree root allocator.space allocator.tree))
 
 -- the value states an address allocator with this space and these held ranges
-pub record StatesAddresses (d : Data) (state : AddressState) : Type 0 where
+pub record EncodesAddresses (d : Data) (state : AddressState) : Type 0 where
   pub allocator : SpaceInTree
-  pub stated : StatesAllocator d allocator
+  pub encoded : EncodesAllocator d allocator
   pub is : state_of allocator ≡ state

@@ -5,9 +5,9 @@ use Rattle.std.specs.List.Sorted.{IsStrictlySortedBy}
 use Rattle.std.specs.Ordering.{nat_cmp}
 use Rattle.serde_json.specs.Data.{Data, null}
 use Rattle.vm_ranges.specs.Fields.{field_count, FieldIs}
-use Rattle.vm_ranges.specs.Lists.{StatesListOf}
+use Rattle.vm_ranges.specs.Lists.{EncodesListOf}
 use Rattle.vm_ranges.specs.Numbers.{whole_number, number_in}
-use Rattle.vm_allocator.specs.Ids.{MAX_ID, IdState, IsHandedOut, IsHeld, IsNext, bound_of}
+use Rattle.vm_allocator.specs.Ids.{MAX_ID, IdState, WasEverAllocated, IsHeld, IsNext, bound_of}
 
 -- what the fields say: the range, the next id, and the ids given back
 pub record IdFields : Type 0 where
@@ -17,33 +17,33 @@ pub record IdFields : Type 0 where
   pub freed_ids : List ℕ
 
 -- null for no next id, and else its number
-abbrev pub StatesNext : Data → Option ℕ → Type 0
-StatesNext d None = d ≡ null
-StatesNext d (Some n) = whole_number d ≡ Some n
+abbrev pub EncodesNext : Data → Option ℕ → Type 0
+EncodesNext d None = d ≡ null
+EncodesNext d (Some n) = whole_number d ≡ Some n
 
 -- the value is the whole number
-abbrev pub StatesNumber : Data → ℕ → Type 0
-StatesNumber d n = whole_number d ≡ Some n
+abbrev pub EncodesNumber : Data → ℕ → Type 0
+EncodesNumber d n = whole_number d ≡ Some n
 
 -- the value is the list of these whole numbers
-abbrev pub StatesList : Data → List ℕ → Type 0
-StatesList d ns = StatesListOf StatesNumber d ns
+abbrev pub EncodesList : Data → List ℕ → Type 0
+EncodesList d ns = EncodesListOf EncodesNumber d ns
 
 -- the value is an object of these four fields alone
 pub record HasIdFields (d : Data) (fields : IdFields) : Type 0 where
   pub four_fields : field_count d ≡ Some 4
   pub range_base : number_in (codes "range_base") d ≡ Some fields.range_base
-  pub next_id : FieldIs (codes "next_id") d (λ v. StatesNext v fields.next_id)
+  pub next_id : FieldIs (codes "next_id") d (λ v. EncodesNext v fields.next_id)
   pub range_end : number_in (codes "range_end") d ≡ Some fields.range_end
-  pub freed_ids : FieldIs (codes "freed_ids") d (λ v. StatesList v fields.freed_ids)
+  pub freed_ids : FieldIs (codes "freed_ids") d (λ v. EncodesList v fields.freed_ids)
 
 -- the range has an id, the next id fits it, and the ids given back rise and were handed out
 pub record AreIdFields (fields : IdFields) : Type 0 where
   pub range : fields.range_base ≤ fields.range_end
   pub ids : fields.range_end ≤ MAX_ID
   pub next_id : IsNext fields.range_base fields.range_end fields.next_id
-  pub rising : IsStrictlySortedBy nat_cmp fields.freed_ids
-  pub handed_out :
+  pub increasing : IsStrictlySortedBy nat_cmp fields.freed_ids
+  pub ever_allocated :
       All (λ i. (fields.range_base ≤ i) × (i < bound_of fields.next_id fields.range_end)) fields.freed_ids
 
 -- the ids handed out are those before the next one, and held are these but for those given back
@@ -51,11 +51,11 @@ pub record AreIdsOf (fields : IdFields) (state : IdState) : Type 0 where
   pub lo : state.lo ≡ fields.range_base
   pub hi : state.hi ≡ fields.range_end
   pub bound : state.bound ≡ bound_of fields.next_id fields.range_end
-  pub held : (i : ℕ) → IsHeld state i ↔ (IsHandedOut state i × ¬ Contains fields.freed_ids i)
+  pub held : (i : ℕ) → IsHeld state i ↔ (WasEverAllocated state i × ¬ Contains fields.freed_ids i)
 
 -- the value states an id allocator with this range, these ids handed out and these held
-pub record StatesIds (d : Data) (state : IdState) : Type 0 where
+pub record EncodesIds (d : Data) (state : IdState) : Type 0 where
   pub fields : IdFields
   pub written : HasIdFields d fields
-  pub sensible : AreIdFields fields
+  pub valid : AreIdFields fields
   pub is : AreIdsOf fields state

@@ -4,27 +4,27 @@ use Rattle.std.specs.Prelude.{◌≡◌, ℕ, ◌≤◌, length, codes, Some}
 use Rattle.serde_json.specs.Data.{Data}
 use Rattle.vm_ranges.specs.Fields.{field_count, FieldIs}
 use Rattle.vm_engine.specs.Address.{AddressState}
-use Rattle.vm_engine.specs.Answer.{FEWEST_TOO_DEEP}
+use Rattle.vm_engine.specs.Answer.{SPLIT_LIMIT_MIN_HELD}
 use Rattle.vm_engine.specs.Tree.Blocks.{held_of, AreKeysIn, AreBelowMax}
 use Rattle.vm_engine.specs.Tree.Shape.{Shape, blocks, height_of}
-use Rattle.vm_ranges.specs.RangeValues.{StatesRange}
+use Rattle.vm_ranges.specs.RangeValues.{EncodesRange}
 use Rattle.vm_engine.specs.Values.TreeValues.{HasNodes}
-use Rattle.vm_allocator.specs.Values.AllocatorValues.{StatesTree}
+use Rattle.vm_allocator.specs.Values.AllocatorValues.{EncodesTree}
 
 -- no tree that the Rust crate saves is higher
-abbrev pub MAX_HEIGHT_REPAIRED : ℕ
-MAX_HEIGHT_REPAIRED = 50
+abbrev pub MAX_NESTING_REPAIRED : ℕ
+MAX_NESTING_REPAIRED = 50
 
 -- The value is an object of a space and a tree alone; the tree has any nodes or none, is not too high, and its keys stand
 -- in order in the space. None of those held ends at MAX, and they are so few that no split of them can be refused for
 -- depth. They are the held ranges of the state, and all else in its space is clear.
-pub record StatesRepaired (d : Data) (state : AddressState) : Type 0 where
+pub record EncodesRepaired (d : Data) (state : AddressState) : Type 0 where
   pub tree : Shape
   pub two_fields : field_count d ≡ Some 2
-  pub address_space : FieldIs (codes "address_space") d (λ v. StatesRange v state.space)
-  pub interval_tree : FieldIs (codes "interval_tree") d (λ v. StatesTree v (λ root. HasNodes root tree))
-  pub nested : height_of tree ≤ MAX_HEIGHT_REPAIRED
+  pub address_space : FieldIs (codes "address_space") d (λ v. EncodesRange v state.space)
+  pub interval_tree : FieldIs (codes "interval_tree") d (λ v. EncodesTree v (λ root. HasNodes root tree))
+  pub nested : height_of tree ≤ MAX_NESTING_REPAIRED
   pub keys : AreKeysIn state.space.start (blocks tree) state.space.end
   pub below : AreBelowMax (held_of (blocks tree))
-  pub few : length (held_of (blocks tree)) ≤ FEWEST_TOO_DEEP
+  pub few : length (held_of (blocks tree)) ≤ SPLIT_LIMIT_MIN_HELD
   pub held : held_of (blocks tree) ≡ state.held

@@ -1,45 +1,45 @@
 //! Laws of whole histories: every list of calls of an address allocator, from one on that was made or
 //! read, clones made on the way among them.
-ghost use Rattle.vm_allocator.specs.Values.AllocatorValues.{StatesAddresses};
-ghost use Rattle.vm_allocator.specs.Values.RepairedValues.{StatesRepaired};
+ghost use Rattle.vm_allocator.specs.Values.AllocatorValues.{EncodesAddresses};
+ghost use Rattle.vm_allocator.specs.Values.RepairedValues.{EncodesRepaired};
 ghost use Rattle.vm_allocator.specs.Laws.HistoryLaws.{
-  FirstIsLeast,
-  LastIsGreatest,
-  ExactIsNamed,
+  FirstIsLowest,
+  LastIsHighest,
+  ExactIsAtItsStart,
   PlacesAnswer,
-  RefusalsChangeNothing,
-  HeldAreGood,
+  ErrorsChangeNothing,
+  HeldAreValid,
   StateDecides,
-  ReleaseUndoes,
-  OrderOfReleasesIsFree,
+  FreeUndoes,
+  FreesInAnyOrder,
   EveryCallIsAnswered,
   EveryListHasHistory,
   CloneIsReached,
   ReadIsReached,
-  OneEndIsEqual,
-  ReleaseMakesEqual,
-  OrderOfReleasesMakesEqual,
+  EqualStatesAreEqual,
+  FreeMakesEqual,
+  FreesInAnyOrderMakeEqual,
 };
 
 /// In every history `FirstMatch` gives the least place, `LastMatch` the greatest and `ExactMatch` the
 /// named one.
-fn chosen_places_are_given()
-    ensures first { FirstIsLeast }
-    ensures last { LastIsGreatest }
-    ensures exact { ExactIsNamed }
+fn chosen_places_are_allocated()
+    ensures first { FirstIsLowest }
+    ensures last { LastIsHighest }
+    ensures exact { ExactIsAtItsStart }
 {}
 
 /// Each request is answered by the places, and a refusal changes nothing.
 fn places_answer()
     ensures answers { PlacesAnswer }
-    ensures refusals { RefusalsChangeNothing }
+    ensures refusals { ErrorsChangeNothing }
 {}
 
 /// The held ranges have no address in common, lie in the space and do not contain `u64::MAX`; each is
 /// aligned and as long as was asked, or was stated by the value that was read.
 #[tactic(auto, using(crate::proofs::Histories::AlongHistories::held_good))]
-fn held_are_good()
-    ensures { HeldAreGood }
+fn held_are_valid()
+    ensures { HeldAreValid }
 {}
 
 /// The space and the held ranges alone decide what a call answers.
@@ -49,9 +49,9 @@ fn state_decides()
 {}
 
 /// What is given back leaves no trace, in whatever order.
-fn releases_leave_no_trace()
-    ensures undone { ReleaseUndoes }
-    ensures order { OrderOfReleasesIsFree }
+fn frees_leave_no_trace()
+    ensures undone { FreeUndoes }
+    ensures order { FreesInAnyOrder }
 {}
 
 /// Every call has an answer in every state, and so every list of calls a history.
@@ -69,13 +69,13 @@ fn clones_are_reached()
 /// An allocator that was read, with repairs or without, is reached too, by no call, so all that holds of
 /// every history holds of it.
 fn reads_are_reached()
-    ensures read { ReadIsReached StatesAddresses }
-    ensures repaired { ReadIsReached StatesRepaired }
+    ensures read { ReadIsReached EncodesAddresses }
+    ensures repaired { ReadIsReached EncodesRepaired }
 {}
 
 /// Allocators that hold the same are equal, whatever the order and the kind of the calls before.
-fn equal_ends()
-    ensures any { OneEndIsEqual }
-    ensures undone { ReleaseMakesEqual }
-    ensures order { OrderOfReleasesMakesEqual }
+fn equal_states_are_equal()
+    ensures any { EqualStatesAreEqual }
+    ensures undone { FreeMakesEqual }
+    ensures order { FreesInAnyOrderMakeEqual }
 {}

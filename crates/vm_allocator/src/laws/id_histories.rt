@@ -1,9 +1,9 @@
 //! Laws of whole histories: every list of calls of an id allocator, from one on that was made or read,
 //! clones made on the way among them.
 ghost use Rattle.vm_allocator.specs.Laws.IdHistoryLaws.{
-  EachIsLeastNotHeld,
+  EachIsLowestNotHeld,
   NoIdIsHeldTwice,
-  HeldIsOut,
+  HeldIsAllocated,
   StatesAreOfIds,
   EveryIdCallIsAnswered,
   EveryIdListHasHistory,
@@ -12,17 +12,17 @@ ghost use Rattle.vm_allocator.specs.Laws.IdHistoryLaws.{
 };
 
 /// In every history each id given is the least that is not held, and none is held twice.
-#[tactic(auto, using(crate::proofs::Ids::AlongIdHistories::least_ids))]
-fn least_ids_are_given()
-    ensures least { EachIsLeastNotHeld }
+#[tactic(auto, using(crate::proofs::Ids::AlongIdHistories::lowest_ids))]
+fn lowest_ids_are_allocated()
+    ensures lowest { EachIsLowestNotHeld }
     ensures twice { NoIdIsHeldTwice }
 {}
 
 /// An id is held exactly if it was given out, or held in the value that was read, and not given back
 /// since.
 #[tactic(auto, using(crate::proofs::Ids::AlongIdHistories::held_ids))]
-fn held_ids_are_out()
-    ensures held { HeldIsOut }
+fn held_ids_are_allocated()
+    ensures held { HeldIsAllocated }
     ensures states { StatesAreOfIds }
 {}
 

@@ -4,8 +4,8 @@ ghost use Rattle.serde_json.specs.View.{view};
 ghost use Rattle.vm_engine.specs.Address.{IsAddressState};
 ghost use Rattle.vm_ranges.specs.Saving.{Saves, Reads};
 ghost use Rattle.vm_allocator.specs.Allocator.{state_of, made_state};
-ghost use Rattle.vm_allocator.specs.Values.AllocatorValues.{StatesAllocator, StatesAddresses};
-ghost use Rattle.vm_allocator.specs.Checks.AllocatorChecks.{AllocatorParts, parts_found, root_found};
+ghost use Rattle.vm_allocator.specs.Values.AllocatorValues.{EncodesAllocator, EncodesAddresses};
+ghost use Rattle.vm_allocator.specs.Checks.AllocatorChecks.{AllocatorParts, decoded_parts, decoded_root};
 
 use crate::address_allocator::AddressAllocator;
 use serde_json::{Value, json};
@@ -18,22 +18,22 @@ impl AddressAllocator {
     /// there is no memory for it.
     #[tactic(auto, using(crate::proofs::Reading::WrittenAllocators::allocators))]
     pub fn to_value(&self, alloc: Global) -> Result<Value>
-        ensures { Saves (λ d. StatesAllocator d self.now) result }
+        ensures { Saves (λ d. EncodesAllocator d self.now) result }
     {
         let root = self.interval_tree.to_root_value(alloc)?;
         let space = self.address_space.to_value(alloc)?;
-        Ok(save_allocator(alloc, space, root)?)
+        Ok(allocator_object(alloc, space, root)?)
     }
 
     /// The allocator that a value states: its space and held ranges, in a tree of the same nodes.
     /// `NotAState` where the value states none, and else `OutOfMemory` where there is no memory for the
     /// tree. To find out which takes no memory and goes down at most 50 levels of the value.
     pub fn from_value(alloc: Global, value: &Value) -> std::result::Result<Self, ValueError>
-        ensures answer { Reads (StatesAddresses (view value.now)) (made_state result) }
-        ensures nodes { Reads (StatesAllocator (view value.now)) result }
+        ensures answer { Reads (EncodesAddresses (view value.now)) (made_state result) }
+        ensures nodes { Reads (EncodesAllocator (view value.now)) result }
         ensures state { IfOk result (λ allocator. IsAddressState (state_of allocator)) }
     {
-        let Some(parts) = parts_of(value) else {
+        let Some(parts) = decode_parts(value) else {
             return Err(ValueError::NotAState);
         };
         let interval_tree = IntervalTree::from_root_value(alloc, &parts.space, parts.root)?;
@@ -45,7 +45,7 @@ impl AddressAllocator {
 }
 
 /// The object of an allocator's fields.
-fn save_allocator(
+fn allocator_object(
     alloc: Global,
     space: Value,
     root: Value,
@@ -63,20 +63,20 @@ pub(super) struct SavedAllocator<'a> {
 }
 
 /// The fields of an allocator's value, where it has these and no others.
-pub(super) fn parts_of(value: &Value) -> Option<SavedAllocator<'_>>
-    ensures { option_map (λ c. (c.space, view c.root.now)) result ≡ parts_found (view value.now) }
+pub(super) fn decode_parts(value: &Value) -> Option<SavedAllocator<'_>>
+    ensures { option_map (λ c. (c.space, view c.root.now)) result ≡ decoded_parts (view value.now) }
 {
     if !has_fields(value, 2) {
         return None;
     }
     let space = range_in(value, "address_space")?;
-    let root = root_of(value.get("interval_tree")?)?;
+    let root = decode_root(value.get("interval_tree")?)?;
     Some(SavedAllocator { space, root })
 }
 
 /// The root of a tree's value.
-fn root_of(tree: &Value) -> Option<&Value>
-    ensures { option_map (λ v. view v.now) result ≡ root_found (view tree.now) }
+fn decode_root(tree: &Value) -> Option<&Value>
+    ensures { option_map (λ v. view v.now) result ≡ decoded_root (view tree.now) }
 {
     if !has_fields(tree, 1) {
         return None;

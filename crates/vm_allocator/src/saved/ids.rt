@@ -6,8 +6,8 @@ ghost use Rattle.serde_json.specs.View.{view, items_view};
 ghost use Rattle.serde_json.specs.Find.{get};
 ghost use Rattle.vm_ranges.specs.Numbers.{u32_from, u32_in};
 ghost use Rattle.vm_allocator.specs.Ids.{IsIdState, bound_of};
-ghost use Rattle.vm_allocator.specs.Values.IdValues.{StatesNext, StatesList, StatesIds};
-ghost use Rattle.vm_allocator.specs.Checks.IdChecks.{rising, next_found, is_next, ids_found, IdParts};
+ghost use Rattle.vm_allocator.specs.Values.IdValues.{EncodesNext, EncodesList, EncodesIds};
+ghost use Rattle.vm_allocator.specs.Checks.IdChecks.{increasing, decoded_next, is_next, decoded_ids, IdParts};
 ghost use Rattle.vm_ranges.specs.Saving.{Saves, Reads};
 
 use crate::id_allocator::{IdAllocator, bound_of};
@@ -21,25 +21,25 @@ impl IdAllocator {
     /// `OutOfMemory` where there is no memory for it.
     #[tactic(auto, using(crate::proofs::Ids::ReadIdStates::written))]
     pub fn to_value(&self, alloc: Global) -> Result<Value>
-        ensures { Saves (λ d. StatesIds d self.now) result }
+        ensures { Saves (λ d. EncodesIds d self.now) result }
     {
-        let next = save_next(self.next_id);
-        let freed = save_ids(alloc, &self.freed_ids)?;
-        Ok(save_parts(alloc, self.range_base, next, self.range_end, freed)?)
+        let next = encode_next(self.next_id);
+        let freed = encode_ids(alloc, &self.freed_ids)?;
+        Ok(ids_object(alloc, self.range_base, next, self.range_end, freed)?)
     }
 
     /// The allocator that a value states: its range, the ids ever handed out and those held.
     /// `NotAState` where the value states none, and else `OutOfMemory` where there is no memory for the
     /// ids given back. To find out which takes no memory.
     pub fn from_value(alloc: Global, value: &Value) -> std::result::Result<Self, ValueError>
-        ensures answer { Reads (StatesIds (view value.now)) result }
+        ensures answer { Reads (EncodesIds (view value.now)) result }
         ensures state { IfOk result (λ ids. IsIdState ids) }
     {
         let Some(ids) = check_ids(value) else {
             return Err(ValueError::NotAState);
         };
         let bound = bound_of(ids.next, ids.end);
-        let freed_ids = collect(alloc, ids.freed, ids.base.into(), bound)?;
+        let freed_ids = collect_ids(alloc, ids.freed, ids.base.into(), bound)?;
         Ok(IdAllocator {
             range_base: ids.base,
             next_id: ids.next,
@@ -50,8 +50,8 @@ impl IdAllocator {
 }
 
 /// The value of a next id.
-fn save_next(next: Option<u32>) -> Value
-    ensures { StatesNext (view result) next }
+fn encode_next(next: Option<u32>) -> Value
+    ensures { EncodesNext (view result) next }
 {
     match next {
         None => Value::Null,
@@ -60,9 +60,9 @@ fn save_next(next: Option<u32>) -> Value
 }
 
 /// The list of ids given back.
-fn save_ids(alloc: Global, ids: &BTreeSet<u32>) -> std::result::Result<Value, AllocError>
-    ensures answer { IfOk result (λ list. StatesList (view list) ids.now.keys) }
-    ensures rising { IsStrictlySortedBy nat_cmp ids.now.keys }
+fn encode_ids(alloc: Global, ids: &BTreeSet<u32>) -> std::result::Result<Value, AllocError>
+    ensures answer { IfOk result (λ list. EncodesList (view list) ids.now.keys) }
+    ensures increasing { IsStrictlySortedBy nat_cmp ids.now.keys }
 {
     let mut list = Vec::new(alloc);
     for id in ids.iter() {
@@ -72,7 +72,7 @@ fn save_ids(alloc: Global, ids: &BTreeSet<u32>) -> std::result::Result<Value, Al
 }
 
 /// The object of an id allocator's fields.
-fn save_parts(
+fn ids_object(
     alloc: Global,
     base: u32,
     next: Value,
@@ -97,7 +97,7 @@ struct CheckedIds<'a> {
 /// What the fields of a value say, where it states an id allocator.
 fn check_ids(value: &Value) -> Option<CheckedIds<'_>>
     ensures { option_map (λ c. (c.base, c.next, c.end, items_view c.freed.now.items)) result
-        ≡ ids_found (view value.now) }
+        ≡ decoded_ids (view value.now) }
 {
     if !has_fields(value, 4) {
         return None;
@@ -106,7 +106,10 @@ fn check_ids(value: &Value) -> Option<CheckedIds<'_>>
     let end = u32_in(value, "range_end")?;
     let next = next_in(value, "next_id")?;
     let freed = list_in(value, "freed_ids")?;
-    if base <= end && is_next(next, base, end) && rise(freed, base.into(), bound_of(next, end)) {
+    if base <= end
+        && is_next(next, base, end)
+        && are_increasing(freed, base.into(), bound_of(next, end))
+    {
         return Some(CheckedIds {
             base,
             next,
@@ -118,8 +121,8 @@ fn check_ids(value: &Value) -> Option<CheckedIds<'_>>
 }
 
 /// The next id that a value states.
-fn next_of(value: &Value) -> Option<Option<u32>>
-    ensures { result ≡ next_found (view value.now) }
+fn decode_next(value: &Value) -> Option<Option<u32>>
+    ensures { result ≡ decoded_next (view value.now) }
 {
     if value.is_null() {
         return Some(None);
@@ -129,9 +132,9 @@ fn next_of(value: &Value) -> Option<Option<u32>>
 
 /// The next id in a field.
 fn next_in(value: &Value, name: &str) -> Option<Option<u32>>
-    ensures { result ≡ option_and_then next_found (get name.now (view value.now)) }
+    ensures { result ≡ option_and_then decoded_next (get name.now (view value.now)) }
 {
-    next_of(value.get(name)?)
+    decode_next(value.get(name)?)
 }
 
 /// Whether this may be the next id of a range.
@@ -144,13 +147,13 @@ fn is_next(next: Option<u32>, base: u32, end: u32) -> bool
     }
 }
 
-/// Whether the items are whole numbers that rise from `least` on and stay below `bound`.
-#[tactic(auto, using(crate::proofs::Ids::RisingNumbers::risings))]
-fn rise(list: &[Value], least: u64, bound: u64) -> bool
+/// Whether the items are whole numbers that rise from `lowest` on and stay below `bound`.
+#[tactic(auto, using(crate::proofs::Ids::IncreasingNumbers::increasing_steps))]
+fn are_increasing(list: &[Value], lowest: u64, bound: u64) -> bool
     requires { bound < 2 ^ 64 }
-    ensures { result ≡ is_some (rising least bound (items_view list.now)) }
+    ensures { result ≡ is_some (increasing lowest bound (items_view list.now)) }
 {
-    let mut next = least;
+    let mut next = lowest;
     for item in list {
         let Some(id) = item.as_u64() else {
             return false;
@@ -163,18 +166,18 @@ fn rise(list: &[Value], least: u64, bound: u64) -> bool
     true
 }
 
-/// The set of the numbers, which rise from `least` on and stay below `bound`.
-fn collect(
+/// The set of the numbers, which rise from `lowest` on and stay below `bound`.
+fn collect_ids(
     alloc: Global,
     list: &[Value],
-    least: u64,
+    lowest: u64,
     bound: u64,
 ) -> std::result::Result<BTreeSet<u32>, AllocError>
     requires bound_fits { bound ≤ 2 ^ 32 }
-    requires rise { IsSome (rising least bound (items_view list.now)) }
-    ensures { IfOk result (λ ids. rising least bound (items_view list.now) ≡ Some ids.keys) }
+    requires rise { IsSome (increasing lowest bound (items_view list.now)) }
+    ensures { IfOk result (λ ids. increasing lowest bound (items_view list.now) ≡ Some ids.keys) }
 {
-    let mut next = least;
+    let mut next = lowest;
     let mut ids = BTreeSet::new(alloc);
     for item in list {
         let id = item.as_u64().unwrap();

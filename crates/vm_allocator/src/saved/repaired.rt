@@ -6,21 +6,21 @@ ghost use Rattle.vm_engine.specs.Address.{IsAddressState};
 ghost use Rattle.vm_allocator.specs.Allocator.{state_of, made_state};
 ghost use Rattle.vm_engine.specs.Tree.Blocks.{range_if_held};
 ghost use Rattle.vm_ranges.specs.Saving.{Reads};
-ghost use Rattle.vm_allocator.specs.Values.RepairedValues.{StatesRepaired};
-ghost use Rattle.vm_allocator.specs.Checks.RepairChecks.{extended, row_found, repaired_found, adding, CanAdd, CanAddNodes, AddsNodes};
+ghost use Rattle.vm_allocator.specs.Values.RepairedValues.{EncodesRepaired};
+ghost use Rattle.vm_allocator.specs.Checks.RepairChecks.{advance_key, checked_keys, decoded_repaired, adding, CanAdd, CanAddNodes, AddsNodes};
 
-use super::allocator::{SavedAllocator, parts_of};
+use super::allocator::{SavedAllocator, decode_parts};
 use crate::address_allocator::AddressAllocator;
 use serde_json::Value;
 use std::alloc::Global;
-use vm_engine::node_of;
+use vm_engine::decode_node;
 use vm_ranges::{AllocPolicy, Error, NodeState, RangeInclusive, Result, ValueError};
 
 /// No node is nested deeper, since no tree of the Rust crate is higher.
-const MAX_HEIGHT_REPAIRED: u64 = 50;
+const MAX_NESTING_REPAIRED: u64 = 50;
 
 /// How many keys may be held: with no more, no split is refused for depth.
-const MOST_HELD: u64 = 6_293_134_512;
+const MAX_HELD: u64 = 6_293_134_512;
 
 impl AddressAllocator {
     /// The allocator that a value of the Rust crate stands for, also after one of its faults: its space,
@@ -35,7 +35,7 @@ impl AddressAllocator {
         alloc: Global,
         value: &Value,
     ) -> std::result::Result<Self, ValueError>
-        ensures answer { Reads (StatesRepaired (view value.now)) (made_state result) }
+        ensures answer { Reads (EncodesRepaired (view value.now)) (made_state result) }
         ensures state { IfOk result (λ allocator. IsAddressState (state_of allocator)) }
     {
         let Some(checked) = check_repaired(value) else {
@@ -45,7 +45,7 @@ impl AddressAllocator {
         let Ok(mut allocator) = AddressAllocator::new(alloc, space.start(), space.len()) else {
             return Err(ValueError::OutOfMemory);
         };
-        let Ok(()) = hold_keys(checked.root, MAX_HEIGHT_REPAIRED, alloc, &mut allocator) else {
+        let Ok(()) = hold_keys(checked.root, MAX_NESTING_REPAIRED, alloc, &mut allocator) else {
             return Err(ValueError::OutOfMemory);
         };
         Ok(allocator)
@@ -54,15 +54,15 @@ impl AddressAllocator {
 
 /// The keys met so far: they end below `next`, and `held` of them are held.
 #[derive(Clone, Copy)]
-struct Row {
+struct KeyCursor {
     next: u128,
     held: u64,
 }
 
-impl Row {
+impl KeyCursor {
     /// The row with one more block, where it may stand behind the others in a space up to `end`.
-    fn extended(self, end: u64, key: &RangeInclusive, state: NodeState) -> Option<Row>
-        ensures { result ≡ extended end self (record { key = key.now; state = state }) }
+    fn advance_key(self, end: u64, key: &RangeInclusive, state: NodeState) -> Option<KeyCursor>
+        ensures { result ≡ advance_key end self (record { key = key.now; state = state }) }
     {
         let last = key.end();
         if u128::from(key.start()) < self.next || last > end {
@@ -70,12 +70,12 @@ impl Row {
         }
         let next = u128::from(last) + 1;
         if state == NodeState::Free {
-            return Some(Row { next, ..self });
+            return Some(KeyCursor { next, ..self });
         }
-        if last == u64::MAX || self.held >= MOST_HELD {
+        if last == u64::MAX || self.held >= MAX_HELD {
             return None;
         }
-        Some(Row {
+        Some(KeyCursor {
             next,
             held: self.held + 1,
         })
@@ -84,36 +84,36 @@ impl Row {
 
 /// The row with the blocks of the nodes of a value, in order. None where it is no tree of nodes, has
 /// them nested deeper than `depth`, or has a block that may not stand where it does.
-#[tactic(auto, unfolding(crate::specs::Checks::RepairChecks::row_found))]
-fn check_keys(value: &Value, end: u64, depth: u64, row: Row) -> Option<Row>
-    ensures { result ≡ row_found end depth (view value.now) row }
+#[tactic(auto, unfolding(crate::specs::Checks::RepairChecks::checked_keys))]
+fn check_keys(value: &Value, end: u64, depth: u64, cursor: KeyCursor) -> Option<KeyCursor>
+    ensures { result ≡ checked_keys end depth (view value.now) cursor }
 {
     if value.is_null() {
-        return Some(row);
+        return Some(cursor);
     }
     if depth == 0 {
         return None;
     }
-    let Some(node) = node_of(value) else {
+    let Some(node) = decode_node(value) else {
         return None;
     };
-    let left = check_keys(node.left, end, depth - 1, row)?;
-    let middle = left.extended(end, &node.key, node.state)?;
+    let left = check_keys(node.left, end, depth - 1, cursor)?;
+    let middle = left.advance_key(end, &node.key, node.state)?;
     check_keys(node.right, end, depth - 1, middle)
 }
 
 /// The space that a value states, and the root of its tree; both are checked.
 fn check_repaired(value: &Value) -> Option<SavedAllocator<'_>>
-    ensures { option_map (λ c. (c.space, view c.root.now)) result ≡ repaired_found (view value.now) }
+    ensures { option_map (λ c. (c.space, view c.root.now)) result ≡ decoded_repaired (view value.now) }
 {
-    let Some(parts) = parts_of(value) else {
+    let Some(parts) = decode_parts(value) else {
         return None;
     };
-    let before = Row {
+    let before = KeyCursor {
         next: parts.space.start().into(),
         held: 0,
     };
-    check_keys(parts.root, parts.space.end(), MAX_HEIGHT_REPAIRED, before)?;
+    check_keys(parts.root, parts.space.end(), MAX_NESTING_REPAIRED, before)?;
     Some(parts)
 }
 
@@ -129,7 +129,7 @@ fn hold_keys(
     ensures held { OnOk result (AddsNodes (view value.now) (state_of allocator.old) (state_of allocator.new)) }
     ensures error { IfErr result (λ error. error ≡ Error.OutOfMemory) }
 {
-    let Some(node) = node_of(value) else {
+    let Some(node) = decode_node(value) else {
         return Ok(());
     };
     hold_keys(node.left, depth - 1, alloc, allocator)?;

@@ -4,14 +4,14 @@ ghost use Rattle.std.specs.Prelude.{◌≡◌, IfOk, option_map};
 ghost use Rattle.serde_json.specs.View.{view, items_view};
 ghost use Rattle.vm_ranges.specs.Saving.{Saves};
 ghost use Rattle.vm_devices.specs.Devices.{IsDeviceState};
-ghost use Rattle.vm_devices.specs.Saved.{StatesManager, ReadsInParts};
-ghost use Rattle.vm_devices.specs.SavedChecks.{manager_found, ManagerParts};
+ghost use Rattle.vm_devices.specs.Saved.{EncodesManager, ReadsInParts};
+ghost use Rattle.vm_devices.specs.SavedChecks.{decoded_manager, ManagerParts};
 
 mod pairing;
 mod slots;
 
 use self::pairing::read_devices;
-use self::slots::save_slots;
+use self::slots::encode_slots;
 use super::DeviceManager;
 use serde_json::{Value, json};
 use std::alloc::{AllocError, Global};
@@ -25,12 +25,12 @@ impl DeviceManager {
     /// The value that states the manager: its version, its ids, its space and its devices, by rising
     /// ids. `OutOfMemory` where there is no memory for it.
     pub fn to_value(&self, alloc: Global) -> Result<Value>
-        ensures { Saves (λ d. StatesManager d self.now) result }
+        ensures { Saves (λ d. EncodesManager d self.now) result }
     {
         let ids = self.id_allocator.to_value(alloc)?;
         let space = self.mmio_allocator.to_value(alloc)?;
-        let slots = save_slots(alloc, &self.slots)?;
-        Ok(put_manager(alloc, ids, space, slots)?)
+        let slots = encode_slots(alloc, &self.slots)?;
+        Ok(manager_object(alloc, ids, space, slots)?)
     }
 
     /// The manager that a value states: its ids, its space and its devices. `NotAState` where the value
@@ -39,10 +39,10 @@ impl DeviceManager {
     /// `OutOfMemory` may come for any value.
     #[tactic(auto, using(crate::proofs::ManagerFields::no_fields))]
     pub fn from_value(alloc: Global, value: &Value) -> std::result::Result<Self, ValueError>
-        ensures answer { ReadsInParts (StatesManager (view value.now)) result }
+        ensures answer { ReadsInParts (EncodesManager (view value.now)) result }
         ensures state { IfOk result IsDeviceState }
     {
-        let Some(fields) = fields_of(value) else {
+        let Some(fields) = decode_fields(value) else {
             return Err(ValueError::NotAState);
         };
         let id_allocator = IdAllocator::from_value(alloc, fields.ids)?;
@@ -57,7 +57,7 @@ impl DeviceManager {
 }
 
 /// The object of a manager's fields.
-fn put_manager(
+fn manager_object(
     alloc: Global,
     ids: Value,
     space: Value,
@@ -78,9 +78,9 @@ struct Fields<'a> {
 }
 
 /// What stands in the fields of a value, where they are those of a manager, of this version.
-fn fields_of(value: &Value) -> Option<Fields<'_>>
+fn decode_fields(value: &Value) -> Option<Fields<'_>>
     ensures { option_map (λ f. (view f.ids.now, view f.space.now, items_view f.slots.now.items)) result
-        ≡ manager_found (view value.now) }
+        ≡ decoded_manager (view value.now) }
 {
     if !has_fields(value, 4) || number_in(value, "version")? != VERSION {
         return None;

@@ -4,8 +4,8 @@ use Rattle.std.specs.List.{Contains}
 use Rattle.vm_ranges.specs.Range.{Range, MAX, Overlaps, span}
 use Rattle.vm_engine.specs.Address.{AddressState, IsPlace, IsAddressState, holding, releasing, with_range, without_range}
 use Rattle.vm_ranges.specs.Request.{Request}
-use Rattle.vm_engine.specs.Answer.{Takes, Allocates, Frees, Makes}
-use Rattle.vm_engine.specs.Laws.AddressLaws.{HeldLieApart, StateIsKept, AddsRange, AllocatingAddsRange, FreeingDropsRange, FreeingUndoes}
+use Rattle.vm_engine.specs.Answer.{AllocatesAt, Allocates, Frees, Makes}
+use Rattle.vm_engine.specs.Laws.AddressLaws.{HeldAreDisjoint, StateIsPreserved, AddsRange, AllocatingAddsRange, FreeingRemovesRange, FreeingUndoes}
 use Rattle.vm_ranges.specs.declared.error.Error.{Error}
 use Rattle.vm_ranges.specs.declared.error.Error.TheVariants.{Overflow, OutOfMemory}
 use Rattle.vm_engine.proofs.Blocks.PlainWords.{IsHeld, contains_held, held_contains, none_holds}
@@ -26,7 +26,7 @@ pub record IsGiven (old : AddressState) (request : Request) (answer : Result Ran
   pub left : new ≡ holding (span from request.size) old
 
 pub outcome : (request : Request) (old new : AddressState) (answer : Result Range Error) → Allocates old request answer new → IsRefused old answer new ⊎ IsGiven old request answer new
-unfolding Takes
+unfolding AllocatesAt
 outcome request old new answer h =
     ⊎_elim
     (λ l. inl l)
@@ -100,11 +100,11 @@ made_state base size first w h =
     let m = made_is base size first h in
     subst IsAddressState (sym m.2) (record { space = (omega (arith, m.0), m.1, λ z. omega (arith, m.0)); in_order = tt })
 
-pub state_is_kept : StateIsKept
-state_is_kept = record { made = made_state; allocated = allocated_state; freed = freed_state }
+pub state_is_preserved : StateIsPreserved
+state_is_preserved = record { made = made_state; allocated = allocated_state; freed = freed_state }
 
 -- ---- the held ranges of a state
-pub lie_apart : HeldLieApart
+pub lie_apart : HeldAreDisjoint
 unfolding Overlaps
 lie_apart state i =
     let lo = state.space.start in
@@ -164,8 +164,8 @@ without_members old r q i h =
       λ c. contains_held (without_range r old.held) q (others_held lo hi r q old.held i.in_order h (held_contains old.held q c.0) (λ e. c.1 (sym e))),
     )
 
-pub drops_range : FreeingDropsRange
-drops_range old new r i h =
+pub removes_range : FreeingRemovesRange
+removes_range old new r i h =
     let f = freed_held old new r h in
     record {
       was = contains_held old.held r f.0;
@@ -189,6 +189,6 @@ undoes_given old mid new request r answer i g f =
 pub freeing_undoes : FreeingUndoes
 freeing_undoes old mid new request r answer i s f = undoes_given old mid new request r answer i (gets request old mid r s) f
 
-pub ruleset changes = (adds_range, drops_range, freeing_undoes)
+pub ruleset changes = (adds_range, removes_range, freeing_undoes)
 
-pub ruleset kept = (state_is_kept, lie_apart)
+pub ruleset preserved = (state_is_preserved, lie_apart)

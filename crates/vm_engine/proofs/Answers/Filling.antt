@@ -5,7 +5,7 @@ use Rattle.vm_ranges.specs.Cases.{IfElse, Unless}
 use Rattle.vm_ranges.specs.Range.{Range, MAX, IsIn, span}
 use Rattle.vm_engine.specs.Address.{AddressState, AreClear, IsPlace}
 use Rattle.vm_ranges.specs.Request.{Request, request_for, IsRequest, ByConstraint, MakesConstraint}
-use Rattle.vm_engine.specs.Answer.{IsChosen, ByStart, ByExactStart, ByPlace, Takes, Grants, Allocates, FillsGap, Frees}
+use Rattle.vm_engine.specs.Answer.{IsChosen, ByStart, ByExactPolicy, ByPlace, AllocatesAt, Grants, Allocates, FillsGap, Frees}
 use Rattle.vm_ranges.specs.declared.error.Error.{Error}
 use Rattle.vm_ranges.specs.declared.error.Error.TheVariants.{Overflow}
 use Rattle.vm_ranges.specs.declared.constraint.AllocPolicy.{AllocPolicy}
@@ -43,11 +43,11 @@ clear_not_held n t state z c h =
 
 -- the range at s is taken, unless it ends at MAX
 abbrev pub TakesBelowMax : AddressState → ℕ → ℕ → Result Range Error → AddressState → Type 0
-TakesBelowMax old n s answer new = IfElse (s + n - 1 ≡ MAX) ((answer ≡ Err Overflow) × (new ≡ old)) (Takes old (span s n) answer new)
+TakesBelowMax old n s answer new = IfElse (s + n - 1 ≡ MAX) ((answer ≡ Err Overflow) × (new ≡ old)) (AllocatesAt old (span s n) answer new)
 
 -- the answer to a request whose chosen place is s
 module _ (s : ℕ) (old new : AddressState) (answer : Result Range Error) where
-  by_place : (request : Request) → IsChosen request old s → ByPlace request old (λ e. (answer ≡ Err e) × (new ≡ old)) (λ r. Takes old r answer new) → TakesBelowMax old request.size s answer new
+  by_place : (request : Request) → IsChosen request old s → ByPlace request old (λ e. (answer ≡ Err e) × (new ≡ old)) (λ r. AllocatesAt old r answer new) → TakesBelowMax old request.size s answer new
   unfolding ByPlace
   by_place request c h =
       ⊎_elim
@@ -69,7 +69,7 @@ module _ (s : ℕ) (old new : AddressState) (answer : Result Range Error) where
       h
 
   chosen_by : (policy : AllocPolicy) (n a : ℕ) → 0 < n → s + n - 1 ≤ MAX → IsChosen (request_for n a policy) old s → Grants old (request_for n a policy) answer new → TakesBelowMax old n s answer new
-  unfolding Grants ByExactStart
+  unfolding Grants ByExactPolicy
   chosen_by FirstMatch n a z m c h = by_place (request_for n a FirstMatch) c h
   chosen_by LastMatch n a z m c h = by_place (request_for n a LastMatch) c h
   chosen_by (ExactMatch t) n a z m c h =
@@ -94,11 +94,11 @@ no_constraint_fault request e h r =
     let bad = given _ _ _ r.start (given _ _ _ r.aligned (otherwise _ _ _ (λ k. let z = r.some in omega arith) h)) in cc
 
 pub allocates_filling : (old new : AddressState) (request : Request) (s : ℕ) (answer : Result Range Error) → Allocates old request answer new → FillsGap old request s → IsOk answer
-unfolding Takes
+unfolding AllocatesAt
 allocates_filling old new request s answer h f =
     let m : s + request.size - 1 < MAX = f.below in
     ⊎_elim (λ k. rw k.0 refl) (λ k. absurd (f.fills k.0))
-    (otherwise _ _ _ (λ k. omega arith) (allocates_chosen request s old new answer f.sensible (omega arith) f.chosen h))
+    (otherwise _ _ _ (λ k. omega arith) (allocates_chosen request s old new answer f.valid (omega arith) f.chosen h))
 
 pub frees_held : (old new : AddressState) (r : Range) (answer : Result (Unit {0}) Error) → Frees old r answer new → Contains old.held r → IsOk answer
 unfolding Frees

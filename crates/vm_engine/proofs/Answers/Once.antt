@@ -2,10 +2,10 @@
 use Rattle.std.proofs.Common.{◌≡◌, ℕ, ◌+◌, ◌-◌, sym, ◌∙◌, arith, inl, inr, ⊎_elim, subst, Result, Err}
 use Rattle.vm_ranges.specs.Cases.{IfElse, Unless}
 use Rattle.vm_ranges.specs.Range.{Range, MAX, span}
-use Rattle.vm_engine.specs.Address.{AddressState, IsPlace, IsLeastPlace, IsGreatestPlace}
+use Rattle.vm_engine.specs.Address.{AddressState, IsPlace, IsLowestPlace, IsHighestPlace}
 use Rattle.vm_ranges.specs.Request.{Request, request_for, ByConstraint}
-use Rattle.vm_engine.specs.Answer.{IsChosen, ByStart, ByExactStart, ByPlace, Takes, Grants, Allocates, Frees}
-use Rattle.vm_engine.specs.Laws.AddressLaws.{AgreeButForSplits, AllocatesOnce, FreesOnce}
+use Rattle.vm_engine.specs.Answer.{IsChosen, ByStart, ByExactPolicy, ByPlace, AllocatesAt, Grants, Allocates, Frees}
+use Rattle.vm_engine.specs.Laws.AddressLaws.{AgreeExceptSplits, AllocatesOnce, FreesOnce}
 use Rattle.vm_ranges.specs.declared.error.Error.{Error}
 use Rattle.vm_ranges.specs.declared.error.Error.TheVariants.{Overflow, ResourceNotAvailable}
 use Rattle.vm_ranges.specs.declared.constraint.AllocPolicy.{AllocPolicy}
@@ -14,7 +14,7 @@ use Rattle.vm_ranges.proofs.TwoFacts.{if_same, unless_same}
 
 -- there is one chosen place
 chosen_by : (policy : AllocPolicy) (n a s t : ℕ) (state : AddressState) → IsChosen (request_for n a policy) state s → IsChosen (request_for n a policy) state t → s ≡ t
-unfolding IsChosen IsLeastPlace IsGreatestPlace
+unfolding IsChosen IsLowestPlace IsHighestPlace
 chosen_by FirstMatch n a s t state p q = omega (arith, p.1 t q.0, q.1 s p.0)
 chosen_by LastMatch n a s t state p q = omega (arith, p.1 t q.0, q.1 s p.0)
 chosen_by (ExactMatch u) n a s t state p q = p.0 ∙ sym q.0
@@ -24,7 +24,7 @@ chosen_once request s t state = chosen_by request.policy request.size request.al
 
 -- and it is a place
 place_by : (policy : AllocPolicy) (n a s : ℕ) (state : AddressState) → IsChosen (request_for n a policy) state s → IsPlace n a state s
-unfolding IsChosen IsLeastPlace IsGreatestPlace
+unfolding IsChosen IsLowestPlace IsHighestPlace
 place_by FirstMatch n a s state p = p.0
 place_by LastMatch n a s state p = p.0
 place_by (ExactMatch u) n a s state p = p.1
@@ -45,13 +45,13 @@ Refused old answer new e = (answer ≡ Err e) × (new ≡ old)
 -- two answers to one request, with the states that they leave
 module _ (old new later : AddressState) (answer other : Result Range Error) where
   abbrev Agree : Type 0
-  Agree = AgreeButForSplits old answer new other later
+  Agree = AgreeExceptSplits old answer new other later
 
   refused_once : (e : Error) → Refused old answer new e → Refused old other later e → Agree
   refused_once e p q = inl (p.0 ∙ sym q.0, p.1 ∙ sym q.1)
 
-  takes_once : (r : Range) → Takes old r answer new → Takes old r other later → Agree
-  unfolding Takes
+  takes_once : (r : Range) → AllocatesAt old r answer new → AllocatesAt old r other later → Agree
+  unfolding AllocatesAt
   takes_once r p q =
       ⊎_elim
       (λ a.
@@ -61,7 +61,7 @@ module _ (old new later : AddressState) (answer other : Result Range Error) wher
       q)
       (λ a. inr (record { range = r; split = a.0; first = p; second = q; refused = inl a.2 })) p
 
-  place_once : (request : Request) → ByPlace request old (Refused old answer new) (λ r. Takes old r answer new) → ByPlace request old (Refused old other later) (λ r. Takes old r other later) → Agree
+  place_once : (request : Request) → ByPlace request old (Refused old answer new) (λ r. AllocatesAt old r answer new) → ByPlace request old (Refused old other later) (λ r. AllocatesAt old r other later) → Agree
   unfolding ByPlace
   place_once request p q =
       let n = request.size in
@@ -70,8 +70,8 @@ module _ (old new later : AddressState) (answer other : Result Range Error) wher
       (λ u. ⊎_elim (λ v. absurd (v.0 u.0 (chosen_place request u.0 old u.1)))
       (λ v.
       let e : v.0 ≡ u.0 = chosen_once request v.0 u.0 old v.1 u.1 in
-      let w : IfElse (u.0 + n - 1 ≡ MAX) (Refused old other later Overflow) (Takes old (span u.0 n) other later) = subst (λ (s : ℕ). IfElse (s + n - 1 ≡ MAX) (Refused old other later Overflow) (Takes old (span s n) other later)) e v.2 in
-      both (u.0 + n - 1 ≡ MAX) (Refused old answer new Overflow) (Takes old (span u.0 n) answer new) (Refused old other later Overflow) (Takes old (span u.0 n) other later) Agree
+      let w : IfElse (u.0 + n - 1 ≡ MAX) (Refused old other later Overflow) (AllocatesAt old (span u.0 n) other later) = subst (λ (s : ℕ). IfElse (s + n - 1 ≡ MAX) (Refused old other later Overflow) (AllocatesAt old (span s n) other later)) e v.2 in
+      both (u.0 + n - 1 ≡ MAX) (Refused old answer new Overflow) (AllocatesAt old (span u.0 n) answer new) (Refused old other later Overflow) (AllocatesAt old (span u.0 n) other later) Agree
       (refused_once Overflow) (takes_once (span u.0 n)) u.2 w)
       q)
       p
@@ -87,7 +87,7 @@ module _ (old new later : AddressState) (answer other : Result Range Error) wher
       (both _ _ _ _ _ Agree (refused_once _) rest)))))
 
   grants_by : (policy : AllocPolicy) (n a : ℕ) → Grants old (request_for n a policy) answer new → Grants old (request_for n a policy) other later → Agree
-  unfolding Grants ByExactStart
+  unfolding Grants ByExactPolicy
   grants_by FirstMatch n a p q = place_once (request_for n a FirstMatch) p q
   grants_by LastMatch n a p q = place_once (request_for n a LastMatch) p q
   grants_by (ExactMatch t) n a p q = start_once t n _ _ (place_once (request_for n a (ExactMatch t))) p q

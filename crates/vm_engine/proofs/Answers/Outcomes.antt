@@ -3,7 +3,7 @@ use Rattle.std.proofs.Common.{◌≡◌, ℕ, ◌+◌, ◌-◌, arith, inl, inr,
 use Rattle.vm_ranges.specs.Range.{Range, MAX, span}
 use Rattle.vm_engine.specs.Address.{AddressState}
 use Rattle.vm_ranges.specs.Request.{Request, request_for, IsRequest, ByConstraint}
-use Rattle.vm_engine.specs.Answer.{IsChosen, ByStart, ByExactStart, ByPlace, Takes, Grants, Allocates}
+use Rattle.vm_engine.specs.Answer.{IsChosen, ByStart, ByExactPolicy, ByPlace, AllocatesAt, Grants, Allocates}
 use Rattle.vm_ranges.specs.declared.error.Error.{Error}
 use Rattle.vm_ranges.specs.declared.error.Error.TheVariants.{Overflow, ResourceNotAvailable}
 use Rattle.vm_ranges.specs.declared.constraint.AllocPolicy.{AllocPolicy}
@@ -16,7 +16,7 @@ IsRefused old answer new = (e : Error) × (answer ≡ Err e) × (new ≡ old)
 -- the range at the chosen place is taken, and does not end at MAX
 abbrev pub IsTaken : Request → AddressState → Result Range Error → AddressState → Type 0
 IsTaken request old answer new =
-    (s : ℕ) × IsChosen request old s × ¬ (s + request.size - 1 ≡ MAX) × Takes old (span s request.size) answer new
+    (s : ℕ) × IsChosen request old s × ¬ (s + request.size - 1 ≡ MAX) × AllocatesAt old (span s request.size) answer new
 
 -- an answer, with the state that it leaves
 module _ (old new : AddressState) (answer : Result Range Error) where
@@ -24,7 +24,7 @@ module _ (old new : AddressState) (answer : Result Range Error) where
   or_rest : (C D Q G : Type 0) (e : Error) → (D → Q → IsRefused old answer new ⊎ G) → (C × ((answer ≡ Err e) × (new ≡ old))) ⊎ (D × Q) → IsRefused old answer new ⊎ G
   or_rest C D Q G e f h = ⊎_elim (λ l. inl (e, l.1.0, l.1.1)) (λ r. f r.0 r.1) h
 
-  place_outcome : (request : Request) → ByPlace request old (λ e. (answer ≡ Err e) × (new ≡ old)) (λ r. Takes old r answer new) → IsRefused old answer new ⊎ IsTaken request old answer new
+  place_outcome : (request : Request) → ByPlace request old (λ e. (answer ≡ Err e) × (new ≡ old)) (λ r. AllocatesAt old r answer new) → IsRefused old answer new ⊎ IsTaken request old answer new
   unfolding ByPlace
   place_outcome request h =
       ⊎_elim
@@ -44,7 +44,7 @@ module _ (old new : AddressState) (answer : Result Range Error) where
       (λ d. rest)))))) h
 
   outcome_by : (policy : AllocPolicy) (n a : ℕ) → Grants old (request_for n a policy) answer new → IsRefused old answer new ⊎ IsTaken (request_for n a policy) old answer new
-  unfolding Grants ByExactStart
+  unfolding Grants ByExactPolicy
   outcome_by FirstMatch n a h = place_outcome (request_for n a FirstMatch) h
   outcome_by LastMatch n a h = place_outcome (request_for n a LastMatch) h
   outcome_by (ExactMatch t) n a h =

@@ -2,7 +2,7 @@
 use Rattle.std.proofs.Common.{ℕ, ◌+◌, ◌≤◌, List, [], ◌∷◌, ◌++◌, arith, cond, eqb, true, false}
 use Rattle.vm_ranges.specs.Range.{Range, IsRange}
 use Rattle.vm_engine.specs.Tree.Block.{Block}
-use Rattle.vm_engine.specs.Address.{without_range, StandInOrder, IsAddressState}
+use Rattle.vm_engine.specs.Address.{without_range, AreInOrder, IsAddressState}
 use Rattle.vm_engine.specs.Tree.Blocks.{Tiles, range_if_held, held_of, blocks_state, TilesSpace, AreKeysIn, IsTiling, AreBelowMax}
 use Rattle.vm_ranges.specs.declared.state.NodeState.{NodeState}
 use Rattle.vm_ranges.specs.declared.state.NodeState.TheVariants.{Free, Allocated}
@@ -12,7 +12,7 @@ pub below_without : (r : Range) (hs : List Range) → AreBelowMax hs → AreBelo
 below_without r [] h = tt
 below_without r (x ∷ xs) h = elim (eqb r.start x.start) as (λ v. AreBelowMax (cond v xs (x ∷ without_range r xs))) [ true ↦ h.1 | false ↦ (h.0, below_without r xs h.1) ]
 
-pub in_order_from : (lo m hi : ℕ) (rs : List Range) → lo ≤ m → StandInOrder m rs hi → StandInOrder lo rs hi
+pub in_order_from : (lo m hi : ℕ) (rs : List Range) → lo ≤ m → AreInOrder m rs hi → AreInOrder lo rs hi
 in_order_from lo m hi [] l s = tt
 in_order_from lo m hi (r ∷ rs) l s = (omega (arith, s.0), s.1, s.2, s.3, s.4)
 
@@ -24,11 +24,11 @@ tiles_keys p lo hi (b ∷ bs) t =
     (omega (arith, t.0), omega (arith, t.0, t.1), omega arith, tiles_keys b.state (b.key.end + 1) hi bs t.3)
 
 -- the held ones of keys in order lie apart
-with_held : (s : NodeState) (k : Range) (rs : List Range) (lo hi : ℕ) → lo ≤ k.start → k.start ≤ k.end → k.end ≤ hi → AreBelowMax (range_if_held s k ++ rs) → (AreBelowMax rs → StandInOrder (k.end + 1) rs hi) → StandInOrder lo (range_if_held s k ++ rs) hi
+with_held : (s : NodeState) (k : Range) (rs : List Range) (lo hi : ℕ) → lo ≤ k.start → k.start ≤ k.end → k.end ≤ hi → AreBelowMax (range_if_held s k ++ rs) → (AreBelowMax rs → AreInOrder (k.end + 1) rs hi) → AreInOrder lo (range_if_held s k ++ rs) hi
 with_held Free k rs lo hi l o e h f = in_order_from lo (k.end + 1) hi rs (omega arith) (f h)
 with_held Allocated k rs lo hi l o e h f = (l, o, e, h.0, f h.1)
 
-pub keys_in_order : (lo hi : ℕ) (bs : List Block) → AreKeysIn lo bs hi → AreBelowMax (held_of bs) → StandInOrder lo (held_of bs) hi
+pub keys_in_order : (lo hi : ℕ) (bs : List Block) → AreKeysIn lo bs hi → AreBelowMax (held_of bs) → AreInOrder lo (held_of bs) hi
 keys_in_order lo hi [] k h = tt
 keys_in_order lo hi (b ∷ bs) k h = with_held b.state b.key (held_of bs) lo hi k.0 k.1 k.2 h (λ g. keys_in_order (b.key.end + 1) hi bs k.3 g)
 

@@ -2,7 +2,7 @@
 use Rattle.std.proofs.Common.{◌≡◌, ℕ, ◌+◌, ◌<◌, ◌≤◌, ◌⊎◌, List, [], ◌∷◌, refl, sym, ap, ◌∙◌, arith, inl, inr, ⊎_elim, eq-eqb}
 use Rattle.std.proofs.lemmas.Bool.{cases_lt, lt-ltb, le-ltb, cases_eq, ne_eqb}
 use Rattle.vm_ranges.specs.Range.{Range, MAX, IsIn}
-use Rattle.vm_engine.specs.Address.{with_range, without_range, StandInOrder}
+use Rattle.vm_engine.specs.Address.{with_range, without_range, AreInOrder}
 use Rattle.vm_engine.proofs.Blocks.PlainWords.{IsHeldAddress, IsHeld}
 use Rattle.vm_engine.proofs.Blocks.BlockStates.{in_order_from}
 use Rattle.vm_engine.proofs.Blocks.HeldSets.{later_above, one_start}
@@ -31,7 +31,7 @@ beside x r xs o l m =
 misses_later : (x r : Range) (xs : List Range) → Misses (x ∷ xs) r → Misses xs r
 misses_later x r xs m a i h = m a i (inr h)
 
-pub in_order_with : (lo hi : ℕ) (r : Range) (hs : List Range) → StandInOrder lo hs hi → lo ≤ r.start → r.start ≤ r.end → r.end ≤ hi → r.end < MAX → Misses hs r → StandInOrder lo (with_range r hs) hi
+pub in_order_with : (lo hi : ℕ) (r : Range) (hs : List Range) → AreInOrder lo hs hi → lo ≤ r.start → r.start ≤ r.end → r.end ≤ hi → r.end < MAX → Misses hs r → AreInOrder lo (with_range r hs) hi
 in_order_with lo hi r [] s b l u w m = (b, l, u, w, tt)
 in_order_with lo hi r (x ∷ xs) s b l u w m =
     ⊎_elim
@@ -75,7 +75,7 @@ held_now r (x ∷ xs) =
     (cases_lt r.start x.start)
 
 -- ---- with one less
-pub in_order_without : (lo hi : ℕ) (r : Range) (hs : List Range) → StandInOrder lo hs hi → StandInOrder lo (without_range r hs) hi
+pub in_order_without : (lo hi : ℕ) (r : Range) (hs : List Range) → AreInOrder lo hs hi → AreInOrder lo (without_range r hs) hi
 in_order_without lo hi r [] s = tt
 in_order_without lo hi r (x ∷ xs) s =
     ⊎_elim
@@ -84,7 +84,7 @@ in_order_without lo hi r (x ∷ xs) s =
     (cases_eq r.start x.start)
 
 -- what is taken and given back leaves the ranges from before
-pub without_with : (lo hi : ℕ) (r : Range) (hs : List Range) → StandInOrder lo hs hi → r.start ≤ r.end → Misses hs r → without_range r (with_range r hs) ≡ hs
+pub without_with : (lo hi : ℕ) (r : Range) (hs : List Range) → AreInOrder lo hs hi → r.start ≤ r.end → Misses hs r → without_range r (with_range r hs) ≡ hs
 without_with lo hi r [] s l m = let e = eq-eqb r.start r.start refl in rw e refl
 without_with lo hi r (x ∷ xs) s l m =
     ⊎_elim
@@ -111,7 +111,7 @@ held_without r q (x ∷ xs) h =
     (cases_eq r.start x.start)
 
 -- and is not that one
-pub not_held_without : (lo hi : ℕ) (r q : Range) (hs : List Range) → StandInOrder lo hs hi → IsHeld (without_range r hs) q → r ≡ q → ⊥
+pub not_held_without : (lo hi : ℕ) (r q : Range) (hs : List Range) → AreInOrder lo hs hi → IsHeld (without_range r hs) q → r ≡ q → ⊥
 not_held_without lo hi r q [] s h g = h
 not_held_without lo hi r q (x ∷ xs) s h g =
     let same : r.start ≡ q.start = ap (λ (v : Range). v.start) g in
@@ -143,5 +143,5 @@ still_held r q (x ∷ xs) h n =
     (cases_eq r.start x.start)
 
 -- where the one that is given back is held
-pub others_held : (lo hi : ℕ) (r q : Range) (hs : List Range) → StandInOrder lo hs hi → IsHeld hs r → IsHeld hs q → ¬ (r ≡ q) → IsHeld (without_range r hs) q
+pub others_held : (lo hi : ℕ) (r q : Range) (hs : List Range) → AreInOrder lo hs hi → IsHeld hs r → IsHeld hs q → ¬ (r ≡ q) → IsHeld (without_range r hs) q
 others_held lo hi r q hs s h k n = still_held r q hs k (λ (e : r.start ≡ q.start). n (one_start lo hi r q hs s h k e))

@@ -11,8 +11,8 @@ use Rattle.std.specs.List.{Contains}
 use Rattle.std.specs.Ordering.{eq_by_cmp}
 use Rattle.vm_ranges.specs.Range.{Range}
 use Rattle.vm_ranges.specs.RangeOrder.{range_cmp, range_cmp-total}
-use Rattle.vm_engine.specs.Address.{StandInOrder}
-use Rattle.vm_engine.specs.Laws.AddressLaws.{CountTellsAll}
+use Rattle.vm_engine.specs.Address.{AreInOrder}
+use Rattle.vm_engine.specs.Laws.AddressLaws.{CountFindsAll}
 use Rattle.vm_ranges.proofs.Listed.{Differ, AreAtMost, listed_is, each_listed}
 use Rattle.vm_engine.proofs.Blocks.PlainWords.{held_contains}
 use Rattle.vm_engine.proofs.Blocks.HeldSets.{later_above}
@@ -32,7 +32,7 @@ no_more hs rs d a =
     length-le_from_is_member laws rs hs (IsDistinct-from_AllPairs tells rs d)
     (λ q m. (is_member-Decides tells hs q).1 (listed_is tells (Contains hs) rs q a m))
 
-held_differ : (lo hi : ℕ) (hs : List Range) → StandInOrder lo hs hi → Differ hs
+held_differ : (lo hi : ℕ) (hs : List Range) → AreInOrder lo hs hi → Differ hs
 held_differ lo hi [] s = λ i j d l m. absurd (omega (arith, m))
 held_differ lo hi (x ∷ xs) s =
     AllPairs-cons (λ r s. r ≢ s) x xs
@@ -41,7 +41,7 @@ held_differ lo hi (x ∷ xs) s =
     omega (arith, later_above lo hi x xs x s (held_contains xs x c), s.1))
     (held_differ (x.end + 1) hi xs s.4)
 
-pub ranges_listed : CountTellsAll
+pub ranges_listed : CountFindsAll
 ranges_listed state list i d a =
     let held = state.held in (
       λ e r. each_listed tells (Contains held) (length held) (no_more held) list r d a e,

@@ -1,11 +1,11 @@
 -- Held ranges in order, as a set.
 use Rattle.std.proofs.Common.{◌≡◌, ℕ, ◌+◌, ◌<◌, ◌≤◌, ◌↔◌, List, [], ◌∷◌, refl, sym, ap, ◌∙◌, arith, inl, inr, ⊎_elim, subst}
 use Rattle.vm_ranges.specs.Range.{Range, MAX, IsIn}
-use Rattle.vm_engine.specs.Address.{StandInOrder}
+use Rattle.vm_engine.specs.Address.{AreInOrder}
 use Rattle.vm_engine.proofs.Blocks.PlainWords.{IsHeld}
 
 -- ---- where a held range lies
-pub held_lies : (lo hi : ℕ) (hs : List Range) (r : Range) → StandInOrder lo hs hi → IsHeld hs r → (lo ≤ r.start) × (r.start ≤ r.end) × (r.end ≤ hi) × (r.end < MAX)
+pub held_lies : (lo hi : ℕ) (hs : List Range) (r : Range) → AreInOrder lo hs hi → IsHeld hs r → (lo ≤ r.start) × (r.start ≤ r.end) × (r.end ≤ hi) × (r.end < MAX)
 held_lies lo hi [] r s h = absurd h
 held_lies lo hi (x ∷ xs) r s h =
     ⊎_elim
@@ -14,11 +14,11 @@ held_lies lo hi (x ∷ xs) r s h =
     h
 
 -- the first of them lies below each later one
-pub later_above : (lo hi : ℕ) (x : Range) (xs : List Range) (r : Range) → StandInOrder lo (x ∷ xs) hi → IsHeld xs r → x.end < r.start
+pub later_above : (lo hi : ℕ) (x : Range) (xs : List Range) (r : Range) → AreInOrder lo (x ∷ xs) hi → IsHeld xs r → x.end < r.start
 later_above lo hi x xs r s h = let i = held_lies (x.end + 1) hi xs r s.4 h in omega (arith, i.0)
 
 -- two that have an address in common are one
-pub one_held : (lo hi a : ℕ) (hs : List Range) (r q : Range) → StandInOrder lo hs hi → IsHeld hs r → IsHeld hs q → IsIn r a → IsIn q a → r ≡ q
+pub one_held : (lo hi a : ℕ) (hs : List Range) (r q : Range) → AreInOrder lo hs hi → IsHeld hs r → IsHeld hs q → IsIn r a → IsIn q a → r ≡ q
 one_held lo hi a [] r q s h k i j = absurd h
 one_held lo hi a (x ∷ xs) r q s h k i j =
     ⊎_elim
@@ -35,7 +35,7 @@ one_held lo hi a (x ∷ xs) r q s h k i j =
     h
 
 -- so are two that have one start
-pub one_start : (lo hi : ℕ) (r q : Range) (hs : List Range) → StandInOrder lo hs hi → IsHeld hs r → IsHeld hs q → r.start ≡ q.start → r ≡ q
+pub one_start : (lo hi : ℕ) (r q : Range) (hs : List Range) → AreInOrder lo hs hi → IsHeld hs r → IsHeld hs q → r.start ≡ q.start → r ≡ q
 one_start lo hi r q hs s h k e =
     let i = held_lies lo hi hs r s h in
     let j = held_lies lo hi hs q s k in
@@ -43,7 +43,7 @@ one_start lo hi r q hs s h k e =
 
 -- ---- two lists of the same ranges
 -- two lists of each other's ranges begin alike
-same_first : (lo ly hi hy : ℕ) (x y : Range) (xs ys : List Range) → StandInOrder lo (x ∷ xs) hi → StandInOrder ly (y ∷ ys) hy → IsHeld (y ∷ ys) x → IsHeld (x ∷ xs) y → x ≡ y
+same_first : (lo ly hi hy : ℕ) (x y : Range) (xs ys : List Range) → AreInOrder lo (x ∷ xs) hi → AreInOrder ly (y ∷ ys) hy → IsHeld (y ∷ ys) x → IsHeld (x ∷ xs) y → x ≡ y
 same_first lo ly hi hy x y xs ys s t h k =
     ⊎_elim
     (λ (e : y ≡ x). sym e)
@@ -55,7 +55,7 @@ same_first lo ly hi hy x y xs ys s t h k =
     h
 
 -- what follows a range is not that range
-in_rest : (lo hi : ℕ) (x y : Range) (xs ys : List Range) (r : Range) → StandInOrder lo (x ∷ xs) hi → x ≡ y → IsHeld xs r → IsHeld (y ∷ ys) r → IsHeld ys r
+in_rest : (lo hi : ℕ) (x y : Range) (xs ys : List Range) (r : Range) → AreInOrder lo (x ∷ xs) hi → x ≡ y → IsHeld xs r → IsHeld (y ∷ ys) r → IsHeld ys r
 in_rest lo hi x y xs ys r s e h k =
     ⊎_elim
     (λ (f : y ≡ r). absurd (omega (arith, later_above lo hi x xs r s h, s.1, ap (λ (v : Range). v.start) (e ∙ f))))
@@ -63,7 +63,7 @@ in_rest lo hi x y xs ys r s e h k =
     k
 
 -- so they are one list
-pub same_ranges_held : (lo ly hi hy : ℕ) (xs ys : List Range) → StandInOrder lo xs hi → StandInOrder ly ys hy → ((r : Range) → IsHeld xs r ↔ IsHeld ys r) → xs ≡ ys
+pub same_ranges_held : (lo ly hi hy : ℕ) (xs ys : List Range) → AreInOrder lo xs hi → AreInOrder ly ys hy → ((r : Range) → IsHeld xs r ↔ IsHeld ys r) → xs ≡ ys
 same_ranges_held lo ly hi hy [] [] s t h = refl
 same_ranges_held lo ly hi hy [] (y ∷ ys) s t h = absurd ((h y).1 (inl refl))
 same_ranges_held lo ly hi hy (x ∷ xs) [] s t h = absurd ((h x).0 (inl refl))

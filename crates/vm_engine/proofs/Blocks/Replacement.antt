@@ -7,8 +7,8 @@ use Rattle.vm_engine.specs.Tree.Block.{Block}
 use Rattle.vm_engine.specs.Tree.BlockList.{IsOrderedFrom, replace_block, find_key}
 use Rattle.vm_engine.specs.Tree.Shape.{Shape, Fork, blocks, IsTree}
 use Rattle.vm_engine.specs.Engine.Changes.{LeavesIfAbsent}
-use Rattle.vm_engine.specs.declared.node.kept.Change.{Change}
-use Rattle.vm_engine.specs.declared.node.kept.Change.TheVariants.{Nothing}
+use Rattle.vm_engine.specs.declared.node.summary.Change.{Change}
+use Rattle.vm_engine.specs.declared.node.summary.Change.TheVariants.{Nothing}
 use Rattle.vm_ranges.proofs.RangeCalls.{before_parts, starts_low}
 use Rattle.vm_engine.proofs.Blocks.BlockOrder.{ordered_middle, ordered_weaken, ordered_drop}
 
@@ -197,4 +197,4 @@ take_left s l x r m rest e f t =
     let q : IsOrderedFrom 0 (m ∷ rest ++ x ∷ blocks r) = rw f at o in
     (ordered_weaken 0 (m.key.end + 1) (rest ++ x ∷ blocks r) (omega arith) q.2, ap blocks e ∙ ap (λ (v : List Block). v ++ x ∷ blocks r) f)
 
-pub ruleset leasts = (take_left)
+pub ruleset first_blocks = (take_left)

@@ -5,7 +5,7 @@ use Rattle.std.proofs.Common.{false, ◌≡◌, ℕ, Option, Some, None, List, [
 use Rattle.std.specs.List.{All}
 use Rattle.std.proofs.lemmas.List.Elements.{All-head, All-tail, All-cons}
 use Rattle.vm_engine.specs.Tree.Block.{Block, free_block}
-use Rattle.vm_engine.specs.Tree.Fit.{IsFit, HasNoFit, IsLeastFit, IsGreatestFit}
+use Rattle.vm_engine.specs.Tree.Fit.{IsFit, HasNoFit, IsLowestFit, IsHighestFit}
 use Rattle.vm_engine.specs.Engine.Place.{IsFirstFit, IsLastFit, FindsFirst, FindsLast}
 use Rattle.vm_engine.specs.Tree.Shape.{Shape, Fork, blocks}
 use Rattle.vm_engine.specs.declared.node.places.Place.{Place}
@@ -24,13 +24,13 @@ none_of n a s l b r e h k m =
 free_if_fits : (n a t : ℕ) (b : Block) → IsFit n a b t → b ≡ free_block b.key
 free_if_fits n a t b f = same_block b (free_block b.key) refl f.0
 
-least_is_fit : (n a t : ℕ) (b : Block) → IsLeastFit n a b t → IsFit n a b t
-unfolding IsLeastFit
-least_is_fit n a t b f = f.0
+lowest_is_fit : (n a t : ℕ) (b : Block) → IsLowestFit n a b t → IsFit n a b t
+unfolding IsLowestFit
+lowest_is_fit n a t b f = f.0
 
-greatest_is_fit : (n a t : ℕ) (b : Block) → IsGreatestFit n a b t → IsFit n a b t
-unfolding IsGreatestFit
-greatest_is_fit n a t b f = f.0
+highest_is_fit : (n a t : ℕ) (b : Block) → IsHighestFit n a b t → IsFit n a b t
+unfolding IsHighestFit
+highest_is_fit n a t b f = f.0
 
 pub first_in_left : (n a : ℕ) (s l : Shape) (b : Block) (r : Shape) (place : Place) → s ≡ Fork l b r → IsFirstFit n a (blocks l) place → IsFirstFit n a (blocks s) place
 first_in_left n a s l b r place e f = record {
@@ -41,15 +41,15 @@ first_in_left n a s l b r place e f = record {
   fit = f.fit;
 }
 
-pub first_here : (n a t : ℕ) (s l : Shape) (b : Block) (r : Shape) → s ≡ Fork l b r → All (HasNoFit n a) (blocks l) → IsLeastFit n a b t → IsFirstFit n a (blocks s) (record { key = b.key; start = t })
+pub first_here : (n a t : ℕ) (s l : Shape) (b : Block) (r : Shape) → s ≡ Fork l b r → All (HasNoFit n a) (blocks l) → IsLowestFit n a b t → IsFirstFit n a (blocks s) (record { key = b.key; start = t })
 first_here n a t s l b r e h f =
-    let free = free_if_fits n a t b (least_is_fit n a t b f) in
+    let free = free_if_fits n a t b (lowest_is_fit n a t b f) in
     record {
       before = blocks l;
       after = blocks r;
       cut = ap blocks e ∙ ap (λ (v : Block). blocks l ++ v ∷ blocks r) free;
       none = h;
-      fit = subst (λ (v : Block). IsLeastFit n a v t) free f;
+      fit = subst (λ (v : Block). IsLowestFit n a v t) free f;
     }
 
 first_in_right : (n a : ℕ) (s l : Shape) (b : Block) (r : Shape) (place : Place) → s ≡ Fork l b r → All (HasNoFit n a) (blocks l) → HasNoFit n a b → IsFirstFit n a (blocks r) place → IsFirstFit n a (blocks s) place
@@ -70,15 +70,15 @@ last_in_right n a s l b r place e f = record {
   fit = f.fit;
 }
 
-pub last_here : (n a t : ℕ) (s l : Shape) (b : Block) (r : Shape) → s ≡ Fork l b r → All (HasNoFit n a) (blocks r) → IsGreatestFit n a b t → IsLastFit n a (blocks s) (record { key = b.key; start = t })
+pub last_here : (n a t : ℕ) (s l : Shape) (b : Block) (r : Shape) → s ≡ Fork l b r → All (HasNoFit n a) (blocks r) → IsHighestFit n a b t → IsLastFit n a (blocks s) (record { key = b.key; start = t })
 last_here n a t s l b r e h f =
-    let free = free_if_fits n a t b (greatest_is_fit n a t b f) in
+    let free = free_if_fits n a t b (highest_is_fit n a t b f) in
     record {
       before = blocks l;
       after = blocks r;
       cut = ap blocks e ∙ ap (λ (v : Block). blocks l ++ v ∷ blocks r) free;
       none = h;
-      fit = subst (λ (v : Block). IsGreatestFit n a v t) free f;
+      fit = subst (λ (v : Block). IsHighestFit n a v t) free f;
     }
 
 last_in_left : (n a : ℕ) (s l : Shape) (b : Block) (r : Shape) (place : Place) → s ≡ Fork l b r → All (HasNoFit n a) (blocks r) → HasNoFit n a b → IsLastFit n a (blocks l) place → IsLastFit n a (blocks s) place

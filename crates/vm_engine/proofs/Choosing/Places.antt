@@ -4,9 +4,9 @@ use Rattle.std.specs.List.{All}
 use Rattle.std.proofs.lemmas.List.Elements.{All-head, All-tail}
 use Rattle.vm_ranges.specs.Range.{Range}
 use Rattle.vm_engine.specs.Tree.Block.{Block}
-use Rattle.vm_engine.specs.Address.{AddressState, IsPlace, IsLeastPlace, IsGreatestPlace}
+use Rattle.vm_engine.specs.Address.{AddressState, IsPlace, IsLowestPlace, IsHighestPlace}
 use Rattle.vm_engine.specs.Tree.Blocks.{Tiles, IsBlocksOf}
-use Rattle.vm_engine.specs.Tree.Fit.{IsFit, HasNoFit, IsLeastFit, IsGreatestFit}
+use Rattle.vm_engine.specs.Tree.Fit.{IsFit, HasNoFit, IsLowestFit, IsHighestFit}
 use Rattle.vm_engine.proofs.Blocks.PlainWords.{IsHeldAddress, all_miss, none_holds}
 use Rattle.vm_ranges.specs.declared.state.NodeState.{NodeState}
 use Rattle.vm_ranges.specs.declared.state.NodeState.TheVariants.{Free, Allocated}
@@ -42,8 +42,8 @@ fit_here b n a t z d f = (f.0, d, f.1, omega (arith, f.2))
 pub above : (p : NodeState) (lo hi s e : ℕ) (bs : List Block) → Tiles p lo bs hi → s ≤ e → InFreeBlock bs s e → lo ≤ s
 above p lo hi s e bs t l f = (free_is_clear p lo hi s e s bs t f (omega arith) l).0
 
-not_below : (p : NodeState) (lo hi n a t u : ℕ) (xs ys : List Block) (b : Block) → Tiles p lo (xs ++ b ∷ ys) hi → All (HasNoFit n a) xs → IsLeastFit n a b t → 0 < n → u % a ≡ 0 → InFreeBlock (xs ++ b ∷ ys) u (u + n - 1) → t ≤ u
-unfolding HasNoFit IsLeastFit
+not_below : (p : NodeState) (lo hi n a t u : ℕ) (xs ys : List Block) (b : Block) → Tiles p lo (xs ++ b ∷ ys) hi → All (HasNoFit n a) xs → IsLowestFit n a b t → 0 < n → u % a ≡ 0 → InFreeBlock (xs ++ b ∷ ys) u (u + n - 1) → t ≤ u
+unfolding HasNoFit IsLowestFit
 not_below p lo hi n a t u [] ys b h nf l z d f =
     ⊎_elim
     (λ (i : (b.state ≡ Free) × (b.key.start ≤ u) × (u + n - 1 ≤ b.key.end)). l.1 u (fit_here b n a u z d i))
@@ -55,8 +55,8 @@ not_below p lo hi n a t u (x ∷ xs) ys b h nf l z d f =
     (λ (i : InFreeBlock (xs ++ b ∷ ys) u (u + n - 1)). not_below x.state (x.key.end + 1) hi n a t u xs ys b h.3 (All-tail (HasNoFit n a) x xs nf) l z d i)
     f
 
-not_above : (p : NodeState) (lo hi n a t u : ℕ) (xs ys : List Block) (b : Block) → Tiles p lo (xs ++ b ∷ ys) hi → All (HasNoFit n a) ys → IsGreatestFit n a b t → 0 < n → u % a ≡ 0 → InFreeBlock (xs ++ b ∷ ys) u (u + n - 1) → u ≤ t
-unfolding HasNoFit IsGreatestFit
+not_above : (p : NodeState) (lo hi n a t u : ℕ) (xs ys : List Block) (b : Block) → Tiles p lo (xs ++ b ∷ ys) hi → All (HasNoFit n a) ys → IsHighestFit n a b t → 0 < n → u % a ≡ 0 → InFreeBlock (xs ++ b ∷ ys) u (u + n - 1) → u ≤ t
+unfolding HasNoFit IsHighestFit
 not_above p lo hi n a t u [] ys b h nf l z d f =
     ⊎_elim
     (λ (i : (b.state ≡ Free) × (b.key.start ≤ u) × (u + n - 1 ≤ b.key.end)). l.1 u (fit_here b n a u z d i))
@@ -86,9 +86,9 @@ pub no_place : (state : AddressState) (bs : List Block) (n a : ℕ) → IsBlocks
 no_place state bs n a h z nf s p = none_at bs n a s nf z (place_divides state n a s p) (place_in_block state bs n a s h z p)
 
 -- the least fit of the first block that has one is the least place
-pub least_place : (state : AddressState) (bs xs ys : List Block) (b : Block) (n a t : ℕ) → IsBlocksOf state bs → bs ≡ xs ++ b ∷ ys → 0 < n → All (HasNoFit n a) xs → IsLeastFit n a b t → IsLeastPlace n a state t
-unfolding IsLeastPlace IsLeastFit
-least_place state bs xs ys b n a t h e z nf l =
+pub lowest_place : (state : AddressState) (bs xs ys : List Block) (b : Block) (n a t : ℕ) → IsBlocksOf state bs → bs ≡ xs ++ b ∷ ys → 0 < n → All (HasNoFit n a) xs → IsLowestFit n a b t → IsLowestPlace n a state t
+unfolding IsLowestPlace IsLowestFit
+lowest_place state bs xs ys b n a t h e z nf l =
     let tiles : Tiles Allocated state.space.start (xs ++ b ∷ ys) state.space.end = subst (λ (v : List Block). Tiles Allocated state.space.start v state.space.end) e h.tiles in
     let inside : InFreeBlock bs t (t + n - 1) = subst (λ (v : List Block). InFreeBlock v t (t + n - 1)) (sym e) (fit_within xs ys b n a t z l.0) in (
       block_place state bs n a t h z l.0.1 inside,
@@ -98,9 +98,9 @@ least_place state bs xs ys b n a t h e z nf l =
     )
 
 -- the greatest fit of the last block that has one is the greatest place
-pub greatest_place : (state : AddressState) (bs xs ys : List Block) (b : Block) (n a t : ℕ) → IsBlocksOf state bs → bs ≡ xs ++ b ∷ ys → 0 < n → All (HasNoFit n a) ys → IsGreatestFit n a b t → IsGreatestPlace n a state t
-unfolding IsGreatestPlace IsGreatestFit
-greatest_place state bs xs ys b n a t h e z nf l =
+pub highest_place : (state : AddressState) (bs xs ys : List Block) (b : Block) (n a t : ℕ) → IsBlocksOf state bs → bs ≡ xs ++ b ∷ ys → 0 < n → All (HasNoFit n a) ys → IsHighestFit n a b t → IsHighestPlace n a state t
+unfolding IsHighestPlace IsHighestFit
+highest_place state bs xs ys b n a t h e z nf l =
     let tiles : Tiles Allocated state.space.start (xs ++ b ∷ ys) state.space.end = subst (λ (v : List Block). Tiles Allocated state.space.start v state.space.end) e h.tiles in
     let inside : InFreeBlock bs t (t + n - 1) = subst (λ (v : List Block). InFreeBlock v t (t + n - 1)) (sym e) (fit_within xs ys b n a t z l.0) in (
       block_place state bs n a t h z l.0.1 inside,

@@ -3,47 +3,47 @@ use Rattle.std.proofs.Common.{Option, Some, None, IfSome, ◌≡◌, ℕ, ◌+�
 use Rattle.std.specs.List.{All}
 use Rattle.vm_ranges.specs.Range.{Range, MAX, span}
 use Rattle.vm_engine.specs.Tree.Block.{Block, free_block}
-use Rattle.vm_engine.specs.Address.{AddressState, IsPlace, IsLeastPlace, IsGreatestPlace}
+use Rattle.vm_engine.specs.Address.{AddressState, IsPlace, IsLowestPlace, IsHighestPlace}
 use Rattle.vm_ranges.specs.Request.{Request, request_for, IsRequest}
-use Rattle.vm_engine.specs.Answer.{IsChosen, ByExactStart, ByPlace, Takes, Grants}
-use Rattle.vm_engine.specs.Tree.Fit.{HasNoFit, IsLeastFit, IsGreatestFit}
-use Rattle.vm_engine.specs.Tree.BlockEdits.{IsTakenFrom, HasRoom}
+use Rattle.vm_engine.specs.Answer.{IsChosen, ByExactPolicy, ByPlace, AllocatesAt, Grants}
+use Rattle.vm_engine.specs.Tree.Fit.{HasNoFit, IsLowestFit, IsHighestFit}
+use Rattle.vm_engine.specs.Tree.BlockEdits.{IsTakenFrom, HasLength}
 use Rattle.vm_engine.specs.Engine.Place.{IsFirstFit, IsLastFit, FindsFirst, FindsLast}
 use Rattle.vm_engine.specs.Tree.Shape.{Shape, blocks}
-use Rattle.vm_engine.specs.Engine.Choosing.{ChoosesAt, IsChoice, HoldingGrants, Chooses, ChoosesBelowMax}
+use Rattle.vm_engine.specs.Engine.Choosing.{ChoosesAt, IsChoice, AllocatingGrants, Chooses, ChoosesBelowMax}
 use Rattle.vm_engine.specs.Tree.SpaceTree.{space_of, tree_state, IsSpaceTree}
 use Rattle.vm_ranges.specs.declared.error.Error.{Error}
 use Rattle.vm_ranges.specs.declared.error.Error.TheVariants.{Overflow, ResourceNotAvailable}
 use Rattle.vm_ranges.specs.declared.constraint.AllocPolicy.{AllocPolicy}
 use Rattle.vm_ranges.specs.declared.constraint.AllocPolicy.TheVariants.{FirstMatch, LastMatch, ExactMatch}
 use Rattle.vm_engine.specs.declared.node.places.Place.{Place}
-use Rattle.vm_engine.specs.declared.node.carve.Choice.{Choice}
+use Rattle.vm_engine.specs.declared.node.split.Choice.{Choice}
 use Rattle.vm_engine.proofs.Answers.Requests.{with_policy}
-use Rattle.vm_engine.proofs.Counts.WayCases.{search_first, search_last}
-use Rattle.vm_engine.proofs.Choosing.Places.{least_place, greatest_place, no_place}
-use Rattle.vm_engine.proofs.Splitting.Taking.{as_blocks}
+use Rattle.vm_engine.proofs.Counts.NodeCountCases.{search_first, search_last}
+use Rattle.vm_engine.proofs.Choosing.Places.{lowest_place, highest_place, no_place}
+use Rattle.vm_engine.proofs.Splitting.TakenRanges.{as_blocks}
 
 -- ---- requests that name no start
-abbrev pub NamesNoStart : AllocPolicy → Type 0
-NamesNoStart policy = (policy ≡ FirstMatch) ⊎ (policy ≡ LastMatch)
+abbrev pub IsNotExact : AllocPolicy → Type 0
+IsNotExact policy = (policy ≡ FirstMatch) ⊎ (policy ≡ LastMatch)
 
 -- the places alone decide them
-grants_by : (policy : AllocPolicy) (n a : ℕ) (old new : AddressState) (answer : Result Range Error) → NamesNoStart policy → ByPlace (request_for n a policy) old (λ e. (answer ≡ Err e) × (new ≡ old)) (λ r. Takes old r answer new) → Grants old (request_for n a policy) answer new
-unfolding Grants ByExactStart
+grants_by : (policy : AllocPolicy) (n a : ℕ) (old new : AddressState) (answer : Result Range Error) → IsNotExact policy → ByPlace (request_for n a policy) old (λ e. (answer ≡ Err e) × (new ≡ old)) (λ r. AllocatesAt old r answer new) → Grants old (request_for n a policy) answer new
+unfolding Grants ByExactPolicy
 grants_by FirstMatch n a old new answer p h = h
 grants_by LastMatch n a old new answer p h = h
 grants_by (ExactMatch t) n a old new answer p h = absurd (⊎_elim (λ e. cc e) (λ e. cc e) p)
 
 -- a request of which the policy is known
-module _ (request : Request) (old : AddressState) (searched : NamesNoStart request.policy) where
-  places_grant : (new : AddressState) (answer : Result Range Error) → ByPlace request old (λ e. (answer ≡ Err e) × (new ≡ old)) (λ r. Takes old r answer new) → Grants old request answer new
+module _ (request : Request) (old : AddressState) (searched : IsNotExact request.policy) where
+  places_grant : (new : AddressState) (answer : Result Range Error) → ByPlace request old (λ e. (answer ≡ Err e) × (new ≡ old)) (λ r. AllocatesAt old r answer new) → Grants old request answer new
   places_grant new answer = grants_by request.policy request.size request.align old new answer searched
 
   none_grants : ((s : ℕ) → ¬ IsPlace request.size request.align old s) → Grants old request (Err ResourceNotAvailable) old
   unfolding ByPlace
   none_grants none = places_grant old (Err ResourceNotAvailable) (inl (none, (refl, refl)))
 
-  chosen_grants : (t : ℕ) (new : AddressState) (answer : Result Range Error) → IsChosen request old t → t + request.size - 1 < MAX → Takes old (span t request.size) answer new → Grants old request answer new
+  chosen_grants : (t : ℕ) (new : AddressState) (answer : Result Range Error) → IsChosen request old t → t + request.size - 1 < MAX → AllocatesAt old (span t request.size) answer new → Grants old request answer new
   unfolding ByPlace
   chosen_grants t new answer c l h = places_grant new answer (inr (t, c, inr (λ e. omega arith, h)))
 
@@ -58,15 +58,15 @@ record IsFound (request : Request) (s : Shape) (place : Place) : Type 0 where
   before : List Block
   after : List Block
   cut : blocks s ≡ before ++ free_block place.key ∷ after
-  room : HasRoom place.start request.size (free_block place.key)
+  room : HasLength place.start request.size (free_block place.key)
   chosen : IsChosen request (tree_state s) place.start
 
-in_room : (s n : ℕ) (k : Range) → 0 < n → HasRoom s n (free_block k) → IsTakenFrom k (span s n)
-unfolding HasRoom
+in_room : (s n : ℕ) (k : Range) → 0 < n → HasLength s n (free_block k) → IsTakenFrom k (span s n)
+unfolding HasLength
 in_room s n k z r = record { from = r.0; some = omega arith; upto = omega (arith, r.1) }
 
-found_chooses : (request : Request) (s : Shape) (place : Place) (answer : Result Choice Error) → NamesNoStart request.policy → IsFound request s place → ChoosesBelowMax place.key place.start request.size answer → Chooses s request answer
-unfolding ChoosesBelowMax Chooses HoldingGrants
+found_chooses : (request : Request) (s : Shape) (place : Place) (answer : Result Choice Error) → IsNotExact request.policy → IsFound request s place → ChoosesBelowMax place.key place.start request.size answer → Chooses s request answer
+unfolding ChoosesBelowMax Chooses AllocatingGrants
 found_chooses request s place answer p f h =
     ⊎_elim
     (λ o. subst (λ (v : Result Choice Error). Chooses s request v) (sym o.1) (over_grants request (tree_state s) p place.start f.chosen o.0))
@@ -76,22 +76,22 @@ found_chooses request s place answer p f h =
     ))
     h
 
-none_chooses : (request : Request) (s : Shape) → NamesNoStart request.policy → IsSpaceTree s → IsRequest request → All (HasNoFit request.size request.align) (blocks s) → Chooses s request (Err ResourceNotAvailable)
+none_chooses : (request : Request) (s : Shape) → IsNotExact request.policy → IsSpaceTree s → IsRequest request → All (HasNoFit request.size request.align) (blocks s) → Chooses s request (Err ResourceNotAvailable)
 unfolding Chooses
 none_chooses request s p t r h =
     none_grants request (tree_state s) p (no_place (tree_state s) (blocks s) request.size request.align (as_blocks (space_of (blocks s)) (blocks s) t.tiling.tiles) r.some h)
 
 -- ---- the first fit
-least_chosen : (request : Request) (t : ℕ) (state : AddressState) → request.policy ≡ FirstMatch → IsLeastPlace request.size request.align state t → IsChosen request state t
+lowest_chosen : (request : Request) (t : ℕ) (state : AddressState) → request.policy ≡ FirstMatch → IsLowestPlace request.size request.align state t → IsChosen request state t
 unfolding IsChosen
-least_chosen request t state e l = subst (λ (v : Request). IsChosen v state t) (with_policy request FirstMatch e) l
+lowest_chosen request t state e l = subst (λ (v : Request). IsChosen v state t) (with_policy request FirstMatch e) l
 
-least_room : (n a s : ℕ) (b : Block) → IsLeastFit n a b s → HasRoom s n b
-unfolding IsLeastFit HasRoom
-least_room n a s b f = (f.0.2, f.0.3)
+lowest_room : (n a s : ℕ) (b : Block) → IsLowestFit n a b s → HasLength s n b
+unfolding IsLowestFit HasLength
+lowest_room n a s b f = (f.0.2, f.0.3)
 
-first_has_room : (n a : ℕ) (bs : List Block) (place : Place) → IsFirstFit n a bs place → HasRoom place.start n (free_block place.key)
-first_has_room n a bs place f = least_room n a place.start (free_block place.key) f.fit
+first_has_room : (n a : ℕ) (bs : List Block) (place : Place) → IsFirstFit n a bs place → HasLength place.start n (free_block place.key)
+first_has_room n a bs place f = lowest_room n a place.start (free_block place.key) f.fit
 
 first_found : (request : Request) (s : Shape) (place : Place) → request.policy ≡ FirstMatch → IsSpaceTree s → IsRequest request → IsFirstFit request.size request.align (blocks s) place → IsFound request s place
 first_found request s place p t r f = record {
@@ -100,7 +100,7 @@ first_found request s place p t r f = record {
   after = f.after;
   cut = f.cut;
   room = first_has_room request.size request.align (blocks s) place f;
-  chosen = least_chosen request place.start (tree_state s) p (least_place (tree_state s) (blocks s) f.before f.after (free_block place.key) request.size request.align place.start (as_blocks (space_of (blocks s)) (blocks s) t.tiling.tiles) f.cut r.some f.none f.fit);
+  chosen = lowest_chosen request place.start (tree_state s) p (lowest_place (tree_state s) (blocks s) f.before f.after (free_block place.key) request.size request.align place.start (as_blocks (space_of (blocks s)) (blocks s) t.tiling.tiles) f.cut r.some f.none f.fit);
 }
 
 none_first : (request : Request) (s : Shape) → IsSpaceTree s → IsRequest request → request.policy ≡ FirstMatch → All (HasNoFit request.size request.align) (blocks s) → Chooses s request (Err ResourceNotAvailable)
@@ -109,7 +109,7 @@ none_first request s t r p h = none_chooses request s (inl p) t r h
 chooses_first : (request : Request) (s : Shape) (place : Place) (answer : Result Choice Error) → IsSpaceTree s → IsRequest request → request.policy ≡ FirstMatch → IsFirstFit request.size request.align (blocks s) place → ChoosesBelowMax place.key place.start request.size answer → Chooses s request answer
 chooses_first request s place answer t r p f h = found_chooses request s place answer (inl p) (first_found request s place p t r f) h
 
-pub first_room : (n a : ℕ) (bs : List Block) (found : Option Place) → FindsFirst n a bs found → IfSome found (λ place. HasRoom place.start n (free_block place.key))
+pub first_room : (n a : ℕ) (bs : List Block) (found : Option Place) → FindsFirst n a bs found → IfSome found (λ place. HasLength place.start n (free_block place.key))
 first_room n a bs None f = tt
 first_room n a bs (Some place) f = first_has_room n a bs place f
 
@@ -118,16 +118,16 @@ first_chooses request s None answer t r p f h = subst (Chooses s request) (sym h
 first_chooses request s (Some place) answer t r p f h = chooses_first request s place answer t r p f h
 
 -- ---- the last fit
-greatest_chosen : (request : Request) (t : ℕ) (state : AddressState) → request.policy ≡ LastMatch → IsGreatestPlace request.size request.align state t → IsChosen request state t
+highest_chosen : (request : Request) (t : ℕ) (state : AddressState) → request.policy ≡ LastMatch → IsHighestPlace request.size request.align state t → IsChosen request state t
 unfolding IsChosen
-greatest_chosen request t state e l = subst (λ (v : Request). IsChosen v state t) (with_policy request LastMatch e) l
+highest_chosen request t state e l = subst (λ (v : Request). IsChosen v state t) (with_policy request LastMatch e) l
 
-greatest_room : (n a s : ℕ) (b : Block) → IsGreatestFit n a b s → HasRoom s n b
-unfolding IsGreatestFit HasRoom
-greatest_room n a s b f = (f.0.2, f.0.3)
+highest_room : (n a s : ℕ) (b : Block) → IsHighestFit n a b s → HasLength s n b
+unfolding IsHighestFit HasLength
+highest_room n a s b f = (f.0.2, f.0.3)
 
-last_has_room : (n a : ℕ) (bs : List Block) (place : Place) → IsLastFit n a bs place → HasRoom place.start n (free_block place.key)
-last_has_room n a bs place f = greatest_room n a place.start (free_block place.key) f.fit
+last_has_room : (n a : ℕ) (bs : List Block) (place : Place) → IsLastFit n a bs place → HasLength place.start n (free_block place.key)
+last_has_room n a bs place f = highest_room n a place.start (free_block place.key) f.fit
 
 last_found : (request : Request) (s : Shape) (place : Place) → request.policy ≡ LastMatch → IsSpaceTree s → IsRequest request → IsLastFit request.size request.align (blocks s) place → IsFound request s place
 last_found request s place p t r f = record {
@@ -136,7 +136,7 @@ last_found request s place p t r f = record {
   after = f.after;
   cut = f.cut;
   room = last_has_room request.size request.align (blocks s) place f;
-  chosen = greatest_chosen request place.start (tree_state s) p (greatest_place (tree_state s) (blocks s) f.before f.after (free_block place.key) request.size request.align place.start (as_blocks (space_of (blocks s)) (blocks s) t.tiling.tiles) f.cut r.some f.none f.fit);
+  chosen = highest_chosen request place.start (tree_state s) p (highest_place (tree_state s) (blocks s) f.before f.after (free_block place.key) request.size request.align place.start (as_blocks (space_of (blocks s)) (blocks s) t.tiling.tiles) f.cut r.some f.none f.fit);
 }
 
 none_last : (request : Request) (s : Shape) → IsSpaceTree s → IsRequest request → request.policy ≡ LastMatch → All (HasNoFit request.size request.align) (blocks s) → Chooses s request (Err ResourceNotAvailable)
@@ -145,7 +145,7 @@ none_last request s t r p h = none_chooses request s (inr p) t r h
 chooses_last : (request : Request) (s : Shape) (place : Place) (answer : Result Choice Error) → IsSpaceTree s → IsRequest request → request.policy ≡ LastMatch → IsLastFit request.size request.align (blocks s) place → ChoosesBelowMax place.key place.start request.size answer → Chooses s request answer
 chooses_last request s place answer t r p f h = found_chooses request s place answer (inr p) (last_found request s place p t r f) h
 
-pub last_room : (n a : ℕ) (bs : List Block) (found : Option Place) → FindsLast n a bs found → IfSome found (λ place. HasRoom place.start n (free_block place.key))
+pub last_room : (n a : ℕ) (bs : List Block) (found : Option Place) → FindsLast n a bs found → IfSome found (λ place. HasLength place.start n (free_block place.key))
 last_room n a bs None f = tt
 last_room n a bs (Some place) f = last_has_room n a bs place f
 
@@ -164,8 +164,8 @@ pub is_choice : (s : Shape) (request : Request) (choice : Choice) → Chooses s 
 unfolding Chooses
 is_choice s request choice h = h.0
 
-pub granted : (s : Shape) (request : Request) (choice : Choice) (answer : Result Range Error) (new : AddressState) → Chooses s request (Ok choice) → Takes (tree_state s) choice.range answer new → Grants (tree_state s) request answer new
-unfolding Chooses HoldingGrants
+pub granted : (s : Shape) (request : Request) (choice : Choice) (answer : Result Range Error) (new : AddressState) → Chooses s request (Ok choice) → AllocatesAt (tree_state s) choice.range answer new → Grants (tree_state s) request answer new
+unfolding Chooses AllocatingGrants
 granted s request choice answer new h t = h.1 answer new t
 
 pub ruleset granting = (chooses_refused, granted)

@@ -9,8 +9,8 @@ use Rattle.vm_ranges.specs.declared.error.Error.{Error}
 use Rattle.vm_engine.proofs.Answers.Filling.{no_constraint_fault}
 
 -- ---- requests that may make no sense
-pub senseless_count : (h : ℕ) (old : AddressState) (request : Request) (e : Error) → IsAllocationCount h old request (Err e) 0
-senseless_count h old request e = record { granting = record { most = omega arith; success = λ k. absurd (cc); split = tt }; senseless = λ x m. refl }
+pub invalid_count : (h : ℕ) (old : AddressState) (request : Request) (e : Error) → IsAllocationCount h old request (Err e) 0
+invalid_count h old request e = record { granting = record { most = omega arith; success = λ k. absurd (cc); split = tt }; invalid = λ x m. refl }
 
 -- the constraint that is made is what was asked for, and makes sense
 pub constraint_made : (request k : Request) → MakesConstraint request (Ok k) → (k ≡ request) × IsRequest request
@@ -26,26 +26,26 @@ grant_count h old request k answer c m s =
     let made = constraint_made request k m in
     record {
       granting = subst (λ (v : Request). IsGrantCount h old v answer c) made.0 s;
-      senseless = λ x f. absurd (no_constraint_fault request x f made.1);
+      invalid = λ x f. absurd (no_constraint_fault request x f made.1);
     }
 
-pub senseless_entered : (s : Shape) (request : Request) (e : Error) → MakesConstraint request (Err e) → EntersToAllocate s request (Err e) 0
-senseless_entered s request e m = record { senseless = λ x f. refl; sensible = λ r. absurd (no_constraint_fault request e m r) }
+pub invalid_entered : (s : Shape) (request : Request) (e : Error) → MakesConstraint request (Err e) → EntersToAllocate s request (Err e) 0
+invalid_entered s request e m = record { invalid = λ x f. refl; valid = λ r. absurd (no_constraint_fault request e m r) }
 
-pub sensible_entered : (s : Shape) (request k : Request) (answer : Result Range Error) (c : ℕ) → MakesConstraint request (Ok k) → Enters s k answer 0 c → EntersToAllocate s request answer c
-sensible_entered s request k answer c m n =
+pub valid_entered : (s : Shape) (request k : Request) (answer : Result Range Error) (c : ℕ) → MakesConstraint request (Ok k) → Enters s k answer 0 c → EntersToAllocate s request answer c
+valid_entered s request k answer c m n =
     let made = constraint_made request k m in
     record {
-      senseless = λ x f. absurd (no_constraint_fault request x f made.1);
-      sensible = λ r. subst (λ (v : Request). Enters s v answer 0 c) made.0 n;
+      invalid = λ x f. absurd (no_constraint_fault request x f made.1);
+      valid = λ r. subst (λ (v : Request). Enters s v answer 0 c) made.0 n;
     }
 
 -- no constraint is refused because memory runs out
-pub senseless_low : (h : ℕ) (old : AddressState) (request : Request) (e : Error) → MakesConstraint request (Err e) → SplitsIfLow h old (Err e)
+pub invalid_low : (h : ℕ) (old : AddressState) (request : Request) (e : Error) → MakesConstraint request (Err e) → SplitsIfLow h old (Err e)
 unfolding MakesConstraint ByConstraint
-senseless_low h old request e (inl z) = record { split = tt; memory = λ m. absurd (cc (m, z.1)) }
-senseless_low h old request e (inr (some, inl z)) = record { split = tt; memory = λ m. absurd (cc (m, z.1)) }
-senseless_low h old request e (inr (some, inr (aligned, inl z))) = record { split = tt; memory = λ m. absurd (cc (m, z.1)) }
-senseless_low h old request e (inr (some, inr (aligned, inr (start, made)))) = absurd (cc (made))
+invalid_low h old request e (inl z) = record { split = tt; memory = λ m. absurd (cc (m, z.1)) }
+invalid_low h old request e (inr (some, inl z)) = record { split = tt; memory = λ m. absurd (cc (m, z.1)) }
+invalid_low h old request e (inr (some, inr (aligned, inl z))) = record { split = tt; memory = λ m. absurd (cc (m, z.1)) }
+invalid_low h old request e (inr (some, inr (aligned, inr (start, made)))) = absurd (cc (made))
 
-pub ruleset allocations = (senseless_count, grant_count, senseless_entered, sensible_entered)
+pub ruleset allocations = (invalid_count, grant_count, invalid_entered, valid_entered)

@@ -3,8 +3,8 @@ use Rattle.std.proofs.Common.{arith}
 use Rattle.vm_engine.specs.Tree.Shape.{Shape, blocks, IsTree}
 use Rattle.vm_engine.specs.Tree.SpaceTree.{space_of, tree_state, IsSpaceTree}
 use Rattle.vm_engine.specs.Counts.Steps.{IsBalancedTreeOf}
-use Rattle.vm_engine.proofs.Splitting.Taking.{as_blocks}
-use Rattle.vm_engine.proofs.Nodes.FewestNodes.{fewest_nodes, most_nodes}
+use Rattle.vm_engine.proofs.Splitting.TakenRanges.{as_blocks}
+use Rattle.vm_engine.proofs.Nodes.MinNodes.{fewest_nodes, most_nodes}
 use Rattle.vm_engine.proofs.Counts.Granting.{few_in}
 
 -- ---- the shape of the tree

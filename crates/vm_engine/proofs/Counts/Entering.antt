@@ -13,11 +13,11 @@ use Rattle.vm_engine.specs.Tree.Block.{Block, is_free, free_length}
 use Rattle.vm_engine.specs.Tree.Fit.{HasNoFit}
 use Rattle.vm_engine.specs.Tree.Multiples.{HasMultiple, has_multiple, has_aligned, alignment_count, free_alignments}
 use Rattle.vm_engine.specs.Tree.Shape.{Shape, Tip, Fork, blocks, max_free_of, alignments_of}
-use Rattle.vm_engine.specs.Counts.Ways.{is_searched}
+use Rattle.vm_engine.specs.Counts.NodeCounts.{may_fit_in}
 use Rattle.vm_ranges.specs.declared.state.NodeState.{NodeState}
 use Rattle.vm_ranges.specs.declared.state.NodeState.TheVariants.{Free, Allocated}
 use Rattle.vm_engine.proofs.Choosing.PlaceSearch.{none_of}
-use Rattle.vm_engine.proofs.Numbers.MultiplesBetween.{multiple_told, count_told, exponent_by_trailing}
+use Rattle.vm_engine.proofs.Numbers.MultiplesBetween.{multiple_is_exact, count_is_exact, exponent_by_trailing}
 use Rattle.vm_ranges.proofs.Power.{alignment_pos}
 
 -- ---- the count of a tree tells whether a multiple lies in one of its free blocks
@@ -26,7 +26,7 @@ unfolding has_aligned
 own_aligned k b w = by_state b.state
   where
     by_state : (st : NodeState) → k < cond (is_free st) (alignment_count b.key) 0 → (is_free st && has_multiple (2 ^ k) b.key) ≡ true
-    by_state Free l = (multiple_told (2 ^ k) b.key (pow_pos k)).1 ((count_told k b.key w).0 l)
+    by_state Free l = (multiple_is_exact (2 ^ k) b.key (pow_pos k)).1 ((count_is_exact k b.key w).0 l)
     by_state Allocated l = absurd (omega arith)
 
 own_unaligned : (k : ℕ) (b : Block) → k < 64 → free_alignments b ≤ k → has_aligned (2 ^ k) b ≡ false
@@ -34,7 +34,7 @@ unfolding has_aligned
 own_unaligned k b w = by_state b.state
   where
     by_state : (st : NodeState) → cond (is_free st) (alignment_count b.key) 0 ≤ k → (is_free st && has_multiple (2 ^ k) b.key) ≡ false
-    by_state Free l = false_from_ne_true (has_multiple (2 ^ k) b.key) (λ e. omega (arith, (count_told k b.key w).1 ((multiple_told (2 ^ k) b.key (pow_pos k)).0 e)))
+    by_state Free l = false_from_ne_true (has_multiple (2 ^ k) b.key) (λ e. omega (arith, (count_is_exact k b.key w).1 ((multiple_is_exact (2 ^ k) b.key (pow_pos k)).0 e)))
     by_state Allocated l = refl
 
 some_aligned : (k : ℕ) (s : Shape) → k < 64 → k < alignments_of s → list_any (has_aligned (2 ^ k)) (blocks s) ≡ true
@@ -57,26 +57,26 @@ none_aligned k (Fork l b r) w m =
     rw (list_any-append (has_aligned (2 ^ k)) (blocks l) (b ∷ blocks r), none_aligned k l w (omega arith), own_unaligned k b w (omega arith), none_aligned k r w (omega arith)) refl
 
 -- ---- which trees are entered
-pub searched_if : (n a : ℕ) (s : Shape) → IsAlignment a → n ≤ max_free_of s → trailing_zeros w64 a < alignments_of s → is_searched n a s ≡ true
-unfolding is_searched
+pub searched_if : (n a : ℕ) (s : Shape) → IsAlignment a → n ≤ max_free_of s → trailing_zeros w64 a < alignments_of s → may_fit_in n a s ≡ true
+unfolding may_fit_in
 searched_if n a s u p q =
     let t = exponent_by_trailing a u in
     let some : list_any (has_aligned a) (blocks s) ≡ true = subst (λ (v : ℕ). list_any (has_aligned v) (blocks s) ≡ true) (sym t.1) (some_aligned (trailing_zeros w64 a) s t.0 q) in
     rw (le-leb n (max_free_of s) p) some
 
-pub not_if_short : (n a : ℕ) (s : Shape) → max_free_of s < n → is_searched n a s ≡ false
-unfolding is_searched
+pub not_if_short : (n a : ℕ) (s : Shape) → max_free_of s < n → may_fit_in n a s ≡ false
+unfolding may_fit_in
 not_if_short n a s p = rw (lt-leb n (max_free_of s) p) refl
 
-pub not_if_unaligned : (n a : ℕ) (s : Shape) → IsAlignment a → alignments_of s ≤ trailing_zeros w64 a → is_searched n a s ≡ false
-unfolding is_searched
+pub not_if_unaligned : (n a : ℕ) (s : Shape) → IsAlignment a → alignments_of s ≤ trailing_zeros w64 a → may_fit_in n a s ≡ false
+unfolding may_fit_in
 not_if_unaligned n a s u q =
     let t = exponent_by_trailing a u in
     let none : list_any (has_aligned a) (blocks s) ≡ false = subst (λ (v : ℕ). list_any (has_aligned v) (blocks s) ≡ false) (sym t.1) (none_aligned (trailing_zeros w64 a) s t.0 q) in
     false_from_ne_true _ (λ e. let parts = and_parts (leb n (max_free_of s)) (list_any (has_aligned a) (blocks s)) e in cc)
 
-pub searched_parts : (n a : ℕ) (s : Shape) → is_searched n a s ≡ true → (n ≤ max_free_of s) × (list_any (has_aligned a) (blocks s) ≡ true)
-unfolding is_searched
+pub searched_parts : (n a : ℕ) (s : Shape) → may_fit_in n a s ≡ true → (n ≤ max_free_of s) × (list_any (has_aligned a) (blocks s) ≡ true)
+unfolding may_fit_in
 searched_parts n a s e =
     let parts = and_parts (leb n (max_free_of s)) (list_any (has_aligned a) (blocks s)) e in
     (leb-true _ _ parts.0, parts.1)
@@ -96,7 +96,7 @@ none_in_short n a (Fork l b r) p =
 unaligned_without_fit : (n a : ℕ) (b : Block) → 0 < n → 0 < a → has_aligned a b ≡ false → HasNoFit n a b
 unfolding has_aligned HasMultiple HasNoFit
 unaligned_without_fit n a b p z e = λ t f.
-    let multiple : has_multiple a b.key ≡ true = (multiple_told a b.key z).1 (t, f.1, (f.2, omega (arith, f.3))) in
+    let multiple : has_multiple a b.key ≡ true = (multiple_is_exact a b.key z).1 (t, f.1, (f.2, omega (arith, f.3))) in
     let free : is_free b.state ≡ true = ap is_free f.0 in
     let same : true ≡ false = rw (free, multiple) at e in
     cc
@@ -107,8 +107,8 @@ none_in_unaligned n a (b ∷ bs) p z e =
     let parts = or_parts (has_aligned a b) (list_any (has_aligned a) bs) e in
     All-cons (HasNoFit n a) b bs (unaligned_without_fit n a b p z parts.0) (none_in_unaligned n a bs p z parts.1)
 
-pub none_unless_searched : (n a : ℕ) (s : Shape) → 0 < n → IsAlignment a → is_searched n a s ≡ false → All (HasNoFit n a) (blocks s)
-unfolding is_searched
+pub none_unless_searched : (n a : ℕ) (s : Shape) → 0 < n → IsAlignment a → may_fit_in n a s ≡ false → All (HasNoFit n a) (blocks s)
+unfolding may_fit_in
 none_unless_searched n a s p u e =
     ⊎_elim
     (λ (short : max_free_of s < n). none_in_short n a s short)

@@ -5,14 +5,14 @@ use Rattle.std.proofs.lemmas.Bool.{and_parts, leb-true, cases_lt, false_from_ne_
 use Rattle.vm_ranges.specs.Range.{Range}
 use Rattle.vm_engine.specs.Tree.Block.{Block, is_free}
 use Rattle.vm_engine.specs.Address.{AddressState, IsPlace}
-use Rattle.vm_ranges.specs.Alignment.{IsLeastMultiple}
-use Rattle.vm_engine.specs.Answer.{ByExactStart, ByPlace, Takes, Grants}
-use Rattle.vm_engine.specs.Counts.GapSearch.{is_futile, futile_gaps, is_cramped, cramped_gaps, IsGapSearchCount, SearchesAmong, SearchesGaps, SearchesAligned}
+use Rattle.vm_ranges.specs.Alignment.{IsLowestMultiple}
+use Rattle.vm_engine.specs.Answer.{ByExactPolicy, ByPlace, AllocatesAt, Grants}
+use Rattle.vm_engine.specs.Counts.GapSearch.{is_misaligned, misaligned_gaps, is_too_short, too_short_gaps, IsGapSearchCount, SearchesAmongGaps, SearchesGaps, SearchesAligned}
 use Rattle.vm_ranges.specs.Request.{Request, request_for, IsRequest, MakesConstraint}
 use Rattle.vm_engine.specs.Tree.Shape.{Shape, blocks, height_of, leaf_of}
 use Rattle.vm_engine.specs.Tree.SpaceTree.{space_of, tree_state, IsSpaceTree}
 use Rattle.vm_engine.specs.Counts.Steps.{Enters, IsHeldIn}
-use Rattle.vm_engine.specs.Counts.Ways.{multiple_from, has_fit, way_of_search}
+use Rattle.vm_engine.specs.Counts.NodeCounts.{multiple_from, has_fit, nodes_of_search}
 use Rattle.vm_engine.specs.Tree.BlockEdits.{before_part, after_part}
 use Rattle.vm_ranges.specs.declared.error.Error.{Error}
 use Rattle.vm_ranges.specs.declared.error.Error.TheVariants.{ResourceNotAvailable}
@@ -25,23 +25,23 @@ use Rattle.vm_engine.proofs.Counts.Allocating.{constraint_made, allocations}
 use Rattle.vm_engine.proofs.Answers.Requests.{allocating}
 use Rattle.vm_engine.proofs.Answers.Filling.{succeeding}
 use Rattle.vm_engine.proofs.Nodes.Spaces.{spaces}
-use Rattle.vm_engine.proofs.Counts.CarvingWays.{way_to_carve_at_most}
-use Rattle.vm_engine.proofs.Counts.SearchedGaps.{HasOneInVain, futile_in_vain, cramped_in_vain, first_in_vain, first_to_place, last_in_vain, last_to_place}
-use Rattle.vm_engine.proofs.Counts.Searching.{least_from, free_if_true}
+use Rattle.vm_engine.proofs.Counts.SplitCounts.{nodes_to_split_at_most}
+use Rattle.vm_engine.proofs.Counts.SearchedGaps.{HasOneWithoutPlace, misaligned_in_vain, too_short_in_vain, first_without_place, first_to_place, last_without_place, last_to_place}
+use Rattle.vm_engine.proofs.Counts.Searching.{lowest_from, free_if_true}
 use Rattle.vm_ranges.proofs.Power.{alignment_pos}
-use Rattle.vm_engine.proofs.Splitting.Taking.{as_blocks}
+use Rattle.vm_engine.proofs.Splitting.TakenRanges.{as_blocks}
 
 -- ---- where there is no place no block has a fit
 -- a block that has one has room from some multiple on
 fit_room : (n a : ℕ) (bs : List Block) → 0 < n → 0 < a → list_any (has_fit n a) bs ≡ true → (t : ℕ) × (t % a ≡ 0) × InFreeBlock bs t (t + n - 1)
-unfolding has_fit IsLeastMultiple
+unfolding has_fit IsLowestMultiple
 fit_room n a [] z p e = absurd (cc (e))
 fit_room n a (b ∷ bs) z p e =
     elim (has_fit n a b) as (λ v. has_fit n a b ≡ v → (t : ℕ) × (t % a ≡ 0) × InFreeBlock (b ∷ bs) t (t + n - 1)) [
       | true ↦ λ f.
           let parts = and_parts (is_free b.state) (leb (multiple_from a b.key.start + n) (b.key.end + 1)) f in
-          let least = least_from a b.key.start p in
-          (multiple_from a b.key.start, least.0, inl (free_if_true b.state parts.0, least.1, omega (arith, leb-true _ _ parts.1)))
+          let lowest = lowest_from a b.key.start p in
+          (multiple_from a b.key.start, lowest.0, inl (free_if_true b.state parts.0, lowest.1, omega (arith, leb-true _ _ parts.1)))
       | false ↦ λ f. let i = fit_room n a bs z p (rw f at e) in (i.0, i.1, inr i.2)
     ] refl
 
@@ -51,8 +51,8 @@ none_fits n a s z p h none = false_from_ne_true (list_any (has_fit n a) (blocks 
     none f.0 (block_place (tree_state s) (blocks s) n a f.0 (as_blocks (space_of (blocks s)) (blocks s) h.tiling.tiles) z f.1 f.2))
 
 -- ---- a request that names no start is refused for a place only where there is none
-no_place_by : (request : Request) (old new : AddressState) (answer : Result Range Error) → answer ≡ Err ResourceNotAvailable → ByPlace request old (λ e. (answer ≡ Err e) × (new ≡ old)) (λ r. Takes old r answer new) → (t : ℕ) → ¬ IsPlace request.size request.align old t
-unfolding ByPlace Takes
+no_place_by : (request : Request) (old new : AddressState) (answer : Result Range Error) → answer ≡ Err ResourceNotAvailable → ByPlace request old (λ e. (answer ≡ Err e) × (new ≡ old)) (λ r. AllocatesAt old r answer new) → (t : ℕ) → ¬ IsPlace request.size request.align old t
+unfolding ByPlace AllocatesAt
 no_place_by request old new answer e h =
     ⊎_elim (λ l. l.0)
     (λ r. absurd (⊎_elim (λ o. cc (e, o.1.0)) (λ o. ⊎_elim (λ k. cc (e, k.0)) (λ k. ⊎_elim (λ m. cc (e, m)) (λ m. cc (e, m.1)) k.2) o.1) r.2))
@@ -61,26 +61,26 @@ no_place_by request old new answer e h =
 -- ---- the bound
 -- what is entered for each gap that is looked at in vain, and for one more
 abbrev IsWithin : ℕ → ℕ → ℕ → Result Range Error → Type 0
-IsWithin way h v answer = (way ≤ h * (v + 1)) × (answer ≡ Err ResourceNotAvailable → way ≤ h * v)
+IsWithin path h v answer = (path ≤ h * (v + 1)) × (answer ≡ Err ResourceNotAvailable → path ≤ h * v)
 
 module _ (request : Request) (s : Shape) (h : IsSpaceTree s) (r : IsRequest request) where
-  by_gaps : (answer : Result Range Error) (v c : ℕ) → IsWithin (way_of_search request s) (height_of s) v answer → Enters s request answer 0 c → IsGapSearchCount (height_of s) v answer c
+  by_gaps : (answer : Result Range Error) (v c : ℕ) → IsWithin (nodes_of_search request s) (height_of s) v answer → Enters s request answer 0 c → IsGapSearchCount (height_of s) v answer c
   by_gaps (Err e) v c w n = record { most = omega (arith, n.refused, w.0); none = λ k. omega (arith, n.refused, w.1 k) }
   by_gaps (Ok p) v c w n =
       let held : IsHeldIn s p n.given.0 = n.given.1 in
-      let bound : n.given.0 ≤ 2 * height_of s = rw held.way (way_to_carve_at_most held.key (leaf_of (before_part held.key p)) (leaf_of (after_part held.key p)) s) in
+      let bound : n.given.0 ≤ 2 * height_of s = rw held.path (nodes_to_split_at_most held.key (leaf_of (before_part held.key p)) (leaf_of (after_part held.key p)) s) in
       record { most = omega (arith, n.given.2, w.0); none = λ k. absurd (cc (k)) }
 
-  no_fit_among : (new : AddressState) (answer : Result Range Error) → ByPlace request (tree_state s) (λ e. (answer ≡ Err e) × (new ≡ tree_state s)) (λ p. Takes (tree_state s) p answer new) → answer ≡ Err ResourceNotAvailable → list_any (has_fit request.size request.align) (blocks s) ≡ false
+  no_fit_among : (new : AddressState) (answer : Result Range Error) → ByPlace request (tree_state s) (λ e. (answer ≡ Err e) × (new ≡ tree_state s)) (λ p. AllocatesAt (tree_state s) p answer new) → answer ≡ Err ResourceNotAvailable → list_any (has_fit request.size request.align) (blocks s) ≡ false
   no_fit_among new answer k e = none_fits request.size request.align s r.some (alignment_pos request.align r.aligned) h (no_place_by request (tree_state s) new answer e k)
 
-searched_by : (policy : AllocPolicy) (n a : ℕ) (q : Block → Bool) (s : Shape) (answer : Result Range Error) (new : AddressState) (c : ℕ) → HasOneInVain n a q → IsSpaceTree s → IsRequest (request_for n a policy)
-    → Grants (tree_state s) (request_for n a policy) answer new → Enters s (request_for n a policy) answer 0 c → SearchesAmong (height_of s) (length (filter q (blocks s))) (request_for n a policy) answer c
-unfolding Grants ByExactStart
+searched_by : (policy : AllocPolicy) (n a : ℕ) (q : Block → Bool) (s : Shape) (answer : Result Range Error) (new : AddressState) (c : ℕ) → HasOneWithoutPlace n a q → IsSpaceTree s → IsRequest (request_for n a policy)
+    → Grants (tree_state s) (request_for n a policy) answer new → Enters s (request_for n a policy) answer 0 c → SearchesAmongGaps (height_of s) (length (filter q (blocks s))) (request_for n a policy) answer c
+unfolding Grants ByExactPolicy
 searched_by FirstMatch n a q s answer new c some h r k e =
-    by_gaps (request_for n a FirstMatch) s h r answer (length (filter q (blocks s))) c (first_to_place n a q some s, λ u. first_in_vain n a q some s (no_fit_among (request_for n a FirstMatch) s h r new answer k u)) e
+    by_gaps (request_for n a FirstMatch) s h r answer (length (filter q (blocks s))) c (first_to_place n a q some s, λ u. first_without_place n a q some s (no_fit_among (request_for n a FirstMatch) s h r new answer k u)) e
 searched_by LastMatch n a q s answer new c some h r k e =
-    by_gaps (request_for n a LastMatch) s h r answer (length (filter q (blocks s))) c (last_to_place n a q some s, λ u. last_in_vain n a q some s (no_fit_among (request_for n a LastMatch) s h r new answer k u)) e
+    by_gaps (request_for n a LastMatch) s h r answer (length (filter q (blocks s))) c (last_to_place n a q some s, λ u. last_without_place n a q some s (no_fit_among (request_for n a LastMatch) s h r new answer k u)) e
 searched_by (ExactMatch t) n a q s answer new c some h r k e = tt
 
 -- what holds of two numbers holds of the lesser
@@ -92,48 +92,48 @@ of_lesser P x y p q =
     (cases_lt x y)
 
 module _ (s : Shape) (request : Request) (answer : Result Range Error) (new : AddressState) (c : ℕ) (h : IsSpaceTree s) (r : IsRequest request) (k : Grants (tree_state s) request answer new) (e : Enters s request answer 0 c) where
-  by_futile : SearchesAmong (height_of s) (futile_gaps (tree_state s) request) request answer c
-  unfolding futile_gaps
-  by_futile =
+  by_misaligned : SearchesAmongGaps (height_of s) (misaligned_gaps (tree_state s) request) request answer c
+  unfolding misaligned_gaps
+  by_misaligned =
       rw (tree_blocks s h)
-      (searched_by request.policy request.size request.align (is_futile request.size request.align) s answer new c (futile_in_vain request.size request.align r.some) h r k e)
+      (searched_by request.policy request.size request.align (is_misaligned request.size request.align) s answer new c (misaligned_in_vain request.size request.align r.some) h r k e)
 
-  by_cramped : SearchesAmong (height_of s) (cramped_gaps (tree_state s) request) request answer c
-  unfolding cramped_gaps
-  by_cramped =
+  by_too_short : SearchesAmongGaps (height_of s) (too_short_gaps (tree_state s) request) request answer c
+  unfolding too_short_gaps
+  by_too_short =
       rw (tree_blocks s h)
-      (searched_by request.policy request.size request.align (is_cramped request.size request.align) s answer new c (cramped_in_vain request.size request.align) h r k e)
+      (searched_by request.policy request.size request.align (is_too_short request.size request.align) s answer new c (too_short_in_vain request.size request.align) h r k e)
 
   pub searches_gaps : SearchesGaps (height_of s) (tree_state s) request answer c
   unfolding SearchesGaps
-  searches_gaps = by_futile
+  searches_gaps = by_misaligned
 
   pub searches_aligned : SearchesAligned (height_of s) (tree_state s) request answer c
   unfolding SearchesAligned
-  searches_aligned = of_lesser (λ v. SearchesAmong (height_of s) v request answer c) (futile_gaps (tree_state s) request) (cramped_gaps (tree_state s) request) by_futile by_cramped
+  searches_aligned = of_lesser (λ v. SearchesAmongGaps (height_of s) v request answer c) (misaligned_gaps (tree_state s) request) (too_short_gaps (tree_state s) request) by_misaligned by_too_short
 
 pub ruleset of_trees = (searches_gaps, searches_aligned)
 
 -- ---- requests that may make no sense
-none_searched : (h v : ℕ) (policy : AllocPolicy) (n a : ℕ) (e : Error) → SearchesAmong h v (request_for n a policy) (Err e) 0
+none_searched : (h v : ℕ) (policy : AllocPolicy) (n a : ℕ) (e : Error) → SearchesAmongGaps h v (request_for n a policy) (Err e) 0
 none_searched h v FirstMatch n a e = record { most = omega arith; none = λ k. omega arith }
 none_searched h v LastMatch n a e = record { most = omega arith; none = λ k. omega arith }
 none_searched h v (ExactMatch t) n a e = tt
 
-pub senseless_search : (h : ℕ) (old : AddressState) (request : Request) (e : Error) → SearchesGaps h old request (Err e) 0
+pub invalid_search : (h : ℕ) (old : AddressState) (request : Request) (e : Error) → SearchesGaps h old request (Err e) 0
 unfolding SearchesGaps
-senseless_search h old request e = none_searched h (futile_gaps old request) request.policy request.size request.align e
+invalid_search h old request e = none_searched h (misaligned_gaps old request) request.policy request.size request.align e
 
-pub senseless_aligned : (h : ℕ) (old : AddressState) (request : Request) (e : Error) → SearchesAligned h old request (Err e) 0
+pub invalid_aligned : (h : ℕ) (old : AddressState) (request : Request) (e : Error) → SearchesAligned h old request (Err e) 0
 unfolding SearchesAligned
-senseless_aligned h old request e = none_searched h (min (futile_gaps old request) (cramped_gaps old request)) request.policy request.size request.align e
+invalid_aligned h old request e = none_searched h (min (misaligned_gaps old request) (too_short_gaps old request)) request.policy request.size request.align e
 
-pub sensible_search : (h : ℕ) (old : AddressState) (request k : Request) (answer : Result Range Error) (c : ℕ) → MakesConstraint request (Ok k) → SearchesGaps h old k answer c → SearchesGaps h old request answer c
-sensible_search h old request k answer c m g = subst (λ (v : Request). SearchesGaps h old v answer c) (constraint_made request k m).0 g
+pub valid_search : (h : ℕ) (old : AddressState) (request k : Request) (answer : Result Range Error) (c : ℕ) → MakesConstraint request (Ok k) → SearchesGaps h old k answer c → SearchesGaps h old request answer c
+valid_search h old request k answer c m g = subst (λ (v : Request). SearchesGaps h old v answer c) (constraint_made request k m).0 g
 
-pub sensible_aligned : (h : ℕ) (old : AddressState) (request k : Request) (answer : Result Range Error) (c : ℕ) → MakesConstraint request (Ok k) → SearchesAligned h old k answer c → SearchesAligned h old request answer c
-sensible_aligned h old request k answer c m g = subst (λ (v : Request). SearchesAligned h old v answer c) (constraint_made request k m).0 g
+pub valid_aligned : (h : ℕ) (old : AddressState) (request k : Request) (answer : Result Range Error) (c : ℕ) → MakesConstraint request (Ok k) → SearchesAligned h old k answer c → SearchesAligned h old request answer c
+valid_aligned h old request k answer c m g = subst (λ (v : Request). SearchesAligned h old v answer c) (constraint_made request k m).0 g
 
-pub ruleset searches = (senseless_search, sensible_search, senseless_aligned, sensible_aligned)
+pub ruleset searches = (invalid_search, valid_search, invalid_aligned, valid_aligned)
 
 pub ruleset counted_allocations = (allocating, spaces, succeeding, allocations, searches)

@@ -3,15 +3,15 @@ use Rattle.std.proofs.Common.{◌≡◌, ℕ, ◌+◌, ◌<◌, ◌≤◌, List,
 use Rattle.std.proofs.lemmas.Bool.{cases_lt}
 use Rattle.vm_ranges.specs.Range.{Range}
 use Rattle.vm_engine.specs.Tree.Block.{Block}
-use Rattle.vm_engine.specs.Address.{LeavesClear}
+use Rattle.vm_engine.specs.Address.{SplitsGap}
 use Rattle.vm_engine.specs.Tree.Blocks.{Tiles, TilesSpace, held_of, blocks_state}
-use Rattle.vm_engine.specs.Tree.BlockEdits.{IsTakenFrom, LeavesPart}
+use Rattle.vm_engine.specs.Tree.BlockEdits.{IsTakenFrom, NeedsSplit}
 use Rattle.vm_ranges.specs.declared.state.NodeState.{NodeState}
 use Rattle.vm_ranges.specs.declared.state.NodeState.TheVariants.{Free, Allocated}
 use Rattle.vm_engine.proofs.Blocks.PlainWords.{IsHeldAddress, none_holds}
 use Rattle.vm_engine.proofs.Blocks.Gaps.{InFreeBlock, in_free_block, free_is_clear}
 use Rattle.vm_engine.proofs.Choosing.Places.{above}
-use Rattle.vm_engine.proofs.Splitting.Taking.{starts_after, in_block}
+use Rattle.vm_engine.proofs.Splitting.TakenRanges.{starts_after, in_block}
 
 -- ---- what leaves nothing of its block leaves no clear address beside it
 -- no free block reaches into another from below, nor from above
@@ -50,9 +50,9 @@ clear_pair sp bs x t l m c d =
     (λ (k : y ≤ x). let e : y ≡ x = omega arith in rw e (omega arith, c))
     (cases_lt x y))
 
-pub leaves_part : (sp : Range) (bs xs ys : List Block) (b : Block) (r : Range) → TilesSpace sp bs → bs ≡ xs ++ b ∷ ys → b.state ≡ Free → IsTakenFrom b.key r → LeavesClear (blocks_state sp bs) r → LeavesPart b.key r
-unfolding TilesSpace LeavesClear clear_pair
-leaves_part sp bs xs ys b r t e f w h =
+pub needs_split : (sp : Range) (bs xs ys : List Block) (b : Block) (r : Range) → TilesSpace sp bs → bs ≡ xs ++ b ∷ ys → b.state ≡ Free → IsTakenFrom b.key r → SplitsGap (blocks_state sp bs) r → NeedsSplit b.key r
+unfolding TilesSpace SplitsGap clear_pair
+needs_split sp bs xs ys b r t e f w h =
     let x = h.0 in
     let clear = h.1 in
     let tiles : Tiles Allocated sp.start (xs ++ b ∷ ys) sp.end = subst (λ (v : List Block). Tiles Allocated sp.start v sp.end) e t in

@@ -8,10 +8,10 @@ use Rattle.std.proofs.lemmas.List.Elements.{filter-append}
 use Rattle.std.proofs.lemmas.List.Folds.{list_any-append}
 use Rattle.std.proofs.lemmas.Bool.{or_parts, le-leb, cases_lt}
 use Rattle.vm_engine.specs.Tree.Block.{Block, free_length}
-use Rattle.vm_engine.specs.Counts.GapSearch.{is_futile, futile_among, is_cramped, cramped_among}
+use Rattle.vm_engine.specs.Counts.GapSearch.{is_misaligned, misaligned_among, is_too_short, too_short_among}
 use Rattle.vm_engine.specs.Tree.Multiples.{has_aligned}
 use Rattle.vm_engine.specs.Tree.Shape.{Shape, Tip, Fork, blocks, height_of, max_free_of}
-use Rattle.vm_engine.specs.Counts.Ways.{has_fit, is_searched, way_of_first, way_of_last}
+use Rattle.vm_engine.specs.Counts.NodeCounts.{has_fit, may_fit_in, nodes_of_first, nodes_of_last}
 use Rattle.vm_engine.proofs.Counts.Entering.{searched_parts}
 
 -- ---- the numbers
@@ -42,60 +42,60 @@ fit_split n a l b r e =
     (p.0, q.0, q.1)
 
 -- ---- a tree that is entered, in which nothing fits, has a futile gap and a cramped one
-long_is_futile : (n a : ℕ) (b : Block) → n ≤ free_length b → has_fit n a b ≡ false → futile_among n a (b ∷ []) ≡ 1
-unfolding is_futile
-long_is_futile n a b p e = rw (le-leb n (free_length b) p, e) refl
+long_is_misaligned : (n a : ℕ) (b : Block) → n ≤ free_length b → has_fit n a b ≡ false → misaligned_among n a (b ∷ []) ≡ 1
+unfolding is_misaligned
+long_is_misaligned n a b p e = rw (le-leb n (free_length b) p, e) refl
 
-futile_in_long : (n a : ℕ) (s : Shape) → 0 < n → n ≤ max_free_of s → list_any (has_fit n a) (blocks s) ≡ false → 1 ≤ futile_among n a (blocks s)
-futile_in_long n a Tip z p e = omega arith
-futile_in_long n a (Fork l b r) z p e =
+misaligned_in_long : (n a : ℕ) (s : Shape) → 0 < n → n ≤ max_free_of s → list_any (has_fit n a) (blocks s) ≡ false → 1 ≤ misaligned_among n a (blocks s)
+misaligned_in_long n a Tip z p e = omega arith
+misaligned_in_long n a (Fork l b r) z p e =
     let none = fit_split n a l b r e in
-    let split = among_split (is_futile n a) l b r in
+    let split = among_split (is_misaligned n a) l b r in
     ⊎_elim
     (λ (k : max_free_of l < n).
     ⊎_elim
-    (λ (j : max_free_of r < n). omega (arith, split, long_is_futile n a b (omega arith) none.1))
-    (λ (j : n ≤ max_free_of r). omega (arith, split, futile_in_long n a r z j none.2))
+    (λ (j : max_free_of r < n). omega (arith, split, long_is_misaligned n a b (omega arith) none.1))
+    (λ (j : n ≤ max_free_of r). omega (arith, split, misaligned_in_long n a r z j none.2))
     (cases_lt (max_free_of r) n))
-    (λ (k : n ≤ max_free_of l). omega (arith, split, futile_in_long n a l z k none.0))
+    (λ (k : n ≤ max_free_of l). omega (arith, split, misaligned_in_long n a l z k none.0))
     (cases_lt (max_free_of l) n)
 
-cramped_in_aligned : (n a : ℕ) (bs : List Block) → list_any (has_aligned a) bs ≡ true → list_any (has_fit n a) bs ≡ false → 1 ≤ cramped_among n a bs
-unfolding is_cramped
-cramped_in_aligned n a [] p e = absurd (cc p)
-cramped_in_aligned n a (b ∷ bs) p e =
+too_short_in_aligned : (n a : ℕ) (bs : List Block) → list_any (has_aligned a) bs ≡ true → list_any (has_fit n a) bs ≡ false → 1 ≤ too_short_among n a bs
+unfolding is_too_short
+too_short_in_aligned n a [] p e = absurd (cc p)
+too_short_in_aligned n a (b ∷ bs) p e =
     let none = or_parts (has_fit n a b) (list_any (has_fit n a) bs) e in
-    let split = among_append (is_cramped n a) (b ∷ []) bs in
-    elim (has_aligned a b) as (λ v. has_aligned a b ≡ v → 1 ≤ cramped_among n a (b ∷ bs)) [
-      | true ↦ λ f. let one : cramped_among n a (b ∷ []) ≡ 1 = rw (f, none.0) refl in omega (arith, split)
-      | false ↦ λ f. omega (arith, split, cramped_in_aligned n a bs (rw f at p) none.1)
+    let split = among_append (is_too_short n a) (b ∷ []) bs in
+    elim (has_aligned a b) as (λ v. has_aligned a b ≡ v → 1 ≤ too_short_among n a (b ∷ bs)) [
+      | true ↦ λ f. let one : too_short_among n a (b ∷ []) ≡ 1 = rw (f, none.0) refl in omega (arith, split)
+      | false ↦ λ f. omega (arith, split, too_short_in_aligned n a bs (rw f at p) none.1)
     ] refl
 
 -- each tree that is entered, in which nothing fits, has a block that passes the test
-abbrev pub HasOneInVain : ℕ → ℕ → (Block → Bool) → Type 0
-HasOneInVain n a q = (s : Shape) → is_searched n a s ≡ true → list_any (has_fit n a) (blocks s) ≡ false → 1 ≤ length (filter q (blocks s))
+abbrev pub HasOneWithoutPlace : ℕ → ℕ → (Block → Bool) → Type 0
+HasOneWithoutPlace n a q = (s : Shape) → may_fit_in n a s ≡ true → list_any (has_fit n a) (blocks s) ≡ false → 1 ≤ length (filter q (blocks s))
 
-pub futile_in_vain : (n a : ℕ) → 0 < n → HasOneInVain n a (is_futile n a)
-futile_in_vain n a z s k e = futile_in_long n a s z (searched_parts n a s k).0 e
+pub misaligned_in_vain : (n a : ℕ) → 0 < n → HasOneWithoutPlace n a (is_misaligned n a)
+misaligned_in_vain n a z s k e = misaligned_in_long n a s z (searched_parts n a s k).0 e
 
-pub cramped_in_vain : (n a : ℕ) → HasOneInVain n a (is_cramped n a)
-cramped_in_vain n a s k e = cramped_in_aligned n a (blocks s) (searched_parts n a s k).1 e
+pub too_short_in_vain : (n a : ℕ) → HasOneWithoutPlace n a (is_too_short n a)
+too_short_in_vain n a s k e = too_short_in_aligned n a (blocks s) (searched_parts n a s k).1 e
 
-module _ (n a : ℕ) (q : Block → Bool) (some : HasOneInVain n a q) where
+module _ (n a : ℕ) (q : Block → Bool) (some : HasOneWithoutPlace n a q) where
   -- ---- a node of which the side `near` is searched first, and then the side `far`
   module _ (s near far : Shape) (first second : ℕ) (low : (height_of near < height_of s) × (height_of far < height_of s)) (split : among q (blocks near) + among q (blocks far) ≤ among q (blocks s)) where
     -- what is entered, where a place is found in the first side or here, and where none is
     abbrev entered : Bool → ℕ
-    entered found = cond (is_searched n a s) (first + cond found 0 second + 1) 0
+    entered found = cond (may_fit_in n a s) (first + cond found 0 second + 1) 0
 
     within : (f x y w : ℕ) → first ≤ height_of near * x → w ≤ height_of far * y → x + y ≤ f → 1 ≤ f → first + w + 1 ≤ height_of s * f
     within f x y w p q u o =
         let h : height_of s ≡ height_of s - 1 + 1 = omega (arith, low.0) in
         rw h (one_more (height_of s - 1) f (height_of near) x first (height_of far) y w (omega (arith, low.0)) (omega (arith, low.1)) p q u o)
 
-    if_searched : (found : Bool) (most : ℕ) → (is_searched n a s ≡ true → first + cond found 0 second + 1 ≤ most) → entered found ≤ most
+    if_searched : (found : Bool) (most : ℕ) → (may_fit_in n a s ≡ true → first + cond found 0 second + 1 ≤ most) → entered found ≤ most
     if_searched found most f =
-        elim (is_searched n a s) as (λ v. is_searched n a s ≡ v → cond v (first + cond found 0 second + 1) 0 ≤ most) [
+        elim (may_fit_in n a s) as (λ v. may_fit_in n a s ≡ v → cond v (first + cond found 0 second + 1) 0 ≤ most) [
           | true ↦ λ e. f e
           | false ↦ λ e. omega arith
         ] refl
@@ -108,35 +108,35 @@ module _ (n a : ℕ) (q : Block → Bool) (some : HasOneInVain n a q) where
     to_place false p g u = if_searched false _ (λ k. within _ _ (among q (blocks far) + 1) second (g refl) u (omega (arith, split)) (omega arith))
 
   -- ---- the search for the least place
-  pub first_in_vain : (s : Shape) → list_any (has_fit n a) (blocks s) ≡ false → way_of_first n a s ≤ height_of s * length (filter q (blocks s))
-  unfolding way_of_first
-  first_in_vain Tip e = omega arith
-  first_in_vain (Fork l b r) e =
+  pub first_without_place : (s : Shape) → list_any (has_fit n a) (blocks s) ≡ false → nodes_of_first n a s ≤ height_of s * length (filter q (blocks s))
+  unfolding nodes_of_first
+  first_without_place Tip e = omega arith
+  first_without_place (Fork l b r) e =
       let none = fit_split n a l b r e in
       let split = among_split q l b r in
-      rw (none.0, none.1) (in_vain (Fork l b r) l r (way_of_first n a l) (way_of_first n a r) (omega arith, omega arith) (omega (arith, split)) e (first_in_vain l none.0) (first_in_vain r none.2))
+      rw (none.0, none.1) (in_vain (Fork l b r) l r (nodes_of_first n a l) (nodes_of_first n a r) (omega arith, omega arith) (omega (arith, split)) e (first_without_place l none.0) (first_without_place r none.2))
 
-  pub first_to_place : (s : Shape) → way_of_first n a s ≤ height_of s * (length (filter q (blocks s)) + 1)
-  unfolding way_of_first
+  pub first_to_place : (s : Shape) → nodes_of_first n a s ≤ height_of s * (length (filter q (blocks s)) + 1)
+  unfolding nodes_of_first
   first_to_place Tip = omega arith
   first_to_place (Fork l b r) =
       let found : Bool = list_any (has_fit n a) (blocks l) || has_fit n a b in
       let split = among_split q l b r in
-      to_place (Fork l b r) l r (way_of_first n a l) (way_of_first n a r) (omega arith, omega arith) (omega (arith, split)) found (first_to_place l) (λ e. first_in_vain l (or_parts _ _ e).0) (first_to_place r)
+      to_place (Fork l b r) l r (nodes_of_first n a l) (nodes_of_first n a r) (omega arith, omega arith) (omega (arith, split)) found (first_to_place l) (λ e. first_without_place l (or_parts _ _ e).0) (first_to_place r)
 
   -- ---- the search for the greatest place
-  pub last_in_vain : (s : Shape) → list_any (has_fit n a) (blocks s) ≡ false → way_of_last n a s ≤ height_of s * length (filter q (blocks s))
-  unfolding way_of_last
-  last_in_vain Tip e = omega arith
-  last_in_vain (Fork l b r) e =
+  pub last_without_place : (s : Shape) → list_any (has_fit n a) (blocks s) ≡ false → nodes_of_last n a s ≤ height_of s * length (filter q (blocks s))
+  unfolding nodes_of_last
+  last_without_place Tip e = omega arith
+  last_without_place (Fork l b r) e =
       let none = fit_split n a l b r e in
       let split = among_split q l b r in
-      rw (none.2, none.1) (in_vain (Fork l b r) r l (way_of_last n a r) (way_of_last n a l) (omega arith, omega arith) (omega (arith, split)) e (last_in_vain r none.2) (last_in_vain l none.0))
+      rw (none.2, none.1) (in_vain (Fork l b r) r l (nodes_of_last n a r) (nodes_of_last n a l) (omega arith, omega arith) (omega (arith, split)) e (last_without_place r none.2) (last_without_place l none.0))
 
-  pub last_to_place : (s : Shape) → way_of_last n a s ≤ height_of s * (length (filter q (blocks s)) + 1)
-  unfolding way_of_last
+  pub last_to_place : (s : Shape) → nodes_of_last n a s ≤ height_of s * (length (filter q (blocks s)) + 1)
+  unfolding nodes_of_last
   last_to_place Tip = omega arith
   last_to_place (Fork l b r) =
       let found : Bool = list_any (has_fit n a) (blocks r) || has_fit n a b in
       let split = among_split q l b r in
-      to_place (Fork l b r) r l (way_of_last n a r) (way_of_last n a l) (omega arith, omega arith) (omega (arith, split)) found (last_to_place r) (λ e. last_in_vain r (or_parts _ _ e).0) (last_to_place l)
+      to_place (Fork l b r) r l (nodes_of_last n a r) (nodes_of_last n a l) (omega arith, omega arith) (omega (arith, split)) found (last_to_place r) (λ e. last_without_place r (or_parts _ _ e).0) (last_to_place l)

@@ -5,38 +5,38 @@ use Rattle.std.specs.List.{All, list_any}
 use Rattle.std.proofs.lemmas.List.Elements.{All-head, All-tail}
 use Rattle.std.proofs.lemmas.List.Folds.{list_any-append}
 use Rattle.std.proofs.lemmas.Bool.{and_parts, leb-true, le-leb, false_from_ne_true}
-use Rattle.vm_ranges.specs.Alignment.{IsAlignment, IsLeastMultiple}
+use Rattle.vm_ranges.specs.Alignment.{IsAlignment, IsLowestMultiple}
 use Rattle.vm_engine.specs.Tree.Block.{Block, is_free, free_block}
-use Rattle.vm_engine.specs.Tree.Fit.{IsFit, HasNoFit, IsLeastFit, IsGreatestFit}
+use Rattle.vm_engine.specs.Tree.Fit.{IsFit, HasNoFit, IsLowestFit, IsHighestFit}
 use Rattle.vm_engine.specs.Engine.Place.{IsFirstFit, IsLastFit}
 use Rattle.vm_engine.specs.Tree.Shape.{Shape, Tip, Fork, blocks, height_of, node_count}
-use Rattle.vm_engine.specs.Counts.Ways.{multiple_from, has_fit, is_searched, way_of_first, way_of_last}
+use Rattle.vm_engine.specs.Counts.NodeCounts.{multiple_from, has_fit, may_fit_in, nodes_of_first, nodes_of_last}
 use Rattle.vm_ranges.specs.declared.state.NodeState.{NodeState}
 use Rattle.vm_ranges.specs.declared.state.NodeState.TheVariants.{Free, Allocated}
 use Rattle.vm_engine.specs.declared.node.places.Place.{Place}
 use Rattle.vm_engine.proofs.Counts.Entering.{none_unless_searched}
-use Rattle.vm_ranges.proofs.Power.{alignment_pos, greatest_multiple, least_multiple}
+use Rattle.vm_ranges.proofs.Power.{alignment_pos, highest_multiple, lowest_multiple}
 
 -- ---- the test tells whether a block has a fit
-pub least_from : (a x : ℕ) → 0 < a → IsLeastMultiple a x (multiple_from a x)
-least_from a x p = least_multiple a x (multiple_from a x) p (greatest_multiple a (x + (a - 1)) p)
+pub lowest_from : (a x : ℕ) → 0 < a → IsLowestMultiple a x (multiple_from a x)
+lowest_from a x p = lowest_multiple a x (multiple_from a x) p (highest_multiple a (x + (a - 1)) p)
 
 pub free_if_true : (s : NodeState) → is_free s ≡ true → s ≡ Free
 free_if_true Free e = refl
 free_if_true Allocated e = absurd (cc)
 
 pub fit_found : (n a t : ℕ) (b : Block) → 0 < a → IsFit n a b t → has_fit n a b ≡ true
-unfolding has_fit IsLeastMultiple
+unfolding has_fit IsLowestMultiple
 fit_found n a t b p f =
-    let least = (least_from a b.key.start p).2 t f.1 f.2 in
+    let lowest = (lowest_from a b.key.start p).2 t f.1 f.2 in
     rw (f.0, le-leb (multiple_from a b.key.start + n) (b.key.end + 1) (omega (arith, f.3)))
 
 pub no_fit_missed : (n a : ℕ) (b : Block) → 0 < a → HasNoFit n a b → has_fit n a b ≡ false
-unfolding has_fit HasNoFit IsLeastMultiple
+unfolding has_fit HasNoFit IsLowestMultiple
 no_fit_missed n a b p h = false_from_ne_true (has_fit n a b) (λ e.
     let parts = and_parts (is_free b.state) (leb (multiple_from a b.key.start + n) (b.key.end + 1)) e in
-    let least = least_from a b.key.start p in
-    h (multiple_from a b.key.start) (free_if_true b.state parts.0, least.0, least.1, leb-true _ _ parts.1))
+    let lowest = lowest_from a b.key.start p in
+    h (multiple_from a b.key.start) (free_if_true b.state parts.0, lowest.0, lowest.1, leb-true _ _ parts.1))
 
 none_missed : (n a : ℕ) (bs : List Block) → 0 < a → All (HasNoFit n a) bs → list_any (has_fit n a) bs ≡ false
 none_missed n a [] p h = refl
@@ -51,52 +51,52 @@ one_found n a xs b ys e = list_any-append (has_fit n a) xs (b ∷ ys) ∙ or_tru
     or_true false = rw e
 
 first_found : (n a : ℕ) (bs : List Block) (place : Place) → 0 < a → IsFirstFit n a bs place → list_any (has_fit n a) bs ≡ true
-unfolding IsLeastFit
+unfolding IsLowestFit
 first_found n a bs place p f =
     ap (list_any (has_fit n a)) f.cut ∙ one_found n a f.before (free_block place.key) f.after (fit_found n a place.start (free_block place.key) p f.fit.0)
 
 last_found : (n a : ℕ) (bs : List Block) (place : Place) → 0 < a → IsLastFit n a bs place → list_any (has_fit n a) bs ≡ true
-unfolding IsGreatestFit
+unfolding IsHighestFit
 last_found n a bs place p f =
     ap (list_any (has_fit n a)) f.cut ∙ one_found n a f.before (free_block place.key) f.after (fit_found n a place.start (free_block place.key) p f.fit.0)
 
 -- ---- a tree that is not searched is passed over
-pub first_way_passed : (n a : ℕ) (s : Shape) → is_searched n a s ≡ false → way_of_first n a s ≡ 0
-unfolding way_of_first
-first_way_passed n a Tip e = refl
-first_way_passed n a (Fork l b r) e = rw e refl
+pub first_nodes_passed : (n a : ℕ) (s : Shape) → may_fit_in n a s ≡ false → nodes_of_first n a s ≡ 0
+unfolding nodes_of_first
+first_nodes_passed n a Tip e = refl
+first_nodes_passed n a (Fork l b r) e = rw e refl
 
-pub last_way_passed : (n a : ℕ) (s : Shape) → is_searched n a s ≡ false → way_of_last n a s ≡ 0
-unfolding way_of_last
-last_way_passed n a Tip e = refl
-last_way_passed n a (Fork l b r) e = rw e refl
+pub last_nodes_passed : (n a : ℕ) (s : Shape) → may_fit_in n a s ≡ false → nodes_of_last n a s ≡ 0
+unfolding nodes_of_last
+last_nodes_passed n a Tip e = refl
+last_nodes_passed n a (Fork l b r) e = rw e refl
 
 -- ---- the search for the least place
-module _ (n a : ℕ) (l : Shape) (b : Block) (r : Shape) (u : IsAlignment a) (entered : is_searched n a (Fork l b r) ≡ true) where
-  pub first_way_left : (place : Place) → IsFirstFit n a (blocks l) place → way_of_first n a (Fork l b r) ≡ way_of_first n a l + 1
-  unfolding way_of_first
-  first_way_left place f = rw (entered, first_found n a (blocks l) place (alignment_pos a u) f) (omega arith)
+module _ (n a : ℕ) (l : Shape) (b : Block) (r : Shape) (u : IsAlignment a) (entered : may_fit_in n a (Fork l b r) ≡ true) where
+  pub first_nodes_left : (place : Place) → IsFirstFit n a (blocks l) place → nodes_of_first n a (Fork l b r) ≡ nodes_of_first n a l + 1
+  unfolding nodes_of_first
+  first_nodes_left place f = rw (entered, first_found n a (blocks l) place (alignment_pos a u) f) (omega arith)
 
-  pub first_way_here : (t : ℕ) → All (HasNoFit n a) (blocks l) → IsLeastFit n a b t → way_of_first n a (Fork l b r) ≡ way_of_first n a l + 1
-  unfolding way_of_first IsLeastFit
-  first_way_here t none f = rw (entered, none_missed n a (blocks l) (alignment_pos a u) none, fit_found n a t b (alignment_pos a u) f.0) (omega arith)
+  pub first_nodes_here : (t : ℕ) → All (HasNoFit n a) (blocks l) → IsLowestFit n a b t → nodes_of_first n a (Fork l b r) ≡ nodes_of_first n a l + 1
+  unfolding nodes_of_first IsLowestFit
+  first_nodes_here t none f = rw (entered, none_missed n a (blocks l) (alignment_pos a u) none, fit_found n a t b (alignment_pos a u) f.0) (omega arith)
 
-  pub first_way_right : All (HasNoFit n a) (blocks l) → HasNoFit n a b → way_of_first n a (Fork l b r) ≡ way_of_first n a l + way_of_first n a r + 1
-  unfolding way_of_first
-  first_way_right none h = rw (entered, none_missed n a (blocks l) (alignment_pos a u) none, no_fit_missed n a b (alignment_pos a u) h) refl
+  pub first_nodes_right : All (HasNoFit n a) (blocks l) → HasNoFit n a b → nodes_of_first n a (Fork l b r) ≡ nodes_of_first n a l + nodes_of_first n a r + 1
+  unfolding nodes_of_first
+  first_nodes_right none h = rw (entered, none_missed n a (blocks l) (alignment_pos a u) none, no_fit_missed n a b (alignment_pos a u) h) refl
 
   -- ---- the search for the greatest place
-  pub last_way_right : (place : Place) → IsLastFit n a (blocks r) place → way_of_last n a (Fork l b r) ≡ way_of_last n a r + 1
-  unfolding way_of_last
-  last_way_right place f = rw (entered, last_found n a (blocks r) place (alignment_pos a u) f) (omega arith)
+  pub last_nodes_right : (place : Place) → IsLastFit n a (blocks r) place → nodes_of_last n a (Fork l b r) ≡ nodes_of_last n a r + 1
+  unfolding nodes_of_last
+  last_nodes_right place f = rw (entered, last_found n a (blocks r) place (alignment_pos a u) f) (omega arith)
 
-  pub last_way_here : (t : ℕ) → All (HasNoFit n a) (blocks r) → IsGreatestFit n a b t → way_of_last n a (Fork l b r) ≡ way_of_last n a r + 1
-  unfolding way_of_last IsGreatestFit
-  last_way_here t none f = rw (entered, none_missed n a (blocks r) (alignment_pos a u) none, fit_found n a t b (alignment_pos a u) f.0) (omega arith)
+  pub last_nodes_here : (t : ℕ) → All (HasNoFit n a) (blocks r) → IsHighestFit n a b t → nodes_of_last n a (Fork l b r) ≡ nodes_of_last n a r + 1
+  unfolding nodes_of_last IsHighestFit
+  last_nodes_here t none f = rw (entered, none_missed n a (blocks r) (alignment_pos a u) none, fit_found n a t b (alignment_pos a u) f.0) (omega arith)
 
-  pub last_way_left : All (HasNoFit n a) (blocks r) → HasNoFit n a b → way_of_last n a (Fork l b r) ≡ way_of_last n a r + way_of_last n a l + 1
-  unfolding way_of_last
-  last_way_left none h = rw (entered, none_missed n a (blocks r) (alignment_pos a u) none, no_fit_missed n a b (alignment_pos a u) h) refl
+  pub last_nodes_left : All (HasNoFit n a) (blocks r) → HasNoFit n a b → nodes_of_last n a (Fork l b r) ≡ nodes_of_last n a r + nodes_of_last n a l + 1
+  unfolding nodes_of_last
+  last_nodes_left none h = rw (entered, none_missed n a (blocks r) (alignment_pos a u) none, no_fit_missed n a b (alignment_pos a u) h) refl
 
 -- ---- at most
 pub height_at_most_nodes : (s : Shape) → height_of s ≤ node_count s
@@ -111,20 +111,20 @@ none_or_at_most : (t : Bool) (x most : ℕ) → x ≤ most → cond t 0 x ≤ mo
 none_or_at_most true x most p = omega arith
 none_or_at_most false x most p = p
 
-pub first_way_at_most : (n a : ℕ) (s : Shape) → way_of_first n a s ≤ node_count s
-unfolding way_of_first
-first_way_at_most n a Tip = omega arith
-first_way_at_most n a (Fork l b r) =
-    let right = none_or_at_most (list_any (has_fit n a) (blocks l) || has_fit n a b) (way_of_first n a r) (node_count r) (first_way_at_most n a r) in
-    if_at_most (is_searched n a (Fork l b r)) _ (node_count (Fork l b r)) (omega (arith, first_way_at_most n a l, right))
+pub first_nodes_at_most : (n a : ℕ) (s : Shape) → nodes_of_first n a s ≤ node_count s
+unfolding nodes_of_first
+first_nodes_at_most n a Tip = omega arith
+first_nodes_at_most n a (Fork l b r) =
+    let right = none_or_at_most (list_any (has_fit n a) (blocks l) || has_fit n a b) (nodes_of_first n a r) (node_count r) (first_nodes_at_most n a r) in
+    if_at_most (may_fit_in n a (Fork l b r)) _ (node_count (Fork l b r)) (omega (arith, first_nodes_at_most n a l, right))
 
-pub last_way_at_most : (n a : ℕ) (s : Shape) → way_of_last n a s ≤ node_count s
-unfolding way_of_last
-last_way_at_most n a Tip = omega arith
-last_way_at_most n a (Fork l b r) =
-    let left = none_or_at_most (list_any (has_fit n a) (blocks r) || has_fit n a b) (way_of_last n a l) (node_count l) (last_way_at_most n a l) in
-    if_at_most (is_searched n a (Fork l b r)) _ (node_count (Fork l b r)) (omega (arith, last_way_at_most n a r, left))
+pub last_nodes_at_most : (n a : ℕ) (s : Shape) → nodes_of_last n a s ≤ node_count s
+unfolding nodes_of_last
+last_nodes_at_most n a Tip = omega arith
+last_nodes_at_most n a (Fork l b r) =
+    let left = none_or_at_most (list_any (has_fit n a) (blocks r) || has_fit n a b) (nodes_of_last n a l) (node_count l) (last_nodes_at_most n a l) in
+    if_at_most (may_fit_in n a (Fork l b r)) _ (node_count (Fork l b r)) (omega (arith, last_nodes_at_most n a r, left))
 
-pub ruleset firsts = (none_unless_searched, first_way_passed, first_way_left, first_way_here, first_way_right, first_way_at_most, height_at_most_nodes)
+pub ruleset firsts = (none_unless_searched, first_nodes_passed, first_nodes_left, first_nodes_here, first_nodes_right, first_nodes_at_most, height_at_most_nodes)
 
-pub ruleset lasts = (none_unless_searched, last_way_passed, last_way_right, last_way_here, last_way_left, last_way_at_most, height_at_most_nodes)
+pub ruleset lasts = (none_unless_searched, last_nodes_passed, last_nodes_right, last_nodes_here, last_nodes_left, last_nodes_at_most, height_at_most_nodes)

@@ -6,9 +6,9 @@ use Rattle.vm_engine.specs.Tree.Block.{Block, free_length}
 use Rattle.vm_engine.specs.Tree.Multiples.{free_alignments}
 use Rattle.vm_engine.specs.Tree.BlockList.{IsOrderedFrom, replace_block, find_key}
 use Rattle.vm_engine.specs.Tree.Shape.{Shape, Tip, Fork, blocks, height_of, max_free_of, alignments_of, root_block, IsTree}
-use Rattle.vm_engine.specs.declared.node.kept.Change.{Change}
-use Rattle.vm_engine.specs.declared.node.kept.Change.TheVariants.{Nothing, RoomAlone, Height}
-use Rattle.vm_engine.specs.Engine.Changes.{KeepsShape, KeepsRoom}
+use Rattle.vm_engine.specs.declared.node.summary.Change.{Change}
+use Rattle.vm_engine.specs.declared.node.summary.Change.TheVariants.{Nothing, FreeOnly, Height}
+use Rattle.vm_engine.specs.Engine.Changes.{KeepsShape, KeepsFreeSummary}
 use Rattle.vm_engine.specs.Engine.NodeAnswer.{Marks, MarksBlock}
 use Rattle.vm_ranges.specs.declared.error.Error.{Error}
 use Rattle.vm_ranges.specs.declared.error.Error.TheVariants.{ResourceNotAvailable}
@@ -55,20 +55,20 @@ tree_rewritten_here l x r k y p t o = record {
 }
 
 -- where what a side keeps is the same, so is what the node keeps
-same_kept : (told : Change) (old new a c : ℕ) → KeepsRoom told old new → KeepsRoom told (max (max old a) c) (max (max new a) c)
-same_kept Nothing old new a c h = rw h refl
-same_kept RoomAlone old new a c h = tt
-same_kept Height old new a c h = tt
+same_summary : (reported : Change) (old new a c : ℕ) → KeepsFreeSummary reported old new → KeepsFreeSummary reported (max (max old a) c) (max (max new a) c)
+same_summary Nothing old new a c h = rw h refl
+same_summary FreeOnly old new a c h = tt
+same_summary Height old new a c h = tt
 
-same_kept_right : (told : Change) (old new a c : ℕ) → KeepsRoom told old new → KeepsRoom told (max (max a old) c) (max (max a new) c)
-same_kept_right Nothing old new a c h = rw h refl
-same_kept_right RoomAlone old new a c h = tt
-same_kept_right Height old new a c h = tt
+same_summary_right : (reported : Change) (old new a c : ℕ) → KeepsFreeSummary reported old new → KeepsFreeSummary reported (max (max a old) c) (max (max a new) c)
+same_summary_right Nothing old new a c h = rw h refl
+same_summary_right FreeOnly old new a c h = tt
+same_summary_right Height old new a c h = tt
 
 -- the node over a rewritten side: its blocks, and what it keeps
-pub node_rewritten_left : (s l n : Shape) (x : Block) (r : Shape) (k : Range) (y : Block) (told : Change) → s ≡ Fork l x r → Before k x.key → IsTree s → IsOrderedFrom 0 (replace_block k (y ∷ []) (blocks s))
-    → blocks n ≡ replace_block k (y ∷ []) (blocks l) → KeepsShape l n told → (blocks (Fork n x r) ≡ replace_block k (y ∷ []) (blocks s)) × KeepsShape s (Fork n x r) told
-node_rewritten_left s l n x r k y told e p t o b w =
+pub node_rewritten_left : (s l n : Shape) (x : Block) (r : Shape) (k : Range) (y : Block) (reported : Change) → s ≡ Fork l x r → Before k x.key → IsTree s → IsOrderedFrom 0 (replace_block k (y ∷ []) (blocks s))
+    → blocks n ≡ replace_block k (y ∷ []) (blocks l) → KeepsShape l n reported → (blocks (Fork n x r) ≡ replace_block k (y ∷ []) (blocks s)) × KeepsShape s (Fork n x r) reported
+node_rewritten_left s l n x r k y reported e p t o b w =
     let tree : IsTree (Fork l x r) = rw e at t in
     let ordered : IsOrderedFrom 0 (replace_block k (y ∷ []) (blocks (Fork l x r))) = rw e at o in
     rw e (
@@ -76,14 +76,14 @@ node_rewritten_left s l n x r k y told e p t o b w =
       record {
         tree = tree_rewritten_left l n x r k (y ∷ []) p tree ordered b w.height w.tree;
         height = rw w.height refl;
-        max_free = same_kept told (max_free_of l) (max_free_of n) (max_free_of r) (free_length x) w.max_free;
-        alignments = same_kept told (alignments_of l) (alignments_of n) (alignments_of r) (free_alignments x) w.alignments;
+        max_free = same_summary reported (max_free_of l) (max_free_of n) (max_free_of r) (free_length x) w.max_free;
+        alignments = same_summary reported (alignments_of l) (alignments_of n) (alignments_of r) (free_alignments x) w.alignments;
       },
     )
 
-pub node_rewritten_right : (s l n : Shape) (x : Block) (r : Shape) (k : Range) (y : Block) (told : Change) → s ≡ Fork l x r → Before x.key k → IsTree s → IsOrderedFrom 0 (replace_block k (y ∷ []) (blocks s))
-    → blocks n ≡ replace_block k (y ∷ []) (blocks r) → KeepsShape r n told → (blocks (Fork l x n) ≡ replace_block k (y ∷ []) (blocks s)) × KeepsShape s (Fork l x n) told
-node_rewritten_right s l n x r k y told e p t o b w =
+pub node_rewritten_right : (s l n : Shape) (x : Block) (r : Shape) (k : Range) (y : Block) (reported : Change) → s ≡ Fork l x r → Before x.key k → IsTree s → IsOrderedFrom 0 (replace_block k (y ∷ []) (blocks s))
+    → blocks n ≡ replace_block k (y ∷ []) (blocks r) → KeepsShape r n reported → (blocks (Fork l x n) ≡ replace_block k (y ∷ []) (blocks s)) × KeepsShape s (Fork l x n) reported
+node_rewritten_right s l n x r k y reported e p t o b w =
     let tree : IsTree (Fork l x r) = rw e at t in
     let ordered : IsOrderedFrom 0 (replace_block k (y ∷ []) (blocks (Fork l x r))) = rw e at o in
     rw e (
@@ -91,8 +91,8 @@ node_rewritten_right s l n x r k y told e p t o b w =
       record {
         tree = tree_rewritten_right l n x r k (y ∷ []) p tree ordered b w.height w.tree;
         height = rw w.height refl;
-        max_free = same_kept_right told (max_free_of r) (max_free_of n) (max_free_of l) (free_length x) w.max_free;
-        alignments = same_kept_right told (alignments_of r) (alignments_of n) (alignments_of l) (free_alignments x) w.alignments;
+        max_free = same_summary_right reported (max_free_of r) (max_free_of n) (max_free_of l) (free_length x) w.max_free;
+        alignments = same_summary_right reported (alignments_of r) (alignments_of n) (alignments_of l) (free_alignments x) w.alignments;
       },
     )
 

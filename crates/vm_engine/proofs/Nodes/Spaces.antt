@@ -12,10 +12,10 @@ use Rattle.vm_engine.specs.Tree.SpaceTree.{last_end, space_of, tree_state, IsSpa
 use Rattle.vm_ranges.specs.declared.state.NodeState.{NodeState}
 use Rattle.vm_ranges.specs.declared.state.NodeState.TheVariants.{Free}
 use Rattle.vm_ranges.proofs.RangeCalls.{same_range}
-use Rattle.vm_engine.proofs.Nodes.FewestNodes.{most_nodes, power_grows}
+use Rattle.vm_engine.proofs.Nodes.MinNodes.{most_nodes, power_grows}
 use Rattle.vm_engine.proofs.Blocks.BlockStates.{is_state}
 use Rattle.vm_ranges.specs.Request.{Request}
-use Rattle.vm_engine.specs.Answer.{Takes, Grants, Frees}
+use Rattle.vm_engine.specs.Answer.{AllocatesAt, Grants, Frees}
 use Rattle.vm_ranges.specs.declared.error.Error.{Error}
 use Rattle.vm_engine.proofs.Answers.Outcomes.{IsRefused, IsTaken, grants_outcome}
 
@@ -73,8 +73,8 @@ pub ruleset rooted = (no_empty_tree, some_root)
 abbrev HasSpaceOf : AddressState → AddressState → Type 0
 HasSpaceOf old new = new.space ≡ old.space
 
-takes_space : (old new : AddressState) (r : Range) (answer : Result Range Error) → Takes old r answer new → HasSpaceOf old new
-unfolding Takes
+takes_space : (old new : AddressState) (r : Range) (answer : Result Range Error) → AllocatesAt old r answer new → HasSpaceOf old new
+unfolding AllocatesAt
 takes_space old new r answer h = ⊎_elim (λ l. ap (λ (v : AddressState). v.space) l.1) (λ r. ap (λ (v : AddressState). v.space) r.1) h
 
 grants_space : (request : Request) (old new : AddressState) (answer : Result Range Error) → Grants old request answer new → HasSpaceOf old new

@@ -2,7 +2,7 @@
 use Rattle.std.proofs.Common.{◌≡◌, ℕ, ◌+◌, ◌<◌, ◌≤◌, true, false, cond, leb, List, [], ◌∷◌, ◌++◌, refl, ap, ◌∙◌, arith, Some, None}
 use Rattle.std.proofs.lemmas.Bool.{and_parts, leb-true, le-leb, false_from_ne_true}
 use Rattle.vm_ranges.specs.Range.{Range, Covers}
-use Rattle.vm_ranges.specs.RangeOrder.{EndsBefore, ReachesStartOf, IsInOrder, covers}
+use Rattle.vm_ranges.specs.RangeOrder.{EndsBefore, EndsAtOrAfterStartOf, IsInOrder, covers}
 use Rattle.vm_engine.specs.Tree.Block.{Block}
 use Rattle.vm_engine.specs.Tree.BlockList.{IsOrderedFrom, find_superset}
 use Rattle.vm_engine.specs.Tree.Shape.{Shape, Fork, blocks, IsTree}
@@ -61,15 +61,15 @@ superset_in_right s l x r k e p q t =
     let m = ordered_middle 0 (blocks l) x (blocks r) o in
     ap (λ (v : Shape). find_superset k (blocks v)) e ∙ superset_past 0 k (blocks l) x (blocks r) (omega (arith, m.1)) o ∙ rw (covers_before x.key k (omega arith))
 
-pub superset_here : (s l : Shape) (x : Block) (r : Shape) (k : Range) → s ≡ Fork l x r → IsInOrder k → ReachesStartOf k x.key → Covers x.key k → IsTree s → find_superset k (blocks s) ≡ Some x
-unfolding IsInOrder ReachesStartOf
+pub superset_here : (s l : Shape) (x : Block) (r : Shape) (k : Range) → s ≡ Fork l x r → IsInOrder k → EndsAtOrAfterStartOf k x.key → Covers x.key k → IsTree s → find_superset k (blocks s) ≡ Some x
+unfolding IsInOrder EndsAtOrAfterStartOf
 superset_here s l x r k e p q c t =
     let o : IsOrderedFrom 0 (blocks l ++ x ∷ blocks r) = rw e at t.ordered in
     ap (λ (v : Shape). find_superset k (blocks v)) e ∙ superset_past 0 k (blocks l) x (blocks r) q o ∙ rw (covers_if x.key k p c)
 
 -- a range that reaches into a key and sticks out lies in no other
-pub superset_nowhere : (s l : Shape) (x : Block) (r : Shape) (k : Range) → s ≡ Fork l x r → ReachesStartOf k x.key → ReachesStartOf x.key k → ¬ Covers x.key k → IsTree s → find_superset k (blocks s) ≡ None
-unfolding ReachesStartOf
+pub superset_nowhere : (s l : Shape) (x : Block) (r : Shape) (k : Range) → s ≡ Fork l x r → EndsAtOrAfterStartOf k x.key → EndsAtOrAfterStartOf x.key k → ¬ Covers x.key k → IsTree s → find_superset k (blocks s) ≡ None
+unfolding EndsAtOrAfterStartOf
 superset_nowhere s l x r k e p q c t =
     let o : IsOrderedFrom 0 (blocks l ++ x ∷ blocks r) = rw e at t.ordered in
     let m = ordered_middle 0 (blocks l) x (blocks r) o in

@@ -17,12 +17,12 @@ tiles_ordered p lo hi [] t = tt
 tiles_ordered p lo hi (b ∷ bs) t = (omega (arith, t.0), omega (arith, t.0, t.1), tiles_ordered b.state (b.key.end + 1) hi bs t.3)
 
 -- the list is cut at a block
-pub record Cut (bs : List Block) (b : Block) : Type 0 where
+pub record Split (bs : List Block) (b : Block) : Type 0 where
   pub before : List Block
   pub after : List Block
   pub is : bs ≡ before ++ b ∷ after
 
-cut_later : (x b : Block) (bs : List Block) → Cut bs b → Cut (x ∷ bs) b
+cut_later : (x b : Block) (bs : List Block) → Split bs b → Split (x ∷ bs) b
 cut_later x b bs c = record { before = x ∷ c.before; after = c.after; is = ap (λ (v : List Block). x ∷ v) c.is }
 
 pub some_same : (x y : Block) → Some x ≡ Some y → x ≡ y
@@ -40,10 +40,10 @@ unfolding covers
 in_covers a x i = rw (le-leb a.start x i.0, le-leb x a.end i.1)
 
 -- a block that is found by an address of it
-pub address_cut : (x : ℕ) (b : Block) (bs : List Block) → find_superset (at_address x) bs ≡ Some b → Cut bs b × IsIn b.key x
+pub address_cut : (x : ℕ) (b : Block) (bs : List Block) → find_superset (at_address x) bs ≡ Some b → Split bs b × IsIn b.key x
 address_cut x b [] e = absurd (cc)
 address_cut x b (y ∷ bs) e =
-    elim (covers y.key (at_address x)) as (λ v. covers y.key (at_address x) ≡ v → cond v (Some y) (find_superset (at_address x) bs) ≡ Some b → Cut (y ∷ bs) b × IsIn b.key x) [
+    elim (covers y.key (at_address x)) as (λ v. covers y.key (at_address x) ≡ v → cond v (Some y) (find_superset (at_address x) bs) ≡ Some b → Split (y ∷ bs) b × IsIn b.key x) [
       | true ↦ λ s f.
           let same = some_same y b f in
           (record { before = []; after = bs; is = ap (λ (v : Block). v ∷ bs) same }, subst (λ (v : Block). IsIn v.key x) same (covers_in y.key x s))

@@ -6,18 +6,18 @@ use Rattle.std.proofs.lemmas.Nat.{pow_pos, mod-pow-add}
 use Rattle.std.proofs.lemmas.Nat.Bits.{bit_at-trailing_zeros, bit_at-pow_other}
 use Rattle.std.proofs.Math.Nat.{pow-suc, zero-mod}
 use Rattle.vm_ranges.specs.Range.{Range}
-use Rattle.vm_ranges.specs.Alignment.{IsAlignment, IsGreatestMultiple}
+use Rattle.vm_ranges.specs.Alignment.{IsAlignment, IsHighestMultiple}
 use Rattle.vm_engine.specs.Tree.Multiples.{HasMultiple, has_multiple, alignments_below, alignment_count}
 use Rattle.vm_engine.proofs.Numbers.Highest.{powers_up_to, xor_pos_before}
-use Rattle.vm_ranges.proofs.Power.{alignment_pos, alignment_below, greatest_multiple}
+use Rattle.vm_ranges.proofs.Power.{alignment_pos, alignment_below, highest_multiple}
 
 -- ---- the test tells whether a multiple lies in the range
-pub multiple_told : (a : ℕ) (r : Range) → 0 < a → (has_multiple a r ≡ true) ↔ HasMultiple a r
-unfolding has_multiple HasMultiple IsGreatestMultiple
-multiple_told a r z =
-    let greatest = greatest_multiple a r.end z in (
-      λ e. (r.end - r.end % a, greatest.0, (leb-true _ _ e, greatest.1)),
-      λ m. le-leb r.start (r.end - r.end % a) (omega (arith, m.2.0, greatest.2 m.0 m.1 m.2.1)),
+pub multiple_is_exact : (a : ℕ) (r : Range) → 0 < a → (has_multiple a r ≡ true) ↔ HasMultiple a r
+unfolding has_multiple HasMultiple IsHighestMultiple
+multiple_is_exact a r z =
+    let highest = highest_multiple a r.end z in (
+      λ e. (r.end - r.end % a, highest.0, (leb-true _ _ e, highest.1)),
+      λ m. le-leb r.start (r.end - r.end % a) (omega (arith, m.2.0, highest.2 m.0 m.1 m.2.1)),
     )
 
 -- ---- how many alignments have one: those below some exponent
@@ -38,7 +38,7 @@ below_if_has (suc n) k r l h =
       | true ↦ λ e. l
       | false ↦ λ e.
           ⊎_elim
-          (λ (same : k ≡ n). let told : has_multiple (2 ^ n) r ≡ true = (multiple_told (2 ^ n) r (pow_pos n)).1 (subst (λ (v : ℕ). HasMultiple (2 ^ v) r) same h) in absurd (cc))
+          (λ (same : k ≡ n). let reported : has_multiple (2 ^ n) r ≡ true = (multiple_is_exact (2 ^ n) r (pow_pos n)).1 (subst (λ (v : ℕ). HasMultiple (2 ^ v) r) same h) in absurd (cc))
           (λ (other : k ≢ n). below_if_has n k r (omega arith) h)
           (cases_eq k n)
     ] refl
@@ -47,7 +47,7 @@ has_if_below : (n k : ℕ) (r : Range) → k < alignments_below n r → HasMulti
 has_if_below zero k r = λ l. absurd (omega arith)
 has_if_below (suc n) k r =
     elim (has_multiple (2 ^ n) r) as (λ v. has_multiple (2 ^ n) r ≡ v → k < cond v (suc n) (alignments_below n r) → HasMultiple (2 ^ k) r) [
-      | true ↦ λ e l. has_less k n r (omega arith) ((multiple_told (2 ^ n) r (pow_pos n)).0 e)
+      | true ↦ λ e l. has_less k n r (omega arith) ((multiple_is_exact (2 ^ n) r (pow_pos n)).0 e)
       | false ↦ λ e l. has_if_below n k r l
     ] refl
 
@@ -59,9 +59,9 @@ at_most (suc n) r =
       | false ↦ omega (arith, at_most n r)
     ]
 
-pub count_told : (k : ℕ) (r : Range) → k < 64 → (k < alignment_count r) ↔ HasMultiple (2 ^ k) r
+pub count_is_exact : (k : ℕ) (r : Range) → k < 64 → (k < alignment_count r) ↔ HasMultiple (2 ^ k) r
 unfolding alignment_count
-count_told k r w = (has_if_below 64 k r, below_if_has 64 k r w)
+count_is_exact k r w = (has_if_below 64 k r, below_if_has 64 k r w)
 
 -- so a number that says the same of each alignment is the count
 one_count : (r : Range) (c : ℕ) → c ≤ 64 → ((k : ℕ) → k < 64 → HasMultiple (2 ^ k) r ↔ (k < c)) → c ≡ alignment_count r

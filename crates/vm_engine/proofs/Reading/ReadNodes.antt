@@ -9,37 +9,37 @@ use Rattle.vm_ranges.specs.Fields.{field_count, is_count}
 use Rattle.vm_ranges.specs.Numbers.{number_in}
 use Rattle.vm_engine.specs.Tree.Block.{Block}
 use Rattle.vm_engine.specs.Tree.Shape.{Shape, Tip, Fork, blocks, height_of}
-use Rattle.vm_ranges.specs.RangeValues.{StatesRange, StatesState, range_found, state_found}
-use Rattle.vm_engine.specs.Values.TreeValues.{StatesNode, StatesShape, HasNodes}
-use Rattle.vm_engine.specs.Checks.NodeChecks.{NodeData, node_data}
-use Rattle.vm_engine.proofs.Reading.Fronts.{AreKeys, keys-append}
+use Rattle.vm_ranges.specs.RangeValues.{EncodesRange, EncodesState, decoded_range, decoded_state}
+use Rattle.vm_engine.specs.Values.TreeValues.{EncodesNode, EncodesShape, HasNodes}
+use Rattle.vm_engine.specs.Checks.NodeChecks.{NodeData, decoded_node}
+use Rattle.vm_engine.proofs.Reading.Cursors.{AreKeys, keys-append}
 use Rattle.vm_ranges.proofs.ReadRanges as ranges
 use Rattle.vm_ranges.proofs.ReadStates as states
 
 -- what is found in the fields stands there
-node_stated : (d : Data) (n : NodeData) → node_data d ≡ Some n → StatesNode d n.block (λ v. v ≡ n.left) (λ v. v ≡ n.right) n.height
-node_stated d n e =
+node_encoded : (d : Data) (n : NodeData) → decoded_node d ≡ Some n → EncodesNode d n.block (λ v. v ≡ n.left) (λ v. v ≡ n.right) n.height
+node_encoded d n e =
     let five = if_some (is_count 5 (field_count d)) _ n e in
-    let key = and_then_some _ (option_and_then range_found (get (codes "key") d)) n five.1 in
-    let state = and_then_some _ (option_and_then state_found (get (codes "node_state") d)) n key.2 in
+    let key = and_then_some _ (option_and_then decoded_range (get (codes "key") d)) n five.1 in
+    let state = and_then_some _ (option_and_then decoded_state (get (codes "node_state") d)) n key.2 in
     let height = and_then_some _ (number_in (codes "height") d) n state.2 in
     let left = and_then_some _ (get (codes "left") d) n height.2 in
     let right = map_some _ (get (codes "right") d) n left.2 in
-    let key_at = and_then_some range_found (get (codes "key") d) key.0 key.1 in
-    let state_at = and_then_some state_found (get (codes "node_state") d) state.0 state.1 in
+    let key_at = and_then_some decoded_range (get (codes "key") d) key.0 key.1 in
+    let state_at = and_then_some decoded_state (get (codes "node_state") d) state.0 state.1 in
     let b : Block = record { key = key.0; state = state.0 } in
-    let stated : StatesNode d b (λ v. v ≡ left.0) (λ v. v ≡ right.0) height.0 = record {
+    let encoded : EncodesNode d b (λ v. v ≡ left.0) (λ v. v ≡ right.0) height.0 = record {
       five_fields = count-true 5 (field_count d) five.0;
-      key = field_is (codes "key") d key_at.0 (λ v. StatesRange v key.0) key_at.1 (ranges.found-states key_at.0 key.0 key_at.2);
-      node_state = field_is (codes "node_state") d state_at.0 (λ v. StatesState v state.0) state_at.1 (states.found-states state_at.0 state.0 state_at.2);
+      key = field_is (codes "key") d key_at.0 (λ v. EncodesRange v key.0) key_at.1 (ranges.found-states key_at.0 key.0 key_at.2);
+      node_state = field_is (codes "node_state") d state_at.0 (λ v. EncodesState v state.0) state_at.1 (states.found-states state_at.0 state.0 state_at.2);
       left = field_is (codes "left") d left.0 (λ v. v ≡ left.0) left.1 refl;
       right = field_is (codes "right") d right.0 (λ v. v ≡ right.0) right.1 refl;
       height = height.1;
     } in
-    subst (λ (m : NodeData). StatesNode d m.block (λ v. v ≡ m.left) (λ v. v ≡ m.right) m.height) right.2 stated
+    subst (λ (m : NodeData). EncodesNode d m.block (λ v. v ≡ m.left) (λ v. v ≡ m.right) m.height) right.2 encoded
 
 -- other facts of what stands for the children
-sides_map : (d : Data) (b : Block) (L R P Q : Data → Type 0) (h : ℕ) → ((v : Data) → L v → P v) → ((v : Data) → R v → Q v) → StatesNode d b L R h → StatesNode d b P Q h
+sides_map : (d : Data) (b : Block) (L R P Q : Data → Type 0) (h : ℕ) → ((v : Data) → L v → P v) → ((v : Data) → R v → Q v) → EncodesNode d b L R h → EncodesNode d b P Q h
 sides_map d b L R P Q h f g n = record {
   five_fields = n.five_fields;
   key = n.key;
@@ -50,39 +50,39 @@ sides_map d b L R P Q h f g n = record {
 }
 
 -- a value with such fields is a node over what stands for its children
-pub over_sides : (d : Data) (n : NodeData) (L R : Data → Type 0) (h : ℕ) → node_data d ≡ Some n → n.height ≡ h → L n.left → R n.right → StatesNode d n.block L R h
+pub over_sides : (d : Data) (n : NodeData) (L R : Data → Type 0) (h : ℕ) → decoded_node d ≡ Some n → n.height ≡ h → L n.left → R n.right → EncodesNode d n.block L R h
 over_sides d n L R h e is l r =
-    let at : StatesNode d n.block (λ v. v ≡ n.left) (λ v. v ≡ n.right) h = subst (StatesNode d n.block (λ v. v ≡ n.left) (λ v. v ≡ n.right)) is (node_stated d n e) in
+    let at : EncodesNode d n.block (λ v. v ≡ n.left) (λ v. v ≡ n.right) h = subst (EncodesNode d n.block (λ v. v ≡ n.left) (λ v. v ≡ n.right)) is (node_encoded d n e) in
     sides_map d n.block (λ v. v ≡ n.left) (λ v. v ≡ n.right) L R h (λ v s. subst L (sym s) l) (λ v s. subst R (sym s) r) at
 
 abbrev pub data_of : Block → ℕ → Data → Data → NodeData
 data_of b h l r = record { block = b; height = h; left = l; right = r }
 
 -- and what stands in a node's fields is found
-pub node_is : (d : Data) (b : Block) (L R : Data → Type 0) (h : ℕ) → StatesNode d b L R h → (l : Data) × (r : Data) × (node_data d ≡ Some (data_of b h l r)) × L l × R r
+pub node_is : (d : Data) (b : Block) (L R : Data → Type 0) (h : ℕ) → EncodesNode d b L R h → (l : Data) × (r : Data) × (decoded_node d ≡ Some (data_of b h l r)) × L l × R r
 node_is d b L R h n =
-    let key_at = in_field (codes "key") d (λ v. StatesRange v b.key) n.key in
-    let state_at = in_field (codes "node_state") d (λ v. StatesState v b.state) n.node_state in
+    let key_at = in_field (codes "key") d (λ v. EncodesRange v b.key) n.key in
+    let state_at = in_field (codes "node_state") d (λ v. EncodesState v b.state) n.node_state in
     let left_at = in_field (codes "left") d L n.left in
     let right_at = in_field (codes "right") d R n.right in
-    let is : node_data d ≡ Some (data_of b h left_at.0 right_at.0) = rw (true-count 5 (field_count d) n.five_fields, key_at.1, ranges.states-found key_at.0 b.key key_at.2, state_at.1, states.states-found state_at.0 b.state state_at.2, n.height, left_at.1, right_at.1) refl in
+    let is : decoded_node d ≡ Some (data_of b h left_at.0 right_at.0) = rw (true-count 5 (field_count d) n.five_fields, key_at.1, ranges.states-found key_at.0 b.key key_at.2, state_at.1, states.states-found state_at.0 b.state state_at.2, n.height, left_at.1, right_at.1) refl in
     (left_at.0, right_at.0, is, left_at.2, right_at.2)
 
 -- The nodes that a value has.
 
 -- a tree with true heights is one with any
-pub shape_nodes : (s : Shape) (d : Data) → StatesShape d s → HasNodes d s
+pub shape_nodes : (s : Shape) (d : Data) → EncodesShape d s → HasNodes d s
 shape_nodes Tip d p = p
 shape_nodes (Fork l b r) d p = (
   max (height_of l) (height_of r) + 1,
-  sides_map d b (λ v. StatesShape v l) (λ v. StatesShape v r) (λ v. HasNodes v l) (λ v. HasNodes v r) (max (height_of l) (height_of r) + 1) (λ v. shape_nodes l v) (λ v. shape_nodes r v) p,
+  sides_map d b (λ v. EncodesShape v l) (λ v. EncodesShape v r) (λ v. HasNodes v l) (λ v. HasNodes v r) (max (height_of l) (height_of r) + 1) (λ v. shape_nodes l v) (λ v. shape_nodes r v) p,
 )
 
-pub no_data : (d : Data) (n : NodeData) → d ≡ null → node_data d ≡ Some n → ⊥
-no_data d n z e = let f : node_data null ≡ Some n = subst (λ (v : Data). node_data v ≡ Some n) z e in cc
+pub no_data : (d : Data) (n : NodeData) → d ≡ null → decoded_node d ≡ Some n → ⊥
+no_data d n z e = let f : decoded_node null ≡ Some n = subst (λ (v : Data). decoded_node v ≡ Some n) z e in cc
 
 -- the fields of a node that a value has
-pub fork_is : (d : Data) (l r : Shape) (b : Block) → HasNodes d (Fork l b r) → (n : NodeData) × (node_data d ≡ Some n) × (n.block ≡ b) × HasNodes n.left l × HasNodes n.right r
+pub fork_is : (d : Data) (l r : Shape) (b : Block) → HasNodes d (Fork l b r) → (n : NodeData) × (decoded_node d ≡ Some n) × (n.block ≡ b) × HasNodes n.left l × HasNodes n.right r
 fork_is d l r b p =
     let n = node_is d b (λ v. HasNodes v l) (λ v. HasNodes v r) p.0 p.1 in
     (data_of b p.0 n.0 n.1, n.2, refl, n.3, n.4)
@@ -101,14 +101,14 @@ one_tree (Fork l x r) (Fork m y n) d p q =
     cc
 
 -- a value without a node's fields has no nodes
-pub none_tip : (s : Shape) (d : Data) → HasNodes d s → node_data d ≡ None → s ≡ Tip
+pub none_tip : (s : Shape) (d : Data) → HasNodes d s → decoded_node d ≡ None → s ≡ Tip
 none_tip Tip d p e = refl
 none_tip (Fork l b r) d p e = let n = fork_is d l r b p in absurd (let f = n.1 in cc)
 
 -- the keys of the nodes that a value has
-pub keys_stated : (s : Shape) (d : Data) → HasNodes d s → AreKeys (blocks s)
-keys_stated Tip d p = tt
-keys_stated (Fork l b r) d p =
-    let key_at = in_field (codes "key") d (λ v. StatesRange v b.key) p.1.key in
+pub keys_encoded : (s : Shape) (d : Data) → HasNodes d s → AreKeys (blocks s)
+keys_encoded Tip d p = tt
+keys_encoded (Fork l b r) d p =
+    let key_at = in_field (codes "key") d (λ v. EncodesRange v b.key) p.1.key in
     let n = fork_is d l r b p in
-    keys-append (blocks l) b (blocks r) (keys_stated l n.0.left n.3) key_at.2.range.0 (keys_stated r n.0.right n.4)
+    keys-append (blocks l) b (blocks r) (keys_encoded l n.0.left n.3) key_at.2.range.0 (keys_encoded r n.0.right n.4)

@@ -7,22 +7,22 @@ use Rattle.vm_ranges.specs.Range.{Range, IsRange}
 use Rattle.vm_engine.specs.Tree.Blocks.{TilesSpace}
 use Rattle.vm_engine.specs.Tree.Shape.{Shape, Tip, MAX_HEIGHT, blocks}
 use Rattle.vm_engine.specs.Tree.SpaceTree.{IsSpaceTree}
-use Rattle.vm_engine.specs.Values.TreeValues.{StatesShape, StatesSpaceTree}
+use Rattle.vm_engine.specs.Values.TreeValues.{EncodesShape, EncodesSpaceTree}
 use Rattle.vm_engine.specs.Checks.ValueParts.{IsShapeWithin, HasShapeWithin}
-use Rattle.vm_engine.specs.Checks.NodeChecks.{tree_found, front_of, tree_fitting}
+use Rattle.vm_engine.specs.Checks.NodeChecks.{checked_subtree, cursor_at_start, checked_tree_of}
 use Rattle.vm_ranges.specs.declared.state.NodeState.TheVariants.{Allocated}
-use Rattle.vm_engine.specs.declared.saved.check.Checked.{Checked}
+use Rattle.vm_engine.specs.declared.saved.check.CheckedTree.{CheckedTree}
 use Rattle.vm_engine.proofs.Blocks.BlockOrder.{ordered_weaken}
 use Rattle.vm_engine.proofs.Nodes.Spaces.{space_tree}
 use Rattle.vm_engine.proofs.Nodes.TreeEdits.{tiles_ordered}
-use Rattle.vm_engine.proofs.Reading.ReadNodes.{shape_nodes, keys_stated}
-use Rattle.vm_engine.proofs.Reading.Fronts.{tiled, all_behind}
+use Rattle.vm_engine.proofs.Reading.ReadNodes.{shape_nodes, keys_encoded}
+use Rattle.vm_engine.proofs.Reading.Cursors.{tiled, all_behind}
 use Rattle.vm_engine.proofs.Reading.ReadTrees.{sound, complete}
 use Rattle.vm_engine.proofs.Reading.OneTree.{one_shape}
 
 -- the value states a tree of the space, nested as deep as it may be
 record IsChecked (d : Data) (space : Range) (s : Shape) : Type 0 where
-  stated : StatesSpaceTree d space s
+  encoded : EncodesSpaceTree d space s
   within : IsShapeWithin MAX_HEIGHT d s
 
 not_empty : (space : Range) (s : Shape) → IsRange space.start space.end → TilesSpace space (blocks s) → s ≡ Tip → ⊥
@@ -32,23 +32,23 @@ not_empty space s r t e =
     let end = r.0 in
     omega arith
 
-checked_tree : (d : Data) (space : Range) → IsRange space.start space.end → (found : Checked) → tree_found MAX_HEIGHT d (front_of space) ≡ Some found → found.front.next ≡ space.end + 1 → (s : Shape) × IsChecked d space s
+checked_tree : (d : Data) (space : Range) → IsRange space.start space.end → (found : CheckedTree) → checked_subtree MAX_HEIGHT d (cursor_at_start space) ≡ Some found → found.cursor.next ≡ space.end + 1 → (s : Shape) × IsChecked d space s
 unfolding TilesSpace
 checked_tree d space range found e ends =
-    let f = sound MAX_HEIGHT d (front_of space) found e in
-    let g = tiled (blocks f.0) (front_of space) found.front space.end (keys_stated f.0 d (shape_nodes f.0 d f.1.stated)) f.1.behind ends in
+    let f = sound MAX_HEIGHT d (cursor_at_start space) found e in
+    let g = tiled (blocks f.0) (cursor_at_start space) found.cursor space.end (keys_encoded f.0 d (shape_nodes f.0 d f.1.encoded)) f.1.advance ends in
     let ordered = ordered_weaken 0 space.start (blocks f.0) (omega arith) (tiles_ordered Allocated space.start space.end (blocks f.0) g.0) in (
       f.0,
       record {
-        stated = record {
-          stated = f.1.stated;
+        encoded = record {
+          encoded = f.1.encoded;
           some_node = not_empty space f.0 range g.0;
           nested = f.1.within;
           ordered = ordered;
           balanced = f.1.balanced;
           blocks = record { tiles = g.0; below = g.1 };
         };
-        within = record { stated = f.1.stated; tree = record { ordered = ordered; balanced = f.1.balanced }; height = f.1.within };
+        within = record { encoded = f.1.encoded; tree = record { ordered = ordered; balanced = f.1.balanced }; height = f.1.within };
       },
     )
 
@@ -56,36 +56,36 @@ pub some_of : {A : Type 0} (o : Option A) → is_some o ≡ true → (a : A) × 
 some_of None e = absurd (cc)
 some_of (Some a) e = (a, refl)
 
-checks : (d : Data) (space : Range) → IsRange space.start space.end → is_some (tree_fitting space d) ≡ true → (s : Shape) × IsChecked d space s
+checks : (d : Data) (space : Range) → IsRange space.start space.end → is_some (checked_tree_of space d) ≡ true → (s : Shape) × IsChecked d space s
 checks d space range e =
-    let last = some_of (tree_fitting space d) e in
-    let found = and_then_some _ (tree_found MAX_HEIGHT d (front_of space)) last.0 last.1 in
-    let ends = if_some (eqb found.0.front.next (space.end + 1)) _ last.0 found.2 in
-    checked_tree d space range found.0 found.1 (eqb-true found.0.front.next (space.end + 1) ends.0)
+    let last = some_of (checked_tree_of space d) e in
+    let found = and_then_some _ (checked_subtree MAX_HEIGHT d (cursor_at_start space)) last.0 last.1 in
+    let ends = if_some (eqb found.0.cursor.next (space.end + 1)) _ last.0 found.2 in
+    checked_tree d space range found.0 found.1 (eqb-true found.0.cursor.next (space.end + 1) ends.0)
 
 -- a value that states a tree of the space passes
-passes : (d : Data) (space : Range) (s : Shape) → StatesSpaceTree d space s → is_some (tree_fitting space d) ≡ true
+passes : (d : Data) (space : Range) (s : Shape) → EncodesSpaceTree d space s → is_some (checked_tree_of space d) ≡ true
 unfolding TilesSpace
 passes d space s p =
-    let last = all_behind (blocks s) (front_of space) space.end p.blocks.tiles p.blocks.below in
-    let found = complete s MAX_HEIGHT d (front_of space) last.0 p.stated p.balanced p.nested last.1 in
+    let last = all_behind (blocks s) (cursor_at_start space) space.end p.blocks.tiles p.blocks.below in
+    let found = complete s MAX_HEIGHT d (cursor_at_start space) last.0 p.encoded p.balanced p.nested last.1 in
     rw (found, eq-eqb last.0.next (space.end + 1) last.2) refl
 
 -- What the code's clauses say.
 
-pub none_stated : (d : Data) (space : Range) → is_some (tree_fitting space d) ≡ false → ((s : Shape) × StatesSpaceTree d space s) → ⊥
-none_stated d space e p = true≢false (sym (passes d space p.0 p.1) ∙ e)
+pub none_encoded : (d : Data) (space : Range) → is_some (checked_tree_of space d) ≡ false → ((s : Shape) × EncodesSpaceTree d space s) → ⊥
+none_encoded d space e p = true≢false (sym (passes d space p.0 p.1) ∙ e)
 
-pub has_shape : (d : Data) (space : Range) → IsRange space.start space.end → is_some (tree_fitting space d) ≡ true → HasShapeWithin MAX_HEIGHT d
+pub has_shape : (d : Data) (space : Range) → IsRange space.start space.end → is_some (checked_tree_of space d) ≡ true → HasShapeWithin MAX_HEIGHT d
 has_shape d space range e = let c = checks d space range e in (c.0, c.1.within)
 
-pub some_stated : (d : Data) (space : Range) → IsRange space.start space.end → is_some (tree_fitting space d) ≡ true → (s : Shape) × StatesSpaceTree d space s
-some_stated d space range e = let c = checks d space range e in (c.0, c.1.stated)
+pub some_encoded : (d : Data) (space : Range) → IsRange space.start space.end → is_some (checked_tree_of space d) ≡ true → (s : Shape) × EncodesSpaceTree d space s
+some_encoded d space range e = let c = checks d space range e in (c.0, c.1.encoded)
 
-pub built_states : (d : Data) (space : Range) (s : Shape) → IsRange space.start space.end → is_some (tree_fitting space d) ≡ true → StatesShape d s → StatesSpaceTree d space s
+pub built_states : (d : Data) (space : Range) (s : Shape) → IsRange space.start space.end → is_some (checked_tree_of space d) ≡ true → EncodesShape d s → EncodesSpaceTree d space s
 built_states d space s range e p =
     let c = checks d space range e in
-    subst (StatesSpaceTree d space) (one_shape c.0 s d c.1.within.stated p) c.1.stated
+    subst (EncodesSpaceTree d space) (one_shape c.0 s d c.1.within.encoded p) c.1.encoded
 
-pub stated_tree : (d : Data) (space : Range) (s : Shape) → IsRange space.start space.end → StatesSpaceTree d space s → IsSpaceTree s
-stated_tree d space s range p = space_tree space s p.blocks range p.nested
+pub encoded_tree : (d : Data) (space : Range) (s : Shape) → IsRange space.start space.end → EncodesSpaceTree d space s → IsSpaceTree s
+encoded_tree d space s range p = space_tree space s p.blocks range p.nested

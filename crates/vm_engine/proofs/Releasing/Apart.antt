@@ -6,22 +6,22 @@ use Rattle.vm_engine.specs.Address.{releasing}
 use Rattle.vm_engine.specs.Tree.Blocks.{NotBothFree, Tiles, TilesSpace, IsBlocksOf}
 use Rattle.vm_engine.specs.Tree.Shape.{Shape, blocks}
 use Rattle.vm_engine.specs.Tree.SpaceTree.{space_of, tree_state, IsSpaceTree}
-use Rattle.vm_engine.specs.Tree.FreeBeside.{HasHeld, key_if_free, last_free, first_free, free_if}
-use Rattle.vm_engine.specs.Engine.Release.{end_with, joined, IsAround}
+use Rattle.vm_engine.specs.Tree.FreeBeside.{HasHeld, key_if_free, last_free, first_free, free_if_some}
+use Rattle.vm_engine.specs.Engine.FreedBlocks.{end_with, joined, IsAround}
 use Rattle.vm_engine.specs.declared.node.neighbours.Neighbours.{Neighbours}
 use Rattle.vm_ranges.specs.declared.state.NodeState.{NodeState}
 use Rattle.vm_ranges.specs.declared.state.NodeState.TheVariants.{Free, Allocated}
 use Rattle.vm_engine.proofs.Blocks.Gaps.{tiles_end}
 use Rattle.vm_engine.proofs.Blocks.OneList.{same_block}
 use Rattle.vm_engine.proofs.Releasing.Joining.{with_free, join_if, EndsHeld, blocks_freed, blocks_freed_before}
-use Rattle.vm_engine.proofs.Splitting.Taking.{as_blocks}
+use Rattle.vm_engine.proofs.Splitting.TakenRanges.{as_blocks}
 use Rattle.vm_engine.proofs.Nodes.TreeEdits.{tiles_ordered}
 use Rattle.vm_engine.proofs.Blocks.BlockOrder.{ordered_weaken}
 
 -- blocks with the free one at their end apart
 record Lower (p : NodeState) (xs : List Block) (last : Option Range) : Type 0 where
   lower : List Block
-  is : xs ≡ lower ++ free_if last
+  is : xs ≡ lower ++ free_if_some last
   ends : last ≡ None → EndsHeld p xs
 
 lower_one : (p st : NodeState) (x : Block) → x.state ≡ st → Lower p (x ∷ []) (key_if_free st x.key)
@@ -41,7 +41,7 @@ lower_all (x ∷ xs) = lower_of Allocated x xs
 -- blocks with the free one at their beginning apart, and what a free range before them joins with
 record Upper (ys : List Block) (first : Option Range) : Type 0 where
   upper : List Block
-  is : ys ≡ free_if first ++ upper
+  is : ys ≡ free_if_some first ++ upper
   with : (k : Range) → with_free k ys ≡ free_block (record { start = k.start; end = end_with k first }) ∷ upper
 
 upper_one : (st : NodeState) (y : Block) (ys : List Block) → y.state ≡ st → Upper (y ∷ ys) (key_if_free st y.key)
@@ -65,7 +65,7 @@ block_bounds p lo hi b (x ∷ xs) ys t = let i = block_bounds x.state (x.key.end
 range_within : (sp k : Range) → IsRange sp.start sp.end → sp.start ≤ k.start → k.start ≤ k.end → k.end ≤ sp.end → IsRange k.start k.end
 range_within sp k r l m h = (m, omega (arith, r.1), λ z. let q : sp.start ≡ 0 = omega arith in omega (arith, r.2 q))
 
-around_of : (s : Shape) (k : Range) (lower upper : List Block) (n : Neighbours) → IsSpaceTree s → blocks s ≡ lower ++ (free_if n.before ++ held_block k ∷ (free_if n.after ++ upper)) → Tiles Allocated (space_of (blocks s)).start (lower ++ free_block (joined k n) ∷ upper) (space_of (blocks s)).end → IsAround (blocks s) k n
+around_of : (s : Shape) (k : Range) (lower upper : List Block) (n : Neighbours) → IsSpaceTree s → blocks s ≡ lower ++ (free_if_some n.before ++ held_block k ∷ (free_if_some n.after ++ upper)) → Tiles Allocated (space_of (blocks s)).start (lower ++ free_block (joined k n) ∷ upper) (space_of (blocks s)).end → IsAround (blocks s) k n
 unfolding TilesSpace
 around_of s k lower upper n h e t =
     let sp = space_of (blocks s) in
@@ -109,8 +109,8 @@ given_by s k xs ys (Some p) after h e f b =
       blocks_of = new;
     }
 
-pub held_given_back : (s : Shape) (k : Range) (n : Neighbours) → IsSpaceTree s → HasHeld (blocks s) k n.before n.after → Given s k n
-held_given_back s k n h c =
+pub held_range_freed : (s : Shape) (k : Range) (n : Neighbours) → IsSpaceTree s → HasHeld (blocks s) k n.before n.after → Given s k n
+held_range_freed s k n h c =
     let lower : Lower Allocated c.lower n.before = subst (λ (v : Option Range). Lower Allocated c.lower v) (sym c.last) (lower_all c.lower) in
     let upper : Upper c.upper n.after = subst (λ (v : Option Range). Upper c.upper v) (sym c.first) (upper_all c.upper) in
     given_by s k c.lower c.upper n.before n.after h c.cut lower upper

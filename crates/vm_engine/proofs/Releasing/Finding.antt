@@ -9,7 +9,7 @@ use Rattle.vm_engine.specs.Tree.BlockList.{IsOrderedFrom, find_key}
 use Rattle.vm_engine.specs.Tree.Shape.{Shape, blocks}
 use Rattle.vm_engine.specs.Tree.SpaceTree.{space_of, tree_state, IsSpaceTree}
 use Rattle.vm_engine.specs.Tree.FreeBeside.{HasHeld, key_if_free, last_free, first_free}
-use Rattle.vm_engine.specs.Engine.Release.{if_held, neighbours}
+use Rattle.vm_engine.specs.Engine.FreedBlocks.{if_held, neighbours}
 use Rattle.vm_engine.specs.declared.node.neighbours.Neighbours.{Neighbours}
 use Rattle.vm_ranges.specs.declared.state.NodeState.{NodeState}
 use Rattle.vm_ranges.specs.declared.state.NodeState.TheVariants.{Free, Allocated}

@@ -10,7 +10,7 @@ use Rattle.vm_ranges.specs.declared.state.NodeState.{NodeState}
 use Rattle.vm_ranges.specs.declared.state.NodeState.TheVariants.{Free, Allocated}
 use Rattle.vm_engine.proofs.Blocks.Gaps.{state_cases}
 use Rattle.vm_engine.proofs.Blocks.OneList.{held_of-free, held_of-held}
-use Rattle.vm_engine.proofs.Splitting.Taking.{starts_after}
+use Rattle.vm_engine.proofs.Splitting.TakenRanges.{starts_after}
 
 -- the blocks with a free one before them, which takes in the first if that is free too
 abbrev pub join_if : NodeState → Range → Block → List Block → List Block

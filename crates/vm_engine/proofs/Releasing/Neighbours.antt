@@ -6,7 +6,7 @@ use Rattle.vm_engine.specs.Tree.Block.{Block}
 use Rattle.vm_engine.specs.Tree.BlockList.{IsOrderedFrom}
 use Rattle.vm_engine.specs.Tree.Shape.{Shape, Fork, blocks, IsTree}
 use Rattle.vm_engine.specs.Tree.FreeBeside.{key_if_free, last_free, first_free}
-use Rattle.vm_engine.specs.Engine.Release.{if_held, neighbours}
+use Rattle.vm_engine.specs.Engine.FreedBlocks.{if_held, neighbours}
 use Rattle.vm_ranges.proofs.RangeCalls.{starts_low}
 use Rattle.vm_engine.proofs.Blocks.BlockOrder.{ordered_middle}
 use Rattle.vm_engine.proofs.Blocks.Replacement.{same_range_start, same_range_before, same_range_self}

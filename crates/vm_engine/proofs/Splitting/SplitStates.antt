@@ -4,26 +4,26 @@ use Rattle.std.proofs.lemmas.Bool.{cases_lt, le-ltb}
 use Rattle.vm_engine.specs.Engine.NodeFields.{side}
 use Rattle.vm_ranges.specs.Range.{Range}
 use Rattle.vm_engine.specs.Tree.Block.{Block, free_block, held_block}
-use Rattle.vm_engine.specs.Address.{LeavesClear, holding}
-use Rattle.vm_engine.specs.Answer.{FEWEST_TOO_DEEP, Takes}
+use Rattle.vm_engine.specs.Address.{SplitsGap, holding}
+use Rattle.vm_engine.specs.Answer.{SPLIT_LIMIT_MIN_HELD, AllocatesAt}
 use Rattle.vm_engine.specs.Tree.Blocks.{Tiles, TilesSpace, IsBlocksOf, held_of, blocks_state, AreBelowMax}
-use Rattle.vm_engine.specs.Tree.BlockEdits.{before_part, after_part, parts, IsTakenFrom, LeavesPart}
+use Rattle.vm_engine.specs.Tree.BlockEdits.{before_part, after_part, parts, IsTakenFrom, NeedsSplit}
 use Rattle.vm_engine.specs.Tree.BlockList.{IsOrderedFrom, replace_block, with_block, find_key}
 use Rattle.vm_engine.specs.Tree.Shape.{Shape, blocks, height_of, node_count, IsTree, leaf_of}
-use Rattle.vm_engine.specs.Engine.Choosing.{IsChoice, Carves}
+use Rattle.vm_engine.specs.Engine.Choosing.{IsChoice, Splits}
 use Rattle.vm_engine.specs.Tree.SpaceTree.{space_of, tree_state, IsSpaceTree}
-use Rattle.vm_engine.specs.Engine.Carving.{with_split, AreLeaves, CanCarve, IsRest}
-use Rattle.vm_engine.specs.declared.node.carve.Rest.{Rest}
+use Rattle.vm_engine.specs.Engine.SplitBlocks.{with_split, AreLeaves, CanSplit, IsRest}
+use Rattle.vm_engine.specs.declared.node.split.Rest.{Rest}
 use Rattle.vm_engine.specs.Counts.Fibonacci.{fibonacci, fibonacci_pair}
 use Rattle.vm_ranges.specs.declared.error.Error.TheVariants.{Overflow, OutOfMemory}
 use Rattle.vm_ranges.specs.declared.state.NodeState.TheVariants.{Allocated}
-use Rattle.vm_engine.specs.declared.node.carve.Choice.{Choice}
-use Rattle.vm_engine.proofs.Splitting.Taking.{tiles_carved, blocks_carved, leaves_clear, as_blocks, below_with}
+use Rattle.vm_engine.specs.declared.node.split.Choice.{Choice}
+use Rattle.vm_engine.proofs.Splitting.TakenRanges.{tiles_split, blocks_split, leaves_clear, as_blocks, below_with}
 use Rattle.vm_engine.proofs.Blocks.BlockOrder.{ordered_weaken}
 use Rattle.vm_engine.proofs.Blocks.Replacement.{replace_middle, find_middle}
 use Rattle.vm_engine.proofs.Nodes.TreeEdits.{tiles_ordered}
 use Rattle.vm_engine.proofs.Blocks.OneList.{few_blocks}
-use Rattle.vm_engine.proofs.Nodes.FewestNodes.{fewest_nodes, node_count-blocks, fibonacci_grows}
+use Rattle.vm_engine.proofs.Nodes.MinNodes.{fewest_nodes, node_count-blocks, fibonacci_grows}
 use Rattle.vm_engine.proofs.Nodes.Spaces.{space_tiled, space_tree}
 
 -- the blocks of a space with a free one among them, from which a range is taken
@@ -46,7 +46,7 @@ cut_of s choice h c =
       cut = c.cut;
       within = c.within;
       old = ordered_weaken 0 sp.start (blocks s) (omega arith) (tiles_ordered Allocated sp.start sp.end (blocks s) h.tiling.tiles);
-      new = ordered_weaken 0 sp.start _ (omega arith) (tiles_ordered Allocated sp.start sp.end _ (tiles_carved Allocated sp.start sp.end choice.range (free_block choice.key) c.before c.after refl c.within t));
+      new = ordered_weaken 0 sp.start _ (omega arith) (tiles_ordered Allocated sp.start sp.end _ (tiles_split Allocated sp.start sp.end choice.range (free_block choice.key) c.before c.after refl c.within t));
     }
 
 -- what stands in the place of the free block
@@ -63,14 +63,14 @@ module _ (bs : List Block) (k r : Range) (c : IsCut bs k r) where
   pub parts_ordered : (us vs : List Block) → us ≡ before_part k r → vs ≡ after_part k r → IsOrderedFrom 0 (replace_block k (us ++ held_block r ∷ vs) bs)
   parts_ordered us vs p q = rw (p, q) (subst (IsOrderedFrom 0) (sym replaced) c.new)
 
-  pub carved : (us vs news : List Block) → us ≡ before_part k r → vs ≡ after_part k r → news ≡ replace_block k (us ++ held_block r ∷ vs) bs → Carves bs k r news
+  pub carved : (us vs news : List Block) → us ≡ before_part k r → vs ≡ after_part k r → news ≡ replace_block k (us ++ held_block r ∷ vs) bs → Splits bs k r news
   carved us vs news p q e = record { before = c.before; after = c.after; cut = c.cut; is = e ∙ rw (p, q) replaced }
 
 -- nothing is left beside a range that fills its block
-pub none_before : (k r : Range) → ¬ LeavesPart k r → [] ≡ before_part k r
+pub none_before : (k r : Range) → ¬ NeedsSplit k r → [] ≡ before_part k r
 none_before k r n = rw (le-ltb k.start r.start (⊎_elim (λ (l : k.start < r.start). absurd (n (inl l))) (λ (l : r.start ≤ k.start). l) (cases_lt k.start r.start))) refl
 
-pub none_after : (k r : Range) → ¬ LeavesPart k r → [] ≡ after_part k r
+pub none_after : (k r : Range) → ¬ NeedsSplit k r → [] ≡ after_part k r
 none_after k r n = rw (le-ltb r.end k.end (⊎_elim (λ (l : r.end < k.end). absurd (n (inr l))) (λ (l : k.end ≤ r.end). l) (cases_lt r.end k.end))) refl
 
 -- the leaf of what is left has just that
@@ -80,35 +80,35 @@ leaf_blocks k r rest i = (
   ap blocks i.after ∙ elim (ltb r.end k.end) as (λ v. blocks (leaf_of (cond v (free_block (record { start = r.end + 1; end = k.end }) ∷ []) [])) ≡ cond v (free_block (record { start = r.end + 1; end = k.end }) ∷ []) []) [ true ↦ refl | false ↦ refl ],
 )
 
-pub can_carve : (bs : List Block) (k r : Range) (rest : Rest) → IsCut bs k r → IsRest k r rest → CanCarve bs k r rest
-can_carve bs k r rest c i =
+pub can_split : (bs : List Block) (k r : Range) (rest : Rest) → IsCut bs k r → IsRest k r rest → CanSplit bs k r rest
+can_split bs k r rest c i =
     let parts = leaf_blocks k r rest i in
     record { known = known bs k r c; ordered = parts_ordered bs k r c (blocks (side rest.before)) (blocks (side rest.after)) parts.0 parts.1 }
 
 pub rest_leaves : (k r : Range) (rest : Rest) → IsRest k r rest → AreLeaves rest
 rest_leaves k r rest i = i.leaves
 
-pub rest_carved : (bs news : List Block) (k r : Range) (rest : Rest) → IsCut bs k r → IsRest k r rest → news ≡ with_split k r rest bs → Carves bs k r news
-rest_carved bs news k r rest c i e =
+pub rest_split : (bs news : List Block) (k r : Range) (rest : Rest) → IsCut bs k r → IsRest k r rest → news ≡ with_split k r rest bs → Splits bs k r news
+rest_split bs news k r rest c i e =
     let parts = leaf_blocks k r rest i in
     carved bs k r c (blocks (side rest.before)) (blocks (side rest.after)) news parts.0 parts.1 e
 
 -- a range that fills its block takes its place
-pub whole_ordered : (bs : List Block) (k r : Range) → IsCut bs k r → ¬ LeavesPart k r → IsOrderedFrom 0 (with_block k r Allocated bs)
+pub whole_ordered : (bs : List Block) (k r : Range) → IsCut bs k r → ¬ NeedsSplit k r → IsOrderedFrom 0 (with_block k r Allocated bs)
 whole_ordered bs k r c n = parts_ordered bs k r c [] [] (none_before k r n) (none_after k r n)
 
-pub whole_carved : (bs news : List Block) (k r : Range) → IsCut bs k r → ¬ LeavesPart k r → news ≡ with_block k r Allocated bs → Carves bs k r news
-whole_carved bs news k r c n e = carved bs k r c [] [] news (none_before k r n) (none_after k r n) e
+pub whole_split : (bs news : List Block) (k r : Range) → IsCut bs k r → ¬ NeedsSplit k r → news ≡ with_block k r Allocated bs → Splits bs k r news
+whole_split bs news k r c n e = carved bs k r c [] [] news (none_before k r n) (none_after k r n) e
 
-pub ruleset carves = (cut_of, known, can_carve, rest_leaves, rest_carved, whole_ordered, whole_carved)
+pub ruleset split_states = (cut_of, known, can_split, rest_leaves, rest_split, whole_ordered, whole_split)
 
 -- the state after
-taken_blocks : (s n : Shape) (choice : Choice) → IsSpaceTree s → IsTakenFrom choice.key choice.range → Carves (blocks s) choice.key choice.range (blocks n) → IsBlocksOf (holding choice.range (tree_state s)) (blocks n)
+taken_blocks : (s n : Shape) (choice : Choice) → IsSpaceTree s → IsTakenFrom choice.key choice.range → Splits (blocks s) choice.key choice.range (blocks n) → IsBlocksOf (holding choice.range (tree_state s)) (blocks n)
 taken_blocks s n choice h w c =
     subst (λ (v : List Block). IsBlocksOf (holding choice.range (tree_state s)) v) (sym c.is)
-    (blocks_carved (tree_state s) (blocks s) c.before c.after (free_block choice.key) choice.range (as_blocks (space_of (blocks s)) (blocks s) h.tiling.tiles) c.cut refl w)
+    (blocks_split (tree_state s) (blocks s) c.before c.after (free_block choice.key) choice.range (as_blocks (space_of (blocks s)) (blocks s) h.tiling.tiles) c.cut refl w)
 
-pub space_taken : (s n : Shape) (choice : Choice) → IsSpaceTree s → IsChoice (blocks s) choice → Carves (blocks s) choice.key choice.range (blocks n) → height_of n ≤ 49 → IsSpaceTree n
+pub space_taken : (s n : Shape) (choice : Choice) → IsSpaceTree s → IsChoice (blocks s) choice → Splits (blocks s) choice.key choice.range (blocks n) → height_of n ≤ 49 → IsSpaceTree n
 unfolding TilesSpace
 space_taken s n choice h i c l =
     let k = taken_blocks s n choice h i.within c in
@@ -117,18 +117,18 @@ space_taken s n choice h i c l =
       below = subst AreBelowMax (sym k.held) (below_with choice.range (held_of (blocks s)) i.below h.tiling.below);
     }) h.space l
 
-pub taken_in : (s n : Shape) (choice : Choice) (r : Range) → IsSpaceTree s → IsChoice (blocks s) choice → Carves (blocks s) choice.key choice.range (blocks n) → r ≡ choice.range → Takes (tree_state s) choice.range (Ok r) (tree_state n)
-unfolding TilesSpace Takes
+pub taken_in : (s n : Shape) (choice : Choice) (r : Range) → IsSpaceTree s → IsChoice (blocks s) choice → Splits (blocks s) choice.key choice.range (blocks n) → r ≡ choice.range → AllocatesAt (tree_state s) choice.range (Ok r) (tree_state n)
+unfolding TilesSpace AllocatesAt
 taken_in s n choice r h i c e =
     let k = taken_blocks s n choice h i.within c in
     let sp : space_of (blocks n) ≡ space_of (blocks s) = space_tiled (space_of (blocks s)) (blocks n) k.tiles h.space.0 in
     inl (ap (λ (v : Range). Ok v) e, ap (λ (v : Range). blocks_state v (blocks n)) sp ∙ ap (λ (v : List Range). record { space = space_of (blocks s); held = v }) k.held)
 
-part_left : (s : Shape) (choice : Choice) → IsSpaceTree s → IsChoice (blocks s) choice → LeavesPart choice.key choice.range → LeavesClear (tree_state s) choice.range
+part_left : (s : Shape) (choice : Choice) → IsSpaceTree s → IsChoice (blocks s) choice → NeedsSplit choice.key choice.range → SplitsGap (tree_state s) choice.range
 part_left s choice h i l = leaves_clear (space_of (blocks s)) (blocks s) i.before i.after (free_block choice.key) choice.range h.tiling.tiles i.cut refl i.within l
 
-pub no_memory_in : (s : Shape) (choice : Choice) → IsSpaceTree s → IsChoice (blocks s) choice → LeavesPart choice.key choice.range → Takes (tree_state s) choice.range (Err OutOfMemory) (tree_state s)
-unfolding Takes
+pub no_memory_in : (s : Shape) (choice : Choice) → IsSpaceTree s → IsChoice (blocks s) choice → NeedsSplit choice.key choice.range → AllocatesAt (tree_state s) choice.range (Err OutOfMemory) (tree_state s)
+unfolding AllocatesAt
 no_memory_in s choice h i l = inr (part_left s choice h i l, refl, inl refl)
 
 -- a tree of height 48 has many held blocks
@@ -136,7 +136,7 @@ fibonacci_50 : fibonacci 50 ≡ 12586269025
 unfolding fibonacci fibonacci_pair
 fibonacci_50 = refl
 
-many_held : (s : Shape) → IsSpaceTree s → IsTree s → 48 ≤ height_of s → FEWEST_TOO_DEEP ≤ length (held_of (blocks s))
+many_held : (s : Shape) → IsSpaceTree s → IsTree s → 48 ≤ height_of s → SPLIT_LIMIT_MIN_HELD ≤ length (held_of (blocks s))
 many_held s h t d =
     let e : height_of s + 2 ≡ suc (height_of s + 1) = omega arith in
     let grown : fibonacci (suc 49) ≤ fibonacci (suc (height_of s + 1)) = fibonacci_grows 49 (height_of s + 1) (omega arith) in
@@ -144,8 +144,8 @@ many_held s h t d =
     let few = few_blocks (tree_state s) (blocks s) (as_blocks (space_of (blocks s)) (blocks s) h.tiling.tiles) in
     omega (arith, fibonacci_50, node_count-blocks s)
 
-pub too_deep_in : (s : Shape) (choice : Choice) → IsSpaceTree s → IsTree s → IsChoice (blocks s) choice → LeavesPart choice.key choice.range → 48 ≤ height_of s → Takes (tree_state s) choice.range (Err Overflow) (tree_state s)
-unfolding Takes
+pub too_deep_in : (s : Shape) (choice : Choice) → IsSpaceTree s → IsTree s → IsChoice (blocks s) choice → NeedsSplit choice.key choice.range → 48 ≤ height_of s → AllocatesAt (tree_state s) choice.range (Err Overflow) (tree_state s)
+unfolding AllocatesAt
 too_deep_in s choice h t i l d = inr (part_left s choice h i l, refl, inr (many_held s h t d, refl))
 
 pub ruleset takings = (cut_of, space_taken, taken_in, no_memory_in, too_deep_in)

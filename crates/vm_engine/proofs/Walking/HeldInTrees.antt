@@ -8,7 +8,7 @@ use Rattle.vm_ranges.specs.declared.state.NodeState.TheVariants.{Free, Allocated
 use Rattle.vm_engine.proofs.Blocks.Gaps.{state_cases}
 use Rattle.vm_engine.proofs.Blocks.OneList.{held_of-free, held_of-held, same_block}
 use Rattle.vm_engine.proofs.Nodes.TreeEdits.{some_same}
-use Rattle.vm_engine.proofs.Nodes.FewestNodes.{most_nodes, node_count-blocks, power_grows}
+use Rattle.vm_engine.proofs.Nodes.MinNodes.{most_nodes, node_count-blocks, power_grows}
 
 -- ---- how many
 held_of-append : (xs ys : List Block) → held_of (xs ++ ys) ≡ held_of xs ++ held_of ys

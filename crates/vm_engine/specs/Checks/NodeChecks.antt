@@ -8,10 +8,10 @@ use Rattle.vm_ranges.specs.Numbers.{number_in}
 use Rattle.vm_ranges.specs.Range.{Range, MAX}
 use Rattle.vm_engine.specs.Tree.Block.{Block, is_free}
 use Rattle.vm_engine.specs.Tree.Shape.{MAX_HEIGHT}
-use Rattle.vm_ranges.specs.RangeValues.{range_found, state_found}
+use Rattle.vm_ranges.specs.RangeValues.{decoded_range, decoded_state}
 use Rattle.vm_ranges.specs.declared.state.NodeState.TheVariants.{Allocated}
-use Rattle.vm_engine.specs.declared.saved.check.Front.{Front}
-use Rattle.vm_engine.specs.declared.saved.check.Checked.{Checked}
+use Rattle.vm_engine.specs.declared.saved.check.Cursor.{Cursor}
+use Rattle.vm_engine.specs.declared.saved.check.CheckedTree.{CheckedTree}
 
 -- a node's five fields, and no other
 pub record NodeParts (d key state left right : Data) (height : ℕ) : Type 0 where
@@ -30,8 +30,8 @@ pub record NodeData : Type 0 where
   pub right : Data
 
 -- the fields of a node's value
-abbrev pub node_data : Data → Option NodeData
-node_data d =
+abbrev pub decoded_node : Data → Option NodeData
+decoded_node d =
     if is_count 5 (field_count d) then
     option_and_then (λ key. option_and_then (λ state. option_and_then (λ height. option_and_then (λ left.
     option_map (λ right.
@@ -39,54 +39,54 @@ node_data d =
     (get (codes "right") d))
     (get (codes "left") d))
     (number_in (codes "height") d))
-    (option_and_then state_found (get (codes "node_state") d)))
-    (option_and_then range_found (get (codes "key") d))
+    (option_and_then decoded_state (get (codes "node_state") d)))
+    (option_and_then decoded_range (get (codes "key") d))
     else None
 
 -- what some blocks, one after the other, make of something, where each may be refused
-abbrev pub after_all : {S : Type 0} → (S → Block → Option S) → List Block → S → Option S
-after_all step [] s = Some s
-after_all step (b ∷ bs) s = option_and_then (after_all step bs) (step s b)
+abbrev pub try_fold_blocks : {S : Type 0} → (S → Block → Option S) → List Block → S → Option S
+try_fold_blocks step [] s = Some s
+try_fold_blocks step (b ∷ bs) s = option_and_then (try_fold_blocks step bs) (step s b)
 
 -- a block may stand right behind the front: it starts there, is not the second free one in a row, and if held ends
 -- below MAX
-abbrev pub follows : Front → Block → Bool
-follows front b =
-    (b.key.start == front.next) &&
-    (not (is_free front.before && is_free b.state) && (is_free b.state || nat_lt b.key.end MAX))
+abbrev pub follows : Cursor → Block → Bool
+follows cursor b =
+    (b.key.start == cursor.next) &&
+    (not (is_free cursor.before && is_free b.state) && (is_free b.state || nat_lt b.key.end MAX))
 
 -- the front behind one more block
-abbrev pub behind : Front → Block → Option Front
-behind front b = if follows front b then Some (record { next = b.key.end + 1; before = b.state }) else None
+abbrev pub advance : Cursor → Block → Option Cursor
+advance cursor b = if follows cursor b then Some (record { next = b.key.end + 1; before = b.state }) else None
 
 -- the height is that of a node over children of heights l and r that are close
-abbrev pub is_true_height : ℕ → ℕ → ℕ → Bool
-is_true_height l r h = (nat_le l (r + 1) && nat_le r (l + 1)) && (h == max l r + 1)
+abbrev pub is_correct_height : ℕ → ℕ → ℕ → Bool
+is_correct_height l r h = (nat_le l (r + 1) && nat_le r (l + 1)) && (h == max l r + 1)
 
 -- what is found of a node, where `below` finds what is in a child
-abbrev pub node_found : (Data → Front → Option Checked) → Data → Front → Option Checked
-node_found below d front =
+abbrev pub checked_node : (Data → Cursor → Option CheckedTree) → Data → Cursor → Option CheckedTree
+checked_node below d cursor =
     option_and_then (λ node. option_and_then (λ left. option_and_then (λ middle. option_and_then (λ right.
-    if is_true_height left.height right.height node.height then
-    Some (record { height = node.height; front = right.front })
+    if is_correct_height left.height right.height node.height then
+    Some (record { height = node.height; cursor = right.cursor })
     else None)
     (below node.right middle))
-    (behind left.front node.block))
-    (below node.left front))
-    (node_data d)
+    (advance left.cursor node.block))
+    (below node.left cursor))
+    (decoded_node d)
 
 -- what is found of a tree of nodes nested at most that deep: its height, and the front behind its blocks
-unfoldable pub tree_found : ℕ → Data → Front → Option Checked
-tree_found zero d front = if is_some (as_null d) then Some (record { height = 0; front = front }) else None
-tree_found (suc depth) d front =
-    if is_some (as_null d) then Some (record { height = 0; front = front }) else node_found (tree_found depth) d front
+unfoldable pub checked_subtree : ℕ → Data → Cursor → Option CheckedTree
+checked_subtree zero d cursor = if is_some (as_null d) then Some (record { height = 0; cursor = cursor }) else None
+checked_subtree (suc depth) d cursor =
+    if is_some (as_null d) then Some (record { height = 0; cursor = cursor }) else checked_node (checked_subtree depth) d cursor
 
 -- the front before the first block of a space
-abbrev pub front_of : Range → Front
-front_of space = record { next = space.start; before = Allocated }
+abbrev pub cursor_at_start : Range → Cursor
+cursor_at_start space = record { next = space.start; before = Allocated }
 
 -- what is found of a tree whose blocks end as the space does
-abbrev pub tree_fitting : Range → Data → Option Checked
-tree_fitting space d =
-    option_and_then (λ found. if found.front.next == space.end + 1 then Some found else None)
-    (tree_found MAX_HEIGHT d (front_of space))
+abbrev pub checked_tree_of : Range → Data → Option CheckedTree
+checked_tree_of space d =
+    option_and_then (λ found. if found.cursor.next == space.end + 1 then Some found else None)
+    (checked_subtree MAX_HEIGHT d (cursor_at_start space))

@@ -2,11 +2,11 @@
 use Rattle.std.specs.Prelude.{ℕ, ◌≤◌}
 use Rattle.serde_json.specs.Data.{Data}
 use Rattle.vm_engine.specs.Tree.Shape.{Shape, height_of, IsTree}
-use Rattle.vm_engine.specs.Values.TreeValues.{StatesShape}
+use Rattle.vm_engine.specs.Values.TreeValues.{EncodesShape}
 
 -- the value has the tree, which is a search tree nested at most that deep
 pub record IsShapeWithin (depth : ℕ) (d : Data) (s : Shape) : Type 0 where
-  pub stated : StatesShape d s
+  pub encoded : EncodesShape d s
   pub tree : IsTree s
   pub height : height_of s ≤ depth
 

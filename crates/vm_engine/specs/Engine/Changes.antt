@@ -4,8 +4,8 @@ use Rattle.vm_ranges.specs.Range.{Range}
 use Rattle.vm_engine.specs.Tree.Block.{Block}
 use Rattle.vm_engine.specs.Tree.BlockList.{IsOrderedFrom, find_key}
 use Rattle.vm_engine.specs.Tree.Shape.{Shape, Tip, Fork, blocks, height_of, max_free_of, alignments_of, single, root_block, DifferByAtMost, IsTree}
-use Rattle.vm_engine.specs.declared.node.kept.Change.{Change}
-use Rattle.vm_engine.specs.declared.node.kept.Change.TheVariants.{Nothing, RoomAlone, Height}
+use Rattle.vm_engine.specs.declared.node.summary.Change.{Change}
+use Rattle.vm_engine.specs.declared.node.summary.Change.TheVariants.{Nothing, FreeOnly, Height}
 
 -- the height h of a node balanced over sides of heights l and r: one above the higher side, and as high as it or one
 -- above where a rotation was due
@@ -42,41 +42,41 @@ pub record Balances (left : Shape) (middle : Block) (right balanced : Shape) : T
 -- the height is the one from before, unless a change of it is told
 abbrev pub KeepsHeight : Change → ℕ → ℕ → Type 0
 KeepsHeight Nothing old new = new ≡ old
-KeepsHeight RoomAlone old new = new ≡ old
+KeepsHeight FreeOnly old new = new ≡ old
 KeepsHeight Height old new = Unit {0}
 
 -- a number of the room is the one from before, where no change is told
-abbrev pub KeepsRoom : Change → ℕ → ℕ → Type 0
-KeepsRoom Nothing old new = new ≡ old
-KeepsRoom RoomAlone old new = Unit {0}
-KeepsRoom Height old new = Unit {0}
+abbrev pub KeepsFreeSummary : Change → ℕ → ℕ → Type 0
+KeepsFreeSummary Nothing old new = new ≡ old
+KeepsFreeSummary FreeOnly old new = Unit {0}
+KeepsFreeSummary Height old new = Unit {0}
 
 -- what a node keeps is the same but for what is told
-pub record Keeps (old new : Shape) (told : Change) : Type 0 where
-  pub height : KeepsHeight told (height_of old) (height_of new)
-  pub max_free : KeepsRoom told (max_free_of old) (max_free_of new)
-  pub alignments : KeepsRoom told (alignments_of old) (alignments_of new)
+pub record KeepsSummary (old new : Shape) (reported : Change) : Type 0 where
+  pub height : KeepsHeight reported (height_of old) (height_of new)
+  pub max_free : KeepsFreeSummary reported (max_free_of old) (max_free_of new)
+  pub alignments : KeepsFreeSummary reported (alignments_of old) (alignments_of new)
 
 -- a tree that is as high as another, or one higher; what a node keeps is the same but for what is told
-pub record Grows (old new : Shape) (told : Change) : Type 0 where
+pub record Grows (old new : Shape) (reported : Change) : Type 0 where
   pub tree : IsTree new
   pub not_lower : height_of old ≤ height_of new
   pub at_most_one_higher : height_of new ≤ height_of old + 1
-  pub keeps : Keeps old new told
+  pub keeps : KeepsSummary old new reported
 
 -- a tree that is as high as another, or one lower; what a node keeps is the same but for what is told
-pub record Shrinks (old new : Shape) (told : Change) : Type 0 where
+pub record Shrinks (old new : Shape) (reported : Change) : Type 0 where
   pub tree : IsTree new
   pub not_higher : height_of new ≤ height_of old
   pub at_most_one_lower : height_of old ≤ height_of new + 1
-  pub keeps : Keeps old new told
+  pub keeps : KeepsSummary old new reported
 
 -- a tree as high as another; where no change is told, what a node keeps is the same
-pub record KeepsShape (old new : Shape) (told : Change) : Type 0 where
+pub record KeepsShape (old new : Shape) (reported : Change) : Type 0 where
   pub tree : IsTree new
   pub height : height_of new ≡ height_of old
-  pub max_free : KeepsRoom told (max_free_of old) (max_free_of new)
-  pub alignments : KeepsRoom told (alignments_of old) (alignments_of new)
+  pub max_free : KeepsFreeSummary reported (max_free_of old) (max_free_of new)
+  pub alignments : KeepsFreeSummary reported (alignments_of old) (alignments_of new)
 
 -- a tree of the blocks of two: the other one where one has none, and else as high as the higher or one higher
 pub record Joins (left right joined : Shape) : Type 0 where

@@ -5,7 +5,7 @@ use Rattle.vm_engine.specs.Tree.BlockList.{IsClearOf, insert_block, replace_bloc
 use Rattle.vm_engine.specs.Tree.Block.{Block}
 use Rattle.vm_engine.specs.Tree.Shape.{Shape, Tip, Fork, blocks}
 use Rattle.vm_engine.specs.Engine.Changes.{Grows}
-use Rattle.vm_engine.specs.declared.node.kept.Change.TheVariants.{Height}
+use Rattle.vm_engine.specs.declared.node.summary.Change.TheVariants.{Height}
 use Rattle.vm_ranges.specs.declared.error.Error.{Error}
 use Rattle.vm_ranges.specs.declared.error.Error.TheVariants.{ResourceNotAvailable, InvalidStateTransition, Overlap, OutOfMemory}
 use Rattle.vm_ranges.specs.declared.state.NodeState.{NodeState}
@@ -18,23 +18,23 @@ pub record Inserts (old : Shape) (key : Range) (state : NodeState) (new : Shape)
   pub grows : Grows old new Height
 
 -- the range overlaps the key that it met, or none of the blocks' keys where it met none
-unfoldable pub TellsOverlap : Range → Option Range → List Block → Type 0
-TellsOverlap k None bs = IsClearOf k bs
-TellsOverlap k (Some met) bs = Overlaps k met
+unfoldable pub FindsOverlap : Range → Option Range → List Block → Type 0
+FindsOverlap k None bs = IsClearOf k bs
+FindsOverlap k (Some overlap) bs = Overlaps k overlap
 
 -- the first key that a range overlaps on the way down from the root: to the left of a key that starts above the
 -- range, and to the right of one that ends below it
-abbrev pub first_met : Range → Shape → Option Range
-first_met k Tip = None
-first_met k (Fork l b r) =
-    if nat_lt k.end b.key.start then first_met k l
-    else if nat_lt b.key.end k.start then first_met k r
+abbrev pub first_overlap : Range → Shape → Option Range
+first_overlap k Tip = None
+first_overlap k (Fork l b r) =
+    if nat_lt k.end b.key.start then first_overlap k l
+    else if nat_lt b.key.end k.start then first_overlap k r
     else Some b.key
 
 -- a key that overlaps is refused for the first key that it meets on the way down, and any other only where memory runs out
 unfoldable pub RefusesKey : Range → Shape → Error → Type 0
 RefusesKey k s e =
-    ((met : Range) × (first_met k s ≡ Some met) × Overlaps k met × (e ≡ Overlap k met))
+    ((overlap : Range) × (first_overlap k s ≡ Some overlap) × Overlaps k overlap × (e ≡ Overlap k overlap))
     ⊎ (IsClearOf k (blocks s) × (e ≡ OutOfMemory))
 
 -- a free block is marked as held, and a held one is refused

@@ -17,9 +17,9 @@ blocks_from Tip more = []
 blocks_from (Fork l b r) more = b ∷ blocks r ++ more
 
 -- the blocks that are left on the way: of each node the block and those to its right
-abbrev pub blocks_ahead : List Stop → List Block
-blocks_ahead [] = []
-blocks_ahead (s ∷ stops) = blocks_from (side s.now) (blocks_ahead stops)
+abbrev pub remaining_blocks : List Stop → List Block
+remaining_blocks [] = []
+remaining_blocks (s ∷ stops) = blocks_from (side s.now) (remaining_blocks stops)
 
 -- each node is at most as high as there is room for it and what lies before it
 abbrev pub Fits : List Stop → Type 0
@@ -27,6 +27,6 @@ Fits [] = Unit {0}
 Fits (s ∷ stops) = (height_of (side s.now) + length stops ≤ MAX_HEIGHT) × Fits stops
 
 -- the stops are at most as many as there is room for, and each is low enough
-pub record IsWay (way : List Stop) (from : ℕ) : Type 0 where
+pub record IsPath (path : List Stop) (from : ℕ) : Type 0 where
   pub within : from ≤ MAX_HEIGHT
-  pub fits : Fits (drop from way)
+  pub fits : Fits (drop from path)

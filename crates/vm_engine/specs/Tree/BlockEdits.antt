@@ -25,9 +25,9 @@ pub record IsTakenFrom (k r : Range) : Type 0 where
   pub upto : r.end ≤ k.end
 
 -- a part of k lies beside r
-abbrev pub LeavesPart : Range → Range → Type 0
-LeavesPart k r = (k.start < r.start) ⊎ (r.end < k.end)
+abbrev pub NeedsSplit : Range → Range → Type 0
+NeedsSplit k r = (k.start < r.start) ⊎ (r.end < k.end)
 
 -- the n addresses from s on lie in the block
-unfoldable pub HasRoom : ℕ → ℕ → Block → Type 0
-HasRoom s n b = (b.key.start ≤ s) × (s + n ≤ b.key.end + 1)
+unfoldable pub HasLength : ℕ → ℕ → Block → Type 0
+HasLength s n b = (b.key.start ≤ s) × (s + n ≤ b.key.end + 1)

@@ -12,17 +12,17 @@ unfoldable pub HasNoFit : ℕ → ℕ → Block → Type 0
 HasNoFit n a b = (t : ℕ) → ¬ IsFit n a b t
 
 -- the fit that no fit of the block is below
-unfoldable pub IsLeastFit : ℕ → ℕ → Block → ℕ → Type 0
-IsLeastFit n a b t = IsFit n a b t × ((u : ℕ) → IsFit n a b u → t ≤ u)
+unfoldable pub IsLowestFit : ℕ → ℕ → Block → ℕ → Type 0
+IsLowestFit n a b t = IsFit n a b t × ((u : ℕ) → IsFit n a b u → t ≤ u)
 
 -- the fit that no fit of the block is above
-unfoldable pub IsGreatestFit : ℕ → ℕ → Block → ℕ → Type 0
-IsGreatestFit n a b t = IsFit n a b t × ((u : ℕ) → IsFit n a b u → u ≤ t)
+unfoldable pub IsHighestFit : ℕ → ℕ → Block → ℕ → Type 0
+IsHighestFit n a b t = IsFit n a b t × ((u : ℕ) → IsFit n a b u → u ≤ t)
 
 -- the least fit is found, or the block has none
-abbrev pub FindsLeastFit : ℕ → ℕ → Block → Option ℕ → Type 0
-FindsLeastFit n a b found = MatchOption found (HasNoFit n a b) (IsLeastFit n a b)
+abbrev pub FindsLowestFit : ℕ → ℕ → Block → Option ℕ → Type 0
+FindsLowestFit n a b found = MatchOption found (HasNoFit n a b) (IsLowestFit n a b)
 
 -- the greatest fit is found, or the block has none
-abbrev pub FindsGreatestFit : ℕ → ℕ → Block → Option ℕ → Type 0
-FindsGreatestFit n a b found = MatchOption found (HasNoFit n a b) (IsGreatestFit n a b)
+abbrev pub FindsHighestFit : ℕ → ℕ → Block → Option ℕ → Type 0
+FindsHighestFit n a b found = MatchOption found (HasNoFit n a b) (IsHighestFit n a b)

@@ -30,11 +30,11 @@ pub record HasHeld (bs : List Block) (k : Range) (before after : Option Range) :
   pub first : after ≡ first_free upper None
 
 -- the free block of a range, if there is one
-abbrev pub free_if : Option Range → List Block
-free_if None = []
-free_if (Some k) = free_block k ∷ []
+abbrev pub free_if_some : Option Range → List Block
+free_if_some None = []
+free_if_some (Some k) = free_block k ∷ []
 
 -- the blocks without the one of a range, if there is such a range
-abbrev pub without_if : Option Range → List Block → List Block
-without_if None bs = bs
-without_if (Some k) bs = replace_block k [] bs
+abbrev pub without_if_some : Option Range → List Block → List Block
+without_if_some None bs = bs
+without_if_some (Some k) bs = replace_block k [] bs

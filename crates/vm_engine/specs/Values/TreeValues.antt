@@ -8,27 +8,27 @@ use Rattle.vm_engine.specs.Tree.Block.{Block}
 use Rattle.vm_engine.specs.Tree.Blocks.{IsTiling}
 use Rattle.vm_engine.specs.Tree.BlockList.{IsOrderedFrom}
 use Rattle.vm_engine.specs.Tree.Shape.{Shape, Tip, Fork, MAX_HEIGHT, blocks, height_of, IsBalanced}
-use Rattle.vm_ranges.specs.RangeValues.{StatesRange, StatesState}
+use Rattle.vm_ranges.specs.RangeValues.{EncodesRange, EncodesState}
 
 -- the value is an object of a node's five fields alone: the block, what stands for each child, and the height
-pub record StatesNode (d : Data) (block : Block) (Left Right : Data → Type 0) (h : ℕ) : Type 0 where
+pub record EncodesNode (d : Data) (block : Block) (Left Right : Data → Type 0) (h : ℕ) : Type 0 where
   pub five_fields : field_count d ≡ Some 5
-  pub key : FieldIs (codes "key") d (λ v. StatesRange v block.key)
-  pub node_state : FieldIs (codes "node_state") d (λ v. StatesState v block.state)
+  pub key : FieldIs (codes "key") d (λ v. EncodesRange v block.key)
+  pub node_state : FieldIs (codes "node_state") d (λ v. EncodesState v block.state)
   pub left : FieldIs (codes "left") d Left
   pub right : FieldIs (codes "right") d Right
   pub height : number_in (codes "height") d ≡ Some h
 
 -- the value has the tree, node for node: null where there is no node, and true heights
-abbrev pub StatesShape : Data → Shape → Type 0
-StatesShape d Tip = d ≡ null
-StatesShape d (Fork l b r) =
-    StatesNode d b (λ v. StatesShape v l) (λ v. StatesShape v r) (max (height_of l) (height_of r) + 1)
+abbrev pub EncodesShape : Data → Shape → Type 0
+EncodesShape d Tip = d ≡ null
+EncodesShape d (Fork l b r) =
+    EncodesNode d b (λ v. EncodesShape v l) (λ v. EncodesShape v r) (max (height_of l) (height_of r) + 1)
 
 -- the value has the tree of the space, node for node: it has a node, is not too high, in order and balanced, and its
 -- blocks are those of the space
-pub record StatesSpaceTree (d : Data) (space : Range) (tree : Shape) : Type 0 where
-  pub stated : StatesShape d tree
+pub record EncodesSpaceTree (d : Data) (space : Range) (tree : Shape) : Type 0 where
+  pub encoded : EncodesShape d tree
   pub some_node : tree ≢ Tip
   pub nested : height_of tree ≤ MAX_HEIGHT
   pub ordered : IsOrderedFrom 0 (blocks tree)
@@ -38,4 +38,4 @@ pub record StatesSpaceTree (d : Data) (space : Range) (tree : Shape) : Type 0 wh
 -- the value has the nodes of the tree, whatever whole numbers are their heights: null where there is no node
 abbrev pub HasNodes : Data → Shape → Type 0
 HasNodes d Tip = d ≡ null
-HasNodes d (Fork l b r) = (h : ℕ) × StatesNode d b (λ v. HasNodes v l) (λ v. HasNodes v r) h
+HasNodes d (Fork l b r) = (h : ℕ) × EncodesNode d b (λ v. HasNodes v l) (λ v. HasNodes v r) h

@@ -10,7 +10,7 @@ ghost use Rattle.vm_engine.specs.Tree.SpaceTree.{tree_state};
 ghost use Rattle.vm_engine.specs.Comparison.{layout_cmp, layout_cmp-total, AreEqual};
 
 use super::IntervalTree;
-use crate::node::walks::comparing::{order_of_blocks, same_blocks};
+use crate::node::walks::comparing::{compare_blocks, same_blocks};
 use std::cmp::Ordering;
 
 impl PartialEq for IntervalTree {
@@ -62,6 +62,6 @@ impl Ord for IntervalTree {
         ensures order { result ≡ layout_cmp (tree_state self.now) (tree_state other.now) }
         ensures equal { (result ≡ Equal) ↔ AreEqual (tree_state self.now) (tree_state other.now) }
     {
-        order_of_blocks(&self.root, &other.root)
+        compare_blocks(&self.root, &other.root)
     }
 }

@@ -7,7 +7,7 @@ ghost use Rattle.vm_engine.specs.Address.{IsAddressState};
 ghost use Rattle.vm_engine.specs.Answer.{Grants, Frees};
 ghost use Rattle.vm_engine.specs.Tree.Shape.{height_of, IsTree};
 ghost use Rattle.vm_engine.specs.Counts.GapSearch.{SearchesGaps, SearchesAligned};
-ghost use Rattle.vm_engine.specs.Counts.Steps.{Enters, EntersToFree, IsGrantCount, IsReleaseCount, SplitsIfLow};
+ghost use Rattle.vm_engine.specs.Counts.Steps.{Enters, EntersToFree, IsGrantCount, IsFreeCount, SplitsIfLow};
 ghost use Rattle.vm_engine.specs.Tree.SpaceTree.{tree_state};
 
 use super::IntervalTree;
@@ -79,21 +79,21 @@ impl IntervalTree {
             constraint result.0 result.1 }
     {
         let mut count = Steps { entered: 0 };
-        let answer = self.grant(alloc, constraint, &mut count);
+        let answer = self.allocate_inner(alloc, constraint, &mut count);
         (answer, count.entered)
     }
 
     /// `free`, and how many nodes it entered.
-    #[tactic(auto, using(crate::proofs::Counts::ReleaseWays::releasings, crate::proofs::Nodes::Spaces::states, crate::proofs::Answers::AddressAnswers::freed))]
+    #[tactic(auto, using(crate::proofs::Counts::FreeCounts::releasings, crate::proofs::Nodes::Spaces::states, crate::proofs::Answers::AddressAnswers::freed))]
     pub fn free_counted(&mut self, key: &RangeInclusive) -> (Result<()>, u64)
         ensures answer { Frees (tree_state self.old) key.now result.0 (tree_state self.new) }
         ensures unchanged { OnErr result.0 (self.new ≡ self.old) }
         ensures count { EntersToFree self.old key.now result.0 0 result.1 }
-        ensures steps { IsReleaseCount (height_of self.old) result.1 }
+        ensures steps { IsFreeCount (height_of self.old) result.1 }
         ensures state { IsAddressState (tree_state self.new) }
     {
         let mut count = Steps { entered: 0 };
-        let answer = self.release(key, &mut count);
+        let answer = self.free_inner(key, &mut count);
         (answer, count.entered)
     }
 }

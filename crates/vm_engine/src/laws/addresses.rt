@@ -2,16 +2,16 @@
 ghost use Rattle.vm_engine.specs.Laws.AddressLaws.{
   AllocatesOnce,
   FreesOnce,
-  StateIsKept,
-  HeldLieApart,
+  StateIsPreserved,
+  HeldAreDisjoint,
   AllocatingAddsRange,
-  FreeingDropsRange,
+  FreeingRemovesRange,
   FreeingUndoes,
-  FutileIsTold,
-  NoneIsFutileAtOne,
-  CountTellsAll,
-  CrampedIsTold,
-  CrampedAreFew,
+  MisalignedIsExact,
+  NoneIsMisalignedAtOne,
+  CountFindsAll,
+  TooShortIsExact,
+  TooShortAreFew,
 };
 
 /// The state of an allocator decides its answer to a request and the state after it, the refusal of
@@ -29,37 +29,37 @@ fn frees_once()
 
 /// Each call leaves the state of an allocator, and in such a state the held ranges have no address in
 /// common, lie in the space and do not contain `u64::MAX`.
-#[tactic(auto, using(crate::proofs::Answers::AddressAnswers::kept))]
-fn states_are_kept()
-    ensures kept { StateIsKept }
-    ensures apart { HeldLieApart }
+#[tactic(auto, using(crate::proofs::Answers::AddressAnswers::preserved))]
+fn states_are_preserved()
+    ensures preserved { StateIsPreserved }
+    ensures apart { HeldAreDisjoint }
 {}
 
 /// What a range that is taken or given back changes.
 #[tactic(auto, using(crate::proofs::Answers::AddressAnswers::changes))]
 fn one_range_changes()
     ensures takes { AllocatingAddsRange }
-    ensures gives_back { FreeingDropsRange }
+    ensures frees_one { FreeingRemovesRange }
     ensures undone { FreeingUndoes }
 {}
 
 /// The test by which futile gaps are counted tells the truth, and at alignment 1 there are none.
-#[tactic(auto, using(crate::proofs::Counts::Futile::futile))]
-fn futile_gaps_are_told()
-    ensures told { FutileIsTold }
-    ensures none { NoneIsFutileAtOne }
+#[tactic(auto, using(crate::proofs::Counts::MisalignedGaps::misaligned))]
+fn misaligned_gaps_are_exact()
+    ensures exact { MisalignedIsExact }
+    ensures none { NoneIsMisalignedAtOne }
 {}
 
 /// As many different held ranges as are held are all of them.
 #[tactic(auto, using(crate::proofs::Blocks::HeldLists::listings))]
-fn counts_tell_all()
-    ensures { CountTellsAll }
+fn counts_find_all()
+    ensures { CountFindsAll }
 {}
 
 /// The test by which cramped gaps are counted tells the truth, and there are at most as many as
 /// multiples of the alignment in the space.
-#[tactic(auto, using(crate::proofs::Counts::Cramped::cramped))]
-fn cramped_gaps_are_told()
-    ensures told { CrampedIsTold }
-    ensures few { CrampedAreFew }
+#[tactic(auto, using(crate::proofs::Counts::TooShortGaps::too_short))]
+fn too_short_gaps_are_exact()
+    ensures exact { TooShortIsExact }
+    ensures few { TooShortAreFew }
 {}

@@ -1,10 +1,10 @@
-//! Rotations to the left and to the right, and `settle`, the one tail of each change of a child.
+//! Rotations to the left and to the right, and `update`, the one tail of each change of a child.
 //! Nothing here calls itself, and nothing takes memory.
 //!
-//! `settle` takes the fields of a node one by one, since a node may not be handed on whole while what
+//! `update` takes the fields of a node one by one, since a node may not be handed on whole while what
 //! it keeps is stale, and a record of what is kept would make a node larger. It returns what became
-//! of it (`Settled`) instead of rotating, since the caller still has it open: once it is closed,
-//! `finish` does the rest, and one lemma says what both make of it (`finished`). It stands in line:
+//! of it (`Updated`) instead of rotating, since the caller still has it open: once it is closed,
+//! `rebalance` does the rest, and one lemma says what both make of it (`rebalanced`). It stands in line:
 //! never inlined it costs 5 to 10 % of the instructions of every input, since the fields then go as
 //! addresses; the rotation alone as a cold function makes no difference. A rotation changes nodes in
 //! place: to take them apart and put them together again reads better, and costs 1.5 to 3 %.
@@ -13,53 +13,53 @@ ghost use Rattle.vm_engine.specs.Tree.BlockList.{IsOrderedFrom};
 ghost use Rattle.vm_engine.specs.Tree.Shape.{Fork, blocks, height_of, single, root_block, IsTree, DifferByAtMost};
 ghost use Rattle.vm_engine.specs.Engine.Changes.{IsLeaf, IsLeftNotLower, IsRightNotLower, CanBalance, Balances};
 ghost use Rattle.vm_engine.specs.Engine.NodeFields.{side};
-ghost use Rattle.vm_engine.specs.Engine.Settling.{IsSettled, CanFinish, Finishes};
+ghost use Rattle.vm_engine.specs.Engine.NodeUpdate.{IsUpdated, CanRebalance, Rebalances};
 
-use super::kept::{Change, kept_of, kept_over, renew_room, room_of};
+use super::summary::{Change, free_summary_of, refresh_free, summary_of, summary_over};
 use super::{Child, InnerNode, height};
 use vm_ranges::{NodeState, RangeInclusive};
 
 /// What becomes of a node once one of its children has changed.
 #[derive(Drop)]
-pub(super) enum Settled {
+pub(super) enum Updated {
     /// Its children are close in height; this changed of what it keeps.
-    Stands(Change),
+    Balanced(Change),
     /// Its children differ by two, and are taken out of it: the left one and the right one.
-    Leans(Child, Child),
+    Unbalanced(Child, Child),
 }
 
-impl Settled {
+impl Updated {
     /// Balances the node at a place where it leans; says what changed there.
     #[inline(always)]
-    pub(super) fn finish(self, at: &mut Child) -> Change
-        requires { CanFinish self at.old }
-        ensures { Finishes self at.old at.new result }
+    pub(super) fn rebalance(self, at: &mut Child) -> Change
+        requires { CanRebalance self at.old }
+        ensures { Rebalances self at.old at.new result }
     {
         match self {
-            Settled::Stands(change) => change,
-            Settled::Leans(left, right) => rebalance(at, left, right),
+            Updated::Balanced(change) => change,
+            Updated::Unbalanced(left, right) => balance_at(at, left, right),
         }
     }
 }
 
 /// Brings what a node keeps up to date, or takes its children out where they are to be balanced.
 #[inline(always)]
-#[tactic(auto, using(crate::proofs::Nodes::SettledNodes::keeping))]
-pub(super) fn settle(
+#[tactic(auto, using(crate::proofs::Nodes::UpdatedNodes::keeping))]
+pub(super) fn update(
     left: &mut Child,
     right: &mut Child,
     key: &RangeInclusive,
     node_state: NodeState,
-    kept_height: &mut u64,
+    cached_height: &mut u64,
     max_free: &mut u64,
     alignments: &mut u8,
-) -> Settled
+) -> Updated
     requires { max (height_of (side left.old)) (height_of (side right.old)) + 1 < 2 ^ 64 }
-    ensures settled { IsSettled (record { key = key.now; state = node_state })
+    ensures updated { IsUpdated (record { key = key.now; state = node_state })
         (record {
           left = left.old;
           right = right.old;
-          height = kept_height.old;
+          height = cached_height.old;
           max_free = max_free.old;
           alignments = alignments.old;
         })
@@ -67,43 +67,43 @@ pub(super) fn settle(
         (record {
           left = left.new;
           right = right.new;
-          height = kept_height.new;
+          height = cached_height.new;
           max_free = max_free.new;
           alignments = alignments.new;
         }) }
     ensures left { IsTree (side left.old) }
     ensures right { IsTree (side right.old) }
 {
-    let first = kept_of(left);
-    let second = kept_of(right);
+    let first = summary_of(left);
+    let second = summary_of(right);
     if first.height > second.height + 1 || second.height > first.height + 1 {
-        let own = room_of(key, node_state);
-        *kept_height = 1;
+        let own = free_summary_of(key, node_state);
+        *cached_height = 1;
         *max_free = own.max_free;
         *alignments = own.alignments;
-        return Settled::Leans(left.take(), right.take());
+        return Updated::Unbalanced(left.take(), right.take());
     }
-    let own = room_of(key, node_state);
-    let change = renew_room(first.room, second.room, own, max_free, alignments);
+    let own = free_summary_of(key, node_state);
+    let change = refresh_free(first.free, second.free, own, max_free, alignments);
     let height = first.height.max(second.height) + 1;
-    if height == *kept_height {
-        return Settled::Stands(change);
+    if height == *cached_height {
+        return Updated::Balanced(change);
     }
-    *kept_height = height;
-    Settled::Stands(Change::Height)
+    *cached_height = height;
+    Updated::Balanced(Change::Height)
 }
 
 impl InnerNode {
     /// Takes the children out of the node, the left one and the right one.
     #[inline(always)]
-    pub(super) fn strip(&mut self) -> (Child, Child)
+    pub(super) fn take_children(&mut self) -> (Child, Child)
         ensures shape { self.old ≡ Fork (side result.0) (root_block self.old) (side result.1) }
         ensures middle { self.new ≡ single (root_block self.old) }
         ensures tree { IsTree self.old }
         ensures height_fits { height_of self.old < 2 ^ 64 }
     {
         let sides = (self.left.take(), self.right.take());
-        let own = room_of(&self.key, self.node_state);
+        let own = free_summary_of(&self.key, self.node_state);
         self.height = 1;
         self.max_free = own.max_free;
         self.alignments = own.alignments;
@@ -123,10 +123,10 @@ pub(super) fn fork(left: Child, mut middle: Box<InnerNode>, right: Child) -> Box
     let open = &mut *middle;
     open.left = left;
     open.right = right;
-    let kept = kept_over(&open.left, &open.right, &open.key, open.node_state);
-    open.height = kept.height;
-    open.max_free = kept.room.max_free;
-    open.alignments = kept.room.alignments;
+    let summary = summary_over(&open.left, &open.right, &open.key, open.node_state);
+    open.height = summary.height;
+    open.max_free = summary.free.max_free;
+    open.alignments = summary.free.alignments;
     middle
 }
 
@@ -142,10 +142,10 @@ fn rotate_right(mut left: Box<InnerNode>, middle: Box<InnerNode>, right: Child) 
     let top = &mut *left;
     let inner = top.right.take();
     top.right = Some(fork(inner, middle, right));
-    let kept = kept_over(&top.left, &top.right, &top.key, top.node_state);
-    top.height = kept.height;
-    top.max_free = kept.room.max_free;
-    top.alignments = kept.room.alignments;
+    let summary = summary_over(&top.left, &top.right, &top.key, top.node_state);
+    top.height = summary.height;
+    top.max_free = summary.free.max_free;
+    top.alignments = summary.free.alignments;
     left
 }
 
@@ -169,17 +169,17 @@ fn rotate_left_right(
     };
     let top = &mut *inner;
     lower.right = top.left.take();
-    let kept = kept_over(&lower.left, &lower.right, &lower.key, lower.node_state);
-    lower.height = kept.height;
-    lower.max_free = kept.room.max_free;
-    lower.alignments = kept.room.alignments;
+    let summary = summary_over(&lower.left, &lower.right, &lower.key, lower.node_state);
+    lower.height = summary.height;
+    lower.max_free = summary.free.max_free;
+    lower.alignments = summary.free.alignments;
     let after = top.right.take();
     top.left = Some(left);
     top.right = Some(fork(after, middle, right));
-    let kept = kept_over(&top.left, &top.right, &top.key, top.node_state);
-    top.height = kept.height;
-    top.max_free = kept.room.max_free;
-    top.alignments = kept.room.alignments;
+    let summary = summary_over(&top.left, &top.right, &top.key, top.node_state);
+    top.height = summary.height;
+    top.max_free = summary.free.max_free;
+    top.alignments = summary.free.alignments;
     inner
 }
 
@@ -195,10 +195,10 @@ fn rotate_left(left: Child, middle: Box<InnerNode>, mut right: Box<InnerNode>) -
     let top = &mut *right;
     let inner = top.left.take();
     top.left = Some(fork(left, middle, inner));
-    let kept = kept_over(&top.left, &top.right, &top.key, top.node_state);
-    top.height = kept.height;
-    top.max_free = kept.room.max_free;
-    top.alignments = kept.room.alignments;
+    let summary = summary_over(&top.left, &top.right, &top.key, top.node_state);
+    top.height = summary.height;
+    top.max_free = summary.free.max_free;
+    top.alignments = summary.free.alignments;
     right
 }
 
@@ -222,17 +222,17 @@ fn rotate_right_left(
     };
     let top = &mut *inner;
     lower.left = top.right.take();
-    let kept = kept_over(&lower.left, &lower.right, &lower.key, lower.node_state);
-    lower.height = kept.height;
-    lower.max_free = kept.room.max_free;
-    lower.alignments = kept.room.alignments;
+    let summary = summary_over(&lower.left, &lower.right, &lower.key, lower.node_state);
+    lower.height = summary.height;
+    lower.max_free = summary.free.max_free;
+    lower.alignments = summary.free.alignments;
     let before = top.left.take();
     top.right = Some(right);
     top.left = Some(fork(left, middle, before));
-    let kept = kept_over(&top.left, &top.right, &top.key, top.node_state);
-    top.height = kept.height;
-    top.max_free = kept.room.max_free;
-    top.alignments = kept.room.alignments;
+    let summary = summary_over(&top.left, &top.right, &top.key, top.node_state);
+    top.height = summary.height;
+    top.max_free = summary.free.max_free;
+    top.alignments = summary.free.alignments;
     inner
 }
 
@@ -263,13 +263,13 @@ pub(super) fn balance(left: Child, middle: Box<InnerNode>, right: Child) -> Box<
 
 /// Puts a node with these sides, whose heights differ by at most two, in the place of one without
 /// children. The height there may be another one, which it tells.
-fn rebalance(at: &mut Child, left: Child, right: Child) -> Change
+fn balance_at(at: &mut Child, left: Child, right: Child) -> Change
     requires some { IsSome at.old }
     requires leaf { IsLeaf (side at.old) }
     requires sides { CanBalance (side left) (root_block (side at.old)) (side right) }
     ensures some { IsSome at.new }
     ensures balanced { Balances (side left) (root_block (side at.old)) (side right) (side at.new) }
-    ensures told { result ≡ Change.Height }
+    ensures reported { result ≡ Change.Height }
 {
     let Some(middle) = at.take() else {
         unreachable!()

@@ -4,16 +4,16 @@ ghost use Rattle.std.specs.Option.{option_map};
 ghost use Rattle.vm_ranges.specs.Range.{MAX};
 ghost use Rattle.vm_engine.specs.Tree.BlockList.{find_superset};
 ghost use Rattle.vm_engine.specs.Tree.Shape.{blocks, height_of, root_block};
-ghost use Rattle.vm_engine.specs.Counts.Ways.{way_across};
+ghost use Rattle.vm_engine.specs.Counts.NodeCounts.{nodes_across};
 
 use super::InnerNode;
 use crate::Steps;
-use crate::ends::ends_before;
+use crate::ordering::ends_before;
 use vm_ranges::RangeInclusive;
 
 impl InnerNode {
     /// The node whose key contains this one.
-    #[tactic(auto, using(crate::proofs::Nodes::Supersets::supersets, crate::proofs::Counts::WayCases::ways_across))]
+    #[tactic(auto, using(crate::proofs::Nodes::Supersets::supersets, crate::proofs::Counts::NodeCountCases::nodes_across_cases))]
     pub(crate) fn search_superset(
         &self,
         key: &RangeInclusive,
@@ -21,7 +21,7 @@ impl InnerNode {
     ) -> Option<&InnerNode>
         requires { count.old + height_of self.now ≤ MAX }
         ensures found { find_superset key.now (blocks self.now) ≡ option_map (λ n. root_block n.now) result }
-        ensures count { count.new ≡ count.old + way_across key.now self.now }
+        ensures count { count.new ≡ count.old + nodes_across key.now self.now }
     {
         self.enter(count);
         if ends_before(key, &self.key) {

@@ -10,7 +10,7 @@ ghost use Rattle.vm_engine.specs.Counts.Fibonacci.{fibonacci};
 
 /// A balanced tree of height h has at least F(h + 2) - 1 nodes and at most 2^h - 1, as many as it
 /// has blocks.
-#[tactic(auto, using(crate::proofs::Nodes::FewestNodes::node_numbers))]
+#[tactic(auto, using(crate::proofs::Nodes::MinNodes::node_numbers))]
 fn node_numbers()
     ensures fewest { (s : Shape) → IsBalanced s → fibonacci (height_of s + 2) ≤ node_count s + 1 }
     ensures most { (s : Shape) → node_count s + 1 ≤ 2 ^ height_of s }
@@ -18,7 +18,7 @@ fn node_numbers()
 {}
 
 /// A range that is in order is clear of blocks in order exactly where it overlaps no key of theirs.
-#[tactic(auto, using(crate::proofs::Nodes::Meetings::clearness))]
+#[tactic(auto, using(crate::proofs::Nodes::FirstOverlaps::clearness))]
 fn clear_means_no_overlap()
     ensures { (k : Range) (bs : List Block) → k.start ≤ k.end → IsOrderedFrom 0 bs →
         IsClearOf k bs ↔ All (λ b. ¬ Overlaps k b.key) bs }

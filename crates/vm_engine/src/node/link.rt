@@ -4,17 +4,17 @@ ghost use Rattle.vm_ranges.specs.Range.{MAX};
 ghost use Rattle.vm_engine.specs.Tree.BlockList.{IsClearOf, insert_block};
 ghost use Rattle.vm_engine.specs.Tree.Shape.{MAX_HEIGHT, blocks, height_of, root_block};
 ghost use Rattle.vm_engine.specs.Engine.Changes.{IsLeaf, Grows};
-ghost use Rattle.vm_engine.specs.Counts.Ways.{way_down};
+ghost use Rattle.vm_engine.specs.Counts.NodeCounts.{nodes_down};
 ghost use Rattle.vm_engine.specs.Engine.NodeFields.{side};
 
-use super::balance::settle;
-use super::kept::Change;
+use super::balance::update;
+use super::summary::Change;
 use super::{Child, InnerNode};
 use crate::Steps;
-use crate::ends::starts_before;
+use crate::ordering::starts_before;
 
 /// Adds a leaf at a place, below the node there if there is one; says what changed there.
-#[tactic(auto, using(crate::proofs::Blocks::BlockOrder::links, crate::proofs::Counts::WayCases::ways_down))]
+#[tactic(auto, using(crate::proofs::Blocks::BlockOrder::links, crate::proofs::Counts::NodeCountCases::nodes_down_cases))]
 pub(super) fn link_at(at: &mut Child, leaf: Box<InnerNode>, count: &mut Steps) -> Change
     requires leaf { IsLeaf leaf.value }
     requires clear { IsClearOf (root_block leaf.value).key (blocks (side at.old)) }
@@ -23,7 +23,7 @@ pub(super) fn link_at(at: &mut Child, leaf: Box<InnerNode>, count: &mut Steps) -
     ensures some { IsSome at.new }
     ensures blocks { blocks (side at.new) ≡ insert_block (root_block leaf.value) (blocks (side at.old)) }
     ensures grows { Grows (side at.old) (side at.new) result }
-    ensures count { count.new ≡ count.old + way_down (root_block leaf.value).key (side at.old) }
+    ensures count { count.new ≡ count.old + nodes_down (root_block leaf.value).key (side at.old) }
 {
     let key = leaf.key();
     let Some(tree) = at else {
@@ -40,7 +40,7 @@ pub(super) fn link_at(at: &mut Child, leaf: Box<InnerNode>, count: &mut Steps) -
     if let Change::Nothing = change {
         return change;
     }
-    let settled = settle(
+    let updated = update(
         &mut tree.left,
         &mut tree.right,
         &tree.key,
@@ -49,5 +49,5 @@ pub(super) fn link_at(at: &mut Child, leaf: Box<InnerNode>, count: &mut Steps) -
         &mut tree.max_free,
         &mut tree.alignments,
     );
-    settled.finish(at)
+    updated.rebalance(at)
 }

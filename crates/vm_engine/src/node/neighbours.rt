@@ -5,15 +5,15 @@
 ghost use Rattle.std.specs.Prelude.{◌≡◌, ◌+◌, ◌*◌, ◌≤◌, Option, Some, None};
 ghost use Rattle.vm_ranges.specs.Range.{MAX, Range};
 ghost use Rattle.vm_engine.specs.Tree.Shape.{blocks, height_of, root_block};
-ghost use Rattle.vm_engine.specs.Counts.Ways.{way_to_first, way_to_last, way_around};
+ghost use Rattle.vm_engine.specs.Counts.NodeCounts.{nodes_to_first, nodes_to_last, nodes_around};
 ghost use Rattle.vm_engine.specs.Engine.NodeFields.{side};
-ghost use Rattle.vm_engine.specs.Engine.Beside.{free_key_of, free_keys, if_found};
+ghost use Rattle.vm_engine.specs.Engine.NeighbourNodes.{free_key_of, free_keys, if_found};
 ghost use Rattle.vm_engine.specs.Tree.FreeBeside.{last_free, first_free};
-ghost use Rattle.vm_engine.specs.Engine.Release.{neighbours};
+ghost use Rattle.vm_engine.specs.Engine.FreedBlocks.{neighbours};
 
 use super::{Child, InnerNode};
 use crate::Steps;
-use crate::ends::order;
+use crate::ordering::compare;
 use std::cmp::Ordering;
 use vm_ranges::{NodeState, RangeInclusive};
 
@@ -28,7 +28,7 @@ pub(crate) struct Neighbours {
 
 /// The nodes with the blocks right beside one, where there are such.
 #[derive(Clone, Copy)]
-struct Beside<'a> {
+struct NeighbourNodes<'a> {
     before: Option<&'a InnerNode>,
     after: Option<&'a InnerNode>,
 }
@@ -45,7 +45,7 @@ fn free_key(node: Option<&InnerNode>) -> Option<RangeInclusive>
 }
 
 /// The node with the last block below a side, and `before` where the side is absent.
-#[tactic(auto, using(crate::proofs::Counts::WayCases::ways_to_ends))]
+#[tactic(auto, using(crate::proofs::Counts::NodeCountCases::nodes_to_ends_cases))]
 fn last_below<'a>(
     child: &'a Child,
     before: Option<&'a InnerNode>,
@@ -53,7 +53,7 @@ fn last_below<'a>(
 ) -> Option<&'a InnerNode>
     requires { count.old + height_of (side child.now) ≤ MAX }
     ensures value { free_key_of result ≡ last_free (free_key_of before.entry) (blocks (side child.now)) }
-    ensures count { count.new ≡ count.old + way_to_last (side child.now) }
+    ensures count { count.new ≡ count.old + nodes_to_last (side child.now) }
 {
     match child {
         None => before,
@@ -62,7 +62,7 @@ fn last_below<'a>(
 }
 
 /// The node with the first block below a side, and `after` where the side is absent.
-#[tactic(auto, using(crate::proofs::Counts::WayCases::ways_to_ends))]
+#[tactic(auto, using(crate::proofs::Counts::NodeCountCases::nodes_to_ends_cases))]
 fn first_below<'a>(
     child: &'a Child,
     after: Option<&'a InnerNode>,
@@ -70,7 +70,7 @@ fn first_below<'a>(
 ) -> Option<&'a InnerNode>
     requires { count.old + height_of (side child.now) ≤ MAX }
     ensures value { free_key_of result ≡ first_free (blocks (side child.now)) (free_key_of after.entry) }
-    ensures count { count.new ≡ count.old + way_to_first (side child.now) }
+    ensures count { count.new ≡ count.old + nodes_to_first (side child.now) }
 {
     match child {
         None => after,
@@ -80,11 +80,11 @@ fn first_below<'a>(
 
 impl InnerNode {
     /// The node with the last block.
-    #[tactic(auto, using(crate::proofs::Releasing::Neighbours::ends, crate::proofs::Counts::WayCases::ways_to_ends))]
+    #[tactic(auto, using(crate::proofs::Releasing::Neighbours::ends, crate::proofs::Counts::NodeCountCases::nodes_to_ends_cases))]
     fn last_node(&self, count: &mut Steps) -> &InnerNode
         requires { count.old + height_of self.now ≤ MAX }
         ensures value { (d : Option Range) → free_key_of (Some result) ≡ last_free d (blocks self.now) }
-        ensures count { count.new ≡ count.old + way_to_last self.now }
+        ensures count { count.new ≡ count.old + nodes_to_last self.now }
     {
         self.enter(count);
         match &self.right {
@@ -94,11 +94,11 @@ impl InnerNode {
     }
 
     /// The node with the first block.
-    #[tactic(auto, using(crate::proofs::Releasing::Neighbours::ends, crate::proofs::Counts::WayCases::ways_to_ends))]
+    #[tactic(auto, using(crate::proofs::Releasing::Neighbours::ends, crate::proofs::Counts::NodeCountCases::nodes_to_ends_cases))]
     fn first_node(&self, count: &mut Steps) -> &InnerNode
         requires { count.old + height_of self.now ≤ MAX }
         ensures value { (d : Option Range) → free_key_of (Some result) ≡ first_free (blocks self.now) d }
-        ensures count { count.new ≡ count.old + way_to_first self.now }
+        ensures count { count.new ≡ count.old + nodes_to_first self.now }
     {
         self.enter(count);
         match &self.left {
@@ -109,20 +109,20 @@ impl InnerNode {
 
     /// Whether a held block has this key. `beside` comes with the nodes right before and right after
     /// the whole tree, and has then those beside the block.
-    #[tactic(auto, using(crate::proofs::Releasing::Neighbours::searches, crate::proofs::Counts::WayBounds::around))]
+    #[tactic(auto, using(crate::proofs::Releasing::Neighbours::searches, crate::proofs::Counts::NodeCountBounds::around))]
     fn find_held<'a>(
         &'a self,
         key: &RangeInclusive,
-        beside: &mut Beside<'a>,
+        beside: &mut NeighbourNodes<'a>,
         count: &mut Steps,
     ) -> bool
         requires { count.old + 2 * height_of self.now ≤ MAX }
         ensures value { if_found result (free_keys beside.new)
             ≡ neighbours key.now (free_key_of beside.old.before) (blocks self.now) (free_key_of beside.old.after) }
-        ensures count { count.new ≡ count.old + way_around key.now self.now }
+        ensures count { count.new ≡ count.old + nodes_around key.now self.now }
     {
         self.enter(count);
-        match order(&self.key, key) {
+        match compare(&self.key, key) {
             Ordering::Greater => {
                 let Some(left) = &self.left else { return false };
                 beside.after = Some(self);
@@ -135,17 +135,21 @@ impl InnerNode {
                 beside.before = Some(self);
                 right.find_held(key, beside, count)
             }
-            Ordering::Equal => self.look_beside(beside, count),
+            Ordering::Equal => self.find_neighbours_here(beside, count),
         }
     }
 
     /// Whether this node's block is held. `beside` has then the nodes beside it.
-    #[tactic(auto, using(crate::proofs::Releasing::Neighbours::searches, crate::proofs::Counts::WayBounds::around))]
-    fn look_beside<'a>(&'a self, beside: &mut Beside<'a>, count: &mut Steps) -> bool
+    #[tactic(auto, using(crate::proofs::Releasing::Neighbours::searches, crate::proofs::Counts::NodeCountBounds::around))]
+    fn find_neighbours_here<'a>(
+        &'a self,
+        beside: &mut NeighbourNodes<'a>,
+        count: &mut Steps,
+    ) -> bool
         requires { count.old + 2 * height_of self.now ≤ MAX + 1 }
         ensures value { if_found result (free_keys beside.new)
             ≡ neighbours (root_block self.now).key (free_key_of beside.old.before) (blocks self.now) (free_key_of beside.old.after) }
-        ensures count { count.new + 1 ≡ count.old + way_around (root_block self.now).key self.now }
+        ensures count { count.new + 1 ≡ count.old + nodes_around (root_block self.now).key self.now }
     {
         match self.node_state {
             NodeState::Free => false,
@@ -161,9 +165,9 @@ impl InnerNode {
     pub(crate) fn neighbours(&self, key: &RangeInclusive, count: &mut Steps) -> Option<Neighbours>
         requires { count.old + 2 * height_of self.now ≤ MAX }
         ensures value { result ≡ neighbours key.now None (blocks self.now) None }
-        ensures count { count.new ≡ count.old + way_around key.now self.now }
+        ensures count { count.new ≡ count.old + nodes_around key.now self.now }
     {
-        let mut beside = Beside {
+        let mut beside = NeighbourNodes {
             before: None,
             after: None,
         };

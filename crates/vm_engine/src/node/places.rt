@@ -2,16 +2,16 @@
 //! side as its argument would look at it at each node, and its proof would be by cases on it
 //! throughout. They write what they find into an `Option` that their caller holds: a returned place
 //! is 32 bytes that are copied at each level, 12 % of the instructions of `first`. Each looks whether
-//! a child is there, and has room (`roomy`), before it calls: a recursion over optional children took
+//! a child is there, and has room (`may_fit`), before it calls: a recursion over optional children took
 //! 40 to 80 % more time. None calls what begins the search, since whatever comes back to itself has
 //! to count a node.
 ghost use Rattle.std.specs.Prelude.{◌≡◌, ◌+◌, ◌<◌, ◌≤◌, true, false, None, MatchOption};
 ghost use Rattle.vm_ranges.specs.Range.{MAX};
 ghost use Rattle.vm_ranges.specs.Alignment.{IsAlignment};
-ghost use Rattle.vm_engine.specs.Tree.Fit.{FindsLeastFit, FindsGreatestFit};
+ghost use Rattle.vm_engine.specs.Tree.Fit.{FindsLowestFit, FindsHighestFit};
 ghost use Rattle.vm_engine.specs.Engine.Place.{FindsFirst, FindsLast};
 ghost use Rattle.vm_engine.specs.Tree.Shape.{blocks, node_count};
-ghost use Rattle.vm_engine.specs.Counts.Ways.{is_searched, way_of_first, way_of_last};
+ghost use Rattle.vm_engine.specs.Counts.NodeCounts.{may_fit_in, nodes_of_first, nodes_of_last};
 ghost use Rattle.vm_engine.specs.Engine.NodeFields.{side};
 
 use super::{Child, InnerNode};
@@ -28,11 +28,11 @@ pub(crate) struct Place {
 }
 
 /// The least multiple of the alignment from which a block has room for `size` clear addresses.
-#[tactic(auto, using(crate::proofs::Choosing::Fits::least_fits_by_key))]
-fn least_fit(key: &RangeInclusive, state: NodeState, size: u64, alignment: u64) -> Option<u64>
+#[tactic(auto, using(crate::proofs::Choosing::Fits::lowest_fits_by_key))]
+fn lowest_fit(key: &RangeInclusive, state: NodeState, size: u64, alignment: u64) -> Option<u64>
     requires sized { 0 < size }
     requires aligned { IsAlignment alignment }
-    ensures { FindsLeastFit size alignment (record { key = key.now; state = state }) result }
+    ensures { FindsLowestFit size alignment (record { key = key.now; state = state }) result }
 {
     if state == NodeState::Allocated {
         return None;
@@ -49,11 +49,11 @@ fn least_fit(key: &RangeInclusive, state: NodeState, size: u64, alignment: u64) 
 }
 
 /// The greatest multiple of the alignment from which a block has room for `size` clear addresses.
-#[tactic(auto, using(crate::proofs::Choosing::Fits::greatest_fits))]
-fn greatest_fit(key: &RangeInclusive, state: NodeState, size: u64, alignment: u64) -> Option<u64>
+#[tactic(auto, using(crate::proofs::Choosing::Fits::highest_fits))]
+fn highest_fit(key: &RangeInclusive, state: NodeState, size: u64, alignment: u64) -> Option<u64>
     requires sized { 0 < size }
     requires aligned { IsAlignment alignment }
-    ensures { FindsGreatestFit size alignment (record { key = key.now; state = state }) result }
+    ensures { FindsHighestFit size alignment (record { key = key.now; state = state }) result }
 {
     let (start, end) = (key.start(), key.end());
     if state == NodeState::Allocated || end - start < size - 1 {
@@ -69,12 +69,12 @@ fn greatest_fit(key: &RangeInclusive, state: NodeState, size: u64, alignment: u6
 /// alignment lies in one of them.
 #[inline(always)]
 #[tactic(auto, using(crate::proofs::Counts::Entering::searched))]
-fn roomy(tree: &Child, size: u64, alignment: u64) -> Option<&InnerNode>
+fn may_fit(tree: &Child, size: u64, alignment: u64) -> Option<&InnerNode>
     requires sized { 0 < size }
     requires aligned { IsAlignment alignment }
     ensures { MatchOption result
-        (is_searched size alignment (side tree.now) ≡ false)
-        (λ node. (side tree.now ≡ node.now) × (is_searched size alignment node.now ≡ true)) }
+        (may_fit_in size alignment (side tree.now) ≡ false)
+        (λ node. (side tree.now ≡ node.now) × (may_fit_in size alignment node.now ≡ true)) }
 {
     let Some(node) = tree else { return None };
     let node: &InnerNode = node;
@@ -97,10 +97,10 @@ pub(crate) fn first_place(
     requires aligned { IsAlignment alignment }
     requires count_fits { count.old + node_count (side tree.now) ≤ MAX }
     ensures place { FindsFirst size alignment (blocks (side tree.now)) result }
-    ensures count { count.new ≡ count.old + way_of_first size alignment (side tree.now) }
+    ensures count { count.new ≡ count.old + nodes_of_first size alignment (side tree.now) }
 {
     let mut found = None;
-    if let Some(node) = roomy(tree, size, alignment) {
+    if let Some(node) = may_fit(tree, size, alignment) {
         node.first_place(size, alignment, &mut found, count);
     }
     found
@@ -118,10 +118,10 @@ pub(crate) fn last_place(
     requires aligned { IsAlignment alignment }
     requires count_fits { count.old + node_count (side tree.now) ≤ MAX }
     ensures place { FindsLast size alignment (blocks (side tree.now)) result }
-    ensures count { count.new ≡ count.old + way_of_last size alignment (side tree.now) }
+    ensures count { count.new ≡ count.old + nodes_of_last size alignment (side tree.now) }
 {
     let mut found = None;
-    if let Some(node) = roomy(tree, size, alignment) {
+    if let Some(node) = may_fit(tree, size, alignment) {
         node.last_place(size, alignment, &mut found, count);
     }
     found
@@ -133,27 +133,27 @@ impl InnerNode {
     fn first_place(&self, size: u64, alignment: u64, found: &mut Option<Place>, count: &mut Steps)
         requires sized { 0 < size }
         requires aligned { IsAlignment alignment }
-        requires roomy { is_searched size alignment self.now ≡ true }
+        requires may_fit { may_fit_in size alignment self.now ≡ true }
         requires none_yet { found.old ≡ None }
         requires count_fits { count.old + node_count self.now ≤ MAX }
         ensures place { FindsFirst size alignment (blocks self.now) found.new }
-        ensures count { count.new ≡ count.old + way_of_first size alignment self.now }
+        ensures count { count.new ≡ count.old + nodes_of_first size alignment self.now }
     {
         self.enter(count);
-        if let Some(left) = roomy(&self.left, size, alignment) {
+        if let Some(left) = may_fit(&self.left, size, alignment) {
             left.first_place(size, alignment, found, count);
         }
         if found.is_some() {
             return;
         }
-        if let Some(start) = least_fit(&self.key, self.node_state, size, alignment) {
+        if let Some(start) = lowest_fit(&self.key, self.node_state, size, alignment) {
             *found = Some(Place {
                 key: self.key,
                 start,
             });
             return;
         }
-        if let Some(right) = roomy(&self.right, size, alignment) {
+        if let Some(right) = may_fit(&self.right, size, alignment) {
             right.first_place(size, alignment, found, count);
         }
     }
@@ -163,27 +163,27 @@ impl InnerNode {
     fn last_place(&self, size: u64, alignment: u64, found: &mut Option<Place>, count: &mut Steps)
         requires sized { 0 < size }
         requires aligned { IsAlignment alignment }
-        requires roomy { is_searched size alignment self.now ≡ true }
+        requires may_fit { may_fit_in size alignment self.now ≡ true }
         requires none_yet { found.old ≡ None }
         requires count_fits { count.old + node_count self.now ≤ MAX }
         ensures place { FindsLast size alignment (blocks self.now) found.new }
-        ensures count { count.new ≡ count.old + way_of_last size alignment self.now }
+        ensures count { count.new ≡ count.old + nodes_of_last size alignment self.now }
     {
         self.enter(count);
-        if let Some(right) = roomy(&self.right, size, alignment) {
+        if let Some(right) = may_fit(&self.right, size, alignment) {
             right.last_place(size, alignment, found, count);
         }
         if found.is_some() {
             return;
         }
-        if let Some(start) = greatest_fit(&self.key, self.node_state, size, alignment) {
+        if let Some(start) = highest_fit(&self.key, self.node_state, size, alignment) {
             *found = Some(Place {
                 key: self.key,
                 start,
             });
             return;
         }
-        if let Some(left) = roomy(&self.left, size, alignment) {
+        if let Some(left) = may_fit(&self.left, size, alignment) {
             left.last_place(size, alignment, found, count);
         }
     }

@@ -6,45 +6,45 @@ ghost use Rattle.vm_ranges.specs.Range.{MAX};
 ghost use Rattle.vm_engine.specs.Tree.BlockList.{IsOrderedFrom, replace_block};
 ghost use Rattle.vm_engine.specs.Tree.Shape.{Shape, Tip, Fork, blocks, height_of, root_block, DifferByAtMost};
 ghost use Rattle.vm_engine.specs.Engine.Changes.{IsLeaf, Joins, Shrinks, LeavesIfAbsent};
-ghost use Rattle.vm_engine.specs.Counts.Ways.{way_to_first, way_to_join, way_to_remove};
+ghost use Rattle.vm_engine.specs.Counts.NodeCounts.{nodes_to_first, nodes_to_join, nodes_to_remove};
 ghost use Rattle.vm_engine.specs.Engine.NodeFields.{side};
 
-use super::balance::{balance, settle};
-use super::kept::Change;
-use super::{Child, InnerNode, known};
+use super::balance::{balance, update};
+use super::summary::Change;
+use super::{Child, InnerNode, recall_invariant};
 use crate::Steps;
-use crate::ends::order;
+use crate::ordering::compare;
 use std::cmp::Ordering;
 use vm_ranges::RangeInclusive;
 
 /// Takes the node with the least key out from below the node at a place; says what changed
 /// there.
-#[tactic(auto, using(crate::proofs::Blocks::Replacement::leasts, crate::proofs::Nodes::SideChange::takes, crate::proofs::Counts::WayCases::ways_to_first))]
-fn take_least_at(at: &mut Child, count: &mut Steps) -> (Box<InnerNode>, Change)
+#[tactic(auto, using(crate::proofs::Blocks::Replacement::first_blocks, crate::proofs::Nodes::SideChange::takes, crate::proofs::Counts::NodeCountCases::nodes_to_first_cases))]
+fn take_first_at(at: &mut Child, count: &mut Steps) -> (Box<InnerNode>, Change)
     requires some { IsSome at.old }
     requires count_fits { count.old + height_of (side at.old) ≤ MAX }
     ensures blocks { blocks (side at.old) ≡ root_block result.0.value ∷ blocks (side at.new) }
     ensures leaf { IsLeaf result.0.value }
     ensures shrinks { Shrinks (side at.old) (side at.new) result.1 }
-    ensures count { count.new ≡ count.old + way_to_first (side at.old) }
+    ensures count { count.new ≡ count.old + nodes_to_first (side at.old) }
 {
     let Some(tree) = at else { unreachable!() };
     let tree: &mut InnerNode = tree;
     tree.enter(count);
     if tree.left.is_none() {
-        let (_, right) = tree.strip();
-        known(&right);
-        let Some(least) = at.take() else {
+        let (_, right) = tree.take_children();
+        recall_invariant(&right);
+        let Some(lowest) = at.take() else {
             unreachable!()
         };
         *at = right;
-        return (least, Change::Height);
+        return (lowest, Change::Height);
     }
-    let (least, change) = take_least_at(&mut tree.left, count);
+    let (lowest, change) = take_first_at(&mut tree.left, count);
     if let Change::Nothing = change {
-        return (least, change);
+        return (lowest, change);
     }
-    let settled = settle(
+    let updated = update(
         &mut tree.left,
         &mut tree.right,
         &tree.key,
@@ -53,36 +53,36 @@ fn take_least_at(at: &mut Child, count: &mut Steps) -> (Box<InnerNode>, Change)
         &mut tree.max_free,
         &mut tree.alignments,
     );
-    (least, settled.finish(at))
+    (lowest, updated.rebalance(at))
 }
 
 /// What is left of a tree without its root, from the root's children: the other child where one is
 /// absent, and else both below the least node of the right one.
-#[tactic(auto, using(crate::proofs::Blocks::Replacement::leasts, crate::proofs::Nodes::SideChange::takes, crate::proofs::Counts::WayCases::ways_to_join))]
+#[tactic(auto, using(crate::proofs::Blocks::Replacement::first_blocks, crate::proofs::Nodes::SideChange::takes, crate::proofs::Counts::NodeCountCases::nodes_to_join_cases))]
 pub(super) fn join(left: Child, mut right: Child, count: &mut Steps) -> Child
     requires ordered { IsOrderedFrom 0 (blocks (side left) ++ blocks (side right)) }
     requires close { DifferByAtMost 1 (height_of (side left)) (height_of (side right)) }
     requires height_fits { max (height_of (side left)) (height_of (side right)) + 1 < 2 ^ 64 }
     requires count_fits { count.old + height_of (side right) ≤ MAX }
     ensures joins { Joins (side left) (side right) (side result) }
-    ensures count { count.new ≡ count.old + way_to_join (side left) (side right) }
+    ensures count { count.new ≡ count.old + nodes_to_join (side left) (side right) }
 {
-    known(&left);
-    known(&right);
+    recall_invariant(&left);
+    recall_invariant(&right);
     if right.is_none() {
         return left;
     }
     if left.is_none() {
         return right;
     }
-    let (least, _) = take_least_at(&mut right, count);
-    Some(balance(left, least, right))
+    let (lowest, _) = take_first_at(&mut right, count);
+    Some(balance(left, lowest, right))
 }
 
 impl InnerNode {
     /// The tree without its root's key: its child where it has one alone, none where it has none,
     /// and else both children below the least node of the right one. It takes no memory.
-    #[tactic(auto, using(crate::proofs::Counts::WayBounds::removal_bounds, crate::proofs::Counts::WayCases::ways_to_remove))]
+    #[tactic(auto, using(crate::proofs::Counts::NodeCountBounds::removal_bounds, crate::proofs::Counts::NodeCountCases::nodes_to_remove_cases))]
     #[inline(never)]
     pub(crate) fn delete_root(tree: Box<InnerNode>, count: &mut Steps) -> Option<Box<InnerNode>>
         requires { count.old + height_of tree.value ≤ MAX + 1 }
@@ -91,31 +91,31 @@ impl InnerNode {
         ensures no_right { (left : Shape) → tree.value ≡ Fork left (root_block tree.value) Tip → side result ≡ left }
         ensures no_left { (right : Shape) → tree.value ≡ Fork Tip (root_block tree.value) right → side result ≡ right }
         ensures shrinks { Shrinks tree.value (side result) Change.Height }
-        ensures count { count.new + 1 ≡ count.old + way_to_remove (root_block tree.value).key tree.value }
+        ensures count { count.new + 1 ≡ count.old + nodes_to_remove (root_block tree.value).key tree.value }
     {
         let InnerNode { left, right, .. } = Box::into_inner(tree);
         let joined = join(left, right, count);
-        known(&joined);
+        recall_invariant(&joined);
         joined
     }
 }
 
 /// Removes the node with a key from below the node at a place, if there is one; says what
 /// changed there.
-#[tactic(auto, using(crate::proofs::Nodes::SideChange::deletions, crate::proofs::Counts::WayCases::ways_to_remove))]
+#[tactic(auto, using(crate::proofs::Nodes::SideChange::deletions, crate::proofs::Counts::NodeCountCases::nodes_to_remove_cases))]
 pub(crate) fn delete_at(at: &mut Child, key: &RangeInclusive, count: &mut Steps) -> Change
     requires { count.old + height_of (side at.old) ≤ MAX }
     ensures blocks { blocks (side at.new) ≡ replace_block key.now [] (blocks (side at.old)) }
     ensures absent { LeavesIfAbsent key.now result (side at.old) (side at.new) }
     ensures shrinks { Shrinks (side at.old) (side at.new) result }
-    ensures count { count.new ≡ count.old + way_to_remove key.now (side at.old) }
+    ensures count { count.new ≡ count.old + nodes_to_remove key.now (side at.old) }
 {
     let Some(tree) = at else {
         return Change::Nothing
     };
     let tree: &mut InnerNode = tree;
     tree.enter(count);
-    let change = match order(&tree.key, key) {
+    let change = match compare(&tree.key, key) {
         Ordering::Equal => {
             let Some(node) = at.take() else {
                 unreachable!()
@@ -129,7 +129,7 @@ pub(crate) fn delete_at(at: &mut Child, key: &RangeInclusive, count: &mut Steps)
     if let Change::Nothing = change {
         return change;
     }
-    let settled = settle(
+    let updated = update(
         &mut tree.left,
         &mut tree.right,
         &tree.key,
@@ -138,5 +138,5 @@ pub(crate) fn delete_at(at: &mut Child, key: &RangeInclusive, count: &mut Steps)
         &mut tree.max_free,
         &mut tree.alignments,
     );
-    settled.finish(at)
+    updated.rebalance(at)
 }

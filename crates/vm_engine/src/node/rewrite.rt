@@ -4,13 +4,13 @@ ghost use Rattle.vm_ranges.specs.Range.{MAX};
 ghost use Rattle.vm_engine.specs.Tree.BlockList.{IsOrderedFrom, with_block, find_key};
 ghost use Rattle.vm_engine.specs.Tree.Shape.{blocks, height_of, root_block};
 ghost use Rattle.vm_engine.specs.Engine.Changes.{KeepsShape};
-ghost use Rattle.vm_engine.specs.Counts.Ways.{way_to};
+ghost use Rattle.vm_engine.specs.Counts.NodeCounts.{nodes_to};
 ghost use Rattle.vm_engine.specs.Engine.NodeFields.{side};
 
-use super::kept::{Change, kept_of, renew_room, room_of};
+use super::summary::{Change, free_summary_of, refresh_free, summary_of};
 use super::{Child, InnerNode};
 use crate::Steps;
-use crate::ends::order;
+use crate::ordering::compare;
 use std::cmp::Ordering;
 use vm_ranges::{NodeState, RangeInclusive};
 
@@ -25,10 +25,10 @@ impl InnerNode {
     {
         self.key = key;
         self.node_state = node_state;
-        renew_room(
-            kept_of(&self.left).room,
-            kept_of(&self.right).room,
-            room_of(&self.key, self.node_state),
+        refresh_free(
+            summary_of(&self.left).free,
+            summary_of(&self.right).free,
+            free_summary_of(&self.key, self.node_state),
             &mut self.max_free,
             &mut self.alignments,
         )
@@ -37,7 +37,7 @@ impl InnerNode {
 
 /// Gives the node with key `old` below the node at a place another key, which keeps its place in the
 /// order, and another state. Returns what changed of what is kept there. It takes no memory.
-#[tactic(auto, using(crate::proofs::Counts::WayCases::ways_to))]
+#[tactic(auto, using(crate::proofs::Counts::NodeCountCases::nodes_to_cases))]
 pub(crate) fn rewrite_at(
     at: &mut Child,
     old: &RangeInclusive,
@@ -50,12 +50,12 @@ pub(crate) fn rewrite_at(
     requires count_fits { count.old + height_of (side at.old) ≤ MAX }
     ensures blocks { blocks (side at.new) ≡ with_block old.now key node_state (blocks (side at.old)) }
     ensures keeps { KeepsShape (side at.old) (side at.new) result }
-    ensures count { count.new ≡ count.old + way_to old.now (side at.old) }
+    ensures count { count.new ≡ count.old + nodes_to old.now (side at.old) }
 {
     let Some(tree) = at else { unreachable!() };
     let tree: &mut InnerNode = tree;
     tree.enter(count);
-    let change = match order(&tree.key, old) {
+    let change = match compare(&tree.key, old) {
         Ordering::Equal => return tree.rewrite_here(key, node_state),
         Ordering::Greater => rewrite_at(&mut tree.left, old, key, node_state, count),
         Ordering::Less => rewrite_at(&mut tree.right, old, key, node_state, count),
@@ -63,10 +63,10 @@ pub(crate) fn rewrite_at(
     if let Change::Nothing = change {
         return change;
     }
-    renew_room(
-        kept_of(&tree.left).room,
-        kept_of(&tree.right).room,
-        room_of(&tree.key, tree.node_state),
+    refresh_free(
+        summary_of(&tree.left).free,
+        summary_of(&tree.right).free,
+        free_summary_of(&tree.key, tree.node_state),
         &mut tree.max_free,
         &mut tree.alignments,
     )

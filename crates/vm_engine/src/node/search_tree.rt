@@ -6,16 +6,16 @@ ghost use Rattle.vm_ranges.specs.Range.{MAX};
 ghost use Rattle.vm_engine.specs.Tree.BlockList.{IsClearOf, insert_block, replace_block, find_key};
 ghost use Rattle.vm_engine.specs.Tree.Shape.{MAX_HEIGHT, Tip, blocks, height_of, root_block, IsTree};
 ghost use Rattle.vm_engine.specs.Engine.Changes.{IsLeaf, Grows, Shrinks};
-ghost use Rattle.vm_engine.specs.Engine.NodeAnswer.{first_met, Inserts, TellsOverlap, RefusesKey, Marks, MarksBlock};
-ghost use Rattle.vm_engine.specs.Counts.Ways.{way_down, way_to, way_across, way_to_remove};
+ghost use Rattle.vm_engine.specs.Engine.NodeAnswer.{first_overlap, Inserts, FindsOverlap, RefusesKey, Marks, MarksBlock};
+ghost use Rattle.vm_engine.specs.Counts.NodeCounts.{nodes_down, nodes_to, nodes_across, nodes_to_remove};
 ghost use Rattle.vm_engine.specs.Engine.NodeFields.{side};
 
-use super::kept::{Change, kept_of, renew_room, room_of};
 use super::link::link_at;
 use super::remove::delete_at;
-use super::{InnerNode, known};
+use super::summary::{Change, free_summary_of, refresh_free, summary_of};
+use super::{InnerNode, recall_invariant};
 use crate::Steps;
-use crate::ends::{ends_before, order};
+use crate::ordering::{compare, ends_before};
 use std::alloc::Global;
 use std::cmp::Ordering;
 use vm_ranges::{Error, NodeState, RangeInclusive, Result};
@@ -33,7 +33,7 @@ impl InnerNode {
         requires count_fits { count.old + height_of tree.value ≤ MAX }
         ensures blocks { blocks result.value ≡ insert_block (root_block leaf.value) (blocks tree.value) }
         ensures grows { Grows tree.value result.value Change.Height }
-        ensures count { count.new ≡ count.old + way_down (root_block leaf.value).key tree.value }
+        ensures count { count.new ≡ count.old + nodes_down (root_block leaf.value).key tree.value }
     {
         let mut at = Some(tree);
         link_at(&mut at, leaf, count);
@@ -44,7 +44,7 @@ impl InnerNode {
     /// The tree with one more key. A key that overlaps is refused by `Overlap` of it with the first
     /// key met on the way down, and only then may memory run out, `OutOfMemory`. A refusal hands the
     /// same tree back.
-    #[tactic(auto, using(crate::proofs::Counts::WayBounds::way_bounds), unfolding(crate::specs::Engine::NodeAnswer::TellsOverlap, crate::specs::Engine::NodeAnswer::RefusesKey))]
+    #[tactic(auto, using(crate::proofs::Counts::NodeCountBounds::node_count_bounds), unfolding(crate::specs::Engine::NodeAnswer::FindsOverlap, crate::specs::Engine::NodeAnswer::RefusesKey))]
     pub(crate) fn insert(
         tree: Box<InnerNode>,
         alloc: Global,
@@ -57,11 +57,11 @@ impl InnerNode {
         ensures inserted { IfOk result (λ t. Inserts tree.value key node_state t.value) }
         ensures refused { IfErr result (λ r. RefusesKey key tree.value r.0) }
         ensures unchanged { IfErr result (λ r. r.1.value ≡ tree.value) }
-        ensures count { OnOk result (count.new ≡ count.old + way_across key tree.value + way_down key tree.value) }
-        ensures refused_count { OnErr result (count.new ≡ count.old + way_across key tree.value) }
+        ensures count { OnOk result (count.new ≡ count.old + nodes_across key tree.value + nodes_down key tree.value) }
+        ensures refused_count { OnErr result (count.new ≡ count.old + nodes_across key tree.value) }
     {
-        if let Some(met) = tree.first_met(&key, count) {
-            return Err((Error::Overlap(key, met), tree));
+        if let Some(overlap) = tree.first_overlap(&key, count) {
+            return Err((Error::Overlap(key, overlap), tree));
         }
         match Box::new(alloc, InnerNode::new(key, node_state)) {
             Ok(leaf) => Ok(InnerNode::link(tree, leaf, count)),
@@ -82,23 +82,23 @@ impl InnerNode {
         ensures unchanged { find_key key.now (blocks tree.value) ≡ None → side result ≡ tree.value }
         ensures none { IsNone result ↔ (side result ≡ Tip) }
         ensures shrinks { Shrinks tree.value (side result) Change.Height }
-        ensures count { count.new ≡ count.old + way_to_remove key.now tree.value }
+        ensures count { count.new ≡ count.old + nodes_to_remove key.now tree.value }
     {
         let mut at = Some(tree);
         delete_at(&mut at, key, count);
-        known(&at);
+        recall_invariant(&at);
         at
     }
 
     /// The node with exactly this key.
-    #[tactic(auto, using(crate::proofs::Blocks::Replacement::findings, crate::proofs::Counts::WayCases::ways_to))]
+    #[tactic(auto, using(crate::proofs::Blocks::Replacement::findings, crate::proofs::Counts::NodeCountCases::nodes_to_cases))]
     pub(crate) fn search(&self, key: &RangeInclusive, count: &mut Steps) -> Option<&InnerNode>
         requires { count.old + height_of self.now ≤ MAX }
         ensures found { find_key key.now (blocks self.now) ≡ option_map (λ n. root_block n.now) result }
-        ensures count { count.new ≡ count.old + way_to key.now self.now }
+        ensures count { count.new ≡ count.old + nodes_to key.now self.now }
     {
         self.enter(count);
-        match order(&self.key, key) {
+        match compare(&self.key, key) {
             Ordering::Equal => Some(self),
             Ordering::Greater => {
                 let Some(left) = &self.left else { return None };
@@ -114,30 +114,30 @@ impl InnerNode {
     }
 
     /// The first key that a new one overlaps on the way down.
-    #[tactic(auto, using(crate::proofs::Nodes::Meetings::first_meetings, crate::proofs::Counts::WayCases::ways_across))]
-    fn first_met(&self, new: &RangeInclusive, count: &mut Steps) -> Option<RangeInclusive>
+    #[tactic(auto, using(crate::proofs::Nodes::FirstOverlaps::first_overlaps, crate::proofs::Counts::NodeCountCases::nodes_across_cases))]
+    fn first_overlap(&self, new: &RangeInclusive, count: &mut Steps) -> Option<RangeInclusive>
         requires { count.old + height_of self.now ≤ MAX }
-        ensures met { result ≡ first_met new.now self.now }
-        ensures overlaps { TellsOverlap new.now result (blocks self.now) }
-        ensures count { count.new ≡ count.old + way_across new.now self.now }
+        ensures overlap { result ≡ first_overlap new.now self.now }
+        ensures overlaps { FindsOverlap new.now result (blocks self.now) }
+        ensures count { count.new ≡ count.old + nodes_across new.now self.now }
     {
         self.enter(count);
         if ends_before(new, &self.key) {
             let Some(left) = &self.left else { return None };
-            return left.first_met(new, count);
+            return left.first_overlap(new, count);
         }
         if ends_before(&self.key, new) {
             let Some(right) = &self.right else {
                 return None
             };
-            return right.first_met(new, count);
+            return right.first_overlap(new, count);
         }
         Some(self.key)
     }
 
     /// Marks the free block with this key as held. A held one is `InvalidStateTransition` of the key
     /// and `Allocated`, an absent one `ResourceNotAvailable`; both change nothing.
-    #[tactic(auto, using(crate::proofs::Nodes::Rewriting::markings, crate::proofs::Counts::WayCases::ways_to))]
+    #[tactic(auto, using(crate::proofs::Nodes::Rewriting::markings, crate::proofs::Counts::NodeCountCases::nodes_to_cases))]
     pub(crate) fn mark_as_allocated(
         &mut self,
         key: &RangeInclusive,
@@ -147,10 +147,10 @@ impl InnerNode {
         ensures marks { Marks (find_key key.now (blocks self.old)) key.now result self.old self.new }
         ensures height { height_of self.new ≡ height_of self.old }
         ensures tree { IsTree self.new }
-        ensures count { count.new ≡ count.old + way_to key.now self.old }
+        ensures count { count.new ≡ count.old + nodes_to key.now self.old }
     {
         self.enter(count);
-        let answer = match order(&self.key, key) {
+        let answer = match compare(&self.key, key) {
             Ordering::Equal => return self.mark_here(),
             Ordering::Greater => {
                 let Some(left) = &mut self.left else {
@@ -165,10 +165,10 @@ impl InnerNode {
                 right.mark_as_allocated(key, count)
             }
         };
-        renew_room(
-            kept_of(&self.left).room,
-            kept_of(&self.right).room,
-            room_of(&self.key, self.node_state),
+        refresh_free(
+            summary_of(&self.left).free,
+            summary_of(&self.right).free,
+            free_summary_of(&self.key, self.node_state),
             &mut self.max_free,
             &mut self.alignments,
         );

@@ -14,7 +14,7 @@ type Inserted = std::result::Result<Box<InnerNode>, (Error, Box<InnerNode>)>;
 type Key = (u64, u64);
 
 /// Ends the test where an answer is not the one that it has to be; `of` says of what.
-fn expect_same<T: PartialEq + Debug>(rt: &impl Abort, got: &T, want: &T, of: &impl Debug) {
+fn expect_eq<T: PartialEq + Debug>(rt: &impl Abort, got: &T, want: &T, of: &impl Debug) {
     assert!(rt; got == want, "{of:?}: {got:?} where {want:?} is due");
 }
 
@@ -56,7 +56,7 @@ fn inserted(rt: &impl Abort, alloc: Global, tree: Box<InnerNode>, key: Key) -> B
     match insert(rt, alloc, tree, key) {
         Ok(tree) => tree,
         Err((error, tree)) => {
-            expect_same(rt, &error, &Error::OutOfMemory, &key);
+            expect_eq(rt, &error, &Error::OutOfMemory, &key);
             let tree = Some(tree);
             assert!(rt; same(&tree, &before));
             let Some(tree) = tree else { unreachable!() };
@@ -76,13 +76,13 @@ fn tree_of(rt: &impl Abort, alloc: Global, first: Key, keys: &[Key]) -> Box<Inne
 }
 
 /// Inserting a key is refused since it overlaps another; the tree handed back is the one from before.
-fn expect_overlap(rt: &impl Abort, alloc: Global, tree: Box<InnerNode>, key: Key, met: Key) {
+fn expect_overlap(rt: &impl Abort, alloc: Global, tree: Box<InnerNode>, key: Key, overlap: Key) {
     let before = copied(rt, alloc, &tree);
     let (error, tree) = insert(rt, alloc, tree, range(rt, key)).expect_err(rt, "the key overlaps");
-    expect_same(
+    expect_eq(
         rt,
         &error,
-        &Error::Overlap(range(rt, key), range(rt, met)),
+        &Error::Overlap(range(rt, key), range(rt, overlap)),
         &key,
     );
     assert!(rt; same(&Some(tree), &before));
@@ -110,13 +110,13 @@ fn found(rt: &impl Abort, tree: &InnerNode, key: Key) -> Option<(NodeState, bool
 
 /// The tree has this key, at a leaf, in this state.
 fn expect_leaf(rt: &impl Abort, tree: &InnerNode, key: Key, state: NodeState) {
-    expect_same(rt, &found(rt, tree, key), &Some((state, true)), &key);
+    expect_eq(rt, &found(rt, tree, key), &Some((state, true)), &key);
 }
 
 /// The tree has this key at its root, and this height.
 fn expect_root(rt: &impl Abort, tree: &InnerNode, key: Key, height: u64, of: &impl Debug) {
-    expect_same(rt, &tree.key(), &range(rt, key), of);
-    expect_same(rt, &tree.height(), &height, of);
+    expect_eq(rt, &tree.key(), &range(rt, key), of);
+    expect_eq(rt, &tree.height(), &height, of);
 }
 
 /// The key that contains another one.
@@ -159,7 +159,7 @@ fn test_search(rt: HostRuntime) {
         ((0x200, 0x250), None),
         ((0x111, 0x1FE), None),
     ] {
-        expect_same(&rt, &found(&rt, &tree, key), &want, &key);
+        expect_eq(&rt, &found(&rt, &tree, key), &want, &key);
     }
 }
 
@@ -178,7 +178,7 @@ fn test_search_superset(rt: HostRuntime) {
         ((0x300, 0x301), None),
         ((0x1FF, 0x300), None),
     ] {
-        expect_same(&rt, &superset(&rt, &tree, key), &want, &key);
+        expect_eq(&rt, &superset(&rt, &tree, key), &want, &key);
     }
 }
 
@@ -195,7 +195,7 @@ fn test_tree_insert_balanced(rt: HostRuntime) {
     let _ = tree.height();
     let tree = InnerNode::delete_root(tree, &mut Steps::start()).expect(&rt, "four keys are left");
     assert!(rt; is_balanced(&tree));
-    expect_same(&rt, &found(&rt, &tree, first), &None, &first);
+    expect_eq(&rt, &found(&rt, &tree, first), &None, &first);
 
     let keys = [
         (0x100, 0x110),
@@ -240,7 +240,7 @@ fn test_tree_mark_as_allocated_invalid_transition(rt: HostRuntime) {
     let key = range(&rt, key);
     let error = Error::InvalidStateTransition(key, NodeState::Allocated);
     let result = tree.mark_as_allocated(&key, &mut Steps::start());
-    expect_same(&rt, &result, &Err(error), &key);
+    expect_eq(&rt, &result, &Err(error), &key);
 }
 
 #[test]
@@ -249,7 +249,7 @@ fn test_tree_mark_as_allocated_resource_not_available(rt: HostRuntime) {
     for key in [(0x111, 0x112), (0x90, 0x92)] {
         let _ = tree.height();
         let result = tree.mark_as_allocated(&range(&rt, key), &mut Steps::start());
-        expect_same(&rt, &result, &Err(Error::ResourceNotAvailable), &key);
+        expect_eq(&rt, &result, &Err(Error::ResourceNotAvailable), &key);
     }
 }
 
@@ -260,7 +260,7 @@ fn test_tree_mark_as_allocated(rt: HostRuntime) {
     let _ = tree.height();
     expect_leaf(&rt, &tree, key, NodeState::Free);
     let result = tree.mark_as_allocated(&range(&rt, key), &mut Steps::start());
-    expect_same(&rt, &result, &Ok(()), &key);
+    expect_eq(&rt, &result, &Ok(()), &key);
     expect_leaf(&rt, &tree, key, NodeState::Allocated);
 }
 
@@ -295,17 +295,17 @@ fn orders_of_three_keys(rt: HostRuntime) {
 }
 
 #[test]
-fn rising_keys(rt: HostRuntime) {
+fn increasing_keys(rt: HostRuntime) {
     let keys = [(2, 2), (3, 3), (4, 4), (5, 5), (6, 6), (7, 7)];
     let tree = tree_of(&rt, rt.alloc(), (1, 1), &keys);
-    expect_same(&rt, &tree.height(), &3, &"the height");
+    expect_eq(&rt, &tree.height(), &3, &"the height");
     let tree = deleted(&rt, tree, (4, 4));
-    expect_same(&rt, &tree.height(), &3, &"the height without 4");
+    expect_eq(&rt, &tree.height(), &3, &"the height without 4");
     let before = copied(&rt, rt.alloc(), &tree);
     let tree = Some(deleted(&rt, tree, (9, 9)));
     assert!(rt; same(&tree, &before));
     let mut starts = [0; 8];
-    expect_same(&rt, &write_starts(&tree, &mut starts, 0), &6, &"the keys");
+    expect_eq(&rt, &write_starts(&tree, &mut starts, 0), &6, &"the keys");
     assert!(rt; starts == [1, 2, 3, 5, 6, 7, 0, 0]);
 }
 

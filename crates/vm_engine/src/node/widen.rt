@@ -1,7 +1,7 @@
 //! A held block made free and wider, in one way down: what the nodes on the way keep of their trees'
 //! room can only rise, to what the new range has room for. So nothing is left to be done on the way
 //! back, and the recursion is a loop once compiled. What a node keeps is compared before it is
-//! written (`raise_room`), which costs less than to write the greater of the two each time.
+//! written (`raise_free`), which costs less than to write the greater of the two each time.
 //!
 //! Instructions a line at 10^4 ranges as plain Rust with a way back, with one descent for a whole
 //! release, and so: `exact` 2001, 2087, 1891, `devices` 1775, 1742, 1620, `mixed` 2206, 2247, 2105.
@@ -11,45 +11,45 @@ ghost use Rattle.vm_ranges.specs.Range.{MAX};
 ghost use Rattle.vm_engine.specs.Tree.Block.{free_length, free_block};
 ghost use Rattle.vm_engine.specs.Tree.Multiples.{free_alignments};
 ghost use Rattle.vm_engine.specs.Tree.Shape.{blocks, height_of};
-ghost use Rattle.vm_engine.specs.Counts.Ways.{way_to};
+ghost use Rattle.vm_engine.specs.Counts.NodeCounts.{nodes_to};
 ghost use Rattle.vm_engine.specs.Engine.Widening.{CanWiden, Widens};
 ghost use Rattle.vm_engine.specs.Engine.NodeFields.{side};
 
-use super::kept::{Room, raise_room, room_of};
+use super::summary::{FreeSummary, free_summary_of, raise_free};
 use super::{Child, InnerNode};
 use crate::Steps;
-use crate::ends::order;
+use crate::ordering::compare;
 use std::cmp::Ordering;
 use vm_ranges::{NodeState, RangeInclusive};
 
 /// Makes the held block of a key free and gives it a range, which keeps its place in the order, below
 /// the node at a place. `room` is what the range has room for once it is free.
-#[tactic(auto, using(crate::proofs::Releasing::WidenedTrees::widenings, crate::proofs::Counts::WayCases::ways_to))]
+#[tactic(auto, using(crate::proofs::Releasing::WidenedTrees::widenings, crate::proofs::Counts::NodeCountCases::nodes_to_cases))]
 fn widen_at(
     at: &mut Child,
     held: &RangeInclusive,
     range: &RangeInclusive,
-    room: &Room,
+    free: &FreeSummary,
     count: &mut Steps,
 )
     requires can { CanWiden (blocks (side at.old)) held.now range.now }
     requires max_free { room.now.max_free ≡ free_length (free_block range.now) }
-    requires alignments { room.now.alignments ≡ free_alignments (free_block range.now) }
+    requires alignments { free.now.alignments ≡ free_alignments (free_block range.now) }
     requires count_fits { count.old + height_of (side at.old) ≤ MAX }
     ensures widened { Widens (side at.old) held.now range.now (side at.new) }
-    ensures count { count.new ≡ count.old + way_to held.now (side at.old) }
+    ensures count { count.new ≡ count.old + nodes_to held.now (side at.old) }
 {
     let Some(tree) = at else { unreachable!() };
     let tree: &mut InnerNode = tree;
     tree.enter(count);
-    raise_room(&mut tree.max_free, &mut tree.alignments, room);
-    match order(&tree.key, held) {
+    raise_free(&mut tree.max_free, &mut tree.alignments, free);
+    match compare(&tree.key, held) {
         Ordering::Equal => {
             tree.key = *range;
             tree.node_state = NodeState::Free;
         }
-        Ordering::Greater => widen_at(&mut tree.left, held, range, room, count),
-        Ordering::Less => widen_at(&mut tree.right, held, range, room, count),
+        Ordering::Greater => widen_at(&mut tree.left, held, range, free, count),
+        Ordering::Less => widen_at(&mut tree.right, held, range, free, count),
     }
 }
 
@@ -64,8 +64,8 @@ pub(crate) fn widen(
     requires can { CanWiden (blocks (side root.old)) held.now range.now }
     requires count_fits { count.old + height_of (side root.old) ≤ MAX }
     ensures widened { Widens (side root.old) held.now range.now (side root.new) }
-    ensures count { count.new ≡ count.old + way_to held.now (side root.old) }
+    ensures count { count.new ≡ count.old + nodes_to held.now (side root.old) }
 {
-    let room = room_of(range, NodeState::Free);
-    widen_at(root, held, range, &room, count);
+    let free = free_summary_of(range, NodeState::Free);
+    widen_at(root, held, range, &free, count);
 }

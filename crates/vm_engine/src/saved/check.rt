@@ -2,41 +2,41 @@
 //! that is wrong.
 ghost use Rattle.std.specs.Prelude.{◌≡◌, ◌≤◌, ◌+◌, ◌<◌, ◌^◌, IfSome, is_some};
 ghost use Rattle.serde_json.specs.View.{view};
-ghost use Rattle.vm_engine.specs.Checks.NodeChecks.{behind, is_true_height, tree_found, tree_fitting};
+ghost use Rattle.vm_engine.specs.Checks.NodeChecks.{advance, is_correct_height, checked_subtree, checked_tree_of};
 
-use super::node::node_of;
+use super::node::decode_node;
 use crate::node::MAX_HEIGHT;
 use serde_json::Value;
 use vm_ranges::{NodeState, RangeInclusive};
 
 /// Whether a value has a tree with blocks from the start to the end of the space. It takes no memory and
 /// goes down at most 50 levels of the value.
-pub(super) fn has_tree_of(space: &RangeInclusive, value: &Value) -> bool
-    ensures { result ≡ is_some (tree_fitting space.now (view value.now)) }
+pub(super) fn is_tree_of(space: &RangeInclusive, value: &Value) -> bool
+    ensures { result ≡ is_some (checked_tree_of space.now (view value.now)) }
 {
-    let before = Front {
+    let before = Cursor {
         next: space.start().into(),
         before: NodeState::Allocated,
     };
-    let Some(found) = check(value, MAX_HEIGHT, before) else {
+    let Some(found) = check_subtree(value, MAX_HEIGHT, before) else {
         return false;
     };
-    found.front.next == u128::from(space.end()) + 1
+    found.cursor.next == u128::from(space.end()) + 1
 }
 
 /// Where the blocks met so far end.
 #[derive(Clone, Copy)]
-struct Front {
+struct Cursor {
     /// Where the next block has to start.
     next: u128,
     /// The state of the last block.
     before: NodeState,
 }
 
-impl Front {
+impl Cursor {
     /// The front behind one more block, where it may stand there.
-    fn behind(self, key: &RangeInclusive, state: NodeState) -> Option<Front>
-        ensures { result ≡ behind self (record { key = key.now; state = state }) }
+    fn advance(self, key: &RangeInclusive, state: NodeState) -> Option<Cursor>
+        ensures { result ≡ advance self (record { key = key.now; state = state }) }
     {
         let is_free = state == NodeState::Free;
         let second_free = self.before == NodeState::Free && is_free;
@@ -44,7 +44,7 @@ impl Front {
         if u128::from(key.start()) != self.next || second_free || (!is_free && end == u64::MAX) {
             return None;
         }
-        Some(Front {
+        Some(Cursor {
             next: u128::from(end) + 1,
             before: state,
         })
@@ -53,47 +53,47 @@ impl Front {
 
 /// What the check of a tree finds.
 #[derive(Clone, Copy)]
-struct Checked {
+struct CheckedTree {
     /// The height of the tree.
     height: u64,
     /// The front behind its blocks.
-    front: Front,
+    cursor: Cursor,
 }
 
 /// The height of the tree that a value has, and the front behind its blocks. None where it is no tree,
 /// has nodes nested deeper than `depth`, a wrong height, no balance, or a block that may not stand
 /// where it does.
-#[tactic(auto, unfolding(crate::specs::Checks::NodeChecks::tree_found))]
-fn check(value: &Value, depth: u64, front: Front) -> Option<Checked>
-    ensures found { result ≡ tree_found depth (view value.now) front }
+#[tactic(auto, unfolding(crate::specs::Checks::NodeChecks::checked_subtree))]
+fn check_subtree(value: &Value, depth: u64, cursor: Cursor) -> Option<CheckedTree>
+    ensures found { result ≡ checked_subtree depth (view value.now) cursor }
     ensures not_deeper { IfSome result (λ found. found.height ≤ depth) }
 {
     if value.is_null() {
-        return Some(Checked { height: 0, front });
+        return Some(CheckedTree { height: 0, cursor });
     }
     if depth == 0 {
         return None;
     }
-    let Some(node) = node_of(value) else {
+    let Some(node) = decode_node(value) else {
         return None;
     };
-    let left = check(node.left, depth - 1, front)?;
-    let middle = left.front.behind(&node.key, node.state)?;
-    let right = check(node.right, depth - 1, middle)?;
-    if !is_true_height(left.height, right.height, node.height) {
+    let left = check_subtree(node.left, depth - 1, cursor)?;
+    let middle = left.cursor.advance(&node.key, node.state)?;
+    let right = check_subtree(node.right, depth - 1, middle)?;
+    if !is_correct_height(left.height, right.height, node.height) {
         return None;
     }
-    Some(Checked {
+    Some(CheckedTree {
         height: node.height,
-        front: right.front,
+        cursor: right.cursor,
     })
 }
 
 /// Whether a node has this height over children of heights that are close.
-fn is_true_height(left: u64, right: u64, height: u64) -> bool
+fn is_correct_height(left: u64, right: u64, height: u64) -> bool
     requires left_fits { left + 1 < 2 ^ 64 }
     requires right_fits { right + 1 < 2 ^ 64 }
-    ensures { result ≡ is_true_height left right height }
+    ensures { result ≡ is_correct_height left right height }
 {
     left <= right + 1 && right <= left + 1 && height == left.max(right) + 1
 }

@@ -3,8 +3,8 @@
 ghost use Rattle.std.specs.Prelude.{◌≡◌, IfOk, option_map};
 ghost use Rattle.serde_json.specs.View.{view};
 ghost use Rattle.vm_ranges.specs.Saving.{Saves};
-ghost use Rattle.vm_engine.specs.Values.TreeValues.{StatesNode};
-ghost use Rattle.vm_engine.specs.Checks.NodeChecks.{NodeParts, node_data};
+ghost use Rattle.vm_engine.specs.Values.TreeValues.{EncodesNode};
+ghost use Rattle.vm_engine.specs.Checks.NodeChecks.{NodeParts, decoded_node};
 
 use serde_json::{Value, json};
 use std::alloc::{AllocError, Global};
@@ -36,13 +36,13 @@ pub struct SavedNode<'a> {
 }
 
 /// The fields of a node's value, where it has these and no others.
-pub fn node_of(value: &Value) -> Option<SavedNode<'_>>
+pub fn decode_node(value: &Value) -> Option<SavedNode<'_>>
     ensures { option_map (λ n. record {
       block = record { key = n.key; state = n.state };
       height = n.height;
       left = view n.left.now;
       right = view n.right.now;
-    }) result ≡ node_data (view value.now) }
+    }) result ≡ decoded_node (view value.now) }
 {
     if !has_fields(value, 5) {
         return None;
@@ -59,7 +59,7 @@ pub fn node_of(value: &Value) -> Option<SavedNode<'_>>
 /// The value of a node over the values of its children. `OutOfMemory` where there is no memory for it.
 #[inline(always)]
 #[tactic(auto, using(crate::proofs::Reading::Writing::parts))]
-pub(crate) fn save_node(
+pub(crate) fn encode_node(
     mut left: Value,
     key: &RangeInclusive,
     node_state: NodeState,
@@ -68,17 +68,17 @@ pub(crate) fn save_node(
     alloc: Global,
 ) -> Result<Value>
     ensures { Saves
-        (λ d. StatesNode d (record { key = key.now; state = node_state }) (λ v. v ≡ view left) (λ v. v ≡ view right) height)
+        (λ d. EncodesNode d (record { key = key.now; state = node_state }) (λ v. v ≡ view left) (λ v. v ≡ view right) height)
         result }
 {
     let mut key = key.to_value(alloc)?;
     let mut state = node_state.to_value(alloc)?;
-    Ok(put_together(alloc, &mut key, &mut state, &mut left, &mut right, height)?)
+    Ok(node_object(alloc, &mut key, &mut state, &mut left, &mut right, height)?)
 }
 
 /// The object of a node's fields. It takes their values from where they stand: so a refusal has none of
 /// them to give back, and less is to be proved.
-fn put_together(
+fn node_object(
     alloc: Global,
     key: &mut Value,
     state: &mut Value,

@@ -5,15 +5,15 @@ ghost use Rattle.vm_engine.specs.Engine.NodeFields.{side};
 ghost use Rattle.vm_ranges.specs.Saving.{Saves, Reads};
 ghost use Rattle.vm_engine.specs.Tree.Shape.{blocks};
 ghost use Rattle.vm_engine.specs.Tree.SpaceTree.{space_of};
-ghost use Rattle.vm_engine.specs.Values.TreeValues.{StatesShape, StatesSpaceTree};
+ghost use Rattle.vm_engine.specs.Values.TreeValues.{EncodesShape, EncodesSpaceTree};
 ghost use Rattle.vm_engine.specs.Checks.ValueParts.{HasShapeWithin};
 
 use crate::IntervalTree;
-use crate::ends::known;
-use crate::node::walks::saving::save;
+use crate::node::walks::encoding::encode;
 use crate::node::{Child, InnerNode, MAX_HEIGHT};
-use crate::saved::check::has_tree_of;
-use crate::saved::node::node_of;
+use crate::ordering::recall_invariant;
+use crate::saved::check::is_tree_of;
+use crate::saved::node::decode_node;
 use serde_json::Value;
 use std::alloc::{AllocError, Global};
 use vm_ranges::{RangeInclusive, Result, ValueError};
@@ -22,9 +22,9 @@ impl IntervalTree {
     /// The value that states the tree, node for node. `OutOfMemory` where there is no memory for it.
     #[tactic(auto, using(crate::proofs::Reading::Writing::trees))]
     pub fn to_root_value(&self, alloc: Global) -> Result<Value>
-        ensures { Saves (λ d. StatesSpaceTree d (space_of (blocks self.now)) self.now) result }
+        ensures { Saves (λ d. EncodesSpaceTree d (space_of (blocks self.now)) self.now) result }
     {
-        save(&self.root, alloc)
+        encode(&self.root, alloc)
     }
 
     /// The tree of the space that a value states, of the same nodes. `NotAState` where it states none,
@@ -35,10 +35,10 @@ impl IntervalTree {
         space: &RangeInclusive,
         value: &Value,
     ) -> std::result::Result<Self, ValueError>
-        ensures { Reads (StatesSpaceTree (view value.now) space.now) result }
+        ensures { Reads (EncodesSpaceTree (view value.now) space.now) result }
     {
-        known(space);
-        if !has_tree_of(space, value) {
+        recall_invariant(space);
+        if !is_tree_of(space, value) {
             return Err(ValueError::NotAState);
         }
         let root = build(value, MAX_HEIGHT, alloc)?;
@@ -50,9 +50,9 @@ impl IntervalTree {
 /// them; those that were made are given back then.
 fn build(value: &Value, depth: u64, alloc: Global) -> std::result::Result<Child, AllocError>
     requires { HasShapeWithin depth (view value.now) }
-    ensures { IfOk result (λ tree. StatesShape (view value.now) (side tree)) }
+    ensures { IfOk result (λ tree. EncodesShape (view value.now) (side tree)) }
 {
-    let Some(node) = node_of(value) else {
+    let Some(node) = decode_node(value) else {
         return Ok(None);
     };
     let left = build(node.left, depth - 1, alloc)?;

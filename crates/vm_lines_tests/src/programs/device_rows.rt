@@ -17,7 +17,7 @@ pub const PROGRAM_DEVICES: Rows = &[
 
 /// Which refusal comes first, that of the id before that of the range; a refused manager keeps the
 /// old one.
-pub const REFUSALS_OF_DEVICES: Rows = &[
+pub const ERRORS_OF_DEVICES: Rows = &[
     ("undevice 0", "error no-manager"),
     ("device 0 3", "error no-manager"),
     ("undevice 4294967296", "error line"),

@@ -60,7 +60,7 @@ pub const WORDS_AND_NUMBERS: Rows = &[
 ];
 
 /// Which refusal comes first; a refused space keeps the old one.
-pub const REFUSALS_IN_ORDER: Rows = &[
+pub const ERRORS_IN_ORDER: Rows = &[
     ("free 2 1", "error no-space"),
     ("first 0 3", "error no-space"),
     ("free 2 1 0", "error line"),
@@ -88,7 +88,7 @@ pub const REFUSALS_IN_ORDER: Rows = &[
 ];
 
 /// Each refusal of a line on a space.
-pub const PROGRAM_REFUSALS: Rows = &[
+pub const PROGRAM_ERRORS: Rows = &[
     ("space 0 0", "error underflow"),
     ("space 18446744073709551615 2", "error overflow"),
     ("space 4096 4096", "done"),
@@ -163,7 +163,7 @@ pub const PROGRAM_IDS: Rows = &[
 ];
 
 /// Which refusal comes first; refused ids keep the old ones.
-pub const REFUSALS_OF_IDS: Rows = &[
+pub const ERRORS_OF_IDS: Rows = &[
     ("id 1", "error line"),
     ("unid", "error line"),
     ("has", "error line"),

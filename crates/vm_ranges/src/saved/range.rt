@@ -2,7 +2,7 @@
 ghost use Rattle.std.specs.Prelude.{◌≡◌, ◌≢◌, IfErr, option_and_then};
 ghost use Rattle.serde_json.specs.View.{view};
 ghost use Rattle.serde_json.specs.Find.{get};
-ghost use Rattle.vm_ranges.specs.RangeValues.{StatesRange, range_found};
+ghost use Rattle.vm_ranges.specs.RangeValues.{EncodesRange, decoded_range};
 ghost use Rattle.vm_ranges.specs.Saving.{Saves, Reads};
 
 use crate::error::Result;
@@ -18,7 +18,7 @@ impl RangeInclusive {
     /// memory for it.
     #[tactic(auto)]
     pub fn to_value(&self, alloc: Global) -> Result<Value>
-        ensures { Saves (λ d. StatesRange d self.now) result }
+        ensures { Saves (λ d. EncodesRange d self.now) result }
     {
         Ok(json!(in alloc; {"start": self.start(), "end": self.end()})?)
     }
@@ -26,16 +26,16 @@ impl RangeInclusive {
     /// The range that a value states. `NotAState` where it states none. It takes no memory.
     #[tactic(auto, using(crate::proofs::ReadRanges::read))]
     pub fn from_value(_alloc: Global, value: &Value) -> std::result::Result<Self, ValueError>
-        ensures answer { Reads (StatesRange (view value.now)) result }
+        ensures answer { Reads (EncodesRange (view value.now)) result }
         ensures no_memory { IfErr result (λ error. error ≢ ValueError.OutOfMemory) }
     {
-        RangeInclusive::stated_by(value).ok_or(ValueError::NotAState)
+        RangeInclusive::decode(value).ok_or(ValueError::NotAState)
     }
 
     /// The range that a value states.
     #[tactic(auto, using(crate::proofs::ReadRanges::made))]
-    fn stated_by(value: &Value) -> Option<RangeInclusive>
-        ensures { result ≡ range_found (view value.now) }
+    fn decode(value: &Value) -> Option<RangeInclusive>
+        ensures { result ≡ decoded_range (view value.now) }
     {
         if !has_fields(value, 2) {
             return None;
@@ -48,7 +48,7 @@ impl RangeInclusive {
 
 /// The range in a field.
 pub fn range_in(value: &Value, name: &str) -> Option<RangeInclusive>
-    ensures { result ≡ option_and_then range_found (get name.now (view value.now)) }
+    ensures { result ≡ option_and_then decoded_range (get name.now (view value.now)) }
 {
-    RangeInclusive::stated_by(value.get(name)?)
+    RangeInclusive::decode(value.get(name)?)
 }

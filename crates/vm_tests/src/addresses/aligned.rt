@@ -30,8 +30,8 @@ struct Row {
     freed: Stretch,
     size: u64,
     alignment: u64,
-    first: Want,
-    last: Want,
+    first: Expected,
+    last: Expected,
     /// The most nodes for each level of the tree, and the most besides.
     most: (u64, u64),
 }
@@ -47,7 +47,7 @@ impl Stretch {
             } else {
                 Free(start, end)
             };
-            expect_same(rt, &ask_again(rt, space, call), &Ok((start, end)), &call);
+            expect_eq(rt, &call_again(rt, space, call), &Ok((start, end)), &call);
         }
     }
 }
@@ -69,7 +69,7 @@ impl Row {
         rt: &(impl Abort + AllocGlobal),
         space: &mut AddressAllocator,
         call: Call,
-        want: Want,
+        want: Expected,
     ) {
         let levels = self.most.0.saturating_mul(space.height());
         let most = levels.saturating_add(self.most.1);

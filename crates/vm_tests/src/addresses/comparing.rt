@@ -1,13 +1,13 @@
 //! Equality, order and clones, and what is held.
 use super::*;
-use crate::fixtures::{balance, holds_just, saved};
+use crate::fixtures::{balance, holds_exactly, saved};
 use std::cmp::Ordering;
 
 /// The allocator that the calls lead to.
 fn reached(rt: &(impl Abort + AllocGlobal), calls: &[Call]) -> AddressAllocator {
     let mut space = made(rt, 0, 1);
     for call in calls {
-        expect_so(rt, ask(rt, &mut space, *call).is_ok(), call);
+        expect_true(rt, ask(rt, &mut space, *call).is_ok(), call);
     }
     space
 }
@@ -44,12 +44,12 @@ fn compare_so(first: &AddressAllocator, second: &AddressAllocator, want: Orderin
 
 /// The two allocators that calls lead to compare so.
 fn expect_order(rt: &(impl Abort + AllocGlobal), first: &[Call], second: &[Call], want: Ordering) {
-    let is_so = compare_so(&reached(rt, first), &reached(rt, second), want);
-    expect_so(rt, is_so, &want);
+    let is_true = compare_so(&reached(rt, first), &reached(rt, second), want);
+    expect_true(rt, is_true, &want);
 }
 
 #[test]
-fn compared_by_state(rt: HostRuntime) {
+fn compares_by_state(rt: HostRuntime) {
     let fresh = &[Space(0, 16)];
     let front_held = &[Space(0, 16), Exact(4, 1, 0)];
     let all_held = &[Space(0, 16), Exact(16, 1, 0)];
@@ -62,10 +62,14 @@ fn compared_by_state(rt: HostRuntime) {
 /// The allocator that the calls lead to holds [1, 1] and [6, 6], and next the four between them.
 fn expect_two_held(rt: &(impl Abort + AllocGlobal), calls: &[Call]) {
     let mut space = reached(rt, calls);
-    expect_so(rt, holds_just(&space, &[(1, 1), (6, 6)]), &"two are held");
+    expect_true(
+        rt,
+        holds_exactly(&space, &[(1, 1), (6, 6)]),
+        &"two are held",
+    );
     replay(rt, &mut space, &[(First(4, 1), Range(2, 5))]);
-    let three_held = holds_just(&space, &[(1, 1), (2, 5), (6, 6)]);
-    expect_so(rt, three_held, &"three are held");
+    let three_held = holds_exactly(&space, &[(1, 1), (2, 5), (6, 6)]);
+    expect_true(rt, three_held, &"three are held");
 }
 
 #[test]
@@ -89,24 +93,28 @@ fn clone_or_refuse(
     space: &AddressAllocator,
     before: &AddressAllocator,
 ) {
-    let is_so = match space.try_clone(rt.alloc()) {
+    let is_true = match space.try_clone(rt.alloc()) {
         Ok(clone) => are_same(rt, &clone, space),
         Err(Error::OutOfMemory) => space == before,
         Err(_) => false,
     };
-    expect_so(rt, is_so, &"a whole clone or none");
+    expect_true(rt, is_true, &"a whole clone or none");
 }
 
 /// A clone is an allocator of its own.
 fn clone_and_change(rt: &(impl Abort + AllocGlobal), space: &mut AddressAllocator) {
     let before = cloned(rt, space);
-    expect_so(rt, before == *space, &"a clone");
+    expect_true(rt, before == *space, &"a clone");
     replay(rt, space, &[(First(4, 1), Range(2, 5))]);
-    expect_so(rt, holds_just(&before, &[(1, 1), (6, 6)]), &"two are held");
+    expect_true(
+        rt,
+        holds_exactly(&before, &[(1, 1), (6, 6)]),
+        &"two are held",
+    );
 }
 
 #[test]
-fn cloned_whole_or_not_at_all(rt: HostRuntime) {
+fn cloned_or_unchanged(rt: HostRuntime) {
     let mut space = reached(&rt, &ALL_BUT_TWO);
     let before = reached(&rt, &ALL_BUT_TWO);
     balance(rt.alloc());

@@ -6,7 +6,7 @@ use Row::{Ask, Count, Holds};
 /// A call with the answer that it has to have, or what has to be so in between.
 #[derive(Clone, Copy)]
 enum Row {
-    Ask(Call, Want),
+    Ask(Call, Expected),
     /// The first and the last address of a range, and whether it is held.
     Holds(u64, u64, bool),
     /// How many ranges are held.
@@ -69,9 +69,9 @@ fn held_or_not(rt: HostRuntime) {
             Ask(call, want) => replay(&rt, &mut space, &[(call, want)]),
             Holds(start, end, want) => {
                 let range = range(&rt, start, end);
-                expect_same(&rt, &space.holds(&range), &want, &range);
+                expect_eq(&rt, &space.holds(&range), &want, &range);
             }
-            Count(want) => expect_same(&rt, &space.held_count(), &want, &number),
+            Count(want) => expect_eq(&rt, &space.held_count(), &want, &number),
         }
     }
 }

@@ -14,7 +14,7 @@ fn call_of(call: plain::Call) -> Call {
 }
 
 /// What the allocator has to answer then.
-fn want_of(call: plain::Call, answer: plain::Answer) -> Want {
+fn want_of(call: plain::Call, answer: plain::Answer) -> Expected {
     match (answer, call) {
         (plain::Answer::Done, plain::Call::Free(start, end)) => Range(start, end),
         (plain::Answer::Range(start, end), _) => Range(start, end),
@@ -32,9 +32,9 @@ fn placed(rt: &(impl Abort + AllocGlobal), addresses: &Addresses) -> AddressAllo
         let (start, end) = range.expect(rt, "as many ranges are held");
         let size = end.saturating_sub(start).saturating_add(1);
         let call = Exact(size, 1, start);
-        expect_same(
+        expect_eq(
             rt,
-            &ask_again(rt, &mut space, call),
+            &call_again(rt, &mut space, call),
             &Ok((start, end)),
             &call,
         );
@@ -50,7 +50,7 @@ fn expect_alike(
     number: u64,
 ) {
     let is_alike = *space == placed(rt, addresses);
-    expect_so(rt, is_alike, &("alike at call", number));
+    expect_true(rt, is_alike, &("alike at call", number));
 }
 
 #[test]
@@ -67,7 +67,7 @@ fn long_run(rt: HostRuntime) {
             expect_alike(&rt, &space, &addresses, number);
             answer = call.ask(&mut space, rt.alloc(), Plain);
         }
-        expect_same(&rt, &answer, &want.answer(), &(number, call));
+        expect_eq(&rt, &answer, &want.answer(), &(number, call));
         addresses.change(asked, found);
         if number % 100 == 0 {
             expect_alike(&rt, &space, &addresses, number);

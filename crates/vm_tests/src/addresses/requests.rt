@@ -1,10 +1,10 @@
 //! How often each call asks for memory: making an allocator once, a split once for each part of its gap
 //! that is left over, and any other of these never. tests/refused_memory counts.
 use super::*;
-use crate::fixtures::{count_requests, expect_requests};
+use crate::fixtures::{count_allocations, expect_allocations};
 
 /// Calls with their answers, and how many requests each makes.
-const ROWS: [(Call, Want, usize); 22] = [
+const ROWS: [(Call, Expected, usize); 22] = [
     (Space(0, 64), Range(0, 63), 1),
     // What is left over is behind, before, and on both sides.
     (First(4, 1), Range(0, 3), 1),
@@ -33,32 +33,32 @@ const ROWS: [(Call, Want, usize); 22] = [
 ];
 
 /// Does a call, which has to have this answer and to make so many requests.
-fn ask_counting(
+fn call_and_count(
     rt: &(impl Abort + AllocGlobal),
     space: &mut AddressAllocator,
     form: Form,
-    row: &(Call, Want, usize),
+    row: &(Call, Expected, usize),
 ) {
     let (call, want, requests) = *row;
-    count_requests(rt.alloc());
+    count_allocations(rt.alloc());
     let mut answer = call.ask(space, rt.alloc(), form);
-    expect_requests(rt.alloc(), requests);
+    expect_allocations(rt.alloc(), requests);
     if let Err(Error::OutOfMemory) = answer {
         answer = call.ask(space, rt.alloc(), form);
     }
-    expect_same(rt, &answer, &want.answer(), &call);
+    expect_eq(rt, &answer, &want.answer(), &call);
 }
 
 /// Does all the calls.
-fn ask_all(rt: &(impl Abort + AllocGlobal), form: Form) {
+fn call_all(rt: &(impl Abort + AllocGlobal), form: Form) {
     let mut space = made(rt, 0, 1);
     for row in &ROWS {
-        ask_counting(rt, &mut space, form, row);
+        call_and_count(rt, &mut space, form, row);
     }
 }
 
 #[test]
-fn requests_of_each_call(rt: HostRuntime) {
-    ask_all(&rt, Plain);
-    ask_all(&rt, Counted);
+fn allocations_of_each_call(rt: HostRuntime) {
+    call_all(&rt, Plain);
+    call_all(&rt, Counted);
 }

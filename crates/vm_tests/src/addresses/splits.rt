@@ -18,5 +18,5 @@ fn splits_by_each_policy(rt: HostRuntime) {
     replay(&rt, &mut space, rows);
     let is_split = space.height() == 2 && block_count(&rt, &space) == 3;
     let one_held = space.held_count() == 1 && is_low(&space, 1);
-    expect_so(&rt, is_split && one_held, &"one is held, in three blocks");
+    expect_true(&rt, is_split && one_held, &"one is held, in three blocks");
 }

@@ -1,6 +1,6 @@
-//! What asks for no memory. tests/refused_memory refuses every request after `end_of_memory`.
+//! What asks for no memory. tests/refused_memory refuses every request after `fail_from_here`.
 use super::*;
-use crate::fixtures::{end_of_memory, holds_just, range};
+use crate::fixtures::{fail_from_here, holds_exactly, range};
 use std::cmp::Ordering;
 
 /// Does the calls in turn, each with the answer that it has to have, memory or not.
@@ -8,11 +8,11 @@ fn replay(
     rt: &(impl Abort + AllocGlobal),
     space: &mut AddressAllocator,
     form: Form,
-    rows: &[(Call, Want)],
+    rows: &[(Call, Expected)],
 ) {
     for (call, want) in rows {
         let answer = call.ask(space, rt.alloc(), form);
-        expect_same(rt, &answer, &want.answer(), call);
+        expect_eq(rt, &answer, &want.answer(), call);
     }
 }
 
@@ -31,22 +31,22 @@ fn three_held(rt: &(impl Abort + AllocGlobal)) -> AddressAllocator {
 /// A split, which asks for memory once: what a run without memory is known by.
 fn split(rt: &(impl Abort + AllocGlobal), space: &mut AddressAllocator) {
     let answer = First(1, 1).ask(space, rt.alloc(), Plain);
-    let is_so = match &answer {
+    let is_true = match &answer {
         Ok(ends) => *ends == (0, 0),
         Err(Error::OutOfMemory) => true,
         Err(_) => false,
     };
-    expect_so(rt, is_so, &answer);
+    expect_true(rt, is_true, &answer);
 }
 
 /// The calls that only read: two allocators are equal, and hold these three ranges.
 fn look_up(rt: &impl Abort, space: &AddressAllocator, other: &AddressAllocator) {
     let are_equal = space == other && space.cmp(other) == Ordering::Equal;
-    expect_so(rt, are_equal, &"both are equal");
-    let are_held = holds_just(space, &[(2, 3), (6, 7), (10, 11)]);
-    expect_so(rt, are_held, &"these three are held");
+    expect_true(rt, are_equal, &"both are equal");
+    let are_held = holds_exactly(space, &[(2, 3), (6, 7), (10, 11)]);
+    expect_true(rt, are_held, &"these three are held");
     let is_whole = space.holds(&range(rt, 6, 7)) && !space.holds(&range(rt, 6, 6));
-    expect_so(rt, is_whole && space.held_count() == 3, &"three whole ones");
+    expect_true(rt, is_whole && space.held_count() == 3, &"three whole ones");
 }
 
 /// Fills the space of three held ranges, and gives all back.
@@ -67,14 +67,14 @@ fn fill(rt: &(impl Abort + AllocGlobal), space: &mut AddressAllocator, form: For
     ];
     replay(rt, space, form, rows);
     let is_whole = space.base() == 0 && space.end() == 15 && space.height() == 1;
-    expect_so(rt, is_whole, &"one clear block");
+    expect_true(rt, is_whole, &"one clear block");
 }
 
 #[test]
 fn filled_and_given_back(rt: HostRuntime) {
     let mut plain = three_held(&rt);
     let mut counted = three_held(&rt);
-    end_of_memory(rt.alloc());
+    fail_from_here(rt.alloc());
     look_up(&rt, &plain, &counted);
     fill(&rt, &mut plain, Plain);
     fill(&rt, &mut counted, Counted);
@@ -108,7 +108,7 @@ fn refused(rt: HostRuntime) {
         (Exact(2, 1, LAST), Overflow),
         (First(16, 1), Overflow),
     ];
-    end_of_memory(rt.alloc());
+    fail_from_here(rt.alloc());
     replay(&rt, &mut space, Plain, rows);
     replay(&rt, &mut highest, Plain, ending_at_max);
     replay(&rt, &mut space, Counted, rows);

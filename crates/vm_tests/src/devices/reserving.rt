@@ -7,7 +7,7 @@ fn replay_in(
     ids: (u32, u32),
     base: u64,
     size: u64,
-    rows: &[(Call, Want)],
+    rows: &[(Call, Expected)],
 ) {
     replay(rt, &mut made(rt, ids, base, size), rows);
 }
@@ -78,7 +78,7 @@ fn memory_for_each_device(rt: HostRuntime) {
         reserve_sixteen(&rt, &mut devices, id, u64::from(id) * 16);
     }
     for id in 0..15u32 {
-        ask_again(&rt, &mut devices, Release(id * 2), Gone);
+        call_again(&rt, &mut devices, Release(id * 2), Gone);
     }
     for id in 0..15u32 {
         reserve_sixteen(&rt, &mut devices, id * 2, u64::from(id) * 32);

@@ -61,12 +61,12 @@ fn read_good(rt: &(impl Abort + AllocGlobal), value: &Value) -> DeviceManager {
 
 /// Reads a value: its second device has the last 2,048 addresses, or memory is refused.
 fn read_or_refuse(rt: &(impl Abort + AllocGlobal), value: &Value) {
-    let is_so = match DeviceManager::from_value(rt.alloc(), value) {
+    let is_true = match DeviceManager::from_value(rt.alloc(), value) {
         Ok(devices) => look_up(&devices, 1) == Some((1, 6144, 8191)),
         Err(ValueError::OutOfMemory) => true,
         Err(_) => false,
     };
-    expect_so(rt, is_so, &"both devices or none");
+    expect_true(rt, is_true, &"both devices or none");
 }
 
 #[test]
@@ -100,10 +100,10 @@ fn devices_written_and_read(rt: HostRuntime) {
 }
 
 /// A text states a manager, of which the same is written, and which answers these calls.
-fn expect_manager(rt: &(impl Abort + AllocGlobal), text: &str, rows: &[(Call, Want)]) {
+fn expect_manager(rt: &(impl Abort + AllocGlobal), text: &str, rows: &[(Call, Expected)]) {
     let value = parsed(rt, text);
     let mut devices = read_good(rt, &value);
-    expect_so(rt, saved_devices(rt, &devices) == value, &text);
+    expect_true(rt, saved_devices(rt, &devices) == value, &text);
     replay(rt, &mut devices, rows);
 }
 
@@ -144,6 +144,6 @@ fn memory_for_twelve_devices(rt: HostRuntime) {
         reserve_sixteen(&rt, &mut devices, id, u64::from(id) * 16);
         devices = read_good(&rt, &saved_devices(&rt, &devices));
     }
-    ask_again(&rt, &mut devices, LookUp(11), Device(11, 176, 191));
-    ask_again(&rt, &mut devices, First(16, 16), NotAvailable);
+    call_again(&rt, &mut devices, LookUp(11), Device(11, 176, 191));
+    call_again(&rt, &mut devices, First(16, 16), NotAvailable);
 }

@@ -1,25 +1,25 @@
 //! What asks for no memory, run with every request refused.
 use super::*;
-use crate::fixtures::end_of_memory;
+use crate::fixtures::fail_from_here;
 
 /// Calls that ask for no memory, each with the answer that it has to have.
 fn replay_refused(
     rt: &(impl Abort + AllocGlobal),
     devices: &mut DeviceManager,
-    rows: &[(Call, Want)],
+    rows: &[(Call, Expected)],
 ) {
     for (call, want) in rows {
-        expect_same(rt, &call.ask(devices, rt.alloc()), &want.answer(), call);
+        expect_eq(rt, &call.ask(devices, rt.alloc()), &want.answer(), call);
     }
 }
 
 /// Giving an id back for the first time asks for memory: what a run without memory is known by.
 fn release_first(rt: &impl Abort, devices: &mut DeviceManager) {
-    let is_so = match devices.release(0) {
+    let is_true = match devices.release(0) {
         Ok(()) | Err(Error::OutOfMemory) => true,
         Err(_) => false,
     };
-    expect_so(rt, is_so, &"a release");
+    expect_true(rt, is_true, &"a release");
 }
 
 #[test]
@@ -35,7 +35,7 @@ fn looked_up_or_refused(rt: HostRuntime) {
         (Exact(4, 4, 0x1801), Unaligned),
         (Release(1), NeverAllocated(1)),
     ];
-    end_of_memory(rt.alloc());
+    fail_from_here(rt.alloc());
     replay_refused(&rt, &mut devices, rows);
     expect_no_manager(&rt, (2, 1), 0, 0, Error::InvalidRange(2, 1));
     release_first(&rt, &mut devices);

@@ -56,7 +56,7 @@ fn one_range_held(rt: HostRuntime) {
     expect_written(&rt, &one_held(&rt), ONE_HELD);
     let all_held = parsed(&rt, ALL_HELD);
     let full = read(&rt, &all_held).expect(&rt, ALL_HELD);
-    assert!(rt; holds_just(&full, &[(0, 1279), (1280, 1535), (1536, 4095)]));
+    assert!(rt; holds_exactly(&full, &[(0, 1279), (1280, 1535), (1536, 4095)]));
     assert!(rt; saved(&rt, &full) == all_held);
 }
 
@@ -104,7 +104,7 @@ fn blocks_that_are_none_of_a_space(rt: HostRuntime) {
 }
 
 #[test]
-fn by_way_of_a_text(rt: HostRuntime) {
+fn through_a_text(rt: HostRuntime) {
     let space = one_held(&rt);
     let value = saved(&rt, &space);
     let text = text_of(&rt, &value);
@@ -147,7 +147,7 @@ fn ranges_and_states(rt: HostRuntime) {
     let value = saved_range(&rt, &range);
     assert!(rt; value == parsed(&rt, r#"{"start":16,"end":19}"#));
     let again = RangeInclusive::from_value(rt.alloc(), &value);
-    expect_same(&rt, &again, &Ok(range), &"range");
+    expect_eq(&rt, &again, &Ok(range), &"range");
     for (state, text) in [
         (NodeState::Free, r#""Free""#),
         (NodeState::Allocated, r#""Allocated""#),
@@ -155,6 +155,6 @@ fn ranges_and_states(rt: HostRuntime) {
         let value = saved_state(&rt, state);
         assert!(rt; value == parsed(&rt, text));
         let again = NodeState::from_value(rt.alloc(), &value);
-        expect_same(&rt, &again, &Ok(state), &text);
+        expect_eq(&rt, &again, &Ok(state), &text);
     }
 }

@@ -135,11 +135,11 @@ fn damage_field(
     let name = field.name;
     let without = accepts_without(rt, asked, field);
     let doubled = accepts_doubled(rt, asked, field);
-    expect_same(rt, &(without, doubled), &(false, false), &name);
+    expect_eq(rt, &(without, doubled), &(false, false), &name);
     for new in REPLACEMENTS {
         let want = new == field.value.trim() || is_accepted(accepted, name, new);
         let answer = accepts_with(rt, asked, field, new);
-        expect_same(rt, &answer, &want, &(name, new));
+        expect_eq(rt, &answer, &want, &(name, new));
     }
 }
 

@@ -30,8 +30,8 @@ const NO_STATES: &str = r#"["free", "Free ", "", ["Free"], {"Free":null}, 0, fal
 
 #[test]
 fn no_whole_numbers(rt: HostRuntime) {
-    refuse_each(&rt, Reader::Range, &parsed(&rt, NO_RANGES));
-    refuse_each(&rt, Reader::State, &parsed(&rt, NO_STATES));
+    reject_each(&rt, Reader::Range, &parsed(&rt, NO_RANGES));
+    reject_each(&rt, Reader::State, &parsed(&rt, NO_STATES));
 }
 
 /// What the reader of texts makes of a field that stands twice is its own; the value has one of them.

@@ -1,6 +1,6 @@
 //! Id allocators.
 use super::*;
-use crate::fixtures::{count_requests, expect_refused, expect_requests, items};
+use crate::fixtures::{count_allocations, expect_allocations, expect_refused, items};
 
 #[test]
 fn read_ones(rt: HostRuntime) {
@@ -28,7 +28,7 @@ fn read_ones(rt: HostRuntime) {
             ids.is_allocated(held - 1) || ids.is_allocated(held.wrapping_add(1)),
             ids.peek_id().ok(),
         );
-        expect_same(&rt, &answers, &(true, false, next), &text);
+        expect_eq(&rt, &answers, &(true, false, next), &text);
         assert!(rt; saved_ids(&rt, &ids) == value);
     }
 }
@@ -51,9 +51,9 @@ const NO_IDS: &str = r#"[
 fn refused_ones(rt: HostRuntime) {
     let list = parsed(&rt, NO_IDS);
     for value in items(&rt, &list) {
-        count_requests(rt.alloc());
+        count_allocations(rt.alloc());
         expect_refused(&rt, Reader::Ids, value, &NO_IDS);
-        expect_requests(rt.alloc(), 0);
+        expect_allocations(rt.alloc(), 0);
     }
 }
 
@@ -71,6 +71,6 @@ fn written_and_read(rt: HostRuntime) {
     assert!(rt; value == parsed(&rt, text));
     let mut again = read_ids(&rt, &value).expect(&rt, text);
     for id in [6, 9, 12, 13] {
-        expect_same(&rt, &again.allocate_id(), &Ok(id), &"again");
+        expect_eq(&rt, &again.allocate_id(), &Ok(id), &"again");
     }
 }

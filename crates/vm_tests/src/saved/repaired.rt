@@ -33,7 +33,7 @@ pub(super) fn assert_repaired(rt: &(impl Abort + AllocGlobal), text: &str, want:
 }
 
 #[test]
-fn repaired_as_stated(rt: HostRuntime) {
+fn repaired_as_encoded(rt: HostRuntime) {
     for (text, want) in [
         // A tree that was lost; two free neighbours; a gap on each side of a key, and a wrong height.
         (
@@ -98,7 +98,7 @@ fn repaired_to_blocks(rt: HostRuntime) {
     let space = read_repaired(&rt, &parsed(&rt, ONE_BETWEEN_GAPS));
     let space = space.expect(&rt, ONE_BETWEEN_GAPS);
     let counts = (block_count(&rt, &space), space.height());
-    expect_same(&rt, &counts, &(3, 2), &"blocks and height");
+    expect_eq(&rt, &counts, &(3, 2), &"blocks and height");
 }
 
 /// A held node with a wrong height.

@@ -234,9 +234,9 @@ fn expect_held(
     first: &[(u64, u64)],
     text: &str,
 ) {
-    expect_same(rt, &space.held_count(), &count, &text);
+    expect_eq(rt, &space.held_count(), &count, &text);
     for (held, want) in space.held_ranges().zip(first) {
-        expect_same(rt, &(held.start(), held.end()), want, &text);
+        expect_eq(rt, &(held.start(), held.end()), want, &text);
     }
 }
 
@@ -293,7 +293,7 @@ fn ids_of_the_other_crate(rt: HostRuntime) {
     let ids = read_ids(&rt, &value).expect(&rt, IDS);
     for id in 0..32 {
         let held = [5, 7, 8, 10, 11].contains(&id);
-        expect_same(&rt, &ids.is_allocated(id), &held, &id);
+        expect_eq(&rt, &ids.is_allocated(id), &held, &id);
     }
     assert!(rt; saved_ids(&rt, &ids) == value);
 }

@@ -1,4 +1,4 @@
-//! What asks for no memory. tests/refused_memory refuses every later request after `end_of_memory`.
+//! What asks for no memory. tests/refused_memory refuses every later request after `fail_from_here`.
 use super::*;
 
 /// A value that each reader accepts, and lists of values that one reader refuses. For ids these are, after
@@ -43,9 +43,9 @@ fn value_of<'v>(rt: &impl Abort, values: &'v Value, name: &str) -> &'v Value {
 /// Each of these readers accepts its value.
 fn expect_accepted(rt: &(impl Abort + AllocGlobal), values: &Value) {
     let got = RangeInclusive::from_value(rt.alloc(), value_of(rt, values, "range"));
-    expect_same(rt, &got, &Ok(range(rt, 16, 19)), &"range");
+    expect_eq(rt, &got, &Ok(range(rt, 16, 19)), &"range");
     let got = NodeState::from_value(rt.alloc(), value_of(rt, values, "state"));
-    expect_same(rt, &got, &Ok(NodeState::Allocated), &"state");
+    expect_eq(rt, &got, &Ok(NodeState::Allocated), &"state");
     let ids = IdAllocator::from_value(rt.alloc(), value_of(rt, values, "ids"));
     assert!(rt; ids.expect(rt, "it needs no memory").is_allocated(7));
 }
@@ -53,7 +53,7 @@ fn expect_accepted(rt: &(impl Abort + AllocGlobal), values: &Value) {
 #[test]
 fn checked(rt: HostRuntime) {
     let values = parsed(&rt, VALUES);
-    end_of_memory(rt.alloc());
+    fail_from_here(rt.alloc());
     expect_accepted(&rt, &values);
     for (reader, name) in [
         (Reader::Range, "no_range"),
@@ -62,7 +62,7 @@ fn checked(rt: HostRuntime) {
         (Reader::Repaired, "space_shorter_than_key"),
         (Reader::Ids, "no_ids"),
     ] {
-        refuse_each(&rt, reader, value_of(&rt, &values, name));
+        reject_each(&rt, reader, value_of(&rt, &values, name));
     }
     // The one request: what a run without memory is known by.
     let one_node = value_of(&rt, &values, "one_node");

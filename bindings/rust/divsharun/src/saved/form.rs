@@ -47,7 +47,7 @@ pub(super) const MOST_NESTED: u32 = 50;
 
 /// No list that is read or written is longer. It is the number of ids of 20 bits, which is more
 /// than a monitor has of any kind.
-pub(super) const MOST_LISTED: usize = 1 << 20;
+pub(super) const MAX_LIST_LEN: usize = 1 << 20;
 
 pub(super) static RANGE: Form = Form::Structure(Structure {
     name: "RangeInclusive",

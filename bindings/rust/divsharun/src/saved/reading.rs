@@ -1,6 +1,6 @@
 //! A value, read as its form says.
 
-use super::form::{Form, Structure, MOST_LISTED, MOST_NESTED, NODE, SLOT, STATE, STATES};
+use super::form::{Form, Structure, MAX_LIST_LEN, MOST_NESTED, NODE, SLOT, STATE, STATES};
 use alloc::vec::Vec;
 use core::fmt;
 use core::marker::PhantomData;
@@ -187,16 +187,16 @@ impl<'de, T: Item> Visitor<'de> for RisingList<T> {
     type Value = Value;
 
     fn expecting(&self, f: &mut fmt::Formatter<'_>) -> fmt::Result {
-        write!(f, "a list of at most {MOST_LISTED} ids that rise")
+        write!(f, "a list of at most {MAX_LIST_LEN} ids that rise")
     }
 
     fn visit_seq<A: SeqAccess<'de>>(self, mut from: A) -> Result<Value, A::Error> {
         let of_no_use = || A::Error::invalid_value(Unexpected::Seq, &self);
         let mut items: Vec<T> = Vec::new();
         while let Some(value) = from.next_element_seed(Reading::new(T::FORM))? {
-            let item = T::stated_by(&value).ok_or_else(of_no_use)?;
+            let item = T::decode(&value).ok_or_else(of_no_use)?;
             let rises = items.last().is_none_or(|last| last.id() < item.id());
-            if !rises || items.len() == MOST_LISTED {
+            if !rises || items.len() == MAX_LIST_LEN {
                 return Err(of_no_use());
             }
             items.push(item);
@@ -211,7 +211,7 @@ trait Item: Sized {
     const FORM: &'static Form;
 
     /// The item that a value of this form is.
-    fn stated_by(value: &Value) -> Option<Self>;
+    fn decode(value: &Value) -> Option<Self>;
     fn id(&self) -> u32;
     fn value(&self) -> Value;
 }
@@ -219,7 +219,7 @@ trait Item: Sized {
 impl Item for u32 {
     const FORM: &'static Form = &Form::Id;
 
-    fn stated_by(value: &Value) -> Option<Self> {
+    fn decode(value: &Value) -> Option<Self> {
         u32::try_from(value.as_u64()?).ok()
     }
 
@@ -242,10 +242,10 @@ struct Slot {
 impl Item for Slot {
     const FORM: &'static Form = &SLOT;
 
-    fn stated_by(value: &Value) -> Option<Self> {
+    fn decode(value: &Value) -> Option<Self> {
         let range = value.get("mmio_range")?;
         Some(Slot {
-            id: u32::stated_by(value.get("id")?)?,
+            id: u32::decode(value.get("id")?)?,
             start: range.get("start")?.as_u64()?,
             end: range.get("end")?.as_u64()?,
         })

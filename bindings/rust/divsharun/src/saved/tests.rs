@@ -29,7 +29,7 @@ impl Draw {
 }
 
 /// A value as the proved readers take it.
-fn for_proved(value: &Value) -> rattle::Value {
+fn to_proved_value(value: &Value) -> rattle::Value {
     match value {
         Value::Null => rattle::Value::Null,
         Value::Bool(truth) => rattle::Value::Bool(*truth),
@@ -39,13 +39,13 @@ fn for_proved(value: &Value) -> rattle::Value {
         }),
         Value::String(text) => rattle::Value::String(text.clone()),
         Value::Array(items) => {
-            let items: Vec<rattle::Value> = items.iter().map(for_proved).collect();
+            let items: Vec<rattle::Value> = items.iter().map(to_proved_value).collect();
             rattle::Value::Array(items.into())
         }
         Value::Object(fields) => {
             let fields = fields
                 .iter()
-                .map(|(name, value)| (name.clone(), for_proved(value)));
+                .map(|(name, value)| (name.clone(), to_proved_value(value)));
             rattle::Value::from(fields.collect::<Fields>())
         }
     }
@@ -104,12 +104,12 @@ where
     T: Serialize + DeserializeOwned + Debug,
 {
     let mut value = serde_json::to_value(object).unwrap();
-    assert_eq!(for_proved(&value), written.unwrap());
+    assert_eq!(to_proved_value(&value), written.unwrap());
     for _ in 0..draw.below(3) {
         damage(&mut value, draw);
     }
     let by_serde: Option<T> = serde_json::from_value(value.clone()).ok();
-    let by_proved = proved(Global, &for_proved(&value)).ok().map(again);
+    let by_proved = proved(Global, &to_proved_value(&value)).ok().map(again);
     assert_eq!(format!("{by_serde:?}"), format!("{by_proved:?}"), "{value}");
     by_serde.is_some()
 }

@@ -1,6 +1,6 @@
 //! A value, written as its form says.
 
-use super::form::{Form, Structure, MOST_LISTED, NODE, SLOT, STATE, STATES};
+use super::form::{Form, Structure, MAX_LIST_LEN, NODE, SLOT, STATE, STATES};
 use rattle::Value;
 use serde::ser::{Error, SerializeStruct};
 use serde::{Serialize, Serializer};
@@ -30,7 +30,7 @@ impl<'a> Writing<'a> {
     fn write_list<S: Serializer>(&self, item: &'static Form, to: S) -> Result<S::Ok, S::Error> {
         let list = self.value.as_array();
         let list = list.ok_or_else(|| S::Error::custom("no list"))?;
-        if list.len() > MOST_LISTED {
+        if list.len() > MAX_LIST_LEN {
             return Err(S::Error::custom(
                 "the list is longer than those that are read",
             ));

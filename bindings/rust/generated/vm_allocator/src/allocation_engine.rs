@@ -2,4 +2,4 @@
 
 //! How addresses are aligned, and the tree of the blocks of a space.
 pub use vm_engine::IntervalTree;
-pub use vm_ranges::{NodeState, align_down, align_up};
+pub use vm_ranges::{align_down, align_up, NodeState};

@@ -3,8 +3,8 @@
 //! Ids of one range: those handed out so far lie below the next one, and those given back stand in a
 //! set, the least first. Only giving back and cloning ask for memory.
 
-use rattle::Global;
 use rattle::BTreeSet;
+use rattle::Global;
 use vm_ranges::{Error, Result};
 
 /// Gives out the ids of a range, each to one holder at a time.
@@ -19,7 +19,7 @@ pub struct IdAllocator {
 }
 
 /// The next id, where it is one of the range up to `range_end`.
-fn next_of_range(next_id: Option<u32>, range_end: u32) -> Result<u32> {
+fn next_in_range(next_id: Option<u32>, range_end: u32) -> Result<u32> {
     match next_id {
         None => Err(Error::Overflow),
         Some(id) if id > range_end => Err(Error::ResourceNotAvailable),
@@ -70,7 +70,7 @@ impl IdAllocator {
         if let Some(id) = self.freed_ids.pop_first() {
             return Ok(id);
         }
-        let id = next_of_range(self.next_id, self.range_end)?;
+        let id = next_in_range(self.next_id, self.range_end)?;
         self.next_id = id.checked_add(1);
         Ok(id)
     }
@@ -79,19 +79,19 @@ impl IdAllocator {
     pub fn peek_id(&self) -> Result<u32> {
         match self.freed_ids.first() {
             Some(id) => Ok(*id),
-            None => next_of_range(self.next_id, self.range_end),
+            None => next_in_range(self.next_id, self.range_end),
         }
     }
 
     /// Whether the id is held. No id outside the range is.
     pub fn is_allocated(&self, id: u32) -> bool {
-        self.was_handed_out(id) && !self.freed_ids.contains(&id)
+        self.was_allocated(id) && !self.freed_ids.contains(&id)
     }
 
     /// How many ids are held. It takes no memory, and looks at none of them.
     pub fn held_count(&self) -> u64 {
-        let handed_out = bound_of(self.next_id, self.range_end) - u64::from(self.range_base);
-        handed_out - self.freed_ids.len() as u64
+        let ever_allocated = bound_of(self.next_id, self.range_end) - u64::from(self.range_base);
+        ever_allocated - self.freed_ids.len() as u64
     }
 
     /// Gives back an id that is held, and answers it. In this order: `OutOfRange(id)` where it is
@@ -102,7 +102,7 @@ impl IdAllocator {
         if !self.id_in_range(id) {
             return Err(Error::OutOfRange(id));
         }
-        if !self.was_handed_out(id) {
+        if !self.was_allocated(id) {
             return Err(Error::NeverAllocated(id));
         }
         // Only an id that is not in the set yet asks for memory.
@@ -119,7 +119,7 @@ impl IdAllocator {
     }
 
     /// Whether the id was handed out at some time.
-    fn was_handed_out(&self, id: u32) -> bool {
+    fn was_allocated(&self, id: u32) -> bool {
         match self.next_id {
             Some(next_id) => self.range_base <= id && id < next_id,
             None => self.id_in_range(id),

@@ -14,5 +14,5 @@ pub use address_allocator::AddressAllocator;
 pub use id_allocator::IdAllocator;
 pub use vm_engine::HeldRanges;
 pub use vm_ranges::{
-    AllocPolicy, Constraint, DEFAULT_CONSTRAINT_ALIGN, Error, RangeInclusive, Result, ValueError,
+    AllocPolicy, Constraint, Error, RangeInclusive, Result, ValueError, DEFAULT_CONSTRAINT_ALIGN,
 };

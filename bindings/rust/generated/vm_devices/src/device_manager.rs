@@ -4,8 +4,8 @@
 //! what may be refused comes first, and what follows it is always done.
 
 use crate::device_slot::DeviceSlot;
-use rattle::Global;
 use rattle::BTreeMap;
+use rattle::Global;
 use vm_allocator::{AddressAllocator, AllocPolicy, Error, IdAllocator, RangeInclusive, Result};
 
 mod saved;

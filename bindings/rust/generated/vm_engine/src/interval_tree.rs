@@ -1,27 +1,27 @@
 // Written by bindings/erase from crates/vm_engine/src/interval_tree.rt: do not edit.
 
-//! The blocks of a space in a balanced tree: which place a request gets (`placing`), how the range
+//! The blocks of a space in a balanced tree: which place a request gets (`placement`), how the range
 //! there is held (`holding`), how a held one is given back (`release`), which are held
 //! (`held_ranges`), and how two trees compare (`comparing`).
 //!
-//! A counted call is a counter at 0, what takes the counter (`grant`, `release`), and the counter; a
+//! A counted call is a counter at 0, what takes the counter (`allocate_inner`, `release`), and the counter; a
 //! plain call is the counted one without the count. So that the counter has room, as a tree of height
 //! 49 has fewer than 2^49 nodes, is shown once, and no caller has a condition.
 
-use rattle::Box;
-use crate::Steps;
-use crate::node::walks::Walk;
 use crate::node::walks::copying::copy;
+use crate::node::walks::Walk;
 use crate::node::{Child, InnerNode};
+use crate::Steps;
+use rattle::Box;
 use rattle::Global;
 use vm_ranges::{Constraint, NodeState, RangeInclusive, Result};
 
+mod allocation;
 mod comparing;
 pub(crate) mod counted;
+mod deallocation;
 pub(crate) mod held_ranges;
-mod holding;
-pub(crate) mod placing;
-mod release;
+pub(crate) mod placement;
 
 /// The blocks of a space of addresses, in a balanced tree.
 #[derive(Debug)]
@@ -47,7 +47,7 @@ impl IntervalTree {
 
     /// The walk over the blocks.
     fn walk(&self) -> Walk<'_> {
-        Walk::over(&self.root)
+        Walk::new(&self.root)
     }
 
     /// The root, which is always there.
@@ -64,14 +64,14 @@ impl IntervalTree {
     }
 
     /// `allocate`, which adds the nodes that it enters to a counter at 0.
-    fn grant(
+    fn allocate_inner(
         &mut self,
         alloc: Global,
         constraint: Constraint,
         count: &mut Steps,
     ) -> Result<RangeInclusive> {
-        let choice = self.place_for(constraint, count)?;
-        self.hold(alloc, choice, count)
+        let choice = self.choose_place(constraint, count)?;
+        self.allocate_chosen(alloc, choice, count)
     }
 
     /// Holds the range at the place that the policy chooses. In this order: where there is no such

@@ -6,12 +6,12 @@
 #![no_std]
 
 mod block;
-mod ends;
 mod interval_tree;
 mod node;
+mod ordering;
 mod saved;
 
-pub use interval_tree::IntervalTree;
 use interval_tree::counted::Steps;
 pub use interval_tree::held_ranges::HeldRanges;
-pub use saved::node::{SavedNode, node_of};
+pub use interval_tree::IntervalTree;
+pub use saved::node::{decode_node, SavedNode};

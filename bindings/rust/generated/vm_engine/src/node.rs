@@ -7,19 +7,19 @@
 
 use rattle::Box;
 mod balance;
-pub(crate) mod carve;
 mod find;
-mod kept;
 mod link;
 pub(crate) mod neighbours;
 pub(crate) mod places;
 pub(crate) mod remove;
 pub(crate) mod rewrite;
+pub(crate) mod split;
+mod summary;
 pub(crate) mod walks;
 pub(crate) mod widen;
 
 use self::balance::fork;
-use self::kept::room_of;
+use self::summary::free_summary_of;
 use rattle::{AllocError, Global};
 use vm_ranges::{NodeState, RangeInclusive};
 
@@ -47,7 +47,7 @@ pub(crate) type Child = Option<Box<InnerNode>>;
 impl InnerNode {
     /// A node without children.
     pub(crate) fn new(key: RangeInclusive, node_state: NodeState) -> InnerNode {
-        let own = room_of(&key, node_state);
+        let own = free_summary_of(&key, node_state);
         InnerNode {
             key,
             node_state,

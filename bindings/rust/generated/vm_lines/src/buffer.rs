@@ -4,13 +4,13 @@
 //! as twenty bytes whatever its length, two moves and no call: with the reading of numbers this took
 //! half of the instructions off that the text of a line costs.
 
-use crate::number::MOST_DIGITS;
+use crate::number::MAX_DIGITS;
 
 /// How many bytes a buffer has room for.
 pub(crate) const CAPACITY: usize = 4096;
 
 /// Room for the digits of a number, and for as many bytes behind them.
-const DIGITS_ROOM: usize = 40;
+const DIGITS_LEN: usize = 40;
 
 /// The two digits of each number below a hundred.
 static PAIRS: [u8; 200] = *b"\
@@ -57,7 +57,7 @@ impl Buffer {
     }
 
     /// Adds a text.
-    pub(crate) fn push_all(&mut self, text: &[u8]) {
+    pub(crate) fn extend_from_slice(&mut self, text: &[u8]) {
         let end = self.length + text.len();
         self.bytes[self.length..end].copy_from_slice(text);
         self.length = end;
@@ -65,25 +65,25 @@ impl Buffer {
 
     /// Adds a number, in decimal.
     pub(crate) fn push_number(&mut self, number: u64) {
-        let mut digits = [0u8; DIGITS_ROOM];
+        let mut digits = [0u8; DIGITS_LEN];
         let start = write_digits(number, &mut digits);
         // The same length for each number makes this two moves. What is too much is taken back.
-        self.push_all(&digits[start..start + MOST_DIGITS]);
+        self.extend_from_slice(&digits[start..start + MAX_DIGITS]);
         self.length -= start;
     }
 }
 
-/// Writes the digits of a number before place `MOST_DIGITS`, and tells where they start.
-fn write_digits(number: u64, digits: &mut [u8; DIGITS_ROOM]) -> usize {
-    let mut start = MOST_DIGITS;
+/// Writes the digits of a number before place `MAX_DIGITS`, and tells where they start.
+fn write_digits(number: u64, digits: &mut [u8; DIGITS_LEN]) -> usize {
+    let mut start = MAX_DIGITS;
     let mut rest = number;
     while rest >= 100 {
-        put_pair(digits, start, (rest % 100) as u8);
+        write_two_digits(digits, start, (rest % 100) as u8);
         start -= 2;
         rest /= 100;
     }
     if rest >= 10 {
-        put_pair(digits, start, rest as u8);
+        write_two_digits(digits, start, rest as u8);
         return start - 2;
     }
     digits[start - 1] = b'0' + rest as u8;
@@ -92,7 +92,7 @@ fn write_digits(number: u64, digits: &mut [u8; DIGITS_ROOM]) -> usize {
 
 /// Writes two digits right before the place where the others start.
 #[inline(always)]
-fn put_pair(digits: &mut [u8; DIGITS_ROOM], start: usize, pair: u8) {
+fn write_two_digits(digits: &mut [u8; DIGITS_LEN], start: usize, pair: u8) {
     let place = pair as usize * 2;
     digits[start - 1] = PAIRS[place + 1];
     digits[start - 2] = PAIRS[place];

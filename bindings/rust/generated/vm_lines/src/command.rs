@@ -2,29 +2,20 @@
 
 //! What a line asks for: each first word is of a space, of ids or of devices.
 
-use crate::words::{behind, ids_and_numbers, one_id, three_numbers, two_ids, two_numbers};
+use crate::words::{ids_and_numbers, one_id, strip_prefix, three_numbers, two_ids, two_numbers};
 
 /// A longer line is not in the language.
-pub(crate) const LONGEST_LINE: usize = 120;
+pub(crate) const MAX_LINE_LEN: usize = 120;
 
 /// What a line asks for.
 #[derive(Clone, Copy)]
 pub(crate) enum Command {
     /// An allocator for the space of `size` addresses from `base` on.
-    Space {
-        base: u64,
-        size: u64,
-    },
+    Space { base: u64, size: u64 },
     /// The first place for `size` addresses at a multiple of `alignment`.
-    First {
-        size: u64,
-        alignment: u64,
-    },
+    First { size: u64, alignment: u64 },
     /// The last place for `size` addresses at a multiple of `alignment`.
-    Last {
-        size: u64,
-        alignment: u64,
-    },
+    Last { size: u64, alignment: u64 },
     /// The place of the `size` addresses from `start` on, a multiple of `alignment`.
     Exact {
         size: u64,
@@ -32,25 +23,15 @@ pub(crate) enum Command {
         start: u64,
     },
     /// The release of the range from `start` to `end`.
-    Free {
-        start: u64,
-        end: u64,
-    },
+    Free { start: u64, end: u64 },
     /// An allocator for the ids from `range_base` to `range_end`.
-    Ids {
-        range_base: u32,
-        range_end: u32,
-    },
+    Ids { range_base: u32, range_end: u32 },
     /// The least id that is not held.
     Id,
     /// The release of an id.
-    Unid {
-        id: u32,
-    },
+    Unid { id: u32 },
     /// Whether an id is held.
-    Has {
-        id: u32,
-    },
+    Has { id: u32 },
     /// A manager of devices, for the ids from `id_lo` to `id_hi` and the `size` addresses from
     /// `base` on.
     Manager {
@@ -61,14 +42,9 @@ pub(crate) enum Command {
     },
     /// A device: the least id that is not held, and the first place for `size` addresses at a
     /// multiple of `alignment`.
-    Device {
-        size: u64,
-        alignment: u64,
-    },
+    Device { size: u64, alignment: u64 },
     /// The release of the device with this id.
-    Undevice {
-        id: u32,
-    },
+    Undevice { id: u32 },
     /// The line is not in the language.
     Malformed,
 }
@@ -76,7 +52,7 @@ pub(crate) enum Command {
 /// Parses a line.
 #[inline(always)]
 pub(crate) fn parse(line: &[u8]) -> Command {
-    if line.len() > LONGEST_LINE {
+    if line.len() > MAX_LINE_LEN {
         return Command::Malformed;
     }
     match parse_words(line) {
@@ -89,19 +65,19 @@ pub(crate) fn parse(line: &[u8]) -> Command {
 /// known nothing else is tried.
 #[inline(always)]
 fn parse_words(line: &[u8]) -> Option<Command> {
-    if let Some(rest) = behind(b"space ", line) {
+    if let Some(rest) = strip_prefix(b"space ", line) {
         let (base, size) = two_numbers(rest)?;
         return Some(Command::Space { base, size });
     }
-    if let Some(rest) = behind(b"first ", line) {
+    if let Some(rest) = strip_prefix(b"first ", line) {
         let (size, alignment) = two_numbers(rest)?;
         return Some(Command::First { size, alignment });
     }
-    if let Some(rest) = behind(b"last ", line) {
+    if let Some(rest) = strip_prefix(b"last ", line) {
         let (size, alignment) = two_numbers(rest)?;
         return Some(Command::Last { size, alignment });
     }
-    if let Some(rest) = behind(b"exact ", line) {
+    if let Some(rest) = strip_prefix(b"exact ", line) {
         let (size, alignment, start) = three_numbers(rest)?;
         return Some(Command::Exact {
             size,
@@ -109,47 +85,47 @@ fn parse_words(line: &[u8]) -> Option<Command> {
             start,
         });
     }
-    if let Some(rest) = behind(b"free ", line) {
+    if let Some(rest) = strip_prefix(b"free ", line) {
         let (start, end) = two_numbers(rest)?;
         return Some(Command::Free { start, end });
     }
-    parse_on_ids(line)
+    parse_ids_command(line)
 }
 
 /// What a line asks of ids, and else of devices.
-fn parse_on_ids(line: &[u8]) -> Option<Command> {
-    if let Some(rest) = behind(b"ids ", line) {
+fn parse_ids_command(line: &[u8]) -> Option<Command> {
+    if let Some(rest) = strip_prefix(b"ids ", line) {
         let (range_base, range_end) = two_ids(rest)?;
         return Some(Command::Ids {
             range_base,
             range_end,
         });
     }
-    if let Some(rest) = behind(b"unid ", line) {
+    if let Some(rest) = strip_prefix(b"unid ", line) {
         let id = one_id(rest)?;
         return Some(Command::Unid { id });
     }
-    if let Some(rest) = behind(b"has ", line) {
+    if let Some(rest) = strip_prefix(b"has ", line) {
         let id = one_id(rest)?;
         return Some(Command::Has { id });
     }
     if line == b"id".as_slice() {
         return Some(Command::Id);
     }
-    parse_on_devices(line)
+    parse_devices_command(line)
 }
 
 /// What a line asks of devices.
-fn parse_on_devices(line: &[u8]) -> Option<Command> {
-    if let Some(rest) = behind(b"device ", line) {
+fn parse_devices_command(line: &[u8]) -> Option<Command> {
+    if let Some(rest) = strip_prefix(b"device ", line) {
         let (size, alignment) = two_numbers(rest)?;
         return Some(Command::Device { size, alignment });
     }
-    if let Some(rest) = behind(b"undevice ", line) {
+    if let Some(rest) = strip_prefix(b"undevice ", line) {
         let id = one_id(rest)?;
         return Some(Command::Undevice { id });
     }
-    if let Some(rest) = behind(b"manager ", line) {
+    if let Some(rest) = strip_prefix(b"manager ", line) {
         let ((id_lo, id_hi), (base, size)) = ids_and_numbers(rest)?;
         return Some(Command::Manager {
             id_lo,

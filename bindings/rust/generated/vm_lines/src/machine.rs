@@ -3,7 +3,7 @@
 //! What a line does to what the lines so far have made: a space, ids, devices.
 
 use crate::command::Command;
-use crate::reply::{Reply, device_or_refused, done_or_refused, given_or_refused, id_or_refused};
+use crate::reply::{device_reply, done_reply, id_reply, range_reply, Reply};
 use rattle::Global;
 use vm_allocator::{AddressAllocator, AllocPolicy, IdAllocator, RangeInclusive, Result};
 use vm_devices::DeviceManager;
@@ -30,23 +30,23 @@ impl Machine {
         match command {
             Command::Space { base, size } => self.make_space(alloc, base, size),
             Command::First { size, alignment } => {
-                self.place(alloc, size, alignment, AllocPolicy::FirstMatch)
+                self.allocate(alloc, size, alignment, AllocPolicy::FirstMatch)
             }
             Command::Last { size, alignment } => {
-                self.place(alloc, size, alignment, AllocPolicy::LastMatch)
+                self.allocate(alloc, size, alignment, AllocPolicy::LastMatch)
             }
             Command::Exact {
                 size,
                 alignment,
                 start,
-            } => self.place(alloc, size, alignment, AllocPolicy::ExactMatch(start)),
+            } => self.allocate(alloc, size, alignment, AllocPolicy::ExactMatch(start)),
             Command::Free { start, end } => self.free(start, end),
             Command::Ids {
                 range_base,
                 range_end,
             } => self.make_ids(alloc, range_base, range_end),
-            Command::Id => self.take_id(),
-            Command::Unid { id } => self.release_id(id),
+            Command::Id => self.allocate_id(),
+            Command::Unid { id } => self.free_id(id),
             Command::Has { id } => self.has_id(id),
             Command::Manager {
                 id_lo,
@@ -62,15 +62,15 @@ impl Machine {
 
     /// Makes a space, which takes the place of the old one. A refused one does not.
     fn make_space(&mut self, alloc: Global, base: u64, size: u64) -> Reply {
-        keep(AddressAllocator::new(alloc, base, size), &mut self.space)
+        replace_if_ok(AddressAllocator::new(alloc, base, size), &mut self.space)
     }
 
     /// Holds the `size` addresses at the place that the policy chooses.
-    fn place(&mut self, alloc: Global, size: u64, alignment: u64, policy: AllocPolicy) -> Reply {
+    fn allocate(&mut self, alloc: Global, size: u64, alignment: u64, policy: AllocPolicy) -> Reply {
         let Some(space) = &mut self.space else {
             return Reply::NoSpace;
         };
-        given_or_refused(space.allocate(alloc, size, alignment, policy))
+        range_reply(space.allocate(alloc, size, alignment, policy))
     }
 
     /// Gives a range back.
@@ -78,31 +78,31 @@ impl Machine {
         let Some(space) = &mut self.space else {
             return Reply::NoSpace;
         };
-        done_or_refused(release(space, start, end))
+        done_reply(free_range(space, start, end))
     }
 
     /// Makes ids, which take the place of the old ones. Refused ones do not.
     fn make_ids(&mut self, alloc: Global, range_base: u32, range_end: u32) -> Reply {
-        keep(
+        replace_if_ok(
             IdAllocator::new(alloc, range_base, range_end),
             &mut self.ids,
         )
     }
 
     /// Holds the least id that is not held.
-    fn take_id(&mut self) -> Reply {
+    fn allocate_id(&mut self) -> Reply {
         let Some(ids) = &mut self.ids else {
             return Reply::NoIds;
         };
-        id_or_refused(ids.allocate_id())
+        id_reply(ids.allocate_id())
     }
 
     /// Gives an id back.
-    fn release_id(&mut self, id: u32) -> Reply {
+    fn free_id(&mut self, id: u32) -> Reply {
         let Some(ids) = &mut self.ids else {
             return Reply::NoIds;
         };
-        id_or_refused(ids.free_id(id))
+        id_reply(ids.free_id(id))
     }
 
     /// Tells whether an id is held.
@@ -114,9 +114,16 @@ impl Machine {
     }
 
     /// Makes a manager, which takes the place of the old one. A refused one does not.
-    fn make_manager(&mut self, alloc: Global, id_lo: u32, id_hi: u32, base: u64, size: u64) -> Reply {
+    fn make_manager(
+        &mut self,
+        alloc: Global,
+        id_lo: u32,
+        id_hi: u32,
+        base: u64,
+        size: u64,
+    ) -> Reply {
         let made = DeviceManager::new(alloc, id_lo, id_hi, base, size);
-        keep(made, &mut self.devices)
+        replace_if_ok(made, &mut self.devices)
     }
 
     /// Holds the least id that is not held, and `size` addresses at the first place, for one device.
@@ -124,7 +131,7 @@ impl Machine {
         let Some(devices) = &mut self.devices else {
             return Reply::NoManager;
         };
-        device_or_refused(devices.reserve(alloc, size, alignment, AllocPolicy::FirstMatch))
+        device_reply(devices.reserve(alloc, size, alignment, AllocPolicy::FirstMatch))
     }
 
     /// Gives back the id and the range of a device.
@@ -132,24 +139,24 @@ impl Machine {
         let Some(devices) = &mut self.devices else {
             return Reply::NoManager;
         };
-        done_or_refused(devices.release(id))
+        done_reply(devices.release(id))
     }
 }
 
 /// Keeps what was made, in the place of what was there. What was refused leaves that.
 #[inline(always)]
-fn keep<T>(made: Result<T>, part: &mut Option<T>) -> Reply {
+fn replace_if_ok<T>(made: Result<T>, part: &mut Option<T>) -> Reply {
     match made {
         Ok(new) => {
             *part = Some(new);
             Reply::Done
         }
-        Err(error) => Reply::Refused(error),
+        Err(error) => Reply::Failed(error),
     }
 }
 
 /// Gives back the range from `start` to `end`. `InvalidRange(start, end)` where that is none.
-fn release(space: &mut AddressAllocator, start: u64, end: u64) -> Result<()> {
+fn free_range(space: &mut AddressAllocator, start: u64, end: u64) -> Result<()> {
     let range = RangeInclusive::new(start, end)?;
     space.free(&range)
 }

@@ -4,7 +4,7 @@
 //! 64 bits whichever they are, so the twentieth alone is added with a check.
 
 /// No number of the language has more digits, and none of 64 bits needs more.
-pub(crate) const MOST_DIGITS: usize = 20;
+pub(crate) const MAX_DIGITS: usize = 20;
 
 /// So many digits say a number of 64 bits, whichever they are.
 const SAFE_DIGITS: usize = 19;
@@ -16,8 +16,8 @@ const BASE: u64 = 10;
 
 /// The number that the digits at the beginning of a text say, and how many digits they are.
 #[inline(always)]
-pub(crate) fn number_ahead(text: &[u8]) -> Option<(u64, usize)> {
-    let (value, count) = safe_value(text);
+pub(crate) fn leading_number(text: &[u8]) -> Option<(u64, usize)> {
+    let (value, count) = leading_value(text);
     if count == 0 {
         return None;
     }
@@ -30,7 +30,7 @@ pub(crate) fn number_ahead(text: &[u8]) -> Option<(u64, usize)> {
 /// The value of the digits at the beginning of a text, of the first `SAFE_DIGITS` if they are more, and
 /// how many digits that are.
 #[inline(always)]
-fn safe_value(text: &[u8]) -> (u64, usize) {
+fn leading_value(text: &[u8]) -> (u64, usize) {
     let (mut value, mut count) = chunk_value(text);
     let most = text.len().min(SAFE_DIGITS);
     while count < most && text[count].is_ascii_digit() {
@@ -44,7 +44,7 @@ fn safe_value(text: &[u8]) -> (u64, usize) {
 #[inline(always)]
 fn chunk_value(text: &[u8]) -> (u64, usize) {
     match text.first_chunk() {
-        Some(front) if are_digits(front) => (value_of(front), CHUNK),
+        Some(prefix) if are_digits(prefix) => (digits_value(prefix), CHUNK),
         _ => (0, 0),
     }
 }
@@ -52,10 +52,10 @@ fn chunk_value(text: &[u8]) -> (u64, usize) {
 /// Whether all of these bytes are digits. It looks at each, so that they can be compared together.
 #[inline(always)]
 #[allow(clippy::needless_range_loop)]
-fn are_digits(front: &[u8; CHUNK]) -> bool {
+fn are_digits(prefix: &[u8; CHUNK]) -> bool {
     let mut all = true;
     for i in 0..CHUNK {
-        all &= front[i].is_ascii_digit();
+        all &= prefix[i].is_ascii_digit();
     }
     all
 }
@@ -63,7 +63,7 @@ fn are_digits(front: &[u8; CHUNK]) -> bool {
 /// The value of these digits.
 #[inline(always)]
 #[allow(clippy::needless_range_loop)]
-fn value_of(digits: &[u8; CHUNK]) -> u64 {
+fn digits_value(digits: &[u8; CHUNK]) -> u64 {
     let mut value = 0u64;
     for i in 0..CHUNK {
         value = value * BASE + u64::from(digits[i] - b'0');
@@ -74,10 +74,10 @@ fn value_of(digits: &[u8; CHUNK]) -> u64 {
 /// The number of a text whose first `SAFE_DIGITS` digits have this value, if it has one more or none.
 #[inline(always)]
 fn with_last_digit(value: u64, text: &[u8]) -> Option<(u64, usize)> {
-    let (last, more) = safe_value(&text[SAFE_DIGITS..]);
+    let (last, more) = leading_value(&text[SAFE_DIGITS..]);
     match more {
         0 => Some((value, SAFE_DIGITS)),
-        1 => Some((value.checked_mul(BASE)?.checked_add(last)?, MOST_DIGITS)),
+        1 => Some((value.checked_mul(BASE)?.checked_add(last)?, MAX_DIGITS)),
         _ => None,
     }
 }

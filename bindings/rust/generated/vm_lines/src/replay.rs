@@ -7,13 +7,13 @@
 
 use crate::buffer::{Buffer, CAPACITY};
 use crate::newline::newline_at;
-use crate::reply::LONGEST_REPLY;
+use crate::reply::MAX_REPLY_LEN;
 use crate::session::Session;
 use rattle::Global;
 use std::io::{Read, Write};
 
 /// The most bytes that are read at a time.
-const PIECE: usize = 4096;
+const READ_SIZE: usize = 4096;
 
 /// Why a run ended before the end of its input.
 #[derive(Clone, Copy, Debug, PartialEq, Eq)]
@@ -28,7 +28,11 @@ pub enum RunError {
 /// lines ask for. `Read` where a read failed or read number `u64::MAX` did not reach the end: then
 /// the lines that a newline ended are answered, and nothing was flushed. `Write` where a write or
 /// the last flush failed: then nothing is said of what was written.
-pub fn run<R: Read, W: Write>(alloc: Global, reader: &mut R, writer: &mut W) -> Result<(), RunError> {
+pub fn run<R: Read, W: Write>(
+    alloc: Global,
+    reader: &mut R,
+    writer: &mut W,
+) -> Result<(), RunError> {
     let mut session = Session::new();
     let mut output = Buffer::new();
     answer_pieces(alloc, reader, writer, &mut session, &mut output)
@@ -43,23 +47,23 @@ fn answer_pieces<R: Read, W: Write>(
     session: &mut Session,
     output: &mut Buffer,
 ) -> Result<(), RunError> {
-    let mut bytes = [0u8; PIECE];
+    let mut bytes = [0u8; READ_SIZE];
     for _ in 0..u64::MAX {
         match reader.read(&mut bytes) {
             Ok(0) => {
-                finish(alloc, session, output, writer)?;
+                answer_end(alloc, session, output, writer)?;
                 return Ok(());
             }
-            Ok(count) => feed_all(alloc, session, &bytes[..count], output, writer)?,
+            Ok(count) => feed(alloc, session, &bytes[..count], output, writer)?,
             Err(_) => break,
         }
     }
-    drain(output, writer)?;
+    flush_buffer(output, writer)?;
     Err(RunError::Read)
 }
 
 /// Takes a piece of the input.
-fn feed_all<W: Write>(
+fn feed<W: Write>(
     alloc: Global,
     session: &mut Session,
     piece: &[u8],
@@ -72,19 +76,19 @@ fn feed_all<W: Write>(
         session.end_line(alloc, &rest[..end], output);
         rest = &rest[end + 1..];
     }
-    session.keep(rest);
+    session.append(rest);
     Ok(())
 }
 
 /// Takes the end of the input.
-fn finish<W: Write>(
+fn answer_end<W: Write>(
     alloc: Global,
     session: &mut Session,
     output: &mut Buffer,
     writer: &mut W,
 ) -> Result<(), RunError> {
-    answer_rest(alloc, session, output, writer)?;
-    drain(output, writer)?;
+    answer_last_line(alloc, session, output, writer)?;
+    flush_buffer(output, writer)?;
     match writer.flush() {
         Ok(()) => Ok(()),
         Err(_) => Err(RunError::Write),
@@ -92,7 +96,7 @@ fn finish<W: Write>(
 }
 
 /// Answers the line that no newline ended, if there is one.
-fn answer_rest<W: Write>(
+fn answer_last_line<W: Write>(
     alloc: Global,
     session: &mut Session,
     output: &mut Buffer,
@@ -108,14 +112,14 @@ fn answer_rest<W: Write>(
 
 /// Makes room for one answer with its newline.
 fn make_room<W: Write>(output: &mut Buffer, writer: &mut W) -> Result<(), RunError> {
-    if output.len() >= CAPACITY - LONGEST_REPLY {
-        drain(output, writer)?;
+    if output.len() >= CAPACITY - MAX_REPLY_LEN {
+        flush_buffer(output, writer)?;
     }
     Ok(())
 }
 
 /// Writes what waits.
-fn drain<W: Write>(output: &mut Buffer, writer: &mut W) -> Result<(), RunError> {
+fn flush_buffer<W: Write>(output: &mut Buffer, writer: &mut W) -> Result<(), RunError> {
     match writer.write_all(output.as_slice()) {
         Ok(()) => {
             output.clear();

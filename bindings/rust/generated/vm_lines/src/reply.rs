@@ -7,7 +7,7 @@ use vm_allocator::{Error, RangeInclusive, Result};
 use vm_devices::DeviceSlot;
 
 /// The most bytes that a reply takes, the newline behind it aside: those of an invalid range.
-pub(crate) const LONGEST_REPLY: usize = 61;
+pub(crate) const MAX_REPLY_LEN: usize = 61;
 
 /// How a line is answered.
 pub(crate) enum Reply {
@@ -22,7 +22,7 @@ pub(crate) enum Reply {
     /// This device is there from now on.
     Device(DeviceSlot),
     /// The call was refused.
-    Refused(Error),
+    Failed(Error),
     /// The line needs a space, and none has been made.
     NoSpace,
     /// The line needs ids, and none have been made.
@@ -35,100 +35,97 @@ pub(crate) enum Reply {
 
 /// The reply to a call that gives nothing which is told.
 #[inline(always)]
-pub(crate) fn done_or_refused(answer: Result<()>) -> Reply {
+pub(crate) fn done_reply(answer: Result<()>) -> Reply {
     match answer {
         Ok(()) => Reply::Done,
-        Err(error) => Reply::Refused(error),
+        Err(error) => Reply::Failed(error),
     }
 }
 
 /// The reply to a call that gives a range.
 #[inline(always)]
-pub(crate) fn given_or_refused(answer: Result<RangeInclusive>) -> Reply {
+pub(crate) fn range_reply(answer: Result<RangeInclusive>) -> Reply {
     match answer {
         Ok(range) => Reply::Given(range),
-        Err(error) => Reply::Refused(error),
+        Err(error) => Reply::Failed(error),
     }
 }
 
 /// The reply to a call that gives an id.
 #[inline(always)]
-pub(crate) fn id_or_refused(answer: Result<u32>) -> Reply {
+pub(crate) fn id_reply(answer: Result<u32>) -> Reply {
     match answer {
         Ok(id) => Reply::Id(id),
-        Err(error) => Reply::Refused(error),
+        Err(error) => Reply::Failed(error),
     }
 }
 
 /// The reply to a call that gives a device.
 #[inline(always)]
-pub(crate) fn device_or_refused(answer: Result<DeviceSlot>) -> Reply {
+pub(crate) fn device_reply(answer: Result<DeviceSlot>) -> Reply {
     match answer {
         Ok(slot) => Reply::Device(slot),
-        Err(error) => Reply::Refused(error),
+        Err(error) => Reply::Failed(error),
     }
 }
 
 /// Writes how a reply reads.
 pub(crate) fn write_reply(output: &mut Buffer, reply: Reply) {
     match reply {
-        Reply::Done => output.push_all(b"done"),
+        Reply::Done => output.extend_from_slice(b"done"),
         Reply::Given(range) => write_pair(output, b"range ", range.start(), range.end()),
         Reply::Id(id) => write_number(output, b"id ", id.into()),
-        Reply::Held(true) => output.push_all(b"yes"),
-        Reply::Held(false) => output.push_all(b"no"),
+        Reply::Held(true) => output.extend_from_slice(b"yes"),
+        Reply::Held(false) => output.extend_from_slice(b"no"),
         Reply::Device(slot) => write_device(output, slot),
-        Reply::Refused(error) => write_refusal(output, error),
-        Reply::NoSpace => output.push_all(b"error no-space"),
-        Reply::NoIds => output.push_all(b"error no-ids"),
-        Reply::NoManager => output.push_all(b"error no-manager"),
-        Reply::NotInLanguage => output.push_all(b"error line"),
+        Reply::Failed(error) => write_error(output, error),
+        Reply::NoSpace => output.extend_from_slice(b"error no-space"),
+        Reply::NoIds => output.extend_from_slice(b"error no-ids"),
+        Reply::NoManager => output.extend_from_slice(b"error no-manager"),
+        Reply::NotInLanguage => output.extend_from_slice(b"error line"),
     }
 }
 
 /// Writes how a device reads.
 fn write_device(output: &mut Buffer, slot: DeviceSlot) {
-    output.push_all(b"device ");
+    output.extend_from_slice(b"device ");
     output.push_number(slot.id.into());
     output.push(b' ');
     push_pair(output, slot.range.start(), slot.range.end());
 }
 
 /// Writes how a refusal reads.
-fn write_refusal(output: &mut Buffer, error: Error) {
+fn write_error(output: &mut Buffer, error: Error) {
     match error {
-        Error::Overflow => output.push_all(b"error overflow"),
+        Error::Overflow => output.extend_from_slice(b"error overflow"),
         Error::OutOfRange(id) => write_number(output, b"error out-of-range ", id.into()),
         Error::AlreadyReleased(id) => write_number(output, b"error already-released ", id.into()),
         Error::NeverAllocated(id) => write_number(output, b"error never-allocated ", id.into()),
-        Error::ResourceNotAvailable => output.push_all(b"error not-available"),
+        Error::ResourceNotAvailable => output.extend_from_slice(b"error not-available"),
         Error::InvalidRange(start, end) => write_pair(output, b"error invalid-range ", start, end),
-        Error::InvalidAlignment => output.push_all(b"error invalid-alignment"),
-        Error::Overlap(_, _) => output.push_all(b"error overlap"),
-        Error::InvalidStateTransition(slot, _) => write_pair(
-            output,
-            b"error state ",
-            slot.start(),
-            slot.end(),
-        ),
-        Error::UnalignedAddress => output.push_all(b"error unaligned"),
-        Error::Underflow => output.push_all(b"error underflow"),
+        Error::InvalidAlignment => output.extend_from_slice(b"error invalid-alignment"),
+        Error::Overlap(_, _) => output.extend_from_slice(b"error overlap"),
+        Error::InvalidStateTransition(slot, _) => {
+            write_pair(output, b"error state ", slot.start(), slot.end())
+        }
+        Error::UnalignedAddress => output.extend_from_slice(b"error unaligned"),
+        Error::Underflow => output.extend_from_slice(b"error underflow"),
         Error::InvalidSize(size) => write_number(output, b"error invalid-size ", size),
-        Error::OutOfMemory => output.push_all(b"error memory"),
+        Error::OutOfMemory => output.extend_from_slice(b"error memory"),
     }
 }
 
 /// Writes a text and a number behind it.
 #[inline(always)]
 fn write_number(output: &mut Buffer, text: &[u8], number: u64) {
-    output.push_all(text);
+    output.extend_from_slice(text);
     output.push_number(number);
 }
 
 /// Writes a text and two numbers behind it.
 #[inline(always)]
 fn write_pair(output: &mut Buffer, text: &[u8], first: u64, second: u64) {
-    output.push_all(text);
+    output.extend_from_slice(text);
     push_pair(output, first, second);
 }
 

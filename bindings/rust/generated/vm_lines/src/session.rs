@@ -4,7 +4,7 @@
 //! piece; only one that began in an earlier piece is kept.
 
 use crate::buffer::Buffer;
-use crate::command::{Command, LONGEST_LINE, parse};
+use crate::command::{parse, Command, MAX_LINE_LEN};
 use crate::machine::Machine;
 use crate::reply::write_reply;
 use rattle::Global;
@@ -12,7 +12,7 @@ use rattle::Global;
 /// What the lines so far have made, and the line that has begun.
 pub(crate) struct Session {
     machine: Machine,
-    line: [u8; LONGEST_LINE],
+    line: [u8; MAX_LINE_LEN],
     filled: usize,
     is_too_long: bool,
 }
@@ -22,7 +22,7 @@ impl Session {
     pub(crate) fn new() -> Session {
         Session {
             machine: Machine::new(),
-            line: [0; LONGEST_LINE],
+            line: [0; MAX_LINE_LEN],
             filled: 0,
             is_too_long: false,
         }
@@ -41,13 +41,13 @@ impl Session {
         if !self.has_begun() {
             return parse(last);
         }
-        self.keep(last);
-        self.take_kept()
+        self.append(last);
+        self.take_appended()
     }
 
     /// Tells what the line asks of which all bytes are kept. After that no line has begun.
     #[cold]
-    fn take_kept(&mut self) -> Command {
+    fn take_appended(&mut self) -> Command {
         let asked = if self.is_too_long {
             Command::Malformed
         } else {
@@ -59,8 +59,8 @@ impl Session {
     }
 
     /// Takes more bytes of the line that has begun.
-    pub(crate) fn keep(&mut self, bytes: &[u8]) {
-        if self.is_too_long || bytes.len() > LONGEST_LINE - self.filled {
+    pub(crate) fn append(&mut self, bytes: &[u8]) {
+        if self.is_too_long || bytes.len() > MAX_LINE_LEN - self.filled {
             self.is_too_long = true;
             return;
         }

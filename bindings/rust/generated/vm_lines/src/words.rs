@@ -3,16 +3,19 @@
 //! The words of a line: whether it begins with a name, and the numbers and ids behind that. The four
 //! numbers of `manager` are read as three are, and two of them then taken as ids.
 
-use crate::number::number_ahead;
+use crate::number::leading_number;
 
 /// What stands behind the beginning of a text, where the text begins so.
 #[inline(always)]
-pub(crate) fn behind<'a, const N: usize>(front: &[u8; N], text: &'a [u8]) -> Option<&'a [u8]> {
+pub(crate) fn strip_prefix<'a, const N: usize>(
+    prefix: &[u8; N],
+    text: &'a [u8],
+) -> Option<&'a [u8]> {
     if text.len() < N {
         return None;
     }
     for i in 0..N {
-        if text[i] != front[i] {
+        if text[i] != prefix[i] {
             return None;
         }
     }
@@ -22,7 +25,7 @@ pub(crate) fn behind<'a, const N: usize>(front: &[u8; N], text: &'a [u8]) -> Opt
 /// The number that the first word of a text says, and what stands after the space behind it.
 #[inline(always)]
 fn first_number(text: &[u8]) -> Option<(u64, Option<&[u8]>)> {
-    let (number, count) = number_ahead(text)?;
+    let (number, count) = leading_number(text)?;
     if count == text.len() {
         return Some((number, None));
     }

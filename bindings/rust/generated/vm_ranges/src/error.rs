@@ -4,8 +4,8 @@
 
 use crate::range::RangeInclusive;
 use crate::state::NodeState;
-use rattle::{AllocError, AllocFailed};
 use rattle::Error;
+use rattle::{AllocError, AllocFailed};
 
 /// Why a call is refused. A refused call changes nothing. Errors are ordered by variant, then by
 /// fields.

@@ -9,8 +9,8 @@ pub(crate) mod numbers;
 pub(crate) mod range;
 pub(crate) mod state;
 
-use rattle::{AllocError, AllocFailed};
 use rattle::Error;
+use rattle::{AllocError, AllocFailed};
 
 /// Why a saved value is not read.
 #[derive(Debug, PartialEq, Eq, Error)]

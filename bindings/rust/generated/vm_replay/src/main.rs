@@ -7,7 +7,7 @@
 
 use rattle::HostRuntime;
 use std::process::ExitCode;
-use vm_lines::{RunError, run};
+use vm_lines::{run, RunError};
 
 /// The status that the program ends with.
 fn status(outcome: Result<(), RunError>) -> u8 {

@@ -3,8 +3,8 @@ ghost use Rattle.std.specs.Prelude.{IfOk};
 ghost use Rattle.std.specs.FinSet as set;
 ghost use Rattle.serde_json.specs.View.{items_view};
 ghost use Rattle.vm_allocator.specs.Allocator.{state_of};
-ghost use Rattle.vm_ranges.specs.Cases.{Tells};
-ghost use Rattle.vm_devices.specs.SavedChecks.{AreAsMany, AreHeldApart, FindsPaired};
+ghost use Rattle.vm_ranges.specs.Cases.{IsTestOf};
+ghost use Rattle.vm_devices.specs.SavedChecks.{CountsMatch, AreHeldAndDistinct, FindsPaired};
 
 use super::slots::read_slots;
 use serde_json::Value;
@@ -22,32 +22,32 @@ pub(super) fn read_devices(
     ensures { FindsPaired ids.now (state_of space.now) (items_view list.now) result }
 {
     // A stranger's list is counted before it costs memory.
-    if !are_as_many(ids, space, list) {
+    if !counts_match(ids, space, list) {
         return Err(ValueError::NotAState);
     }
     let slots = read_slots(alloc, list)?;
-    if !are_held_apart(alloc, ids, space, &slots)? {
+    if !are_held_and_distinct(alloc, ids, space, &slots)? {
         return Err(ValueError::NotAState);
     }
     Ok(slots)
 }
 
 /// Whether the items are as many as the held ids and as the held ranges.
-fn are_as_many(ids: &IdAllocator, space: &AddressAllocator, items: &[Value]) -> bool
-    ensures { Tells result (AreAsMany ids.now (state_of space.now) (items_view items.now)) }
+fn counts_match(ids: &IdAllocator, space: &AddressAllocator, items: &[Value]) -> bool
+    ensures { IsTestOf result (CountsMatch ids.now (state_of space.now) (items_view items.now)) }
 {
     let count = items.len() as u64;
     ids.held_count() == count && space.held_count() == count
 }
 
 /// Whether the id and the range of each device are held, and no two have one start.
-fn are_held_apart(
+fn are_held_and_distinct(
     alloc: Global,
     ids: &IdAllocator,
     space: &AddressAllocator,
     slots: &BTreeMap<u32, RangeInclusive>,
 ) -> std::result::Result<bool, AllocError>
-    ensures { IfOk result (λ all. Tells all (AreHeldApart ids.now (state_of space.now) set.empty slots.now.entries)) }
+    ensures { IfOk result (λ all. IsTestOf all (AreHeldAndDistinct ids.now (state_of space.now) set.empty slots.now.entries)) }
 {
     let mut starts = BTreeSet::new(alloc);
     for (id, range) in slots.iter() {

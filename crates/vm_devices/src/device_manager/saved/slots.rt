@@ -5,8 +5,8 @@ ghost use Rattle.std.specs.Map.{keys_of};
 ghost use Rattle.std.specs.Ordering.{nat_cmp};
 ghost use Rattle.serde_json.specs.View.{view, items_view};
 ghost use Rattle.vm_ranges.specs.Saving.{Saves};
-ghost use Rattle.vm_devices.specs.Saved.{StatesDevice, StatesList};
-ghost use Rattle.vm_devices.specs.SavedChecks.{device_found, FindsDevices, DeviceParts};
+ghost use Rattle.vm_devices.specs.Saved.{EncodesDevice, EncodesList};
+ghost use Rattle.vm_devices.specs.SavedChecks.{decoded_device, FindsDevices, DeviceParts};
 
 use crate::device_slot::DeviceSlot;
 use serde_json::{Value, json};
@@ -16,28 +16,28 @@ use vm_allocator::{RangeInclusive, Result, ValueError};
 use vm_ranges::{has_fields, range_in, u32_in};
 
 /// The list of devices, by rising ids.
-pub(super) fn save_slots(alloc: Global, slots: &BTreeMap<u32, RangeInclusive>) -> Result<Value>
-    ensures answer { Saves (λ d. StatesList d slots.now.entries) result }
-    ensures rising { IsStrictlySortedBy nat_cmp (keys_of slots.now.entries) }
+pub(super) fn encode_slots(alloc: Global, slots: &BTreeMap<u32, RangeInclusive>) -> Result<Value>
+    ensures answer { Saves (λ d. EncodesList d slots.now.entries) result }
+    ensures increasing { IsStrictlySortedBy nat_cmp (keys_of slots.now.entries) }
 {
     let mut list = Vec::new(alloc);
     for (id, range) in slots.iter() {
-        let slot = save_slot(alloc, *id, range)?;
+        let slot = encode_slot(alloc, *id, range)?;
         list.push(slot)?;
     }
     Ok(Value::from(list))
 }
 
 /// The value of one device.
-fn save_slot(alloc: Global, id: u32, range: &RangeInclusive) -> Result<Value>
-    ensures { Saves (λ d. StatesDevice d (id, range.now)) result }
+fn encode_slot(alloc: Global, id: u32, range: &RangeInclusive) -> Result<Value>
+    ensures { Saves (λ d. EncodesDevice d (id, range.now)) result }
 {
     let range = range.to_value(alloc)?;
-    Ok(put_slot(alloc, id, range)?)
+    Ok(slot_object(alloc, id, range)?)
 }
 
 /// The object of a device's fields.
-fn put_slot(alloc: Global, id: u32, range: Value) -> std::result::Result<Value, AllocError>
+fn slot_object(alloc: Global, id: u32, range: Value) -> std::result::Result<Value, AllocError>
     ensures { IfOk result (λ value. DeviceParts (view value) id (view range)) }
 {
     json!(in alloc; {"id": id, "mmio_range": range})
@@ -52,23 +52,23 @@ pub(super) fn read_slots(
     ensures { FindsDevices (items_view list.now) result }
 {
     let mut slots = BTreeMap::new(alloc);
-    let mut least = 0u64;
+    let mut lowest = 0u64;
     for item in list {
-        let Some(slot) = slot_of(item) else {
+        let Some(slot) = decode_slot(item) else {
             return Err(ValueError::NotAState);
         };
-        if u64::from(slot.id) < least {
+        if u64::from(slot.id) < lowest {
             return Err(ValueError::NotAState);
         }
         slots.insert(slot.id, slot.range)?;
-        least = u64::from(slot.id) + 1;
+        lowest = u64::from(slot.id) + 1;
     }
     Ok(slots)
 }
 
 /// The device that a value states.
-fn slot_of(value: &Value) -> Option<DeviceSlot>
-    ensures { option_map (λ slot. (slot.id, slot.range)) result ≡ device_found (view value.now) }
+fn decode_slot(value: &Value) -> Option<DeviceSlot>
+    ensures { option_map (λ slot. (slot.id, slot.range)) result ≡ decoded_device (view value.now) }
 {
     if !has_fields(value, 2) {
         return None;

@@ -14,7 +14,7 @@ pub(crate) fn same_blocks(a: &Child, b: &Child) -> bool
     requires b { height_of (side b.now) ≤ MAX_HEIGHT }
     ensures { IsTrue result ↔ (blocks (side a.now) ≡ blocks (side b.now)) }
 {
-    let (mut left, mut right) = (Walk::over(a), Walk::over(b));
+    let (mut left, mut right) = (Walk::new(a), Walk::new(b));
     while let Some(x) = left.next() {
         let Some(y) = right.next() else {
             return false;
@@ -28,12 +28,12 @@ pub(crate) fn same_blocks(a: &Child, b: &Child) -> bool
 
 /// How the blocks of two trees compare: the first two that differ decide, and else the one with fewer
 /// is less.
-pub(crate) fn order_of_blocks(a: &Child, b: &Child) -> Ordering
+pub(crate) fn compare_blocks(a: &Child, b: &Child) -> Ordering
     requires a { height_of (side a.now) ≤ MAX_HEIGHT }
     requires b { height_of (side b.now) ≤ MAX_HEIGHT }
     ensures { result ≡ blocks_cmp (blocks (side a.now)) (blocks (side b.now)) }
 {
-    let (mut left, mut right) = (Walk::over(a), Walk::over(b));
+    let (mut left, mut right) = (Walk::new(a), Walk::new(b));
     while let Some(x) = left.next() {
         let Some(y) = right.next() else {
             return Ordering::Greater;

@@ -8,8 +8,8 @@ ghost use Rattle.vm_engine.specs.Tree.Block.{held_block};
 ghost use Rattle.vm_engine.specs.Tree.Shape.{MAX_HEIGHT, blocks, height_of};
 ghost use Rattle.vm_engine.specs.Engine.NodeFields.{side};
 
-use crate::ends::order;
 use crate::node::{Child, InnerNode};
+use crate::ordering::compare;
 use std::cmp::Ordering;
 use vm_ranges::{NodeState, RangeInclusive};
 
@@ -19,7 +19,7 @@ pub(crate) fn has_held(tree: &Child, key: &RangeInclusive) -> bool
 {
     let Some(node) = tree else { return false };
     let node: &InnerNode = node;
-    match order(&node.key, key) {
+    match compare(&node.key, key) {
         Ordering::Greater => has_held(&node.left, key),
         Ordering::Less => has_held(&node.right, key),
         Ordering::Equal => node.node_state == NodeState::Allocated,

@@ -2,7 +2,7 @@
 ghost use Rattle.std.specs.Prelude.{◌≡◌, ◌↔◌, IsTrue};
 ghost use Rattle.vm_engine.specs.Engine.NodeFields.{side};
 
-use crate::node::{Child, known};
+use crate::node::{Child, recall_invariant};
 
 /// Whether two trees are equal node for node.
 pub(crate) fn same(a: &Child, b: &Child) -> bool
@@ -17,11 +17,11 @@ pub(crate) fn same(a: &Child, b: &Child) -> bool
                 && same(&a.right, &b.right)
         }
         (None, Some(_)) => {
-            known(b);
+            recall_invariant(b);
             false
         }
         (Some(_), None) => {
-            known(a);
+            recall_invariant(a);
             false
         }
     }

@@ -17,17 +17,17 @@ loop-rest-preserved c =
     let i = l.invariant in
     let step = length_step l.rest c.loop-rest-test.true i.fits in
     record {
-      text = put_more l.rest _ _ _ c.loop-rest-test.true i.fits c.put_pair.ensures i.text;
+      text = put_more l.rest _ _ _ c.loop-rest-test.true i.fits c.write_two_digits.ensures i.text;
       room = omega (arith, i.room, step);
       within = omega (arith, i.within);
-      len = c.put_pair.array_long;
+      len = c.write_two_digits.array_long;
       fits = omega (arith, i.fits);
     }
 
 pub returns-then-rest-ge10-clause-text : goal.returns-then-rest-ge10-clause-text
 returns-then-rest-ge10-clause-text c =
     let l = c.loop-rest in
-    put_two l.rest _ _ _ c.if-rest-ge10.true (omega arith) c.put_pair-then-rest-ge10.ensures l.invariant.text
+    put_two l.rest _ _ _ c.if-rest-ge10.true (omega arith) c.write_two_digits-then-rest-ge10.ensures l.invariant.text
 
 pub returns-clause-text : goal.returns-clause-text
 returns-clause-text c =

@@ -1,12 +1,12 @@
 use Rattle.std.proofs.Common.{◌≡◌, ◌++◌, ◌≤◌, ◌<◌, ◌^◌, length}
 use Rattle.std.specs.Fmt.{decimal}
-use Rattle.vm_lines.specs.Printing.{written}
+use Rattle.vm_lines.specs.Printing.{digits_from}
 use Rattle.vm_lines.proofs.buffer.write_digits.Given as goal
 
 -- the digits of the rest, and those that are written
 abbrev pub invariant-loop-rest : goal.invariant-loop-rest
 invariant-loop-rest l = record {
-  text : decimal l.rest ++ written l.start l.digits ≡ decimal l.number;
+  text : decimal l.rest ++ digits_from l.start l.digits ≡ decimal l.number;
   room : length (decimal l.rest) ≤ l.start;
   within : l.start ≤ 20;
   len : length l.digits ≡ 40;

@@ -5,4 +5,4 @@ use Rattle.vm_lines.proofs.number.are_digits.Given as goal
 
 -- whether the bytes so far are digits
 abbrev pub invariant-loop-i : goal.invariant-loop-i
-invariant-loop-i l = l.all ≡ list_all is_digit (take l.i l.front)
+invariant-loop-i l = l.all ≡ list_all is_digit (take l.i l.prefix)

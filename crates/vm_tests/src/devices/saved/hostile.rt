@@ -26,7 +26,7 @@ fn changed(rt: &(impl Abort + AllocGlobal), text: &str, old: &str, new: &str) ->
 /// The value of the text states no manager.
 fn expect_refused(rt: &(impl Abort + AllocGlobal), text: &str) {
     let answer = read(rt, &parsed(rt, text));
-    expect_so(rt, answer.err() == Some(ValueError::NotAState), &text);
+    expect_true(rt, answer.err() == Some(ValueError::NotAState), &text);
 }
 
 /// The text states a manager, and with each of these changes none.

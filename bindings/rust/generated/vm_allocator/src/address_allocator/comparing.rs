@@ -14,8 +14,7 @@ impl PartialEq for AddressAllocator {
     }
 }
 
-impl Eq for AddressAllocator {
-}
+impl Eq for AddressAllocator {}
 
 impl PartialOrd for AddressAllocator {
     /// As `cmp` compares.

@@ -3,10 +3,10 @@
 //! The saved form of an address allocator.
 
 use crate::address_allocator::AddressAllocator;
-use rattle::{Value, json};
+use rattle::{json, Value};
 use rattle::{AllocError, Global};
 use vm_engine::IntervalTree;
-use vm_ranges::{RangeInclusive, Result, ValueError, has_fields, range_in};
+use vm_ranges::{has_fields, range_in, RangeInclusive, Result, ValueError};
 
 impl AddressAllocator {
     /// The value that states the allocator: its space, and its tree node for node. `OutOfMemory` where
@@ -14,14 +14,14 @@ impl AddressAllocator {
     pub fn to_value(&self, alloc: Global) -> Result<Value> {
         let root = self.interval_tree.to_root_value(alloc)?;
         let space = self.address_space.to_value(alloc)?;
-        Ok(save_allocator(alloc, space, root)?)
+        Ok(allocator_object(alloc, space, root)?)
     }
 
     /// The allocator that a value states: its space and held ranges, in a tree of the same nodes.
     /// `NotAState` where the value states none, and else `OutOfMemory` where there is no memory for the
     /// tree. To find out which takes no memory and goes down at most 50 levels of the value.
     pub fn from_value(alloc: Global, value: &Value) -> core::result::Result<Self, ValueError> {
-        let Some(parts) = parts_of(value) else {
+        let Some(parts) = decode_parts(value) else {
             return Err(ValueError::NotAState);
         };
         let interval_tree = IntervalTree::from_root_value(alloc, &parts.space, parts.root)?;
@@ -33,7 +33,7 @@ impl AddressAllocator {
 }
 
 /// The object of an allocator's fields.
-fn save_allocator(
+fn allocator_object(
     alloc: Global,
     space: Value,
     root: Value,
@@ -49,17 +49,17 @@ pub(super) struct SavedAllocator<'a> {
 }
 
 /// The fields of an allocator's value, where it has these and no others.
-pub(super) fn parts_of(value: &Value) -> Option<SavedAllocator<'_>> {
+pub(super) fn decode_parts(value: &Value) -> Option<SavedAllocator<'_>> {
     if !has_fields(value, 2) {
         return None;
     }
     let space = range_in(value, "address_space")?;
-    let root = root_of(value.get("interval_tree")?)?;
+    let root = decode_root(value.get("interval_tree")?)?;
     Some(SavedAllocator { space, root })
 }
 
 /// The root of a tree's value.
-fn root_of(tree: &Value) -> Option<&Value> {
+fn decode_root(tree: &Value) -> Option<&Value> {
     if !has_fields(tree, 1) {
         return None;
     }

@@ -2,20 +2,26 @@
 
 //! The saved form of an id allocator.
 
-use rattle::Vec;
-use crate::id_allocator::{IdAllocator, bound_of};
-use rattle::{Value, json};
-use rattle::{AllocError, Global};
+use crate::id_allocator::{bound_of, IdAllocator};
 use rattle::BTreeSet;
-use vm_ranges::{Result, ValueError, has_fields, list_in, u32_from, u32_in};
+use rattle::Vec;
+use rattle::{json, Value};
+use rattle::{AllocError, Global};
+use vm_ranges::{has_fields, list_in, u32_from, u32_in, Result, ValueError};
 
 impl IdAllocator {
     /// The value that states the allocator: its range, the next id and the ids given back.
     /// `OutOfMemory` where there is no memory for it.
     pub fn to_value(&self, alloc: Global) -> Result<Value> {
-        let next = save_next(self.next_id);
-        let freed = save_ids(alloc, &self.freed_ids)?;
-        Ok(save_parts(alloc, self.range_base, next, self.range_end, freed)?)
+        let next = encode_next(self.next_id);
+        let freed = encode_ids(alloc, &self.freed_ids)?;
+        Ok(ids_object(
+            alloc,
+            self.range_base,
+            next,
+            self.range_end,
+            freed,
+        )?)
     }
 
     /// The allocator that a value states: its range, the ids ever handed out and those held.
@@ -26,7 +32,7 @@ impl IdAllocator {
             return Err(ValueError::NotAState);
         };
         let bound = bound_of(ids.next, ids.end);
-        let freed_ids = collect(alloc, ids.freed, ids.base.into(), bound)?;
+        let freed_ids = collect_ids(alloc, ids.freed, ids.base.into(), bound)?;
         Ok(IdAllocator {
             range_base: ids.base,
             next_id: ids.next,
@@ -37,7 +43,7 @@ impl IdAllocator {
 }
 
 /// The value of a next id.
-fn save_next(next: Option<u32>) -> Value {
+fn encode_next(next: Option<u32>) -> Value {
     match next {
         None => Value::Null,
         Some(next) => Value::from(next),
@@ -45,7 +51,7 @@ fn save_next(next: Option<u32>) -> Value {
 }
 
 /// The list of ids given back.
-fn save_ids(alloc: Global, ids: &BTreeSet<u32>) -> core::result::Result<Value, AllocError> {
+fn encode_ids(alloc: Global, ids: &BTreeSet<u32>) -> core::result::Result<Value, AllocError> {
     let mut list = Vec::new(alloc);
     for id in ids.iter() {
         list.push(Value::from(*id))?;
@@ -54,7 +60,7 @@ fn save_ids(alloc: Global, ids: &BTreeSet<u32>) -> core::result::Result<Value, A
 }
 
 /// The object of an id allocator's fields.
-fn save_parts(
+fn ids_object(
     alloc: Global,
     base: u32,
     next: Value,
@@ -82,7 +88,10 @@ fn check_ids(value: &Value) -> Option<CheckedIds<'_>> {
     let end = u32_in(value, "range_end")?;
     let next = next_in(value, "next_id")?;
     let freed = list_in(value, "freed_ids")?;
-    if base <= end && is_next(next, base, end) && rise(freed, base.into(), bound_of(next, end)) {
+    if base <= end
+        && is_next(next, base, end)
+        && are_increasing(freed, base.into(), bound_of(next, end))
+    {
         return Some(CheckedIds {
             base,
             next,
@@ -94,7 +103,7 @@ fn check_ids(value: &Value) -> Option<CheckedIds<'_>> {
 }
 
 /// The next id that a value states.
-fn next_of(value: &Value) -> Option<Option<u32>> {
+fn decode_next(value: &Value) -> Option<Option<u32>> {
     if value.is_null() {
         return Some(None);
     }
@@ -103,7 +112,7 @@ fn next_of(value: &Value) -> Option<Option<u32>> {
 
 /// The next id in a field.
 fn next_in(value: &Value, name: &str) -> Option<Option<u32>> {
-    next_of(value.get(name)?)
+    decode_next(value.get(name)?)
 }
 
 /// Whether this may be the next id of a range.
@@ -114,9 +123,9 @@ fn is_next(next: Option<u32>, base: u32, end: u32) -> bool {
     }
 }
 
-/// Whether the items are whole numbers that rise from `least` on and stay below `bound`.
-fn rise(list: &[Value], least: u64, bound: u64) -> bool {
-    let mut next = least;
+/// Whether the items are whole numbers that rise from `lowest` on and stay below `bound`.
+fn are_increasing(list: &[Value], lowest: u64, bound: u64) -> bool {
+    let mut next = lowest;
     for item in list {
         let Some(id) = item.as_u64() else {
             return false;
@@ -129,15 +138,15 @@ fn rise(list: &[Value], least: u64, bound: u64) -> bool {
     true
 }
 
-/// The set of the numbers, which rise from `least` on and stay below `bound`.
+/// The set of the numbers, which rise from `lowest` on and stay below `bound`.
 #[allow(unused_assignments, unused_variables)]
-fn collect(
+fn collect_ids(
     alloc: Global,
     list: &[Value],
-    least: u64,
+    lowest: u64,
     bound: u64,
 ) -> core::result::Result<BTreeSet<u32>, AllocError> {
-    let mut next = least;
+    let mut next = lowest;
     let mut ids = BTreeSet::new(alloc);
     for item in list {
         let id = item.as_u64().unwrap();

@@ -3,18 +3,18 @@
 //! Address allocators read with repairs, from what the Rust crate vm-allocator 0.1.4 saves, its faults
 //! among it: a check of the whole value without memory, and the holding of its keys.
 
-use super::allocator::{SavedAllocator, parts_of};
+use super::allocator::{decode_parts, SavedAllocator};
 use crate::address_allocator::AddressAllocator;
-use rattle::Value;
 use rattle::Global;
-use vm_engine::node_of;
+use rattle::Value;
+use vm_engine::decode_node;
 use vm_ranges::{AllocPolicy, NodeState, RangeInclusive, Result, ValueError};
 
 /// No node is nested deeper, since no tree of the Rust crate is higher.
-const MAX_HEIGHT_REPAIRED: u64 = 50;
+const MAX_NESTING_REPAIRED: u64 = 50;
 
 /// How many keys may be held: with no more, no split is refused for depth.
-const MOST_HELD: u64 = 6_293_134_512;
+const MAX_HELD: u64 = 6_293_134_512;
 
 impl AddressAllocator {
     /// The allocator that a value of the Rust crate stands for, also after one of its faults: its space,
@@ -36,7 +36,7 @@ impl AddressAllocator {
         let Ok(mut allocator) = AddressAllocator::new(alloc, space.start(), space.len()) else {
             return Err(ValueError::OutOfMemory);
         };
-        let Ok(()) = hold_keys(checked.root, MAX_HEIGHT_REPAIRED, alloc, &mut allocator) else {
+        let Ok(()) = hold_keys(checked.root, MAX_NESTING_REPAIRED, alloc, &mut allocator) else {
             return Err(ValueError::OutOfMemory);
         };
         Ok(allocator)
@@ -45,26 +45,26 @@ impl AddressAllocator {
 
 /// The keys met so far: they end below `next`, and `held` of them are held.
 #[derive(Clone, Copy)]
-struct Row {
+struct KeyCursor {
     next: u128,
     held: u64,
 }
 
-impl Row {
+impl KeyCursor {
     /// The row with one more block, where it may stand behind the others in a space up to `end`.
-    fn extended(self, end: u64, key: &RangeInclusive, state: NodeState) -> Option<Row> {
+    fn advance_key(self, end: u64, key: &RangeInclusive, state: NodeState) -> Option<KeyCursor> {
         let last = key.end();
         if u128::from(key.start()) < self.next || last > end {
             return None;
         }
         let next = u128::from(last) + 1;
         if state == NodeState::Free {
-            return Some(Row { next, ..self });
+            return Some(KeyCursor { next, ..self });
         }
-        if last == u64::MAX || self.held >= MOST_HELD {
+        if last == u64::MAX || self.held >= MAX_HELD {
             return None;
         }
-        Some(Row {
+        Some(KeyCursor {
             next,
             held: self.held + 1,
         })
@@ -74,32 +74,32 @@ impl Row {
 /// The row with the blocks of the nodes of a value, in order. None where it is no tree of nodes, has
 /// them nested deeper than `depth`, or has a block that may not stand where it does.
 #[allow(clippy::question_mark)]
-fn check_keys(value: &Value, end: u64, depth: u64, row: Row) -> Option<Row> {
+fn check_keys(value: &Value, end: u64, depth: u64, cursor: KeyCursor) -> Option<KeyCursor> {
     if value.is_null() {
-        return Some(row);
+        return Some(cursor);
     }
     if depth == 0 {
         return None;
     }
-    let Some(node) = node_of(value) else {
+    let Some(node) = decode_node(value) else {
         return None;
     };
-    let left = check_keys(node.left, end, depth - 1, row)?;
-    let middle = left.extended(end, &node.key, node.state)?;
+    let left = check_keys(node.left, end, depth - 1, cursor)?;
+    let middle = left.advance_key(end, &node.key, node.state)?;
     check_keys(node.right, end, depth - 1, middle)
 }
 
 /// The space that a value states, and the root of its tree; both are checked.
 #[allow(clippy::question_mark)]
 fn check_repaired(value: &Value) -> Option<SavedAllocator<'_>> {
-    let Some(parts) = parts_of(value) else {
+    let Some(parts) = decode_parts(value) else {
         return None;
     };
-    let before = Row {
+    let before = KeyCursor {
         next: parts.space.start().into(),
         held: 0,
     };
-    check_keys(parts.root, parts.space.end(), MAX_HEIGHT_REPAIRED, before)?;
+    check_keys(parts.root, parts.space.end(), MAX_NESTING_REPAIRED, before)?;
     Some(parts)
 }
 
@@ -112,7 +112,7 @@ fn hold_keys(
     alloc: Global,
     allocator: &mut AddressAllocator,
 ) -> Result<()> {
-    let Some(node) = node_of(value) else {
+    let Some(node) = decode_node(value) else {
         return Ok(());
     };
     hold_keys(node.left, depth - 1, alloc, allocator)?;

@@ -8,9 +8,9 @@ mod pairing;
 mod slots;
 
 use self::pairing::read_devices;
-use self::slots::save_slots;
+use self::slots::encode_slots;
 use super::DeviceManager;
-use rattle::{Value, json};
+use rattle::{json, Value};
 use rattle::{AllocError, Global};
 use vm_allocator::{AddressAllocator, IdAllocator, Result, ValueError};
 use vm_ranges::{has_fields, list_in, number_in};
@@ -24,8 +24,8 @@ impl DeviceManager {
     pub fn to_value(&self, alloc: Global) -> Result<Value> {
         let ids = self.id_allocator.to_value(alloc)?;
         let space = self.mmio_allocator.to_value(alloc)?;
-        let slots = save_slots(alloc, &self.slots)?;
-        Ok(put_manager(alloc, ids, space, slots)?)
+        let slots = encode_slots(alloc, &self.slots)?;
+        Ok(manager_object(alloc, ids, space, slots)?)
     }
 
     /// The manager that a value states: its ids, its space and its devices. `NotAState` where the value
@@ -33,7 +33,7 @@ impl DeviceManager {
     /// or a range that is not held, or a held one has no device. Its parts are read in turn, so
     /// `OutOfMemory` may come for any value.
     pub fn from_value(alloc: Global, value: &Value) -> core::result::Result<Self, ValueError> {
-        let Some(fields) = fields_of(value) else {
+        let Some(fields) = decode_fields(value) else {
             return Err(ValueError::NotAState);
         };
         let id_allocator = IdAllocator::from_value(alloc, fields.ids)?;
@@ -48,7 +48,7 @@ impl DeviceManager {
 }
 
 /// The object of a manager's fields.
-fn put_manager(
+fn manager_object(
     alloc: Global,
     ids: Value,
     space: Value,
@@ -66,7 +66,7 @@ struct Fields<'a> {
 }
 
 /// What stands in the fields of a value, where they are those of a manager, of this version.
-fn fields_of(value: &Value) -> Option<Fields<'_>> {
+fn decode_fields(value: &Value) -> Option<Fields<'_>> {
     if !has_fields(value, 4) || number_in(value, "version")? != VERSION {
         return None;
     }

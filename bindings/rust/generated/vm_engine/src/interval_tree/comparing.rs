@@ -3,7 +3,7 @@
 //! Equality and order of trees: by their blocks, and so by the state that they stand for.
 
 use super::IntervalTree;
-use crate::node::walks::comparing::{order_of_blocks, same_blocks};
+use crate::node::walks::comparing::{compare_blocks, same_blocks};
 use core::cmp::Ordering;
 
 impl PartialEq for IntervalTree {
@@ -13,8 +13,7 @@ impl PartialEq for IntervalTree {
     }
 }
 
-impl Eq for IntervalTree {
-}
+impl Eq for IntervalTree {}
 
 impl PartialOrd for IntervalTree {
     /// As `cmp` compares.
@@ -27,6 +26,6 @@ impl Ord for IntervalTree {
     /// By the first blocks that differ, by start, then by end, then by state; where none do, the
     /// tree with fewer blocks is less.
     fn cmp(&self, other: &IntervalTree) -> Ordering {
-        order_of_blocks(&self.root, &other.root)
+        compare_blocks(&self.root, &other.root)
     }
 }

@@ -31,14 +31,14 @@ impl IntervalTree {
         constraint: Constraint,
     ) -> (Result<RangeInclusive>, u64) {
         let mut count = Steps { entered: 0 };
-        let answer = self.grant(alloc, constraint, &mut count);
+        let answer = self.allocate_inner(alloc, constraint, &mut count);
         (answer, count.entered)
     }
 
     /// `free`, and how many nodes it entered.
     pub fn free_counted(&mut self, key: &RangeInclusive) -> (Result<()>, u64) {
         let mut count = Steps { entered: 0 };
-        let answer = self.release(key, &mut count);
+        let answer = self.free_inner(key, &mut count);
         (answer, count.entered)
     }
 }

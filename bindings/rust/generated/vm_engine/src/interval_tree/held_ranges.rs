@@ -5,8 +5,8 @@
 //! change.
 
 use super::IntervalTree;
-use crate::node::walks::Walk;
 use crate::node::walks::held::{count_held, has_held};
+use crate::node::walks::Walk;
 use vm_ranges::{NodeState, RangeInclusive};
 
 /// The held ranges of a space, from the lowest to the highest: it is seen as those that are

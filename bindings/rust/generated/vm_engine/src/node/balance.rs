@@ -1,76 +1,76 @@
 // Written by bindings/erase from crates/vm_engine/src/node/balance.rt: do not edit.
 
-//! Rotations to the left and to the right, and `settle`, the one tail of each change of a child.
+//! Rotations to the left and to the right, and `update`, the one tail of each change of a child.
 //! Nothing here calls itself, and nothing takes memory.
 //!
-//! `settle` takes the fields of a node one by one, since a node may not be handed on whole while what
+//! `update` takes the fields of a node one by one, since a node may not be handed on whole while what
 //! it keeps is stale, and a record of what is kept would make a node larger. It returns what became
-//! of it (`Settled`) instead of rotating, since the caller still has it open: once it is closed,
-//! `finish` does the rest, and one lemma says what both make of it (`finished`). It stands in line:
+//! of it (`Updated`) instead of rotating, since the caller still has it open: once it is closed,
+//! `rebalance` does the rest, and one lemma says what both make of it (`rebalanced`). It stands in line:
 //! never inlined it costs 5 to 10 % of the instructions of every input, since the fields then go as
 //! addresses; the rotation alone as a cold function makes no difference. A rotation changes nodes in
 //! place: to take them apart and put them together again reads better, and costs 1.5 to 3 %.
 
+use super::summary::{free_summary_of, refresh_free, summary_of, summary_over, Change};
+use super::{height, Child, InnerNode};
 use rattle::Box;
-use super::kept::{Change, kept_of, kept_over, renew_room, room_of};
-use super::{Child, InnerNode, height};
 use vm_ranges::{NodeState, RangeInclusive};
 
 /// What becomes of a node once one of its children has changed.
-pub(super) enum Settled {
+pub(super) enum Updated {
     /// Its children are close in height; this changed of what it keeps.
-    Stands(Change),
+    Balanced(Change),
     /// Its children differ by two, and are taken out of it: the left one and the right one.
-    Leans(Child, Child),
+    Unbalanced(Child, Child),
 }
 
-impl Settled {
+impl Updated {
     /// Balances the node at a place where it leans; says what changed there.
     #[inline(always)]
-    pub(super) fn finish(self, at: &mut Child) -> Change {
+    pub(super) fn rebalance(self, at: &mut Child) -> Change {
         match self {
-            Settled::Stands(change) => change,
-            Settled::Leans(left, right) => rebalance(at, left, right),
+            Updated::Balanced(change) => change,
+            Updated::Unbalanced(left, right) => balance_at(at, left, right),
         }
     }
 }
 
 /// Brings what a node keeps up to date, or takes its children out where they are to be balanced.
 #[inline(always)]
-pub(super) fn settle(
+pub(super) fn update(
     left: &mut Child,
     right: &mut Child,
     key: &RangeInclusive,
     node_state: NodeState,
-    kept_height: &mut u64,
+    cached_height: &mut u64,
     max_free: &mut u64,
     alignments: &mut u8,
-) -> Settled {
-    let first = kept_of(left);
-    let second = kept_of(right);
+) -> Updated {
+    let first = summary_of(left);
+    let second = summary_of(right);
     if first.height > second.height + 1 || second.height > first.height + 1 {
-        let own = room_of(key, node_state);
-        *kept_height = 1;
+        let own = free_summary_of(key, node_state);
+        *cached_height = 1;
         *max_free = own.max_free;
         *alignments = own.alignments;
-        return Settled::Leans(left.take(), right.take());
+        return Updated::Unbalanced(left.take(), right.take());
     }
-    let own = room_of(key, node_state);
-    let change = renew_room(first.room, second.room, own, max_free, alignments);
+    let own = free_summary_of(key, node_state);
+    let change = refresh_free(first.free, second.free, own, max_free, alignments);
     let height = first.height.max(second.height) + 1;
-    if height == *kept_height {
-        return Settled::Stands(change);
+    if height == *cached_height {
+        return Updated::Balanced(change);
     }
-    *kept_height = height;
-    Settled::Stands(Change::Height)
+    *cached_height = height;
+    Updated::Balanced(Change::Height)
 }
 
 impl InnerNode {
     /// Takes the children out of the node, the left one and the right one.
     #[inline(always)]
-    pub(super) fn strip(&mut self) -> (Child, Child) {
+    pub(super) fn take_children(&mut self) -> (Child, Child) {
         let sides = (self.left.take(), self.right.take());
-        let own = room_of(&self.key, self.node_state);
+        let own = free_summary_of(&self.key, self.node_state);
         self.height = 1;
         self.max_free = own.max_free;
         self.alignments = own.alignments;
@@ -83,10 +83,10 @@ pub(super) fn fork(left: Child, mut middle: Box<InnerNode>, right: Child) -> Box
     let open = &mut *middle;
     open.left = left;
     open.right = right;
-    let kept = kept_over(&open.left, &open.right, &open.key, open.node_state);
-    open.height = kept.height;
-    open.max_free = kept.room.max_free;
-    open.alignments = kept.room.alignments;
+    let summary = summary_over(&open.left, &open.right, &open.key, open.node_state);
+    open.height = summary.height;
+    open.max_free = summary.free.max_free;
+    open.alignments = summary.free.alignments;
     middle
 }
 
@@ -95,10 +95,10 @@ fn rotate_right(mut left: Box<InnerNode>, middle: Box<InnerNode>, right: Child) 
     let top = &mut *left;
     let inner = top.right.take();
     top.right = Some(fork(inner, middle, right));
-    let kept = kept_over(&top.left, &top.right, &top.key, top.node_state);
-    top.height = kept.height;
-    top.max_free = kept.room.max_free;
-    top.alignments = kept.room.alignments;
+    let summary = summary_over(&top.left, &top.right, &top.key, top.node_state);
+    top.height = summary.height;
+    top.max_free = summary.free.max_free;
+    top.alignments = summary.free.alignments;
     left
 }
 
@@ -115,17 +115,17 @@ fn rotate_left_right(
     };
     let top = &mut *inner;
     lower.right = top.left.take();
-    let kept = kept_over(&lower.left, &lower.right, &lower.key, lower.node_state);
-    lower.height = kept.height;
-    lower.max_free = kept.room.max_free;
-    lower.alignments = kept.room.alignments;
+    let summary = summary_over(&lower.left, &lower.right, &lower.key, lower.node_state);
+    lower.height = summary.height;
+    lower.max_free = summary.free.max_free;
+    lower.alignments = summary.free.alignments;
     let after = top.right.take();
     top.left = Some(left);
     top.right = Some(fork(after, middle, right));
-    let kept = kept_over(&top.left, &top.right, &top.key, top.node_state);
-    top.height = kept.height;
-    top.max_free = kept.room.max_free;
-    top.alignments = kept.room.alignments;
+    let summary = summary_over(&top.left, &top.right, &top.key, top.node_state);
+    top.height = summary.height;
+    top.max_free = summary.free.max_free;
+    top.alignments = summary.free.alignments;
     inner
 }
 
@@ -134,10 +134,10 @@ fn rotate_left(left: Child, middle: Box<InnerNode>, mut right: Box<InnerNode>) -
     let top = &mut *right;
     let inner = top.left.take();
     top.left = Some(fork(left, middle, inner));
-    let kept = kept_over(&top.left, &top.right, &top.key, top.node_state);
-    top.height = kept.height;
-    top.max_free = kept.room.max_free;
-    top.alignments = kept.room.alignments;
+    let summary = summary_over(&top.left, &top.right, &top.key, top.node_state);
+    top.height = summary.height;
+    top.max_free = summary.free.max_free;
+    top.alignments = summary.free.alignments;
     right
 }
 
@@ -154,17 +154,17 @@ fn rotate_right_left(
     };
     let top = &mut *inner;
     lower.left = top.right.take();
-    let kept = kept_over(&lower.left, &lower.right, &lower.key, lower.node_state);
-    lower.height = kept.height;
-    lower.max_free = kept.room.max_free;
-    lower.alignments = kept.room.alignments;
+    let summary = summary_over(&lower.left, &lower.right, &lower.key, lower.node_state);
+    lower.height = summary.height;
+    lower.max_free = summary.free.max_free;
+    lower.alignments = summary.free.alignments;
     let before = top.left.take();
     top.right = Some(right);
     top.left = Some(fork(left, middle, before));
-    let kept = kept_over(&top.left, &top.right, &top.key, top.node_state);
-    top.height = kept.height;
-    top.max_free = kept.room.max_free;
-    top.alignments = kept.room.alignments;
+    let summary = summary_over(&top.left, &top.right, &top.key, top.node_state);
+    top.height = summary.height;
+    top.max_free = summary.free.max_free;
+    top.alignments = summary.free.alignments;
     inner
 }
 
@@ -191,7 +191,7 @@ pub(super) fn balance(left: Child, middle: Box<InnerNode>, right: Child) -> Box<
 
 /// Puts a node with these sides, whose heights differ by at most two, in the place of one without
 /// children. The height there may be another one, which it tells.
-fn rebalance(at: &mut Child, left: Child, right: Child) -> Change {
+fn balance_at(at: &mut Child, left: Child, right: Child) -> Change {
     let Some(middle) = at.take() else {
         unreachable!()
     };

@@ -3,8 +3,8 @@
 //! The block of an address.
 
 use super::InnerNode;
+use crate::ordering::ends_before;
 use crate::Steps;
-use crate::ends::ends_before;
 use vm_ranges::RangeInclusive;
 
 impl InnerNode {
@@ -21,7 +21,7 @@ impl InnerNode {
         }
         if ends_before(&self.key, key) {
             let Some(right) = &self.right else {
-                return None
+                return None;
             };
             return right.search_superset(key, count);
         }

@@ -2,12 +2,12 @@
 
 //! A leaf added to a tree, on one way down and back up.
 
-use rattle::Box;
-use super::balance::settle;
-use super::kept::Change;
+use super::balance::update;
+use super::summary::Change;
 use super::{Child, InnerNode};
+use crate::ordering::starts_before;
 use crate::Steps;
-use crate::ends::starts_before;
+use rattle::Box;
 
 /// Adds a leaf at a place, below the node there if there is one; says what changed there.
 pub(super) fn link_at(at: &mut Child, leaf: Box<InnerNode>, count: &mut Steps) -> Change {
@@ -26,7 +26,7 @@ pub(super) fn link_at(at: &mut Child, leaf: Box<InnerNode>, count: &mut Steps) -
     if let Change::Nothing = change {
         return change;
     }
-    let settled = settle(
+    let updated = update(
         &mut tree.left,
         &mut tree.right,
         &tree.key,
@@ -35,5 +35,5 @@ pub(super) fn link_at(at: &mut Child, leaf: Box<InnerNode>, count: &mut Steps) -
         &mut tree.max_free,
         &mut tree.alignments,
     );
-    settled.finish(at)
+    updated.rebalance(at)
 }

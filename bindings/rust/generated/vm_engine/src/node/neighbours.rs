@@ -6,8 +6,8 @@
 //! ranges back up.
 
 use super::{Child, InnerNode};
+use crate::ordering::compare;
 use crate::Steps;
-use crate::ends::order;
 use core::cmp::Ordering;
 use vm_ranges::{NodeState, RangeInclusive};
 
@@ -22,7 +22,7 @@ pub(crate) struct Neighbours {
 
 /// The nodes with the blocks right beside one, where there are such.
 #[derive(Clone, Copy)]
-struct Beside<'a> {
+struct NeighbourNodes<'a> {
     before: Option<&'a InnerNode>,
     after: Option<&'a InnerNode>,
 }
@@ -84,11 +84,11 @@ impl InnerNode {
     fn find_held<'a>(
         &'a self,
         key: &RangeInclusive,
-        beside: &mut Beside<'a>,
+        beside: &mut NeighbourNodes<'a>,
         count: &mut Steps,
     ) -> bool {
         self.enter(count);
-        match order(&self.key, key) {
+        match compare(&self.key, key) {
             Ordering::Greater => {
                 let Some(left) = &self.left else { return false };
                 beside.after = Some(self);
@@ -96,17 +96,21 @@ impl InnerNode {
             }
             Ordering::Less => {
                 let Some(right) = &self.right else {
-                    return false
+                    return false;
                 };
                 beside.before = Some(self);
                 right.find_held(key, beside, count)
             }
-            Ordering::Equal => self.look_beside(beside, count),
+            Ordering::Equal => self.find_neighbours_here(beside, count),
         }
     }
 
     /// Whether this node's block is held. `beside` has then the nodes beside it.
-    fn look_beside<'a>(&'a self, beside: &mut Beside<'a>, count: &mut Steps) -> bool {
+    fn find_neighbours_here<'a>(
+        &'a self,
+        beside: &mut NeighbourNodes<'a>,
+        count: &mut Steps,
+    ) -> bool {
         match self.node_state {
             NodeState::Free => false,
             NodeState::Allocated => {
@@ -119,7 +123,7 @@ impl InnerNode {
 
     /// The free blocks beside the held block with this key, if there is one.
     pub(crate) fn neighbours(&self, key: &RangeInclusive, count: &mut Steps) -> Option<Neighbours> {
-        let mut beside = Beside {
+        let mut beside = NeighbourNodes {
             before: None,
             after: None,
         };

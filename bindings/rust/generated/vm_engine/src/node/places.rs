@@ -4,13 +4,13 @@
 //! side as its argument would look at it at each node, and its proof would be by cases on it
 //! throughout. They write what they find into an `Option` that their caller holds: a returned place
 //! is 32 bytes that are copied at each level, 12 % of the instructions of `first`. Each looks whether
-//! a child is there, and has room (`roomy`), before it calls: a recursion over optional children took
+//! a child is there, and has room (`may_fit`), before it calls: a recursion over optional children took
 //! 40 to 80 % more time. None calls what begins the search, since whatever comes back to itself has
 //! to count a node.
 
 use super::{Child, InnerNode};
 use crate::Steps;
-use vm_ranges::{NodeState, RangeInclusive, align_down, align_up};
+use vm_ranges::{align_down, align_up, NodeState, RangeInclusive};
 
 /// A start in a free block.
 #[derive(Clone, Copy, Debug)]
@@ -22,7 +22,7 @@ pub(crate) struct Place {
 }
 
 /// The least multiple of the alignment from which a block has room for `size` clear addresses.
-fn least_fit(key: &RangeInclusive, state: NodeState, size: u64, alignment: u64) -> Option<u64> {
+fn lowest_fit(key: &RangeInclusive, state: NodeState, size: u64, alignment: u64) -> Option<u64> {
     if state == NodeState::Allocated {
         return None;
     }
@@ -38,7 +38,7 @@ fn least_fit(key: &RangeInclusive, state: NodeState, size: u64, alignment: u64) 
 }
 
 /// The greatest multiple of the alignment from which a block has room for `size` clear addresses.
-fn greatest_fit(key: &RangeInclusive, state: NodeState, size: u64, alignment: u64) -> Option<u64> {
+fn highest_fit(key: &RangeInclusive, state: NodeState, size: u64, alignment: u64) -> Option<u64> {
     let (start, end) = (key.start(), key.end());
     if state == NodeState::Allocated || end - start < size - 1 {
         return None;
@@ -46,13 +46,17 @@ fn greatest_fit(key: &RangeInclusive, state: NodeState, size: u64, alignment: u6
     let Ok(place) = align_down(end - (size - 1), alignment) else {
         return None;
     };
-    if start <= place { Some(place) } else { None }
+    if start <= place {
+        Some(place)
+    } else {
+        None
+    }
 }
 
 /// The tree, if one of its free blocks is long enough for `size` addresses, and a multiple of the
 /// alignment lies in one of them.
 #[inline(always)]
-fn roomy(tree: &Child, size: u64, alignment: u64) -> Option<&InnerNode> {
+fn may_fit(tree: &Child, size: u64, alignment: u64) -> Option<&InnerNode> {
     let Some(node) = tree else { return None };
     let node: &InnerNode = node;
     if node.max_free < size || u32::from(node.alignments) <= alignment.trailing_zeros() {
@@ -70,7 +74,7 @@ pub(crate) fn first_place(
     count: &mut Steps,
 ) -> Option<Place> {
     let mut found = None;
-    if let Some(node) = roomy(tree, size, alignment) {
+    if let Some(node) = may_fit(tree, size, alignment) {
         node.first_place(size, alignment, &mut found, count);
     }
     found
@@ -84,7 +88,7 @@ pub(crate) fn last_place(
     count: &mut Steps,
 ) -> Option<Place> {
     let mut found = None;
-    if let Some(node) = roomy(tree, size, alignment) {
+    if let Some(node) = may_fit(tree, size, alignment) {
         node.last_place(size, alignment, &mut found, count);
     }
     found
@@ -94,20 +98,20 @@ impl InnerNode {
     /// Writes the least place from this node on, if there is one.
     fn first_place(&self, size: u64, alignment: u64, found: &mut Option<Place>, count: &mut Steps) {
         self.enter(count);
-        if let Some(left) = roomy(&self.left, size, alignment) {
+        if let Some(left) = may_fit(&self.left, size, alignment) {
             left.first_place(size, alignment, found, count);
         }
         if found.is_some() {
             return;
         }
-        if let Some(start) = least_fit(&self.key, self.node_state, size, alignment) {
+        if let Some(start) = lowest_fit(&self.key, self.node_state, size, alignment) {
             *found = Some(Place {
                 key: self.key,
                 start,
             });
             return;
         }
-        if let Some(right) = roomy(&self.right, size, alignment) {
+        if let Some(right) = may_fit(&self.right, size, alignment) {
             right.first_place(size, alignment, found, count);
         }
     }
@@ -115,20 +119,20 @@ impl InnerNode {
     /// Writes the greatest place from this node on, if there is one.
     fn last_place(&self, size: u64, alignment: u64, found: &mut Option<Place>, count: &mut Steps) {
         self.enter(count);
-        if let Some(right) = roomy(&self.right, size, alignment) {
+        if let Some(right) = may_fit(&self.right, size, alignment) {
             right.last_place(size, alignment, found, count);
         }
         if found.is_some() {
             return;
         }
-        if let Some(start) = greatest_fit(&self.key, self.node_state, size, alignment) {
+        if let Some(start) = highest_fit(&self.key, self.node_state, size, alignment) {
             *found = Some(Place {
                 key: self.key,
                 start,
             });
             return;
         }
-        if let Some(left) = roomy(&self.left, size, alignment) {
+        if let Some(left) = may_fit(&self.left, size, alignment) {
             left.last_place(size, alignment, found, count);
         }
     }

@@ -4,34 +4,34 @@
 //! (`delete_root`, never inlined): together they would save twice as many registers at each level, 4
 //! % of the instructions of `exact`.
 
-use rattle::Box;
-use super::balance::{balance, settle};
-use super::kept::Change;
+use super::balance::{balance, update};
+use super::summary::Change;
 use super::{Child, InnerNode};
+use crate::ordering::compare;
 use crate::Steps;
-use crate::ends::order;
 use core::cmp::Ordering;
+use rattle::Box;
 use vm_ranges::RangeInclusive;
 
 /// Takes the node with the least key out from below the node at a place; says what changed
 /// there.
-fn take_least_at(at: &mut Child, count: &mut Steps) -> (Box<InnerNode>, Change) {
+fn take_first_at(at: &mut Child, count: &mut Steps) -> (Box<InnerNode>, Change) {
     let Some(tree) = at else { unreachable!() };
     let tree: &mut InnerNode = tree;
     tree.enter(count);
     if tree.left.is_none() {
-        let (_, right) = tree.strip();
-        let Some(least) = at.take() else {
+        let (_, right) = tree.take_children();
+        let Some(lowest) = at.take() else {
             unreachable!()
         };
         *at = right;
-        return (least, Change::Height);
+        return (lowest, Change::Height);
     }
-    let (least, change) = take_least_at(&mut tree.left, count);
+    let (lowest, change) = take_first_at(&mut tree.left, count);
     if let Change::Nothing = change {
-        return (least, change);
+        return (lowest, change);
     }
-    let settled = settle(
+    let updated = update(
         &mut tree.left,
         &mut tree.right,
         &tree.key,
@@ -40,7 +40,7 @@ fn take_least_at(at: &mut Child, count: &mut Steps) -> (Box<InnerNode>, Change) 
         &mut tree.max_free,
         &mut tree.alignments,
     );
-    (least, settled.finish(at))
+    (lowest, updated.rebalance(at))
 }
 
 /// What is left of a tree without its root, from the root's children: the other child where one is
@@ -52,8 +52,8 @@ pub(super) fn join(left: Child, mut right: Child, count: &mut Steps) -> Child {
     if left.is_none() {
         return right;
     }
-    let (least, _) = take_least_at(&mut right, count);
-    Some(balance(left, least, right))
+    let (lowest, _) = take_first_at(&mut right, count);
+    Some(balance(left, lowest, right))
 }
 
 impl InnerNode {
@@ -72,11 +72,11 @@ impl InnerNode {
 /// changed there.
 pub(crate) fn delete_at(at: &mut Child, key: &RangeInclusive, count: &mut Steps) -> Change {
     let Some(tree) = at else {
-        return Change::Nothing
+        return Change::Nothing;
     };
     let tree: &mut InnerNode = tree;
     tree.enter(count);
-    let change = match order(&tree.key, key) {
+    let change = match compare(&tree.key, key) {
         Ordering::Equal => {
             let Some(node) = at.take() else {
                 unreachable!()
@@ -90,7 +90,7 @@ pub(crate) fn delete_at(at: &mut Child, key: &RangeInclusive, count: &mut Steps)
     if let Change::Nothing = change {
         return change;
     }
-    let settled = settle(
+    let updated = update(
         &mut tree.left,
         &mut tree.right,
         &tree.key,
@@ -99,5 +99,5 @@ pub(crate) fn delete_at(at: &mut Child, key: &RangeInclusive, count: &mut Steps)
         &mut tree.max_free,
         &mut tree.alignments,
     );
-    settled.finish(at)
+    updated.rebalance(at)
 }

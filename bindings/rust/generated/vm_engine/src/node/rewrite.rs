@@ -2,10 +2,10 @@
 
 //! A block changed in place.
 
-use super::kept::{Change, kept_of, renew_room, room_of};
+use super::summary::{free_summary_of, refresh_free, summary_of, Change};
 use super::{Child, InnerNode};
+use crate::ordering::compare;
 use crate::Steps;
-use crate::ends::order;
 use core::cmp::Ordering;
 use vm_ranges::{NodeState, RangeInclusive};
 
@@ -15,10 +15,10 @@ impl InnerNode {
     pub(super) fn rewrite_here(&mut self, key: RangeInclusive, node_state: NodeState) -> Change {
         self.key = key;
         self.node_state = node_state;
-        renew_room(
-            kept_of(&self.left).room,
-            kept_of(&self.right).room,
-            room_of(&self.key, self.node_state),
+        refresh_free(
+            summary_of(&self.left).free,
+            summary_of(&self.right).free,
+            free_summary_of(&self.key, self.node_state),
             &mut self.max_free,
             &mut self.alignments,
         )
@@ -37,7 +37,7 @@ pub(crate) fn rewrite_at(
     let Some(tree) = at else { unreachable!() };
     let tree: &mut InnerNode = tree;
     tree.enter(count);
-    let change = match order(&tree.key, old) {
+    let change = match compare(&tree.key, old) {
         Ordering::Equal => return tree.rewrite_here(key, node_state),
         Ordering::Greater => rewrite_at(&mut tree.left, old, key, node_state, count),
         Ordering::Less => rewrite_at(&mut tree.right, old, key, node_state, count),
@@ -45,10 +45,10 @@ pub(crate) fn rewrite_at(
     if let Change::Nothing = change {
         return change;
     }
-    renew_room(
-        kept_of(&tree.left).room,
-        kept_of(&tree.right).room,
-        room_of(&tree.key, tree.node_state),
+    refresh_free(
+        summary_of(&tree.left).free,
+        summary_of(&tree.right).free,
+        free_summary_of(&tree.key, tree.node_state),
         &mut tree.max_free,
         &mut tree.alignments,
     )

@@ -3,9 +3,9 @@
 //! The fields of a node's value, read and written: their names stand here alone. Reading takes no
 //! memory.
 
-use rattle::{Value, json};
+use rattle::{json, Value};
 use rattle::{AllocError, Global};
-use vm_ranges::{NodeState, RangeInclusive, Result, has_fields, number_in, range_in, state_in};
+use vm_ranges::{has_fields, number_in, range_in, state_in, NodeState, RangeInclusive, Result};
 
 const KEY: &str = "key";
 
@@ -33,7 +33,7 @@ pub struct SavedNode<'a> {
 }
 
 /// The fields of a node's value, where it has these and no others.
-pub fn node_of(value: &Value) -> Option<SavedNode<'_>> {
+pub fn decode_node(value: &Value) -> Option<SavedNode<'_>> {
     if !has_fields(value, 5) {
         return None;
     }
@@ -48,7 +48,7 @@ pub fn node_of(value: &Value) -> Option<SavedNode<'_>> {
 
 /// The value of a node over the values of its children. `OutOfMemory` where there is no memory for it.
 #[inline(always)]
-pub(crate) fn save_node(
+pub(crate) fn encode_node(
     mut left: Value,
     key: &RangeInclusive,
     node_state: NodeState,
@@ -58,12 +58,14 @@ pub(crate) fn save_node(
 ) -> Result<Value> {
     let mut key = key.to_value(alloc)?;
     let mut state = node_state.to_value(alloc)?;
-    Ok(put_together(alloc, &mut key, &mut state, &mut left, &mut right, height)?)
+    Ok(node_object(
+        alloc, &mut key, &mut state, &mut left, &mut right, height,
+    )?)
 }
 
 /// The object of a node's fields. It takes their values from where they stand: so a refusal has none of
 /// them to give back, and less is to be proved.
-fn put_together(
+fn node_object(
     alloc: Global,
     key: &mut Value,
     state: &mut Value,

@@ -2,11 +2,11 @@
 
 //! The saved form of a tree: what is checked already is built.
 
-use crate::IntervalTree;
-use crate::node::walks::saving::save;
+use crate::node::walks::encoding::encode;
 use crate::node::{Child, InnerNode, MAX_HEIGHT};
-use crate::saved::check::has_tree_of;
-use crate::saved::node::node_of;
+use crate::saved::check::is_tree_of;
+use crate::saved::node::decode_node;
+use crate::IntervalTree;
 use rattle::Value;
 use rattle::{AllocError, Global};
 use vm_ranges::{RangeInclusive, Result, ValueError};
@@ -14,7 +14,7 @@ use vm_ranges::{RangeInclusive, Result, ValueError};
 impl IntervalTree {
     /// The value that states the tree, node for node. `OutOfMemory` where there is no memory for it.
     pub fn to_root_value(&self, alloc: Global) -> Result<Value> {
-        save(&self.root, alloc)
+        encode(&self.root, alloc)
     }
 
     /// The tree of the space that a value states, of the same nodes. `NotAState` where it states none,
@@ -25,7 +25,7 @@ impl IntervalTree {
         space: &RangeInclusive,
         value: &Value,
     ) -> core::result::Result<Self, ValueError> {
-        if !has_tree_of(space, value) {
+        if !is_tree_of(space, value) {
             return Err(ValueError::NotAState);
         }
         let root = build(value, MAX_HEIGHT, alloc)?;
@@ -37,7 +37,7 @@ impl IntervalTree {
 /// them; those that were made are given back then.
 #[allow(clippy::only_used_in_recursion)]
 fn build(value: &Value, depth: u64, alloc: Global) -> core::result::Result<Child, AllocError> {
-    let Some(node) = node_of(value) else {
+    let Some(node) = decode_node(value) else {
         return Ok(None);
     };
     let left = build(node.left, depth - 1, alloc)?;

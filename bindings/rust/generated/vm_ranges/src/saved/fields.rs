@@ -3,8 +3,8 @@
 //! The fields of an object: how many there are, and a list in one of them. That there are just so many
 //! tells, with what is found in each, that there is no other; their order says nothing.
 
-use rattle::Vec;
 use rattle::Value;
+use rattle::Vec;
 
 /// Whether the value is an object with that many fields.
 pub fn has_fields(value: &Value, count: usize) -> bool {

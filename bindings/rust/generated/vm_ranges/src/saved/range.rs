@@ -4,11 +4,11 @@
 
 use crate::error::Result;
 use crate::range::RangeInclusive;
-use crate::saved::ValueError;
 use crate::saved::fields::has_fields;
 use crate::saved::numbers::number_in;
-use rattle::{Value, json};
+use crate::saved::ValueError;
 use rattle::Global;
+use rattle::{json, Value};
 
 impl RangeInclusive {
     /// The value that states the range: an object of `start` and `end`. `OutOfMemory` where there is no
@@ -19,11 +19,11 @@ impl RangeInclusive {
 
     /// The range that a value states. `NotAState` where it states none. It takes no memory.
     pub fn from_value(_alloc: Global, value: &Value) -> core::result::Result<Self, ValueError> {
-        RangeInclusive::stated_by(value).ok_or(ValueError::NotAState)
+        RangeInclusive::decode(value).ok_or(ValueError::NotAState)
     }
 
     /// The range that a value states.
-    fn stated_by(value: &Value) -> Option<RangeInclusive> {
+    fn decode(value: &Value) -> Option<RangeInclusive> {
         if !has_fields(value, 2) {
             return None;
         }
@@ -35,5 +35,5 @@ impl RangeInclusive {
 
 /// The range in a field.
 pub fn range_in(value: &Value, name: &str) -> Option<RangeInclusive> {
-    RangeInclusive::stated_by(value.get(name)?)
+    RangeInclusive::decode(value.get(name)?)
 }

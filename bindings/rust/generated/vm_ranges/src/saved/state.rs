@@ -5,8 +5,8 @@
 use super::ValueError;
 use crate::error::Result;
 use crate::state::NodeState;
-use rattle::Value;
 use rattle::Global;
+use rattle::Value;
 
 impl NodeState {
     /// The value that states the state: the text `Free` or the text `Allocated`. `OutOfMemory` where
@@ -21,11 +21,11 @@ impl NodeState {
 
     /// The state that a value states. `NotAState` where it states none. It takes no memory.
     pub fn from_value(_alloc: Global, value: &Value) -> core::result::Result<Self, ValueError> {
-        NodeState::stated_by(value).ok_or(ValueError::NotAState)
+        NodeState::decode(value).ok_or(ValueError::NotAState)
     }
 
     /// The state that a value states.
-    fn stated_by(value: &Value) -> Option<NodeState> {
+    fn decode(value: &Value) -> Option<NodeState> {
         match value.as_str() {
             Some("Free") => Some(NodeState::Free),
             Some("Allocated") => Some(NodeState::Allocated),
@@ -36,5 +36,5 @@ impl NodeState {
 
 /// The state in a field.
 pub fn state_in(value: &Value, name: &str) -> Option<NodeState> {
-    NodeState::stated_by(value.get(name)?)
+    NodeState::decode(value.get(name)?)
 }

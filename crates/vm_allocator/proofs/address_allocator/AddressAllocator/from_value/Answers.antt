@@ -1,6 +1,6 @@
 use Rattle.std.proofs.Common.{◌≡◌, rules, Err, sym, refl}
 use Rattle.serde_json.specs.View.{view}
-use Rattle.vm_allocator.proofs.Reading.ReadAllocators.{over, parts_stated_by, not_read, no_state_read, stated_ends, stated_state}
+use Rattle.vm_allocator.proofs.Reading.ReadAllocators.{over, parts_encoded_by, not_read, no_state_read, encoded_ends, encoded_state}
 use Rattle.vm_allocator.proofs.address_allocator.AddressAllocator.from_value.Goals as goal
 
 pub returns-in_err-interval_tree-clause-answer : goal.returns-in_err-interval_tree-clause-answer
@@ -18,19 +18,19 @@ returns-in_err-interval_tree-clause-nodes c =
 pub invariant_of-result : goal.invariant_of-result
 invariant_of-result c =
     let a = over c.in-Some.parts.space c.in_ok-interval_tree.interval_tree in
-    stated_ends (view c.args.value.now) a (parts_stated_by (view c.args.value.now) a.space (view c.in-Some.parts.root.now) a.tree (sym c.in-Some.ensures) c.in_ok-interval_tree.ensures)
+    encoded_ends (view c.args.value.now) a (parts_encoded_by (view c.args.value.now) a.space (view c.in-Some.parts.root.now) a.tree (sym c.in-Some.ensures) c.in_ok-interval_tree.ensures)
 
 pub returns-clause-answer : goal.returns-clause-answer
 returns-clause-answer c =
     let a = over c.in-Some.parts.space c.in_ok-interval_tree.interval_tree in
-    let s = parts_stated_by (view c.args.value.now) a.space (view c.in-Some.parts.root.now) a.tree (sym c.in-Some.ensures) c.in_ok-interval_tree.ensures in
-    record { allocator = a; stated = s; is = refl }
+    let s = parts_encoded_by (view c.args.value.now) a.space (view c.in-Some.parts.root.now) a.tree (sym c.in-Some.ensures) c.in_ok-interval_tree.ensures in
+    record { allocator = a; encoded = s; is = refl }
 
 pub returns-clause-nodes : goal.returns-clause-nodes
 returns-clause-nodes c =
-    parts_stated_by (view c.args.value.now) c.in-Some.parts.space (view c.in-Some.parts.root.now) c.in_ok-interval_tree.interval_tree (sym c.in-Some.ensures) c.in_ok-interval_tree.ensures
+    parts_encoded_by (view c.args.value.now) c.in-Some.parts.space (view c.in-Some.parts.root.now) c.in_ok-interval_tree.interval_tree (sym c.in-Some.ensures) c.in_ok-interval_tree.ensures
 
 pub returns-clause-state : goal.returns-clause-state
 returns-clause-state c =
     let a = over c.in-Some.parts.space c.in_ok-interval_tree.interval_tree in
-    stated_state (view c.args.value.now) a (parts_stated_by (view c.args.value.now) a.space (view c.in-Some.parts.root.now) a.tree (sym c.in-Some.ensures) c.in_ok-interval_tree.ensures)
+    encoded_state (view c.args.value.now) a (parts_encoded_by (view c.args.value.now) a.space (view c.in-Some.parts.root.now) a.tree (sym c.in-Some.ensures) c.in_ok-interval_tree.ensures)

@@ -16,7 +16,7 @@ returns-in_err-range-clause-answer c =
     (record {
       id = c.in_ok-id.id;
       space = state_of c.allocate.new.self;
-      foretold = c.in_ok-id.ensures.answer;
+      predicted = c.in_ok-id.ensures.answer;
       answer = c.in_err-range.ensures.answer;
     })
     same)
@@ -46,7 +46,7 @@ returns-in-Err-clause-answer c =
     (record {
       id = c.in_ok-id.id;
       space = state_of c.allocate.new.self;
-      foretold = rw (← c.self.view_is) c.in_ok-id.ensures.answer;
+      predicted = rw (← c.self.view_is) c.in_ok-id.ensures.answer;
       answer = rw (← c.self.view_is) c.in_ok-range.ensures.answer;
     })
     (returns-in-Err-clause-unchanged c))
@@ -61,7 +61,7 @@ invariant_of-self-2 c =
     let slot : DeviceSlot = record { id = c.in_ok-id.id; range = c.in_ok-range.range } in
     let comes : Comes old new (request_for c.args.size c.args.align c.args.policy) slot = record {
       answer = c.allocate_id.result;
-      foretold = c.in_ok-id.ensures.answer;
+      predicted = c.in_ok-id.ensures.answer;
       taken = c.allocate_id.ensures.answer;
       given = c.in_ok-range.ensures.answer;
       entered = c.in_default.ensures.updates;
@@ -75,7 +75,7 @@ returns-clause-answer c =
     let slot : DeviceSlot = record { id = c.in_ok-id.id; range = c.in_ok-range.range } in
     let comes : Comes old new (request_for c.args.size c.args.align c.args.policy) slot = record {
       answer = c.allocate_id.result;
-      foretold = c.in_ok-id.ensures.answer;
+      predicted = c.in_ok-id.ensures.answer;
       taken = c.allocate_id.ensures.answer;
       given = c.in_ok-range.ensures.answer;
       entered = c.in_default.ensures.updates;

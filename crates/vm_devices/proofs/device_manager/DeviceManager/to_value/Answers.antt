@@ -4,4 +4,4 @@ use Rattle.vm_devices.proofs.device_manager.DeviceManager.to_value.Goals as goal
 pub returns : goal.returns
 returns c =
     rw (← c.self.view_is)
-    (manager_written c.self.inside.slots c.in_ok-put_manager.ensures c.in_ok-ids.ensures c.in_ok-space.ensures c.in_ok-slots.ensures.answer c.save_slots.ensures.rising c.self.invariant)
+    (manager_written c.self.inside.slots c.in_ok-manager_object.ensures c.in_ok-ids.ensures c.in_ok-space.ensures c.in_ok-slots.ensures.answer c.encode_slots.ensures.increasing c.self.invariant)

@@ -2,24 +2,24 @@ use Rattle.std.proofs.Common.{◌≡◌, sym, Err, rules}
 use Rattle.serde_json.specs.View.{view}
 use Rattle.vm_ranges.specs.declared.saved.ValueError.TheVariants.{OutOfMemory}
 use Rattle.vm_engine.specs.Engine.NodeFields.{side}
-use Rattle.vm_engine.proofs.Reading.ReadSpaces.{none_stated, has_shape, some_stated, built_states, stated_tree}
+use Rattle.vm_engine.proofs.Reading.ReadSpaces.{none_encoded, has_shape, some_encoded, built_states, encoded_tree}
 use Rattle.vm_engine.proofs.interval_tree.IntervalTree.from_root_value.Goals as goal
 
-pub returns-then-not-has_tree_of : goal.returns-then-not-has_tree_of
-returns-then-not-has_tree_of c = none_stated (view c.args.value.now) c.args.space.now (sym c.if-not-has_tree_of.ensures)
+pub returns-then-not-is_tree_of : goal.returns-then-not-is_tree_of
+returns-then-not-is_tree_of c = none_encoded (view c.args.value.now) c.args.space.now (sym c.if-not-is_tree_of.ensures)
 
 pub build-requires : goal.build-requires
-build-requires c = has_shape (view c.args.value.now) c.args.space.now c.known.ensures (sym c.if-not-has_tree_of.ensures)
+build-requires c = has_shape (view c.args.value.now) c.args.space.now c.known.ensures (sym c.if-not-is_tree_of.ensures)
 
 pub invariant_of-result : goal.invariant_of-result
 invariant_of-result c =
-    stated_tree (view c.args.value.now) c.args.space.now (side c.in_ok-root.root) c.known.ensures
-    (built_states (view c.args.value.now) c.args.space.now (side c.in_ok-root.root) c.known.ensures (sym c.if-not-has_tree_of.ensures) c.in_ok-root.ensures)
+    encoded_tree (view c.args.value.now) c.args.space.now (side c.in_ok-root.root) c.known.ensures
+    (built_states (view c.args.value.now) c.args.space.now (side c.in_ok-root.root) c.known.ensures (sym c.if-not-is_tree_of.ensures) c.in_ok-root.ensures)
 
 pub returns : goal.returns
-returns c = built_states (view c.args.value.now) c.args.space.now (side c.in_ok-root.root) c.known.ensures (sym c.if-not-has_tree_of.ensures) c.in_ok-root.ensures
+returns c = built_states (view c.args.value.now) c.args.space.now (side c.in_ok-root.root) c.known.ensures (sym c.if-not-is_tree_of.ensures) c.in_ok-root.ensures
 
 pub returns-in_err-root : goal.returns-in_err-root
 returns-in_err-root c =
     let is : c.from_residual.result ≡ Err OutOfMemory = search rules in
-    rw is (some_stated (view c.args.value.now) c.args.space.now c.known.ensures (sym c.if-not-has_tree_of.ensures))
+    rw is (some_encoded (view c.args.value.now) c.args.space.now c.known.ensures (sym c.if-not-is_tree_of.ensures))

@@ -1,5 +1,5 @@
 use Rattle.std.proofs.Common.{refl}
-use Rattle.vm_engine.specs.Engine.Beside.{free_key_of}
+use Rattle.vm_engine.specs.Engine.NeighbourNodes.{free_key_of}
 use Rattle.vm_engine.specs.Engine.NodeFields.{side, shape_of}
 use Rattle.vm_engine.proofs.Releasing.Neighbours.{neighbours_in_left, neighbours_in_right}
 use Rattle.vm_engine.proofs.node.InnerNode.+find_held.Goals as goal

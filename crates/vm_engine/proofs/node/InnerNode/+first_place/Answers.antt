@@ -10,33 +10,33 @@ use Rattle.vm_engine.proofs.node.InnerNode.+first_place.Goals.{in-Some, in_defau
 use Rattle.vm_engine.proofs.Counts.Searching.{firsts as searches}
 use Rattle.vm_engine.proofs.node.InnerNode.+first_place.Goals as goal
 
-pub returns-in-Some-least_fit-clause-place : goal.returns-in-Some-least_fit-clause-place
-returns-in-Some-least_fit-clause-place t c =
+pub returns-in-Some-lowest_fit-clause-place : goal.returns-in-Some-lowest_fit-clause-place
+returns-in-Some-lowest_fit-clause-place t c =
     let none : All (HasNoFit c.args.size c.args.alignment) (blocks (side c.self.inside.left)) =
-    elim c.match-roomy.branch [
+    elim c.match-may_fit.branch [
       | in-Some w ↦ rw w.in-Some.ensures.0 (nothing_found w.first_place.new.found _ _ w.first_place.ensures.place (rw (← w.found-is) (sym c.if-is_some.ensures)))
       | in_default w ↦ none_unless_searched _ _ _ c.requires.sized c.requires.aligned w.in_default.ensures
     ] in
-    first_here c.args.size c.args.alignment _ _ _ _ _ (sym c.self.view_is) none c.in-Some-least_fit.ensures
+    first_here c.args.size c.args.alignment _ _ _ _ _ (sym c.self.view_is) none c.in-Some-lowest_fit.ensures
 
-pub returns-in-Some-roomy-clause-place : goal.returns-in-Some-roomy-clause-place
-returns-in-Some-roomy-clause-place t c =
+pub returns-in-Some-may_fit-clause-place : goal.returns-in-Some-may_fit-clause-place
+returns-in-Some-may_fit-clause-place t c =
     let none : All (HasNoFit c.args.size c.args.alignment) (blocks (side c.self.inside.left)) =
-    elim c.match-roomy.branch [
+    elim c.match-may_fit.branch [
       | in-Some w ↦ rw w.in-Some.ensures.0 (nothing_found w.first_place.new.found _ _ w.first_place.ensures.place (rw (← w.found-is) (sym c.if-is_some.ensures)))
       | in_default w ↦ none_unless_searched _ _ _ c.requires.sized c.requires.aligned w.in_default.ensures
     ] in
-    first_through_right c.args.size c.args.alignment _ _ _ _ c.first_place-in-Some-roomy.new.found (sym c.self.view_is) none c.in_default-least_fit.ensures (rw c.in-Some-roomy.ensures.0 c.first_place-in-Some-roomy.ensures.place)
+    first_through_right c.args.size c.args.alignment _ _ _ _ c.first_place-in-Some-may_fit.new.found (sym c.self.view_is) none c.in_default-lowest_fit.ensures (rw c.in-Some-may_fit.ensures.0 c.first_place-in-Some-may_fit.ensures.place)
 
-pub returns-in_default-roomy-clause-place : goal.returns-in_default-roomy-clause-place
-returns-in_default-roomy-clause-place t c =
+pub returns-in_default-may_fit-clause-place : goal.returns-in_default-may_fit-clause-place
+returns-in_default-may_fit-clause-place t c =
     let none : All (HasNoFit c.args.size c.args.alignment) (blocks (side c.self.inside.left)) =
-    elim c.match-roomy.branch [
+    elim c.match-may_fit.branch [
       | in-Some w ↦ rw w.in-Some.ensures.0 (nothing_found w.first_place.new.found _ _ w.first_place.ensures.place (rw (← w.found-is) (sym c.if-is_some.ensures)))
       | in_default w ↦ none_unless_searched _ _ _ c.requires.sized c.requires.aligned w.in_default.ensures
     ] in
-    let right = none_unless_searched _ _ _ c.requires.sized c.requires.aligned c.in_default-roomy.ensures in
-    still_nothing c.match-roomy.found _ _ (none_of c.args.size c.args.alignment _ _ _ _ (sym c.self.view_is) none c.in_default-least_fit.ensures right) (sym c.if-is_some.ensures)
+    let right = none_unless_searched _ _ _ c.requires.sized c.requires.aligned c.in_default-may_fit.ensures in
+    still_nothing c.match-may_fit.found _ _ (none_of c.args.size c.args.alignment _ _ _ _ (sym c.self.view_is) none c.in_default-lowest_fit.ensures right) (sym c.if-is_some.ensures)
 
 -- named, since the search for them is slow
 pub first_place-requires : goal.first_place-requires
@@ -48,14 +48,14 @@ returns-then-is_some-clause-place t c = grind (arith, common_steps, firsts, sear
 pub returns-then-is_some-clause-count : goal.returns-then-is_some-clause-count
 returns-then-is_some-clause-count t c = grind (arith, common_steps, firsts, searches)
 
-pub returns-in-Some-least_fit-clause-count : goal.returns-in-Some-least_fit-clause-count
-returns-in-Some-least_fit-clause-count t c = grind (arith, common_steps, firsts, searches)
+pub returns-in-Some-lowest_fit-clause-count : goal.returns-in-Some-lowest_fit-clause-count
+returns-in-Some-lowest_fit-clause-count t c = grind (arith, common_steps, firsts, searches)
 
-pub first_place-requires-in-Some-roomy : goal.first_place-requires-in-Some-roomy
-first_place-requires-in-Some-roomy t c = grind (arith, common_steps, firsts, searches)
+pub first_place-requires-in-Some-may_fit : goal.first_place-requires-in-Some-may_fit
+first_place-requires-in-Some-may_fit t c = grind (arith, common_steps, firsts, searches)
 
-pub returns-in-Some-roomy-clause-count : goal.returns-in-Some-roomy-clause-count
-returns-in-Some-roomy-clause-count t c = grind (arith, common_steps, firsts, searches)
+pub returns-in-Some-may_fit-clause-count : goal.returns-in-Some-may_fit-clause-count
+returns-in-Some-may_fit-clause-count t c = grind (arith, common_steps, firsts, searches)
 
-pub returns-in_default-roomy-clause-count : goal.returns-in_default-roomy-clause-count
-returns-in_default-roomy-clause-count t c = grind (arith, common_steps, firsts, searches)
+pub returns-in_default-may_fit-clause-count : goal.returns-in_default-may_fit-clause-count
+returns-in_default-may_fit-clause-count t c = grind (arith, common_steps, firsts, searches)

@@ -10,33 +10,33 @@ use Rattle.vm_engine.proofs.node.InnerNode.+last_place.Goals.{in-Some, in_defaul
 use Rattle.vm_engine.proofs.Counts.Searching.{lasts as searches}
 use Rattle.vm_engine.proofs.node.InnerNode.+last_place.Goals as goal
 
-pub returns-in-Some-greatest_fit-clause-place : goal.returns-in-Some-greatest_fit-clause-place
-returns-in-Some-greatest_fit-clause-place t c =
+pub returns-in-Some-highest_fit-clause-place : goal.returns-in-Some-highest_fit-clause-place
+returns-in-Some-highest_fit-clause-place t c =
     let none : All (HasNoFit c.args.size c.args.alignment) (blocks (side c.self.inside.right)) =
-    elim c.match-roomy.branch [
+    elim c.match-may_fit.branch [
       | in-Some w ↦ rw w.in-Some.ensures.0 (nothing_found w.last_place.new.found _ _ w.last_place.ensures.place (rw (← w.found-is) (sym c.if-is_some.ensures)))
       | in_default w ↦ none_unless_searched _ _ _ c.requires.sized c.requires.aligned w.in_default.ensures
     ] in
-    last_here c.args.size c.args.alignment _ _ _ _ _ (sym c.self.view_is) none c.in-Some-greatest_fit.ensures
+    last_here c.args.size c.args.alignment _ _ _ _ _ (sym c.self.view_is) none c.in-Some-highest_fit.ensures
 
-pub returns-in-Some-roomy-clause-place : goal.returns-in-Some-roomy-clause-place
-returns-in-Some-roomy-clause-place t c =
+pub returns-in-Some-may_fit-clause-place : goal.returns-in-Some-may_fit-clause-place
+returns-in-Some-may_fit-clause-place t c =
     let none : All (HasNoFit c.args.size c.args.alignment) (blocks (side c.self.inside.right)) =
-    elim c.match-roomy.branch [
+    elim c.match-may_fit.branch [
       | in-Some w ↦ rw w.in-Some.ensures.0 (nothing_found w.last_place.new.found _ _ w.last_place.ensures.place (rw (← w.found-is) (sym c.if-is_some.ensures)))
       | in_default w ↦ none_unless_searched _ _ _ c.requires.sized c.requires.aligned w.in_default.ensures
     ] in
-    last_through_left c.args.size c.args.alignment _ _ _ _ c.last_place-in-Some-roomy.new.found (sym c.self.view_is) none c.in_default-greatest_fit.ensures (rw c.in-Some-roomy.ensures.0 c.last_place-in-Some-roomy.ensures.place)
+    last_through_left c.args.size c.args.alignment _ _ _ _ c.last_place-in-Some-may_fit.new.found (sym c.self.view_is) none c.in_default-highest_fit.ensures (rw c.in-Some-may_fit.ensures.0 c.last_place-in-Some-may_fit.ensures.place)
 
-pub returns-in_default-roomy-clause-place : goal.returns-in_default-roomy-clause-place
-returns-in_default-roomy-clause-place t c =
+pub returns-in_default-may_fit-clause-place : goal.returns-in_default-may_fit-clause-place
+returns-in_default-may_fit-clause-place t c =
     let none : All (HasNoFit c.args.size c.args.alignment) (blocks (side c.self.inside.right)) =
-    elim c.match-roomy.branch [
+    elim c.match-may_fit.branch [
       | in-Some w ↦ rw w.in-Some.ensures.0 (nothing_found w.last_place.new.found _ _ w.last_place.ensures.place (rw (← w.found-is) (sym c.if-is_some.ensures)))
       | in_default w ↦ none_unless_searched _ _ _ c.requires.sized c.requires.aligned w.in_default.ensures
     ] in
-    let left = none_unless_searched _ _ _ c.requires.sized c.requires.aligned c.in_default-roomy.ensures in
-    still_nothing c.match-roomy.found _ _ (none_of c.args.size c.args.alignment _ _ _ _ (sym c.self.view_is) left c.in_default-greatest_fit.ensures none) (sym c.if-is_some.ensures)
+    let left = none_unless_searched _ _ _ c.requires.sized c.requires.aligned c.in_default-may_fit.ensures in
+    still_nothing c.match-may_fit.found _ _ (none_of c.args.size c.args.alignment _ _ _ _ (sym c.self.view_is) left c.in_default-highest_fit.ensures none) (sym c.if-is_some.ensures)
 
 -- named, since the search for them is slow
 pub last_place-requires : goal.last_place-requires
@@ -48,14 +48,14 @@ returns-then-is_some-clause-place t c = grind (arith, common_steps, lasts, searc
 pub returns-then-is_some-clause-count : goal.returns-then-is_some-clause-count
 returns-then-is_some-clause-count t c = grind (arith, common_steps, lasts, searches)
 
-pub returns-in-Some-greatest_fit-clause-count : goal.returns-in-Some-greatest_fit-clause-count
-returns-in-Some-greatest_fit-clause-count t c = grind (arith, common_steps, lasts, searches)
+pub returns-in-Some-highest_fit-clause-count : goal.returns-in-Some-highest_fit-clause-count
+returns-in-Some-highest_fit-clause-count t c = grind (arith, common_steps, lasts, searches)
 
-pub last_place-requires-in-Some-roomy : goal.last_place-requires-in-Some-roomy
-last_place-requires-in-Some-roomy t c = grind (arith, common_steps, lasts, searches)
+pub last_place-requires-in-Some-may_fit : goal.last_place-requires-in-Some-may_fit
+last_place-requires-in-Some-may_fit t c = grind (arith, common_steps, lasts, searches)
 
-pub returns-in-Some-roomy-clause-count : goal.returns-in-Some-roomy-clause-count
-returns-in-Some-roomy-clause-count t c = grind (arith, common_steps, lasts, searches)
+pub returns-in-Some-may_fit-clause-count : goal.returns-in-Some-may_fit-clause-count
+returns-in-Some-may_fit-clause-count t c = grind (arith, common_steps, lasts, searches)
 
-pub returns-in_default-roomy-clause-count : goal.returns-in_default-roomy-clause-count
-returns-in_default-roomy-clause-count t c = grind (arith, common_steps, lasts, searches)
+pub returns-in_default-may_fit-clause-count : goal.returns-in_default-may_fit-clause-count
+returns-in_default-may_fit-clause-count t c = grind (arith, common_steps, lasts, searches)

@@ -30,12 +30,12 @@ rewrite_at-change-requires-in-Less t c =
     (search rules, (known, (ordered, grind arith)))
 
 -- what the rewritten side makes of the node, where what it keeps changed
-rewritten_changed : (t : ℕ) (c : In_default-change t) → (blocks (shape_of c.match-order.tree-inside) ≡ with_block c.args.old.now c.args.key c.args.node_state (blocks (side c.args.at.now))) × KeepsShape (side c.args.at.now) (shape_of c.match-order.tree-inside) c.match-order.change
+rewritten_changed : (t : ℕ) (c : In_default-change t) → (blocks (shape_of c.match-compare.tree-inside) ≡ with_block c.args.old.now c.args.key c.args.node_state (blocks (side c.args.at.now))) × KeepsShape (side c.args.at.now) (shape_of c.match-compare.tree-inside) c.match-compare.change
 rewritten_changed t c =
     let i = c.tree.inside in
     let e : side c.args.at.now ≡ shape_of i = cc in
     let tree : IsTree (side c.args.at.now) = rw e c.tree.invariant.tree in
-    elim c.match-order.branch [
+    elim c.match-compare.branch [
       | in-Greater w ↦
           rw (w.tree-inside-is, w.change-is) (node_rewritten_left _ (side i.left) _ _ (side i.right) _ _ _ e w.in-Greater.ensures tree c.requires.ordered w.rewrite_at-change.ensures.blocks w.rewrite_at-change.ensures.keeps)
       | in-Less w ↦
@@ -43,12 +43,12 @@ rewritten_changed t c =
     ]
 
 -- what the rewritten side makes of the node, where what it keeps is the same
-rewritten_unchanged : (t : ℕ) (c : In-Nothing t) → (blocks (shape_of c.match-order.tree-inside) ≡ with_block c.args.old.now c.args.key c.args.node_state (blocks (side c.args.at.now))) × KeepsShape (side c.args.at.now) (shape_of c.match-order.tree-inside) c.match-order.change
+rewritten_unchanged : (t : ℕ) (c : In-Nothing t) → (blocks (shape_of c.match-compare.tree-inside) ≡ with_block c.args.old.now c.args.key c.args.node_state (blocks (side c.args.at.now))) × KeepsShape (side c.args.at.now) (shape_of c.match-compare.tree-inside) c.match-compare.change
 rewritten_unchanged t c =
     let i = c.tree.inside in
     let e : side c.args.at.now ≡ shape_of i = cc in
     let tree : IsTree (side c.args.at.now) = rw e c.tree.invariant.tree in
-    elim c.match-order.branch [
+    elim c.match-compare.branch [
       | in-Greater w ↦
           rw (w.tree-inside-is, w.change-is) (node_rewritten_left _ (side i.left) _ _ (side i.right) _ _ _ e w.in-Greater.ensures tree c.requires.ordered w.rewrite_at-change.ensures.blocks w.rewrite_at-change.ensures.keeps)
       | in-Less w ↦

@@ -1,7 +1,7 @@
 use Rattle.std.proofs.Common.{sym, arith, subst}
 use Rattle.serde_json.specs.View.{view}
 use Rattle.vm_engine.specs.Engine.NodeFields.{side}
-use Rattle.vm_engine.specs.Values.TreeValues.{StatesShape}
+use Rattle.vm_engine.specs.Values.TreeValues.{EncodesShape}
 use Rattle.vm_engine.proofs.Reading.OneTree.{parts, built, built_none, left_has, right_has}
 use Rattle.vm_engine.proofs.saved.tree.+build.Goals as goal
 
@@ -41,4 +41,4 @@ pub returns : goal.returns
 returns t c =
     let p = parts c.args.depth (view c.args.value.now) _ c.requires (sym c.in-Some.ensures) in
     let b = built c.args.depth (view c.args.value.now) _ p (side c.in_ok-left.left) (side c.in_ok-right.right) c.in_ok-left.ensures c.in_ok-right.ensures in
-    subst (StatesShape (view c.args.value.now)) (sym c.in_ok-node.ensures) b.stated
+    subst (EncodesShape (view c.args.value.now)) (sym c.in_ok-node.ensures) b.encoded

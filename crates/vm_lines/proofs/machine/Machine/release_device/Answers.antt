@@ -6,4 +6,4 @@ pub returns : goal.returns
 unfolding Does OnDevices
 returns c =
     rw (← c.self.view_is, c.in-Some.is)
-    (c.release.new.self, (c.release.result, c.release.ensures.answer, c.done_or_refused.ensures), refl)
+    (c.release.new.self, (c.release.result, c.release.ensures.answer, c.done_reply.ensures), refl)

@@ -6,4 +6,4 @@ pub returns : goal.returns
 unfolding Does OnDevices
 returns c =
     rw (← c.self.view_is, c.in-Some.is)
-    (c.reserve.new.self, (c.reserve.result, c.reserve.ensures.answer, c.device_or_refused.ensures), refl)
+    (c.reserve.new.self, (c.reserve.result, c.reserve.ensures.answer, c.device_reply.ensures), refl)

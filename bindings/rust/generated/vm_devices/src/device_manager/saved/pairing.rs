@@ -16,24 +16,24 @@ pub(super) fn read_devices(
     list: &[Value],
 ) -> core::result::Result<BTreeMap<u32, RangeInclusive>, ValueError> {
     // A stranger's list is counted before it costs memory.
-    if !are_as_many(ids, space, list) {
+    if !counts_match(ids, space, list) {
         return Err(ValueError::NotAState);
     }
     let slots = read_slots(alloc, list)?;
-    if !are_held_apart(alloc, ids, space, &slots)? {
+    if !are_held_and_distinct(alloc, ids, space, &slots)? {
         return Err(ValueError::NotAState);
     }
     Ok(slots)
 }
 
 /// Whether the items are as many as the held ids and as the held ranges.
-fn are_as_many(ids: &IdAllocator, space: &AddressAllocator, items: &[Value]) -> bool {
+fn counts_match(ids: &IdAllocator, space: &AddressAllocator, items: &[Value]) -> bool {
     let count = items.len() as u64;
     ids.held_count() == count && space.held_count() == count
 }
 
 /// Whether the id and the range of each device are held, and no two have one start.
-fn are_held_apart(
+fn are_held_and_distinct(
     alloc: Global,
     ids: &IdAllocator,
     space: &AddressAllocator,

@@ -2,32 +2,32 @@
 
 //! The list of devices in a manager's value.
 
-use rattle::Vec;
 use crate::device_slot::DeviceSlot;
-use rattle::{Value, json};
-use rattle::{AllocError, Global};
 use rattle::BTreeMap;
+use rattle::Vec;
+use rattle::{json, Value};
+use rattle::{AllocError, Global};
 use vm_allocator::{RangeInclusive, Result, ValueError};
 use vm_ranges::{has_fields, range_in, u32_in};
 
 /// The list of devices, by rising ids.
-pub(super) fn save_slots(alloc: Global, slots: &BTreeMap<u32, RangeInclusive>) -> Result<Value> {
+pub(super) fn encode_slots(alloc: Global, slots: &BTreeMap<u32, RangeInclusive>) -> Result<Value> {
     let mut list = Vec::new(alloc);
     for (id, range) in slots.iter() {
-        let slot = save_slot(alloc, *id, range)?;
+        let slot = encode_slot(alloc, *id, range)?;
         list.push(slot)?;
     }
     Ok(Value::from(list))
 }
 
 /// The value of one device.
-fn save_slot(alloc: Global, id: u32, range: &RangeInclusive) -> Result<Value> {
+fn encode_slot(alloc: Global, id: u32, range: &RangeInclusive) -> Result<Value> {
     let range = range.to_value(alloc)?;
-    Ok(put_slot(alloc, id, range)?)
+    Ok(slot_object(alloc, id, range)?)
 }
 
 /// The object of a device's fields.
-fn put_slot(alloc: Global, id: u32, range: Value) -> core::result::Result<Value, AllocError> {
+fn slot_object(alloc: Global, id: u32, range: Value) -> core::result::Result<Value, AllocError> {
     json!(in alloc; {"id": id, "mmio_range": range})
 }
 
@@ -37,22 +37,22 @@ pub(super) fn read_slots(
     list: &[Value],
 ) -> core::result::Result<BTreeMap<u32, RangeInclusive>, ValueError> {
     let mut slots = BTreeMap::new(alloc);
-    let mut least = 0u64;
+    let mut lowest = 0u64;
     for item in list {
-        let Some(slot) = slot_of(item) else {
+        let Some(slot) = decode_slot(item) else {
             return Err(ValueError::NotAState);
         };
-        if u64::from(slot.id) < least {
+        if u64::from(slot.id) < lowest {
             return Err(ValueError::NotAState);
         }
         slots.insert(slot.id, slot.range)?;
-        least = u64::from(slot.id) + 1;
+        lowest = u64::from(slot.id) + 1;
     }
     Ok(slots)
 }
 
 /// The device that a value states.
-fn slot_of(value: &Value) -> Option<DeviceSlot> {
+fn decode_slot(value: &Value) -> Option<DeviceSlot> {
     if !has_fields(value, 2) {
         return None;
     }

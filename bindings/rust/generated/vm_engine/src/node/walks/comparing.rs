@@ -9,7 +9,7 @@ use core::cmp::Ordering;
 /// Whether two trees have the same blocks. It stops at the first difference.
 #[allow(clippy::while_let_on_iterator)]
 pub(crate) fn same_blocks(a: &Child, b: &Child) -> bool {
-    let (mut left, mut right) = (Walk::over(a), Walk::over(b));
+    let (mut left, mut right) = (Walk::new(a), Walk::new(b));
     while let Some(x) = left.next() {
         let Some(y) = right.next() else {
             return false;
@@ -24,8 +24,8 @@ pub(crate) fn same_blocks(a: &Child, b: &Child) -> bool {
 /// How the blocks of two trees compare: the first two that differ decide, and else the one with fewer
 /// is less.
 #[allow(clippy::while_let_on_iterator)]
-pub(crate) fn order_of_blocks(a: &Child, b: &Child) -> Ordering {
-    let (mut left, mut right) = (Walk::over(a), Walk::over(b));
+pub(crate) fn compare_blocks(a: &Child, b: &Child) -> Ordering {
+    let (mut left, mut right) = (Walk::new(a), Walk::new(b));
     while let Some(x) = left.next() {
         let Some(y) = right.next() else {
             return Ordering::Greater;

@@ -2,8 +2,8 @@
 
 //! Copies of trees.
 
-use rattle::Box;
 use crate::node::InnerNode;
+use rattle::Box;
 use rattle::Global;
 use vm_ranges::Result;
 

@@ -4,8 +4,8 @@
 //! promised of either, so neither takes the counter: one more place that makes one would weaken the
 //! rule on it.
 
-use crate::ends::order;
 use crate::node::{Child, InnerNode};
+use crate::ordering::compare;
 use core::cmp::Ordering;
 use vm_ranges::{NodeState, RangeInclusive};
 
@@ -13,7 +13,7 @@ use vm_ranges::{NodeState, RangeInclusive};
 pub(crate) fn has_held(tree: &Child, key: &RangeInclusive) -> bool {
     let Some(node) = tree else { return false };
     let node: &InnerNode = node;
-    match order(&node.key, key) {
+    match compare(&node.key, key) {
         Ordering::Greater => has_held(&node.left, key),
         Ordering::Less => has_held(&node.right, key),
         Ordering::Equal => node.node_state == NodeState::Allocated,

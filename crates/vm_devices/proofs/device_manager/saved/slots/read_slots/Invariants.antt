@@ -3,4 +3,4 @@ use Rattle.vm_devices.proofs.device_manager.saved.slots.read_slots.Given as goal
 
 -- the devices so far are in the table, and those that are left go on from them
 abbrev pub invariant-loop-item : goal.invariant-loop-item
-invariant-loop-item l = IsSoFar l.list l.item-index l.least l.slots.entries
+invariant-loop-item l = IsSoFar l.list l.item-index l.lowest l.slots.entries

@@ -1,0 +1,61 @@
+"""Plants bodies in a copy of a project. The lists are tests/test_mutants, whose head has their form, and
+tests/count_rule_mutants."""
+import os
+import shutil
+import sys
+from collections import namedtuple
+
+import erase
+
+# The edits are (file, old, new) each. The rest has the other keys: why the body is refused, for one.
+Mutant = namedtuple("Mutant", "name edits rest")
+NOTHING = Mutant("nothing", [], {})
+
+
+def read(path):
+    """The bodies of a list. Empty lines stand between them."""
+    with open(path, encoding="utf-8") as file:
+        entries = file.read().split("\n\n")
+    found = [[line for line in entry.split("\n") if line and not line.startswith("#")] for entry in entries]
+    return [read_entry([line.partition(": ")[::2] for line in lines]) for lines in found if lines]
+
+
+def read_entry(pairs):
+    name, file, old, edits, rest = None, None, None, [], {}
+    for key, value in pairs:
+        if key == "name":
+            name, file = value.split(", ")
+        elif key == "file":
+            file = value
+        elif key == "old":
+            old = value
+        elif key == "new":
+            edits.append((file, old, value))
+        else:
+            rest[key] = value
+    if not name or not edits:
+        sys.exit(f"not a whole entry: {pairs}")
+    return Mutant(name, edits, rest)
+
+
+def copy_workspace(project, folder):
+    """Copies bindings/rust, for the crates of a project with a mutant."""
+    shutil.rmtree(folder, ignore_errors=True)
+    shutil.copytree(os.path.join(project, "bindings", "rust"), folder, ignore=shutil.ignore_patterns("target"))
+
+
+def apply(mutant, project, copy):
+    """Copies the sources of a project, and applies a mutant to the copy. Each old text has to stand there once."""
+    shutil.rmtree(copy, ignore_errors=True)
+    for name in os.listdir(os.path.join(project, "crates")):
+        source = os.path.join("crates", name, "src")
+        if os.path.isdir(os.path.join(project, source)):
+            shutil.copytree(os.path.join(project, source), os.path.join(copy, source))
+    shutil.copy(os.path.join(project, "crates.txt"), copy)
+    for file, old, new in mutant.edits:
+        path = os.path.join(copy, "crates", file)
+        with open(path, encoding="utf-8") as source:
+            text = source.read()
+        if text.count(old) != 1:
+            sys.exit(f"{mutant.name}: {file} has {text.count(old)} times, and not once: {old}")
+        erase.write(path, text.replace(old, new))

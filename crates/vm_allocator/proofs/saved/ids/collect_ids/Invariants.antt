@@ -1,0 +1,13 @@
+use Rattle.std.proofs.Common.{◌≡◌, option_map, drop, ◌++◌, IsSome}
+use Rattle.serde_json.specs.View.{items_view}
+use Rattle.vm_allocator.specs.Checks.IdChecks.{increasing}
+use Rattle.vm_allocator.proofs.Ids.IncreasingNumbers.{AreBelow}
+use Rattle.vm_allocator.proofs.saved.ids.collect_ids.Given as goal
+
+-- the numbers so far are in the set, and those that are left go on from them
+abbrev pub invariant-loop-item : goal.invariant-loop-item
+invariant-loop-item l = record {
+  so_far : increasing l.fn.lowest l.bound (items_view l.list) ≡ option_map (λ ns. l.ids.keys ++ ns) (increasing l.next l.bound (items_view (drop l.item-index l.list)));
+  below : AreBelow l.next l.ids.keys;
+  rest : IsSome (increasing l.next l.bound (items_view (drop l.item-index l.list)));
+}

@@ -1,0 +1,68 @@
+-- Gaps that are counted as futile have no place, and at alignment 1 there are none.
+use Rattle.std.specs.Prelude.{not}
+use Rattle.std.proofs.Common.{◌≡◌, ℕ, ◌+◌, ◌-◌, ◌<◌, ◌≤◌, Bool, true, false, leb, List, [], ◌∷◌, refl, sym, ◌∙◌, arith, ⊎_elim}
+use Rattle.std.proofs.Math.Nat.{mod-one}
+use Rattle.std.proofs.lemmas.Bool.{and_parts, leb-true, le-leb, lt-ltb, le-ltb, cases_lt, false_from_ne_true}
+use Rattle.vm_ranges.specs.Range.{Range}
+use Rattle.vm_engine.specs.Tree.Block.{free_length, free_block, held_block}
+use Rattle.vm_engine.specs.Tree.Blocks.{gap_before, blocks_between, blocks_of}
+use Rattle.vm_engine.specs.Tree.Fit.{HasNoFit}
+use Rattle.vm_engine.specs.Counts.GapSearch.{is_misaligned, misaligned_among, misaligned_gaps}
+use Rattle.vm_engine.specs.Laws.AddressLaws.{MisalignedIsExact, NoneIsMisalignedAtOne}
+use Rattle.vm_engine.specs.Counts.NodeCounts.{has_fit}
+use Rattle.vm_engine.proofs.Counts.SearchedGaps.{among_append}
+use Rattle.vm_engine.proofs.Counts.Searching.{fit_found, no_fit_missed}
+
+not_true : (t : Bool) → not t ≡ true → t ≡ false
+not_true true e = sym e
+not_true false e = refl
+
+pub misaligned_is_exact : MisalignedIsExact
+unfolding is_misaligned HasNoFit
+misaligned_is_exact n a b p = (
+  λ e.
+      let parts = and_parts (leb n (free_length b)) (not (has_fit n a b)) e in
+      (leb-true _ _ parts.0, λ t f. let both : true ≡ false = sym (fit_found n a t b p f) ∙ not_true _ parts.1 in cc),
+  λ k. rw (le-leb n (free_length b) k.0, no_fit_missed n a b p k.1) refl,
+)
+
+-- ---- at alignment 1
+-- a block whose ends are in order has a place at its start, if it is long enough
+in_order : (n : ℕ) (k : Range) → 0 < n → k.start ≤ k.end → misaligned_among n 1 (free_block k ∷ []) ≡ 0
+unfolding HasNoFit
+in_order n k z o =
+    rw (false_from_ne_true (is_misaligned n 1 (free_block k)) (λ e.
+    let reported = (misaligned_is_exact n 1 (free_block k) (omega arith)).0 e in
+    reported.1 k.start (refl, mod-one k.start, omega arith, omega (arith, reported.0)))) refl
+
+held_has_none : (n : ℕ) (k : Range) → 0 < n → misaligned_among n 1 (held_block k ∷ []) ≡ 0
+held_has_none n k z =
+    rw (false_from_ne_true (is_misaligned n 1 (held_block k)) (λ e.
+    let reported = (misaligned_is_exact n 1 (held_block k) (omega arith)).0 e in
+    omega (arith, reported.0))) refl
+
+gap_has_none : (n lo next : ℕ) → 0 < n → misaligned_among n 1 (gap_before lo next) ≡ 0
+gap_has_none n lo next z =
+    ⊎_elim
+    (λ (l : lo < next). rw (lt-ltb lo next l) (in_order n (record { start = lo; end = next - 1 }) z (omega arith)))
+    (λ (l : next ≤ lo). rw (le-ltb lo next l) refl)
+    (cases_lt lo next)
+
+none_between : (n lo hi : ℕ) (rs : List Range) → 0 < n → misaligned_among n 1 (blocks_between lo rs hi) ≡ 0
+none_between n lo hi [] z = gap_has_none n lo (hi + 1) z
+none_between n lo hi (r ∷ rs) z =
+    let rest = blocks_between (r.end + 1) rs hi in
+    omega (
+      arith,
+      among_append (is_misaligned n 1) (gap_before lo r.start) (held_block r ∷ rest),
+      among_append (is_misaligned n 1) (held_block r ∷ []) rest,
+      gap_has_none n lo r.start z,
+      held_has_none n r z,
+      none_between n (r.end + 1) hi rs z,
+    )
+
+pub none_is_misaligned_at_one : NoneIsMisalignedAtOne
+unfolding misaligned_gaps blocks_of
+none_is_misaligned_at_one state request z e = rw e (none_between request.size state.space.start state.space.end state.held z)
+
+pub ruleset misaligned = (misaligned_is_exact, none_is_misaligned_at_one)

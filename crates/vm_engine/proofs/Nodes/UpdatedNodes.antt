@@ -1,0 +1,196 @@
+-- What a node keeps, where it is told what changed of it.
+use Rattle.std.proofs.Common.{◌≡◌, ℕ, ◌∷◌, ◌++◌, Option, max, refl, ap, arith}
+use Rattle.std.proofs.lemmas.Grind.{common_steps}
+use Rattle.std.specs.Global.{Box}
+use Rattle.vm_engine.specs.Tree.Block.{Block, free_length}
+use Rattle.vm_engine.specs.Tree.BlockList.{IsOrderedFrom}
+use Rattle.vm_engine.specs.Tree.Multiples.{free_alignments}
+use Rattle.vm_engine.specs.Tree.Shape.{Shape, Fork, blocks, height_of, max_free_of, alignments_of, IsTree}
+use Rattle.vm_engine.specs.Engine.Changes.{IsHeightAfterBalance, KeepsHeight, KeepsFreeSummary, KeepsSummary, Grows, Shrinks}
+use Rattle.vm_engine.specs.Engine.NodeFields.{side, shape_of, IsNode}
+use Rattle.vm_engine.specs.Engine.NodeUpdate.{RawNode, IsUpdated, Rebalances}
+use Rattle.vm_engine.specs.declared.node.InnerNode.{InnerNode}
+use Rattle.vm_engine.specs.declared.node.InnerNode.TheInside.{Inside}
+use Rattle.vm_engine.specs.declared.node.balance.Updated.{Updated}
+use Rattle.vm_engine.specs.declared.node.balance.Updated.TheVariants.{Balanced, Unbalanced}
+use Rattle.vm_engine.specs.declared.node.summary.Change.{Change}
+use Rattle.vm_engine.specs.declared.node.summary.Change.TheVariants.{Nothing, FreeOnly, Height}
+use Rattle.vm_engine.proofs.Blocks.BlockOrder.{ordered_middle}
+
+-- a height that stays the same is kept, whatever is told
+pub height_unchanged : (reported : Change) (n : ℕ) → KeepsHeight reported n n
+height_unchanged Nothing n = refl
+height_unchanged FreeOnly n = refl
+height_unchanged Height n = tt
+
+pub ruleset keeping = (height_unchanged)
+
+-- a node over these sides, balanced where they lean
+pub record IsRebalanced (own : Block) (old : RawNode) (n : Shape) (reported : Change) : Type 0 where
+  pub tree : IsTree n
+  pub blocks : blocks n ≡ blocks (side old.left) ++ own ∷ blocks (side old.right)
+  pub height : IsHeightAfterBalance (height_of (side old.left)) (height_of (side old.right)) (height_of n)
+  pub keeps_height : KeepsHeight reported old.height (height_of n)
+  pub preserves_max_free : KeepsFreeSummary reported old.max_free (max_free_of n)
+  pub keeps_alignments : KeepsFreeSummary reported old.alignments (alignments_of n)
+
+pub rebalanced : (own : Block) (old : RawNode) (updated : Updated) (new : RawNode) (at after : Option (Box InnerNode)) (reported : Change)
+    → IsOrderedFrom 0 (blocks (side old.left) ++ own ∷ blocks (side old.right)) → IsTree (side old.left) → IsTree (side old.right)
+    → IsUpdated own old updated new → side at ≡ Fork (side new.left) own (side new.right) → Rebalances updated at after reported
+    → IsRebalanced own old (side after) reported
+rebalanced own old (Balanced change) new at after reported o l r s e f =
+    let n : side after ≡ Fork (side old.left) own (side old.right) = rw (f.0, e, s.0, s.1) refl in
+    record {
+      tree = rw n (record { ordered = o; balanced = (l.balanced, r.balanced, s.2) });
+      blocks = ap blocks n;
+      height = rw n (omega arith, omega arith, λ d. refl);
+      keeps_height = rw (f.1, n, ← s.3) s.6;
+      preserves_max_free = rw (f.1, n, ← s.4) s.7;
+      keeps_alignments = rw (f.1, n, ← s.5) s.8;
+    }
+rebalanced own old (Unbalanced first second) new at after reported o l r s e f = rw (f.2, ← s.0, ← s.1) (record {
+  tree = f.1.tree;
+  blocks = rw f.1.blocks (rw e refl);
+  height = f.1.height;
+  keeps_height = tt;
+  preserves_max_free = tt;
+  keeps_alignments = tt;
+})
+
+-- a node, open
+abbrev pub open_of : Inside → RawNode
+open_of i = record { left = i.left; right = i.right; height = i.height; max_free = i.max_free; alignments = i.alignments }
+
+-- its own block
+abbrev pub own_of : Inside → Block
+own_of i = record { key = i.key; state = i.node_state }
+
+-- what is left of a node that is settled is one, whether it stands or leans
+pub updated_node : (i : Inside) (updated : Updated) (new : RawNode)
+    → IsOrderedFrom 0 (blocks (side i.left) ++ own_of i ∷ blocks (side i.right)) → IsTree (side i.left) → IsTree (side i.right)
+    → IsUpdated (own_of i) (open_of i) updated new
+    → IsNode (record { key = i.key; node_state = i.node_state; alignments = new.alignments; left = new.left; right = new.right; height = new.height; max_free = new.max_free })
+updated_node i (Balanced reported) new o l r s = record {
+  tree = rw (s.0, s.1) (record { ordered = o; balanced = (l.balanced, r.balanced, s.2) });
+  height = rw (s.0, s.1) s.3;
+  max_free = rw (s.0, s.1) s.4;
+  alignments = rw (s.0, s.1) s.5;
+}
+updated_node i (Unbalanced first second) new o l r s =
+    let own = ordered_middle 0 (blocks (side i.left)) (own_of i) (blocks (side i.right)) o in
+    rw (s.2, s.3) (record {
+      tree = record { ordered = (own.0, own.1, tt); balanced = (tt, tt, (omega arith, omega arith)) };
+      height = omega (arith, s.4);
+      max_free = omega (arith, s.5);
+      alignments = omega (arith, s.6);
+    })
+
+-- where one side grew or shrank, so did the whole
+module _ (i : Inside) (child : Option (Box InnerNode)) (change reported : Change) (n : Shape) (v : IsNode i) where
+  whole_keeps : (l r : Option (Box InnerNode)) → IsRebalanced (own_of i) (open_of (record i { left = l; right = r })) n reported → KeepsSummary (shape_of i) n reported
+  whole_keeps l r f = record {
+    height = rw (← v.height) f.keeps_height;
+    max_free = rw (← v.max_free) f.preserves_max_free;
+    alignments = rw (← v.alignments) f.keeps_alignments;
+  }
+
+  pub grown_left : Grows (side i.left) (side child) change → IsRebalanced (own_of i) (open_of (record i { left = child })) n reported → Grows (shape_of i) n reported
+  grown_left g f = record {
+    tree = f.tree;
+    not_lower = grind (arith, common_steps);
+    at_most_one_higher = grind (arith, common_steps);
+    keeps = whole_keeps child i.right f;
+  }
+
+  pub grown_right : Grows (side i.right) (side child) change → IsRebalanced (own_of i) (open_of (record i { right = child })) n reported → Grows (shape_of i) n reported
+  grown_right g f = record {
+    tree = f.tree;
+    not_lower = grind (arith, common_steps);
+    at_most_one_higher = grind (arith, common_steps);
+    keeps = whole_keeps i.left child f;
+  }
+
+  pub shrunk_left : Shrinks (side i.left) (side child) change → IsRebalanced (own_of i) (open_of (record i { left = child })) n reported → Shrinks (shape_of i) n reported
+  shrunk_left g f = record {
+    tree = f.tree;
+    not_higher = grind (arith, common_steps);
+    at_most_one_lower = grind (arith, common_steps);
+    keeps = whole_keeps child i.right f;
+  }
+
+  pub shrunk_right : Shrinks (side i.right) (side child) change → IsRebalanced (own_of i) (open_of (record i { right = child })) n reported → Shrinks (shape_of i) n reported
+  shrunk_right g f = record {
+    tree = f.tree;
+    not_higher = grind (arith, common_steps);
+    at_most_one_lower = grind (arith, common_steps);
+    keeps = whole_keeps i.left child f;
+  }
+
+-- and where nothing that is kept of one side changed, nothing that is kept of the whole did
+module _ (i : Inside) (child : Option (Box InnerNode)) (v : IsNode i) where
+  pub unchanged_left : IsOrderedFrom 0 (blocks (side child) ++ own_of i ∷ blocks (side i.right)) → IsTree (side child) → KeepsSummary (side i.left) (side child) Nothing
+      → IsNode (record i { left = child }) × KeepsSummary (shape_of i) (shape_of (record i { left = child })) Nothing
+  unchanged_left o t k = (
+    record {
+      tree = record { ordered = o; balanced = (t.balanced, v.tree.balanced.1, rw k.height v.tree.balanced.2) };
+      height = rw k.height v.height;
+      max_free = rw k.max_free v.max_free;
+      alignments = rw k.alignments v.alignments;
+    },
+    record { height = rw k.height refl; max_free = rw k.max_free refl; alignments = rw k.alignments refl },
+  )
+
+  pub unchanged_right : IsOrderedFrom 0 (blocks (side i.left) ++ own_of i ∷ blocks (side child)) → IsTree (side child) → KeepsSummary (side i.right) (side child) Nothing
+      → IsNode (record i { right = child }) × KeepsSummary (shape_of i) (shape_of (record i { right = child })) Nothing
+  unchanged_right o t k = (
+    record {
+      tree = record { ordered = o; balanced = (v.tree.balanced.0, t.balanced, rw k.height v.tree.balanced.2) };
+      height = rw k.height v.height;
+      max_free = rw k.max_free v.max_free;
+      alignments = rw k.alignments v.alignments;
+    },
+    record { height = rw k.height refl; max_free = rw k.max_free refl; alignments = rw k.alignments refl },
+  )
+
+-- where the room alone of one side changed, the room alone of the whole did, or nothing
+module _ (i : Inside) (child : Option (Box InnerNode)) (reported : Change) (max_free count : ℕ) (v : IsNode i) where
+  pub refreshed_left : IsOrderedFrom 0 (blocks (side child) ++ own_of i ∷ blocks (side i.right)) → Grows (side i.left) (side child) FreeOnly
+      → max_free ≡ max (max (max_free_of (side child)) (max_free_of (side i.right))) (free_length (own_of i))
+      → count ≡ max (max (alignments_of (side child)) (alignments_of (side i.right))) (free_alignments (own_of i))
+      → KeepsFreeSummary reported i.max_free max_free → KeepsFreeSummary reported i.alignments count
+      → IsNode (record i { left = child; max_free = max_free; alignments = count }) × Grows (shape_of i) (shape_of (record i { left = child })) reported
+  refreshed_left o g m a p q =
+      let tree : IsTree (shape_of (record i { left = child })) = record { ordered = o; balanced = (g.tree.balanced, v.tree.balanced.1, rw g.keeps.height v.tree.balanced.2) } in
+      let high : height_of (shape_of (record i { left = child })) ≡ height_of (shape_of i) = rw g.keeps.height refl in (
+        record { tree = tree; height = rw high v.height; max_free = m; alignments = a },
+        record {
+          tree = tree;
+          not_lower = omega (arith, high);
+          at_most_one_higher = omega (arith, high);
+          keeps = record { height = rw high (height_unchanged reported _); max_free = rw (← v.max_free, ← m) p; alignments = rw (← v.alignments, ← a) q };
+        },
+      )
+
+  pub refreshed_right : IsOrderedFrom 0 (blocks (side i.left) ++ own_of i ∷ blocks (side child)) → Grows (side i.right) (side child) FreeOnly
+      → max_free ≡ max (max (max_free_of (side i.left)) (max_free_of (side child))) (free_length (own_of i))
+      → count ≡ max (max (alignments_of (side i.left)) (alignments_of (side child))) (free_alignments (own_of i))
+      → KeepsFreeSummary reported i.max_free max_free → KeepsFreeSummary reported i.alignments count
+      → IsNode (record i { right = child; max_free = max_free; alignments = count }) × Grows (shape_of i) (shape_of (record i { right = child })) reported
+  refreshed_right o g m a p q =
+      let tree : IsTree (shape_of (record i { right = child })) = record { ordered = o; balanced = (v.tree.balanced.0, g.tree.balanced, rw g.keeps.height v.tree.balanced.2) } in
+      let high : height_of (shape_of (record i { right = child })) ≡ height_of (shape_of i) = rw g.keeps.height refl in (
+        record { tree = tree; height = rw high v.height; max_free = m; alignments = a },
+        record {
+          tree = tree;
+          not_lower = omega (arith, high);
+          at_most_one_higher = omega (arith, high);
+          keeps = record { height = rw high (height_unchanged reported _); max_free = rw (← v.max_free, ← m) p; alignments = rw (← v.alignments, ← a) q };
+        },
+      )
+
+-- a tree of which nothing that is kept changed is as high as before
+pub unchanged_grows : (s n : Shape) → IsTree n → KeepsSummary s n Nothing → Grows s n Nothing
+unchanged_grows s n t k = record { tree = t; not_lower = omega (arith, k.height); at_most_one_higher = omega (arith, k.height); keeps = k }
+
+pub unchanged_shrinks : (s n : Shape) → IsTree n → KeepsSummary s n Nothing → Shrinks s n Nothing
+unchanged_shrinks s n t k = record { tree = t; not_higher = omega (arith, k.height); at_most_one_lower = omega (arith, k.height); keeps = k }

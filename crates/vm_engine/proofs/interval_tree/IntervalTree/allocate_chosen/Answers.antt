@@ -1,0 +1,34 @@
+use Rattle.std.proofs.Common.{arith, refl, rules}
+use Rattle.std.proofs.lemmas.Grind.{common_steps}
+use Rattle.vm_engine.specs.Engine.NodeFields.{side}
+use Rattle.vm_engine.specs.Tree.Shape.{blocks}
+use Rattle.vm_engine.proofs.Splitting.SplitStates.{cut_of, known, can_split, whole_split, rest_split, space_taken, taken_in}
+use Rattle.vm_engine.proofs.interval_tree.IntervalTree.allocate_chosen.Goals as goal
+
+pub rewrite_at-requires-clause-known : goal.rewrite_at-requires-clause-known
+rewrite_at-requires-clause-known c =
+    known _ _ _ (cut_of _ c.args.choice c.self.invariant (rw (← c.self.view_is) at c.requires.choice))
+
+pub invariant_of-self : goal.invariant_of-self
+invariant_of-self c =
+    let choice = rw (← c.self.view_is) at c.requires.choice in
+    let split_states = whole_split _ _ _ _ (cut_of _ c.args.choice c.self.invariant choice) c.if-not-needs_split.ensures c.rewrite_at.ensures.blocks in
+    space_taken _ _ c.args.choice c.self.invariant choice split_states (omega (arith, c.rewrite_at.ensures.keeps.height, c.self.invariant.height))
+
+pub split_at-requires-clause-can_be_split : goal.split_at-requires-clause-can_be_split
+split_at-requires-clause-can_be_split c =
+    let can = can_split _ _ _ _ (cut_of _ c.args.choice c.self.invariant (rw (← c.self.view_is) at c.requires.choice)) c.in_ok-rest.ensures.rest in
+    search rules
+
+pub invariant_of-self-2 : goal.invariant_of-self-2
+invariant_of-self-2 c =
+    let choice = rw (← c.self.view_is) at c.requires.choice in
+    let split_states = rest_split _ (blocks (side c.split_at.new.at)) _ _ _ (cut_of _ c.args.choice c.self.invariant choice) c.in_ok-rest.ensures.rest (search rules) in
+    let height = rw (← c.self.view_is) at c.height.ensures.value in
+    space_taken _ _ c.args.choice c.self.invariant choice split_states (grind (arith, common_steps))
+
+pub returns-clause-answer : goal.returns-clause-answer
+returns-clause-answer c =
+    let choice = rw (← c.self.view_is) at c.requires.choice in
+    let split_states = rest_split _ (blocks (side c.split_at.new.at)) _ _ _ (cut_of _ c.args.choice c.self.invariant choice) c.in_ok-rest.ensures.rest (search rules) in
+    rw (← c.self.view_is) (taken_in _ (side c.split_at.new.at) c.args.choice c.args.choice.range c.self.invariant choice split_states refl)

@@ -1,0 +1,133 @@
+use Rattle.std.proofs.Common.{◌≡◌, ℕ, ◌++◌, ◌∷◌, ◌∙◌, sym, arith, refl, rules}
+use Rattle.std.proofs.lemmas.Grind.{common_steps}
+use Rattle.vm_engine.proofs.Nodes.UpdatedNodes.{own_of, rebalanced, updated_node, grown_left, grown_right, unchanged_left, unchanged_right, unchanged_grows, refreshed_left, refreshed_right}
+use Rattle.vm_engine.proofs.Splitting.SplitTrees.{ordered_split_left, ordered_split_right}
+use Rattle.vm_engine.proofs.Blocks.Replacement.{replace_in_left, replace_in_right}
+use Rattle.vm_engine.proofs.Counts.SplitCounts.{nodes_to_split_cases}
+use Rattle.vm_engine.specs.Tree.Shape.{IsTree, blocks}
+use Rattle.vm_engine.specs.Tree.BlockList.{IsOrderedFrom}
+use Rattle.vm_engine.specs.Engine.Changes.{KeepsSummary, Grows}
+use Rattle.vm_engine.specs.declared.node.summary.Change.TheVariants.{Nothing}
+use Rattle.vm_engine.specs.Engine.NodeFields.{side, shape_of, IsNode}
+use Rattle.vm_engine.proofs.Nodes.Rewriting.{known_left, known_right, rewritten_left, rewritten_right}
+use Rattle.vm_engine.proofs.node.split.+split_at.Goals as goal
+use Rattle.vm_engine.proofs.node.split.+split_at.Goals.{in-Greater, in-Less, In-Nothing, After-refresh_free, After-update-updated}
+
+pub split_at-change-requires : goal.split_at-change-requires
+split_at-change-requires t c =
+    let i = c.tree.inside in
+    let e : side c.args.at.now ≡ shape_of i = cc in
+    let tree : IsTree (side c.args.at.now) = rw e c.tree.invariant.tree in
+    let known = known_left (side c.args.at.now) (side i.left) _ (side i.right) c.args.cut.now.choice.key e c.in-Greater.ensures tree c.requires.can_be_split.known in
+    let ordered = rewritten_left (side c.args.at.now) (side i.left) _ (side i.right) c.args.cut.now.choice.key _ e c.in-Greater.ensures tree c.requires.can_be_split.ordered in
+    (search rules, (c.requires.leaves, (record { known = known; ordered = ordered }, (grind arith, grind arith))))
+
+pub split_at-change-requires-in-Less : goal.split_at-change-requires-in-Less
+split_at-change-requires-in-Less t c =
+    let i = c.tree.inside in
+    let e : side c.args.at.now ≡ shape_of i = cc in
+    let tree : IsTree (side c.args.at.now) = rw e c.tree.invariant.tree in
+    let known = known_right (side c.args.at.now) (side i.left) _ (side i.right) c.args.cut.now.choice.key e c.in-Less.ensures tree c.requires.can_be_split.known in
+    let ordered = rewritten_right (side c.args.at.now) (side i.left) _ (side i.right) c.args.cut.now.choice.key _ e c.in-Less.ensures tree c.requires.can_be_split.ordered in
+    (search rules, (c.requires.leaves, (record { known = known; ordered = ordered }, (grind arith, grind arith))))
+
+-- where nothing that is kept of a side changed: the node over it
+summary_over_side : (t : ℕ) (c : In-Nothing t) → IsNode c.match-compare.tree-inside × KeepsSummary (shape_of c.tree.inside) (shape_of c.match-compare.tree-inside) Nothing
+summary_over_side t c =
+    let e : side c.args.at.now ≡ shape_of c.tree.inside = cc in
+    elim c.match-compare.branch [
+      | in-Greater w ↦
+          let l = w.split_at-change in
+          let same = rw (sym w.change-is ∙ c.in-Nothing.is) at l.ensures.grows.keeps in
+          rw w.tree-inside-is (unchanged_left c.tree.inside l.new.at c.tree.invariant (ordered_split_left _ (side l.new.at) _ _ _ _ w.in-Greater.ensures c.tree.invariant.tree (rw e at c.requires.can_be_split.ordered) l.ensures.blocks) l.ensures.grows.tree same)
+      | in-Less w ↦
+          let r = w.split_at-change-in-Less in
+          let same = rw (sym w.change-is ∙ c.in-Nothing.is) at r.ensures.grows.keeps in
+          rw w.tree-inside-is (unchanged_right c.tree.inside r.new.at c.tree.invariant (ordered_split_right _ (side r.new.at) _ _ _ _ w.in-Less.ensures c.tree.invariant.tree (rw e at c.requires.can_be_split.ordered) r.ensures.blocks) r.ensures.grows.tree same)
+    ]
+
+pub invariant_of-tree : goal.invariant_of-tree
+invariant_of-tree t c = (summary_over_side t (goal.at.invariant_of-tree t c).In-Nothing).0
+
+-- where the room alone of a side changed: the node over it, brought up to date
+refreshed_over_side : (t : ℕ) (c : After-refresh_free t)
+    → let n = record c.match-compare.tree-inside { max_free = c.refresh_free.new.cached_max_free; alignments = c.refresh_free.new.cached_alignments } in
+    IsNode n × Grows (shape_of c.tree.inside) (shape_of n) c.refresh_free.result
+refreshed_over_side t c =
+    let e : side c.args.at.now ≡ shape_of c.tree.inside = cc in
+    let max_free = c.refresh_free.new.cached_max_free in
+    let count = c.refresh_free.new.cached_alignments in
+    let longest = rw (c.summary_of.ensures.value.1, c.summary_of-in-FreeOnly.ensures.value.1, c.free_summary_of.ensures.max_free) at c.refresh_free.ensures.max_free in
+    let reached = rw (c.summary_of.ensures.value.2, c.summary_of-in-FreeOnly.ensures.value.2, c.free_summary_of.ensures.alignments) at c.refresh_free.ensures.alignments in
+    elim c.match-compare.branch [
+      | in-Greater w ↦
+          let l = w.split_at-change in
+          let grew = rw (sym w.change-is ∙ c.in-FreeOnly.is) at l.ensures.grows in
+          rw w.tree-inside-is (refreshed_left c.tree.inside l.new.at c.refresh_free.result max_free count c.tree.invariant (ordered_split_left _ (side l.new.at) _ _ _ _ w.in-Greater.ensures c.tree.invariant.tree (rw e at c.requires.can_be_split.ordered) l.ensures.blocks) grew (rw w.tree-inside-is at longest) (rw w.tree-inside-is at reached) (rw w.tree-inside-is at c.refresh_free.ensures.same_max_free) (rw w.tree-inside-is at c.refresh_free.ensures.same_alignments))
+      | in-Less w ↦
+          let r = w.split_at-change-in-Less in
+          let grew = rw (sym w.change-is ∙ c.in-FreeOnly.is) at r.ensures.grows in
+          rw w.tree-inside-is (refreshed_right c.tree.inside r.new.at c.refresh_free.result max_free count c.tree.invariant (ordered_split_right _ (side r.new.at) _ _ _ _ w.in-Less.ensures c.tree.invariant.tree (rw e at c.requires.can_be_split.ordered) r.ensures.blocks) grew (rw w.tree-inside-is at longest) (rw w.tree-inside-is at reached) (rw w.tree-inside-is at c.refresh_free.ensures.same_max_free) (rw w.tree-inside-is at c.refresh_free.ensures.same_alignments))
+    ]
+
+pub invariant_of-tree-in-FreeOnly : goal.invariant_of-tree-in-FreeOnly
+invariant_of-tree-in-FreeOnly t c = (refreshed_over_side t (goal.at.invariant_of-tree-in-FreeOnly t c).After-refresh_free).0
+
+-- where anything of a side changed: the blocks over it
+ordered_over_side : (t : ℕ) (c : After-update-updated t)
+    → let n = c.match-compare.tree-inside in IsOrderedFrom 0 (blocks (side n.left) ++ own_of n ∷ blocks (side n.right))
+ordered_over_side t c =
+    let e : side c.args.at.now ≡ shape_of c.tree.inside = cc in
+    elim c.match-compare.branch [
+      | in-Greater w ↦
+          let l = w.split_at-change in
+          rw w.tree-inside-is (ordered_split_left _ (side l.new.at) _ _ _ _ w.in-Greater.ensures c.tree.invariant.tree (rw e at c.requires.can_be_split.ordered) l.ensures.blocks)
+      | in-Less w ↦
+          let r = w.split_at-change-in-Less in
+          rw w.tree-inside-is (ordered_split_right _ (side r.new.at) _ _ _ _ w.in-Less.ensures c.tree.invariant.tree (rw e at c.requires.can_be_split.ordered) r.ensures.blocks)
+    ]
+
+pub invariant_of-tree-in-Height : goal.invariant_of-tree-in-Height
+invariant_of-tree-in-Height t c =
+    updated_node c.match-compare.tree-inside c.update-updated.result _ (ordered_over_side t (goal.at.invariant_of-tree-in-Height t c).After-update-updated) c.update-updated.ensures.left c.update-updated.ensures.right c.update-updated.ensures.updated
+
+pub returns-in-Nothing-clause-blocks : goal.returns-in-Nothing-clause-blocks
+returns-in-Nothing-clause-blocks t c = grind (arith, common_steps, replace_in_left, replace_in_right)
+
+pub returns-in-Nothing-clause-grows : goal.returns-in-Nothing-clause-grows
+returns-in-Nothing-clause-grows t c =
+    let e : side c.args.at.now ≡ shape_of c.tree.inside = cc in
+    let summary = summary_over_side t (goal.at.returns-in-Nothing-clause-grows t c).In-Nothing in
+    rw e (unchanged_grows _ _ summary.0.tree summary.1)
+
+pub returns-in-Nothing-clause-count : goal.returns-in-Nothing-clause-count
+returns-in-Nothing-clause-count t c = grind (arith, common_steps, nodes_to_split_cases)
+
+pub returns-in-FreeOnly-clause-blocks : goal.returns-in-FreeOnly-clause-blocks
+returns-in-FreeOnly-clause-blocks t c = grind (arith, common_steps, replace_in_left, replace_in_right)
+
+pub returns-in-FreeOnly-clause-grows : goal.returns-in-FreeOnly-clause-grows
+returns-in-FreeOnly-clause-grows t c =
+    let e : side c.args.at.now ≡ shape_of c.tree.inside = cc in
+    rw e (refreshed_over_side t (goal.at.returns-in-FreeOnly-clause-grows t c).After-refresh_free).1
+
+pub returns-in-FreeOnly-clause-count : goal.returns-in-FreeOnly-clause-count
+returns-in-FreeOnly-clause-count t c = grind (arith, common_steps, nodes_to_split_cases)
+
+pub returns-in-Height : goal.returns-in-Height
+returns-in-Height t c =
+    let f = rebalanced _ _ c.update-updated.result _ _ c.rebalance.new.at c.rebalance.result (ordered_over_side t (goal.at.returns-in-Height t c).After-update-updated) c.update-updated.ensures.left c.update-updated.ensures.right c.update-updated.ensures.updated refl c.rebalance.ensures in
+    let e : side c.args.at.now ≡ shape_of c.tree.inside = cc in
+    let grows : Grows (side c.args.at.now) (side c.rebalance.new.at) c.rebalance.result = rw e (elim c.match-compare.branch [
+      | in-Greater w ↦
+          let l = w.split_at-change in
+          grown_left c.tree.inside l.new.at l.result _ _ c.tree.invariant l.ensures.grows (rw w.tree-inside-is at f)
+      | in-Less w ↦
+          let r = w.split_at-change-in-Less in
+          grown_right c.tree.inside r.new.at r.result _ _ c.tree.invariant r.ensures.grows (rw w.tree-inside-is at f)
+    ]) in
+    record {
+      blocks = grind (arith, common_steps, replace_in_left, replace_in_right);
+      grows = grows;
+      count = grind (arith, common_steps, nodes_to_split_cases);
+    }

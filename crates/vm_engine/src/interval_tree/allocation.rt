@@ -1,0 +1,125 @@
+//! How a range is held: what fills its free block is marked in place, and what does not is split
+//! from it, with all memory asked for before the first change.
+ghost use Rattle.std.specs.Prelude.{◌≡◌, ◌+◌, ◌*◌, ◌<◌, ◌≤◌, Err, IfOk, IfErr, IfSome, OnErr, OnOk};
+ghost use Rattle.vm_ranges.specs.Range.{MAX};
+ghost use Rattle.vm_engine.specs.Answer.{AllocatesAt};
+ghost use Rattle.vm_engine.specs.Tree.Block.{free_block};
+ghost use Rattle.vm_engine.specs.Tree.BlockEdits.{IsTakenFrom, NeedsSplit, before_part, after_part};
+ghost use Rattle.vm_ranges.specs.Cases.{IsTestOf};
+ghost use Rattle.vm_engine.specs.Engine.SplitBlocks.{IsRest};
+ghost use Rattle.vm_engine.specs.Tree.Shape.{blocks, height_of, single, leaf_of};
+ghost use Rattle.vm_engine.specs.Engine.Changes.{IsLeaf};
+ghost use Rattle.vm_engine.specs.Engine.NodeFields.{side};
+ghost use Rattle.vm_engine.specs.Engine.Choosing.{IsChoice};
+ghost use Rattle.vm_engine.specs.Tree.SpaceTree.{tree_state};
+ghost use Rattle.vm_engine.specs.Counts.Steps.{SPLIT_HEIGHT_LIMIT};
+ghost use Rattle.vm_engine.specs.Counts.NodeCounts.{nodes_if_allocated};
+
+use super::IntervalTree;
+use crate::Steps;
+use crate::node::rewrite::rewrite_at;
+use crate::node::split::{Choice, Rest, Split, split_at};
+use crate::node::{Child, InnerNode};
+use crate::ordering::{recall_invariant, valid_range};
+use std::alloc::Global;
+use vm_ranges::{Error, NodeState, RangeInclusive, Result};
+
+/// The height from which on no split is made, so that two more nodes never make a tree too high.
+const SPLIT_HEIGHT_LIMIT: u64 = 48;
+
+impl IntervalTree {
+    /// Holds a range within a free block. Where a part of the block is left, a tree that is too high
+    /// is `Overflow`, and then comes `OutOfMemory`: all memory is asked for before the first change.
+    #[tactic(auto, using(crate::proofs::Splitting::SplitStates::takings, crate::proofs::Splitting::SplitStates::split_states, crate::proofs::Nodes::Spaces::rooted, crate::proofs::Counts::SplitCounts::holdings))]
+    pub(super) fn allocate_chosen(
+        &mut self,
+        alloc: Global,
+        choice: Choice,
+        count: &mut Steps,
+    ) -> Result<RangeInclusive>
+        requires choice { IsChoice (blocks self.old) choice }
+        requires count_fits { count.old + 2 * height_of self.old ≤ MAX }
+        ensures answer { AllocatesAt (tree_state self.old) choice.range result (tree_state self.new) }
+        ensures unchanged { OnErr result (self.new ≡ self.old) }
+        ensures low { NeedsSplit choice.key choice.range → OnOk result (height_of self.old < SPLIT_HEIGHT_LIMIT) }
+        ensures memory { result ≡ Err Error.OutOfMemory → height_of self.old < SPLIT_HEIGHT_LIMIT }
+        ensures count { count.new ≡ count.old + nodes_if_allocated choice.key result self.old }
+    {
+        if !needs_split(&choice) {
+            rewrite_at(
+                &mut self.root,
+                &choice.key,
+                choice.range,
+                NodeState::Allocated,
+                count,
+            );
+            return Ok(choice.range);
+        }
+        if self.height() >= SPLIT_HEIGHT_LIMIT {
+            return Err(Error::Overflow);
+        }
+        let rest = rest_of(alloc, &choice)?;
+        let mut cut = Split { choice, rest };
+        split_at(&mut self.root, &mut cut, count);
+        Ok(choice.range)
+    }
+}
+
+/// Whether a part of the free block is left beside the range.
+fn needs_split(choice: &Choice) -> bool
+    ensures { IsTestOf result (NeedsSplit choice.now.key choice.now.range) }
+{
+    choice.key.start() < choice.range.start() || choice.range.end() < choice.key.end()
+}
+
+/// What is left of the free block on both sides of the range. `OutOfMemory` where there is no memory
+/// for a leaf.
+fn rest_of(alloc: Global, choice: &Choice) -> Result<Rest>
+    requires { IsTakenFrom choice.now.key choice.now.range }
+    ensures rest { IfOk result (λ rest. IsRest choice.now.key choice.now.range rest) }
+    ensures error { IfErr result (λ error. error ≡ Error.OutOfMemory) }
+{
+    let before = leaf_before(alloc, choice)?;
+    let after = leaf_after(alloc, choice)?;
+    Ok(Rest { before, after })
+}
+
+/// A leaf for what is left of the free block before the range.
+fn leaf_before(alloc: Global, choice: &Choice) -> Result<Child>
+    requires { IsTakenFrom choice.now.key choice.now.range }
+    ensures part { IfOk result (λ leaf. side leaf ≡ leaf_of (before_part choice.now.key choice.now.range)) }
+    ensures leaf { IfOk result (λ leaf. IfSome leaf (λ n. IsLeaf n.value)) }
+    ensures error { IfErr result (λ error. error ≡ Error.OutOfMemory) }
+{
+    recall_invariant(&choice.key);
+    if choice.key.start() >= choice.range.start() {
+        return Ok(None);
+    }
+    let key = valid_range(choice.key.start(), choice.range.start() - 1);
+    free_leaf(alloc, key)
+}
+
+/// A leaf for what is left of the free block after the range.
+fn leaf_after(alloc: Global, choice: &Choice) -> Result<Child>
+    requires { IsTakenFrom choice.now.key choice.now.range }
+    ensures part { IfOk result (λ leaf. side leaf ≡ leaf_of (after_part choice.now.key choice.now.range)) }
+    ensures leaf { IfOk result (λ leaf. IfSome leaf (λ n. IsLeaf n.value)) }
+    ensures error { IfErr result (λ error. error ≡ Error.OutOfMemory) }
+{
+    recall_invariant(&choice.key);
+    if choice.range.end() >= choice.key.end() {
+        return Ok(None);
+    }
+    let key = valid_range(choice.range.end() + 1, choice.key.end());
+    free_leaf(alloc, key)
+}
+
+/// A leaf with a free block.
+fn free_leaf(alloc: Global, key: RangeInclusive) -> Result<Child>
+    ensures leaf { IfOk result (λ leaf. IfSome leaf (λ n. n.value ≡ single (free_block key))) }
+    ensures shape { IfOk result (λ leaf. side leaf ≡ single (free_block key)) }
+    ensures error { IfErr result (λ error. error ≡ Error.OutOfMemory) }
+{
+    let leaf = Box::new(alloc, InnerNode::new(key, NodeState::Free))?;
+    Ok(Some(leaf))
+}

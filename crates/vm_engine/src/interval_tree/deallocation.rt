@@ -1,0 +1,85 @@
+//! How a held range is given back: the free blocks beside it are removed by a descent each, and its
+//! block is widened by one more, free again. To take all three out in one descent would ask for a
+//! proof by cases on which of them stands above which, and for two removals on one way back up.
+ghost use Rattle.std.specs.Prelude.{◌≡◌, ◌+◌, ◌*◌, ◌≤◌, None, OnErr};
+ghost use Rattle.vm_ranges.specs.Range.{MAX, IsRange};
+ghost use Rattle.vm_engine.specs.Answer.{Frees};
+ghost use Rattle.vm_engine.specs.Tree.FreeBeside.{without_if_some};
+ghost use Rattle.vm_engine.specs.Engine.FreedBlocks.{IsAround, joined, with_joined, start_with, end_with};
+ghost use Rattle.vm_engine.specs.Tree.Shape.{blocks, height_of};
+ghost use Rattle.vm_engine.specs.Engine.NodeFields.{side};
+ghost use Rattle.vm_engine.specs.Tree.SpaceTree.{tree_state, IsSpaceTree};
+ghost use Rattle.vm_engine.specs.Counts.Steps.{EntersToFree, IsJoinCount};
+ghost use Rattle.vm_engine.specs.Counts.NodeCounts.{nodes_to_remove_if_some};
+
+use super::IntervalTree;
+use crate::Steps;
+use crate::node::Child;
+use crate::node::neighbours::Neighbours;
+use crate::node::remove::delete_at;
+use crate::node::widen::widen;
+use crate::ordering::valid_range;
+use vm_ranges::{Error, RangeInclusive, Result};
+
+impl IntervalTree {
+    /// `free`, which adds the nodes that it enters to a counter at 0.
+    #[tactic(auto, using(crate::proofs::Releasing::JoinedBlocks::releases, crate::proofs::Counts::FreeCounts::join_counts))]
+    pub(super) fn free_inner(&mut self, key: &RangeInclusive, count: &mut Steps) -> Result<()>
+        requires { count.old ≡ 0 }
+        ensures answer { Frees (tree_state self.old) key.now result (tree_state self.new) }
+        ensures unchanged { OnErr result (self.new ≡ self.old) }
+        ensures count { EntersToFree self.old key.now result 0 count.new }
+        ensures space { IsSpaceTree self.old }
+    {
+        let Some(beside) = self.root().neighbours(key, count) else {
+            return Err(Error::ResourceNotAvailable);
+        };
+        join_free(&mut self.root, key, &beside, count);
+        Ok(())
+    }
+}
+
+/// Removes the free blocks beside a held one, and gives the held one all their addresses, free again.
+#[tactic(auto, using(crate::proofs::Releasing::JoinedBlocks::joins_free, crate::proofs::Counts::FreeCounts::removals))]
+fn join_free(root: &mut Child, key: &RangeInclusive, beside: &Neighbours, count: &mut Steps)
+    requires around { IsAround (blocks (side root.old)) key.now beside.now }
+    requires count_fits { count.old + 3 * height_of (side root.old) ≤ MAX }
+    ensures blocks { blocks (side root.new) ≡ with_joined key.now beside.now (blocks (side root.old)) }
+    ensures height { height_of (side root.new) ≤ height_of (side root.old) }
+    ensures count { IsJoinCount (side root.old) key.now beside.now.before beside.now.after count.old count.new }
+{
+    let range = joined(key, beside);
+    remove_if_some(root, &beside.before, count);
+    remove_if_some(root, &beside.after, count);
+    widen(root, key, &range, count);
+}
+
+/// A range with the free ones beside it.
+fn joined(key: &RangeInclusive, beside: &Neighbours) -> RangeInclusive
+    requires { IsRange (start_with beside.now.before key.now) (end_with key.now beside.now.after) }
+    ensures { result ≡ joined key.now beside.now }
+{
+    let start = match &beside.before {
+        None => key.start(),
+        Some(before) => before.start(),
+    };
+    let end = match &beside.after {
+        None => key.end(),
+        Some(after) => after.end(),
+    };
+    valid_range(start, end)
+}
+
+/// Removes the node with a key, if there is such a key.
+#[tactic(auto, using(crate::proofs::Counts::NodeCountBounds::removal_bounds))]
+fn remove_if_some(root: &mut Child, key: &Option<RangeInclusive>, count: &mut Steps)
+    requires { count.old + height_of (side root.old) ≤ MAX }
+    ensures blocks { blocks (side root.new) ≡ without_if_some key.now (blocks (side root.old)) }
+    ensures height { height_of (side root.new) ≤ height_of (side root.old) }
+    ensures same { key.now ≡ None → side root.new ≡ side root.old }
+    ensures count { count.new ≡ count.old + nodes_to_remove_if_some key.now (side root.old) }
+{
+    if let Some(key) = key {
+        delete_at(root, key, count);
+    }
+}

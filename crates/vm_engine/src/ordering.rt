@@ -1,0 +1,59 @@
+//! How the ranges of blocks lie to one another, in the words of the tree, and ranges made of ends that
+//! are known to be those of one.
+ghost use Rattle.std.specs.Prelude.{◌≡◌, MatchBool};
+ghost use Rattle.std.specs.Ordering.{MatchOrdering};
+ghost use Rattle.vm_ranges.specs.Range.{IsRange};
+ghost use Rattle.vm_ranges.specs.RangeOrder.{Before, StartsBefore, StartsAtOrAfter, EndsBefore, EndsAtOrAfterStartOf, IsInOrder};
+
+use std::cmp::Ordering;
+use vm_ranges::RangeInclusive;
+
+/// How a range compares with another, by start, then by end.
+#[inline(always)]
+#[tactic(auto, using(vm_ranges::proofs::RangeOrders::ordered))]
+pub(super) fn compare(range: &RangeInclusive, other: &RangeInclusive) -> Ordering
+    ensures { MatchOrdering result (Before range.now other.now) (range.now ≡ other.now) (Before other.now range.now) }
+{
+    range.cmp(other)
+}
+
+/// Whether a range starts before another.
+#[inline(always)]
+#[tactic(auto, unfolding(vm_ranges::specs::RangeOrder::StartsBefore, vm_ranges::specs::RangeOrder::StartsAtOrAfter, vm_ranges::specs::RangeOrder::IsInOrder))]
+pub(super) fn starts_before(range: &RangeInclusive, other: &RangeInclusive) -> bool
+    ensures which { MatchBool result (StartsBefore range.now other.now) (StartsAtOrAfter range.now other.now) }
+    ensures in_order { IsInOrder range.now }
+{
+    other.start() > range.start()
+}
+
+/// Whether a range ends before another starts.
+#[inline(always)]
+#[tactic(auto, unfolding(vm_ranges::specs::RangeOrder::EndsBefore, vm_ranges::specs::RangeOrder::EndsAtOrAfterStartOf, vm_ranges::specs::RangeOrder::IsInOrder))]
+pub(super) fn ends_before(range: &RangeInclusive, other: &RangeInclusive) -> bool
+    ensures which { MatchBool result (EndsBefore range.now other.now) (EndsAtOrAfterStartOf range.now other.now) }
+    ensures in_order { IsInOrder range.now }
+    ensures other_in_order { IsInOrder other.now }
+{
+    other.start() > range.end()
+}
+
+/// The range from `start` to `end`, which are known to be those of a range.
+#[inline(always)]
+pub(super) fn valid_range(start: u64, end: u64) -> RangeInclusive
+    requires { IsRange start end }
+    ensures { result ≡ record { start = start; end = end } }
+{
+    let Ok(range) = RangeInclusive::new(start, end) else {
+        unreachable!()
+    };
+    range
+}
+
+/// For the prover alone: that the ends are those of a range is known from here on.
+#[inline(always)]
+pub(crate) fn recall_invariant(range: &RangeInclusive)
+    ensures { IsRange range.now.start range.now.end }
+{
+    let _ = range.end();
+}

@@ -1,0 +1,15 @@
+use Rattle.std.proofs.Common.{List, ℕ, ◌++◌, ◌≤◌, length}
+use Rattle.vm_lines.specs.Sessions.{Session, AnswersPiece}
+use Rattle.vm_lines.specs.Moving.{MovesText}
+use Rattle.vm_lines.proofs.replay.feed.Given as goal
+
+-- the text of the lines so far is written or waits, and what the rest leads to, the piece does
+abbrev pub invariant-loop-end : goal.invariant-loop-end
+invariant-loop-end g l =
+    (text : List ℕ)
+    × ((more : List ℕ) (new : Session) → AnswersPiece l.session l.rest more new → AnswersPiece l.fn.session l.piece (text ++ more) new)
+    × MovesText (g.W.Write.contents l.fn.writer) l.fn.output text (g.W.Write.contents l.writer) l.output
+    × (length l.rest ≤ length l.piece)
+
+abbrev pub decreases-loop-end : goal.decreases-loop-end
+decreases-loop-end g l = length l.rest
