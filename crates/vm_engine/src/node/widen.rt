@@ -33,7 +33,7 @@ fn widen_at(
     count: &mut Steps,
 )
     requires can { CanWiden (blocks (side at.old)) held.now range.now }
-    requires max_free { room.now.max_free ≡ free_length (free_block range.now) }
+    requires max_free { free.now.max_free ≡ free_length (free_block range.now) }
     requires alignments { free.now.alignments ≡ free_alignments (free_block range.now) }
     requires count_fits { count.old + height_of (side at.old) ≤ MAX }
     ensures widened { Widens (side at.old) held.now range.now (side at.new) }
