@@ -149,7 +149,8 @@ impl IntervalTree {
         self.allocate_chosen(alloc, choice, count)
     }
 
-    /// Allocates a range for a request, and returns it.
+    /// Allocates `size` free addresses that start at a multiple of the constraint's alignment, and
+    /// returns their range.
     ///
     /// `FirstMatch` chooses the lowest range that fits and `LastMatch` the highest.
     /// `ExactMatch(start)` chooses the range at `start`.

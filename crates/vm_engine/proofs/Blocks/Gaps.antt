@@ -47,7 +47,7 @@ abbrev pub InFreeBlock : List Block → ℕ → ℕ → Type 0
 InFreeBlock [] s e = ⊥
 InFreeBlock (b ∷ bs) s e = ((b.state ≡ Free) × (b.key.start ≤ s) × (e ≤ b.key.end)) ⊎ InFreeBlock bs s e
 
--- The address after a free block is held.
+-- The address after a free block is held, if it is in the space.
 pub next_held : (p : NodeState) (y hi : ℕ) (bs : List Block) → p ≡ Free → Tiles p y bs hi → y ≤ hi → IsHeldAddress (held_of bs) y
 next_held p y hi [] f t l = absurd (omega arith)
 next_held p y hi (b ∷ bs) f t l =

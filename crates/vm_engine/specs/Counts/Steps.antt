@@ -92,11 +92,11 @@ pub record IsFreeCount (h count : ℕ) : Type 0 where
   pub most : count ≤ max_on_paths h
   pub some : 1 ≤ count
 
--- The height at which splits are refused.
+-- Trees of this height or more are not split.
 abbrev pub SPLIT_HEIGHT_LIMIT : ℕ
 SPLIT_HEIGHT_LIMIT = MAX_HEIGHT - 1
 
--- A split succeeds or runs out of memory only if the tree has less than this height.
+-- A split succeeds, or runs out of memory, only if the tree is lower than SPLIT_HEIGHT_LIMIT.
 pub record SplitsIfLow (h : ℕ) (old : AddressState) (answer : Result Range Error) : Type 0 where
   pub split : IfOk answer (λ r. SplitsGap old r → h < SPLIT_HEIGHT_LIMIT)
   pub memory : answer ≡ Err OutOfMemory → h < SPLIT_HEIGHT_LIMIT

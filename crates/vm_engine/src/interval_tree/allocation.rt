@@ -27,8 +27,7 @@ use crate::ordering::{recall_invariant, valid_range};
 use std::alloc::Global;
 use vm_ranges::{Error, NodeState, RangeInclusive, Result};
 
-/// The height at which a split is refused. A split adds at most two nodes, and no tree may be
-/// higher than 49.
+/// Trees of this height or more are not split, so a split never makes a tree higher than 49.
 const SPLIT_HEIGHT_LIMIT: u64 = 48;
 
 impl IntervalTree {
