@@ -1,4 +1,4 @@
--- What a call of an address allocator answers, and the state that it leaves.
+-- The result of each call of an address allocator, and the state after it.
 use Rattle.std.specs.Prelude.{◌≡◌, ℕ, ◌+◌, ◌-◌, ◌<◌, ◌≤◌, ◌⊎◌, Result, Ok, Err, [], length}
 use Rattle.std.specs.List.{Contains}
 use Rattle.vm_ranges.specs.Cases.{IfElse, Unless}
@@ -9,7 +9,7 @@ use Rattle.vm_ranges.specs.declared.error.Error.{Error}
 use Rattle.vm_ranges.specs.declared.error.Error.TheVariants.{Overflow, ResourceNotAvailable, InvalidStateTransition, Underflow, OutOfMemory}
 use Rattle.vm_ranges.specs.declared.state.NodeState.TheVariants.{Allocated}
 
--- the place that the policy of the request chooses
+-- s is the place that the policy of the request chooses.
 unfoldable pub IsChosen : Request → AddressState → ℕ → Type 0
 IsChosen request state s =
     ByPolicy request.policy
@@ -17,9 +17,15 @@ IsChosen request state s =
     (IsHighestPlace request.size request.align state s)
     (λ start. (s ≡ start) × IsPlace request.size request.align state s)
 
--- The faults of a request for n addresses from the start t on, by the first that applies: the start is MAX; it is
--- outside the space; the range passes MAX; the range is a held one; an address of it is not clear; it ends at MAX. The
--- last two follow from the places too, and stand here so that this reads as the documentation does.
+-- The errors of a request for n addresses that start at t. The first condition that is true decides:
+-- - Overflow if t is MAX.
+-- - ResourceNotAvailable if t is not in the space.
+-- - Overflow if the range would end past MAX.
+-- - InvalidStateTransition if exactly this range is held.
+-- - ResourceNotAvailable if one of its addresses is not clear.
+-- - Overflow if it ends at MAX.
+--
+-- The last two conditions also follow from `ByPlace`. They are here so that the list is complete.
 unfoldable pub ByStart : ℕ → ℕ → AddressState → (Error → Type 0) → Type 0 → Type 0
 ByStart t n state refused otherwise =
     IfElse (t ≡ MAX) (refused Overflow) (
@@ -29,61 +35,61 @@ ByStart t n state refused otherwise =
     Unless (AreClear n state t) (refused ResourceNotAvailable) (
     IfElse (t + n - 1 ≡ MAX) (refused Overflow) otherwise)))))
 
--- the faults of the start, where the request names one
+-- The errors of `ByStart` if the request has the policy ExactMatch. Other policies have none of these errors.
 unfoldable pub ByExactPolicy : Request → AddressState → (Error → Type 0) → Type 0 → Type 0
 ByExactPolicy request state refused otherwise =
     ByPolicy request.policy otherwise otherwise (λ start. ByStart start request.size state refused otherwise)
 
--- where there is no place the request is refused, and else the range at the chosen place is taken, or refused if it
--- ends at MAX
+-- ResourceNotAvailable if there is no place. Otherwise Overflow if the range at the chosen place ends at MAX, and
+-- `takes` is true for the range if it does not.
 unfoldable pub ByPlace : Request → AddressState → (Error → Type 0) → (Range → Type 0) → Type 0
 ByPlace request state refused takes =
     (((s : ℕ) → ¬ IsPlace request.size request.align state s) × refused ResourceNotAvailable)
     ⊎ ((s : ℕ) × IsChosen request state s ×
     IfElse (s + request.size - 1 ≡ MAX) (refused Overflow) (takes (span s request.size)))
 
--- the fewest held ranges with which a split may be refused for the depth of a tree: F(50) less one, halved
+-- The lowest number of held ranges with which a split can fail for the height of the tree: (F(50) - 1) / 2.
 abbrev pub SPLIT_LIMIT_MIN_HELD : ℕ
 SPLIT_LIMIT_MIN_HELD = 6_293_134_512
 
--- a split is refused although there is a place: for memory, or, where so many ranges are held that a tree of them may
--- be too deep, for depth
+-- A split fails: out of memory, or Overflow if so many ranges are held that the tree can be too high.
 abbrev pub IsSplitRefusal : AddressState → Result Range Error → Type 0
 IsSplitRefusal old answer =
     (answer ≡ Err OutOfMemory) ⊎ ((SPLIT_LIMIT_MIN_HELD ≤ length old.held) × (answer ≡ Err Overflow))
 
--- the range is held from now on; only where holding it splits its gap may it be refused, with nothing changed
+-- The range r is allocated. It can fail, without any change, only if it splits its gap.
 unfoldable pub AllocatesAt : AddressState → Range → Result Range Error → AddressState → Type 0
 AllocatesAt old r answer new =
     ((answer ≡ Ok r) × (new ≡ holding r old))
     ⊎ (SplitsGap old r × (new ≡ old) × IsSplitRefusal old answer)
 
--- the answer to a request that makes sense
+-- The result of a valid request: an error of ExactMatch, no place, or the chosen range. An error changes nothing.
 unfoldable pub Grants : AddressState → Request → Result Range Error → AddressState → Type 0
 Grants old request answer new =
     let refused : Error → Type 0 = λ e. (answer ≡ Err e) × (new ≡ old) in
     ByExactPolicy request old refused (ByPlace request old refused (λ r. AllocatesAt old r answer new))
 
--- the answer to a request: a refusal changes nothing
+-- The result of `allocate`: the error of an invalid request, or the result of `Grants`. An error changes nothing.
 unfoldable pub Allocates : AddressState → Request → Result Range Error → AddressState → Type 0
 Allocates old request answer new =
     ByConstraint request (λ e. (answer ≡ Err e) × (new ≡ old)) (Grants old request answer new)
 
--- a request that makes sense and whose chosen place, s, ends below MAX and leaves nothing clear beside it
+-- The request is valid, its chosen place s ends below MAX, and its range fills its gap.
 pub record FillsGap (state : AddressState) (request : Request) (s : ℕ) : Type 0 where
   pub valid : IsRequest request
   pub chosen : IsChosen request state s
   pub below : s + request.size - 1 < MAX
   pub fills : ¬ SplitsGap state (span s request.size)
 
--- the answer to giving a range back: a held one is held no more, and any other is refused
+-- The result of `free`: a held range is freed. Any other range is ResourceNotAvailable and changes nothing.
 unfoldable pub Frees : AddressState → Range → Result (Unit {0}) Error → AddressState → Type 0
 Frees old r answer new =
     IfElse (Contains old.held r)
     ((answer ≡ Ok tt) × (new ≡ releasing r old))
     ((answer ≡ Err ResourceNotAvailable) × (new ≡ old))
 
--- the answer to making an allocator of size addresses from base on
+-- The result of `new` for size addresses that start at base: Underflow if size is 0, Overflow if they would end past
+-- MAX, otherwise a state without held ranges or OutOfMemory.
 unfoldable pub Makes : ℕ → ℕ → Result AddressState Error → Type 0
 Makes base size answer =
     IfElse (size ≡ 0) (answer ≡ Err Underflow) (

@@ -1,4 +1,4 @@
--- How blocks, lists of them and the states that they stand for compare.
+-- The orders of blocks, of lists of blocks, and of states.
 use Rattle.std.specs.Prelude.{◌≡◌, ◌↔◌, ℕ, List}
 use Rattle.std.specs.declared.cmp.Ordering.{Ordering}
 use Rattle.std.specs.declared.cmp.Ordering.TheVariants.{Equal}
@@ -13,53 +13,55 @@ use Rattle.vm_engine.specs.Address.{AddressState}
 use Rattle.vm_ranges.specs.declared.state.NodeState.{NodeState}
 use Rattle.vm_ranges.specs.declared.state.NodeState.TheVariants.{Free, Allocated}
 
--- where a state stands: Free is less
+-- The rank of a state in the order: Free is less than Allocated.
 abbrev pub rank : NodeState → ℕ
 rank Free = 0
 rank Allocated = 1
 
--- the order of blocks: by start, then by end, then by state
+-- The order of blocks: by start, then by end, then by state.
 abbrev pub block_cmp : Block → Block → Ordering
 block_cmp = then_cmp (on (λ b. b.key) range_cmp) (on (λ b. rank b.state) nat_cmp)
 
--- the order of lists of blocks: the first two that differ decide, and else the one that is a beginning is less
+-- The order of lists of blocks: by the first blocks that differ. A proper prefix is less.
 abbrev pub blocks_cmp : List Block → List Block → Ordering
 blocks_cmp = slice_cmp block_cmp
 
--- the order of states by their blocks alone
+-- The order of states by their blocks.
 abbrev pub layout_cmp : AddressState → AddressState → Ordering
 layout_cmp = on blocks_of blocks_cmp
 
--- the order of states: by the space, then by the blocks
+-- The order of states: by space, then by blocks.
 abbrev pub state_cmp : AddressState → AddressState → Ordering
 state_cmp = then_cmp (on (λ s. s.space) range_cmp) layout_cmp
 
--- one space, and the same ranges held in it
+-- Both states have the same space and the same held ranges.
 pub record AreEqual (a b : AddressState) : Type 0 where
   pub space : a.space ≡ b.space
   pub held : a.held ≡ b.held
 
--- an order of states is total and transitive: turned around, it answers the other way round; and what it answers of
--- a and b and of b and c it answers of a and c
+-- The order `compare` is total and transitive. Exchanging its arguments reverses the result.
 pub record IsOrder (compare : AddressState → AddressState → Ordering) : Type 0 where
   pub total : (a b : AddressState) → compare b a ≡ ordering_reverse (compare a b)
   pub transitive : (a b c : AddressState) (answer : Ordering) →
       compare a b ≡ answer → compare b c ≡ answer → compare a c ≡ answer
 
--- the order finds two states equal just where they are
+-- The order returns Equal exactly if both states are equal.
 abbrev pub OrderAgreesWithEquality : Type 0
 OrderAgreesWithEquality = (a b : AddressState) → (state_cmp a b ≡ Equal) ↔ AreEqual a b
 
--- these orders are total, as they are made of total ones
+-- The order of blocks is total.
 pub block_cmp-total : IsTotalOrder block_cmp
 block_cmp-total =
     then_total (on_total (λ (b : Block). b.key) range_cmp-total) (on_total (λ (b : Block). rank b.state) nat_cmp_total)
 
+-- The order of lists of blocks is total.
 pub blocks_cmp-total : IsTotalOrder blocks_cmp
 blocks_cmp-total = lists_total block_cmp-total
 
+-- The order of states by their blocks is total.
 pub layout_cmp-total : IsTotalOrder layout_cmp
 layout_cmp-total = on_total blocks_of blocks_cmp-total
 
+-- The order of states is total.
 pub state_cmp-total : IsTotalOrder state_cmp
 state_cmp-total = then_total (on_total (λ (s : AddressState). s.space) range_cmp-total) layout_cmp-total

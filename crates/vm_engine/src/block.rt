@@ -1,4 +1,4 @@
-//! A block of a space.
+//! A block of an address space: a range with its state.
 ghost use Rattle.std.proofs.Common.{rules};
 ghost use Rattle.std.specs.Cmp.{partial_order_from_own_ties};
 ghost use Rattle.std.specs.Cmp.Rules.{comparing};
@@ -9,8 +9,9 @@ use std::cmp::Ordering;
 use std::marker::Model;
 use vm_ranges::{NodeState, RangeInclusive};
 
-/// A range of addresses, and whether it is held. Blocks are ordered by start, then by end, then by
-/// state.
+/// A range of addresses with its state, allocated or free.
+///
+/// Blocks are ordered by start, then by end, then by state.
 #[derive(Clone, Copy, Debug, PartialEq, Eq)]
 pub(crate) struct Block {
     pub(crate) key: RangeInclusive,
@@ -38,7 +39,7 @@ impl Ord for Block {
 
     ghost matches_eq = { Prim.search (comparing, block_cmp-total, rules) };
 
-    /// By start, then by end, then by state.
+    /// Compares by start, then by end, then by state.
     fn cmp(&self, other: &Block) -> Ordering {
         match self.key.cmp(&other.key) {
             Ordering::Equal => self.state.cmp(&other.state),
@@ -52,7 +53,7 @@ impl PartialOrd for Block {
 
     ghost laws = { partial_order_from_own_ties (Prim.search (comparing, block_cmp-total, rules)) (Prim.search (comparing, block_cmp-total, rules)) };
 
-    /// As `cmp` compares.
+    /// Compares like `cmp`.
     fn partial_cmp(&self, other: &Block) -> Option<Ordering> {
         Some(self.cmp(other))
     }

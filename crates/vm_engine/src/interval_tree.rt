@@ -1,10 +1,16 @@
-//! The blocks of a space in a balanced tree: which place a request gets (`placement`), how the range
-//! there is held (`holding`), how a held one is given back (`release`), which are held
-//! (`held_ranges`), and how two trees compare (`comparing`).
+//! The blocks of an address space in a balanced tree.
 //!
-//! A counted call is a counter at 0, what takes the counter (`allocate_inner`, `release`), and the counter; a
-//! plain call is the counted one without the count. So that the counter has room, as a tree of height
-//! 49 has fewer than 2^49 nodes, is shown once, and no caller has a condition.
+//! - `placement` chooses the range of a request.
+//! - `allocation` allocates the chosen range.
+//! - `deallocation` frees an allocated range.
+//! - `held_ranges` iterates over the allocated ranges.
+//! - `comparing` compares two trees.
+//! - `counted` has the calls that count the nodes that they enter.
+//!
+//! A counted call passes a counter at 0 to `allocate_inner` or `free_inner`, and returns the final
+//! count. A plain call makes the counted call and drops the count. A tree of height 49 has fewer
+//! than 2^49 nodes, so a counter that starts at 0 never overflows. This is proved once, so callers
+//! have no condition on it.
 ghost use Rattle.std.specs.Prelude.{◌≡◌, OnErr, IfOk};
 ghost use Rattle.vm_engine.specs.Address.{IsAddressState};
 ghost use Rattle.vm_engine.specs.Answer.{Grants, Frees};
@@ -30,7 +36,7 @@ mod deallocation;
 pub(crate) mod held_ranges;
 pub(crate) mod placement;
 
-/// The blocks of a space of addresses, in a balanced tree.
+/// The blocks of an address space, in a balanced tree.
 #[derive(Debug, Drop)]
 pub struct IntervalTree {
     pub(crate) root: Child,
@@ -54,8 +60,13 @@ impl Model for IntervalTree {
 }
 
 impl IntervalTree {
-    /// The tree of the space `key`, with nothing held. `OutOfMemory` where there is no memory for its
-    /// one node.
+    /// Creates the tree of the space `key`. The whole space is free.
+    ///
+    /// It allocates one node.
+    ///
+    /// # Errors
+    ///
+    /// - `OutOfMemory` if the allocation of the node fails.
     #[tactic(auto, using(crate::proofs::Nodes::Spaces::making))]
     pub fn new(alloc: Global, key: RangeInclusive) -> Result<Self>
         ensures answer { MakesTree key result }
@@ -66,8 +77,11 @@ impl IntervalTree {
         Ok(IntervalTree { root: Some(node) })
     }
 
-    /// A copy, node for node. `OutOfMemory` where there is no memory for one of them; the others are
-    /// given back then.
+    /// Returns a copy with the same nodes.
+    ///
+    /// # Errors
+    ///
+    /// - `OutOfMemory` if the allocation of a node fails. The nodes copied so far are freed.
     pub fn try_clone(&self, alloc: Global) -> Result<Self>
         ensures { Clones self.now result }
     {
@@ -76,14 +90,14 @@ impl IntervalTree {
         })
     }
 
-    /// The walk over the blocks.
+    /// Returns an iterator over the blocks, from the lowest to the highest.
     fn walk(&self) -> Walk<'_>
         ensures { result ≡ blocks self.now }
     {
         Walk::new(&self.root)
     }
 
-    /// The root, which is always there.
+    /// Returns the root. A tree is never empty.
     #[tactic(auto, using(crate::proofs::Nodes::Spaces::rooted))]
     pub(crate) fn root(&self) -> &InnerNode
         ensures value { result.now ≡ self.now }
@@ -95,7 +109,7 @@ impl IntervalTree {
         root
     }
 
-    /// The height of the tree.
+    /// Returns the height of the tree: the number of nodes on its longest path. It is at most 49.
     pub fn height(&self) -> u64
         ensures value { result ≡ height_of self.now }
         ensures space { IsSpaceTree self.now }
@@ -105,7 +119,7 @@ impl IntervalTree {
         self.root().height()
     }
 
-    /// For the prover alone: what holds of every tree of a space is known from here on.
+    // Proof: makes the invariant of the tree available to the caller. It does nothing when it runs.
     #[inline(always)]
     pub(crate) fn recall_invariant(&self)
         ensures space { IsSpaceTree self.now }
@@ -114,7 +128,7 @@ impl IntervalTree {
         let _ = self.height();
     }
 
-    /// `allocate`, which adds the nodes that it enters to a counter at 0.
+    /// Allocates like `allocate`, and adds the number of entered nodes to a counter at 0.
     #[tactic(auto, using(crate::proofs::Choosing::Searched::granting, crate::proofs::Counts::Granting::grantings))]
     fn allocate_inner(
         &mut self,
@@ -135,10 +149,28 @@ impl IntervalTree {
         self.allocate_chosen(alloc, choice, count)
     }
 
-    /// Holds the range at the place that the policy chooses. In this order: where there is no such
-    /// place `ResourceNotAvailable`, or for `ExactMatch` the first of its faults; `Overflow` where the
-    /// range ends at `u64::MAX`; and where a part of its gap is left, `Overflow` for a tree of height
-    /// 48 or more, and `OutOfMemory`. A refusal changes nothing.
+    /// Allocates `size` free addresses that start at a multiple of the constraint's alignment, and
+    /// returns their range.
+    ///
+    /// `FirstMatch` chooses the lowest range that fits and `LastMatch` the highest.
+    /// `ExactMatch(start)` chooses the range at `start`.
+    ///
+    /// A range that fills its free block is allocated without memory. Any other range splits its
+    /// free block, which allocates one or two nodes.
+    ///
+    /// # Errors
+    ///
+    /// An error changes nothing. In this order:
+    /// - For `ExactMatch(start)`:
+    ///   - `Overflow` if `start` is `u64::MAX`.
+    ///   - `ResourceNotAvailable` if `start` is outside the space.
+    ///   - `Overflow` if the range would end past `u64::MAX`.
+    ///   - `InvalidStateTransition` if exactly this range is already allocated.
+    /// - `ResourceNotAvailable` if there is no free range that fits.
+    /// - `Overflow` if the chosen range ends at `u64::MAX`.
+    /// - Only if the range splits its free block:
+    ///   - `Overflow` if the height of the tree is 48 or more.
+    ///   - `OutOfMemory` if the allocation of a node fails.
     #[tactic(auto, using(crate::proofs::Nodes::Spaces::states))]
     pub fn allocate(&mut self, alloc: Global, constraint: Constraint) -> Result<RangeInclusive>
         ensures answer { Grants (tree_state self.old) constraint result (tree_state self.new) }
@@ -151,8 +183,14 @@ impl IntervalTree {
         answer
     }
 
-    /// Gives a held range back, and joins its addresses with the clear ones on both sides. Any other
-    /// range is `ResourceNotAvailable`. It takes no memory, and a refusal changes nothing.
+    /// Frees an allocated range, and joins it with the free blocks on both sides.
+    ///
+    /// It does not allocate.
+    ///
+    /// # Errors
+    ///
+    /// An error changes nothing.
+    /// - `ResourceNotAvailable` if exactly this range is not allocated.
     pub fn free(&mut self, key: &RangeInclusive) -> Result<()>
         ensures answer { Frees (tree_state self.old) key.now result (tree_state self.new) }
         ensures unchanged { OnErr result (self.new ≡ self.old) }

@@ -1,4 +1,4 @@
-//! Laws: theorems about the definitions that the calls' contracts cite. Each is the contract of a
-//! function that does nothing.
+//! Laws: theorems about the definitions that the contracts cite. Each law is the contract of an
+//! empty function.
 mod addresses;
 mod orders;

@@ -1,4 +1,11 @@
-//! The balanced tree that holds the blocks of a space.
+//! A balanced tree of the blocks of an address space.
+//!
+//! A block is a range of addresses that is allocated as a whole, or free as a whole. The blocks of
+//! a tree cover the whole space, and two neighbours are never both free.
+//!
+//! - [`IntervalTree`] allocates and frees ranges.
+//! - [`HeldRanges`] iterates over the allocated ranges.
+//! - [`decode_node`] reads the fields of a saved node.
 #![tactic(auto)]
 
 mod block;

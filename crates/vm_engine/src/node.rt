@@ -1,7 +1,10 @@
-//! An AVL tree of blocks. Each function in here that calls itself counts the nodes that it enters:
-//! `count` rises by one for each, in `enter` alone. A node is seen as a tree without pointers, so
-//! that its blocks, its height and its balance are functions of that value, and 'unchanged' is an
-//! equation.
+//! An AVL tree of blocks.
+//!
+//! Each recursive function in this module that takes a counter counts the nodes that it enters,
+//! with one call of `enter` for each node.
+//!
+//! The model of a node is a tree without pointers (`Shape`). The blocks, the height and the balance
+//! of a tree are functions of that value, so "unchanged" is an equation.
 ghost use Rattle.std.specs.Prelude.{◌≡◌, ◌+◌, ◌<◌, ◌≤◌, ◌^◌, ◌↔◌, max, IsNone, IfOk};
 ghost use Rattle.vm_ranges.specs.Range.{MAX};
 ghost use Rattle.vm_engine.specs.Tree.Shape.{Tip, Fork, height_of, single, root_block, IsTree};
@@ -29,10 +32,14 @@ use std::alloc::{AllocError, Global};
 use std::marker::Model;
 use vm_ranges::{NodeState, RangeInclusive};
 
-/// A node of the tree, with the tree below it: keys in order without an address in common, the
-/// heights of its children at most one apart, its own height kept, the length of the longest free block
-/// of its tree, 0 where it has none, and how many of the 64 alignments have a multiple in a free block
-/// of its tree. That is a byte beside the state, so that a node has 72.
+/// A node with its subtree.
+///
+/// - The keys of the subtree are in order and do not overlap.
+/// - The heights of both children differ by at most one.
+/// - `height` is the height of the subtree.
+/// - `max_free` is the length of the longest free block in the subtree, or 0 if there is none.
+/// - `alignments` is the number of the 64 alignments that have a multiple in a free block of the
+///   subtree. It is one byte next to the state, so a node has 72 bytes.
 #[derive(Debug, Drop)]
 pub(crate) struct InnerNode {
     key: RangeInclusive,
@@ -44,10 +51,10 @@ pub(crate) struct InnerNode {
     max_free: u64,
 }
 
-/// No tree is higher.
+/// The height of the highest tree.
 pub(crate) const MAX_HEIGHT: u64 = 49;
 
-/// A place for a child.
+/// A link to a child, or `None` if the child is absent.
 pub(crate) type Child = Option<Box<InnerNode>>;
 
 impl Model for InnerNode {
@@ -72,7 +79,7 @@ impl Model for InnerNode {
 }
 
 impl InnerNode {
-    /// A node without children.
+    /// Creates a node without children.
     pub(crate) fn new(key: RangeInclusive, node_state: NodeState) -> InnerNode
         ensures { result ≡ single (record { key = key; state = node_state }) }
     {
@@ -88,8 +95,10 @@ impl InnerNode {
         }
     }
 
-    /// A node over children whose heights are at most one apart, and between whose keys its own lies,
-    /// with what it keeps computed over them. `OutOfMemory` where there is no memory for it.
+    /// Allocates a node with these children, and computes its cached summary.
+    ///
+    /// The heights of the children differ by at most one, and the key lies between their keys. It
+    /// returns an error if the allocation fails.
     pub(crate) fn with_children(
         alloc: Global,
         left: Child,
@@ -106,7 +115,7 @@ impl InnerNode {
         Ok(fork(left, middle, right))
     }
 
-    /// The key of this node.
+    /// Returns the key of this node.
     pub(crate) fn key(&self) -> RangeInclusive
         ensures value { result ≡ (root_block self.now).key }
         ensures tree { IsTree self.now }
@@ -114,7 +123,7 @@ impl InnerNode {
         self.key
     }
 
-    /// The state of this node.
+    /// Returns the state of this node.
     pub(crate) fn state(&self) -> NodeState
         ensures value { result ≡ (root_block self.now).state }
         ensures tree { IsTree self.now }
@@ -122,7 +131,7 @@ impl InnerNode {
         self.node_state
     }
 
-    /// The height of the tree from here on.
+    /// Returns the height of the subtree.
     pub(crate) fn height(&self) -> u64
         ensures value { result ≡ height_of self.now }
         ensures high { 0 < height_of self.now }
@@ -132,7 +141,7 @@ impl InnerNode {
     }
 }
 
-/// For the prover alone: what holds of the tree at a place is known from here on.
+// Proof: makes the invariant of the subtree available to the caller. It does nothing when it runs.
 #[inline(always)]
 fn recall_invariant(child: &Child)
     ensures tree { IsTree (side child.now) }
@@ -141,7 +150,7 @@ fn recall_invariant(child: &Child)
     let _ = height(child);
 }
 
-/// The height of a child, 0 where it is absent.
+/// Returns the height of a child, or 0 if the child is absent.
 #[inline(always)]
 pub(crate) fn height(child: &Child) -> u64
     ensures value { result ≡ height_of (side child.now) }

@@ -1,5 +1,4 @@
-//! How the ranges of blocks lie to one another, in the words of the tree, and ranges made of ends that
-//! are known to be those of one.
+//! Comparisons of the ranges of two blocks, and ranges from ends that are known to be valid.
 ghost use Rattle.std.specs.Prelude.{◌≡◌, MatchBool};
 ghost use Rattle.std.specs.Ordering.{MatchOrdering};
 ghost use Rattle.vm_ranges.specs.Range.{IsRange};
@@ -8,7 +7,7 @@ ghost use Rattle.vm_ranges.specs.RangeOrder.{Before, StartsBefore, StartsAtOrAft
 use std::cmp::Ordering;
 use vm_ranges::RangeInclusive;
 
-/// How a range compares with another, by start, then by end.
+/// Compares two ranges by start, then by end.
 #[inline(always)]
 #[tactic(auto, using(vm_ranges::proofs::RangeOrders::ordered))]
 pub(super) fn compare(range: &RangeInclusive, other: &RangeInclusive) -> Ordering
@@ -17,7 +16,7 @@ pub(super) fn compare(range: &RangeInclusive, other: &RangeInclusive) -> Orderin
     range.cmp(other)
 }
 
-/// Whether a range starts before another.
+/// Returns `true` if `range` starts before `other`.
 #[inline(always)]
 #[tactic(auto, unfolding(vm_ranges::specs::RangeOrder::StartsBefore, vm_ranges::specs::RangeOrder::StartsAtOrAfter, vm_ranges::specs::RangeOrder::IsInOrder))]
 pub(super) fn starts_before(range: &RangeInclusive, other: &RangeInclusive) -> bool
@@ -27,7 +26,7 @@ pub(super) fn starts_before(range: &RangeInclusive, other: &RangeInclusive) -> b
     other.start() > range.start()
 }
 
-/// Whether a range ends before another starts.
+/// Returns `true` if `range` ends before `other` starts.
 #[inline(always)]
 #[tactic(auto, unfolding(vm_ranges::specs::RangeOrder::EndsBefore, vm_ranges::specs::RangeOrder::EndsAtOrAfterStartOf, vm_ranges::specs::RangeOrder::IsInOrder))]
 pub(super) fn ends_before(range: &RangeInclusive, other: &RangeInclusive) -> bool
@@ -38,7 +37,7 @@ pub(super) fn ends_before(range: &RangeInclusive, other: &RangeInclusive) -> boo
     other.start() > range.end()
 }
 
-/// The range from `start` to `end`, which are known to be those of a range.
+/// Returns the range from `start` to `end`. The caller proves that these are the ends of a range.
 #[inline(always)]
 pub(super) fn valid_range(start: u64, end: u64) -> RangeInclusive
     requires { IsRange start end }
@@ -50,7 +49,7 @@ pub(super) fn valid_range(start: u64, end: u64) -> RangeInclusive
     range
 }
 
-/// For the prover alone: that the ends are those of a range is known from here on.
+// Proof: makes the invariant of a range available to the caller. It does nothing when it runs.
 #[inline(always)]
 pub(crate) fn recall_invariant(range: &RangeInclusive)
     ensures { IsRange range.now.start range.now.end }

@@ -1,4 +1,4 @@
--- What one call of an address allocator does to its state.
+-- The effect of one call of an address allocator on its state.
 use Rattle.std.proofs.Common.{◌≡◌, ◌≢◌, ℕ, ◌+◌, ◌-◌, ◌<◌, ◌≤◌, ◌⊎◌, ◌↔◌, List, [], refl, sym, ap, ◌∙◌, arith, inl, inr, ⊎_elim, subst, Result, Ok}
 use Rattle.std.specs.List.{Contains}
 use Rattle.vm_ranges.specs.Range.{Range, MAX, Overlaps, span}
@@ -15,8 +15,8 @@ use Rattle.vm_engine.proofs.Answers.Once.{chosen_place}
 use Rattle.vm_engine.proofs.Blocks.HeldChanges.{Misses, in_order_with, held_with, held_now, still_held_with, in_order_without, without_with, held_without, not_held_without, others_held}
 use Rattle.vm_engine.proofs.Blocks.HeldSets.{held_lies, one_held}
 
--- ---- the two outcomes of a request
--- it is refused and nothing changes, or the range at a place is given
+-- ---- The two outcomes of a request
+-- An error changes nothing, or a range at a place is allocated.
 pub record IsGiven (old : AddressState) (request : Request) (answer : Result Range Error) (new : AddressState) : Type 0 where
   pub from : ℕ
   pub some : 0 < request.size
@@ -38,12 +38,12 @@ outcome request old new answer h =
     t.3)
     (allocates_outcome old new answer request h)
 
--- a success is no refusal
+-- A success is an allocation.
 gets : (request : Request) (old new : AddressState) (r : Range) → Allocates old request (Ok r) new → IsGiven old request (Ok r) new
 gets request old new r h = ⊎_elim (λ l. absurd (cc (l.1))) (λ g. g) (outcome request old new (Ok r) h)
 
--- ---- each call leaves a state of an allocator
--- a range that is given lies in the space, ends below MAX, and no address of it was held
+-- ---- Each call keeps the state valid
+-- An allocated range lies in the space and ends below MAX, and none of its addresses was held.
 lies_clear : (old new : AddressState) (request : Request) (answer : Result Range Error) (g : IsGiven old request answer new) → IsAddressState old → (old.space.start ≤ g.from) × (g.from + request.size - 1 ≤ old.space.end) × (g.from + request.size - 1 < MAX) × Misses old.held (span g.from request.size)
 unfolding IsPlace
 lies_clear old new request answer g i =
@@ -82,7 +82,7 @@ freed_state old new r answer i h =
 
 pub ruleset freed = (freed_state)
 
--- what a new allocator is
+-- The state of a new allocator.
 pub made_is : (base size : ℕ) (first : AddressState) → Makes base size (Ok first) → (0 < size) × (base + size - 1 ≤ MAX) × (first ≡ record { space = span base size; held = [] })
 unfolding Makes
 made_is base size first h =
@@ -103,7 +103,7 @@ made_state base size first w h =
 pub state_is_preserved : StateIsPreserved
 state_is_preserved = record { made = made_state; allocated = allocated_state; freed = freed_state }
 
--- ---- the held ranges of a state
+-- ---- The held ranges of a state
 pub lie_apart : HeldAreDisjoint
 unfolding Overlaps
 lie_apart state i =
@@ -115,7 +115,7 @@ lie_apart state i =
       below = λ r k. (held_lies lo hi state.held r i.in_order (held_contains state.held r k)).3;
     }
 
--- ---- what a range that is given changes
+-- ---- The effect of an allocation
 with_members : (r : Range) (hs : List Range) (q : Range) → Contains (with_range r hs) q ↔ (Contains hs q ⊎ (q ≡ r))
 with_members r hs q = (
   λ c. ⊎_elim (λ (k : r ≡ q). inr (sym k)) (λ (k : IsHeld hs q). inl (contains_held hs q k)) (held_with r q hs (held_contains (with_range r hs) q c)),
@@ -139,17 +139,17 @@ adds_given old new request r g =
 pub adds_range : AllocatingAddsRange
 adds_range old new request r i h = adds_given old new request r (gets request old new r h)
 
--- a held range is given back with success
+-- Freeing a held range succeeds.
 frees_held : (old new : AddressState) (r : Range) (answer : Result (Unit {0}) Error) → IsHeld old.held r → Frees old r answer new → (answer ≡ Ok tt) × (new ≡ releasing r old)
 unfolding Frees
 frees_held old new r answer h f = ⊎_elim (λ l. l.1) (λ l. absurd (l.0 (contains_held old.held r h))) f
 
--- and one that is given back with success was held
+-- A range that is freed was held.
 pub freed_held : (old new : AddressState) (r : Range) → Frees old r (Ok tt) new → IsHeld old.held r × (new ≡ releasing r old)
 unfolding Frees
 freed_held old new r f = ⊎_elim (λ l. (held_contains old.held r l.0, l.1.1)) (λ l. absurd (cc (l.1.0))) f
 
--- it is given back again as long as it is held
+-- A range can be freed while it is held.
 pub releases_held : (old : AddressState) (r : Range) → IsHeld old.held r → Frees old r (Ok tt) (releasing r old)
 unfolding Frees
 releases_held old r h = inl (contains_held old.held r h, (refl, refl))
@@ -173,7 +173,7 @@ removes_range old new r i h =
       held = λ q. subst (λ (v : AddressState). Contains v.held q ↔ (Contains old.held q × (q ≢ r))) (sym f.1) (without_members old r q i f.0);
     }
 
--- ---- what was just given is given back
+-- ---- Freeing a range right after its allocation
 undoes_given : (old mid new : AddressState) (request : Request) (r : Range) (answer : Result (Unit {0}) Error) → IsAddressState old → IsGiven old request (Ok r) mid → Frees mid r answer new → (answer ≡ Ok tt) × (new ≡ old)
 undoes_given old mid new request r answer i g f =
     let some = g.some in

@@ -1,4 +1,4 @@
--- What fills its gap, and what is held, is never refused.
+-- An allocation that fills its gap succeeds, and so does freeing a held range.
 use Rattle.std.proofs.Common.{◌≡◌, ℕ, ◌+◌, ◌-◌, ◌<◌, ◌≤◌, arith, refl, inl, ⊎_elim, subst, Result, Err, IsOk}
 use Rattle.std.specs.List.{Contains}
 use Rattle.vm_ranges.specs.Cases.{IfElse, Unless}
@@ -13,14 +13,14 @@ use Rattle.vm_ranges.specs.declared.constraint.AllocPolicy.TheVariants.{FirstMat
 use Rattle.vm_engine.proofs.Blocks.PlainWords.{held_contains, none_holds, held_address}
 use Rattle.vm_engine.proofs.Answers.Once.{chosen_once, chosen_place}
 
--- the branch that is left where a condition does not hold, and where it does
+-- The branch of a case distinction that remains if its condition is false, and if it is true.
 pub otherwise : (c P Q : Type 0) → ¬ c → IfElse c P Q → Q
 otherwise c P Q n h = ⊎_elim (λ l. absurd (n l.0)) (λ r. r.1) h
 
 pub given : (c P Q : Type 0) → c → Unless c P Q → Q
 given c P Q y h = ⊎_elim (λ l. absurd (l.0 y)) (λ r. r.1) h
 
--- the fault that a test tells, where its condition holds or does not
+-- The first branch of a case distinction if its condition is true, and if it is false.
 pub faulty : {G : Type 0} (C P Q : Type 0) → C → (P → G) → IfElse C P Q → G
 faulty C P Q y f h = ⊎_elim (λ l. f l.1) (λ r. absurd (r.0 y)) h
 
@@ -35,17 +35,17 @@ place_clear : (n a t : ℕ) (state : AddressState) → IsPlace n a state t → A
 unfolding IsPlace
 place_clear n a t state p = p.1
 
--- where the addresses from t on are clear, no range that begins there is held
+-- If the addresses that start at t are clear, no range that starts at t is held.
 pub clear_not_held : (n t : ℕ) (state : AddressState) → 0 < n → AreClear n state t → ¬ Contains state.held (span t n)
 clear_not_held n t state z c h =
     none_holds state.held t (c t (omega arith) (omega arith)).1
     (held_address state.held (span t n) t (held_contains state.held (span t n) h) (omega arith, omega arith))
 
--- the range at s is taken, unless it ends at MAX
+-- The range at s is allocated, or Overflow if it ends at MAX.
 abbrev pub TakesBelowMax : AddressState → ℕ → ℕ → Result Range Error → AddressState → Type 0
 TakesBelowMax old n s answer new = IfElse (s + n - 1 ≡ MAX) ((answer ≡ Err Overflow) × (new ≡ old)) (AllocatesAt old (span s n) answer new)
 
--- the answer to a request whose chosen place is s
+-- The result of a request whose chosen place is s.
 module _ (s : ℕ) (old new : AddressState) (answer : Result Range Error) where
   by_place : (request : Request) → IsChosen request old s → ByPlace request old (λ e. (answer ≡ Err e) × (new ≡ old)) (λ r. AllocatesAt old r answer new) → TakesBelowMax old request.size s answer new
   unfolding ByPlace
@@ -55,7 +55,7 @@ module _ (s : ℕ) (old new : AddressState) (answer : Result Range Error) where
       (λ u. subst (λ (v : ℕ). TakesBelowMax old request.size v answer new) (chosen_once request u.0 s old u.1 c) u.2)
       h
 
-  -- a clear start passes each test but the last
+  -- A clear start passes every test except possibly the last.
   start_chosen : (t n : ℕ) (P : Type 0) → 0 < n → t + n - 1 ≤ MAX → s ≡ t → AreClear n old t → (P → TakesBelowMax old n s answer new) → ByStart t n old (λ e. (answer ≡ Err e) × (new ≡ old)) P → TakesBelowMax old n s answer new
   unfolding ByStart
   start_chosen t n P z m e clear rest h =
@@ -78,16 +78,16 @@ module _ (s : ℕ) (old new : AddressState) (answer : Result Range Error) where
       let clear : AreClear n old t = subst (AreClear n old) e (place_clear n a s old (chosen_place request s old c)) in
       start_chosen t n _ z (omega arith) e clear (by_place request c) h
 
--- a request that makes sense is granted or refused by its place
+-- The result of a valid request is that of `Grants`.
 pub request_grants : (request : Request) (old new : AddressState) (answer : Result Range Error) → IsRequest request → Allocates old request answer new → Grants old request answer new
 unfolding Allocates ByConstraint
 request_grants request old new answer r h = given _ _ _ r.start (given _ _ _ r.aligned (otherwise _ _ _ (λ k. let z = r.some in omega arith) h))
 
--- and so its chosen place is taken
+-- The chosen place of a valid request is allocated, or Overflow if its range ends at MAX.
 pub allocates_chosen : (request : Request) (s : ℕ) (old new : AddressState) (answer : Result Range Error) → IsRequest request → s + request.size - 1 ≤ MAX → IsChosen request old s → Allocates old request answer new → TakesBelowMax old request.size s answer new
 allocates_chosen request s old new answer r m c h = chosen_by s old new answer request.policy request.size request.align r.some m c (request_grants request old new answer r h)
 
--- the constraint of a request that makes sense is made
+-- A valid request makes a constraint.
 pub no_constraint_fault : (request : Request) (e : Error) → MakesConstraint request (Err e) → IsRequest request → ⊥
 unfolding MakesConstraint ByConstraint
 no_constraint_fault request e h r =

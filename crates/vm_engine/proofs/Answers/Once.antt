@@ -1,4 +1,4 @@
--- A call has one answer and one next state, a refused split aside.
+-- A call has one result and one next state, except that a split may fail.
 use Rattle.std.proofs.Common.{◌≡◌, ℕ, ◌+◌, ◌-◌, sym, ◌∙◌, arith, inl, inr, ⊎_elim, subst, Result, Err}
 use Rattle.vm_ranges.specs.Cases.{IfElse, Unless}
 use Rattle.vm_ranges.specs.Range.{Range, MAX, span}
@@ -12,7 +12,7 @@ use Rattle.vm_ranges.specs.declared.constraint.AllocPolicy.{AllocPolicy}
 use Rattle.vm_ranges.specs.declared.constraint.AllocPolicy.TheVariants.{FirstMatch, LastMatch, ExactMatch}
 use Rattle.vm_ranges.proofs.TwoFacts.{if_same, unless_same}
 
--- there is one chosen place
+-- A request has at most one chosen place.
 chosen_by : (policy : AllocPolicy) (n a s t : ℕ) (state : AddressState) → IsChosen (request_for n a policy) state s → IsChosen (request_for n a policy) state t → s ≡ t
 unfolding IsChosen IsLowestPlace IsHighestPlace
 chosen_by FirstMatch n a s t state p q = omega (arith, p.1 t q.0, q.1 s p.0)
@@ -22,7 +22,7 @@ chosen_by (ExactMatch u) n a s t state p q = p.0 ∙ sym q.0
 pub chosen_once : (request : Request) (s t : ℕ) (state : AddressState) → IsChosen request state s → IsChosen request state t → s ≡ t
 chosen_once request s t state = chosen_by request.policy request.size request.align s t state
 
--- and it is a place
+-- The chosen place is a place.
 place_by : (policy : AllocPolicy) (n a s : ℕ) (state : AddressState) → IsChosen (request_for n a policy) state s → IsPlace n a state s
 unfolding IsChosen IsLowestPlace IsHighestPlace
 place_by FirstMatch n a s state p = p.0
@@ -32,7 +32,7 @@ place_by (ExactMatch u) n a s state p = p.1
 pub chosen_place : (request : Request) (s : ℕ) (state : AddressState) → IsChosen request state s → IsPlace request.size request.align state s
 chosen_place request s state = place_by request.policy request.size request.align s state
 
--- two facts by one condition, as functions of both
+-- Combines two facts that depend on the same condition.
 both : (c P Q S T R : Type 0) → (P → S → R) → (Q → T → R) → IfElse c P Q → IfElse c S T → R
 both c P Q S T R f g h k = if_same c P Q S T h k f g
 
@@ -42,7 +42,7 @@ both_unless c P Q S T R f g h k = unless_same c P Q S T h k f g
 abbrev Refused : AddressState → Result Range Error → AddressState → Error → Type 0
 Refused old answer new e = (answer ≡ Err e) × (new ≡ old)
 
--- two answers to one request, with the states that they leave
+-- Two results of one request, with the states after them.
 module _ (old new later : AddressState) (answer other : Result Range Error) where
   abbrev Agree : Type 0
   Agree = AgreeExceptSplits old answer new other later

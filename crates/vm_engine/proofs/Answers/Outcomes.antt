@@ -1,4 +1,4 @@
--- A request is refused, or the range at the chosen place is taken.
+-- A request fails, or the range at the chosen place is allocated.
 use Rattle.std.proofs.Common.{◌≡◌, ℕ, ◌+◌, ◌-◌, arith, inl, inr, ◌⊎◌, ⊎_elim, Result, Err}
 use Rattle.vm_ranges.specs.Range.{Range, MAX, span}
 use Rattle.vm_engine.specs.Address.{AddressState}
@@ -9,18 +9,18 @@ use Rattle.vm_ranges.specs.declared.error.Error.TheVariants.{Overflow, ResourceN
 use Rattle.vm_ranges.specs.declared.constraint.AllocPolicy.{AllocPolicy}
 use Rattle.vm_ranges.specs.declared.constraint.AllocPolicy.TheVariants.{FirstMatch, LastMatch, ExactMatch}
 
--- some error is answered, and nothing changes
+-- The result is an error, and nothing changes.
 abbrev pub IsRefused : AddressState → Result Range Error → AddressState → Type 0
 IsRefused old answer new = (e : Error) × (answer ≡ Err e) × (new ≡ old)
 
--- the range at the chosen place is taken, and does not end at MAX
+-- The range at the chosen place is allocated, and does not end at MAX.
 abbrev pub IsTaken : Request → AddressState → Result Range Error → AddressState → Type 0
 IsTaken request old answer new =
     (s : ℕ) × IsChosen request old s × ¬ (s + request.size - 1 ≡ MAX) × AllocatesAt old (span s request.size) answer new
 
--- an answer, with the state that it leaves
+-- A result, with the state after it.
 module _ (old new : AddressState) (answer : Result Range Error) where
-  -- a test before the rest: a refusal, or what the rest comes to
+  -- A test before the rest: an error, or the outcome of the rest.
   or_rest : (C D Q G : Type 0) (e : Error) → (D → Q → IsRefused old answer new ⊎ G) → (C × ((answer ≡ Err e) × (new ≡ old))) ⊎ (D × Q) → IsRefused old answer new ⊎ G
   or_rest C D Q G e f h = ⊎_elim (λ l. inl (e, l.1.0, l.1.1)) (λ r. f r.0 r.1) h
 

@@ -1,4 +1,4 @@
--- From the constraint of a request to its answer.
+-- From the constraint of a request to its result.
 use Rattle.std.proofs.Common.{◌≡◌, refl, sym, ap, Result, Ok, Err, subst}
 use Rattle.vm_ranges.specs.Range.{Range}
 use Rattle.vm_ranges.specs.Request.{Request, request_for, MakesConstraint}
@@ -8,11 +8,11 @@ use Rattle.vm_ranges.proofs.Requests.{constraint_map}
 use Rattle.vm_engine.specs.Address.{AddressState}
 use Rattle.vm_engine.specs.Answer.{Grants, Allocates}
 
--- the request with the policy that is known
+-- The request, with its policy written out.
 pub with_policy : (request : Request) (policy : AllocPolicy) → request.policy ≡ policy → request_for request.size request.align policy ≡ request
 with_policy request policy e = ap (request_for request.size request.align) (sym e)
 
--- what makes no constraint is refused alike
+-- A request that makes no constraint fails with the same error.
 pub allocates_refused : (old : AddressState) (request : Request) (x : Error) → MakesConstraint request (Err x) → Allocates old request (Err x) old
 unfolding MakesConstraint Allocates
 allocates_refused old request x h =
@@ -21,7 +21,7 @@ allocates_refused old request x h =
     constraint_map request (λ e. made ≡ Err e) (λ e. (answer ≡ Err e) × (old ≡ old)) (made ≡ Ok request) (Grants old request (Err x) old)
     (λ e k. let same : x ≡ e = cc in (ap (λ (v : Error). Err v) same, refl)) (λ k. absurd (cc)) h
 
--- and the constraint that is made is granted or refused
+-- If the constraint is made, the result is that of `Grants`.
 pub allocates_granted : (old new : AddressState) (request made : Request) (answer : Result Range Error) → MakesConstraint request (Ok made) → Grants old made answer new → Allocates old request answer new
 unfolding MakesConstraint Allocates
 allocates_granted old new request made answer h s =

@@ -11,7 +11,7 @@ pub ordered_weaken : (lo hi : ℕ) (bs : List Block) → lo ≤ hi → IsOrdered
 ordered_weaken lo hi [] p s = tt
 ordered_weaken lo hi (b ∷ bs) p s = (omega arith, s.1, s.2)
 
--- without one of them, blocks in order stay in order
+-- An ordered list stays in order if a block is removed.
 pub ordered_drop : (lo : ℕ) (l : List Block) (x : Block) (r : List Block) → IsOrderedFrom lo (l ++ x ∷ r) → IsOrderedFrom lo (l ++ r)
 ordered_drop lo [] x r o = ordered_weaken lo (x.key.end + 1) r (omega arith) o.2
 ordered_drop lo (b ∷ l) x r o = (o.0, o.1, ordered_drop (b.key.end + 1) l x r o.2)
@@ -28,7 +28,7 @@ ordered_middle lo (x ∷ l) b r s =
 pub ordered_above : (l : List Block) (b : Block) (r : List Block) → IsOrderedFrom 0 (l ++ b ∷ r) → IsOrderedFrom 0 r
 ordered_above l b r s = let t = ordered_middle 0 l b r s in ordered_weaken 0 (b.key.end + 1) r (omega arith) t.2
 
--- the blocks below a rotation, grouped the other way
+-- The blocks below a rotation, grouped differently.
 append-cons_assoc : (x : List Block) (j : Block) (y : List Block) (k : Block) (z : List Block) → (x ++ j ∷ y) ++ k ∷ z ≡ x ++ j ∷ (y ++ k ∷ z)
 append-cons_assoc x j y k z = append_assoc x (j ∷ y) (k ∷ z)
 
@@ -38,7 +38,7 @@ ordered_inner_right x j y k z s = ordered_above x j (y ++ k ∷ z) (subst (IsOrd
 ordered_inner_left : (x : List Block) (j : Block) (y : List Block) (k : Block) (z : List Block) → IsOrderedFrom 0 (x ++ j ∷ (y ++ k ∷ z)) → IsOrderedFrom 0 (x ++ j ∷ y)
 ordered_inner_left x j y k z s = ordered_below 0 (x ++ j ∷ y) (k ∷ z) (subst (IsOrderedFrom 0) (sym (append-cons_assoc x j y k z)) s)
 
--- the parts of a tree s beside a block k, kept in order
+-- The parts of the tree s next to a block k stay in order.
 pub ordered_left_sides : (s : Shape) (l : Shape) (j : Block) (r : Shape) (k : Block) (z : List Block) → s ≡ Fork l j r → IsOrderedFrom 0 (blocks s ++ k ∷ z) → IsOrderedFrom 0 (blocks l ++ j ∷ blocks r) × IsOrderedFrom 0 (blocks r ++ k ∷ z)
 ordered_left_sides s l j r k z e o =
     let t : IsOrderedFrom 0 ((blocks l ++ j ∷ blocks r) ++ k ∷ z) = rw e at o in
@@ -72,7 +72,7 @@ unfolding IsClearOf
 clear_left k [] b r c = (tt, c.0, c.1)
 clear_left k (x ∷ l) b r c = let t = clear_left k l b r c.1 in ((c.0, t.0), t.1, t.2)
 
--- a block that is apart from all of an ordered list keeps it ordered
+-- An ordered list stays in order if a block that is clear of it is inserted.
 ordered_insert : (lo : ℕ) (x : Block) (bs : List Block) → lo ≤ x.key.start → x.key.start ≤ x.key.end → IsClearOf x.key bs → IsOrderedFrom lo bs → IsOrderedFrom lo (insert_block x bs)
 unfolding IsClearOf
 ordered_insert lo x [] p q c o = (p, q, tt)
@@ -82,7 +82,7 @@ ordered_insert lo x (b ∷ bs) p q c o =
       | false ↦ λ e. let h = ltb-false x.key.start b.key.start e in (o.0, o.1, ordered_insert (b.key.end + 1) x bs (elim c.0 [ inl a ↦ absurd (omega (arith, a)) | inr a ↦ omega (arith, a) ]) q c.1 o.2)
     ] refl
 
--- what a new block x does to the tree s, on the side where it goes
+-- Inserting x in the tree s inserts it in the child on its side.
 link_left : (s l : Shape) (k : Block) (r : Shape) (x : Block) → s ≡ Fork l k r → x.key.start < k.key.start → x.key.start ≤ x.key.end → IsClearOf x.key (blocks s) → IsTree s
     → IsClearOf x.key (blocks l) × IsOrderedFrom 0 (insert_block x (blocks l) ++ k ∷ blocks r) × (insert_block x (blocks s) ≡ insert_block x (blocks l) ++ k ∷ blocks r)
 link_left s l k r x e p q c t =

@@ -1,4 +1,4 @@
--- The state of blocks is one of an allocator.
+-- The state of a list of blocks is a valid state of an allocator.
 use Rattle.std.proofs.Common.{ℕ, ◌+◌, ◌≤◌, List, [], ◌∷◌, ◌++◌, arith, cond, eqb, true, false}
 use Rattle.vm_ranges.specs.Range.{Range, IsRange}
 use Rattle.vm_engine.specs.Tree.Block.{Block}
@@ -16,14 +16,14 @@ pub in_order_from : (lo m hi : ℕ) (rs : List Range) → lo ≤ m → AreInOrde
 in_order_from lo m hi [] l s = tt
 in_order_from lo m hi (r ∷ rs) l s = (omega (arith, s.0), s.1, s.2, s.3, s.4)
 
--- blocks that follow one another have their keys in order
+-- The keys of a tiling are in order.
 pub tiles_keys : (p : NodeState) (lo hi : ℕ) (bs : List Block) → Tiles p lo bs hi → AreKeysIn lo bs hi
 tiles_keys p lo hi [] t = tt
 tiles_keys p lo hi (b ∷ bs) t =
     let end = tiles_end b.state (b.key.end + 1) hi bs t.3 in
     (omega (arith, t.0), omega (arith, t.0, t.1), omega arith, tiles_keys b.state (b.key.end + 1) hi bs t.3)
 
--- the held ones of keys in order lie apart
+-- The held ranges of keys in order are disjoint.
 with_held : (s : NodeState) (k : Range) (rs : List Range) (lo hi : ℕ) → lo ≤ k.start → k.start ≤ k.end → k.end ≤ hi → AreBelowMax (range_if_held s k ++ rs) → (AreBelowMax rs → AreInOrder (k.end + 1) rs hi) → AreInOrder lo (range_if_held s k ++ rs) hi
 with_held Free k rs lo hi l o e h f = in_order_from lo (k.end + 1) hi rs (omega arith) (f h)
 with_held Allocated k rs lo hi l o e h f = (l, o, e, h.0, f h.1)
@@ -32,7 +32,7 @@ pub keys_in_order : (lo hi : ℕ) (bs : List Block) → AreKeysIn lo bs hi → A
 keys_in_order lo hi [] k h = tt
 keys_in_order lo hi (b ∷ bs) k h = with_held b.state b.key (held_of bs) lo hi k.0 k.1 k.2 h (λ g. keys_in_order (b.key.end + 1) hi bs k.3 g)
 
--- the state of an allocator's blocks is one
+-- The state of an allocator's blocks is valid.
 pub is_state : (sp : Range) (bs : List Block) → IsTiling sp bs → IsRange sp.start sp.end → IsAddressState (blocks_state sp bs)
 unfolding TilesSpace
 is_state sp bs t l = record { space = l; in_order = keys_in_order sp.start sp.end bs (tiles_keys Allocated sp.start sp.end bs t.tiles) t.below }

@@ -1,4 +1,4 @@
--- Clear addresses in a row lie in one free block.
+-- A run of clear addresses lies in one free block.
 use Rattle.std.proofs.Common.{◌≡◌, ℕ, ◌+◌, ◌<◌, ◌≤◌, List, [], ◌∷◌, ◌++◌, refl, sym, ◌∙◌, arith, inl, inr, ◌⊎◌, ⊎_elim}
 use Rattle.std.proofs.lemmas.Bool.{cases_lt}
 use Rattle.vm_ranges.specs.Range.{Range, IsIn}
@@ -17,7 +17,7 @@ not_both Free Free e f h = h
 not_both Free Allocated e f h = cc
 not_both Allocated q e f h = cc
 
--- ---- held addresses, block by block
+-- ---- Held addresses, block by block
 held_cases : (st : NodeState) (k : Range) (hs : List Range) (x : ℕ) → IsHeldAddress (range_if_held st k ++ hs) x → ((st ≡ Allocated) × IsIn k x) ⊎ IsHeldAddress hs x
 held_cases Free k hs x h = inr h
 held_cases Allocated k hs x h = ⊎_elim (λ l. inl (refl, l)) (λ r. inr r) h
@@ -42,12 +42,12 @@ held_within p lo hi x (b ∷ bs) t h =
     (λ (r : IsHeldAddress (held_of bs) x). let i = held_within b.state (b.key.end + 1) hi x bs t.3 r in (omega (arith, i.0, t.1), i.1))
     (held_cases b.state b.key (held_of bs) x h)
 
--- some free block has all addresses from s to e
+-- A free block of the list contains all addresses from s to e.
 abbrev pub InFreeBlock : List Block → ℕ → ℕ → Type 0
 InFreeBlock [] s e = ⊥
 InFreeBlock (b ∷ bs) s e = ((b.state ≡ Free) × (b.key.start ≤ s) × (e ≤ b.key.end)) ⊎ InFreeBlock bs s e
 
--- behind a free block an address is held
+-- The address after a free block is held, if it is in the space.
 pub next_held : (p : NodeState) (y hi : ℕ) (bs : List Block) → p ≡ Free → Tiles p y bs hi → y ≤ hi → IsHeldAddress (held_of bs) y
 next_held p y hi [] f t l = absurd (omega arith)
 next_held p y hi (b ∷ bs) f t l =
@@ -56,7 +56,7 @@ next_held p y hi (b ∷ bs) f t l =
     (λ (e : b.state ≡ Allocated). held_here b.state b.key (held_of bs) y e (omega (arith, t.0), t.1))
     (state_cases b.state)
 
--- clear addresses in a row lie in one free block
+-- A run of clear addresses lies in one free block.
 pub in_free_block : (p : NodeState) (lo hi s e : ℕ) (bs : List Block) → Tiles p lo bs hi → lo ≤ s → s ≤ e → ((x : ℕ) → s ≤ x → x ≤ e → (x ≤ hi) × ¬ IsHeldAddress (held_of bs) x) → InFreeBlock bs s e
 in_free_block p lo hi s e [] t l o f = let g : s ≤ hi = (f s (omega arith) o).0 in absurd (omega arith)
 in_free_block p lo hi s e (b ∷ bs) t l o f =
@@ -77,7 +77,7 @@ in_free_block p lo hi s e (b ∷ bs) t l o f =
     (state_cases b.state))
     (cases_lt b.key.end s)
 
--- and the addresses of a free block are clear
+-- The addresses of a free block are clear.
 pub free_is_clear : (p : NodeState) (lo hi s e x : ℕ) (bs : List Block) → Tiles p lo bs hi → InFreeBlock bs s e → s ≤ x → x ≤ e → (lo ≤ x) × (x ≤ hi) × ¬ IsHeldAddress (held_of bs) x
 free_is_clear p lo hi s e x [] t h l o = absurd h
 free_is_clear p lo hi s e x (b ∷ bs) t h l o =

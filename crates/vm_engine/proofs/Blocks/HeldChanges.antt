@@ -1,4 +1,4 @@
--- Held ranges with one more, and with one less.
+-- Lists of held ranges with a range added or removed.
 use Rattle.std.proofs.Common.{◌≡◌, ℕ, ◌+◌, ◌<◌, ◌≤◌, ◌⊎◌, List, [], ◌∷◌, refl, sym, ap, ◌∙◌, arith, inl, inr, ⊎_elim, eq-eqb}
 use Rattle.std.proofs.lemmas.Bool.{cases_lt, lt-ltb, le-ltb, cases_eq, ne_eqb}
 use Rattle.vm_ranges.specs.Range.{Range, MAX, IsIn}
@@ -7,12 +7,12 @@ use Rattle.vm_engine.proofs.Blocks.PlainWords.{IsHeldAddress, IsHeld}
 use Rattle.vm_engine.proofs.Blocks.BlockStates.{in_order_from}
 use Rattle.vm_engine.proofs.Blocks.HeldSets.{later_above, one_start}
 
--- ---- with one more
--- no address of the range is held
+-- ---- A range added
+-- No address of the range is held.
 abbrev pub Misses : List Range → Range → Type 0
 Misses hs r = (a : ℕ) → IsIn r a → ¬ IsHeldAddress hs a
 
--- a range that is missed lies below a held one or above it
+-- A range that has no held address is below a held range or above it.
 beside : (x r : Range) (xs : List Range) → x.start ≤ x.end → r.start ≤ r.end → Misses (x ∷ xs) r → (r.end < x.start) ⊎ (x.end < r.start)
 beside x r xs o l m =
     ⊎_elim
@@ -41,7 +41,7 @@ in_order_with lo hi r (x ∷ xs) s b l u w m =
     rw e (s.0, s.1, s.2, s.3, in_order_with (x.end + 1) hi r xs s.4 (omega arith) l u w (misses_later x r xs m)))
     (beside x r xs s.1 l m)
 
--- what is held with one more is that one or was held
+-- A held range after the addition is the new range or was held before.
 pub held_with : (r q : Range) (hs : List Range) → IsHeld (with_range r hs) q → (r ≡ q) ⊎ IsHeld hs q
 held_with r q [] h = h
 held_with r q (x ∷ xs) h =
@@ -56,7 +56,7 @@ held_with r q (x ∷ xs) h =
     k)
     (cases_lt r.start x.start)
 
--- what was held is held with one more
+-- A range that was held is still held after the addition.
 pub still_held_with : (r q : Range) (hs : List Range) → IsHeld hs q → IsHeld (with_range r hs) q
 still_held_with r q [] h = absurd h
 still_held_with r q (x ∷ xs) h =
@@ -65,7 +65,7 @@ still_held_with r q (x ∷ xs) h =
     (λ (d : x.start ≤ r.start). let e = le-ltb r.start x.start d in rw e (⊎_elim (λ (f : x ≡ q). inl f) (λ (f : IsHeld xs q). inr (still_held_with r q xs f)) h))
     (cases_lt r.start x.start)
 
--- and that one is held
+-- The new range is held.
 pub held_now : (r : Range) (hs : List Range) → IsHeld (with_range r hs) r
 held_now r [] = inl refl
 held_now r (x ∷ xs) =
@@ -74,7 +74,7 @@ held_now r (x ∷ xs) =
     (λ (d : x.start ≤ r.start). let e = le-ltb r.start x.start d in rw e (inr (held_now r xs)))
     (cases_lt r.start x.start)
 
--- ---- with one less
+-- ---- A range removed
 pub in_order_without : (lo hi : ℕ) (r : Range) (hs : List Range) → AreInOrder lo hs hi → AreInOrder lo (without_range r hs) hi
 in_order_without lo hi r [] s = tt
 in_order_without lo hi r (x ∷ xs) s =
@@ -83,7 +83,7 @@ in_order_without lo hi r (x ∷ xs) s =
     (λ (d : r.start ≡ x.start → ⊥). let e = ne_eqb r.start x.start d in rw e (s.0, s.1, s.2, s.3, in_order_without (x.end + 1) hi r xs s.4))
     (cases_eq r.start x.start)
 
--- what is taken and given back leaves the ranges from before
+-- Removing a range right after its addition restores the list.
 pub without_with : (lo hi : ℕ) (r : Range) (hs : List Range) → AreInOrder lo hs hi → r.start ≤ r.end → Misses hs r → without_range r (with_range r hs) ≡ hs
 without_with lo hi r [] s l m = let e = eq-eqb r.start r.start refl in rw e refl
 without_with lo hi r (x ∷ xs) s l m =
@@ -98,7 +98,7 @@ without_with lo hi r (x ∷ xs) s l m =
     rw (e, f) (ap (λ (v : List Range). x ∷ v) (without_with (x.end + 1) hi r xs s.4 l (misses_later x r xs m))))
     (beside x r xs s.1 l m)
 
--- what is held without one was held
+-- A held range after the removal was held before.
 pub held_without : (r q : Range) (hs : List Range) → IsHeld (without_range r hs) q → IsHeld hs q
 held_without r q [] h = h
 held_without r q (x ∷ xs) h =
@@ -110,7 +110,7 @@ held_without r q (x ∷ xs) h =
     ⊎_elim (λ (f : x ≡ q). inl f) (λ (f : IsHeld (without_range r xs) q). inr (held_without r q xs f)) k)
     (cases_eq r.start x.start)
 
--- and is not that one
+-- The removed range is not held.
 pub not_held_without : (lo hi : ℕ) (r q : Range) (hs : List Range) → AreInOrder lo hs hi → IsHeld (without_range r hs) q → r ≡ q → ⊥
 not_held_without lo hi r q [] s h g = h
 not_held_without lo hi r q (x ∷ xs) s h g =
@@ -129,7 +129,7 @@ not_held_without lo hi r q (x ∷ xs) s h g =
     k)
     (cases_eq r.start x.start)
 
--- each other one is held as before
+-- Each range with another start is held as before.
 still_held : (r q : Range) (hs : List Range) → IsHeld hs q → ¬ (r.start ≡ q.start) → IsHeld (without_range r hs) q
 still_held r q [] h n = h
 still_held r q (x ∷ xs) h n =
@@ -142,6 +142,6 @@ still_held r q (x ∷ xs) h n =
     rw e (⊎_elim (λ (f : x ≡ q). inl f) (λ (f : IsHeld xs q). inr (still_held r q xs f n)) h))
     (cases_eq r.start x.start)
 
--- where the one that is given back is held
+-- Each other range is held as before, if the removed range was held.
 pub others_held : (lo hi : ℕ) (r q : Range) (hs : List Range) → AreInOrder lo hs hi → IsHeld hs r → IsHeld hs q → ¬ (r ≡ q) → IsHeld (without_range r hs) q
 others_held lo hi r q hs s h k n = still_held r q hs k (λ (e : r.start ≡ q.start). n (one_start lo hi r q hs s h k e))

@@ -1,10 +1,10 @@
--- Held ranges in order, as a set.
+-- An ordered list of held ranges is determined by its set of ranges.
 use Rattle.std.proofs.Common.{◌≡◌, ℕ, ◌+◌, ◌<◌, ◌≤◌, ◌↔◌, List, [], ◌∷◌, refl, sym, ap, ◌∙◌, arith, inl, inr, ⊎_elim, subst}
 use Rattle.vm_ranges.specs.Range.{Range, MAX, IsIn}
 use Rattle.vm_engine.specs.Address.{AreInOrder}
 use Rattle.vm_engine.proofs.Blocks.PlainWords.{IsHeld}
 
--- ---- where a held range lies
+-- ---- The position of a held range
 pub held_lies : (lo hi : ℕ) (hs : List Range) (r : Range) → AreInOrder lo hs hi → IsHeld hs r → (lo ≤ r.start) × (r.start ≤ r.end) × (r.end ≤ hi) × (r.end < MAX)
 held_lies lo hi [] r s h = absurd h
 held_lies lo hi (x ∷ xs) r s h =
@@ -13,11 +13,11 @@ held_lies lo hi (x ∷ xs) r s h =
     (λ (e : IsHeld xs r). let i = held_lies (x.end + 1) hi xs r s.4 e in (omega (arith, s.0, s.1, i.0), i.1, i.2, i.3))
     h
 
--- the first of them lies below each later one
+-- The first range is below each later range.
 pub later_above : (lo hi : ℕ) (x : Range) (xs : List Range) (r : Range) → AreInOrder lo (x ∷ xs) hi → IsHeld xs r → x.end < r.start
 later_above lo hi x xs r s h = let i = held_lies (x.end + 1) hi xs r s.4 h in omega (arith, i.0)
 
--- two that have an address in common are one
+-- Two held ranges with a common address are equal.
 pub one_held : (lo hi a : ℕ) (hs : List Range) (r q : Range) → AreInOrder lo hs hi → IsHeld hs r → IsHeld hs q → IsIn r a → IsIn q a → r ≡ q
 one_held lo hi a [] r q s h k i j = absurd h
 one_held lo hi a (x ∷ xs) r q s h k i j =
@@ -34,15 +34,15 @@ one_held lo hi a (x ∷ xs) r q s h k i j =
     k)
     h
 
--- so are two that have one start
+-- Two held ranges with the same start are equal.
 pub one_start : (lo hi : ℕ) (r q : Range) (hs : List Range) → AreInOrder lo hs hi → IsHeld hs r → IsHeld hs q → r.start ≡ q.start → r ≡ q
 one_start lo hi r q hs s h k e =
     let i = held_lies lo hi hs r s h in
     let j = held_lies lo hi hs q s k in
     one_held lo hi q.start hs r q s h k (omega arith, omega (arith, i.1)) (omega arith, j.1)
 
--- ---- two lists of the same ranges
--- two lists of each other's ranges begin alike
+-- ---- Two lists of the same ranges
+-- Two ordered lists with the same ranges have the same first range.
 same_first : (lo ly hi hy : ℕ) (x y : Range) (xs ys : List Range) → AreInOrder lo (x ∷ xs) hi → AreInOrder ly (y ∷ ys) hy → IsHeld (y ∷ ys) x → IsHeld (x ∷ xs) y → x ≡ y
 same_first lo ly hi hy x y xs ys s t h k =
     ⊎_elim
@@ -54,7 +54,7 @@ same_first lo ly hi hy x y xs ys s t h k =
     k)
     h
 
--- what follows a range is not that range
+-- A range that follows in the list is not the first range.
 in_rest : (lo hi : ℕ) (x y : Range) (xs ys : List Range) (r : Range) → AreInOrder lo (x ∷ xs) hi → x ≡ y → IsHeld xs r → IsHeld (y ∷ ys) r → IsHeld ys r
 in_rest lo hi x y xs ys r s e h k =
     ⊎_elim
@@ -62,7 +62,7 @@ in_rest lo hi x y xs ys r s e h k =
     (λ (f : IsHeld ys r). f)
     k
 
--- so they are one list
+-- Two ordered lists with the same ranges are equal.
 pub same_ranges_held : (lo ly hi hy : ℕ) (xs ys : List Range) → AreInOrder lo xs hi → AreInOrder ly ys hy → ((r : Range) → IsHeld xs r ↔ IsHeld ys r) → xs ≡ ys
 same_ranges_held lo ly hi hy [] [] s t h = refl
 same_ranges_held lo ly hi hy [] (y ∷ ys) s t h = absurd ((h y).1 (inl refl))

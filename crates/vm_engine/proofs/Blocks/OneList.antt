@@ -1,4 +1,4 @@
--- One state has one list of blocks.
+-- A state has exactly one list of blocks.
 use Rattle.std.proofs.Common.{◌≡◌, ℕ, ◌+◌, ◌*◌, ◌≤◌, List, [], ◌∷◌, ◌++◌, length, ap, ◌∙◌, arith, ⊎_elim}
 use Rattle.vm_ranges.specs.Range.{Range}
 use Rattle.vm_engine.specs.Tree.Block.{Block}
@@ -35,7 +35,7 @@ few p lo hi (b ∷ bs) t =
     (omega arith, λ f. omega arith))
     (state_cases b.state)
 
--- at most one block more than twice as many as are held
+-- A state with k held ranges has at most 2k + 1 blocks.
 pub few_blocks : (state : AddressState) (bs : List Block) → IsBlocksOf state bs → length bs ≤ 2 * length state.held + 1
 few_blocks state bs h = let i = few Allocated state.space.start state.space.end bs h.tiles in omega (arith, i.0, ap length h.held)
 

@@ -1,16 +1,16 @@
--- Words by recursion against those of the standard library.
+-- Recursive definitions, and their equivalents in the standard library.
 use Rattle.std.proofs.Common.{◌≡◌, ℕ, ◌<◌, zero, suc, List, [], ◌∷◌, length, arith, inl, inr, ◌⊎◌, ⊎_elim, sym, subst}
 use Rattle.std.specs.List.{All, Contains}
 use Rattle.std.specs.Prelude.{slice_index_or}
 use Rattle.std.proofs.lemmas.List.Elements.{All-head, All-tail, All-cons, All-nil}
 use Rattle.vm_ranges.specs.Range.{Range, IsIn}
 
--- an address of one of the ranges
+-- The address x lies in one of the ranges.
 abbrev pub IsHeldAddress : List Range → ℕ → Type 0
 IsHeldAddress [] x = ⊥
 IsHeldAddress (r ∷ rs) x = IsIn r x ⊎ IsHeldAddress rs x
 
--- the range is one of the held ones
+-- The range is in the list.
 abbrev pub IsHeld : List Range → Range → Type 0
 IsHeld [] r = ⊥
 IsHeld (h ∷ hs) r = (h ≡ r) ⊎ IsHeld hs r
@@ -27,7 +27,7 @@ held_contains_at (x ∷ xs) r (suc k) l e = inr (held_contains_at xs r k (omega 
 pub held_contains : (hs : List Range) (r : Range) → Contains hs r → IsHeld hs r
 held_contains hs r c = held_contains_at hs r c.0 c.1 c.2
 
--- an address in no held range
+-- An address that is not held lies in no held range.
 pub all_miss : (hs : List Range) (x : ℕ) → ¬ IsHeldAddress hs x → All (λ r. ¬ IsIn r x) hs
 all_miss [] x h = All-nil (λ r. ¬ IsIn r x)
 all_miss (r ∷ rs) x h = All-cons (λ r. ¬ IsIn r x) r rs (λ i. h (inl i)) (all_miss rs x (λ i. h (inr i)))
@@ -36,7 +36,7 @@ pub none_holds : (hs : List Range) (x : ℕ) → All (λ r. ¬ IsIn r x) hs → 
 none_holds [] x a h = h
 none_holds (r ∷ rs) x a h = ⊎_elim (All-head (λ r. ¬ IsIn r x) r rs a) (none_holds rs x (All-tail (λ r. ¬ IsIn r x) r rs a)) h
 
--- an address of a held range is a held address
+-- An address of a held range is a held address.
 pub held_address : (hs : List Range) (r : Range) (x : ℕ) → IsHeld hs r → IsIn r x → IsHeldAddress hs x
 held_address [] r x h i = h
 held_address (y ∷ ys) r x h i =

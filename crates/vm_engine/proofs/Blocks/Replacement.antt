@@ -1,4 +1,4 @@
--- A block that goes, or that others replace.
+-- Blocks that are removed or replaced.
 use Rattle.std.proofs.Common.{◌≡◌, ℕ, ◌+◌, ◌<◌, ◌≤◌, true, false, cond, eqb, List, [], ◌∷◌, ◌++◌, refl, ap, ◌∙◌, subst, sym, append_assoc, arith, inl, inr, ◌⊎◌, Some, None, ⊎_elim}
 use Rattle.std.proofs.lemmas.Bool.{eq-eqb, ne_eqb, eqb-true, and_parts}
 use Rattle.vm_ranges.specs.Range.{Range}
@@ -30,7 +30,7 @@ same_range_before a b (inr h) =
 pub same_range_self : (a : Range) → same_range a a ≡ true
 same_range_self a = rw (eq-eqb a.start a.start refl, eq-eqb a.end a.end refl)
 
--- a range that begins before all of them is none of them
+-- A range that starts before all blocks is not the key of a block.
 replace_below : (lo : ℕ) (k : Range) (ys bs : List Block) → k.start < lo → IsOrderedFrom lo bs → replace_block k ys bs ≡ bs
 replace_below lo k ys [] p o = refl
 replace_below lo k ys (b ∷ bs) p o =
@@ -46,7 +46,7 @@ replace_left lo k ys (b ∷ l) x r p o =
       | false ↦ ap (λ z. b ∷ z) (replace_left (b.key.end + 1) k ys l x r p o.2)
     ]
 
--- past those that end before it
+-- Replacing a key passes over the blocks that end before it.
 replace_past : (lo : ℕ) (k : Range) (ys l : List Block) (x : Block) (r : List Block) → x.key.start ≤ k.start → IsOrderedFrom lo (l ++ x ∷ r) → replace_block k ys (l ++ x ∷ r) ≡ l ++ replace_block k ys (x ∷ r)
 replace_past lo k ys [] x r p o = refl
 replace_past lo k ys (b ∷ l) x r p o =
@@ -62,7 +62,7 @@ pub replace_middle : (lo : ℕ) (k : Range) (ys l : List Block) (x : Block) (r :
 replace_middle lo k ys l x r p o =
     replace_past lo k ys l x r (omega (arith, ap (λ (a : Range). a.start) p)) o ∙ rw (p, same_range_self k)
 
--- the same for the block that is found
+-- The same facts for finding a key.
 find_below : (lo : ℕ) (k : Range) (bs : List Block) → k.start < lo → IsOrderedFrom lo bs → find_key k bs ≡ None
 find_below lo k [] p o = refl
 find_below lo k (b ∷ bs) p o = rw (same_range_start k b.key (λ e. omega arith), find_below (b.key.end + 1) k bs (omega arith) o.2)
@@ -92,7 +92,7 @@ pub find_middle : (lo : ℕ) (k : Range) (l : List Block) (x : Block) (r : List 
 find_middle lo k l x r p o =
     find_past lo k l x r (omega (arith, ap (λ (a : Range). a.start) p)) o ∙ rw (p, same_range_self k)
 
--- the block that is found in the tree s, on the side where the key would be
+-- Finding a key in the tree s finds it in the child on its side.
 pub find_in_left : (s l : Shape) (x : Block) (r : Shape) (k : Range) → s ≡ Fork l x r → Before k x.key → IsTree s → find_key k (blocks s) ≡ find_key k (blocks l)
 find_in_left s l x r k e p t =
     let o : IsOrderedFrom 0 (blocks l ++ x ∷ blocks r) = rw e at t.ordered in
@@ -108,7 +108,7 @@ find_in_middle s l x r k e p t =
     let o : IsOrderedFrom 0 (blocks l ++ x ∷ blocks r) = rw e at t.ordered in
     ap (λ (v : Shape). find_key k (blocks v)) e ∙ find_middle 0 k (blocks l) x (blocks r) (sym p) o
 
--- what a key that is absent leaves
+-- An absent key leaves the tree unchanged.
 pub leaves_same : (s : Shape) (k : Range) → LeavesIfAbsent k Nothing s s
 unfolding LeavesIfAbsent
 leaves_same s k e = (refl, refl)
@@ -156,7 +156,7 @@ ordered_removed lo k (b ∷ bs) o =
       | false ↦ (o.0, o.1, ordered_removed (b.key.end + 1) k bs o.2)
     ]
 
--- what becomes of the tree s, on the side where the key would be
+-- Replacing a key in the tree s replaces it in the child on its side.
 pub replace_in_left : (s l : Shape) (x : Block) (r : Shape) (k : Range) (ys : List Block) → s ≡ Fork l x r → Before k x.key → IsTree s → replace_block k ys (blocks s) ≡ replace_block k ys (blocks l) ++ x ∷ blocks r
 replace_in_left s l x r k ys e p t =
     let o : IsOrderedFrom 0 (blocks l ++ x ∷ blocks r) = rw e at t.ordered in
@@ -175,7 +175,7 @@ replace_in_middle s l x r k ys e p t =
 pub remove_in_middle : (s l : Shape) (x : Block) (r : Shape) (k : Range) → s ≡ Fork l x r → k ≡ x.key → IsTree s → replace_block k [] (blocks s) ≡ blocks l ++ blocks r
 remove_in_middle s l x r k e p t = replace_in_middle s l x r k [] e p t
 
--- the blocks stay in order where one is removed
+-- The blocks stay in order if a block is removed.
 pub ordered_without : (s l : Shape) (x : Block) (r : Shape) → s ≡ Fork l x r → IsTree s → IsOrderedFrom 0 (blocks l ++ blocks r)
 ordered_without s l x r e t =
     let o : IsOrderedFrom 0 (blocks l ++ x ∷ blocks r) = rw e at t.ordered in
@@ -189,7 +189,7 @@ removed_in_right s l x r k e p t = subst (IsOrderedFrom 0) (replace_in_right s l
 
 pub ruleset removals = (replace_in_left, replace_in_right, replace_in_middle, remove_in_middle, ordered_without, removed_in_left, removed_in_right)
 
--- the tree s without the first block m of its left side
+-- The tree s without the first block m of its left child.
 pub take_left : (s l : Shape) (x : Block) (r : Shape) (m : Block) (rest : List Block) → s ≡ Fork l x r → blocks l ≡ m ∷ rest → IsTree s
     → IsOrderedFrom 0 (rest ++ x ∷ blocks r) × (blocks s ≡ m ∷ (rest ++ x ∷ blocks r))
 take_left s l x r m rest e f t =

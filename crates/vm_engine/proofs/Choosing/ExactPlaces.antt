@@ -1,4 +1,4 @@
--- From the block with a named start to the answer of a request.
+-- From the block that contains the start of an ExactMatch request to its result.
 use Rattle.std.proofs.Common.{◌≡◌, ℕ, ◌+◌, ◌-◌, ◌%◌, ◌<◌, ◌≤◌, ◌∷◌, ◌++◌, Some, None, refl, sym, ap, ◌∙◌, arith, inl, inr, ⊎_elim, subst, Result, Ok, Err}
 use Rattle.vm_ranges.specs.Range.{Range, MAX, span, at_address}
 use Rattle.vm_engine.specs.Tree.Block.{Block, free_block}
@@ -58,7 +58,7 @@ aligned_if : (a t : ℕ) (p : AllocPolicy) → p ≡ ExactMatch t → IsStartAli
 unfolding IsStartAligned
 aligned_if a t p e h = let g : IsStartAligned a (ExactMatch t) = subst (IsStartAligned a) e h in g
 
--- ---- a request of which the start is known
+-- ---- Requests with a known start
 known_start : (request : Request) (t : ℕ) (s : Shape) (answer : Result Choice Error) → request.policy ≡ ExactMatch t → Chooses s (named request.size request.align t) answer → Chooses s request answer
 known_start request t s answer p h = subst (λ (v : Request). Chooses s v answer) (with_policy request (ExactMatch t) p) h
 

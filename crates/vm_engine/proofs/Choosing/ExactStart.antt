@@ -1,4 +1,4 @@
--- What the block with a start says to a request for that start.
+-- The result of an ExactMatch request, by the block that contains its start.
 use Rattle.std.proofs.Common.{◌≡◌, ℕ, ◌+◌, ◌-◌, ◌%◌, ◌<◌, ◌≤◌, List, [], ◌∷◌, ◌++◌, refl, sym, ap, ◌∙◌, arith, inl, inr, ⊎_elim, subst, Result, Err}
 use Rattle.std.specs.List.{All}
 use Rattle.std.proofs.lemmas.List.Elements.{All-head, All-tail}
@@ -21,7 +21,7 @@ use Rattle.vm_engine.proofs.Blocks.OneList.{held_of-free, held_of-held}
 use Rattle.vm_ranges.proofs.RangeCalls.{same_range}
 use Rattle.vm_engine.proofs.Splitting.TakenRanges.{starts_after, in_block}
 
--- the request for n addresses from t on, which a is to divide
+-- The request for n addresses at the start t, with alignment a.
 abbrev pub named : ℕ → ℕ → ℕ → Request
 named n a t = request_for n a (ExactMatch t)
 
@@ -35,12 +35,12 @@ all_missed p lo hi x (b ∷ bs) t m l o =
     ⊎_elim (λ (g : b.key.end < x). all_missed b.state (b.key.end + 1) hi x bs t.3 (All-tail (λ c. ¬ IsIn c.key x) b bs m) (omega arith) o)
     (λ (g : x ≤ b.key.end). All-head (λ c. ¬ IsIn c.key x) b bs m (omega (arith, t.0), g)) (cases_lt b.key.end x)
 
--- an address of no block is outside the space
+-- An address that is in no block is outside the space.
 pub exact_outside : (sp : Range) (bs : List Block) (n a t : ℕ) → t < MAX → TilesSpace sp bs → All (λ b. ¬ IsIn b.key t) bs → Grants (blocks_state sp bs) (named n a t) (Err ResourceNotAvailable) (blocks_state sp bs)
 unfolding Grants ByExactPolicy ByStart TilesSpace
 exact_outside sp bs n a t m q h = inr (λ e. omega arith, inl (λ i. all_missed Allocated sp.start sp.end t bs q h i.0 i.1, (refl, refl)))
 
--- a held block's range is held
+-- The range of a held block is held.
 held_block : (r : Range) (b : Block) (xs ys : List Block) → b.key ≡ r → b.state ≡ Allocated → IsHeld (held_of (xs ++ b ∷ ys)) r
 held_block r b [] ys e s = subst (λ (v : List Range). IsHeld v r) (sym (held_of-held b ys s)) (inl e)
 held_block r b (x ∷ xs) ys e s =
@@ -49,7 +49,7 @@ held_block r b (x ∷ xs) ys e s =
     (λ (f : x.state ≡ Allocated). subst (λ (v : List Range). IsHeld v r) (sym (held_of-held x (xs ++ b ∷ ys) f)) (inr (held_block r b xs ys e s)))
     (state_cases x.state)
 
--- the start is an address of the block, and so of the space, and the range does not pass MAX
+-- The start lies in the block, and so in the space, and the range does not pass MAX.
 pub record IsWithin (sp : Range) (bs : List Block) (b : Block) (n t : ℕ) : Type 0 where
   pub tiles : TilesSpace sp bs
   pub before : List Block
@@ -73,7 +73,7 @@ exact_over sp bs b n a t w o =
     let i = in_space Allocated sp.start sp.end t b w.before w.after (as_cut sp bs b n t w) w.start in
     inr (λ e. omega (arith, w.below), inr ((i.0, i.1), inl (o, (refl, refl))))
 
--- past the first three faults
+-- The first three errors do not apply.
 past : (sp : Range) (bs : List Block) (b : Block) (n a t : ℕ) (new : AddressState) (answer : Result Range Error) → IsWithin sp bs b n t → t + n - 1 ≤ MAX → ¬ IsHeld (held_of bs) (span t n) → Unless (AreClear n (blocks_state sp bs) t) ((answer ≡ Err ResourceNotAvailable) × (new ≡ blocks_state sp bs)) (IfElse (t + n - 1 ≡ MAX) ((answer ≡ Err Overflow) × (new ≡ blocks_state sp bs)) (ByPlace (named n a t) (blocks_state sp bs) (λ e. (answer ≡ Err e) × (new ≡ blocks_state sp bs)) (λ r. AllocatesAt (blocks_state sp bs) r answer new))) → Grants (blocks_state sp bs) (named n a t) answer new
 unfolding Grants ByExactPolicy ByStart
 past sp bs b n a t new answer w o d h =
@@ -88,7 +88,7 @@ exact_held sp bs b n a t w o s f g =
     let h : IsHeld (held_of bs) (span t n) = subst (λ (v : List Block). IsHeld (held_of v) (span t n)) (sym w.cut) (held_block (span t n) b w.before w.after key s) in
     inr (λ e. omega (arith, w.below), inr ((i.0, i.1), inr (λ e. omega arith, inl (contains_held (held_of bs) (span t n) h, (ap (λ (v : Range). Err (InvalidStateTransition v Allocated)) key, refl)))))
 
--- two held ranges with one address are one
+-- Two held ranges with a common address are equal.
 same_block_held : (p : NodeState) (lo hi x : ℕ) (r : Range) (b : Block) (xs ys : List Block) → Tiles p lo (xs ++ b ∷ ys) hi → b.state ≡ Allocated → IsIn b.key x → IsHeld (held_of (xs ++ b ∷ ys)) r → IsIn r x → b.key ≡ r
 same_block_held p lo hi x r b [] ys t e i h o =
     let g : IsHeld (b.key ∷ held_of ys) r = subst (λ (v : List Range). IsHeld v r) (held_of-held b ys e) h in
@@ -104,7 +104,7 @@ same_block_held p lo hi x r b (y ∷ xs) ys t e i h o =
     (λ (s : IsHeld (held_of (xs ++ b ∷ ys)) r). same_block_held y.state (y.key.end + 1) hi x r b xs ys t.3 e i s o) g)
     (state_cases y.state)
 
--- the free block that a clear row begins in is the one its first address lies in
+-- A run of clear addresses lies in the free block that contains its first address.
 same_run : (p : NodeState) (lo hi s e : ℕ) (b : Block) (xs ys : List Block) → Tiles p lo (xs ++ b ∷ ys) hi → s ≤ e → IsIn b.key s → InFreeBlock (xs ++ b ∷ ys) s e → (b.state ≡ Free) × (e ≤ b.key.end)
 same_run p lo hi s e b [] ys t l i f =
     ⊎_elim (λ (g : (b.state ≡ Free) × (b.key.start ≤ s) × (e ≤ b.key.end)). (g.0, g.2))
@@ -114,7 +114,7 @@ same_run p lo hi s e b (y ∷ xs) ys t l i f =
     ⊎_elim (λ (g : (y.state ≡ Free) × (y.key.start ≤ s) × (e ≤ y.key.end)). absurd (omega (arith, g.2, i.0)))
     (λ (g : InFreeBlock (xs ++ b ∷ ys) s e). same_run y.state (y.key.end + 1) hi s e b xs ys t.3 l i g) f
 
--- the addresses are clear exactly where the block is free and has room for them
+-- The addresses are clear exactly if the block is free and they lie in it.
 clear_in_block : (sp : Range) (bs : List Block) (b : Block) (n t : ℕ) → IsWithin sp bs b n t → AreClear n (blocks_state sp bs) t → (b.state ≡ Free) × (t + n - 1 ≤ b.key.end)
 unfolding TilesSpace
 clear_in_block sp bs b n t w c =

@@ -1,4 +1,4 @@
--- What one block has room for.
+-- The fits of one block.
 use Rattle.std.proofs.Common.{◌≡◌, ℕ, ◌+◌, ◌-◌, ◌*◌, ◌%◌, ◌^◌, ◌<◌, ◌≤◌, ap, ◌∙◌, arith, ⊎_elim, subst, Ok, Err}
 use Rattle.std.proofs.lemmas.Nat.{pow-add}
 use Rattle.std.proofs.Math.Nat.{mul-add-mod_self_right, zero-mod}
@@ -11,7 +11,7 @@ use Rattle.vm_ranges.specs.declared.state.NodeState.{NodeState}
 use Rattle.vm_ranges.specs.declared.state.NodeState.TheVariants.{Free, Allocated}
 use Rattle.vm_ranges.proofs.Power.{gap, alignment_pos}
 
--- each alignment divides the number past MAX
+-- Each alignment divides MAX + 1.
 whole : (a : ℕ) → IsAlignment a → 18446744073709551616 % a ≡ 0
 unfolding IsAlignment
 whole a h =
@@ -19,7 +19,7 @@ whole a h =
     let e : 2 ^ 64 ≡ 2 ^ (64 - h.0) * 2 ^ h.0 + 0 = ap (λ (j : ℕ). 2 ^ j) k ∙ pow-add 2 (64 - h.0) h.0 ∙ omega arith in
     ap (λ (v : ℕ). 18446744073709551616 % v) h.2 ∙ (ap (λ (v : ℕ). v % 2 ^ h.0) e ∙ mul-add-mod_self_right (2 ^ (64 - h.0)) (2 ^ h.0) 0 ∙ zero-mod (2 ^ h.0))
 
--- no multiple is left between x and MAX where rounding x up goes past MAX
+-- If rounding x up passes MAX, there is no multiple between x and MAX.
 none_left : (x a t : ℕ) → IsAlignment a → MAX < x + (a - 1) → t % a ≡ 0 → x ≤ t → t ≤ MAX → ⊥
 none_left x a t h o d l m = let g = gap a t 18446744073709551616 d (whole a h) (omega arith) in omega (arith, alignment_pos a h)
 
@@ -81,7 +81,7 @@ highest_fit n a x s b h u q l e =
 
 pub ruleset highest_fits = (no_fit_held, no_fit_small, no_fit_low, no_fit_never, highest_fit)
 
--- the same of a block that is told by its key and its state
+-- The same for a block that is given by its key and its state.
 pub no_fit_over_key : (n a : ℕ) (k : Range) (st : NodeState) (e : Error) → 0 < n → IsAlignment a → k.end ≤ MAX → AlignsUp k.start a (Err e) → HasNoFit n a (record { key = k; state = st })
 no_fit_over_key n a k st e z h m u = no_fit_over n a (record { key = k; state = st }) e z h m u
 

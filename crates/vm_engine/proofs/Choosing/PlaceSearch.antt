@@ -1,4 +1,4 @@
--- The first and the last fit of a tree, from those of its sides.
+-- The first and the last fit of a tree, from the fits of its children and its root.
 use Rattle.std.specs.Option.{is_some}
 use Rattle.std.specs.Prelude.{MatchOption}
 use Rattle.std.proofs.Common.{false, ◌≡◌, ℕ, Option, Some, None, List, [], ◌∷◌, ◌++◌, refl, sym, ap, ◌∙◌, subst, append_assoc}
@@ -16,7 +16,7 @@ all_append n a [] ys h k = k
 all_append n a (x ∷ xs) ys h k =
     All-cons (HasNoFit n a) x (xs ++ ys) (All-head (HasNoFit n a) x xs h) (all_append n a xs ys (All-tail (HasNoFit n a) x xs h) k)
 
--- no block of a tree has a fit where none of its sides and not its own block has
+-- No block of a tree has a fit if no block of its children has one and its own block has none.
 pub none_of : (n a : ℕ) (s l : Shape) (b : Block) (r : Shape) → s ≡ Fork l b r → All (HasNoFit n a) (blocks l) → HasNoFit n a b → All (HasNoFit n a) (blocks r) → All (HasNoFit n a) (blocks s)
 none_of n a s l b r e h k m =
     subst (λ (v : Shape). All (HasNoFit n a) (blocks v)) (sym e) (all_append n a (blocks l) (b ∷ blocks r) h (All-cons (HasNoFit n a) b (blocks r) k m))
@@ -90,7 +90,7 @@ last_in_left n a s l b r place e h k f = record {
   fit = f.fit;
 }
 
--- what is not there is told of by the first of two facts
+-- If nothing was found, the first of both cases is true.
 pub nothing_found : {X : Type 0} (found : Option X) (P : Type 0) (Q : X → Type 0) → MatchOption found P Q → is_some found ≡ false → P
 nothing_found None P Q h e = h
 nothing_found (Some x) P Q h e = absurd (cc e)
@@ -99,12 +99,12 @@ pub still_nothing : {X : Type 0} (found : Option X) (P : Type 0) (Q : X → Type
 still_nothing None P Q p e = p
 still_nothing (Some x) P Q p e = absurd (cc e)
 
--- where the left side and the root have no fit, the search goes on in the right side
+-- If the left child and the root have no fit, the first fit is in the right child.
 pub first_through_right : (n a : ℕ) (s l : Shape) (b : Block) (r : Shape) (found : Option Place) → s ≡ Fork l b r → All (HasNoFit n a) (blocks l) → HasNoFit n a b → FindsFirst n a (blocks r) found → FindsFirst n a (blocks s) found
 first_through_right n a s l b r None e h k m = none_of n a s l b r e h k m
 first_through_right n a s l b r (Some place) e h k m = first_in_right n a s l b r place e h k m
 
--- and the mirror image
+-- If the right child and the root have no fit, the last fit is in the left child.
 pub last_through_left : (n a : ℕ) (s l : Shape) (b : Block) (r : Shape) (found : Option Place) → s ≡ Fork l b r → All (HasNoFit n a) (blocks r) → HasNoFit n a b → FindsLast n a (blocks l) found → FindsLast n a (blocks s) found
 last_through_left n a s l b r None e h k m = none_of n a s l b r e m k h
 last_through_left n a s l b r (Some place) e h k m = last_in_left n a s l b r place e h k m

@@ -1,4 +1,4 @@
--- The first fit of blocks is the least place, the last the greatest.
+-- The first fit of the blocks is the lowest place, and the last fit is the highest.
 use Rattle.std.proofs.Common.{◌≡◌, ℕ, ◌+◌, ◌-◌, ◌%◌, ◌<◌, ◌≤◌, List, [], ◌∷◌, ◌++◌, sym, arith, inl, inr, ⊎_elim, subst}
 use Rattle.std.specs.List.{All}
 use Rattle.std.proofs.lemmas.List.Elements.{All-head, All-tail}
@@ -81,11 +81,11 @@ none_at [] n a u nf z d i = i
 none_at (b ∷ bs) n a u nf z d i =
     ⊎_elim (λ j. All-head (HasNoFit n a) b bs nf u (fit_here b n a u z d j)) (λ j. none_at bs n a u (All-tail (HasNoFit n a) b bs nf) z d j) i
 
--- where no block has a fit there is no place
+-- If no block has a fit, there is no place.
 pub no_place : (state : AddressState) (bs : List Block) (n a : ℕ) → IsBlocksOf state bs → 0 < n → All (HasNoFit n a) bs → (s : ℕ) → ¬ IsPlace n a state s
 no_place state bs n a h z nf s p = none_at bs n a s nf z (place_divides state n a s p) (place_in_block state bs n a s h z p)
 
--- the least fit of the first block that has one is the least place
+-- The lowest fit of the first block that has a fit is the lowest place.
 pub lowest_place : (state : AddressState) (bs xs ys : List Block) (b : Block) (n a t : ℕ) → IsBlocksOf state bs → bs ≡ xs ++ b ∷ ys → 0 < n → All (HasNoFit n a) xs → IsLowestFit n a b t → IsLowestPlace n a state t
 unfolding IsLowestPlace IsLowestFit
 lowest_place state bs xs ys b n a t h e z nf l =
@@ -97,7 +97,7 @@ lowest_place state bs xs ys b n a t h e z nf l =
           (subst (λ (v : List Block). InFreeBlock v u (u + n - 1)) e (place_in_block state bs n a u h z p)),
     )
 
--- the greatest fit of the last block that has one is the greatest place
+-- The highest fit of the last block that has a fit is the highest place.
 pub highest_place : (state : AddressState) (bs xs ys : List Block) (b : Block) (n a t : ℕ) → IsBlocksOf state bs → bs ≡ xs ++ b ∷ ys → 0 < n → All (HasNoFit n a) ys → IsHighestFit n a b t → IsHighestPlace n a state t
 unfolding IsHighestPlace IsHighestFit
 highest_place state bs xs ys b n a t h e z nf l =

@@ -1,4 +1,4 @@
--- From the first or the last fit of a tree to the answer of a request.
+-- From the first or the last fit of a tree to the result of a request.
 use Rattle.std.proofs.Common.{Option, Some, None, IfSome, ◌≡◌, ℕ, ◌+◌, ◌-◌, ◌<◌, List, ◌∷◌, ◌++◌, refl, sym, arith, inl, inr, ◌⊎◌, ⊎_elim, subst, Result, Ok, Err}
 use Rattle.std.specs.List.{All}
 use Rattle.vm_ranges.specs.Range.{Range, MAX, span}
@@ -23,18 +23,18 @@ use Rattle.vm_engine.proofs.Counts.NodeCountCases.{search_first, search_last}
 use Rattle.vm_engine.proofs.Choosing.Places.{lowest_place, highest_place, no_place}
 use Rattle.vm_engine.proofs.Splitting.TakenRanges.{as_blocks}
 
--- ---- requests that name no start
+-- ---- Requests with the policy FirstMatch or LastMatch
 abbrev pub IsNotExact : AllocPolicy → Type 0
 IsNotExact policy = (policy ≡ FirstMatch) ⊎ (policy ≡ LastMatch)
 
--- the places alone decide them
+-- Their result depends only on the places.
 grants_by : (policy : AllocPolicy) (n a : ℕ) (old new : AddressState) (answer : Result Range Error) → IsNotExact policy → ByPlace (request_for n a policy) old (λ e. (answer ≡ Err e) × (new ≡ old)) (λ r. AllocatesAt old r answer new) → Grants old (request_for n a policy) answer new
 unfolding Grants ByExactPolicy
 grants_by FirstMatch n a old new answer p h = h
 grants_by LastMatch n a old new answer p h = h
 grants_by (ExactMatch t) n a old new answer p h = absurd (⊎_elim (λ e. cc e) (λ e. cc e) p)
 
--- a request of which the policy is known
+-- A request with a known policy.
 module _ (request : Request) (old : AddressState) (searched : IsNotExact request.policy) where
   places_grant : (new : AddressState) (answer : Result Range Error) → ByPlace request old (λ e. (answer ≡ Err e) × (new ≡ old)) (λ r. AllocatesAt old r answer new) → Grants old request answer new
   places_grant new answer = grants_by request.policy request.size request.align old new answer searched
@@ -51,8 +51,8 @@ module _ (request : Request) (old : AddressState) (searched : IsNotExact request
   unfolding ByPlace
   over_grants t c e = places_grant old (Err Overflow) (inr (t, c, inl (e, (refl, refl))))
 
--- ---- the place that a search finds
--- it is the chosen one, and lies in a free block that has room for the request
+-- ---- The place that a search finds
+-- The place is the chosen one, and the range lies in a free block.
 record IsFound (request : Request) (s : Shape) (place : Place) : Type 0 where
   some : 0 < request.size
   before : List Block
@@ -81,7 +81,7 @@ unfolding Chooses
 none_chooses request s p t r h =
     none_grants request (tree_state s) p (no_place (tree_state s) (blocks s) request.size request.align (as_blocks (space_of (blocks s)) (blocks s) t.tiling.tiles) r.some h)
 
--- ---- the first fit
+-- ---- The first fit
 lowest_chosen : (request : Request) (t : ℕ) (state : AddressState) → request.policy ≡ FirstMatch → IsLowestPlace request.size request.align state t → IsChosen request state t
 unfolding IsChosen
 lowest_chosen request t state e l = subst (λ (v : Request). IsChosen v state t) (with_policy request FirstMatch e) l
@@ -117,7 +117,7 @@ pub first_chooses : (request : Request) (s : Shape) (found : Option Place) (answ
 first_chooses request s None answer t r p f h = subst (Chooses s request) (sym h) (none_first request s t r p f)
 first_chooses request s (Some place) answer t r p f h = chooses_first request s place answer t r p f h
 
--- ---- the last fit
+-- ---- The last fit
 highest_chosen : (request : Request) (t : ℕ) (state : AddressState) → request.policy ≡ LastMatch → IsHighestPlace request.size request.align state t → IsChosen request state t
 unfolding IsChosen
 highest_chosen request t state e l = subst (λ (v : Request). IsChosen v state t) (with_policy request LastMatch e) l
@@ -155,7 +155,7 @@ last_chooses request s (Some place) answer t r p f h = chooses_last request s pl
 
 pub ruleset choices = (first_room, first_chooses, last_room, last_chooses, search_first, search_last)
 
--- ---- from what is chosen to the answer
+-- ---- From the choice to the result
 pub chooses_refused : (s : Shape) (request : Request) (e : Error) → Chooses s request (Err e) → Grants (tree_state s) request (Err e) (tree_state s)
 unfolding Chooses
 chooses_refused s request e h = h

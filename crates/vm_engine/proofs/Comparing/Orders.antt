@@ -1,4 +1,4 @@
--- What the orders of blocks and of lists of them say.
+-- The results of the orders of blocks and of lists of blocks.
 use Rattle.std.proofs.Common.{◌≡◌, [], ◌∷◌, refl, ap, ◌∙◌, arith}
 use Rattle.std.specs.declared.cmp.Ordering.{Ordering}
 use Rattle.std.specs.declared.cmp.Ordering.TheVariants.{Less, Equal, Greater}
@@ -13,7 +13,7 @@ use Rattle.vm_ranges.specs.declared.state.NodeState.TheVariants.{Free, Allocated
 use Rattle.vm_ranges.proofs.RangeOrders.{both_equal, range_cmp-exact}
 use Rattle.vm_engine.proofs.Blocks.OneList.{same_block}
 
--- a total order by the standard library's word is one
+-- A total order of the standard library is an order in the sense of `IsOrder`.
 pub order_of_total : (R : AddressState → AddressState → Ordering) → IsTotalOrder R → IsOrder R
 order_of_total R o = record { total = λ a b. o.antisymm b a; transitive = transitive }
   where

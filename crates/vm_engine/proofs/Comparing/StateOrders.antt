@@ -1,4 +1,4 @@
--- What the orders of states say of the spaces and the held ranges.
+-- The orders of states agree with the equality of spaces and held ranges.
 use Rattle.std.proofs.Common.{◌≡◌, ◌↔◌, Bool, List, sym, ap, ◌∙◌}
 use Rattle.std.specs.Prelude.{IsTrue}
 use Rattle.std.specs.declared.cmp.Ordering.{Ordering}
@@ -18,18 +18,18 @@ use Rattle.vm_engine.proofs.Comparing.Orders.{order_of_total, blocks_cmp-exact}
 use Rattle.vm_ranges.proofs.RangeOrders.{both_equal, range_cmp-exact}
 use Rattle.vm_engine.proofs.Comparing.Tilings.{tree_blocks, held_of-blocks_of}
 
--- equal states are one
+-- Equal states are identical.
 pub one_state : (a b : AddressState) → AreEqual a b → a ≡ b
 one_state a b e = λ i. record { space = e.space i; held = e.held i }
 
 pub equal_states : (a b : AddressState) → a ≡ b → AreEqual a b
 equal_states a b e = record { space = ap (λ (s : AddressState). s.space) e; held = ap (λ (s : AddressState). s.held) e }
 
--- states with the same blocks hold the same
+-- States with the same blocks have the same held ranges.
 same_held : (a b : AddressState) → blocks_of a ≡ blocks_of b → a.held ≡ b.held
 same_held a b e = sym (held_of-blocks_of a) ∙ ap held_of e ∙ held_of-blocks_of b
 
--- the order finds two states equal just where they are
+-- The order returns Equal exactly if both states are equal.
 pub state_cmp-Equal : (a b : AddressState) → (state_cmp a b ≡ Equal) ↔ AreEqual a b
 state_cmp-Equal a b = (
   λ h.
@@ -38,37 +38,37 @@ state_cmp-Equal a b = (
   λ e. ap (state_cmp a) (sym (one_state a b e)) ∙ tied_itself state_cmp-total a,
 )
 
--- both orders are orders
+-- Both orders are total and transitive.
 pub state_order : IsOrder state_cmp
 state_order = order_of_total state_cmp state_cmp-total
 
 pub layout_order : IsOrder layout_cmp
 layout_order = order_of_total layout_cmp layout_cmp-total
 
--- ---- trees
--- two trees of one state have the same blocks
+-- ---- Trees
+-- Two trees of one state have the same blocks.
 pub one_list : (s t : Shape) → IsSpaceTree s → IsSpaceTree t → AreEqual (tree_state s) (tree_state t) → blocks s ≡ blocks t
 one_list s t p q e = sym (tree_blocks s p) ∙ ap blocks_of (one_state (tree_state s) (tree_state t) e) ∙ tree_blocks t q
 
 same_state : (s t : Shape) → blocks s ≡ blocks t → AreEqual (tree_state s) (tree_state t)
 same_state s t e = equal_states (tree_state s) (tree_state t) (ap (λ (bs : List Block). blocks_state (space_of bs) bs) e)
 
--- the order of two trees' blocks is that of their states
+-- The order of the blocks of two trees is the order of their states.
 pub blocks_ordered : (s t : Shape) → IsSpaceTree s → IsSpaceTree t → blocks_cmp (blocks s) (blocks t) ≡ layout_cmp (tree_state s) (tree_state t)
 blocks_ordered s t p q = ap (λ (bs : List Block). blocks_cmp bs (blocks t)) (sym (tree_blocks s p)) ∙ ap (blocks_cmp (blocks_of (tree_state s))) (sym (tree_blocks t q))
 
--- it finds two trees equal just where their states are
+-- It returns Equal exactly if the states are equal.
 pub trees_Equal : (s t : Shape) → IsSpaceTree s → IsSpaceTree t → (layout_cmp (tree_state s) (tree_state t) ≡ Equal) ↔ AreEqual (tree_state s) (tree_state t)
 trees_Equal s t p q = (
   λ h. same_state s t (sym (tree_blocks s p) ∙ blocks_cmp-exact (blocks_of (tree_state s)) (blocks_of (tree_state t)) h ∙ tree_blocks t q),
   λ e. ap (layout_cmp (tree_state s)) (sym (one_state (tree_state s) (tree_state t) e)) ∙ tied_itself layout_cmp-total (tree_state s),
 )
 
--- a test whether the blocks of two trees are the same is one whether their states are equal
+-- A test if two trees have the same blocks is a test if their states are equal.
 pub tested_state : (s t : Shape) (r : Bool) → IsSpaceTree s → IsSpaceTree t → IsTrue r ↔ (blocks s ≡ blocks t) → IsTrue r ↔ AreEqual (tree_state s) (tree_state t)
 tested_state s t r p q h = (λ x. same_state s t (h.0 x), λ e. h.1 (one_list s t p q e))
 
--- and answers as the order does
+-- The test agrees with the order.
 tested_as_ordered : (o : Ordering) (r : Bool) (P : Type 0) → IsTrue r ↔ P → (o ≡ Equal) ↔ P → r ≡ is_eq o
 tested_as_ordered o r P h k = same_from_decides r (is_eq o) h (λ t. k.0 ((Equal-is o).0 t), λ p. (Equal-is o).1 (k.1 p))
 
@@ -77,5 +77,5 @@ tested_by_layout s t r p q h = tested_as_ordered _ r _ (tested_state s t r p q h
 
 pub ruleset trees_compared = (blocks_ordered, trees_Equal, tested_state, tested_by_layout)
 
--- ---- allocators
+-- ---- Allocators
 pub ruleset allocators_compared = (state_cmp-Equal)

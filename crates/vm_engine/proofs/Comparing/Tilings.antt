@@ -1,4 +1,4 @@
--- The blocks that tile a space are those of the state that they stand for.
+-- The blocks that tile a space are the blocks of the state that they represent.
 use Rattle.std.proofs.Common.{◌≡◌, ℕ, ◌+◌, ◌-◌, ◌≤◌, ◌<◌, cond, true, false, ltb, List, [], ◌∷◌, ◌++◌, refl, sym, ap, ◌∙◌, arith, ⊎_elim}
 use Rattle.std.proofs.lemmas.Bool.{lt-ltb, le-ltb}
 use Rattle.std.proofs.lemmas.List.{append-nil}
@@ -20,14 +20,14 @@ no_gap lo next h = rw (le-ltb lo next (omega arith)) refl
 gap : (lo next : ℕ) → lo < next → gap_before lo next ≡ free_block (record { start = lo; end = next - 1 }) ∷ []
 gap lo next h = rw (lt-ltb lo next h) refl
 
--- a free block is the gap that it fills
+-- A free block is the gap at its position.
 gap_is_free : (s : ℕ) (b : Block) → b.state ≡ Free → b.key.start ≡ s → s ≤ b.key.end → gap_before s (b.key.end + 1) ≡ b ∷ []
 gap_is_free s b free start some =
     let key : record { start = s; end = b.key.end + 1 - 1 } ≡ b.key = same_range _ b.key (sym start) (omega arith) in
     gap s (b.key.end + 1) (omega arith) ∙ ap (λ (x : Block). x ∷ []) (same_block (free_block (record { start = s; end = b.key.end + 1 - 1 })) b key (sym free))
 
--- the blocks between s and hi where what the tiling from lo on holds is held: the gap from s to lo, where a free block
--- stands before the tiling, and the tiling
+-- The blocks from s to hi, for a tiling that starts at lo: the gap from s to lo, and then the tiling. If s < lo, a free
+-- block is before the tiling.
 tiled : (p : NodeState) (s lo hi : ℕ) (bs : List Block) → Tiles p lo bs hi → s ≤ lo → (p ≡ Allocated → s ≡ lo) → blocks_between s (held_of bs) hi ≡ gap_before s lo ++ bs
 tiled p s lo hi [] t l e = rw (append-nil (gap_before s lo)) (ap (gap_before s) (sym t))
 tiled p s lo hi (b ∷ bs) t l e =
@@ -48,7 +48,7 @@ tiled p s lo hi (b ∷ bs) t l e =
     ∙ ap (λ (v : Block). gap_before s lo ++ v ∷ bs) same)
     (state_cases b.state)
 
--- the blocks of a tree's state are those of the tree
+-- The blocks of a tree's state are the blocks of the tree.
 pub tree_blocks : (s : Shape) → IsSpaceTree s → blocks_of (tree_state s) ≡ blocks s
 unfolding TilesSpace blocks_of
 tree_blocks s h =
@@ -56,7 +56,7 @@ tree_blocks s h =
     tiled Allocated sp.start sp.start sp.end (blocks s) h.tiling.tiles (omega arith) (λ _. refl)
     ∙ ap (λ (v : List Block). v ++ blocks s) (no_gap sp.start sp.start refl)
 
--- what is held between the gaps
+-- A gap has no held range.
 held_of-gap : (lo next : ℕ) (bs : List Block) → held_of (gap_before lo next ++ bs) ≡ held_of bs
 held_of-gap lo next bs = elim (ltb lo next) as (λ v. held_of (cond v (free_block (record { start = lo; end = next - 1 }) ∷ []) [] ++ bs) ≡ held_of bs) [ true ↦ refl | false ↦ refl ]
 
@@ -66,7 +66,7 @@ held_of-blocks_between lo hi (r ∷ rs) =
     held_of-gap lo r.start (record { key = r; state = Allocated } ∷ blocks_between (r.end + 1) rs hi)
     ∙ ap (λ (v : List Range). r ∷ v) (held_of-blocks_between (r.end + 1) hi rs)
 
--- the held blocks of a state are its held ranges
+-- The held blocks of a state are its held ranges.
 pub held_of-blocks_of : (state : AddressState) → held_of (blocks_of state) ≡ state.held
 unfolding blocks_of
 held_of-blocks_of state = held_of-blocks_between state.space.start state.space.end state.held

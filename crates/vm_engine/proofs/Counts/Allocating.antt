@@ -1,4 +1,4 @@
--- How many nodes a request enters that may make no sense.
+-- The number of nodes that `allocate` enters, for valid and for invalid requests.
 use Rattle.std.proofs.Common.{◌≡◌, ℕ, refl, subst, arith, inl, inr, Result, Ok, Err}
 use Rattle.vm_ranges.specs.Range.{Range}
 use Rattle.vm_engine.specs.Address.{AddressState}
@@ -8,11 +8,11 @@ use Rattle.vm_engine.specs.Counts.Steps.{IsGrantCount, IsAllocationCount, Enters
 use Rattle.vm_ranges.specs.declared.error.Error.{Error}
 use Rattle.vm_engine.proofs.Answers.Filling.{no_constraint_fault}
 
--- ---- requests that may make no sense
+-- ---- Requests that can be invalid
 pub invalid_count : (h : ℕ) (old : AddressState) (request : Request) (e : Error) → IsAllocationCount h old request (Err e) 0
 invalid_count h old request e = record { granting = record { most = omega arith; success = λ k. absurd (cc); split = tt }; invalid = λ x m. refl }
 
--- the constraint that is made is what was asked for, and makes sense
+-- The constraint that is made has the fields of the request, and the request is valid.
 pub constraint_made : (request k : Request) → MakesConstraint request (Ok k) → (k ≡ request) × IsRequest request
 unfolding MakesConstraint ByConstraint
 constraint_made request k (inl z) = absurd (cc (z.1))
@@ -40,7 +40,7 @@ valid_entered s request k answer c m n =
       valid = λ r. subst (λ (v : Request). Enters s v answer 0 c) made.0 n;
     }
 
--- no constraint is refused because memory runs out
+-- Making a constraint never runs out of memory.
 pub invalid_low : (h : ℕ) (old : AddressState) (request : Request) (e : Error) → MakesConstraint request (Err e) → SplitsIfLow h old (Err e)
 unfolding MakesConstraint ByConstraint
 invalid_low h old request e (inl z) = record { split = tt; memory = λ m. absurd (cc (m, z.1)) }

@@ -7,7 +7,7 @@ use Rattle.vm_engine.proofs.Splitting.TakenRanges.{as_blocks}
 use Rattle.vm_engine.proofs.Nodes.MinNodes.{fewest_nodes, most_nodes}
 use Rattle.vm_engine.proofs.Counts.Granting.{few_in}
 
--- ---- the shape of the tree
+-- ---- The shape of the tree
 pub balanced_tree : (s : Shape) → IsSpaceTree s → IsTree s → IsBalancedTreeOf (tree_state s) s
 balanced_tree s h t = record {
   blocks = as_blocks (space_of (blocks s)) (blocks s) h.tiling.tiles;

@@ -1,4 +1,4 @@
--- Which trees a search for a place enters, and that the others have none.
+-- The subtrees that a search for a place enters. The others have no place.
 use Rattle.std.specs.Prelude.{◌&&◌}
 use Rattle.std.proofs.Common.{◌≡◌, ℕ, ◌+◌, ◌-◌, ◌^◌, ◌<◌, ◌≤◌, Bool, true, false, cond, leb, List, [], ◌∷◌, refl, sym, ap, subst, arith, ⊎_elim}
 use Rattle.std.specs.Int.{w64, trailing_zeros}
@@ -20,7 +20,7 @@ use Rattle.vm_engine.proofs.Choosing.PlaceSearch.{none_of}
 use Rattle.vm_engine.proofs.Numbers.MultiplesBetween.{multiple_is_exact, count_is_exact, exponent_by_trailing}
 use Rattle.vm_ranges.proofs.Power.{alignment_pos}
 
--- ---- the count of a tree tells whether a multiple lies in one of its free blocks
+-- ---- The number of alignments decides if a free block of the tree has a multiple
 own_aligned : (k : ℕ) (b : Block) → k < 64 → k < free_alignments b → has_aligned (2 ^ k) b ≡ true
 unfolding has_aligned
 own_aligned k b w = by_state b.state
@@ -56,7 +56,7 @@ none_aligned k Tip w m = refl
 none_aligned k (Fork l b r) w m =
     rw (list_any-append (has_aligned (2 ^ k)) (blocks l) (b ∷ blocks r), none_aligned k l w (omega arith), own_unaligned k b w (omega arith), none_aligned k r w (omega arith)) refl
 
--- ---- which trees are entered
+-- ---- The subtrees that are entered
 pub searched_if : (n a : ℕ) (s : Shape) → IsAlignment a → n ≤ max_free_of s → trailing_zeros w64 a < alignments_of s → may_fit_in n a s ≡ true
 unfolding may_fit_in
 searched_if n a s u p q =
@@ -83,7 +83,7 @@ searched_parts n a s e =
 
 pub ruleset searched = (searched_if, not_if_short, not_if_unaligned)
 
--- ---- there is no place in the others
+-- ---- There is no place in the others
 short_without_fit : (n a : ℕ) (b : Block) → free_length b < n → HasNoFit n a b
 unfolding HasNoFit
 short_without_fit n a b p = λ t f. let free : free_length b ≡ b.key.end - b.key.start + 1 = rw f.0 refl in omega (arith, f.2, f.3)

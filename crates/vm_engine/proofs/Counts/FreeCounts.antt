@@ -1,4 +1,4 @@
--- How many nodes giving a range back enters.
+-- The number of nodes that `free` enters.
 use Rattle.std.proofs.Common.{◌≡◌, ℕ, ◌+◌, ◌≤◌, Option, Some, None, subst, arith, Result, Ok, Err}
 use Rattle.vm_ranges.specs.Range.{Range}
 use Rattle.vm_engine.specs.Tree.Shape.{Shape, Tip, Fork, blocks, height_of}
@@ -12,7 +12,7 @@ use Rattle.vm_engine.proofs.Nodes.Spaces.{few_nodes, no_empty_tree}
 use Rattle.vm_engine.proofs.Releasing.Finding.{held_block_found}
 use Rattle.vm_engine.proofs.Counts.NodeCountBounds.{nodes_to_at_most, nodes_to_remove_at_most, nodes_around_at_most}
 
--- ---- giving a range back
+-- ---- Freeing a range
 pub nodes_if_at_most : (k : Option Range) (s : Shape) → nodes_to_remove_if_some k s ≤ height_of s
 nodes_if_at_most None s = omega arith
 nodes_if_at_most (Some k) s = nodes_to_remove_at_most k s

@@ -1,4 +1,4 @@
--- From the exact count of a request to its bound by the gaps of the state that it looks at in vain.
+-- From the exact number of nodes that a request enters to its bound by the gaps of the state without a place.
 use Rattle.std.proofs.Common.{◌≡◌, ℕ, ◌+◌, ◌-◌, ◌*◌, ◌%◌, ◌<◌, ◌≤◌, min, Bool, true, false, leb, List, [], ◌∷◌, length, refl, subst, arith, inl, inr, ⊎_elim, Result, Ok, Err}
 use Rattle.std.specs.List.{list_any, filter}
 use Rattle.std.proofs.lemmas.Bool.{and_parts, leb-true, cases_lt, false_from_ne_true}
@@ -31,8 +31,8 @@ use Rattle.vm_engine.proofs.Counts.Searching.{lowest_from, free_if_true}
 use Rattle.vm_ranges.proofs.Power.{alignment_pos}
 use Rattle.vm_engine.proofs.Splitting.TakenRanges.{as_blocks}
 
--- ---- where there is no place no block has a fit
--- a block that has one has room from some multiple on
+-- ---- If there is no place, no block has a fit
+-- A block with a fit contains the n addresses that start at some multiple of a.
 fit_room : (n a : ℕ) (bs : List Block) → 0 < n → 0 < a → list_any (has_fit n a) bs ≡ true → (t : ℕ) × (t % a ≡ 0) × InFreeBlock bs t (t + n - 1)
 unfolding has_fit IsLowestMultiple
 fit_room n a [] z p e = absurd (cc (e))
@@ -50,7 +50,7 @@ none_fits n a s z p h none = false_from_ne_true (list_any (has_fit n a) (blocks 
     let f = fit_room n a (blocks s) z p e in
     none f.0 (block_place (tree_state s) (blocks s) n a f.0 (as_blocks (space_of (blocks s)) (blocks s) h.tiling.tiles) z f.1 f.2))
 
--- ---- a request that names no start is refused for a place only where there is none
+-- ---- FirstMatch and LastMatch return ResourceNotAvailable only if there is no place
 no_place_by : (request : Request) (old new : AddressState) (answer : Result Range Error) → answer ≡ Err ResourceNotAvailable → ByPlace request old (λ e. (answer ≡ Err e) × (new ≡ old)) (λ r. AllocatesAt old r answer new) → (t : ℕ) → ¬ IsPlace request.size request.align old t
 unfolding ByPlace AllocatesAt
 no_place_by request old new answer e h =
@@ -58,8 +58,8 @@ no_place_by request old new answer e h =
     (λ r. absurd (⊎_elim (λ o. cc (e, o.1.0)) (λ o. ⊎_elim (λ k. cc (e, k.0)) (λ k. ⊎_elim (λ m. cc (e, m)) (λ m. cc (e, m.1)) k.2) o.1) r.2))
     h
 
--- ---- the bound
--- what is entered for each gap that is looked at in vain, and for one more
+-- ---- The bound
+-- At most h nodes for each gap without a place, and h more if there is a place.
 abbrev IsWithin : ℕ → ℕ → ℕ → Result Range Error → Type 0
 IsWithin path h v answer = (path ≤ h * (v + 1)) × (answer ≡ Err ResourceNotAvailable → path ≤ h * v)
 
@@ -83,7 +83,7 @@ searched_by LastMatch n a q s answer new c some h r k e =
     by_gaps (request_for n a LastMatch) s h r answer (length (filter q (blocks s))) c (last_to_place n a q some s, λ u. last_without_place n a q some s (no_fit_among (request_for n a LastMatch) s h r new answer k u)) e
 searched_by (ExactMatch t) n a q s answer new c some h r k e = tt
 
--- what holds of two numbers holds of the lesser
+-- A fact that is true for both of two numbers is true for the lesser.
 of_lesser : (P : ℕ → Type 0) (x y : ℕ) → P x → P y → P (min x y)
 of_lesser P x y p q =
     ⊎_elim
@@ -114,7 +114,7 @@ module _ (s : Shape) (request : Request) (answer : Result Range Error) (new : Ad
 
 pub ruleset of_trees = (searches_gaps, searches_aligned)
 
--- ---- requests that may make no sense
+-- ---- Requests that can be invalid
 none_searched : (h v : ℕ) (policy : AllocPolicy) (n a : ℕ) (e : Error) → SearchesAmongGaps h v (request_for n a policy) (Err e) 0
 none_searched h v FirstMatch n a e = record { most = omega arith; none = λ k. omega arith }
 none_searched h v LastMatch n a e = record { most = omega arith; none = λ k. omega arith }

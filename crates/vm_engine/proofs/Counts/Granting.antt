@@ -1,4 +1,4 @@
--- How many nodes a request enters.
+-- The number of nodes that a request enters.
 use Rattle.std.proofs.Common.{◌≡◌, ◌≢◌, ℕ, ◌+◌, ◌*◌, ◌<◌, ◌≤◌, Bool, true, false, cond, eqb, refl, sym, subst, arith, inl, inr, ⊎_elim, Result, Ok, Err, OnOk, IfOk, length, ◌⊎◌}
 use Rattle.std.proofs.lemmas.Bool.{lt-ltb}
 use Rattle.vm_ranges.specs.Range.{Range, MAX, at_address}
@@ -26,7 +26,7 @@ use Rattle.vm_engine.proofs.Counts.Searching.{first_nodes_at_most, last_nodes_at
 use Rattle.vm_engine.proofs.Nodes.MinNodes.{node_count-blocks}
 use Rattle.vm_engine.proofs.Counts.LeftClear.{needs_split}
 
--- ---- the numbers
+-- ---- The numbers
 pub few_in : (s : Shape) → IsSpaceTree s → node_count s ≤ 2 * length (tree_state s).held + 1
 few_in s h = omega (arith, few_blocks (tree_state s) (blocks s) (as_blocks (space_of (blocks s)) (blocks s) h.tiling.tiles), node_count-blocks s)
 
@@ -35,18 +35,18 @@ searched FirstMatch s m h l = omega (arith, few_in s h)
 searched LastMatch s m h l = omega (arith, few_in s h)
 searched (ExactMatch t) s m h l = omega arith
 
--- the range that is given is the one that was taken
+-- The range that is returned is the range that was allocated.
 given_range : (old new : AddressState) (r p : Range) → AllocatesAt old r (Ok p) new → p ≡ r
 unfolding AllocatesAt
 given_range old new r p h = ⊎_elim (λ l. cc (l.0)) (λ k. ⊎_elim (λ o. absurd (cc o)) (λ o. absurd (cc (o.1))) k.2) h
 
--- a range that leaves a clear address beside it leaves a part of its block
+-- A range that splits its gap does not fill its block.
 given_part : (s : Shape) (choice : Choice) (r : Range) (new : AddressState) → IsSpaceTree s → IsChoice (blocks s) choice → AllocatesAt (tree_state s) choice.range (Ok r) new → SplitsGap (tree_state s) r → NeedsSplit choice.key choice.range
 given_part s choice r new h i t left =
     needs_split (space_of (blocks s)) (blocks s) i.before i.after (free_block choice.key) choice.range h.tiling.tiles i.cut refl i.within
     (subst (SplitsGap (tree_state s)) (given_range (tree_state s) new choice.range r t) left)
 
--- what holds of a success where a part is left holds of a split
+-- A fact that is true for a success that does not fill its block is true for a split.
 of_splits : (P : Type 0) (s : Shape) (choice : Choice) (answer : Result Range Error) (new : AddressState) → IsSpaceTree s → IsChoice (blocks s) choice → AllocatesAt (tree_state s) choice.range answer new → (NeedsSplit choice.key choice.range → OnOk answer P) → IfOk answer (λ r. SplitsGap (tree_state s) r → P)
 of_splits P s choice (Err e) new h i t f = tt
 of_splits P s choice (Ok r) new h i t f = λ left. f (given_part s choice r new h i t left)
@@ -54,7 +54,7 @@ of_splits P s choice (Ok r) new h i t f = λ left. f (given_part s choice r new 
 pub split_low : (s : Shape) (choice : Choice) (answer : Result Range Error) (new : AddressState) → IsSpaceTree s → IsChoice (blocks s) choice → AllocatesAt (tree_state s) choice.range answer new → (NeedsSplit choice.key choice.range → OnOk answer (height_of s < SPLIT_HEIGHT_LIMIT)) → (answer ≡ Err OutOfMemory → height_of s < SPLIT_HEIGHT_LIMIT) → SplitsIfLow (height_of s) (tree_state s) answer
 split_low s choice answer new h i t low memory = record { split = of_splits (height_of s < SPLIT_HEIGHT_LIMIT) s choice answer new h i t low; memory = memory }
 
--- ---- exactly the nodes that a request enters
+-- ---- The exact number of nodes that a request enters
 search_at_most : (request : Request) (s : Shape) → nodes_of_search request s ≤ max_searched request.policy s
 search_at_most request s = by_policy request.policy
   where
@@ -99,13 +99,13 @@ enters_held s request choice (Ok r) new before mid after i t p q =
       );
     }
 
--- ---- from these numbers to their bounds
+-- ---- From these numbers to their bounds
 some_nodes : (k : Range) (u v s : Shape) → IsSpaceTree s → 1 ≤ nodes_to_split k u v s
 unfolding nodes_to_split
 some_nodes k u v Tip h = absurd (no_empty_tree h)
 some_nodes k u v (Fork l b r) h = omega arith
 
--- what is left of a block is a leaf
+-- If a range does not fill its block, at least one part of the block is a leaf.
 left_over : (k r : Range) → NeedsSplit k r → (leaf_of (before_part k r) ≢ Tip) ⊎ (leaf_of (after_part k r) ≢ Tip)
 left_over k r (inl l) = inl (rw (lt-ltb k.start r.start l) (λ e. absurd (cc e)))
 left_over k r (inr l) = inr (rw (lt-ltb r.end k.end l) (λ e. absurd (cc e)))

@@ -1,4 +1,4 @@
--- What leaves nothing of its block leaves no clear address beside it.
+-- A range that fills its block does not split its gap.
 use Rattle.std.proofs.Common.{◌≡◌, ℕ, ◌+◌, ◌<◌, ◌≤◌, List, [], ◌∷◌, ◌++◌, sym, subst, arith, inl, inr, ⊎_elim}
 use Rattle.std.proofs.lemmas.Bool.{cases_lt}
 use Rattle.vm_ranges.specs.Range.{Range}
@@ -13,8 +13,8 @@ use Rattle.vm_engine.proofs.Blocks.Gaps.{InFreeBlock, in_free_block, free_is_cle
 use Rattle.vm_engine.proofs.Choosing.Places.{above}
 use Rattle.vm_engine.proofs.Splitting.TakenRanges.{starts_after, in_block}
 
--- ---- what leaves nothing of its block leaves no clear address beside it
--- no free block reaches into another from below, nor from above
+-- ---- A range that fills its block has no clear address next to it
+-- No free block overlaps another, from below or from above.
 not_from_below : (p : NodeState) (lo hi s e : ℕ) (b : Block) (xs ys : List Block) → Tiles p lo (xs ++ b ∷ ys) hi → InFreeBlock (xs ++ b ∷ ys) s e → s < b.key.start → b.key.start ≤ e → ⊥
 not_from_below p lo hi s e b [] ys t f l m =
     ⊎_elim
@@ -39,7 +39,7 @@ not_from_above p lo hi s e b (x ∷ xs) ys t o f l m =
     (λ (h : InFreeBlock (xs ++ b ∷ ys) s e). not_from_above x.state (x.key.end + 1) hi s e b xs ys t.3 o h l m)
     f
 
--- two clear neighbours lie in one free block
+-- Two clear neighbours lie in one free block.
 clear_pair : (sp : Range) (bs : List Block) (x : ℕ) → TilesSpace sp bs → sp.start ≤ x → x + 1 ≤ sp.end → ¬ IsHeldAddress (held_of bs) x → ¬ IsHeldAddress (held_of bs) (x + 1) → InFreeBlock bs x (x + 1)
 unfolding TilesSpace
 clear_pair sp bs x t l m c d =

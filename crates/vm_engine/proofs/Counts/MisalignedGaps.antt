@@ -1,4 +1,4 @@
--- Gaps that are counted as futile have no place, and at alignment 1 there are none.
+-- Misaligned gaps have no place. At alignment 1 no gap is misaligned.
 use Rattle.std.specs.Prelude.{not}
 use Rattle.std.proofs.Common.{◌≡◌, ℕ, ◌+◌, ◌-◌, ◌<◌, ◌≤◌, Bool, true, false, leb, List, [], ◌∷◌, refl, sym, ◌∙◌, arith, ⊎_elim}
 use Rattle.std.proofs.Math.Nat.{mod-one}
@@ -26,8 +26,8 @@ misaligned_is_exact n a b p = (
   λ k. rw (le-leb n (free_length b) k.0, no_fit_missed n a b p k.1) refl,
 )
 
--- ---- at alignment 1
--- a block whose ends are in order has a place at its start, if it is long enough
+-- ---- At alignment 1
+-- A block whose ends are in order has a place at its start, if it is long enough.
 in_order : (n : ℕ) (k : Range) → 0 < n → k.start ≤ k.end → misaligned_among n 1 (free_block k ∷ []) ≡ 0
 unfolding HasNoFit
 in_order n k z o =

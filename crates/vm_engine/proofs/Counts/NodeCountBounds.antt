@@ -1,4 +1,4 @@
--- How many nodes the ways through a tree enter at most.
+-- The maximum number of nodes on the paths through a tree.
 use Rattle.std.proofs.Common.{ℕ, ◌+◌, ◌-◌, ◌*◌, ◌≤◌, Bool, true, false, cond, arith, ltb}
 use Rattle.vm_ranges.specs.Range.{Range}
 use Rattle.vm_ranges.specs.RangeOrder.{same_range, is_before}
@@ -8,8 +8,8 @@ use Rattle.vm_ranges.specs.declared.state.NodeState.{NodeState}
 use Rattle.vm_ranges.specs.declared.state.NodeState.TheVariants.{Free, Allocated}
 use Rattle.vm_engine.proofs.Counts.NodeCountCases.{search_at_max, search_named, nodes_around_cases}
 
--- ---- at most
--- a test picks one of two, and both are at most a third
+-- ---- Upper bounds
+-- A test selects one of two numbers, and both are at most `most`.
 pub either_at_most : (t : Bool) (x y most : ℕ) → x ≤ most → y ≤ most → cond t x y ≤ most
 either_at_most true x y most p q = p
 either_at_most false x y most p q = q
@@ -30,7 +30,7 @@ twice k (Fork l b r) t =
       | false ↦ omega (arith, twice k r t.1, t.2.0, t.2.1)
     ]
 
--- each way to where a leaf would hang is at least half as long as the longest
+-- Each path to an absent child has at least half as many nodes as the longest path.
 pub height_at_most_twice : (k : Range) (s : Shape) → IsTree s → height_of s ≤ 2 * nodes_down k s
 height_at_most_twice k s t = twice k s t.balanced
 

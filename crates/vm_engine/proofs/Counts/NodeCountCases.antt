@@ -1,4 +1,4 @@
--- How many nodes the ways through a tree enter, case by case.
+-- The number of nodes on the paths through a tree, case by case.
 use Rattle.std.proofs.Common.{◌≡◌, ◌≢◌, ℕ, ◌+◌, ◌<◌, true, false, refl, sym, arith, inl, inr, ⊎_elim}
 use Rattle.std.proofs.lemmas.Bool.{lt-ltb, le-ltb, eq-eqb, ne_eqb}
 use Rattle.vm_ranges.specs.Range.{Range, MAX, at_address}
@@ -23,7 +23,7 @@ after_first a b h =
     (λ p. rw (le-ltb a.start b.start (omega (arith, p.0)), eq-eqb a.start b.start (sym p.0), le-ltb a.end b.end (omega (arith, p.1))) refl)
     (before_parts b a h)
 
--- ---- to where a leaf would hang
+-- ---- To the link of a new leaf
 pub nodes_down_tip : (k : Range) → nodes_down k Tip ≡ 0
 unfolding nodes_down
 nodes_down_tip k = refl
@@ -38,7 +38,7 @@ nodes_down_right k l b r p = rw (le-ltb k.start b.key.start p)
 
 pub ruleset nodes_down_cases = (nodes_down_tip, nodes_down_left, nodes_down_right)
 
--- ---- to the block of a key
+-- ---- To the block with a key
 pub nodes_to_tip : (k : Range) → nodes_to k Tip ≡ 0
 unfolding nodes_to
 nodes_to_tip k = refl
@@ -57,7 +57,7 @@ nodes_to_right k l b r p = rw (same_range_before k b.key (inr p), after_first k 
 
 pub ruleset nodes_to_cases = (nodes_to_tip, nodes_to_here, nodes_to_left, nodes_to_right)
 
--- ---- to the first block that a range does not lie wholly beside
+-- ---- To the first block that is neither entirely above nor entirely below a range
 pub nodes_across_tip : (k : Range) → nodes_across k Tip ≡ 0
 unfolding nodes_across
 nodes_across_tip k = refl
@@ -76,7 +76,7 @@ nodes_across_here k l b r p q = rw (le-ltb k.end b.key.start p, le-ltb b.key.end
 
 pub ruleset nodes_across_cases = (nodes_across_tip, nodes_across_left, nodes_across_right, nodes_across_here)
 
--- ---- to the first and to the last block
+-- ---- To the first and to the last block
 pub nodes_to_first_tip : nodes_to_first Tip ≡ 0
 unfolding nodes_to_first
 nodes_to_first_tip = refl
@@ -97,7 +97,7 @@ pub ruleset nodes_to_first_cases = (nodes_to_first_tip, nodes_to_first_fork)
 
 pub ruleset nodes_to_ends_cases = (nodes_to_first_tip, nodes_to_first_fork, nodes_to_last_tip, nodes_to_last_fork)
 
--- ---- what joins two sides
+-- ---- Joining two children
 pub join_no_left : (r : Shape) → nodes_to_join Tip r ≡ 0
 unfolding nodes_to_join
 join_no_left r = refl
@@ -114,7 +114,7 @@ join_both (Fork l b m) r n = refl
 
 pub ruleset nodes_to_join_cases = (join_no_left, join_no_right, join_both)
 
--- ---- what removes a block
+-- ---- Removing a block
 pub remove_tip : (k : Range) → nodes_to_remove k Tip ≡ 0
 unfolding nodes_to_remove
 remove_tip k = refl
@@ -133,7 +133,7 @@ remove_right k l b r p = rw (same_range_before k b.key (inr p), after_first k b.
 
 pub ruleset nodes_to_remove_cases = (remove_tip, remove_here, remove_left, remove_right)
 
--- ---- what finds a held block and those beside it
+-- ---- Finding a held block and its neighbours
 pub around_tip : (k : Range) → nodes_around k Tip ≡ 0
 unfolding nodes_around
 around_tip k = refl
@@ -156,7 +156,7 @@ around_right k l b r p = rw (same_range_before k b.key (inr p), after_first k b.
 
 pub ruleset nodes_around_cases = (around_tip, around_held, around_free, around_left, around_right)
 
--- ---- the search by each policy
+-- ---- The search by each policy
 pub search_first : (request : Request) (s : Shape) → request.policy ≡ FirstMatch → nodes_of_search request s ≡ nodes_of_first request.size request.align s
 search_first request s e = rw e refl
 

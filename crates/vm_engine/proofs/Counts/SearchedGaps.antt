@@ -1,4 +1,4 @@
--- A search for a place enters few nodes: those of the trees with a gap that it looks at in vain, and the way to the place.
+-- A search for a place enters only the subtrees with a gap that has no place, and the path to the place that it finds.
 use Rattle.std.specs.Prelude.{◌||◌}
 use Rattle.std.proofs.Common.{◌≡◌, List, ◌++◌, ℕ, ◌+◌, ◌-◌, ◌*◌, ◌<◌, ◌≤◌, Bool, true, false, cond, [], ◌∷◌, length, refl, sym, ap, ◌∙◌, arith, ⊎_elim}
 use Rattle.std.specs.List.{list_any, filter}
@@ -14,8 +14,8 @@ use Rattle.vm_engine.specs.Tree.Shape.{Shape, Tip, Fork, blocks, height_of, max_
 use Rattle.vm_engine.specs.Counts.NodeCounts.{has_fit, may_fit_in, nodes_of_first, nodes_of_last}
 use Rattle.vm_engine.proofs.Counts.Entering.{searched_parts}
 
--- ---- the numbers
--- two sides that are at most m high are entered for each such gap of theirs, and the node over them once
+-- ---- The numbers
+-- Each of two children has height at most m and enters its height for each such gap. The node itself is entered once.
 one_more : (m f hx fx wx hy fy wy : ℕ) → hx ≤ m → hy ≤ m → wx ≤ hx * fx → wy ≤ hy * fy → fx + fy ≤ f → 1 ≤ f → wx + wy + 1 ≤ (m + 1) * f
 one_more m f hx fx wx hy fy wy p q u v s o =
     let x : hx * fx ≤ m * fx = mul-le-mul p (omega arith) in
@@ -23,7 +23,7 @@ one_more m f hx fx wx hy fy wy p q u v s o =
     let both : m * (fx + fy) ≤ m * f = mul-le-mul (omega arith) s in
     omega arith
 
--- ---- the blocks of a tree that pass a test
+-- ---- The blocks of a tree that pass a test
 abbrev among : (Block → Bool) → List Block → ℕ
 among q bs = length (filter q bs)
 
@@ -33,7 +33,7 @@ among_append q xs ys = ap length (filter-append q xs ys) ∙ length-append (filt
 among_split : (q : Block → Bool) (l : Shape) (b : Block) (r : Shape) → length (filter q (blocks (Fork l b r))) ≡ length (filter q (blocks l)) + (length (filter q (b ∷ [])) + length (filter q (blocks r)))
 among_split q l b r = among_append q (blocks l) (b ∷ blocks r) ∙ ap (λ (v : ℕ). length (filter q (blocks l)) + v) (among_append q (b ∷ []) (blocks r))
 
--- whether some block has a fit, for a tree
+-- If no block of a tree has a fit, no block of its children has one and its own block has none.
 fit_split : (n a : ℕ) (l : Shape) (b : Block) (r : Shape) → list_any (has_fit n a) (blocks (Fork l b r)) ≡ false
     → (list_any (has_fit n a) (blocks l) ≡ false) × (has_fit n a b ≡ false) × (list_any (has_fit n a) (blocks r) ≡ false)
 fit_split n a l b r e =
@@ -41,7 +41,7 @@ fit_split n a l b r e =
     let q = or_parts (has_fit n a b) (list_any (has_fit n a) (blocks r)) p.1 in
     (p.0, q.0, q.1)
 
--- ---- a tree that is entered, in which nothing fits, has a futile gap and a cramped one
+-- ---- A subtree that is entered, but has no fit, has a misaligned gap and a gap that is too short
 long_is_misaligned : (n a : ℕ) (b : Block) → n ≤ free_length b → has_fit n a b ≡ false → misaligned_among n a (b ∷ []) ≡ 1
 unfolding is_misaligned
 long_is_misaligned n a b p e = rw (le-leb n (free_length b) p, e) refl
@@ -71,7 +71,7 @@ too_short_in_aligned n a (b ∷ bs) p e =
       | false ↦ λ f. omega (arith, split, too_short_in_aligned n a bs (rw f at p) none.1)
     ] refl
 
--- each tree that is entered, in which nothing fits, has a block that passes the test
+-- Each subtree that is entered, but has no fit, has a block that passes the test.
 abbrev pub HasOneWithoutPlace : ℕ → ℕ → (Block → Bool) → Type 0
 HasOneWithoutPlace n a q = (s : Shape) → may_fit_in n a s ≡ true → list_any (has_fit n a) (blocks s) ≡ false → 1 ≤ length (filter q (blocks s))
 
@@ -82,9 +82,9 @@ pub too_short_in_vain : (n a : ℕ) → HasOneWithoutPlace n a (is_too_short n a
 too_short_in_vain n a s k e = too_short_in_aligned n a (blocks s) (searched_parts n a s k).1 e
 
 module _ (n a : ℕ) (q : Block → Bool) (some : HasOneWithoutPlace n a q) where
-  -- ---- a node of which the side `near` is searched first, and then the side `far`
+  -- ---- A node whose child `near` is searched before its child `far`
   module _ (s near far : Shape) (first second : ℕ) (low : (height_of near < height_of s) × (height_of far < height_of s)) (split : among q (blocks near) + among q (blocks far) ≤ among q (blocks s)) where
-    -- what is entered, where a place is found in the first side or here, and where none is
+    -- The nodes entered, if the first child or the root has a place, and if neither has one.
     abbrev entered : Bool → ℕ
     entered found = cond (may_fit_in n a s) (first + cond found 0 second + 1) 0
 
@@ -107,7 +107,7 @@ module _ (n a : ℕ) (q : Block → Bool) (some : HasOneWithoutPlace n a q) wher
     to_place true p g u = if_searched true _ (λ k. within _ (among q (blocks near) + 1) 0 0 p (omega arith) (omega (arith, split)) (omega arith))
     to_place false p g u = if_searched false _ (λ k. within _ _ (among q (blocks far) + 1) second (g refl) u (omega (arith, split)) (omega arith))
 
-  -- ---- the search for the least place
+  -- ---- The search for the lowest place
   pub first_without_place : (s : Shape) → list_any (has_fit n a) (blocks s) ≡ false → nodes_of_first n a s ≤ height_of s * length (filter q (blocks s))
   unfolding nodes_of_first
   first_without_place Tip e = omega arith
@@ -124,7 +124,7 @@ module _ (n a : ℕ) (q : Block → Bool) (some : HasOneWithoutPlace n a q) wher
       let split = among_split q l b r in
       to_place (Fork l b r) l r (nodes_of_first n a l) (nodes_of_first n a r) (omega arith, omega arith) (omega (arith, split)) found (first_to_place l) (λ e. first_without_place l (or_parts _ _ e).0) (first_to_place r)
 
-  -- ---- the search for the greatest place
+  -- ---- The search for the highest place
   pub last_without_place : (s : Shape) → list_any (has_fit n a) (blocks s) ≡ false → nodes_of_last n a s ≤ height_of s * length (filter q (blocks s))
   unfolding nodes_of_last
   last_without_place Tip e = omega arith

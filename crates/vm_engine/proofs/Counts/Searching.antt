@@ -1,4 +1,4 @@
--- How many nodes a search for a place enters, case by case, and at most.
+-- The number of nodes that a search for a place enters, case by case, and its upper bound.
 use Rattle.std.specs.Prelude.{◌||◌}
 use Rattle.std.proofs.Common.{◌≡◌, ℕ, ◌+◌, ◌-◌, ◌<◌, ◌≤◌, Bool, true, false, cond, leb, List, [], ◌∷◌, ◌++◌, refl, ap, ◌∙◌, arith}
 use Rattle.std.specs.List.{All, list_any}
@@ -17,7 +17,7 @@ use Rattle.vm_engine.specs.declared.node.places.Place.{Place}
 use Rattle.vm_engine.proofs.Counts.Entering.{none_unless_searched}
 use Rattle.vm_ranges.proofs.Power.{alignment_pos, highest_multiple, lowest_multiple}
 
--- ---- the test tells whether a block has a fit
+-- ---- The test `has_fit` is exact
 pub lowest_from : (a x : ℕ) → 0 < a → IsLowestMultiple a x (multiple_from a x)
 lowest_from a x p = lowest_multiple a x (multiple_from a x) p (highest_multiple a (x + (a - 1)) p)
 
@@ -60,7 +60,7 @@ unfolding IsHighestFit
 last_found n a bs place p f =
     ap (list_any (has_fit n a)) f.cut ∙ one_found n a f.before (free_block place.key) f.after (fit_found n a place.start (free_block place.key) p f.fit.0)
 
--- ---- a tree that is not searched is passed over
+-- ---- A subtree that is not entered
 pub first_nodes_passed : (n a : ℕ) (s : Shape) → may_fit_in n a s ≡ false → nodes_of_first n a s ≡ 0
 unfolding nodes_of_first
 first_nodes_passed n a Tip e = refl
@@ -71,7 +71,7 @@ unfolding nodes_of_last
 last_nodes_passed n a Tip e = refl
 last_nodes_passed n a (Fork l b r) e = rw e refl
 
--- ---- the search for the least place
+-- ---- The search for the lowest place
 module _ (n a : ℕ) (l : Shape) (b : Block) (r : Shape) (u : IsAlignment a) (entered : may_fit_in n a (Fork l b r) ≡ true) where
   pub first_nodes_left : (place : Place) → IsFirstFit n a (blocks l) place → nodes_of_first n a (Fork l b r) ≡ nodes_of_first n a l + 1
   unfolding nodes_of_first
@@ -85,7 +85,7 @@ module _ (n a : ℕ) (l : Shape) (b : Block) (r : Shape) (u : IsAlignment a) (en
   unfolding nodes_of_first
   first_nodes_right none h = rw (entered, none_missed n a (blocks l) (alignment_pos a u) none, no_fit_missed n a b (alignment_pos a u) h) refl
 
-  -- ---- the search for the greatest place
+  -- ---- The search for the highest place
   pub last_nodes_right : (place : Place) → IsLastFit n a (blocks r) place → nodes_of_last n a (Fork l b r) ≡ nodes_of_last n a r + 1
   unfolding nodes_of_last
   last_nodes_right place f = rw (entered, last_found n a (blocks r) place (alignment_pos a u) f) (omega arith)
@@ -98,7 +98,7 @@ module _ (n a : ℕ) (l : Shape) (b : Block) (r : Shape) (u : IsAlignment a) (en
   unfolding nodes_of_last
   last_nodes_left none h = rw (entered, none_missed n a (blocks r) (alignment_pos a u) none, no_fit_missed n a b (alignment_pos a u) h) refl
 
--- ---- at most
+-- ---- Upper bounds
 pub height_at_most_nodes : (s : Shape) → height_of s ≤ node_count s
 height_at_most_nodes Tip = omega arith
 height_at_most_nodes (Fork l b r) = omega (arith, height_at_most_nodes l, height_at_most_nodes r)

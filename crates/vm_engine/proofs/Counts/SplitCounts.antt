@@ -1,4 +1,4 @@
--- How many nodes a split enters, case by case, at least and at most.
+-- The number of nodes that a split enters: its cases and its bounds.
 use Rattle.std.proofs.Common.{◌≡◌, ◌≢◌, ℕ, ◌+◌, ◌-◌, ◌*◌, ◌≤◌, ◌⊎◌, true, false, cond, refl, ap, arith, inl, inr}
 use Rattle.vm_ranges.specs.Range.{Range}
 use Rattle.vm_ranges.specs.RangeOrder.{Before, same_range, is_before}
@@ -57,7 +57,7 @@ half_here : (u v l r : Shape) (b : Block) → (u ≢ Tip) ⊎ (v ≢ Tip) → Is
 half_here u v l r b (inl n) t = omega (arith, half_of_link u l n t.0, t.2.0, t.2.1)
 half_here u v l r b (inr n) t = omega (arith, half_of_link v r n t.1, t.2.0, t.2.1)
 
--- a split that leaves something goes on to where that hangs, which is half the height at least
+-- A split with a rest continues to the link of a leaf, which is at least half the height below the root.
 pub half_of_split : (k : Range) (u v s : Shape) → (u ≢ Tip) ⊎ (v ≢ Tip) → IsBalanced s → height_of s ≤ 2 * nodes_to_split k u v s
 unfolding nodes_to_split
 half_of_split k u v Tip n t = omega arith
@@ -70,7 +70,7 @@ half_of_split k u v (Fork l b r) n t =
       ]
     ]
 
--- ---- a way to what is held
+-- ---- The path to a held range
 whole : (k : Range) (s : Shape) → nodes_to_split k Tip Tip s ≡ nodes_to k s
 unfolding nodes_to_split nodes_to
 whole k Tip = refl
@@ -83,7 +83,7 @@ whole k (Fork l b r) =
       ]
     ]
 
--- the way to a range that fills its block is the way to that
+-- The path to a range that fills its block is the path to that block.
 pub held_whole : (k r : Range) (s : Shape) → ¬ NeedsSplit k r → nodes_to_allocate k r s ≡ nodes_to k s
 held_whole k r s n = rw (← none_before k r n, ← none_after k r n) (whole k s)
 

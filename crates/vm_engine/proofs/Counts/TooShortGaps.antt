@@ -1,4 +1,4 @@
--- Gaps that are counted as cramped have a multiple and no place, and there are no more than multiples in the space.
+-- Gaps that are too short have a multiple but no place. There are at most as many of them as multiples in the space.
 use Rattle.std.specs.Prelude.{not, nat_eq}
 use Rattle.std.proofs.Common.{◌≡◌, ℕ, ◌+◌, ◌-◌, ◌%◌, ◌<◌, ◌≤◌, zero, suc, true, false, cond, List, [], ◌∷◌, length, refl, sym, ap, ◌∙◌, arith, ⊎_elim, eq-eqb}
 use Rattle.std.proofs.lemmas.Bool.{and_parts, lt-ltb, le-ltb, cases_lt, not-true}
@@ -28,7 +28,7 @@ too_short_is_exact n a b p = (
       rw (free, (multiple_is_exact a b.key p).1 k.1, no_fit_missed n a b p k.2) refl,
 )
 
--- ---- multiples below a number
+-- ---- The multiples below a number
 with_next : (a x : ℕ) → multiples_below a (x + 1) ≡ multiples_below a x + cond (nat_eq (x % a) 0) 1 0
 unfolding multiples_below
 with_next a x = let next : x + 1 ≡ suc x = omega arith in rw next refl
@@ -48,7 +48,7 @@ counts_multiple a m e = with_next a m ∙ ap (λ v. multiples_below a m + cond v
 increases_past : (a x m y : ℕ) → x ≤ m → m < y → m % a ≡ 0 → multiples_below a x + 1 ≤ multiples_below a y
 increases_past a x m y l h e = omega (arith, increases a x m l, counts_multiple a m e, increases a (m + 1) y (omega arith))
 
--- ---- each cramped gap has one
+-- ---- Each gap that is too short has a multiple
 gap_has_own : (n a : ℕ) (k : Range) → 0 < a → k.start ≤ k.end + 1 → too_short_among n a (free_block k ∷ []) + multiples_below a k.start ≤ multiples_below a (k.end + 1)
 unfolding HasMultiple
 gap_has_own n a k z l =

@@ -1,4 +1,4 @@
--- A balanced tree of some height has so many nodes at least, and so many at most.
+-- The minimum and the maximum number of nodes of a balanced tree, by its height.
 use Rattle.std.proofs.Common.{◌≡◌, ℕ, ◌+◌, ◌*◌, ◌^◌, ◌<◌, ◌≤◌, max, zero, suc, length, refl, arith, length-append, ⊎_elim}
 use Rattle.std.proofs.lemmas.Bool.{cases_lt}
 use Rattle.std.proofs.Math.Nat.{pow-suc}
@@ -16,7 +16,7 @@ fibonacci-two = refl
 grows : (n : ℕ) → fibonacci (suc n) ≤ fibonacci (suc (suc n))
 grows n = omega (arith, fibonacci-suc_suc n)
 
--- the number at one more than a height is at most that at two more than a height that is one lower or the same
+-- F(a + 1) is at most F(b + 2) if b is a or a - 1.
 lower_side : (a b : ℕ) → b ≤ a → a ≤ b + 1 → fibonacci (suc a) ≤ fibonacci (suc (suc b))
 lower_side a b p q =
     ⊎_elim
@@ -24,7 +24,7 @@ lower_side a b p q =
     (λ (c : a ≤ b). let e : a ≡ b = omega arith in rw e (grows b))
     (cases_lt b a)
 
--- a node above sides of heights a and b, the first not the lower
+-- The minimum for a node over children of heights a and b, if a is not the lower one.
 above : (a b n m : ℕ) → b ≤ a → a ≤ b + 1 → fibonacci (a + 2) ≤ n + 1 → fibonacci (b + 2) ≤ m + 1 → fibonacci (a + 1 + 2) ≤ n + m + 1 + 1
 above a b n m p q f g =
     let ea : a + 2 ≡ suc (suc a) = omega arith in
@@ -34,7 +34,7 @@ above a b n m p q f g =
     let fb : fibonacci (suc (suc b)) ≤ m + 1 = rw eb at g in
     rw ec (omega (arith, fibonacci-suc_suc (suc a), lower_side a b p q))
 
--- the same at the height of the node
+-- The same, written for the height of the node.
 above_at : (h a b n m : ℕ) → h ≡ a + 1 → b ≤ a → a ≤ b + 1 → fibonacci (a + 2) ≤ n + 1 → fibonacci (b + 2) ≤ m + 1 → fibonacci (h + 2) ≤ n + m + 1 + 1
 above_at h a b n m e p q f g = rw e (above a b n m p q f g)
 

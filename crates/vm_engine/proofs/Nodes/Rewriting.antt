@@ -1,4 +1,4 @@
--- A block of a tree that gets another key or state.
+-- A block of a tree with a new key or a new state.
 use Rattle.std.proofs.Common.{◌≡◌, ℕ, ◌+◌, max, true, false, cond, List, [], ◌∷◌, ◌++◌, refl, ap, ◌∙◌, subst, sym, arith, Some, None, Option, IsSome, Result, Err}
 use Rattle.vm_ranges.specs.Range.{Range}
 use Rattle.vm_ranges.specs.RangeOrder.{Before, same_range}
@@ -17,7 +17,7 @@ use Rattle.vm_ranges.specs.declared.state.NodeState.TheVariants.{Free, Allocated
 use Rattle.vm_engine.proofs.Blocks.BlockOrder.{ordered_below, ordered_above}
 use Rattle.vm_engine.proofs.Blocks.Replacement.{replace_in_left, replace_in_right, replace_in_middle, find_in_left, find_in_right, find_in_middle, same_range_true}
 
--- a rewriting that keeps the whole in order keeps each side in order
+-- If a new block keeps the whole list in order, it keeps the blocks of each child in order.
 pub rewritten_left : (s l : Shape) (x : Block) (r : Shape) (k : Range) (ys : List Block) → s ≡ Fork l x r → Before k x.key → IsTree s → IsOrderedFrom 0 (replace_block k ys (blocks s)) → IsOrderedFrom 0 (replace_block k ys (blocks l))
 rewritten_left s l x r k ys e p t o = ordered_below 0 (replace_block k ys (blocks l)) (x ∷ blocks r) (subst (IsOrderedFrom 0) (replace_in_left s l x r k ys e p t) o)
 
@@ -33,7 +33,7 @@ known_right s l x r k e p t h = rw (find_in_right s l x r k e p t) at h
 pub rewrite_here : (s l : Shape) (x : Block) (r : Shape) (k : Range) (y : Block) → s ≡ Fork l x r → k ≡ x.key → IsTree s → replace_block k (y ∷ []) (blocks s) ≡ blocks l ++ y ∷ blocks r
 rewrite_here s l x r k y e p t = replace_in_middle s l x r k (y ∷ []) e p t
 
--- and the node with the new side is a tree
+-- The node with the new child is a tree.
 pub tree_rewritten_left : (l n : Shape) (x : Block) (r : Shape) (k : Range) (ys : List Block) → Before k x.key → IsTree (Fork l x r) → IsOrderedFrom 0 (replace_block k ys (blocks (Fork l x r)))
     → blocks n ≡ replace_block k ys (blocks l) → height_of n ≡ height_of l → IsTree n → IsTree (Fork n x r)
 tree_rewritten_left l n x r k ys p t o e h m = record {
@@ -54,7 +54,7 @@ tree_rewritten_here l x r k y p t o = record {
   balanced = t.balanced;
 }
 
--- where what a side keeps is the same, so is what the node keeps
+-- If the free summary of a child is unchanged, that of the node is unchanged.
 same_summary : (reported : Change) (old new a c : ℕ) → KeepsFreeSummary reported old new → KeepsFreeSummary reported (max (max old a) c) (max (max new a) c)
 same_summary Nothing old new a c h = rw h refl
 same_summary FreeOnly old new a c h = tt
@@ -65,7 +65,7 @@ same_summary_right Nothing old new a c h = rw h refl
 same_summary_right FreeOnly old new a c h = tt
 same_summary_right Height old new a c h = tt
 
--- the node over a rewritten side: its blocks, and what it keeps
+-- The node over a changed child: its blocks, and its summary.
 pub node_rewritten_left : (s l n : Shape) (x : Block) (r : Shape) (k : Range) (y : Block) (reported : Change) → s ≡ Fork l x r → Before k x.key → IsTree s → IsOrderedFrom 0 (replace_block k (y ∷ []) (blocks s))
     → blocks n ≡ replace_block k (y ∷ []) (blocks l) → KeepsShape l n reported → (blocks (Fork n x r) ≡ replace_block k (y ∷ []) (blocks s)) × KeepsShape s (Fork n x r) reported
 node_rewritten_left s l n x r k y reported e p t o b w =
@@ -98,7 +98,7 @@ node_rewritten_right s l n x r k y reported e p t o b w =
 
 pub ruleset rewritings = (rewrite_here, tree_rewritten_here)
 
--- what marks the topmost block marks the tree
+-- Marking the root marks the tree.
 pub marks_here : (s l : Shape) (x : Block) (r : Shape) (k : Range) (answer : Result (Unit {0}) Error) (n : Shape) → s ≡ Fork l x r → k ≡ x.key → IsTree s
     → MarksBlock (root_block s).state (root_block s).key answer s n → Marks (find_key k (blocks s)) k answer s n
 unfolding Marks
@@ -116,7 +116,7 @@ pub marks_none_right : (s l : Shape) (x : Block) (r : Shape) (k : Range) → s �
 unfolding Marks
 marks_none_right s l x r k e z p t = rw (find_in_right s l x r k e p t, z) (refl, refl)
 
--- what marks the side l marks the whole s
+-- Marking the child l marks the tree s.
 marks_block_by : (st : NodeState) (k : Range) (answer : Result (Unit {0}) Error) (l m s n : Shape) → (m ≡ l → n ≡ s) → ((ys : List Block) → blocks m ≡ replace_block k ys (blocks l) → blocks n ≡ replace_block k ys (blocks s)) → MarksBlock st k answer l m → MarksBlock st k answer s n
 unfolding MarksBlock
 marks_block_by Free k answer l m s n same changed h = (h.0, changed (record { key = k; state = Allocated } ∷ []) h.1)
@@ -143,7 +143,7 @@ marks_in_right s l m x r k answer e p t h =
     (λ ys q. ap (λ (v : List Block). blocks l ++ x ∷ v) q ∙ sym (replace_in_right s l x r k ys e p t))
     h)
 
--- marking keeps the order
+-- Marking keeps the order.
 pub ordered_marked : (lo : ℕ) (k : Range) (bs : List Block) → IsOrderedFrom lo bs → IsOrderedFrom lo (replace_block k (record { key = k; state = Allocated } ∷ []) bs)
 ordered_marked lo k [] o = tt
 ordered_marked lo k (b ∷ bs) o =

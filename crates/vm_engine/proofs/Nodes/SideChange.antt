@@ -1,11 +1,11 @@
--- A node whose one side changed in place.
+-- A node with one child that changed in place.
 use Rattle.std.proofs.Common.{◌≡◌, ◌++◌, ◌∷◌, refl}
 use Rattle.vm_engine.specs.Tree.Block.{Block}
 use Rattle.vm_engine.specs.Tree.BlockList.{IsOrderedFrom}
 use Rattle.vm_engine.specs.Tree.Shape.{Shape, Fork, blocks, IsTree}
 use Rattle.vm_engine.proofs.Blocks.Replacement.{take_left, removals, leavings}
 
--- a node's blocks without the first of its left side
+-- The blocks of a node without the first block of its left child.
 pub ordered_take_left : (l n : Shape) (x : Block) (r : Shape) (m : Block) → IsTree (Fork l x r) → blocks l ≡ m ∷ blocks n → IsOrderedFrom 0 (blocks n ++ x ∷ blocks r)
 ordered_take_left l n x r m t e = (take_left (Fork l x r) l x r m (blocks n) refl e t).0
 

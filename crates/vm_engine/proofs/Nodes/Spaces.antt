@@ -19,18 +19,18 @@ use Rattle.vm_engine.specs.Answer.{AllocatesAt, Grants, Frees}
 use Rattle.vm_ranges.specs.declared.error.Error.{Error}
 use Rattle.vm_engine.proofs.Answers.Outcomes.{IsRefused, IsTaken, grants_outcome}
 
--- blocks that follow one another end where the space ends
+-- A tiling ends where the space ends.
 last_tile : (p : NodeState) (lo hi : ℕ) (bs : List Block) → Tiles p (lo + 1) bs hi → last_end lo bs ≡ hi
 last_tile p lo hi [] t = omega arith
 last_tile p lo hi (b ∷ bs) t = last_tile b.state b.key.end hi bs t.3
 
--- the space of a tiling is the one that it tiles
+-- The space of a tiling is the space that it tiles.
 pub space_tiled : (sp : Range) (bs : List Block) → TilesSpace sp bs → sp.start ≤ sp.end → space_of bs ≡ sp
 unfolding TilesSpace
 space_tiled sp [] t l = absurd (omega (arith, t))
 space_tiled sp (b ∷ bs) t l = same_range (space_of (b ∷ bs)) sp t.0 (last_tile b.state b.key.end sp.end bs t.3)
 
--- a tree of a tiling
+-- A tree of a tiling is a tree of the space.
 pub space_tree : (sp : Range) (s : Shape) → IsTiling sp (blocks s) → IsRange sp.start sp.end → height_of s ≤ 49 → IsSpaceTree s
 space_tree sp s t r h =
     let e = space_tiled sp (blocks s) t.tiles r.0 in
@@ -44,7 +44,7 @@ pub tree_of_space : (k : Range) → IsRange k.start k.end → IsSpaceTree (singl
 unfolding TilesSpace
 tree_of_space k r = space_tree k (single (record { key = k; state = Free })) (record { tiles = (refl, r.0, tt, refl); below = tt }) r (omega arith)
 
--- its state is one of an allocator
+-- Its state is a valid state of an allocator.
 pub state_of_tree : (s : Shape) → IsSpaceTree s → IsAddressState (tree_state s)
 state_of_tree s h = is_state (space_of (blocks s)) (blocks s) h.tiling h.space
 
@@ -59,7 +59,7 @@ pub no_empty_tree : IsSpaceTree Tip → ⊥
 unfolding TilesSpace
 no_empty_tree h = let t = h.tiling.tiles in omega arith
 
--- so few nodes that no count of them comes near MAX
+-- The number of nodes is far below MAX, so no counter overflows.
 pub few_nodes : (s : Shape) → IsSpaceTree s → node_count s + 8 * height_of s + 8 ≤ MAX
 few_nodes s h = let p = power_grows (height_of s) 49 h.height in omega (arith, most_nodes s, h.height)
 
@@ -69,7 +69,7 @@ some_root (Some n) h = refl
 
 pub ruleset rooted = (no_empty_tree, some_root)
 
--- the space is the one from before
+-- Both states have the same space.
 abbrev HasSpaceOf : AddressState → AddressState → Type 0
 HasSpaceOf old new = new.space ≡ old.space
 
@@ -88,7 +88,7 @@ frees_space : (old new : AddressState) (r : Range) (answer : Result (Unit {0}) E
 unfolding Frees
 frees_space old new r answer h = ⊎_elim (λ l. ap (λ (v : AddressState). v.space) l.1.1) (λ l. ap (λ (v : AddressState). v.space) l.1.1) h
 
--- so the space of the tree stays that of the allocator
+-- The space of the tree stays that of the allocator.
 pub grants_keeps : (space : Range) (s t : Shape) (request : Request) (answer : Result Range Error) → space_of (blocks s) ≡ space → Grants (tree_state s) request answer (tree_state t) → space_of (blocks t) ≡ space
 grants_keeps space s t request answer e h = grants_space request (tree_state s) (tree_state t) answer h ∙ e
 

@@ -18,7 +18,7 @@ covers_after a k p = false_from_ne_true (covers a k) (λ e. let t = covers_true 
 covers_before : (a k : Range) → a.end < k.end → covers a k ≡ false
 covers_before a k p = false_from_ne_true (covers a k) (λ e. let t = covers_true a k e in omega arith)
 
--- for a range in order, the test tells whether each address lies in the other
+-- For a range in order, the test `covers` is exact.
 covers_if : (a k : Range) → k.start ≤ k.end → Covers a k → covers a k ≡ true
 unfolding covers Covers
 covers_if a k p c =
@@ -67,7 +67,7 @@ superset_here s l x r k e p q c t =
     let o : IsOrderedFrom 0 (blocks l ++ x ∷ blocks r) = rw e at t.ordered in
     ap (λ (v : Shape). find_superset k (blocks v)) e ∙ superset_past 0 k (blocks l) x (blocks r) q o ∙ rw (covers_if x.key k p c)
 
--- a range that reaches into a key and sticks out lies in no other
+-- A range that overlaps a key, but does not lie in it, lies in no other key.
 pub superset_nowhere : (s l : Shape) (x : Block) (r : Shape) (k : Range) → s ≡ Fork l x r → EndsAtOrAfterStartOf k x.key → EndsAtOrAfterStartOf x.key k → ¬ Covers x.key k → IsTree s → find_superset k (blocks s) ≡ None
 unfolding EndsAtOrAfterStartOf
 superset_nowhere s l x r k e p q c t =

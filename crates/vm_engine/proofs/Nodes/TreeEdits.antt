@@ -1,4 +1,4 @@
--- What edits of a tree's blocks are for the space that they tile.
+-- The effect of changed blocks on the space that they tile.
 use Rattle.std.proofs.Common.{◌≡◌, ℕ, ◌+◌, ◌<◌, ◌≤◌, true, false, cond, eqb, leb, List, [], ◌∷◌, ◌++◌, Some, None, refl, sym, ap, ◌∙◌, arith, inl, inr, subst}
 use Rattle.std.specs.List.{All}
 use Rattle.std.proofs.lemmas.List.Elements.{All-cons, All-nil}
@@ -11,12 +11,12 @@ use Rattle.vm_engine.specs.Tree.BlockList.{IsOrderedFrom, IsClearOf, insert_bloc
 use Rattle.vm_ranges.specs.declared.state.NodeState.{NodeState}
 use Rattle.vm_ranges.proofs.RangeCalls.{same_range as ranges_same}
 
--- blocks that follow one another are in order
+-- The blocks of a tiling are in order.
 pub tiles_ordered : (p : NodeState) (lo hi : ℕ) (bs : List Block) → Tiles p lo bs hi → IsOrderedFrom lo bs
 tiles_ordered p lo hi [] t = tt
 tiles_ordered p lo hi (b ∷ bs) t = (omega (arith, t.0), omega (arith, t.0, t.1), tiles_ordered b.state (b.key.end + 1) hi bs t.3)
 
--- the list is cut at a block
+-- The list is the blocks before b, then b, then the blocks after b.
 pub record Split (bs : List Block) (b : Block) : Type 0 where
   pub before : List Block
   pub after : List Block
@@ -39,7 +39,7 @@ in_covers : (a : Range) (x : ℕ) → IsIn a x → covers a (at_address x) ≡ t
 unfolding covers
 in_covers a x i = rw (le-leb a.start x i.0, le-leb x a.end i.1)
 
--- a block that is found by an address of it
+-- A block that was found by an address.
 pub address_cut : (x : ℕ) (b : Block) (bs : List Block) → find_superset (at_address x) bs ≡ Some b → Split bs b × IsIn b.key x
 address_cut x b [] e = absurd (cc)
 address_cut x b (y ∷ bs) e =
@@ -50,7 +50,7 @@ address_cut x b (y ∷ bs) e =
       | false ↦ λ s f. let i = address_cut x b bs f in (cut_later y b bs i.0, i.1)
     ] refl e
 
--- an address of no block
+-- An address that is in no block.
 pub address_missed : (x : ℕ) (bs : List Block) → find_superset (at_address x) bs ≡ None → All (λ b. ¬ IsIn b.key x) bs
 address_missed x [] e = All-nil (λ b. ¬ IsIn b.key x)
 address_missed x (y ∷ bs) e =
@@ -59,12 +59,12 @@ address_missed x (y ∷ bs) e =
       | false ↦ λ s f. All-cons (λ b. ¬ IsIn b.key x) y bs (λ i. let c = in_covers y.key x i in let bad : false ≡ true = sym s ∙ c in cc) (address_missed x bs f)
     ] refl e
 
--- none of them starts below all
+-- Each block of an ordered list starts at lo or above.
 starts_from : (lo : ℕ) (g : Block) (us vs : List Block) → IsOrderedFrom lo (us ++ g ∷ vs) → lo ≤ g.key.start
 starts_from lo g [] vs o = o.0
 starts_from lo g (u ∷ us) vs o = omega (arith, starts_from (u.key.end + 1) g us vs o.2, o.0, o.1)
 
--- the block that stands between others goes in by its start
+-- Inserting a block between its neighbours puts it in order.
 pub insert_between : (lo : ℕ) (g : Block) (us vs : List Block) → IsOrderedFrom lo (us ++ g ∷ vs) → insert_block g (us ++ vs) ≡ us ++ g ∷ vs
 insert_between lo g [] [] o = refl
 insert_between lo g [] (v ∷ vs) o = rw (lt-ltb g.key.start v.key.start (omega (arith, o.1, o.2.0)))
@@ -77,7 +77,7 @@ unfolding IsClearOf
 clear_above lo k [] p o = tt
 clear_above lo k (b ∷ bs) p o = (inl (omega (arith, o.0)), clear_above (b.key.end + 1) k bs (omega (arith, o.0, o.1)) o.2)
 
--- and it overlaps none of them
+-- The block overlaps none of the others.
 pub clear_between : (lo : ℕ) (g : Block) (us vs : List Block) → IsOrderedFrom lo (us ++ g ∷ vs) → IsClearOf g.key (us ++ vs)
 unfolding IsClearOf
 clear_between lo g [] vs o = clear_above (g.key.end + 1) g.key vs (omega arith) o.2

@@ -1,4 +1,4 @@
--- What a node keeps, where it is told what changed of it.
+-- The summary of a node after an update, and the reported change.
 use Rattle.std.proofs.Common.{◌≡◌, ℕ, ◌∷◌, ◌++◌, Option, max, refl, ap, arith}
 use Rattle.std.proofs.lemmas.Grind.{common_steps}
 use Rattle.std.specs.Global.{Box}
@@ -17,7 +17,7 @@ use Rattle.vm_engine.specs.declared.node.summary.Change.{Change}
 use Rattle.vm_engine.specs.declared.node.summary.Change.TheVariants.{Nothing, FreeOnly, Height}
 use Rattle.vm_engine.proofs.Blocks.BlockOrder.{ordered_middle}
 
--- a height that stays the same is kept, whatever is told
+-- An unchanged height fits every reported change.
 pub height_unchanged : (reported : Change) (n : ℕ) → KeepsHeight reported n n
 height_unchanged Nothing n = refl
 height_unchanged FreeOnly n = refl
@@ -25,7 +25,7 @@ height_unchanged Height n = tt
 
 pub ruleset keeping = (height_unchanged)
 
--- a node over these sides, balanced where they lean
+-- A node over these children, rebalanced if it was unbalanced.
 pub record IsRebalanced (own : Block) (old : RawNode) (n : Shape) (reported : Change) : Type 0 where
   pub tree : IsTree n
   pub blocks : blocks n ≡ blocks (side old.left) ++ own ∷ blocks (side old.right)
@@ -57,15 +57,15 @@ rebalanced own old (Unbalanced first second) new at after reported o l r s e f =
   keeps_alignments = tt;
 })
 
--- a node, open
+-- The fields of a node, as a `RawNode`.
 abbrev pub open_of : Inside → RawNode
 open_of i = record { left = i.left; right = i.right; height = i.height; max_free = i.max_free; alignments = i.alignments }
 
--- its own block
+-- The block of a node.
 abbrev pub own_of : Inside → Block
 own_of i = record { key = i.key; state = i.node_state }
 
--- what is left of a node that is settled is one, whether it stands or leans
+-- After `update`, the node is valid: it is balanced, or a leaf without its children.
 pub updated_node : (i : Inside) (updated : Updated) (new : RawNode)
     → IsOrderedFrom 0 (blocks (side i.left) ++ own_of i ∷ blocks (side i.right)) → IsTree (side i.left) → IsTree (side i.right)
     → IsUpdated (own_of i) (open_of i) updated new
@@ -85,7 +85,7 @@ updated_node i (Unbalanced first second) new o l r s =
       alignments = omega (arith, s.6);
     })
 
--- where one side grew or shrank, so did the whole
+-- If one child grew or shrank, so did the node.
 module _ (i : Inside) (child : Option (Box InnerNode)) (change reported : Change) (n : Shape) (v : IsNode i) where
   whole_keeps : (l r : Option (Box InnerNode)) → IsRebalanced (own_of i) (open_of (record i { left = l; right = r })) n reported → KeepsSummary (shape_of i) n reported
   whole_keeps l r f = record {
@@ -126,7 +126,7 @@ module _ (i : Inside) (child : Option (Box InnerNode)) (change reported : Change
     keeps = whole_keeps i.left child f;
   }
 
--- and where nothing that is kept of one side changed, nothing that is kept of the whole did
+-- If the summary of one child is unchanged, the summary of the node is unchanged.
 module _ (i : Inside) (child : Option (Box InnerNode)) (v : IsNode i) where
   pub unchanged_left : IsOrderedFrom 0 (blocks (side child) ++ own_of i ∷ blocks (side i.right)) → IsTree (side child) → KeepsSummary (side i.left) (side child) Nothing
       → IsNode (record i { left = child }) × KeepsSummary (shape_of i) (shape_of (record i { left = child })) Nothing
@@ -152,7 +152,7 @@ module _ (i : Inside) (child : Option (Box InnerNode)) (v : IsNode i) where
     record { height = rw k.height refl; max_free = rw k.max_free refl; alignments = rw k.alignments refl },
   )
 
--- where the room alone of one side changed, the room alone of the whole did, or nothing
+-- If only the free summary of one child changed, at most the free summary of the node changed.
 module _ (i : Inside) (child : Option (Box InnerNode)) (reported : Change) (max_free count : ℕ) (v : IsNode i) where
   pub refreshed_left : IsOrderedFrom 0 (blocks (side child) ++ own_of i ∷ blocks (side i.right)) → Grows (side i.left) (side child) FreeOnly
       → max_free ≡ max (max (max_free_of (side child)) (max_free_of (side i.right))) (free_length (own_of i))
@@ -188,7 +188,7 @@ module _ (i : Inside) (child : Option (Box InnerNode)) (reported : Change) (max_
         },
       )
 
--- a tree of which nothing that is kept changed is as high as before
+-- A tree with an unchanged summary is as high as before.
 pub unchanged_grows : (s n : Shape) → IsTree n → KeepsSummary s n Nothing → Grows s n Nothing
 unchanged_grows s n t k = record { tree = t; not_lower = omega (arith, k.height); at_most_one_higher = omega (arith, k.height); keeps = k }
 

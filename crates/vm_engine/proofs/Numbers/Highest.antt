@@ -1,4 +1,5 @@
--- The highest bit in which the address before a range and its last address differ says which alignments have a multiple.
+-- The highest bit in which the address before a range differs from its last address determines the alignments that have
+-- a multiple in the range.
 use Rattle.std.proofs.Common.{◌≡◌, ◌≢◌, ℕ, ◌+◌, ◌-◌, ◌*◌, ◌/◌, ◌%◌, ◌^◌, ◌<◌, ◌≤◌, ◌↔◌, bit_xor, sym, ap, ◌∙◌, subst, arith, ⊎_elim, le_trans, div-mul-le_self}
 use Rattle.std.specs.Int.Bits.{xor_self}
 use Rattle.std.proofs.lemmas.Bool.{cases_lt}
@@ -17,7 +18,7 @@ xor_pos : (a b : ℕ) → a < b → 0 < bit_xor a b
 xor_pos a b below =
     ⊎_elim (λ (some : 0 < bit_xor a b). some) (λ (none : bit_xor a b ≤ 0). absurd (omega (arith, same_from_xor a b (omega arith)))) (cases_lt 0 (bit_xor a b))
 
--- numbers that differ at a bit from k on differ above k
+-- Numbers that differ at bit k or above have different quotients by 2 ^ k.
 quotients_differ : (k a b : ℕ) → 2 ^ k ≤ bit_xor a b → a ≤ b → a / 2 ^ k < b / 2 ^ k
 quotients_differ k a b high below =
     let some : 1 ≤ bit_xor a b / 2 ^ k = le-div 1 _ _ (pow_pos k) (omega arith) in
@@ -25,14 +26,14 @@ quotients_differ k a b high below =
     let order : a / 2 ^ k ≤ b / 2 ^ k = le-div _ b _ (pow_pos k) (le_trans (div-mul-le_self a _) below) in
     omega arith
 
--- numbers that differ only below bit k are the same above it
+-- Numbers that differ only below bit k have the same quotient by 2 ^ k.
 quotients_same : (k a b : ℕ) → bit_xor a b < 2 ^ k → a / 2 ^ k ≡ b / 2 ^ k
 quotients_same k a b low =
     let top : bit_xor a b < 1 * 2 ^ k = omega (arith, low) in
     let none : bit_xor a b / 2 ^ k ≡ 0 = omega (arith, div_below (bit_xor a b) (2 ^ k) 1 (pow_pos k) top) in
     same_from_xor (a / 2 ^ k) (b / 2 ^ k) (sym (xor_shr a b k) ∙ none)
 
--- a multiple of p lies above b and up to e where their quotients differ, and only there
+-- A multiple of p is above b and at most e exactly if both have different quotients by p.
 multiple_between : (p b e : ℕ) → 0 < p → b / p < e / p → HasMultiple p (record { start = b + 1; end = e })
 unfolding HasMultiple
 multiple_between p b e z l =
@@ -57,7 +58,7 @@ up_to_if_has b e k h =
     (λ (up : 2 ^ k ≤ bit_xor b e). up)
     (cases_lt (bit_xor b e) (2 ^ k))
 
--- a power of two has a multiple in the range exactly where it is no more than the bits in which these addresses differ
+-- A power of two has a multiple in the range exactly if it is at most the exclusive or of these addresses.
 pub powers_up_to : (r : Range) (k : ℕ) → r.start ≢ 0 → r.start ≤ r.end → HasMultiple (2 ^ k) r ↔ (2 ^ k ≤ bit_xor (r.start - 1) r.end)
 powers_up_to r k z l =
     let back : r.start - 1 + 1 ≡ r.start = omega arith in

@@ -1,4 +1,4 @@
--- Whether a multiple lies in a range, and how many alignments have one there.
+-- Tests for multiples in a range, and the number of alignments that have one.
 use Rattle.std.proofs.Common.{◌≡◌, ◌≢◌, ℕ, ◌+◌, ◌-◌, ◌*◌, ◌%◌, ◌^◌, ◌<◌, ◌≤◌, ◌↔◌, zero, suc, true, false, cond, bit_xor, refl, sym, ap, ◌∙◌, subst, arith, ⊎_elim, pow_mono}
 use Rattle.std.specs.Int.{w64, trailing_zeros, bit_at}
 use Rattle.std.proofs.lemmas.Bool.{cases_lt, cases_eq, le-leb, leb-true}
@@ -11,7 +11,7 @@ use Rattle.vm_engine.specs.Tree.Multiples.{HasMultiple, has_multiple, alignments
 use Rattle.vm_engine.proofs.Numbers.Highest.{powers_up_to, xor_pos_before}
 use Rattle.vm_ranges.proofs.Power.{alignment_pos, alignment_below, highest_multiple}
 
--- ---- the test tells whether a multiple lies in the range
+-- ---- The test `has_multiple` is exact
 pub multiple_is_exact : (a : ℕ) (r : Range) → 0 < a → (has_multiple a r ≡ true) ↔ HasMultiple a r
 unfolding has_multiple HasMultiple IsHighestMultiple
 multiple_is_exact a r z =
@@ -20,7 +20,7 @@ multiple_is_exact a r z =
       λ m. le-leb r.start (r.end - r.end % a) (omega (arith, m.2.0, highest.2 m.0 m.1 m.2.1)),
     )
 
--- ---- how many alignments have one: those below some exponent
+-- ---- The number of alignments that have a multiple: all below some exponent
 multiple_of_less : (k j m : ℕ) → k ≤ j → m % 2 ^ j ≡ 0 → m % 2 ^ k ≡ 0
 multiple_of_less k j m l e =
     let parts : j ≡ j - k + k = omega arith in
@@ -63,7 +63,7 @@ pub count_is_exact : (k : ℕ) (r : Range) → k < 64 → (k < alignment_count r
 unfolding alignment_count
 count_is_exact k r w = (has_if_below 64 k r, below_if_has 64 k r w)
 
--- so a number that says the same of each alignment is the count
+-- A number that agrees with each alignment is the count.
 one_count : (r : Range) (c : ℕ) → c ≤ 64 → ((k : ℕ) → k < 64 → HasMultiple (2 ^ k) r ↔ (k < c)) → c ≡ alignment_count r
 unfolding alignment_count
 one_count r c w h =
@@ -90,14 +90,14 @@ count_by_highest r j z l w low high =
       λ s. let up : 2 ^ k ≤ 2 ^ j = pow_mono (omega arith) in bound.1 (omega arith),
     ))
 
--- 0 is a multiple of each
+-- 0 is a multiple of each alignment.
 pub count_from_zero : (r : Range) → r.start ≡ 0 → 64 ≡ alignment_count r
 unfolding HasMultiple
 count_from_zero r z = one_count r 64 (omega arith) (λ k w. (λ m. w, λ s. (0, zero-mod (2 ^ k), (omega arith, omega arith))))
 
 pub ruleset counts = (count_by_highest, count_from_zero, xor_pos_before)
 
--- ---- the exponent of an alignment
+-- ---- The exponent of an alignment
 lowest_of_power : (j k : ℕ) → bit_at (2 ^ k) j ≡ 1 → j ≡ k
 lowest_of_power j k one =
     ⊎_elim (λ (same : j ≡ k). same) (λ (other : j ≢ k). absurd (omega (arith, bit_at-pow_other k j other))) (cases_eq j k)

@@ -1,4 +1,4 @@
--- Blocks that may stand behind one another are those of a space.
+-- Blocks that pass the check one after the other tile a space.
 use Rattle.std.proofs.Common.{◌≡◌, ℕ, ◌+◌, ◌≤◌, true, not, ◌&&◌, ◌||◌, eqb, ltb, List, [], ◌∷◌, ◌++◌, Option, Some, None, option_and_then, refl, sym, ap, ◌∙◌, subst, arith}
 use Rattle.std.proofs.lemmas.Bool.{and_parts, and_from, eqb-true, eq-eqb, ltb-true, lt-ltb}
 use Rattle.std.proofs.lemmas.Option.{same_Some}
@@ -11,7 +11,7 @@ use Rattle.vm_ranges.specs.declared.state.NodeState.{NodeState}
 use Rattle.vm_ranges.specs.declared.state.NodeState.TheVariants.{Free, Allocated}
 use Rattle.vm_engine.specs.declared.saved.check.Cursor.{Cursor}
 
--- each key has its ends in order
+-- The ends of each key are in order.
 abbrev pub AreKeys : List Block → Type 0
 AreKeys [] = Unit {0}
 AreKeys (b ∷ bs) = (b.key.start ≤ b.key.end) × AreKeys bs
@@ -64,7 +64,7 @@ all_behind (x ∷ xs) cursor hi t b =
     let rest = all_behind xs (cursor_advanced x) hi t.3 v.1 in
     (rest.0, rw f rest.1, rest.2)
 
--- one row of blocks after another
+-- Folding two lists one after the other is folding their concatenation.
 try_fold_blocks-append : {S : Type 0} (step : S → Block → Option S) (xs ys : List Block) (s : S) → try_fold_blocks step (xs ++ ys) s ≡ option_and_then (try_fold_blocks step ys) (try_fold_blocks step xs s)
 try_fold_blocks-append step [] ys s = refl
 try_fold_blocks-append step (x ∷ xs) ys s = next step xs ys (step s x) (λ f. try_fold_blocks-append step xs ys f) where
@@ -72,11 +72,11 @@ try_fold_blocks-append step (x ∷ xs) ys s = next step xs ys (step s x) (λ f. 
   next step xs ys None same = refl
   next step xs ys (Some f) same = same f
 
--- two rows of blocks, and the one between them
+-- Folding two lists with a block between them.
 pub after_three : {S : Type 0} (step : S → Block → Option S) (xs : List Block) (b : Block) (ys : List Block) (first left middle right : S) → try_fold_blocks step xs first ≡ Some left → step left b ≡ Some middle → try_fold_blocks step ys middle ≡ Some right → try_fold_blocks step (xs ++ b ∷ ys) first ≡ Some right
 after_three step xs b ys first left middle right e f g = try_fold_blocks-append step xs (b ∷ ys) first ∙ rw (e, f, g) refl
 
--- and where they come to an end, each of them has
+-- If that fold succeeds, each of its three parts succeeds.
 pub cut_in_three : {S : Type 0} (step : S → Block → Option S) (xs : List Block) (b : Block) (ys : List Block) (first last : S) → try_fold_blocks step (xs ++ b ∷ ys) first ≡ Some last → (left : S) × (middle : S) × (try_fold_blocks step xs first ≡ Some left) × (step left b ≡ Some middle) × (try_fold_blocks step ys middle ≡ Some last)
 cut_in_three step xs b ys first last e =
     let left = and_then_some (try_fold_blocks step (b ∷ ys)) (try_fold_blocks step xs first) last (sym (try_fold_blocks-append step xs (b ∷ ys) first) ∙ e) in

@@ -1,4 +1,4 @@
--- A value has one tree at most, and what is built of a node's parts is that tree.
+-- A value encodes at most one tree, and the tree that is built from a node's fields is that tree.
 use Rattle.std.proofs.Common.{◌≡◌, ℕ, ◌+◌, ◌-◌, ◌≤◌, max, ◌∷◌, None, Some, sym, ◌∙◌, subst, arith}
 use Rattle.std.proofs.lemmas.Option.{same_Some}
 use Rattle.serde_json.specs.Data.{Data, null}
@@ -12,9 +12,9 @@ use Rattle.vm_engine.proofs.Reading.ReadNodes.{shape_nodes, one_tree, none_tip, 
 pub one_shape : (s t : Shape) (d : Data) → EncodesShape d s → EncodesShape d t → s ≡ t
 one_shape s t d p q = one_tree s t d (shape_nodes s d p) (shape_nodes t d q)
 
--- The parts of a node, and the node that is built of them.
+-- The fields of a node, and the node that is built from them.
 
--- the trees of the children of a node that a value has
+-- The trees of the children of a node that a value encodes.
 pub record Parts (depth : ℕ) (d : Data) (n : NodeData) : Type 0 where
   pub left : Shape
   pub right : Shape
@@ -54,6 +54,6 @@ built depth d n p l r left_encoded right_encoded =
     let same : Fork p.left n.block p.right ≡ Fork l n.block r = cc in
     subst (IsShapeWithin depth d) same p.whole
 
--- a value without a node's fields has no tree but the empty one
+-- A value without the fields of a node encodes only the empty tree.
 pub built_none : (depth : ℕ) (d : Data) → HasShapeWithin depth d → decoded_node d ≡ None → EncodesShape d Tip
 built_none depth d p e = subst (EncodesShape d) (none_tip p.0 d (shape_nodes p.0 d p.1.encoded) e) p.1.encoded

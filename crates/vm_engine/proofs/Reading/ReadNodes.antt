@@ -1,4 +1,4 @@
--- The fields of a node's value, and the nodes that a value has: one tree of them at most.
+-- The fields of a node's value, and the nodes of a value. They form at most one tree.
 use Rattle.std.proofs.Common.{◌≡◌, ℕ, ◌+◌, max, Some, None, codes, option_and_then, refl, sym, ap, ◌∙◌, subst}
 use Rattle.std.proofs.lemmas.Option.{same_Some}
 use Rattle.serde_json.specs.Data.{Data, null}
@@ -16,7 +16,7 @@ use Rattle.vm_engine.proofs.Reading.Cursors.{AreKeys, keys-append}
 use Rattle.vm_ranges.proofs.ReadRanges as ranges
 use Rattle.vm_ranges.proofs.ReadStates as states
 
--- what is found in the fields stands there
+-- The fields that are decoded are the fields of the value.
 node_encoded : (d : Data) (n : NodeData) → decoded_node d ≡ Some n → EncodesNode d n.block (λ v. v ≡ n.left) (λ v. v ≡ n.right) n.height
 node_encoded d n e =
     let five = if_some (is_count 5 (field_count d)) _ n e in
@@ -38,7 +38,7 @@ node_encoded d n e =
     } in
     subst (λ (m : NodeData). EncodesNode d m.block (λ v. v ≡ m.left) (λ v. v ≡ m.right) m.height) right.2 encoded
 
--- other facts of what stands for the children
+-- The facts about the values of the children can be replaced.
 sides_map : (d : Data) (b : Block) (L R P Q : Data → Type 0) (h : ℕ) → ((v : Data) → L v → P v) → ((v : Data) → R v → Q v) → EncodesNode d b L R h → EncodesNode d b P Q h
 sides_map d b L R P Q h f g n = record {
   five_fields = n.five_fields;
@@ -49,7 +49,7 @@ sides_map d b L R P Q h f g n = record {
   height = n.height;
 }
 
--- a value with such fields is a node over what stands for its children
+-- A value with these fields is a node over the values of its children.
 pub over_sides : (d : Data) (n : NodeData) (L R : Data → Type 0) (h : ℕ) → decoded_node d ≡ Some n → n.height ≡ h → L n.left → R n.right → EncodesNode d n.block L R h
 over_sides d n L R h e is l r =
     let at : EncodesNode d n.block (λ v. v ≡ n.left) (λ v. v ≡ n.right) h = subst (EncodesNode d n.block (λ v. v ≡ n.left) (λ v. v ≡ n.right)) is (node_encoded d n e) in
@@ -58,7 +58,7 @@ over_sides d n L R h e is l r =
 abbrev pub data_of : Block → ℕ → Data → Data → NodeData
 data_of b h l r = record { block = b; height = h; left = l; right = r }
 
--- and what stands in a node's fields is found
+-- The fields of a node's value are decoded.
 pub node_is : (d : Data) (b : Block) (L R : Data → Type 0) (h : ℕ) → EncodesNode d b L R h → (l : Data) × (r : Data) × (decoded_node d ≡ Some (data_of b h l r)) × L l × R r
 node_is d b L R h n =
     let key_at = in_field (codes "key") d (λ v. EncodesRange v b.key) n.key in
@@ -68,9 +68,9 @@ node_is d b L R h n =
     let is : decoded_node d ≡ Some (data_of b h left_at.0 right_at.0) = rw (true-count 5 (field_count d) n.five_fields, key_at.1, ranges.states-found key_at.0 b.key key_at.2, state_at.1, states.states-found state_at.0 b.state state_at.2, n.height, left_at.1, right_at.1) refl in
     (left_at.0, right_at.0, is, left_at.2, right_at.2)
 
--- The nodes that a value has.
+-- The nodes of a value.
 
--- a tree with true heights is one with any
+-- A tree with correct heights is a tree with any heights.
 pub shape_nodes : (s : Shape) (d : Data) → EncodesShape d s → HasNodes d s
 shape_nodes Tip d p = p
 shape_nodes (Fork l b r) d p = (
@@ -81,7 +81,7 @@ shape_nodes (Fork l b r) d p = (
 pub no_data : (d : Data) (n : NodeData) → d ≡ null → decoded_node d ≡ Some n → ⊥
 no_data d n z e = let f : decoded_node null ≡ Some n = subst (λ (v : Data). decoded_node v ≡ Some n) z e in cc
 
--- the fields of a node that a value has
+-- The fields of a node of a value.
 pub fork_is : (d : Data) (l r : Shape) (b : Block) → HasNodes d (Fork l b r) → (n : NodeData) × (decoded_node d ≡ Some n) × (n.block ≡ b) × HasNodes n.left l × HasNodes n.right r
 fork_is d l r b p =
     let n = node_is d b (λ v. HasNodes v l) (λ v. HasNodes v r) p.0 p.1 in
@@ -100,12 +100,12 @@ one_tree (Fork l x r) (Fork m y n) d p q =
     let block : x ≡ y = sym a.2 ∙ (ap (λ (v : NodeData). v.block) (sym same) ∙ b.2) in
     cc
 
--- a value without a node's fields has no nodes
+-- A value without the fields of a node has no nodes.
 pub none_tip : (s : Shape) (d : Data) → HasNodes d s → decoded_node d ≡ None → s ≡ Tip
 none_tip Tip d p e = refl
 none_tip (Fork l b r) d p e = let n = fork_is d l r b p in absurd (let f = n.1 in cc)
 
--- the keys of the nodes that a value has
+-- The keys of the nodes of a value.
 pub keys_encoded : (s : Shape) (d : Data) → HasNodes d s → AreKeys (blocks s)
 keys_encoded Tip d p = tt
 keys_encoded (Fork l b r) d p =

@@ -1,4 +1,4 @@
--- The check of a value finds just the trees of the space that values state.
+-- The check of a value accepts exactly the values that encode a tree of the space.
 use Rattle.std.proofs.Common.{◌≡◌, ◌+◌, true, eqb, Some, None, Option, is_some, refl, sym, ◌∙◌, subst, arith, true≢false, false}
 use Rattle.std.proofs.lemmas.Bool.{eqb-true, eq-eqb}
 use Rattle.serde_json.specs.Data.{Data}
@@ -20,7 +20,7 @@ use Rattle.vm_engine.proofs.Reading.Cursors.{tiled, all_behind}
 use Rattle.vm_engine.proofs.Reading.ReadTrees.{sound, complete}
 use Rattle.vm_engine.proofs.Reading.OneTree.{one_shape}
 
--- the value states a tree of the space, nested as deep as it may be
+-- The value encodes a tree of the space, of height at most MAX_HEIGHT.
 record IsChecked (d : Data) (space : Range) (s : Shape) : Type 0 where
   encoded : EncodesSpaceTree d space s
   within : IsShapeWithin MAX_HEIGHT d s
@@ -63,7 +63,7 @@ checks d space range e =
     let ends = if_some (eqb found.0.cursor.next (space.end + 1)) _ last.0 found.2 in
     checked_tree d space range found.0 found.1 (eqb-true found.0.cursor.next (space.end + 1) ends.0)
 
--- a value that states a tree of the space passes
+-- A value that encodes a tree of the space is accepted.
 passes : (d : Data) (space : Range) (s : Shape) → EncodesSpaceTree d space s → is_some (checked_tree_of space d) ≡ true
 unfolding TilesSpace
 passes d space s p =
@@ -71,7 +71,7 @@ passes d space s p =
     let found = complete s MAX_HEIGHT d (cursor_at_start space) last.0 p.encoded p.balanced p.nested last.1 in
     rw (found, eq-eqb last.0.next (space.end + 1) last.2) refl
 
--- What the code's clauses say.
+-- The clauses of the code.
 
 pub none_encoded : (d : Data) (space : Range) → is_some (checked_tree_of space d) ≡ false → ((s : Shape) × EncodesSpaceTree d space s) → ⊥
 none_encoded d space e p = true≢false (sym (passes d space p.0 p.1) ∙ e)

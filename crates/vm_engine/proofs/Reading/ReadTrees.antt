@@ -1,4 +1,4 @@
--- The check of a tree finds just the trees that values have.
+-- The check of a subtree finds exactly the trees that values encode.
 use Rattle.std.proofs.Common.{◌≡◌, ℕ, zero, suc, ◌+◌, ◌≤◌, max, true, false, cond, ◌&&◌, eqb, leb, Some, is_some, refl, sym, ap, ◌∙◌, subst, arith}
 use Rattle.std.proofs.lemmas.Bool.{and_parts, eqb-true, eq-eqb, leb-true, le-leb}
 use Rattle.std.proofs.lemmas.Option.{same_Some}
@@ -31,9 +31,9 @@ true_heights l r h e =
 heights_true : (l r : ℕ) → l ≤ r + 1 → r ≤ l + 1 → is_correct_height l r (max l r + 1) ≡ true
 heights_true l r p q = rw (le-leb l (r + 1) p, le-leb r (l + 1) q, eq-eqb (max l r + 1) (max l r + 1) refl) refl
 
--- What is found of a value with a tree.
+-- The result of the check of a value that encodes a tree.
 
--- a tree that the value has, of the height that is found, and with the blocks between two fronts
+-- A tree that the value encodes, with the height and the cursor that the check found.
 pub record IsFound (depth : ℕ) (d : Data) (cursor : Cursor) (found : CheckedTree) (s : Shape) : Type 0 where
   pub encoded : EncodesShape d s
   pub balanced : IsBalanced s
@@ -55,7 +55,7 @@ found_null depth d cursor found z e =
       advance = ap (λ (x : CheckedTree). Some x.cursor) same;
     }
 
--- a node over the trees that are found of its children
+-- A node over the trees that the check found for its children.
 over_found : (depth : ℕ) (d : Data) (cursor middle : Cursor) (left right found : CheckedTree) (n : NodeData) (l r : Shape) →
     decoded_node d ≡ Some n → IsFound depth n.left cursor left l → advance left.cursor n.block ≡ Some middle → IsFound depth n.right middle right r →
     is_correct_height left.height right.height n.height ≡ true → checked n.height right.cursor ≡ found → IsFound (suc depth) d cursor found (Fork l n.block r)
@@ -91,7 +91,7 @@ found_fork depth d cursor found below e =
       over_found depth d cursor middle.0 left.0 right.0 found node.0 l.0 r.0 node.1 l.1 middle.1 r.1 true_height.0 (same_Some (checked node.0.height right.0.cursor) found true_height.1),
     )
 
--- what is found is a tree that the value has
+-- The check finds only trees that the value encodes.
 pub sound : (depth : ℕ) (d : Data) (cursor : Cursor) (found : CheckedTree) → checked_subtree depth d cursor ≡ Some found → (s : Shape) × IsFound depth d cursor found s
 unfolding checked_subtree
 sound zero d cursor found e = let q = if_some (is_some (as_null d)) (Some (checked 0 cursor)) found e in (Tip, found_null 0 d cursor found q.0 q.1)
@@ -101,7 +101,7 @@ sound (suc depth) d cursor found e =
       | false ↦ λ z q. found_fork depth d cursor found (λ v f c g. sound depth v f c g) q
     ] refl e
 
--- each tree that a value has is found
+-- The check finds each tree that a value encodes.
 pub complete : (s : Shape) (depth : ℕ) (d : Data) (cursor last : Cursor) → EncodesShape d s → IsBalanced s → height_of s ≤ depth → try_fold_blocks advance (blocks s) cursor ≡ Some last → checked_subtree depth d cursor ≡ Some (checked (height_of s) last)
 unfolding checked_subtree
 complete Tip zero d cursor last t b w e = rw t (ap (λ (x : Cursor). Some (checked 0 x)) (same_Some cursor last e))

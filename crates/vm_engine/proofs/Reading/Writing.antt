@@ -1,4 +1,4 @@
--- What is put together of a node's written parts states the node.
+-- The object that is built from the values of a node's fields encodes the node.
 use Rattle.std.proofs.Common.{◌≡◌, ℕ, ◌+◌, max, codes, Some, refl, ap, ◌∙◌, subst}
 use Rattle.serde_json.specs.Data.{Data}
 use Rattle.vm_ranges.proofs.FieldSteps.{field_is, field_map}
@@ -12,7 +12,7 @@ use Rattle.vm_engine.specs.Checks.NodeChecks.{NodeParts}
 use Rattle.vm_ranges.specs.declared.state.NodeState.{NodeState}
 use Rattle.vm_engine.proofs.Nodes.Spaces.{no_empty_tree}
 
--- over values that have the block, it has the block and those of its sides
+-- If the values encode the block and the children, the object encodes the node.
 pub encodes_parts : (d key state left right : Data) (h : ℕ) (k : Range) (s : NodeState) → NodeParts d key state left right h → EncodesRange key k → EncodesState state s →
     EncodesNode d (record { key = k; state = s }) (λ v. v ≡ left) (λ v. v ≡ right) h
 encodes_parts d key state left right h k s p key_encoded state_encoded = record {
@@ -26,7 +26,7 @@ encodes_parts d key state left right h k s p key_encoded state_encoded = record 
 
 pub ruleset parts = (encodes_parts)
 
--- over values that have the sides, it has the tree
+-- If the values encode the trees of the children, the object encodes the tree.
 pub encodes_fork : (d left right : Data) (h : ℕ) (b : Block) (l r : Shape) → EncodesNode d b (λ v. v ≡ left) (λ v. v ≡ right) h → EncodesShape left l → EncodesShape right r → h ≡ max (height_of l) (height_of r) + 1 →
     EncodesShape d (Fork l b r)
 encodes_fork d left right h b l r p left_encoded right_encoded e = record {
@@ -43,7 +43,7 @@ pub ruleset nodes = (encodes_fork)
 some_node : (s : Shape) → IsSpaceTree s → s ≡ Tip → ⊥
 some_node s t e = no_empty_tree (subst IsSpaceTree e t)
 
--- and the value of a tree of a space states it
+-- The value of a tree of a space encodes that tree.
 pub encodes_tree : (d : Data) (s : Shape) → EncodesShape d s → IsSpaceTree s → IsTree s → EncodesSpaceTree d (space_of (blocks s)) s
 encodes_tree d s encoded tree ordered = record {
   encoded = encoded;

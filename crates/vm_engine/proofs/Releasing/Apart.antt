@@ -1,4 +1,4 @@
--- The blocks before and after a held one, with the free one beside it apart.
+-- The blocks before and after a held block, without its free neighbours.
 use Rattle.std.proofs.Common.{◌≡◌, ℕ, ◌+◌, ◌≤◌, List, [], ◌∷◌, ◌++◌, Option, Some, None, refl, sym, ap, ◌∙◌, arith, subst, append_assoc, append-nil}
 use Rattle.vm_ranges.specs.Range.{Range, IsRange}
 use Rattle.vm_engine.specs.Tree.Block.{Block, free_block, held_block}
@@ -18,7 +18,7 @@ use Rattle.vm_engine.proofs.Splitting.TakenRanges.{as_blocks}
 use Rattle.vm_engine.proofs.Nodes.TreeEdits.{tiles_ordered}
 use Rattle.vm_engine.proofs.Blocks.BlockOrder.{ordered_weaken}
 
--- blocks with the free one at their end apart
+-- Blocks without the free block at their end.
 record Lower (p : NodeState) (xs : List Block) (last : Option Range) : Type 0 where
   lower : List Block
   is : xs ≡ lower ++ free_if_some last
@@ -38,7 +38,7 @@ lower_all : (xs : List Block) → Lower Allocated xs (last_free None xs)
 lower_all [] = record { lower = []; is = refl; ends = λ n. tt }
 lower_all (x ∷ xs) = lower_of Allocated x xs
 
--- blocks with the free one at their beginning apart, and what a free range before them joins with
+-- Blocks without the free block at their start, and the join of that block with a free range before it.
 record Upper (ys : List Block) (first : Option Range) : Type 0 where
   upper : List Block
   is : ys ≡ free_if_some first ++ upper
@@ -52,12 +52,12 @@ upper_all : (ys : List Block) → Upper ys (first_free ys None)
 upper_all [] = record { upper = []; is = refl; with = λ k. refl }
 upper_all (y ∷ ys) = upper_one y.state y ys refl
 
--- what is left once the held block is given back
+-- The blocks after the held block is freed.
 pub record Given (s : Shape) (k : Range) (n : Neighbours) : Type 0 where
   pub around : IsAround (blocks s) k n
   pub blocks_of : IsBlocksOf (releasing k (tree_state s)) (around.lower ++ free_block (joined k n) ∷ around.upper)
 
--- the bounds of a block in a tiling
+-- The bounds of a block in a tiling.
 block_bounds : (p : NodeState) (lo hi : ℕ) (b : Block) (xs ys : List Block) → Tiles p lo (xs ++ b ∷ ys) hi → (lo ≤ b.key.start) × (b.key.start ≤ b.key.end) × (b.key.end ≤ hi)
 block_bounds p lo hi b [] ys t = (omega (arith, t.0), omega (arith, t.0, t.1), omega (arith, tiles_end b.state (b.key.end + 1) hi ys t.3))
 block_bounds p lo hi b (x ∷ xs) ys t = let i = block_bounds x.state (x.key.end + 1) hi b xs ys t.3 in (omega (arith, i.0, t.0, t.1), i.1, i.2)
@@ -83,7 +83,7 @@ same_end : (a b : Range) (after : Option Range) → a.end ≡ b.end → end_with
 same_end a b None e = e
 same_end a b (Some r) e = refl
 
--- the free block before and after, joined with the held one
+-- The free blocks before and after, joined with the held block.
 given_by : (s : Shape) (k : Range) (xs ys : List Block) (before after : Option Range) → IsSpaceTree s → blocks s ≡ xs ++ held_block k ∷ ys → Lower Allocated xs before → Upper ys after → Given s k (record { before = before; after = after })
 unfolding TilesSpace around_of
 given_by s k xs ys None after h e f b =

@@ -1,4 +1,4 @@
--- What is found is held, and what is not found is not.
+-- A range is found exactly if it is held.
 use Rattle.std.proofs.Common.{◌≡◌, ℕ, ◌+◌, ◌≤◌, ◌↔◌, true, false, cond, List, [], ◌∷◌, ◌++◌, Option, Some, None, refl, sym, ap, ◌∙◌, arith, inl, inr, ⊎_elim, subst}
 use Rattle.std.specs.List.{Contains}
 use Rattle.vm_ranges.specs.Range.{Range}
@@ -32,7 +32,7 @@ held_from lo r (b ∷ bs) o h =
 same_if : (a b : Range) → b ≡ a → same_range a b ≡ true
 same_if a b e = rw e (same_range_self a)
 
--- the held block that is found, and what is beside it
+-- The held block that was found, and its neighbours.
 record Found (d : Option Range) (bs : List Block) (k : Range) (e : Option Range) (n : Neighbours) : Type 0 where
   before : List Block
   after : List Block
@@ -67,7 +67,7 @@ held_block_found s k n f =
     let i = found_in None None (blocks s) k n f in
     record { lower = i.before; upper = i.after; cut = i.cut; last = i.last; first = i.first }
 
--- where nothing is found the range is not held: no block has it, or a free one
+-- If nothing was found, the range is not held: no block has it, or a free block has it.
 pub not_held : (lo : ℕ) (d e : Option Range) (bs : List Block) (k : Range) → IsOrderedFrom lo bs → neighbours k d bs e ≡ None → ¬ IsHeld (held_of bs) k
 not_held lo d e [] k o f h = h
 not_held lo d e (b ∷ bs) k o f h =
@@ -89,7 +89,7 @@ not_held lo d e (b ∷ bs) k o f h =
           (state_cases b.state)
     ] refl f
 
--- ---- the same by the key alone
+-- ---- The same by the key only
 held_later : (b : Block) (bs : List Block) (k : Range) → IsHeld (held_of bs) k → IsHeld (held_of (b ∷ bs)) k
 held_later b bs k h =
     ⊎_elim
@@ -127,7 +127,7 @@ held_found lo k (b ∷ bs) o h =
           (state_cases b.state)
     ] refl
 
--- the held block of a range is found in the tree exactly where the range is held
+-- The held block of a range is found in the tree exactly if the range is held.
 pub found_if_held : (s : Shape) (k : Range) → IsSpaceTree s → (find_key k (blocks s) ≡ Some (held_block k)) ↔ Contains (tree_state s).held k
 unfolding TilesSpace
 found_if_held s k h =

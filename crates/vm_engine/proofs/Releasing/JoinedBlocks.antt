@@ -1,4 +1,4 @@
--- What giving a range back makes of a tree's blocks.
+-- The effect of `free` on the blocks of a tree.
 use Rattle.std.proofs.Common.{◌≡◌, ◌≤◌, List, [], ◌∷◌, ◌++◌, Option, Some, None, refl, sym, ap, ◌∙◌, arith, inl, inr, ⊎_elim, subst, append_assoc, Ok, Err}
 use Rattle.std.specs.List.{Contains}
 use Rattle.vm_ranges.specs.Range.{Range}
@@ -26,7 +26,7 @@ use Rattle.vm_engine.proofs.Nodes.Spaces.{space_tiled, space_tree}
 use Rattle.vm_engine.proofs.Releasing.Finding.{held_block_found, not_held}
 use Rattle.vm_engine.proofs.Releasing.Apart.{Given, held_range_freed}
 
--- the edits leave what is left
+-- Removing the free neighbours leaves the other blocks.
 without_before : (before : Option Range) (lower rest : List Block) → IsOrderedFrom 0 (lower ++ (free_if_some before ++ rest)) → without_if_some before (lower ++ (free_if_some before ++ rest)) ≡ lower ++ rest
 without_before None lower rest o = refl
 without_before (Some p) lower rest o = replace_middle 0 p [] lower (free_block p) rest refl o

@@ -1,4 +1,4 @@
--- A released range joined with what is clear beside it.
+-- A freed range, joined with its clear neighbours.
 use Rattle.std.proofs.Common.{◌≡◌, ℕ, ◌+◌, ◌<◌, ◌≤◌, List, [], ◌∷◌, ◌++◌, refl, sym, ap, ◌∙◌, arith, inl, inr, ◌⊎◌, ⊎_elim, subst, eq-eqb}
 use Rattle.std.proofs.lemmas.Bool.{ne_eqb}
 use Rattle.vm_ranges.specs.Range.{Range}
@@ -12,22 +12,22 @@ use Rattle.vm_engine.proofs.Blocks.Gaps.{state_cases}
 use Rattle.vm_engine.proofs.Blocks.OneList.{held_of-free, held_of-held}
 use Rattle.vm_engine.proofs.Splitting.TakenRanges.{starts_after}
 
--- the blocks with a free one before them, which takes in the first if that is free too
+-- The blocks with a free block before them, which is joined with the first block if that is free.
 abbrev pub join_if : NodeState → Range → Block → List Block → List Block
 join_if Free k b bs = free_block (record { start = k.start; end = b.key.end }) ∷ bs
 join_if Allocated k b bs = free_block k ∷ b ∷ bs
 
--- the same, also where there is no first
+-- The same for any list, even if it is empty.
 abbrev pub with_free : Range → List Block → List Block
 with_free k [] = free_block k ∷ []
 with_free k (b ∷ bs) = join_if b.state k b bs
 
--- the last of the blocks, or else one before them, is not free
+-- The last block is not free. If the list is empty, the state before it is not Free.
 abbrev pub EndsHeld : NodeState → List Block → Type 0
 EndsHeld before [] = NotBothFree before Free
 EndsHeld before (b ∷ bs) = EndsHeld b.state bs
 
--- the block is held and has this range
+-- The block is held and has this range.
 unfoldable pub IsHeldBlock : Range → Block → Type 0
 IsHeldBlock r b = (b.key ≡ r) × (b.state ≡ Allocated)
 
@@ -35,7 +35,7 @@ tiles_join : (p st : NodeState) (lo hi : ℕ) (k : Range) (b : Block) (bs : List
 tiles_join p Free lo hi k b bs e q s l n m t = (s, omega arith, q, subst (λ (v : NodeState). Tiles v (b.key.end + 1) bs hi) e t)
 tiles_join p Allocated lo hi k b bs e q s l n m t = (s, l, q, (n, m, subst (λ (v : NodeState). NotBothFree Free v) (sym e) tt, t))
 
--- a free block before blocks that follow it
+-- A free block before a tiling that follows it.
 tiles_with_free : (p q : NodeState) (lo hi : ℕ) (k : Range) (ys : List Block) → NotBothFree p Free → k.start ≡ lo → lo ≤ k.end → Tiles q (k.end + 1) ys hi → Tiles p lo (with_free k ys) hi
 tiles_with_free p q lo hi k [] f s l t = (s, l, f, t)
 tiles_with_free p q lo hi k (y ∷ ys) f s l t = tiles_join p y.state lo hi k y ys refl f s l t.0 t.1 t.3
@@ -48,11 +48,11 @@ held_with_free : (k : Range) (ys : List Block) → held_of (with_free k ys) ≡ 
 held_with_free k [] = refl
 held_with_free k (y ∷ ys) = held_join y.state k y ys refl
 
--- the first held range is the one
+-- Removing the range of a held first block removes the first held range.
 without_first : (b : Block) (ys : List Block) → b.state ≡ Allocated → without_range b.key (held_of (b ∷ ys)) ≡ held_of ys
 without_first b ys e = let same = eq-eqb b.key.start b.key.start refl in ap (without_range b.key) (held_of-held b ys e) ∙ rw same refl
 
--- past a range below, the range is looked for in the rest
+-- Removing a range passes over the blocks below it.
 without_later : (k : Range) (x : Block) (zs : List Block) (hs : List Range) → x.key.start < k.start → hs ≡ held_of zs → without_range k (held_of (x ∷ zs)) ≡ range_if_held x.state x.key ++ without_range k hs
 without_later k x zs hs l e =
     ⊎_elim
@@ -62,12 +62,12 @@ without_later k x zs hs l e =
     ap (without_range k) (held_of-held x zs f ∙ ap (λ (v : List Range). x.key ∷ v) (sym e)) ∙ rw differ (sym (ap (λ (s : NodeState). range_if_held s x.key ++ without_range k hs) f)))
     (state_cases x.state)
 
--- a held block that follows no free block becomes free
+-- A held block that does not follow a free block becomes free.
 tiles_freed : (p : NodeState) (lo hi : ℕ) (b : Block) (xs ys : List Block) → EndsHeld p xs → b.state ≡ Allocated → Tiles p lo (xs ++ b ∷ ys) hi → Tiles p lo (xs ++ with_free b.key ys) hi
 tiles_freed p lo hi b [] ys g e t = tiles_with_free p b.state lo hi b.key ys g t.0 t.1 t.3
 tiles_freed p lo hi b (x ∷ xs) ys g e t = (t.0, t.1, t.2, tiles_freed x.state (x.key.end + 1) hi b xs ys g e t.3)
 
--- a held block that follows a free block is joined with it
+-- A held block that follows a free block is joined with it.
 tiles_freed_before : (p : NodeState) (lo hi : ℕ) (f b : Block) (xs ys : List Block) → f.state ≡ Free → b.state ≡ Allocated → Tiles p lo (xs ++ f ∷ b ∷ ys) hi → Tiles p lo (xs ++ with_free (record { start = f.key.start; end = b.key.end }) ys) hi
 tiles_freed_before p lo hi f b [] ys g e t =
     tiles_with_free p b.state lo hi (record { start = f.key.start; end = b.key.end }) ys (subst (λ (v : NodeState). NotBothFree p v) g t.2) t.0 (omega (arith, t.1, t.3.1)) t.3.3
@@ -92,7 +92,7 @@ held_freed_before p lo hi k f b (x ∷ xs) ys g e t =
     follows p lo hi f b [] ys t = omega (arith, t.0, t.1, t.3.0)
     follows p lo hi f b (x ∷ xs) ys t = follows x.state (x.key.end + 1) hi f b xs ys t.3
 
--- a held range that follows no free block is given back
+-- A held range that does not follow a free block is freed.
 pub blocks_freed : (state : AddressState) (bs xs ys : List Block) (b : Block) → IsBlocksOf state bs → bs ≡ xs ++ b ∷ ys → b.state ≡ Allocated → EndsHeld Allocated xs → IsBlocksOf (releasing b.key state) (xs ++ with_free b.key ys)
 blocks_freed state bs xs ys b h e g q =
     let t : Tiles Allocated state.space.start (xs ++ b ∷ ys) state.space.end = subst (λ (v : List Block). Tiles Allocated state.space.start v state.space.end) e h.tiles in
@@ -101,7 +101,7 @@ blocks_freed state bs xs ys b h e g q =
       held = held_freed Allocated state.space.start state.space.end b.key b xs ys g t ∙ ap (without_range b.key) (ap held_of (sym e) ∙ h.held);
     }
 
--- a held range that follows a free block is given back
+-- A held range that follows a free block is freed.
 pub blocks_freed_before : (state : AddressState) (bs xs ys : List Block) (f b : Block) → IsBlocksOf state bs → bs ≡ xs ++ f ∷ b ∷ ys → f.state ≡ Free → b.state ≡ Allocated → IsBlocksOf (releasing b.key state) (xs ++ with_free (record { start = f.key.start; end = b.key.end }) ys)
 blocks_freed_before state bs xs ys f b h e i g =
     let t : Tiles Allocated state.space.start (xs ++ f ∷ b ∷ ys) state.space.end = subst (λ (v : List Block). Tiles Allocated state.space.start v state.space.end) e h.tiles in
@@ -120,7 +120,7 @@ held_or_later r b bs h =
     ⊎_elim (λ (i : b.key ≡ r). inl (i, e)) (λ (i : IsHeld (held_of bs) r). inr i) g)
     (state_cases b.state)
 
--- and one that a held block has is
+-- The range of a held block is held.
 pub is_held : (r : Range) (b : Block) (xs ys : List Block) → IsHeldBlock r b → IsHeld (held_of (xs ++ b ∷ ys)) r
 unfolding IsHeldBlock
 is_held r b [] ys s = subst (λ (v : List Range). IsHeld v r) (sym (held_of-held b ys s.1)) (inl s.0)

@@ -1,4 +1,4 @@
--- A held block and the free ones beside it, in a tree.
+-- A held block and its free neighbours, in a tree.
 use Rattle.std.proofs.Common.{◌≡◌, ℕ, ◌+◌, ◌<◌, ◌≤◌, true, false, cond, List, [], ◌∷◌, ◌++◌, Option, None, refl, ap, ◌∙◌, arith, inl, inr}
 use Rattle.vm_ranges.specs.Range.{Range}
 use Rattle.vm_ranges.specs.RangeOrder.{Before, same_range}
@@ -11,7 +11,7 @@ use Rattle.vm_ranges.proofs.RangeCalls.{starts_low}
 use Rattle.vm_engine.proofs.Blocks.BlockOrder.{ordered_middle}
 use Rattle.vm_engine.proofs.Blocks.Replacement.{same_range_start, same_range_before, same_range_self}
 
--- the last of blocks with one among them is the last from it on
+-- The last block of a list is the last block of each non-empty suffix.
 last_past : (d : Option Range) (l : List Block) (x : Block) (r : List Block) → last_free d (l ++ x ∷ r) ≡ last_free (key_if_free x.state x.key) r
 last_past d [] x r = refl
 last_past d (b ∷ l) x r = last_past (key_if_free b.state b.key) l x r
@@ -28,7 +28,7 @@ first_in_left s l x r d e = ap (λ (v : Shape). first_free (blocks v) d) e ∙ f
 
 pub ruleset ends = (last_in_right, first_in_left)
 
--- a range that starts before all of them is none of them
+-- A range that starts before all blocks is not the key of a block.
 none_below : (lo : ℕ) (k : Range) (d e : Option Range) (bs : List Block) → k.start < lo → IsOrderedFrom lo bs → neighbours k d bs e ≡ None
 none_below lo k d e [] p o = refl
 none_below lo k d e (b ∷ bs) p o =
@@ -44,7 +44,7 @@ beside_left lo k d e (b ∷ l) x r p o =
       | false ↦ beside_left (b.key.end + 1) k (key_if_free b.state b.key) e l x r p o.2
     ]
 
--- past those that start before the range
+-- The search passes over the blocks that start before the range.
 past : (lo : ℕ) (k : Range) (d e : Option Range) (l : List Block) (x : Block) (r : List Block) → x.key.start ≤ k.start → IsOrderedFrom lo (l ++ x ∷ r) → neighbours k d (l ++ x ∷ r) e ≡ neighbours k (last_free d l) (x ∷ r) e
 past lo k d e [] x r p o = refl
 past lo k d e (b ∷ l) x r p o =
@@ -60,7 +60,7 @@ beside_middle : (lo : ℕ) (k : Range) (d e : Option Range) (l : List Block) (x 
 beside_middle lo k d e l x r p o =
     past lo k d e l x r (omega (arith, ap (λ (a : Range). a.start) p)) o ∙ rw (p, same_range_self x.key) refl
 
--- the same in the tree s, on the side where the key would be
+-- The search in the tree s is the search in the child on the side of the key.
 pub neighbours_in_left : (s l : Shape) (x : Block) (r : Shape) (k : Range) (d e : Option Range) → s ≡ Fork l x r → Before k x.key → IsTree s → neighbours k d (blocks s) e ≡ neighbours k d (blocks l) (key_if_free x.state x.key)
 neighbours_in_left s l x r k d e q p t =
     let o : IsOrderedFrom 0 (blocks l ++ x ∷ blocks r) = rw q at t.ordered in

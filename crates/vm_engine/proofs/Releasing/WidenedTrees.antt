@@ -13,7 +13,7 @@ use Rattle.vm_engine.proofs.Nodes.TreeEdits.{some_same}
 pub no_held_in_tip : (k range : Range) → CanWiden (blocks Tip) k range → ⊥
 no_held_in_tip k range c = let h = c.held in cc
 
--- the block to be widened, on the side where its key is
+-- The block can be widened in the child on the side of its key.
 pub can_widen_left : (s l : Shape) (x : Block) (r : Shape) (k range : Range) → s ≡ Fork l x r → Before k x.key → IsTree s → CanWiden (blocks s) k range → CanWiden (blocks l) k range
 can_widen_left s l x r k range e p t c =
     record { held = sym (find_in_left s l x r k e p t) ∙ c.held; ordered = rewritten_left s l x r k (free_block range ∷ []) e p t c.ordered }
@@ -22,11 +22,11 @@ pub can_widen_right : (s l : Shape) (x : Block) (r : Shape) (k range : Range) �
 can_widen_right s l x r k range e p t c =
     record { held = sym (find_in_right s l x r k e p t) ∙ c.held; ordered = rewritten_right s l x r k (free_block range ∷ []) e p t c.ordered }
 
--- a held block has no room
+-- A held block has no free addresses.
 held_without_room : (b : Block) (k : Range) → b ≡ held_block k → (free_length b ≡ 0) × (free_alignments b ≡ 0)
 held_without_room b k e = (rw e refl, rw e refl)
 
--- the tree with that side widened
+-- The tree with that child widened.
 pub widened_left : (s l n : Shape) (x : Block) (r : Shape) (k range : Range) → s ≡ Fork l x r → Before k x.key → IsTree s → CanWiden (blocks s) k range → Widens l k range n → Widens s k range (Fork n x r)
 widened_left s l n x r k range e p t c w =
     let tree : IsTree (Fork l x r) = rw e at t in

@@ -1,4 +1,4 @@
--- What holding a range makes of a tree's state.
+-- The effect of an allocation on the state of a tree.
 use Rattle.std.proofs.Common.{◌≡◌, ◌+◌, ◌-◌, ◌<◌, ◌≤◌, suc, List, [], ◌∷◌, ◌++◌, length, refl, sym, ap, ◌∙◌, arith, inl, inr, ⊎_elim, subst, cond, ltb, true, false, Ok, Err, IsSome}
 use Rattle.std.proofs.lemmas.Bool.{cases_lt, le-ltb}
 use Rattle.vm_engine.specs.Engine.NodeFields.{side}
@@ -26,7 +26,7 @@ use Rattle.vm_engine.proofs.Blocks.OneList.{few_blocks}
 use Rattle.vm_engine.proofs.Nodes.MinNodes.{fewest_nodes, node_count-blocks, fibonacci_grows}
 use Rattle.vm_engine.proofs.Nodes.Spaces.{space_tiled, space_tree}
 
--- the blocks of a space with a free one among them, from which a range is taken
+-- The blocks of a space with a free block in which the range lies.
 pub record IsCut (bs : List Block) (k r : Range) : Type 0 where
   pub before : List Block
   pub after : List Block
@@ -49,7 +49,7 @@ cut_of s choice h c =
       new = ordered_weaken 0 sp.start _ (omega arith) (tiles_ordered Allocated sp.start sp.end _ (tiles_split Allocated sp.start sp.end choice.range (free_block choice.key) c.before c.after refl c.within t));
     }
 
--- what stands in the place of the free block
+-- The blocks that replace the free block.
 module _ (bs : List Block) (k r : Range) (c : IsCut bs k r) where
   old_ordered : IsOrderedFrom 0 (c.before ++ free_block k ∷ c.after)
   old_ordered = subst (IsOrderedFrom 0) c.cut c.old
@@ -66,14 +66,14 @@ module _ (bs : List Block) (k r : Range) (c : IsCut bs k r) where
   pub carved : (us vs news : List Block) → us ≡ before_part k r → vs ≡ after_part k r → news ≡ replace_block k (us ++ held_block r ∷ vs) bs → Splits bs k r news
   carved us vs news p q e = record { before = c.before; after = c.after; cut = c.cut; is = e ∙ rw (p, q) replaced }
 
--- nothing is left beside a range that fills its block
+-- A range that fills its block leaves no rest.
 pub none_before : (k r : Range) → ¬ NeedsSplit k r → [] ≡ before_part k r
 none_before k r n = rw (le-ltb k.start r.start (⊎_elim (λ (l : k.start < r.start). absurd (n (inl l))) (λ (l : r.start ≤ k.start). l) (cases_lt k.start r.start))) refl
 
 pub none_after : (k r : Range) → ¬ NeedsSplit k r → [] ≡ after_part k r
 none_after k r n = rw (le-ltb r.end k.end (⊎_elim (λ (l : r.end < k.end). absurd (n (inr l))) (λ (l : k.end ≤ r.end). l) (cases_lt r.end k.end))) refl
 
--- the leaf of what is left has just that
+-- The leaf of a part has exactly that part.
 leaf_blocks : (k r : Range) (rest : Rest) → IsRest k r rest → (blocks (side rest.before) ≡ before_part k r) × (blocks (side rest.after) ≡ after_part k r)
 leaf_blocks k r rest i = (
   ap blocks i.before ∙ elim (ltb k.start r.start) as (λ v. blocks (leaf_of (cond v (free_block (record { start = k.start; end = r.start - 1 }) ∷ []) [])) ≡ cond v (free_block (record { start = k.start; end = r.start - 1 }) ∷ []) []) [ true ↦ refl | false ↦ refl ],
@@ -93,7 +93,7 @@ rest_split bs news k r rest c i e =
     let parts = leaf_blocks k r rest i in
     carved bs k r c (blocks (side rest.before)) (blocks (side rest.after)) news parts.0 parts.1 e
 
--- a range that fills its block takes its place
+-- A range that fills its block replaces it.
 pub whole_ordered : (bs : List Block) (k r : Range) → IsCut bs k r → ¬ NeedsSplit k r → IsOrderedFrom 0 (with_block k r Allocated bs)
 whole_ordered bs k r c n = parts_ordered bs k r c [] [] (none_before k r n) (none_after k r n)
 
@@ -102,7 +102,7 @@ whole_split bs news k r c n e = carved bs k r c [] [] news (none_before k r n) (
 
 pub ruleset split_states = (cut_of, known, can_split, rest_leaves, rest_split, whole_ordered, whole_split)
 
--- the state after
+-- The state after the allocation.
 taken_blocks : (s n : Shape) (choice : Choice) → IsSpaceTree s → IsTakenFrom choice.key choice.range → Splits (blocks s) choice.key choice.range (blocks n) → IsBlocksOf (holding choice.range (tree_state s)) (blocks n)
 taken_blocks s n choice h w c =
     subst (λ (v : List Block). IsBlocksOf (holding choice.range (tree_state s)) v) (sym c.is)
@@ -131,7 +131,7 @@ pub no_memory_in : (s : Shape) (choice : Choice) → IsSpaceTree s → IsChoice 
 unfolding AllocatesAt
 no_memory_in s choice h i l = inr (part_left s choice h i l, refl, inl refl)
 
--- a tree of height 48 has many held blocks
+-- A tree of height 48 has many held blocks.
 fibonacci_50 : fibonacci 50 ≡ 12586269025
 unfolding fibonacci fibonacci_pair
 fibonacci_50 = refl

@@ -1,4 +1,4 @@
--- A range taken from a free block of a tree, node by node.
+-- A range split off a free block of a tree, node by node.
 use Rattle.std.proofs.Common.{◌≡◌, ℕ, ◌+◌, List, [], ◌∷◌, ◌++◌, refl, sym, ap, ◌∙◌, subst, append_assoc, append-nil}
 use Rattle.vm_ranges.specs.RangeOrder.{Before}
 use Rattle.vm_ranges.specs.Range.{Range}
@@ -10,7 +10,7 @@ use Rattle.vm_engine.proofs.Nodes.Rewriting.{known_left, known_right, rewritten_
 use Rattle.vm_engine.proofs.Blocks.Replacement.{replace_in_left, replace_in_right, replace_in_middle}
 use Rattle.vm_engine.proofs.Nodes.TreeEdits.{insert_between, clear_between}
 
--- blocks that go in after others, and before others
+-- Blocks that are inserted after all others, and before all others.
 all_last : (lo : ℕ) (xs l rest : List Block) → IsOrderedFrom lo (l ++ (xs ++ rest)) → insert_all xs l ≡ l ++ xs
 all_last lo [] l rest o = sym (append-nil l)
 all_last lo (x ∷ xs) l rest o =
@@ -39,7 +39,7 @@ first_clear lo (x ∷ xs) r o = (back_clear x.key xs r (clear_between lo x [] (x
     back_clear k [] r c = c
     back_clear k (b ∷ l) r c = back_clear k l r c.1
 
--- what becomes of the sides of a tree s whose topmost block gives way to others
+-- The children of a tree s whose root block is replaced by several blocks.
 module _ (s l : Shape) (x : Block) (r : Shape) (us vs : List Block) (y : Block) (e : s ≡ Fork l x r) (t : IsTree s) (o : IsOrderedFrom 0 (replace_block x.key (us ++ y ∷ vs) (blocks s))) where
   abbrev split_blocks : List Block
   split_blocks = blocks l ++ (us ++ y ∷ (vs ++ blocks r))
@@ -69,7 +69,7 @@ module _ (s l : Shape) (x : Block) (r : Shape) (us vs : List Block) (y : Block) 
   pub ordered_split : (m n : List Block) → m ≡ insert_all us (blocks l) → n ≡ insert_all vs (blocks r) → IsOrderedFrom 0 (m ++ y ∷ n)
   ordered_split m n p q = subst (IsOrderedFrom 0) (sym (split_here_blocks m n p q)) o
 
--- a node's blocks with a new side, in which a block gave way to others
+-- The blocks of a node with a new child, in which a block was replaced.
 pub ordered_split_left : (l n : Shape) (x : Block) (r : Shape) (k : Range) (ys : List Block) → Before k x.key → IsTree (Fork l x r) → IsOrderedFrom 0 (replace_block k ys (blocks (Fork l x r)))
     → blocks n ≡ replace_block k ys (blocks l) → IsOrderedFrom 0 (blocks n ++ x ∷ blocks r)
 ordered_split_left l n x r k ys p t o e = rw e (subst (IsOrderedFrom 0) (replace_in_left (Fork l x r) l x r k ys refl p t) o)
@@ -80,7 +80,7 @@ ordered_split_right l n x r k ys p t o e = rw e (subst (IsOrderedFrom 0) (replac
 
 pub ruleset split_steps = (replace_in_left, replace_in_right, known_left, known_right, rewritten_left, rewritten_right, ordered_split_left, ordered_split_right, before_clear, after_clear, split_here_blocks, ordered_split)
 
--- a leaf among the blocks
+-- A leaf among the blocks.
 pub leaf_clear : (n : Shape) (bs : List Block) → n ≡ single (root_block n) → AreClearOf (blocks n) bs → IsClearOf (root_block n).key bs
 unfolding AreClearOf
 leaf_clear n bs e c = let d : AreClearOf (root_block n ∷ []) bs = subst (λ (v : Shape). AreClearOf (blocks v) bs) e c in d.0

@@ -1,4 +1,4 @@
--- A range taken from a free block, and what is left beside it.
+-- A range split off a free block, and the parts next to it.
 use Rattle.std.proofs.Common.{◌≡◌, ℕ, ◌+◌, ◌-◌, ◌<◌, ◌≤◌, List, [], ◌∷◌, ◌++◌, true, false, cond, ltb, refl, sym, ap, ◌∙◌, arith, ⊎_elim, subst, inl, inr}
 use Rattle.std.proofs.lemmas.Bool.{cases_lt, lt-ltb, le-ltb}
 use Rattle.vm_ranges.specs.Range.{Range, MAX}
@@ -20,7 +20,7 @@ held_next : (p : NodeState) → NotBothFree p Allocated
 held_next Free = tt
 held_next Allocated = tt
 
--- the range and the free part after it, before more blocks
+-- The range and the free part after it, before more blocks.
 tiles_after : (p : NodeState) (lo hi : ℕ) (k r : Range) (ys : List Block) → r.start ≡ lo → IsTakenFrom k r → Tiles Free (k.end + 1) ys hi → Tiles p lo (record { key = r; state = Allocated } ∷ after_part k r ++ ys) hi
 tiles_after p lo hi k r ys s w t = (
   s,
@@ -40,7 +40,7 @@ tiles_parts p lo hi k r ys q s w t =
     (λ (l : r.start ≤ k.start). let e = le-ltb k.start r.start l in rw e (tiles_after p lo hi k r ys (omega (arith, w.from)) w t))
     (cases_lt k.start r.start)
 
--- the blocks go on following one another
+-- The blocks are still a tiling.
 pub tiles_split : (p : NodeState) (lo hi : ℕ) (r : Range) (b : Block) (xs ys : List Block) → b.state ≡ Free → IsTakenFrom b.key r → Tiles p lo (xs ++ b ∷ ys) hi → Tiles p lo (xs ++ (parts b.key r ++ ys)) hi
 tiles_split p lo hi r b [] ys f w t =
     tiles_parts p lo hi b.key r ys (subst (λ (s : NodeState). NotBothFree p s) f t.2) t.0 w (subst (λ (s : NodeState). Tiles s (b.key.end + 1) ys hi) f t.3)
@@ -68,7 +68,7 @@ pub starts_after : (p : NodeState) (lo hi : ℕ) (b : Block) (xs ys : List Block
 starts_after p lo hi b [] ys t = omega (arith, t.0)
 starts_after p lo hi b (x ∷ xs) ys t = let i = starts_after x.state (x.key.end + 1) hi b xs ys t.3 in omega (arith, i, t.1)
 
--- exactly that range is held besides
+-- Exactly that range is held in addition.
 held_after_split : (p : NodeState) (lo hi : ℕ) (r : Range) (b : Block) (xs ys : List Block) → b.state ≡ Free → IsTakenFrom b.key r → Tiles p lo (xs ++ b ∷ ys) hi → held_of (xs ++ (parts b.key r ++ ys)) ≡ with_range r (held_of (xs ++ b ∷ ys))
 held_after_split p lo hi r b [] ys f w t =
     held_parts b.key r ys ∙ sym (ap (with_range r) (held_of-free b ys f) ∙ with_first b.state (b.key.end + 1) hi r ys t.3 (omega (arith, w.some, w.upto)))

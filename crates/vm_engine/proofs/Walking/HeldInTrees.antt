@@ -1,4 +1,4 @@
--- What is held in a tree: by its key, and how many.
+-- The held blocks of a tree: the search by a key, and their number.
 use Rattle.std.proofs.Common.{◌≡◌, ◌+◌, ◌^◌, ◌<◌, ◌≤◌, List, [], ◌∷◌, ◌++◌, length, refl, sym, ap, ◌∙◌, arith, append_assoc, length-append, ⊎_elim, ◌↔◌, Bool, IsTrue, Some}
 use Rattle.vm_ranges.specs.Range.{Range}
 use Rattle.vm_engine.specs.Tree.Block.{Block, held_block}
@@ -10,7 +10,7 @@ use Rattle.vm_engine.proofs.Blocks.OneList.{held_of-free, held_of-held, same_blo
 use Rattle.vm_engine.proofs.Nodes.TreeEdits.{some_same}
 use Rattle.vm_engine.proofs.Nodes.MinNodes.{most_nodes, node_count-blocks, power_grows}
 
--- ---- how many
+-- ---- Their number
 held_of-append : (xs ys : List Block) → held_of (xs ++ ys) ≡ held_of xs ++ held_of ys
 held_of-append [] ys = refl
 held_of-append (b ∷ bs) ys =
@@ -38,15 +38,15 @@ held_of-few (b ∷ bs) =
     (λ (e : b.state ≡ Allocated). let own = ap length (held_of-held b bs e) in omega (arith, own, rest))
     (state_cases b.state)
 
--- fewer are held than a tree of the greatest height has nodes
+-- A tree of the maximum height has fewer than 2 ^ MAX_HEIGHT held blocks.
 pub few_held : (s : Shape) → height_of s ≤ MAX_HEIGHT → length (held_of (blocks s)) < 2 ^ MAX_HEIGHT
 few_held s h =
     omega (arith, held_of-few (blocks s), node_count-blocks s, most_nodes s, power_grows (height_of s) MAX_HEIGHT h)
 
 pub ruleset held_numbers = (held_fork-free, held_fork-held, few_held)
 
--- ---- by its key
--- the node with the key holds its block, or no block with the key is held
+-- ---- The search by a key
+-- The node with the key has a held block, or no held block has the key.
 pub held_here : (b : Block) (k : Range) (t : Bool) → k ≡ b.key → (IsTrue t ↔ (b.state ≡ Allocated)) → IsTrue t ↔ (Some b ≡ Some (held_block k))
 held_here b k t e h = (
   λ s. ap Some (same_block b (held_block k) (sym e) (h.0 s)),

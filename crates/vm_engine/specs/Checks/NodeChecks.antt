@@ -1,5 +1,5 @@
--- What the check of a saved value finds, part by part, in the order in which it looks. The lemmas of proofs/Reading say
--- that this is what the value states.
+-- The check of a saved tree, in the order in which the code looks at the value. The lemmas of proofs/Reading show that
+-- the check accepts exactly the values that encode a tree.
 use Rattle.std.specs.Prelude.{◌≡◌, ℕ, zero, suc, ◌+◌, max, Bool, not, ◌&&◌, ◌||◌, ◌==◌, nat_lt, nat_le, if◌then◌else◌, List, [], ◌∷◌, Option, Some, None, is_some, option_map, option_and_then, codes}
 use Rattle.serde_json.specs.Data.{Data}
 use Rattle.serde_json.specs.Find.{get, as_null}
@@ -13,7 +13,7 @@ use Rattle.vm_ranges.specs.declared.state.NodeState.TheVariants.{Allocated}
 use Rattle.vm_engine.specs.declared.saved.check.Cursor.{Cursor}
 use Rattle.vm_engine.specs.declared.saved.check.CheckedTree.{CheckedTree}
 
--- a node's five fields, and no other
+-- The value d has the five fields of a node, with these values, and no other field.
 pub record NodeParts (d key state left right : Data) (height : ℕ) : Type 0 where
   pub five_fields : field_count d ≡ Some 5
   pub key_is : get (codes "key") d ≡ Some key
@@ -22,14 +22,14 @@ pub record NodeParts (d key state left right : Data) (height : ℕ) : Type 0 whe
   pub right_is : get (codes "right") d ≡ Some right
   pub height_is : number_in (codes "height") d ≡ Some height
 
--- what stands in the fields of a node's value
+-- The fields of a node's value.
 pub record NodeData : Type 0 where
   pub block : Block
   pub height : ℕ
   pub left : Data
   pub right : Data
 
--- the fields of a node's value
+-- The fields of a node's value, or None if it does not have exactly these fields or one is not valid.
 abbrev pub decoded_node : Data → Option NodeData
 decoded_node d =
     if is_count 5 (field_count d) then
@@ -43,27 +43,26 @@ decoded_node d =
     (option_and_then decoded_range (get (codes "key") d))
     else None
 
--- what some blocks, one after the other, make of something, where each may be refused
+-- Folds a list of blocks into s, up to the first block for which `step` returns None.
 abbrev pub try_fold_blocks : {S : Type 0} → (S → Block → Option S) → List Block → S → Option S
 try_fold_blocks step [] s = Some s
 try_fold_blocks step (b ∷ bs) s = option_and_then (try_fold_blocks step bs) (step s b)
 
--- a block may stand right behind the front: it starts there, is not the second free one in a row, and if held ends
--- below MAX
+-- The block b can follow: it starts at the cursor, is not a second free block in a row, and ends below MAX if held.
 abbrev pub follows : Cursor → Block → Bool
 follows cursor b =
     (b.key.start == cursor.next) &&
     (not (is_free cursor.before && is_free b.state) && (is_free b.state || nat_lt b.key.end MAX))
 
--- the front behind one more block
+-- The cursor after the block b, or None if b cannot follow.
 abbrev pub advance : Cursor → Block → Option Cursor
 advance cursor b = if follows cursor b then Some (record { next = b.key.end + 1; before = b.state }) else None
 
--- the height is that of a node over children of heights l and r that are close
+-- Tests if h is the height of a node whose children have the heights l and r, at most one apart.
 abbrev pub is_correct_height : ℕ → ℕ → ℕ → Bool
 is_correct_height l r h = (nat_le l (r + 1) && nat_le r (l + 1)) && (h == max l r + 1)
 
--- what is found of a node, where `below` finds what is in a child
+-- The result of the check of a node. `below` checks a child.
 abbrev pub checked_node : (Data → Cursor → Option CheckedTree) → Data → Cursor → Option CheckedTree
 checked_node below d cursor =
     option_and_then (λ node. option_and_then (λ left. option_and_then (λ middle. option_and_then (λ right.
@@ -75,17 +74,18 @@ checked_node below d cursor =
     (below node.left cursor))
     (decoded_node d)
 
--- what is found of a tree of nodes nested at most that deep: its height, and the front behind its blocks
+-- The result of the check of a subtree whose nodes are nested at most `depth` deep: its height, and the cursor after
+-- it.
 unfoldable pub checked_subtree : ℕ → Data → Cursor → Option CheckedTree
 checked_subtree zero d cursor = if is_some (as_null d) then Some (record { height = 0; cursor = cursor }) else None
 checked_subtree (suc depth) d cursor =
     if is_some (as_null d) then Some (record { height = 0; cursor = cursor }) else checked_node (checked_subtree depth) d cursor
 
--- the front before the first block of a space
+-- The cursor before the first block of a space.
 abbrev pub cursor_at_start : Range → Cursor
 cursor_at_start space = record { next = space.start; before = Allocated }
 
--- what is found of a tree whose blocks end as the space does
+-- The result of the check of a whole tree, or None if its blocks do not end where the space ends.
 abbrev pub checked_tree_of : Range → Data → Option CheckedTree
 checked_tree_of space d =
     option_and_then (λ found. if found.cursor.next == space.end + 1 then Some found else None)

@@ -1,20 +1,20 @@
--- What the fields of a node are seen as, and what holds of them.
+-- The model of a node, and its invariant.
 use Rattle.std.specs.Prelude.{◌≡◌, Option, Some, None}
 use Rattle.std.specs.Global.{Box}
 use Rattle.vm_engine.specs.Tree.Shape.{Shape, Tip, Fork, IsTree, height_of, max_free_of, alignments_of}
 use Rattle.vm_engine.specs.declared.node.InnerNode.TheInside.{Inside}
 use Rattle.vm_engine.specs.declared.node.InnerNode.{InnerNode}
 
--- a child as a shape: an absent one is a tip
+-- The shape of a child. An absent child is a tip.
 abbrev pub side : Option (Box InnerNode) → Shape
 side None = Tip
 side (Some n) = n.value
 
--- a node as a shape
+-- The shape of a node with these fields.
 abbrev pub shape_of : Inside → Shape
 shape_of a = Fork (side a.left) (record { key = a.key; state = a.node_state }) (side a.right)
 
--- what holds of each node: it is a balanced search tree, and what it keeps is true
+-- The invariant of a node: its subtree is a balanced search tree, and its cached summary is correct.
 pub record IsNode (a : Inside) : Type 0 where
   pub tree : IsTree (shape_of a)
   pub height : a.height ≡ height_of (shape_of a)

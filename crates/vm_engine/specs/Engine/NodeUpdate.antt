@@ -1,4 +1,4 @@
--- What becomes of a node once one of its children has changed.
+-- The update of a node after one of its children has changed.
 use Rattle.std.specs.Prelude.{◌≡◌, ℕ, ◌+◌, max, Option, None, IsSome}
 use Rattle.std.specs.Global.{Box}
 use Rattle.vm_engine.specs.Tree.Block.{Block, free_length}
@@ -13,12 +13,12 @@ use Rattle.vm_engine.specs.declared.node.summary.Summary.{Summary}
 use Rattle.vm_engine.specs.declared.node.balance.Updated.{Updated}
 use Rattle.vm_engine.specs.declared.node.balance.Updated.TheVariants.{Balanced, Unbalanced}
 
--- what is kept of a tree
+-- The summary is that of the tree s.
 abbrev pub IsSummaryOf : Shape → Summary → Type 0
 IsSummaryOf s summary =
     (summary.height ≡ height_of s) × (summary.free.max_free ≡ max_free_of s) × (summary.free.alignments ≡ alignments_of s)
 
--- a node's sides, and what it keeps, which may be stale
+-- The children of a node and its cached summary, which can be stale.
 pub record RawNode : Type 0 where
   pub left : Option (Box InnerNode)
   pub right : Option (Box InnerNode)
@@ -26,8 +26,8 @@ pub record RawNode : Type 0 where
   pub max_free : ℕ
   pub alignments : ℕ
 
--- It stands: the children stay, close in height, what the node keeps is true, and what changed of that is told. It leans:
--- the children are taken out, and a node without children is left.
+-- The result of `update`. Balanced: the children stay, their heights are at most one apart, the cached summary is
+-- correct, and its change is reported. Unbalanced: both children are taken out, and the node becomes a leaf.
 abbrev pub IsUpdated : Block → RawNode → Updated → RawNode → Type 0
 IsUpdated own old (Balanced reported) new =
     (new.left ≡ old.left) × (new.right ≡ old.right)
@@ -43,12 +43,12 @@ IsUpdated own old (Unbalanced first second) new =
     × (new.max_free ≡ free_length own)
     × (new.alignments ≡ free_alignments own)
 
--- a node that leans is there without children, and can be balanced over them
+-- `rebalance` can be called: an unbalanced node is a leaf, and a balanced tree of it and its children exists.
 abbrev pub CanRebalance : Updated → Option (Box InnerNode) → Type 0
 CanRebalance (Balanced reported) at = Unit {0}
 CanRebalance (Unbalanced left right) at = IsSome at × IsLeaf (side at) × CanBalance (side left) (root_block (side at)) (side right)
 
--- one that stands stays, and one that leans is balanced
+-- The result of `rebalance`: a balanced node is unchanged. An unbalanced node is balanced over its children.
 abbrev pub Rebalances : Updated → Option (Box InnerNode) → Option (Box InnerNode) → Change → Type 0
 Rebalances (Balanced reported) old new change = (new ≡ old) × (change ≡ reported)
 Rebalances (Unbalanced left right) old new change =

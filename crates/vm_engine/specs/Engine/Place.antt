@@ -1,11 +1,11 @@
--- A place for a request, in the free block that has it.
+-- A place for a request, with the free block that contains it.
 use Rattle.std.specs.Prelude.{◌≡◌, ℕ, List, ◌∷◌, ◌++◌, Option, MatchOption}
 use Rattle.std.specs.List.{All}
 use Rattle.vm_engine.specs.Tree.Block.{Block, free_block}
 use Rattle.vm_engine.specs.Tree.Fit.{HasNoFit, IsLowestFit, IsHighestFit}
 use Rattle.vm_engine.specs.declared.node.places.Place.{Place}
 
--- the least fit of the first block that has one
+-- The place is the lowest fit of the first block that has a fit.
 pub record IsFirstFit (n a : ℕ) (bs : List Block) (place : Place) : Type 0 where
   pub before : List Block
   pub after : List Block
@@ -13,7 +13,7 @@ pub record IsFirstFit (n a : ℕ) (bs : List Block) (place : Place) : Type 0 whe
   pub none : All (HasNoFit n a) before
   pub fit : IsLowestFit n a (free_block place.key) place.start
 
--- the greatest fit of the last block that has one
+-- The place is the highest fit of the last block that has a fit.
 pub record IsLastFit (n a : ℕ) (bs : List Block) (place : Place) : Type 0 where
   pub before : List Block
   pub after : List Block
@@ -21,10 +21,10 @@ pub record IsLastFit (n a : ℕ) (bs : List Block) (place : Place) : Type 0 wher
   pub none : All (HasNoFit n a) after
   pub fit : IsHighestFit n a (free_block place.key) place.start
 
--- the first fit is found, or no block has one
+-- The first fit was found, or no block has a fit.
 abbrev pub FindsFirst : ℕ → ℕ → List Block → Option Place → Type 0
 FindsFirst n a bs found = MatchOption found (All (HasNoFit n a) bs) (IsFirstFit n a bs)
 
--- the last fit is found, or no block has one
+-- The last fit was found, or no block has a fit.
 abbrev pub FindsLast : ℕ → ℕ → List Block → Option Place → Type 0
 FindsLast n a bs found = MatchOption found (All (HasNoFit n a) bs) (IsLastFit n a bs)

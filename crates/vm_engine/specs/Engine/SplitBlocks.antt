@@ -1,4 +1,4 @@
--- A range taken from a free block, and what is left of that.
+-- A range split off a free block, and the rest of that block.
 use Rattle.std.specs.Prelude.{◌≡◌, List, ◌∷◌, ◌++◌, IfSome, IsSome}
 use Rattle.vm_ranges.specs.Range.{Range}
 use Rattle.vm_engine.specs.Tree.Block.{Block, held_block}
@@ -9,22 +9,22 @@ use Rattle.vm_engine.specs.Engine.Changes.{IsLeaf}
 use Rattle.vm_engine.specs.Engine.NodeFields.{side}
 use Rattle.vm_engine.specs.declared.node.split.Rest.{Rest}
 
--- the blocks with the held range in the place of the one of a key, between what is left before and after it
+-- The blocks with the block `key` replaced by the held range and the rest before and after it.
 abbrev pub with_split : Range → Range → Rest → List Block → List Block
 with_split key range rest bs =
     replace_block key (blocks (side rest.before) ++ held_block range ∷ blocks (side rest.after)) bs
 
--- what is left is a leaf each
+-- Each part of the rest is a leaf or absent.
 pub record AreLeaves (rest : Rest) : Type 0 where
   pub before : IfSome rest.before (λ n. IsLeaf n.value)
   pub after : IfSome rest.after (λ n. IsLeaf n.value)
 
--- one of the blocks has the key, and with the range and what is left in its place the blocks are in order
+-- The block `key` can be split: it is in the list, and the list stays in order.
 pub record CanSplit (bs : List Block) (key range : Range) (rest : Rest) : Type 0 where
   pub known : IsSome (find_key key bs)
   pub ordered : IsOrderedFrom 0 (with_split key range rest bs)
 
--- these are what is left of the free block of a key beside a range
+-- The rest is exactly the parts of the free block `key` before and after the range.
 pub record IsRest (key range : Range) (rest : Rest) : Type 0 where
   pub before : side rest.before ≡ leaf_of (before_part key range)
   pub after : side rest.after ≡ leaf_of (after_part key range)

@@ -1,4 +1,4 @@
--- A held block made free and given more addresses.
+-- A held block that becomes free and gets a wider range.
 use Rattle.std.specs.Prelude.{◌≡◌, List, Some, max}
 use Rattle.vm_ranges.specs.Range.{Range}
 use Rattle.vm_engine.specs.Tree.Block.{Block, free_length, free_block, held_block}
@@ -7,12 +7,12 @@ use Rattle.vm_engine.specs.Tree.Multiples.{free_alignments}
 use Rattle.vm_engine.specs.Tree.Shape.{Shape, blocks, height_of, max_free_of, alignments_of, IsTree}
 use Rattle.vm_ranges.specs.declared.state.NodeState.TheVariants.{Free}
 
--- one of the blocks is held and has the key, and with the free range in its place they are in order
+-- The block `key` is held, and the list stays in order if it gets the range and becomes free.
 pub record CanWiden (bs : List Block) (key range : Range) : Type 0 where
   pub held : find_key key bs ≡ Some (held_block key)
   pub ordered : IsOrderedFrom 0 (with_block key range Free bs)
 
--- a tree of those blocks, as high as the one from before, with the room that this had or that the range has
+-- The new tree has the widened block and the same height. Its free summary includes the range.
 pub record Widens (old : Shape) (key range : Range) (new : Shape) : Type 0 where
   pub tree : IsTree new
   pub blocks : blocks new ≡ with_block key range Free (blocks old)

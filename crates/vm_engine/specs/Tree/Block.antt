@@ -1,42 +1,45 @@
--- A block of a space: a held range of addresses, or a gap between them.
+-- The blocks of a space. A block is a held range or a gap.
 use Rattle.std.specs.Prelude.{◌≡◌, ℕ, Bool, true, false, if◌then◌else◌, refl}
 use Rattle.std.specs.Coded.{Coded, code_by, coded×, coded_bool}
 use Rattle.vm_ranges.specs.Range.{Range, range_code, address_count}
 use Rattle.vm_ranges.specs.declared.state.NodeState.{NodeState}
 use Rattle.vm_ranges.specs.declared.state.NodeState.TheVariants.{Free, Allocated}
 
--- the addresses of a block, and whether it is held
+-- The range of a block, and whether it is held.
 pub record Block : Type 0 where
   pub key : Range
   pub state : NodeState
 
--- whether no one holds the block
+-- Tests if a block in this state is free.
 abbrev pub is_free : NodeState → Bool
 is_free Free = true
 is_free Allocated = false
 
+-- The state Free if the argument is true, otherwise Allocated.
 abbrev state_if_free : Bool → NodeState
 state_if_free free = if free then Free else Allocated
 
+-- Proof: a state can be restored from `is_free`.
 pub state_if_free-is_free : (s : NodeState) → state_if_free (is_free s) ≡ s
 state_if_free-is_free Free = refl
 state_if_free-is_free Allocated = refl
 
+-- Proof: encodes a state as a Bool.
 abbrev pub state_code : Coded NodeState
 state_code = code_by Bool coded_bool is_free state_if_free state_if_free-is_free
 
--- a block is stored as the pair of its range and its state
+-- Proof: encodes a block as the pair of its fields.
 abbrev pub block_code : Coded Block
 block_code = code_by (Range × NodeState) (coded× range_code state_code) (λ b. (b.key, b.state)) (λ p. record { key = p.0; state = p.1 }) (λ _. refl)
 
--- how many clear addresses a block has: all of a free one, none of a held one
+-- The number of clear addresses in a block: its length if it is free, 0 if it is held.
 abbrev pub free_length : Block → ℕ
 free_length b = if is_free b.state then address_count b.key else 0
 
--- a held block of this range
+-- The held block of this range.
 abbrev pub held_block : Range → Block
 held_block k = record { key = k; state = Allocated }
 
--- a free block of this range
+-- The free block of this range.
 abbrev pub free_block : Range → Block
 free_block k = record { key = k; state = Free }

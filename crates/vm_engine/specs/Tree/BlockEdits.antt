@@ -1,33 +1,33 @@
--- What is done with the list of the blocks.
+-- The parts of a block from which a range is allocated.
 use Rattle.std.specs.Prelude.{ℕ, ◌+◌, ◌-◌, ◌<◌, ◌≤◌, ◌⊎◌, List, [], ◌∷◌, ◌++◌, if◌then◌else◌, nat_lt}
 use Rattle.vm_ranges.specs.Range.{Range}
 use Rattle.vm_engine.specs.Tree.Block.{Block, free_block}
 use Rattle.vm_ranges.specs.declared.state.NodeState.TheVariants.{Allocated}
 
--- the free block that is left before r where r is taken from within k
+-- The free part of k before r, if it is not empty.
 abbrev pub before_part : Range → Range → List Block
 before_part k r =
     if nat_lt k.start r.start then free_block (record { start = k.start; end = r.start - 1 }) ∷ [] else []
 
--- the free block that is left after it
+-- The free part of k after r, if it is not empty.
 abbrev pub after_part : Range → Range → List Block
 after_part k r =
     if nat_lt r.end k.end then free_block (record { start = r.end + 1; end = k.end }) ∷ [] else []
 
--- the blocks that stand in the place of k once r is taken from it
+-- The blocks that replace k when r is allocated in it.
 abbrev pub parts : Range → Range → List Block
 parts k r = before_part k r ++ record { key = r; state = Allocated } ∷ after_part k r
 
--- r lies within k
+-- The range r lies in k.
 pub record IsTakenFrom (k r : Range) : Type 0 where
   pub from : k.start ≤ r.start
   pub some : r.start ≤ r.end
   pub upto : r.end ≤ k.end
 
--- a part of k lies beside r
+-- The range r does not fill k.
 abbrev pub NeedsSplit : Range → Range → Type 0
 NeedsSplit k r = (k.start < r.start) ⊎ (r.end < k.end)
 
--- the n addresses from s on lie in the block
+-- The n addresses that start at s lie in the block.
 unfoldable pub HasLength : ℕ → ℕ → Block → Type 0
 HasLength s n b = (b.key.start ≤ s) × (s + n ≤ b.key.end + 1)

@@ -6,68 +6,68 @@ use Rattle.vm_engine.specs.Address.{AddressState}
 use Rattle.vm_ranges.specs.declared.state.NodeState.{NodeState}
 use Rattle.vm_ranges.specs.declared.state.NodeState.TheVariants.{Free, Allocated}
 
--- not both are free
+-- At most one of both states is Free.
 abbrev pub NotBothFree : NodeState → NodeState → Type 0
 NotBothFree Free Free = ⊥
 NotBothFree Free Allocated = Unit {0}
 NotBothFree Allocated t = Unit {0}
 
--- The blocks follow one another with no gap from lo to hi and no two neighbours are free; a block of the state
--- before stands before them.
+-- The blocks cover lo to hi without gaps between them, and two neighbours are never both free. The block before lo has
+-- the state `before`.
 abbrev pub Tiles : NodeState → ℕ → List Block → ℕ → Type 0
 Tiles before lo [] hi = lo ≡ hi + 1
 Tiles before lo (b ∷ bs) hi = (b.key.start ≡ lo) × (lo ≤ b.key.end) × NotBothFree before b.state × Tiles b.state (b.key.end + 1) bs hi
 
--- the range of a block if it is held
+-- The range of a block if it is held, otherwise no range.
 abbrev pub range_if_held : NodeState → Range → List Range
 range_if_held Free k = []
 range_if_held Allocated k = k ∷ []
 
--- the ranges of the held blocks, in order
+-- The ranges of the held blocks, in order.
 abbrev pub held_of : List Block → List Range
 held_of [] = []
 held_of (b ∷ bs) = range_if_held b.state b.key ++ held_of bs
 
--- the blocks are those of the state
+-- The blocks are those of the state.
 pub record IsBlocksOf (state : AddressState) (bs : List Block) : Type 0 where
   pub tiles : Tiles Allocated state.space.start bs state.space.end
   pub held : held_of bs ≡ state.held
 
--- the gap from lo to right before next, as a block, where there is one
+-- The free block from lo to next - 1, if it is not empty.
 abbrev pub gap_before : ℕ → ℕ → List Block
 gap_before lo next =
     if nat_lt lo next then record { key = record { start = lo; end = next - 1 }; state = Free } ∷ [] else []
 
--- the blocks from lo to hi where these ranges are held: the gaps and the ranges, in order
+-- The blocks from lo to hi if these ranges are held: the gaps and the ranges, in order.
 abbrev pub blocks_between : ℕ → List Range → ℕ → List Block
 blocks_between lo [] hi = gap_before lo (hi + 1)
 blocks_between lo (r ∷ rs) hi =
     gap_before lo r.start ++ record { key = r; state = Allocated } ∷ blocks_between (r.end + 1) rs hi
 
--- the blocks of a state
+-- The blocks of a state.
 unfoldable pub blocks_of : AddressState → List Block
 blocks_of state = blocks_between state.space.start state.held state.space.end
 
--- the state that the blocks of a space stand for
+-- The state that the blocks of a space represent.
 abbrev pub blocks_state : Range → List Block → AddressState
 blocks_state space bs = record { space = space; held = held_of bs }
 
--- the blocks follow one another through the space
+-- The blocks cover the space, and two neighbours are never both free.
 unfoldable pub TilesSpace : Range → List Block → Type 0
 TilesSpace space bs = Tiles Allocated space.start bs space.end
 
--- from lo to hi the keys stand in order with no address in common, with or without gaps
+-- The keys are in order from lo to hi and do not overlap. There can be gaps between them.
 abbrev pub AreKeysIn : ℕ → List Block → ℕ → Type 0
 AreKeysIn lo [] hi = Unit {0}
 AreKeysIn lo (b ∷ bs) hi =
     (lo ≤ b.key.start) × (b.key.start ≤ b.key.end) × (b.key.end ≤ hi) × AreKeysIn (b.key.end + 1) bs hi
 
--- none of the ranges ends at MAX
+-- No range ends at MAX.
 abbrev pub AreBelowMax : List Range → Type 0
 AreBelowMax [] = Unit {0}
 AreBelowMax (r ∷ rs) = (r.end < MAX) × AreBelowMax rs
 
--- the blocks of an allocator
+-- The blocks are valid for this space: they cover it, and no held block ends at MAX.
 pub record IsTiling (space : Range) (bs : List Block) : Type 0 where
   pub tiles : TilesSpace space bs
   pub below : AreBelowMax (held_of bs)

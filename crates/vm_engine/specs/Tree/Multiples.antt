@@ -3,36 +3,37 @@ use Rattle.std.specs.Prelude.{◌≡◌, ℕ, zero, suc, ◌+◌, ◌-◌, ◌%�
 use Rattle.vm_ranges.specs.Range.{Range, IsIn}
 use Rattle.vm_engine.specs.Tree.Block.{Block, is_free}
 
--- a multiple of a lies in the range
+-- The range has a multiple of a.
 unfoldable pub HasMultiple : ℕ → Range → Type 0
 HasMultiple a r = (m : ℕ) × (m % a ≡ 0) × IsIn r m
 
--- whether a multiple of a lies in the range: if one does, so does the greatest one up to its end
+-- Tests if the range has a multiple of a, by the highest multiple that is at most its end.
 unfoldable pub has_multiple : ℕ → Range → Bool
 has_multiple a r = nat_le r.start (r.end - r.end % a)
 
--- whether the block is free and a multiple of a lies in it
+-- Tests if the block is free and has a multiple of a.
 unfoldable pub has_aligned : ℕ → Block → Bool
 has_aligned a b = is_free b.state && has_multiple a b.key
 
--- how many of the alignments below 2 ^ n have a multiple in the range: the greatest that has one, and those below it
+-- The number of alignments below 2 ^ n that have a multiple in the range: the highest such alignment and all lower
+-- ones.
 abbrev pub alignments_below : ℕ → Range → ℕ
 alignments_below zero r = 0
 alignments_below (suc k) r = if has_multiple (2 ^ k) r then suc k else alignments_below k r
 
--- how many of the 64 alignments have a multiple in the range
+-- The number of the 64 alignments that have a multiple in the range.
 unfoldable pub alignment_count : Range → ℕ
 alignment_count r = alignments_below 64 r
 
--- how many alignments have a clear multiple in a block: none in a held one
+-- The number of alignments that have a clear multiple in the block, or 0 if the block is held.
 abbrev pub free_alignments : Block → ℕ
 free_alignments b = if is_free b.state then alignment_count b.key else 0
 
--- how many of the numbers below x are multiples of a, counted one by one: a division would want a law of its own
+-- The number of multiples of a below x. Counting them one by one needs no law about division.
 unfoldable pub multiples_below : ℕ → ℕ → ℕ
 multiples_below a zero = 0
 multiples_below a (suc x) = multiples_below a x + (if nat_eq (x % a) 0 then 1 else 0)
 
--- how many multiples of a lie in the range
+-- The number of multiples of a in the range.
 unfoldable pub multiples_in : ℕ → Range → ℕ
 multiples_in a r = multiples_below a (r.end + 1) - multiples_below a r.start

@@ -1,4 +1,4 @@
--- A tree whose blocks are those of a space.
+-- Trees of the blocks of a space.
 use Rattle.std.specs.Prelude.{◌≡◌, ℕ, ◌≤◌, List, [], ◌∷◌, Result, MatchResult}
 use Rattle.vm_ranges.specs.Range.{Range, IsRange}
 use Rattle.vm_engine.specs.Tree.Block.{Block}
@@ -8,27 +8,27 @@ use Rattle.vm_engine.specs.Tree.Shape.{Shape, MAX_HEIGHT, blocks, height_of}
 use Rattle.vm_ranges.specs.declared.error.Error.{Error}
 use Rattle.vm_ranges.specs.declared.error.Error.TheVariants.{OutOfMemory}
 
--- where the last of the blocks ends
+-- The end of the last block.
 abbrev pub last_end : ℕ → List Block → ℕ
 last_end end [] = end
 last_end end (b ∷ bs) = last_end b.key.end bs
 
--- from the start of the first block to the end of the last
+-- The range from the start of the first block to the end of the last.
 abbrev pub space_of : List Block → Range
 space_of [] = record { start = 0; end = 0 }
 space_of (b ∷ bs) = record { start = b.key.start; end = last_end b.key.end bs }
 
--- the state that the blocks of a tree stand for
+-- The state that a tree represents.
 abbrev pub tree_state : Shape → AddressState
 tree_state s = blocks_state (space_of (blocks s)) (blocks s)
 
--- the blocks are those of a space, and the tree is not too high
+-- The tree is valid: its blocks are valid for a space, and its height is at most MAX_HEIGHT.
 pub record IsSpaceTree (s : Shape) : Type 0 where
   pub tiling : IsTiling (space_of (blocks s)) (blocks s)
   pub space : IsRange (space_of (blocks s)).start (space_of (blocks s)).end
   pub height : height_of s ≤ MAX_HEIGHT
 
--- the tree of a new space, with nothing held, or no memory for it
+-- The result of `new`: a tree of the space without held ranges, or OutOfMemory.
 abbrev pub MakesTree : Range → Result Shape Error → Type 0
 MakesTree space answer =
     MatchResult answer (λ tree. tree_state tree ≡ record { space = space; held = [] }) (λ error. error ≡ OutOfMemory)

@@ -1,4 +1,4 @@
--- The saved values of trees.
+-- The values that encode trees.
 use Rattle.std.specs.Prelude.{◌≡◌, ◌≢◌, ℕ, ◌+◌, ◌≤◌, max, Some, codes}
 use Rattle.serde_json.specs.Data.{Data, null}
 use Rattle.vm_ranges.specs.Fields.{field_count, FieldIs}
@@ -10,7 +10,8 @@ use Rattle.vm_engine.specs.Tree.BlockList.{IsOrderedFrom}
 use Rattle.vm_engine.specs.Tree.Shape.{Shape, Tip, Fork, MAX_HEIGHT, blocks, height_of, IsBalanced}
 use Rattle.vm_ranges.specs.RangeValues.{EncodesRange, EncodesState}
 
--- the value is an object of a node's five fields alone: the block, what stands for each child, and the height
+-- The value d is an object with exactly the five fields of a node: its block, both children, and its height h. `Left`
+-- and `Right` are true for the values of the children.
 pub record EncodesNode (d : Data) (block : Block) (Left Right : Data → Type 0) (h : ℕ) : Type 0 where
   pub five_fields : field_count d ≡ Some 5
   pub key : FieldIs (codes "key") d (λ v. EncodesRange v block.key)
@@ -19,14 +20,14 @@ pub record EncodesNode (d : Data) (block : Block) (Left Right : Data → Type 0)
   pub right : FieldIs (codes "right") d Right
   pub height : number_in (codes "height") d ≡ Some h
 
--- the value has the tree, node for node: null where there is no node, and true heights
+-- The value d encodes the tree, with an object for each node and correct heights. An absent child is null.
 abbrev pub EncodesShape : Data → Shape → Type 0
 EncodesShape d Tip = d ≡ null
 EncodesShape d (Fork l b r) =
     EncodesNode d b (λ v. EncodesShape v l) (λ v. EncodesShape v r) (max (height_of l) (height_of r) + 1)
 
--- the value has the tree of the space, node for node: it has a node, is not too high, in order and balanced, and its
--- blocks are those of the space
+-- The value d encodes a valid tree of the space: it is not empty, not too high, in order and balanced, and its blocks
+-- are valid for the space.
 pub record EncodesSpaceTree (d : Data) (space : Range) (tree : Shape) : Type 0 where
   pub encoded : EncodesShape d tree
   pub some_node : tree ≢ Tip
@@ -35,7 +36,7 @@ pub record EncodesSpaceTree (d : Data) (space : Range) (tree : Shape) : Type 0 w
   pub balanced : IsBalanced tree
   pub blocks : IsTiling space (blocks tree)
 
--- the value has the nodes of the tree, whatever whole numbers are their heights: null where there is no node
+-- The value d has the nodes of the tree, with any whole numbers as heights. An absent child is null.
 abbrev pub HasNodes : Data → Shape → Type 0
 HasNodes d Tip = d ≡ null
 HasNodes d (Fork l b r) = (h : ℕ) × EncodesNode d b (λ v. HasNodes v l) (λ v. HasNodes v r) h

@@ -1,5 +1,8 @@
-//! How a range is held: what fills its free block is marked in place, and what does not is split
-//! from it, with all memory asked for before the first change.
+//! Allocates a chosen range.
+//!
+//! A range that fills its free block only changes the state of the block. Any other range splits
+//! the block. All memory for a split is allocated before the first change, so an error changes
+//! nothing.
 ghost use Rattle.std.specs.Prelude.{◌≡◌, ◌+◌, ◌*◌, ◌<◌, ◌≤◌, Err, IfOk, IfErr, IfSome, OnErr, OnOk};
 ghost use Rattle.vm_ranges.specs.Range.{MAX};
 ghost use Rattle.vm_engine.specs.Answer.{AllocatesAt};
@@ -24,12 +27,14 @@ use crate::ordering::{recall_invariant, valid_range};
 use std::alloc::Global;
 use vm_ranges::{Error, NodeState, RangeInclusive, Result};
 
-/// The height from which on no split is made, so that two more nodes never make a tree too high.
+/// Trees of this height or more are not split, so a split never makes a tree higher than 49.
 const SPLIT_HEIGHT_LIMIT: u64 = 48;
 
 impl IntervalTree {
-    /// Holds a range within a free block. Where a part of the block is left, a tree that is too high
-    /// is `Overflow`, and then comes `OutOfMemory`: all memory is asked for before the first change.
+    /// Allocates a range within a free block.
+    ///
+    /// If the range does not fill the block, it returns `Overflow` for a tree of height 48 or more,
+    /// and `OutOfMemory` if the allocation of a leaf fails.
     #[tactic(auto, using(crate::proofs::Splitting::SplitStates::takings, crate::proofs::Splitting::SplitStates::split_states, crate::proofs::Nodes::Spaces::rooted, crate::proofs::Counts::SplitCounts::holdings))]
     pub(super) fn allocate_chosen(
         &mut self,
@@ -65,15 +70,16 @@ impl IntervalTree {
     }
 }
 
-/// Whether a part of the free block is left beside the range.
+/// Returns `true` if the range does not fill its free block.
 fn needs_split(choice: &Choice) -> bool
     ensures { IsTestOf result (NeedsSplit choice.now.key choice.now.range) }
 {
     choice.key.start() < choice.range.start() || choice.range.end() < choice.key.end()
 }
 
-/// What is left of the free block on both sides of the range. `OutOfMemory` where there is no memory
-/// for a leaf.
+/// Allocates the leaves for the parts of the free block before and after the range.
+///
+/// It returns `OutOfMemory` if the allocation of a leaf fails.
 fn rest_of(alloc: Global, choice: &Choice) -> Result<Rest>
     requires { IsTakenFrom choice.now.key choice.now.range }
     ensures rest { IfOk result (λ rest. IsRest choice.now.key choice.now.range rest) }
@@ -84,7 +90,7 @@ fn rest_of(alloc: Global, choice: &Choice) -> Result<Rest>
     Ok(Rest { before, after })
 }
 
-/// A leaf for what is left of the free block before the range.
+/// Allocates a leaf for the part of the free block before the range, if that part is not empty.
 fn leaf_before(alloc: Global, choice: &Choice) -> Result<Child>
     requires { IsTakenFrom choice.now.key choice.now.range }
     ensures part { IfOk result (λ leaf. side leaf ≡ leaf_of (before_part choice.now.key choice.now.range)) }
@@ -99,7 +105,7 @@ fn leaf_before(alloc: Global, choice: &Choice) -> Result<Child>
     free_leaf(alloc, key)
 }
 
-/// A leaf for what is left of the free block after the range.
+/// Allocates a leaf for the part of the free block after the range, if that part is not empty.
 fn leaf_after(alloc: Global, choice: &Choice) -> Result<Child>
     requires { IsTakenFrom choice.now.key choice.now.range }
     ensures part { IfOk result (λ leaf. side leaf ≡ leaf_of (after_part choice.now.key choice.now.range)) }
@@ -114,7 +120,7 @@ fn leaf_after(alloc: Global, choice: &Choice) -> Result<Child>
     free_leaf(alloc, key)
 }
 
-/// A leaf with a free block.
+/// Allocates a leaf with a free block.
 fn free_leaf(alloc: Global, key: RangeInclusive) -> Result<Child>
     ensures leaf { IfOk result (λ leaf. IfSome leaf (λ n. n.value ≡ single (free_block key))) }
     ensures shape { IfOk result (λ leaf. side leaf ≡ single (free_block key)) }

@@ -1,4 +1,4 @@
-//! Equality and order of trees: by their blocks, and so by the state that they stand for.
+//! Equality and order of trees. Both compare the blocks, so the shape of a tree does not matter.
 ghost use Rattle.std.specs.Prelude.{◌≡◌, ◌↔◌, IsTrue, Some};
 ghost use Rattle.std.proofs.Common.{rules};
 ghost use Rattle.std.specs.Cmp.Rules.{comparing};
@@ -18,7 +18,7 @@ impl PartialEq for IntervalTree {
 
     ghost laws = { Prim.search (comparing, layout_cmp-total, rules) };
 
-    /// Whether the blocks are the same. It stops at the first difference.
+    /// Returns `true` if both trees have the same blocks. It stops at the first difference.
     #[tactic(auto, using(crate::proofs::Comparing::StateOrders::trees_compared))]
     fn eq(&self, other: &IntervalTree) -> bool
         ensures blocks { IsTrue result ↔ (blocks self.now ≡ blocks other.now) }
@@ -38,7 +38,7 @@ impl PartialOrd for IntervalTree {
 
     ghost laws = { Prim.search (comparing, layout_cmp-total, rules) };
 
-    /// As `cmp` compares.
+    /// Compares like `cmp`.
     fn partial_cmp(&self, other: &IntervalTree) -> Option<Ordering>
         ensures { result ≡ Some (layout_cmp (tree_state self.now) (tree_state other.now)) }
     {
@@ -55,8 +55,8 @@ impl Ord for IntervalTree {
 
     ghost matches_eq = { Prim.search (comparing, rules) };
 
-    /// By the first blocks that differ, by start, then by end, then by state; where none do, the
-    /// tree with fewer blocks is less.
+    /// Compares the first blocks that differ, by start, then by end, then by state. If the blocks
+    /// of one tree are a prefix of the other's, the tree with fewer blocks is less.
     #[tactic(auto, using(crate::proofs::Comparing::StateOrders::trees_compared))]
     fn cmp(&self, other: &IntervalTree) -> Ordering
         ensures order { result ≡ layout_cmp (tree_state self.now) (tree_state other.now) }

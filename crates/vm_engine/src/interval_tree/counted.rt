@@ -1,6 +1,7 @@
-//! The counted calls, and the counter of the nodes that they enter. Outside this file nobody makes a
-//! counter, raises one, reads or copies it, since its field can be named here alone: who is handed
-//! a counter can count a node by it and hand it on, and nothing else.
+//! The counted calls, and the counter of the nodes that they enter.
+//!
+//! The field of the counter is private to this file, so only this file can create, read, raise or
+//! copy one. Code that receives a counter can only count a node, or pass the counter on.
 ghost use Rattle.std.specs.Prelude.{◌≡◌, ◌+◌, ◌<◌, ◌≤◌, OnErr};
 ghost use Rattle.vm_ranges.specs.Range.{MAX};
 ghost use Rattle.vm_engine.specs.Address.{IsAddressState};
@@ -16,7 +17,7 @@ use std::alloc::Global;
 use std::marker::Model;
 use vm_ranges::{Constraint, RangeInclusive, Result};
 
-/// How many nodes a call has entered.
+/// The number of nodes that a call has entered.
 #[derive(Drop)]
 pub(crate) struct Steps {
     entered: u64,
@@ -32,14 +33,14 @@ impl Model for Steps {
 
 #[cfg(test)]
 impl Steps {
-    /// A counter at 0, for tests of a node.
+    /// Creates a counter at 0, for tests of a node.
     pub(crate) fn start() -> Steps
         ensures { result ≡ 0 }
     {
         Steps { entered: 0 }
     }
 
-    /// How many nodes were entered.
+    /// Returns the number of nodes entered so far.
     pub(crate) fn entered(&self) -> u64
         ensures { result ≡ self.now }
     {
@@ -62,7 +63,12 @@ impl InnerNode {
 }
 
 impl IntervalTree {
-    /// `allocate`, and how many nodes it entered.
+    /// Allocates like [`allocate`](Self::allocate), and also returns the number of nodes that it
+    /// entered.
+    ///
+    /// # Errors
+    ///
+    /// Those of [`allocate`](Self::allocate), in the same order.
     #[tactic(auto, using(crate::proofs::Counts::Granting::grantings, crate::proofs::Counts::GapBounds::of_trees))]
     pub fn allocate_counted(
         &mut self,
@@ -83,7 +89,11 @@ impl IntervalTree {
         (answer, count.entered)
     }
 
-    /// `free`, and how many nodes it entered.
+    /// Frees like [`free`](Self::free), and also returns the number of nodes that it entered.
+    ///
+    /// # Errors
+    ///
+    /// - `ResourceNotAvailable` if exactly this range is not allocated.
     #[tactic(auto, using(crate::proofs::Counts::FreeCounts::releasings, crate::proofs::Nodes::Spaces::states, crate::proofs::Answers::AddressAnswers::freed))]
     pub fn free_counted(&mut self, key: &RangeInclusive) -> (Result<()>, u64)
         ensures answer { Frees (tree_state self.old) key.now result.0 (tree_state self.new) }

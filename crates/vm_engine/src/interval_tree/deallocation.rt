@@ -1,6 +1,9 @@
-//! How a held range is given back: the free blocks beside it are removed by a descent each, and its
-//! block is widened by one more, free again. To take all three out in one descent would ask for a
-//! proof by cases on which of them stands above which, and for two removals on one way back up.
+//! Frees an allocated range.
+//!
+//! One descent finds the block and its free neighbours. One descent for each of these neighbours
+//! removes it. The last descent gives the block the joined range and makes it free. Separate
+//! descents keep the proof simple, because no case depends on which of the three nodes is above
+//! which.
 ghost use Rattle.std.specs.Prelude.{◌≡◌, ◌+◌, ◌*◌, ◌≤◌, None, OnErr};
 ghost use Rattle.vm_ranges.specs.Range.{MAX, IsRange};
 ghost use Rattle.vm_engine.specs.Answer.{Frees};
@@ -22,7 +25,7 @@ use crate::ordering::valid_range;
 use vm_ranges::{Error, RangeInclusive, Result};
 
 impl IntervalTree {
-    /// `free`, which adds the nodes that it enters to a counter at 0.
+    /// Frees like `free`, and adds the number of entered nodes to a counter at 0.
     #[tactic(auto, using(crate::proofs::Releasing::JoinedBlocks::releases, crate::proofs::Counts::FreeCounts::join_counts))]
     pub(super) fn free_inner(&mut self, key: &RangeInclusive, count: &mut Steps) -> Result<()>
         requires { count.old ≡ 0 }
@@ -39,7 +42,8 @@ impl IntervalTree {
     }
 }
 
-/// Removes the free blocks beside a held one, and gives the held one all their addresses, free again.
+/// Removes the free neighbours of an allocated block. Then makes the block free, with the addresses
+/// of all three.
 #[tactic(auto, using(crate::proofs::Releasing::JoinedBlocks::joins_free, crate::proofs::Counts::FreeCounts::removals))]
 fn join_free(root: &mut Child, key: &RangeInclusive, beside: &Neighbours, count: &mut Steps)
     requires around { IsAround (blocks (side root.old)) key.now beside.now }
@@ -54,7 +58,7 @@ fn join_free(root: &mut Child, key: &RangeInclusive, beside: &Neighbours, count:
     widen(root, key, &range, count);
 }
 
-/// A range with the free ones beside it.
+/// Returns the range of `key` together with its free neighbours.
 fn joined(key: &RangeInclusive, beside: &Neighbours) -> RangeInclusive
     requires { IsRange (start_with beside.now.before key.now) (end_with key.now beside.now.after) }
     ensures { result ≡ joined key.now beside.now }
@@ -70,7 +74,7 @@ fn joined(key: &RangeInclusive, beside: &Neighbours) -> RangeInclusive
     valid_range(start, end)
 }
 
-/// Removes the node with a key, if there is such a key.
+/// Removes the node with this key, if there is a key.
 #[tactic(auto, using(crate::proofs::Counts::NodeCountBounds::removal_bounds))]
 fn remove_if_some(root: &mut Child, key: &Option<RangeInclusive>, count: &mut Steps)
     requires { count.old + height_of (side root.old) ≤ MAX }

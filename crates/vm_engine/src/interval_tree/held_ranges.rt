@@ -1,6 +1,7 @@
-//! The held ranges: one after the other, whether a range is one, and how many there are. Their number
-//! is counted anew for each question: one that is kept would have to be brought up to date in every
-//! change.
+//! Queries about the allocated ranges.
+//!
+//! Their number is not stored, because each change would have to update it. `held_count` counts
+//! them.
 ghost use Rattle.std.specs.Prelude.{◌≡◌, ◌↔◌, IsTrue, length};
 ghost use Rattle.std.specs.List.{Contains};
 ghost use Rattle.std.specs.Iterator.{YieldsFirst, item_count};
@@ -12,8 +13,9 @@ use crate::node::walks::held::{count_held, has_held};
 use std::marker::Model;
 use vm_ranges::{NodeState, RangeInclusive};
 
-/// The held ranges of a space, from the lowest to the highest: it is seen as those that are
-/// left. It takes no memory.
+/// An iterator over the allocated ranges, from the lowest to the highest. It does not allocate.
+///
+/// Its model is the list of the ranges that it has not returned yet.
 #[derive(Drop)]
 pub struct HeldRanges<'a> {
     walk: Walk<'a>,
@@ -36,7 +38,7 @@ impl<'a> Iterator for HeldRanges<'a> {
 
     ghost remaining = { item_count (λ h. h) };
 
-    /// The next held range.
+    /// Returns the next allocated range.
     #[tactic(auto, using(crate::proofs::Blocks::OneList::held_of_first))]
     fn next(&mut self) -> Option<RangeInclusive> {
         while let Some(block) = self.walk.next() {
@@ -49,15 +51,18 @@ impl<'a> Iterator for HeldRanges<'a> {
 }
 
 impl IntervalTree {
-    /// The held ranges, from the lowest to the highest. It takes no memory.
+    /// Returns an iterator over the allocated ranges, from the lowest to the highest. It does not
+    /// allocate.
     pub fn held_ranges(&self) -> HeldRanges<'_>
         ensures { result ≡ (tree_state self.now).held }
     {
         HeldRanges { walk: self.walk() }
     }
 
-    /// Whether exactly this range is held: a part of a held range is not, and a clear one neither. It
-    /// goes one way down the tree and takes no memory.
+    /// Returns `true` if exactly this range is allocated.
+    ///
+    /// It returns `false` for a part of an allocated range and for a free range. It follows one
+    /// path from the root and does not allocate.
     #[tactic(auto, using(crate::proofs::Releasing::Finding::held_by_key))]
     pub fn holds(&self, key: &RangeInclusive) -> bool
         ensures { IsTrue result ↔ Contains (tree_state self.now).held key.now }
@@ -65,7 +70,7 @@ impl IntervalTree {
         has_held(&self.root, key)
     }
 
-    /// How many ranges are held. It walks the whole tree and takes no memory.
+    /// Returns the number of allocated ranges. It visits every node and does not allocate.
     pub fn held_count(&self) -> u64
         ensures { result ≡ length (tree_state self.now).held }
     {

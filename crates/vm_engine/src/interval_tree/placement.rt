@@ -1,5 +1,4 @@
-//! Where a request is placed: the least, the greatest or the named place, and the free block that
-//! has it.
+//! Chooses the range of a request, and finds the free block that contains it.
 ghost use Rattle.std.specs.Prelude.{◌≡◌, ◌≢◌, ◌+◌, ◌<◌, ◌≤◌, IfErr, IfSome};
 ghost use Rattle.vm_ranges.specs.Range.{MAX};
 ghost use Rattle.vm_engine.specs.Tree.Block.{free_block};
@@ -17,7 +16,8 @@ use crate::ordering::{recall_invariant, valid_range};
 use vm_ranges::{AllocPolicy, Constraint, Error, NodeState, RangeInclusive, Result};
 
 impl IntervalTree {
-    /// The range to hold for a request, and the free block that has it, or the refusal.
+    /// Returns the range that the policy of a request chooses, with its free block, or the error of
+    /// the request.
     #[tactic(auto, using(crate::proofs::Choosing::Searched::choices))]
     pub(super) fn choose_place(&self, constraint: Constraint, count: &mut Steps) -> Result<Choice>
         requires { count.old + node_count self.now + height_of self.now ≤ MAX }
@@ -40,9 +40,13 @@ impl IntervalTree {
         }
     }
 
-    /// The named start, where it is a place. In this order: `Overflow` for `u64::MAX`,
-    /// `ResourceNotAvailable` for a start outside the space, `Overflow` for a range that passes
-    /// `u64::MAX`, and then what the block with the start says.
+    /// Returns the range at the start that an `ExactMatch` request names, if it is free.
+    ///
+    /// The errors are, in this order:
+    /// - `Overflow` if `start` is `u64::MAX`.
+    /// - `ResourceNotAvailable` if `start` is outside the space.
+    /// - `Overflow` if the range would end past `u64::MAX`.
+    /// - The error of `exact_choice`.
     #[tactic(auto, using(crate::proofs::Choosing::ExactPlaces::exact_choices, crate::proofs::Counts::NodeCountBounds::exact_nodes))]
     fn exact_place(&self, constraint: Constraint, start: u64, count: &mut Steps) -> Result<Choice>
         requires policy { constraint.policy ≡ ExactMatch start }
@@ -66,8 +70,10 @@ impl IntervalTree {
     }
 }
 
-/// The `size` addresses from the place on that a search found. `ResourceNotAvailable` where it found
-/// none, and `Overflow` where they end at `u64::MAX`.
+/// Returns the `size` addresses that start at the place that a search found.
+///
+/// It returns `ResourceNotAvailable` if the search found no place, and `Overflow` if the range ends
+/// at `u64::MAX`.
 #[tactic(auto, unfolding(crate::specs::Engine::Choosing::ChoosesBelowMax, crate::specs::Tree::BlockEdits::HasLength))]
 fn choice_at(found: Option<Place>, size: u64) -> Result<Choice>
     requires sized { 0 < size }
@@ -89,9 +95,15 @@ fn choice_at(found: Option<Place>, size: u64) -> Result<Choice>
     })
 }
 
-/// What the block with a start says to a request from there to `last`. A held block of exactly this
-/// range is `InvalidStateTransition`, any other and a free one that is too short
-/// `ResourceNotAvailable`, and a range that ends at `u64::MAX` is `Overflow`.
+/// Returns the range from `start` to `last`, if it is free. The block contains `start`.
+///
+/// The errors are, in this order:
+/// - For an allocated block:
+///   - `InvalidStateTransition` if its range is exactly this range.
+///   - `ResourceNotAvailable` otherwise.
+/// - For a free block:
+///   - `ResourceNotAvailable` if it ends before `last`.
+///   - `Overflow` if `last` is `u64::MAX`.
 #[tactic(auto, using(crate::proofs::Choosing::ExactPlaces::blocks_of_starts))]
 fn exact_choice(key: RangeInclusive, state: NodeState, start: u64, last: u64) -> Result<Choice>
     requires ordered { start ≤ last }

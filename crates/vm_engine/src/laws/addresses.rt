@@ -14,28 +14,32 @@ ghost use Rattle.vm_engine.specs.Laws.AddressLaws.{
   TooShortAreFew,
 };
 
-/// The state of an allocator decides its answer to a request and the state after it, the refusal of
-/// a split for memory or for depth aside.
+/// States that an allocation has one result and one next state, except that a split may fail.
+///
+/// A split fails with `OutOfMemory`, or with `Overflow` if the tree is too high.
 #[tactic(auto, using(crate::proofs::Answers::Once::allocates_once))]
 fn allocates_once()
     ensures { AllocatesOnce }
 {}
 
-/// The state of an allocator decides its answer to a range given back and the state after it.
+/// States that a call of `free` has one result and one next state.
 #[tactic(auto, using(crate::proofs::Answers::Once::frees_once))]
 fn frees_once()
     ensures { FreesOnce }
 {}
 
-/// Each call leaves the state of an allocator, and in such a state the held ranges have no address in
-/// common, lie in the space and do not contain `u64::MAX`.
+/// States that each call keeps the state of an allocator valid.
+///
+/// In a valid state, allocated ranges never overlap, lie in the space, and do not contain
+/// `u64::MAX`.
 #[tactic(auto, using(crate::proofs::Answers::AddressAnswers::preserved))]
 fn states_are_preserved()
     ensures preserved { StateIsPreserved }
     ensures apart { HeldAreDisjoint }
 {}
 
-/// What a range that is taken or given back changes.
+/// States which range an allocation adds, and which range `free` removes. Freeing a range right
+/// after its allocation restores the state.
 #[tactic(auto, using(crate::proofs::Answers::AddressAnswers::changes))]
 fn one_range_changes()
     ensures takes { AllocatingAddsRange }
@@ -43,20 +47,21 @@ fn one_range_changes()
     ensures undone { FreeingUndoes }
 {}
 
-/// The test by which futile gaps are counted tells the truth, and at alignment 1 there are none.
+/// States that the test for misaligned gaps is exact. At alignment 1 no gap is misaligned.
 #[tactic(auto, using(crate::proofs::Counts::MisalignedGaps::misaligned))]
 fn misaligned_gaps_are_exact()
     ensures exact { MisalignedIsExact }
     ensures none { NoneIsMisalignedAtOne }
 {}
 
-/// As many different held ranges as are held are all of them.
+/// States that a list of different allocated ranges is complete exactly if its length is the number
+/// of allocated ranges.
 #[tactic(auto, using(crate::proofs::Blocks::HeldLists::listings))]
 fn counts_find_all()
     ensures { CountFindsAll }
 {}
 
-/// The test by which cramped gaps are counted tells the truth, and there are at most as many as
+/// States that the test for gaps that are too short is exact. There are at most as many of them as
 /// multiples of the alignment in the space.
 #[tactic(auto, using(crate::proofs::Counts::TooShortGaps::too_short))]
 fn too_short_gaps_are_exact()

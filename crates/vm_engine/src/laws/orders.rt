@@ -1,8 +1,9 @@
-//! Laws of the order of allocators.
+//! Laws of the orders of allocators and of trees.
 ghost use Rattle.vm_engine.specs.Comparison.{layout_cmp, state_cmp, IsOrder, OrderAgreesWithEquality};
 
-/// The orders of allocators and of trees are total and transitive, and that of allocators finds two
-/// equal just where `==` does.
+/// States that the orders of allocators and of trees are total and transitive.
+///
+/// The order of allocators returns `Equal` exactly if `==` returns `true`.
 fn orders_are_orders()
     ensures allocators { IsOrder state_cmp }
     ensures trees { IsOrder layout_cmp }

@@ -1,13 +1,13 @@
-//! Rotations to the left and to the right, and `update`, the one tail of each change of a child.
-//! Nothing here calls itself, and nothing takes memory.
+//! Rotations, and the update of a node after one of its children has changed. Nothing here is
+//! recursive or allocates.
 //!
-//! `update` takes the fields of a node one by one, since a node may not be handed on whole while what
-//! it keeps is stale, and a record of what is kept would make a node larger. It returns what became
-//! of it (`Updated`) instead of rotating, since the caller still has it open: once it is closed,
-//! `rebalance` does the rest, and one lemma says what both make of it (`rebalanced`). It stands in line:
-//! never inlined it costs 5 to 10 % of the instructions of every input, since the fields then go as
-//! addresses; the rotation alone as a cold function makes no difference. A rotation changes nodes in
-//! place: to take them apart and put them together again reads better, and costs 1.5 to 3 %.
+//! `update` takes the fields of a node one by one, because a node whose cached summary is stale
+//! violates the invariant and cannot be passed whole. For the same reason it does not rotate: it
+//! returns an `Updated`, and the caller calls `rebalance` when the node is whole again. `update` is
+//! always inlined, because otherwise the fields are passed by address at every level.
+//!
+//! Rotations change nodes in place. This is faster than taking the nodes apart and building them
+//! again.
 ghost use Rattle.std.specs.Prelude.{◌≡◌, ◌+◌, ◌<◌, ◌≤◌, ◌^◌, ◌++◌, ◌∷◌, max, IsSome};
 ghost use Rattle.vm_engine.specs.Tree.BlockList.{IsOrderedFrom};
 ghost use Rattle.vm_engine.specs.Tree.Shape.{Fork, blocks, height_of, single, root_block, IsTree, DifferByAtMost};
@@ -19,17 +19,19 @@ use super::summary::{Change, free_summary_of, refresh_free, summary_of, summary_
 use super::{Child, InnerNode, height};
 use vm_ranges::{NodeState, RangeInclusive};
 
-/// What becomes of a node once one of its children has changed.
+/// The effect of a changed child on its parent.
 #[derive(Drop)]
 pub(super) enum Updated {
-    /// Its children are close in height; this changed of what it keeps.
+    /// The heights of the children differ by at most one. The summary of the parent changed like
+    /// this.
     Balanced(Change),
-    /// Its children differ by two, and are taken out of it: the left one and the right one.
+    /// The heights of the children differ by two. Both children, left and right, were taken out of
+    /// the parent.
     Unbalanced(Child, Child),
 }
 
 impl Updated {
-    /// Balances the node at a place where it leans; says what changed there.
+    /// Rebalances the node at a link if it is unbalanced. Returns the change of its summary.
     #[inline(always)]
     pub(super) fn rebalance(self, at: &mut Child) -> Change
         requires { CanRebalance self at.old }
@@ -42,7 +44,7 @@ impl Updated {
     }
 }
 
-/// Brings what a node keeps up to date, or takes its children out where they are to be balanced.
+/// Updates the cached summary of a node, or takes its children out if the node is unbalanced.
 #[inline(always)]
 #[tactic(auto, using(crate::proofs::Nodes::UpdatedNodes::keeping))]
 pub(super) fn update(
@@ -94,7 +96,7 @@ pub(super) fn update(
 }
 
 impl InnerNode {
-    /// Takes the children out of the node, the left one and the right one.
+    /// Takes both children out of the node and returns them, left and right.
     #[inline(always)]
     pub(super) fn take_children(&mut self) -> (Child, Child)
         ensures shape { self.old ≡ Fork (side result.0) (root_block self.old) (side result.1) }
@@ -111,7 +113,7 @@ impl InnerNode {
     }
 }
 
-/// A node with these sides, whose heights differ by at most one.
+/// Returns a node with these children, whose heights differ by at most one.
 pub(super) fn fork(left: Child, mut middle: Box<InnerNode>, right: Child) -> Box<InnerNode>
     requires leaf { IsLeaf middle.value }
     requires ordered { IsOrderedFrom 0 (blocks (side left) ++ root_block middle.value ∷ blocks (side right)) }
@@ -130,7 +132,8 @@ pub(super) fn fork(left: Child, mut middle: Box<InnerNode>, right: Child) -> Box
     middle
 }
 
-/// Rotates to the right: a left side two levels higher goes to the top.
+/// Rotates right. The left child, which is two levels higher than the right one, becomes the root
+/// of the subtree.
 #[tactic(auto, using(crate::proofs::Blocks::BlockOrder::rotations))]
 fn rotate_right(mut left: Box<InnerNode>, middle: Box<InnerNode>, right: Child) -> Box<InnerNode>
     requires leaf { IsLeaf middle.value }
@@ -149,8 +152,8 @@ fn rotate_right(mut left: Box<InnerNode>, middle: Box<InnerNode>, right: Child) 
     left
 }
 
-/// Rotates to the left, and then to the right: the right side of a left side two levels higher goes
-/// to the top.
+/// Rotates left at the left child, which is two levels higher, and then right. The right child of
+/// the left child becomes the root of the subtree.
 #[tactic(auto, using(crate::proofs::Blocks::BlockOrder::rotations))]
 fn rotate_left_right(
     mut left: Box<InnerNode>,
@@ -183,7 +186,8 @@ fn rotate_left_right(
     inner
 }
 
-/// Rotates to the left: a right side two levels higher goes to the top.
+/// Rotates left. The right child, which is two levels higher than the left one, becomes the root of
+/// the subtree.
 #[tactic(auto, using(crate::proofs::Blocks::BlockOrder::rotations))]
 fn rotate_left(left: Child, middle: Box<InnerNode>, mut right: Box<InnerNode>) -> Box<InnerNode>
     requires leaf { IsLeaf middle.value }
@@ -202,8 +206,8 @@ fn rotate_left(left: Child, middle: Box<InnerNode>, mut right: Box<InnerNode>) -
     right
 }
 
-/// Rotates to the right, and then to the left: the left side of a right side two levels higher goes
-/// to the top.
+/// Rotates right at the right child, which is two levels higher, and then left. The left child of
+/// the right child becomes the root of the subtree.
 #[tactic(auto, using(crate::proofs::Blocks::BlockOrder::rotations))]
 fn rotate_right_left(
     left: Child,
@@ -236,7 +240,8 @@ fn rotate_right_left(
     inner
 }
 
-/// A node with these sides, whose heights differ by at most two.
+/// Returns a balanced subtree of these children and this node. The heights of the children differ
+/// by at most two.
 pub(super) fn balance(left: Child, middle: Box<InnerNode>, right: Child) -> Box<InnerNode>
     requires leaf { IsLeaf middle.value }
     requires sides { CanBalance (side left) (root_block middle.value) (side right) }
@@ -261,8 +266,10 @@ pub(super) fn balance(left: Child, middle: Box<InnerNode>, right: Child) -> Box<
     fork(left, middle, right)
 }
 
-/// Puts a node with these sides, whose heights differ by at most two, in the place of one without
-/// children. The height there may be another one, which it tells.
+/// Replaces the leaf at a link by a balanced subtree of that leaf and these children, whose heights
+/// differ by at most two.
+///
+/// It returns `Change::Height`, because the height at the link can change.
 fn balance_at(at: &mut Child, left: Child, right: Child) -> Change
     requires some { IsSome at.old }
     requires leaf { IsLeaf (side at.old) }

@@ -1,4 +1,4 @@
-//! The block of an address.
+//! The search for the block that contains a range.
 ghost use Rattle.std.specs.Prelude.{◌≡◌, ◌+◌, ◌≤◌};
 ghost use Rattle.std.specs.Option.{option_map};
 ghost use Rattle.vm_ranges.specs.Range.{MAX};
@@ -12,7 +12,7 @@ use crate::ordering::ends_before;
 use vm_ranges::RangeInclusive;
 
 impl InnerNode {
-    /// The node whose key contains this one.
+    /// Returns the node whose key contains this range, or `None` if there is no such node.
     #[tactic(auto, using(crate::proofs::Nodes::Supersets::supersets, crate::proofs::Counts::NodeCountCases::nodes_across_cases))]
     pub(crate) fn search_superset(
         &self,

@@ -1,4 +1,4 @@
-//! A leaf added to a tree, on one way down and back up.
+//! Adds a leaf to a tree, in one descent.
 ghost use Rattle.std.specs.Prelude.{◌≡◌, ◌+◌, ◌<◌, ◌≤◌, IsSome};
 ghost use Rattle.vm_ranges.specs.Range.{MAX};
 ghost use Rattle.vm_engine.specs.Tree.BlockList.{IsClearOf, insert_block};
@@ -13,7 +13,8 @@ use super::{Child, InnerNode};
 use crate::Steps;
 use crate::ordering::starts_before;
 
-/// Adds a leaf at a place, below the node there if there is one; says what changed there.
+/// Adds a leaf to the subtree at a link, and rebalances the path. Returns the change of the
+/// subtree's summary.
 #[tactic(auto, using(crate::proofs::Blocks::BlockOrder::links, crate::proofs::Counts::NodeCountCases::nodes_down_cases))]
 pub(super) fn link_at(at: &mut Child, leaf: Box<InnerNode>, count: &mut Steps) -> Change
     requires leaf { IsLeaf leaf.value }

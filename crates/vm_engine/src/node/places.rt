@@ -1,10 +1,9 @@
-//! The searches for the place of a request: first fit and last fit, two functions, since one with a
-//! side as its argument would look at it at each node, and its proof would be by cases on it
-//! throughout. They write what they find into an `Option` that their caller holds: a returned place
-//! is 32 bytes that are copied at each level, 12 % of the instructions of `first`. Each looks whether
-//! a child is there, and has room (`may_fit`), before it calls: a recursion over optional children took
-//! 40 to 80 % more time. None calls what begins the search, since whatever comes back to itself has
-//! to count a node.
+//! The searches for the lowest and for the highest place of a request.
+//!
+//! They are two functions, because a common one would branch on the direction at every node. They
+//! write the place into an `Option` of their caller, because returning it would copy 32 bytes at
+//! every level. Before a call enters a child, `may_fit` checks that the child exists and that its
+//! summary fits the request.
 ghost use Rattle.std.specs.Prelude.{◌≡◌, ◌+◌, ◌<◌, ◌≤◌, true, false, None, MatchOption};
 ghost use Rattle.vm_ranges.specs.Range.{MAX};
 ghost use Rattle.vm_ranges.specs.Alignment.{IsAlignment};
@@ -18,16 +17,18 @@ use super::{Child, InnerNode};
 use crate::Steps;
 use vm_ranges::{NodeState, RangeInclusive, align_down, align_up};
 
-/// A start in a free block.
+/// An address in a free block at which a request can start.
 #[derive(Clone, Copy, Debug)]
 pub(crate) struct Place {
     /// The free block.
     pub(crate) key: RangeInclusive,
-    /// An address of it.
+    /// An address of the block.
     pub(crate) start: u64,
 }
 
-/// The least multiple of the alignment from which a block has room for `size` clear addresses.
+/// Returns the lowest multiple of `alignment` at which `size` addresses fit into the block.
+///
+/// It returns `None` if there is no such multiple, or if the block is allocated.
 #[tactic(auto, using(crate::proofs::Choosing::Fits::lowest_fits_by_key))]
 fn lowest_fit(key: &RangeInclusive, state: NodeState, size: u64, alignment: u64) -> Option<u64>
     requires sized { 0 < size }
@@ -48,7 +49,9 @@ fn lowest_fit(key: &RangeInclusive, state: NodeState, size: u64, alignment: u64)
     }
 }
 
-/// The greatest multiple of the alignment from which a block has room for `size` clear addresses.
+/// Returns the highest multiple of `alignment` at which `size` addresses fit into the block.
+///
+/// It returns `None` if there is no such multiple, or if the block is allocated.
 #[tactic(auto, using(crate::proofs::Choosing::Fits::highest_fits))]
 fn highest_fit(key: &RangeInclusive, state: NodeState, size: u64, alignment: u64) -> Option<u64>
     requires sized { 0 < size }
@@ -65,8 +68,10 @@ fn highest_fit(key: &RangeInclusive, state: NodeState, size: u64, alignment: u64
     if start <= place { Some(place) } else { None }
 }
 
-/// The tree, if one of its free blocks is long enough for `size` addresses, and a multiple of the
-/// alignment lies in one of them.
+/// Returns the root of the subtree if a request may fit into it.
+///
+/// This is true if one of its free blocks has at least `size` addresses, and one of them has a
+/// multiple of `alignment`. These can be different blocks.
 #[inline(always)]
 #[tactic(auto, using(crate::proofs::Counts::Entering::searched))]
 fn may_fit(tree: &Child, size: u64, alignment: u64) -> Option<&InnerNode>
@@ -85,7 +90,7 @@ fn may_fit(tree: &Child, size: u64, alignment: u64) -> Option<&InnerNode>
     }
 }
 
-/// The least place among the blocks of a tree: the first block with a fit, and its least fit.
+/// Returns the lowest place for a request in a tree, or `None` if there is no place.
 #[tactic(auto, using(crate::proofs::Counts::Searching::firsts))]
 pub(crate) fn first_place(
     tree: &Child,
@@ -106,7 +111,7 @@ pub(crate) fn first_place(
     found
 }
 
-/// The greatest place among the blocks of a tree: the last block with a fit, and its greatest fit.
+/// Returns the highest place for a request in a tree, or `None` if there is no place.
 #[tactic(auto, using(crate::proofs::Counts::Searching::lasts))]
 pub(crate) fn last_place(
     tree: &Child,
@@ -128,7 +133,7 @@ pub(crate) fn last_place(
 }
 
 impl InnerNode {
-    /// Writes the least place from this node on, if there is one.
+    /// Writes the lowest place in the subtree to `found`, if there is a place.
     #[tactic(auto, using(crate::proofs::Choosing::PlaceSearch::firsts, crate::proofs::Counts::Searching::firsts))]
     fn first_place(&self, size: u64, alignment: u64, found: &mut Option<Place>, count: &mut Steps)
         requires sized { 0 < size }
@@ -158,7 +163,7 @@ impl InnerNode {
         }
     }
 
-    /// Writes the greatest place from this node on, if there is one.
+    /// Writes the highest place in the subtree to `found`, if there is a place.
     #[tactic(auto, using(crate::proofs::Choosing::PlaceSearch::lasts, crate::proofs::Counts::Searching::lasts))]
     fn last_place(&self, size: u64, alignment: u64, found: &mut Option<Place>, count: &mut Steps)
         requires sized { 0 < size }

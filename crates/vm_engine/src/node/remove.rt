@@ -1,6 +1,7 @@
-//! A block removed from a tree. What removes the node itself is no part of the descent to it
-//! (`delete_root`, never inlined): together they would save twice as many registers at each level, 4
-//! % of the instructions of `exact`.
+//! Removes a block from a tree.
+//!
+//! `delete_root` is a function that is never inlined, because otherwise each level of the descent
+//! would save its registers too.
 ghost use Rattle.std.specs.Prelude.{◌≡◌, ◌+◌, ◌<◌, ◌≤◌, ◌^◌, ◌++◌, [], ◌∷◌, ◌↔◌, max, IsNone, IsSome};
 ghost use Rattle.vm_ranges.specs.Range.{MAX};
 ghost use Rattle.vm_engine.specs.Tree.BlockList.{IsOrderedFrom, replace_block};
@@ -17,8 +18,8 @@ use crate::ordering::compare;
 use std::cmp::Ordering;
 use vm_ranges::RangeInclusive;
 
-/// Takes the node with the least key out from below the node at a place; says what changed
-/// there.
+/// Takes the node with the lowest key out of the subtree at a link, and rebalances the path.
+/// Returns that node and the change of the subtree's summary.
 #[tactic(auto, using(crate::proofs::Blocks::Replacement::first_blocks, crate::proofs::Nodes::SideChange::takes, crate::proofs::Counts::NodeCountCases::nodes_to_first_cases))]
 fn take_first_at(at: &mut Child, count: &mut Steps) -> (Box<InnerNode>, Change)
     requires some { IsSome at.old }
@@ -56,8 +57,10 @@ fn take_first_at(at: &mut Child, count: &mut Steps) -> (Box<InnerNode>, Change)
     (lowest, updated.rebalance(at))
 }
 
-/// What is left of a tree without its root, from the root's children: the other child where one is
-/// absent, and else both below the least node of the right one.
+/// Joins the two children of a removed node, and returns the subtree.
+///
+/// If one child is absent, this is the other child. Otherwise the lowest node of the right child
+/// becomes the root, and the subtree is balanced.
 #[tactic(auto, using(crate::proofs::Blocks::Replacement::first_blocks, crate::proofs::Nodes::SideChange::takes, crate::proofs::Counts::NodeCountCases::nodes_to_join_cases))]
 pub(super) fn join(left: Child, mut right: Child, count: &mut Steps) -> Child
     requires ordered { IsOrderedFrom 0 (blocks (side left) ++ blocks (side right)) }
@@ -80,8 +83,10 @@ pub(super) fn join(left: Child, mut right: Child, count: &mut Steps) -> Child
 }
 
 impl InnerNode {
-    /// The tree without its root's key: its child where it has one alone, none where it has none,
-    /// and else both children below the least node of the right one. It takes no memory.
+    /// Removes the root of a subtree, and returns the rest, or `None` if the root was its only
+    /// node.
+    ///
+    /// It does not allocate.
     #[tactic(auto, using(crate::proofs::Counts::NodeCountBounds::removal_bounds, crate::proofs::Counts::NodeCountCases::nodes_to_remove_cases))]
     #[inline(never)]
     pub(crate) fn delete_root(tree: Box<InnerNode>, count: &mut Steps) -> Option<Box<InnerNode>>
@@ -100,8 +105,8 @@ impl InnerNode {
     }
 }
 
-/// Removes the node with a key from below the node at a place, if there is one; says what
-/// changed there.
+/// Removes the node with this key from the subtree at a link, if there is one, and rebalances the
+/// path. Returns the change of the subtree's summary.
 #[tactic(auto, using(crate::proofs::Nodes::SideChange::deletions, crate::proofs::Counts::NodeCountCases::nodes_to_remove_cases))]
 pub(crate) fn delete_at(at: &mut Child, key: &RangeInclusive, count: &mut Steps) -> Change
     requires { count.old + height_of (side at.old) ≤ MAX }

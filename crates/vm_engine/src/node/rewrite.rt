@@ -1,4 +1,4 @@
-//! A block changed in place.
+//! Changes the key and the state of a block in place.
 ghost use Rattle.std.specs.Prelude.{◌≡◌, ◌+◌, ◌≤◌, IsSome};
 ghost use Rattle.vm_ranges.specs.Range.{MAX};
 ghost use Rattle.vm_engine.specs.Tree.BlockList.{IsOrderedFrom, with_block, find_key};
@@ -15,8 +15,8 @@ use std::cmp::Ordering;
 use vm_ranges::{NodeState, RangeInclusive};
 
 impl InnerNode {
-    /// Gives this node another key, which keeps its place in the order, and another state. Returns what
-    /// changed of what is kept here.
+    /// Changes the key and the state of this node. The new key keeps its position in the order.
+    /// Returns the change of the node's summary.
     #[tactic(auto, using(crate::proofs::Nodes::Rewriting::rewritings))]
     pub(super) fn rewrite_here(&mut self, key: RangeInclusive, node_state: NodeState) -> Change
         requires { IsOrderedFrom 0 (with_block (root_block self.old).key key node_state (blocks self.old)) }
@@ -35,8 +35,10 @@ impl InnerNode {
     }
 }
 
-/// Gives the node with key `old` below the node at a place another key, which keeps its place in the
-/// order, and another state. Returns what changed of what is kept there. It takes no memory.
+/// Changes the key and the state of the node with key `old` in the subtree at a link. The new key
+/// keeps its position in the order.
+///
+/// It returns the change of the subtree's summary, and does not allocate.
 #[tactic(auto, using(crate::proofs::Counts::NodeCountCases::nodes_to_cases))]
 pub(crate) fn rewrite_at(
     at: &mut Child,

@@ -1,5 +1,6 @@
-//! The other calls of a search tree: searching, inserting, deleting and marking by a key. The
-//! allocator makes none of them, and the tests that every search tree has to pass make them all.
+//! The usual calls of a search tree: searches, insertions, removals and marks by key.
+//!
+//! The allocator makes none of these calls. They exist for the tests of the tree.
 ghost use Rattle.std.specs.Prelude.{◌≡◌, ◌+◌, ◌*◌, ◌<◌, ◌≤◌, [], ◌↔◌, None, IsNone, IfOk, IfErr, OnOk, OnErr};
 ghost use Rattle.std.specs.Option.{option_map};
 ghost use Rattle.vm_ranges.specs.Range.{MAX};
@@ -21,7 +22,8 @@ use std::cmp::Ordering;
 use vm_ranges::{Error, NodeState, RangeInclusive, Result};
 
 impl InnerNode {
-    /// The tree with one more leaf, whose key overlaps none of the tree's. It takes no memory.
+    /// Adds a leaf whose key overlaps no key of the tree, and returns the tree. It does not
+    /// allocate.
     pub(crate) fn link(
         tree: Box<InnerNode>,
         leaf: Box<InnerNode>,
@@ -41,9 +43,11 @@ impl InnerNode {
         tree
     }
 
-    /// The tree with one more key. A key that overlaps is refused by `Overlap` of it with the first
-    /// key met on the way down, and only then may memory run out, `OutOfMemory`. A refusal hands the
-    /// same tree back.
+    /// Inserts a key, and returns the tree. An error returns the same tree.
+    ///
+    /// The errors are, in this order:
+    /// - `Overlap` if the key overlaps one of the tree. It names the first such key on the path.
+    /// - `OutOfMemory` if the allocation of the node fails.
     #[tactic(auto, using(crate::proofs::Counts::NodeCountBounds::node_count_bounds), unfolding(crate::specs::Engine::NodeAnswer::FindsOverlap, crate::specs::Engine::NodeAnswer::RefusesKey))]
     pub(crate) fn insert(
         tree: Box<InnerNode>,
@@ -69,8 +73,10 @@ impl InnerNode {
         }
     }
 
-    /// The tree without this key, and the same tree where it has none. None where the key was the
-    /// only one. It takes no memory.
+    /// Removes the node with this key, and returns the tree. It does not allocate.
+    ///
+    /// It returns `None` if the tree had only this key. It returns the same tree if the tree does
+    /// not have the key.
     #[tactic(auto, unfolding(crate::specs::Engine::Changes::LeavesIfAbsent))]
     pub(crate) fn delete(
         tree: Box<InnerNode>,
@@ -90,7 +96,7 @@ impl InnerNode {
         at
     }
 
-    /// The node with exactly this key.
+    /// Returns the node with exactly this key, or `None` if there is no such node.
     #[tactic(auto, using(crate::proofs::Blocks::Replacement::findings, crate::proofs::Counts::NodeCountCases::nodes_to_cases))]
     pub(crate) fn search(&self, key: &RangeInclusive, count: &mut Steps) -> Option<&InnerNode>
         requires { count.old + height_of self.now ≤ MAX }
@@ -113,7 +119,7 @@ impl InnerNode {
         }
     }
 
-    /// The first key that a new one overlaps on the way down.
+    /// Returns the first key on the path that overlaps `new`, or `None` if there is no such key.
     #[tactic(auto, using(crate::proofs::Nodes::FirstOverlaps::first_overlaps, crate::proofs::Counts::NodeCountCases::nodes_across_cases))]
     fn first_overlap(&self, new: &RangeInclusive, count: &mut Steps) -> Option<RangeInclusive>
         requires { count.old + height_of self.now ≤ MAX }
@@ -135,8 +141,11 @@ impl InnerNode {
         Some(self.key)
     }
 
-    /// Marks the free block with this key as held. A held one is `InvalidStateTransition` of the key
-    /// and `Allocated`, an absent one `ResourceNotAvailable`; both change nothing.
+    /// Marks the free block with this key as allocated.
+    ///
+    /// An error changes nothing:
+    /// - `InvalidStateTransition` if the block is already allocated.
+    /// - `ResourceNotAvailable` if no block has this key.
     #[tactic(auto, using(crate::proofs::Nodes::Rewriting::markings, crate::proofs::Counts::NodeCountCases::nodes_to_cases))]
     pub(crate) fn mark_as_allocated(
         &mut self,
@@ -175,7 +184,8 @@ impl InnerNode {
         answer
     }
 
-    /// Marks this node's block as held, unless it is.
+    /// Marks the block of this node as allocated. It returns `InvalidStateTransition` if the block
+    /// is already allocated.
     #[tactic(auto, using(crate::proofs::Nodes::Rewriting::ordered_marked), unfolding(crate::specs::Engine::NodeAnswer::MarksBlock))]
     fn mark_here(&mut self) -> Result<()>
         ensures marks { MarksBlock (root_block self.old).state (root_block self.old).key result self.old self.new }

@@ -1,10 +1,12 @@
-//! A range taken from a free block, in one descent: at the node of the block key and state are
-//! written in place, what is left of it is linked below that node's sides, and on the way back up
-//! each node is balanced once. Both leaves may go in before that, since the sides then differ by two
-//! at most. One record goes down (`Cut`): four arguments, 80 bytes at each level, cost 4 % of the
-//! instructions of `first`. What is done once is no part of the descent (`split_here`, never
-//! inlined), which takes 2 % off. Heights are looked at on the way back up only where one may have
-//! changed, which takes 3 % off.
+//! Splits a free block, in one descent.
+//!
+//! At the node of the block, its key and state are changed in place. The parts of the block before
+//! and after the range are linked below the children of that node. Each child then has at most one
+//! more level, so each node on the path is balanced once, after both parts are linked.
+//!
+//! Each level passes one record (`Split`) by reference, instead of four arguments. `split_here` is
+//! never inlined, so that each level saves fewer registers. The heights are updated only if one may
+//! have changed.
 ghost use Rattle.std.specs.Prelude.{◌≡◌, ◌+◌, ◌*◌, ◌<◌, ◌≤◌, IfSome, IsSome};
 ghost use Rattle.vm_ranges.specs.Range.{MAX};
 ghost use Rattle.vm_engine.specs.Tree.BlockList.{insert_all, AreClearOf};
@@ -23,16 +25,16 @@ use crate::ordering::compare;
 use std::cmp::Ordering;
 use vm_ranges::{NodeState, RangeInclusive};
 
-/// What is left of a free block before and after a range, a leaf each.
+/// The parts of a free block before and after a range. Each is a leaf, or absent if it is empty.
 #[derive(Drop)]
 pub(crate) struct Rest {
-    /// What ends right before the range.
+    /// The part that ends right before the range.
     pub(crate) before: Child,
-    /// What starts right after it.
+    /// The part that starts right after the range.
     pub(crate) after: Child,
 }
 
-/// Links a leaf, if there is one, below a side.
+/// Links a leaf below a child, if there is a leaf.
 #[tactic(auto, using(crate::proofs::Splitting::SplitTrees::leaves))]
 fn link_if_some(child: &mut Child, leaf: Child, count: &mut Steps)
     requires leaf { IfSome leaf (λ n. IsLeaf n.value) }
@@ -49,7 +51,7 @@ fn link_if_some(child: &mut Child, leaf: Child, count: &mut Steps)
     }
 }
 
-/// A range to hold, and the free block that it is taken from.
+/// A range to allocate, and the free block that contains it.
 #[derive(Clone, Copy)]
 pub(crate) struct Choice {
     /// The free block.
@@ -58,18 +60,17 @@ pub(crate) struct Choice {
     pub(crate) range: RangeInclusive,
 }
 
-/// A split: the range and its free block, and what is left of the block, which is handed on where it
-/// hangs.
+/// A split: the range with its free block, and the leaves that are not linked yet.
 #[derive(Drop)]
 pub(crate) struct Split {
-    /// The range, and the free block that it is taken from.
+    /// The range, and the free block that contains it.
     pub(crate) choice: Choice,
-    /// What is left of the block.
+    /// The parts of the block before and after the range.
     pub(crate) rest: Rest,
 }
 
-/// Gives the topmost node a range, which is held, and links what is left beside it; says what
-/// changed there.
+/// Gives the root of the subtree at a link the range, marks it as allocated, and links the leaves.
+/// Returns the change of the subtree's summary.
 #[tactic(auto, using(crate::proofs::Splitting::SplitTrees::split_steps, crate::proofs::Counts::SplitCounts::nodes_to_split_cases, crate::proofs::Counts::SplitCounts::link_bounds))]
 #[inline(never)]
 fn split_here(at: &mut Child, cut: &mut Split, count: &mut Steps) -> Change
@@ -103,8 +104,8 @@ fn split_here(at: &mut Child, cut: &mut Split, count: &mut Steps) -> Change
     updated.rebalance(at)
 }
 
-/// Gives the node with a key below the node at a place a range, which is held, and links what is
-/// left beside it; says what changed there.
+/// Splits the free block of `cut` in the subtree at a link, and rebalances the path. Returns the
+/// change of the subtree's summary.
 #[tactic(auto, using(crate::proofs::Splitting::SplitTrees::split_steps, crate::proofs::Counts::SplitCounts::nodes_to_split_cases))]
 pub(crate) fn split_at(at: &mut Child, cut: &mut Split, count: &mut Steps) -> Change
     requires leaves { AreLeaves cut.old.rest }

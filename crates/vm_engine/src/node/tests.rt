@@ -1,4 +1,4 @@
-//! Trees made by hand, in the orders of insertion that lean each way.
+//! Tests of trees that are built by hand, in orders of insertion that need each kind of rotation.
 use super::walks::copying::copy;
 use super::walks::shapes::same;
 use super::*;
@@ -13,7 +13,7 @@ type Inserted = std::result::Result<Box<InnerNode>, (Error, Box<InnerNode>)>;
 /// The first and the last address of a key.
 type Key = (u64, u64);
 
-/// Ends the test where an answer is not the one that it has to be; `of` says of what.
+/// Fails the test if `got` is not `want`. `of` is part of the message.
 fn expect_eq<T: PartialEq + Debug>(rt: &impl Abort, got: &T, want: &T, of: &impl Debug) {
     assert!(rt; got == want, "{of:?}: {got:?} where {want:?} is due");
 }
@@ -22,7 +22,7 @@ fn range(rt: &impl Abort, key: Key) -> RangeInclusive {
     RangeInclusive::new(key.0, key.1).expect(rt, "a range")
 }
 
-/// A copy, made again where memory is refused once.
+/// Returns a copy. It tries a second time if the first allocation fails.
 fn copied(rt: &impl Abort, alloc: Global, tree: &InnerNode) -> Option<Box<InnerNode>> {
     match copy(tree, alloc) {
         Ok(copy) => Some(copy),
@@ -30,7 +30,7 @@ fn copied(rt: &impl Abort, alloc: Global, tree: &InnerNode) -> Option<Box<InnerN
     }
 }
 
-/// A node without children, made again where memory is refused once.
+/// Returns a node without children. It tries a second time if the first allocation fails.
 fn leaf(rt: &impl Abort, alloc: Global, key: Key, state: NodeState) -> Box<InnerNode> {
     let key = range(rt, key);
     match Box::new(alloc, InnerNode::new(key, state)) {
@@ -39,7 +39,7 @@ fn leaf(rt: &impl Abort, alloc: Global, key: Key, state: NodeState) -> Box<Inner
     }
 }
 
-/// What inserting a free key answers, with the nodes entered kept within their bounds.
+/// Inserts a free key, and checks the bounds on the number of entered nodes.
 fn insert(rt: &impl Abort, alloc: Global, tree: Box<InnerNode>, key: RangeInclusive) -> Inserted {
     let height = tree.height();
     assert!(rt; height <= 48);
@@ -49,7 +49,8 @@ fn insert(rt: &impl Abort, alloc: Global, tree: Box<InnerNode>, key: RangeInclus
     result
 }
 
-/// The tree with a free key. Where memory is refused once, the tree stays and the next try succeeds.
+/// Inserts a free key, and returns the tree. If an allocation fails, it checks that the tree is
+/// unchanged, and that the next try succeeds.
 fn inserted(rt: &impl Abort, alloc: Global, tree: Box<InnerNode>, key: Key) -> Box<InnerNode> {
     let key = range(rt, key);
     let before = copied(rt, alloc, &tree);
@@ -65,7 +66,7 @@ fn inserted(rt: &impl Abort, alloc: Global, tree: Box<InnerNode>, key: Key) -> B
     }
 }
 
-/// The tree of an allocated root and free keys.
+/// Returns a tree with an allocated key `first` and the free keys `keys`.
 fn tree_of(rt: &impl Abort, alloc: Global, first: Key, keys: &[Key]) -> Box<InnerNode> {
     let mut tree = leaf(rt, alloc, first, NodeState::Allocated);
     for key in keys {
@@ -75,7 +76,7 @@ fn tree_of(rt: &impl Abort, alloc: Global, first: Key, keys: &[Key]) -> Box<Inne
     tree
 }
 
-/// Inserting a key is refused since it overlaps another; the tree handed back is the one from before.
+/// Checks that inserting `key` fails because it overlaps `overlap`, and that the tree is unchanged.
 fn expect_overlap(rt: &impl Abort, alloc: Global, tree: Box<InnerNode>, key: Key, overlap: Key) {
     let before = copied(rt, alloc, &tree);
     let (error, tree) = insert(rt, alloc, tree, range(rt, key)).expect_err(rt, "the key overlaps");
@@ -88,7 +89,7 @@ fn expect_overlap(rt: &impl Abort, alloc: Global, tree: Box<InnerNode>, key: Key
     assert!(rt; same(&Some(tree), &before));
 }
 
-/// The tree without a key, where others are left.
+/// Removes a key, and returns the tree. Other keys must be left.
 fn deleted(rt: &impl Abort, tree: Box<InnerNode>, key: Key) -> Box<InnerNode> {
     let height = tree.height();
     let mut count = Steps::start();
@@ -101,25 +102,25 @@ fn deleted(rt: &impl Abort, tree: Box<InnerNode>, key: Key) -> Box<InnerNode> {
     tree
 }
 
-/// What a search finds: the state of the node and whether it is a leaf.
+/// Searches a key. Returns the state of its node and whether it is a leaf.
 fn found(rt: &impl Abort, tree: &InnerNode, key: Key) -> Option<(NodeState, bool)> {
     let _ = tree.height();
     let node = tree.search(&range(rt, key), &mut Steps::start())?;
     Some((node.state(), node.height() == 1))
 }
 
-/// The tree has this key, at a leaf, in this state.
+/// Checks that the tree has a leaf with this key and this state.
 fn expect_leaf(rt: &impl Abort, tree: &InnerNode, key: Key, state: NodeState) {
     expect_eq(rt, &found(rt, tree, key), &Some((state, true)), &key);
 }
 
-/// The tree has this key at its root, and this height.
+/// Checks that the root has this key and the tree has this height.
 fn expect_root(rt: &impl Abort, tree: &InnerNode, key: Key, height: u64, of: &impl Debug) {
     expect_eq(rt, &tree.key(), &range(rt, key), of);
     expect_eq(rt, &tree.height(), &height, of);
 }
 
-/// The key that contains another one.
+/// Returns the key of the tree that contains `key`.
 fn superset(rt: &impl Abort, tree: &InnerNode, key: Key) -> Option<Key> {
     let _ = tree.height();
     let key = tree
@@ -128,7 +129,8 @@ fn superset(rt: &impl Abort, tree: &InnerNode, key: Key) -> Option<Key> {
     Some((key.start(), key.end()))
 }
 
-/// Whether each kept height is true and the heights of two children differ by at most one.
+/// Returns `true` if each cached height is correct and the heights of two siblings differ by at
+/// most one.
 fn is_balanced(node: &InnerNode) -> bool {
     let (left, right) = (height(&node.left), height(&node.right));
     node.height == left.max(right) + 1
@@ -138,7 +140,8 @@ fn is_balanced(node: &InnerNode) -> bool {
         && node.right.as_ref().is_none_or(|child| is_balanced(child))
 }
 
-/// Writes the starts of the keys in order from a place on, and answers the place after them.
+/// Writes the starts of the keys in order, beginning at the index `place`. Returns the index after
+/// the last one.
 fn write_starts(child: &Option<Box<InnerNode>>, starts: &mut [u64; 8], place: usize) -> usize {
     let Some(node) = child else { return place };
     let node: &InnerNode = node;

@@ -1,5 +1,5 @@
-//! The fields of a node's value, read and written: their names stand here alone. Reading takes no
-//! memory.
+//! Reads and writes the fields of a node's value. The names of the fields are only in this file.
+//! Reading does not allocate.
 ghost use Rattle.std.specs.Prelude.{◌≡◌, IfOk, option_map};
 ghost use Rattle.serde_json.specs.View.{view};
 ghost use Rattle.vm_ranges.specs.Saving.{Saves};
@@ -20,22 +20,25 @@ const RIGHT: &str = "right";
 
 const HEIGHT: &str = "height";
 
-/// What stands in the fields of a node's value.
+/// The fields of a node's value.
 #[derive(Clone, Copy)]
 pub struct SavedNode<'a> {
     /// The range of the block.
     pub key: RangeInclusive,
-    /// Whether the block is held.
+    /// The state of the block.
     pub state: NodeState,
-    /// The height that the value states.
+    /// The height that the value has for the subtree.
     pub height: u64,
-    /// What stands for the left child.
+    /// The value of the left child.
     pub left: &'a Value,
-    /// What stands for the right child.
+    /// The value of the right child.
     pub right: &'a Value,
 }
 
-/// The fields of a node's value, where it has these and no others.
+/// Returns the fields of a node's value. Returns `None` if the value does not have exactly these
+/// fields, or if the key, the state or the height is not valid.
+///
+/// It does not allocate, and does not check the values of the children.
 pub fn decode_node(value: &Value) -> Option<SavedNode<'_>>
     ensures { option_map (λ n. record {
       block = record { key = n.key; state = n.state };
@@ -56,7 +59,9 @@ pub fn decode_node(value: &Value) -> Option<SavedNode<'_>>
     })
 }
 
-/// The value of a node over the values of its children. `OutOfMemory` where there is no memory for it.
+/// Returns the value of a node with the values of its children.
+///
+/// It returns `OutOfMemory` if an allocation fails.
 #[inline(always)]
 #[tactic(auto, using(crate::proofs::Reading::Writing::parts))]
 pub(crate) fn encode_node(
@@ -76,8 +81,10 @@ pub(crate) fn encode_node(
     Ok(node_object(alloc, &mut key, &mut state, &mut left, &mut right, height)?)
 }
 
-/// The object of a node's fields. It takes their values from where they stand: so a refusal has none of
-/// them to give back, and less is to be proved.
+/// Returns the object of a node's fields.
+///
+/// It takes the values out of the references. So if it fails, the caller still has them and frees
+/// them, and less needs a proof.
 fn node_object(
     alloc: Global,
     key: &mut Value,

@@ -1,4 +1,4 @@
-//! The saved form of a tree: what is checked already is built.
+//! Encodes a tree as a value, and decodes it. A value is checked completely before nodes are built.
 ghost use Rattle.std.specs.Prelude.{IfOk};
 ghost use Rattle.serde_json.specs.View.{view};
 ghost use Rattle.vm_engine.specs.Engine.NodeFields.{side};
@@ -19,7 +19,11 @@ use std::alloc::{AllocError, Global};
 use vm_ranges::{RangeInclusive, Result, ValueError};
 
 impl IntervalTree {
-    /// The value that states the tree, node for node. `OutOfMemory` where there is no memory for it.
+    /// Returns the value that encodes the tree, with one object for each node.
+    ///
+    /// # Errors
+    ///
+    /// - `OutOfMemory` if an allocation fails.
     #[tactic(auto, using(crate::proofs::Reading::Writing::trees))]
     pub fn to_root_value(&self, alloc: Global) -> Result<Value>
         ensures { Saves (λ d. EncodesSpaceTree d (space_of (blocks self.now)) self.now) result }
@@ -27,9 +31,15 @@ impl IntervalTree {
         encode(&self.root, alloc)
     }
 
-    /// The tree of the space that a value states, of the same nodes. `NotAState` where it states none,
-    /// and else `OutOfMemory` where there is no memory for the tree. To find out which takes no memory
-    /// and goes down at most 50 levels of the value.
+    /// Returns the tree of the space that a value encodes, with the same nodes.
+    ///
+    /// The check of the value does not allocate, and descends at most 50 levels of the value.
+    ///
+    /// # Errors
+    ///
+    /// In this order:
+    /// - `NotAState` if the value does not encode a tree of this space.
+    /// - `OutOfMemory` if the allocation of a node fails.
     pub fn from_root_value(
         alloc: Global,
         space: &RangeInclusive,
@@ -46,8 +56,9 @@ impl IntervalTree {
     }
 }
 
-/// The tree that a checked value has, node for node. `OutOfMemory` where there is no memory for one of
-/// them; those that were made are given back then.
+/// Builds the tree that a checked value encodes, with the same nodes.
+///
+/// It returns an error if the allocation of a node fails. The nodes built so far are freed.
 fn build(value: &Value, depth: u64, alloc: Global) -> std::result::Result<Child, AllocError>
     requires { HasShapeWithin depth (view value.now) }
     ensures { IfOk result (λ tree. EncodesShape (view value.now) (side tree)) }

@@ -1,4 +1,4 @@
-//! How two trees compare, by their blocks and not by their shape.
+//! Comparisons of two trees by their blocks. The shape of a tree does not matter.
 ghost use Rattle.std.specs.Prelude.{◌≡◌, ◌≤◌, ◌↔◌, IsTrue};
 ghost use Rattle.vm_engine.specs.Tree.Shape.{MAX_HEIGHT, blocks, height_of};
 ghost use Rattle.vm_engine.specs.Engine.NodeFields.{side};
@@ -8,7 +8,7 @@ use super::Walk;
 use crate::node::Child;
 use std::cmp::Ordering;
 
-/// Whether two trees have the same blocks. It stops at the first difference.
+/// Returns `true` if two trees have the same blocks. It stops at the first difference.
 pub(crate) fn same_blocks(a: &Child, b: &Child) -> bool
     requires a { height_of (side a.now) ≤ MAX_HEIGHT }
     requires b { height_of (side b.now) ≤ MAX_HEIGHT }
@@ -26,8 +26,8 @@ pub(crate) fn same_blocks(a: &Child, b: &Child) -> bool
     right.next().is_none()
 }
 
-/// How the blocks of two trees compare: the first two that differ decide, and else the one with fewer
-/// is less.
+/// Compares two trees by the first blocks that differ. If the blocks of one tree are a prefix of
+/// the other's, the tree with fewer blocks is less.
 pub(crate) fn compare_blocks(a: &Child, b: &Child) -> Ordering
     requires a { height_of (side a.now) ≤ MAX_HEIGHT }
     requires b { height_of (side b.now) ≤ MAX_HEIGHT }

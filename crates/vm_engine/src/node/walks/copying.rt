@@ -1,12 +1,13 @@
-//! Copies of trees.
+//! Copies trees.
 ghost use Rattle.std.specs.Prelude.{◌≡◌, MatchResult};
 
 use crate::node::InnerNode;
 use std::alloc::Global;
 use vm_ranges::{Error, Result};
 
-/// A copy of a tree, node for node, with what each node keeps. `OutOfMemory` where there is no memory
-/// for one of them; those that were made are given back then.
+/// Returns a copy of a tree with the same nodes and the same cached summaries.
+///
+/// It returns `OutOfMemory` if the allocation of a node fails. The nodes copied so far are freed.
 pub(crate) fn copy(tree: &InnerNode, alloc: Global) -> Result<Box<InnerNode>>
     ensures { MatchResult result (λ copy. copy.value ≡ tree.now) (λ error. error ≡ Error.OutOfMemory) }
 {

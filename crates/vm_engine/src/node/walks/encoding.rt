@@ -1,4 +1,4 @@
-//! The saved form of trees.
+//! Encodes trees as values.
 ghost use Rattle.serde_json.specs.View.{view};
 ghost use Rattle.vm_engine.specs.Tree.Shape.{IsTree};
 ghost use Rattle.vm_engine.specs.Values.TreeValues.{EncodesShape};
@@ -11,8 +11,9 @@ use serde_json::Value;
 use std::alloc::Global;
 use vm_ranges::Result;
 
-/// The value that has a tree, node for node: null where there is none. `OutOfMemory` where there is no
-/// memory for it.
+/// Returns the value of a tree: an object for each node, and null for an absent child.
+///
+/// It returns `OutOfMemory` if an allocation fails.
 #[tactic(auto, using(crate::proofs::Reading::Writing::nodes))]
 pub(crate) fn encode(tree: &Child, alloc: Global) -> Result<Value>
     ensures answer { Saves (λ d. EncodesShape d (side tree.now)) result }

@@ -1,6 +1,6 @@
-//! What is held in a tree: whether a range is, by one way down, and how many are. No count is
-//! promised of either, so neither takes the counter: one more place that makes one would weaken the
-//! rule on it.
+//! Queries about the allocated blocks of a tree.
+//!
+//! No contract promises the number of nodes that they enter, so they do not take a counter.
 ghost use Rattle.std.specs.Prelude.{◌≡◌, ◌≤◌, ◌↔◌, IsTrue, Some, length};
 ghost use Rattle.vm_engine.specs.Tree.Blocks.{held_of};
 ghost use Rattle.vm_engine.specs.Tree.BlockList.{find_key};
@@ -13,7 +13,8 @@ use crate::ordering::compare;
 use std::cmp::Ordering;
 use vm_ranges::{NodeState, RangeInclusive};
 
-/// Whether a held block has this key, by one way down.
+/// Returns `true` if the tree has an allocated block with this key. It follows one path from the
+/// root.
 pub(crate) fn has_held(tree: &Child, key: &RangeInclusive) -> bool
     ensures { IsTrue result ↔ (find_key key.now (blocks (side tree.now)) ≡ Some (held_block key.now)) }
 {
@@ -26,7 +27,7 @@ pub(crate) fn has_held(tree: &Child, key: &RangeInclusive) -> bool
     }
 }
 
-/// How many blocks are held.
+/// Returns the number of allocated blocks.
 #[tactic(auto, using(crate::proofs::Walking::HeldInTrees::held_numbers))]
 pub(crate) fn count_held(tree: &Child) -> u64
     requires { height_of (side tree.now) ≤ MAX_HEIGHT }

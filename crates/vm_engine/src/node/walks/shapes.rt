@@ -1,10 +1,10 @@
-//! What tests ask of the shape of a tree.
+//! Comparisons of the shapes of trees, for tests.
 ghost use Rattle.std.specs.Prelude.{◌≡◌, ◌↔◌, IsTrue};
 ghost use Rattle.vm_engine.specs.Engine.NodeFields.{side};
 
 use crate::node::{Child, recall_invariant};
 
-/// Whether two trees are equal node for node.
+/// Returns `true` if two trees have the same nodes.
 pub(crate) fn same(a: &Child, b: &Child) -> bool
     ensures { IsTrue result ↔ (side a.now ≡ side b.now) }
 {

@@ -38,7 +38,7 @@ returns-in_default-may_fit-clause-place t c =
     let left = none_unless_searched _ _ _ c.requires.sized c.requires.aligned c.in_default-may_fit.ensures in
     still_nothing c.match-may_fit.found _ _ (none_of c.args.size c.args.alignment _ _ _ _ (sym c.self.view_is) left c.in_default-highest_fit.ensures none) (sym c.if-is_some.ensures)
 
--- named, since the search for them is slow
+-- Proof: this goal has a name because the search for a proof is slow.
 pub last_place-requires : goal.last_place-requires
 last_place-requires t c = grind (arith, common_steps, lasts, searches)
 

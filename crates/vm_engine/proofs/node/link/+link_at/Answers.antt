@@ -18,7 +18,7 @@ link_at-change-requires-else-starts_before t c =
     let e : side c.args.at.now ≡ shape_of c.tree.inside = cc in
     (search rules, (c.requires.leaf, (clear_in_right _ _ _ _ _ e c.requires.clear, (grind arith, grind arith))))
 
--- where nothing that is kept of a side changed: the node over it
+-- The node over a child whose summary is unchanged.
 summary_over_side : (t : ℕ) (c : In-Nothing t) → IsNode c.if-starts_before.tree-inside × KeepsSummary (shape_of c.tree.inside) (shape_of c.if-starts_before.tree-inside) Nothing
 summary_over_side t c =
     elim c.if-starts_before.branch [
@@ -45,7 +45,7 @@ pub invariant_of-tree-2 : goal.invariant_of-tree-2
 invariant_of-tree-2 t c =
     updated_node c.if-starts_before.tree-inside c.update-updated.result _ (grind (arith, common_steps, link_in_left, link_in_right)) c.update-updated.ensures.left c.update-updated.ensures.right c.update-updated.ensures.updated
 
--- the node over the new side, finished
+-- The node over the new child, after `rebalance`.
 rebalanced_over_side : (t : ℕ) (c : After-rebalance t) → IsRebalanced (own_of c.if-starts_before.tree-inside) (open_of c.if-starts_before.tree-inside) (side c.rebalance.new.at) c.rebalance.result
 rebalanced_over_side t c =
     rebalanced _ _ c.update-updated.result _ _ c.rebalance.new.at c.rebalance.result (grind (arith, common_steps, link_in_left, link_in_right)) c.update-updated.ensures.left c.update-updated.ensures.right c.update-updated.ensures.updated refl c.rebalance.ensures

@@ -9,7 +9,7 @@ use Rattle.vm_engine.proofs.Nodes.UpdatedNodes.{own_of, open_of, IsRebalanced, r
 use Rattle.vm_engine.proofs.node.remove.+delete_at.Goals as goal
 use Rattle.vm_engine.proofs.node.remove.+delete_at.Goals.{in-Greater, in-Less, In-Nothing, After-rebalance}
 
--- where nothing that is kept of a side changed: the node over it
+-- The node over a child whose summary is unchanged.
 summary_over_side : (t : ℕ) (c : In-Nothing t) → IsNode c.match-compare.tree-inside × KeepsSummary (shape_of c.tree.inside) (shape_of c.match-compare.tree-inside) Nothing
 summary_over_side t c =
     elim c.match-compare.branch [
@@ -47,7 +47,7 @@ returns-clause-absent t c =
           changes_in_right _ _ _ _ _ _ _ _ _ e w.in-Less.ensures tree w.delete_at-change-in-Less.ensures.absent (λ none. c.in_default-change.not-Nothing (w.change-is ∙ none))
     ]
 
--- the node over the new side, finished
+-- The node over the new child, after `rebalance`.
 rebalanced_over_side : (t : ℕ) (c : After-rebalance t) → IsRebalanced (own_of c.match-compare.tree-inside) (open_of c.match-compare.tree-inside) (side c.rebalance.new.at) c.rebalance.result
 rebalanced_over_side t c =
     rebalanced _ _ c.update-updated.result _ _ c.rebalance.new.at c.rebalance.result (grind (arith, common_steps, removed_in_left, removed_in_right)) c.update-updated.ensures.left c.update-updated.ensures.right c.update-updated.ensures.updated refl c.rebalance.ensures

@@ -32,7 +32,7 @@ returns t c =
       count = grind (arith, common_steps, nodes_to_first_cases);
     }
 
--- named, since the search for them is slow
+-- Proof: this goal has a name because the search for a proof is slow.
 pub returns-then-is_none-clause-blocks : goal.returns-then-is_none-clause-blocks
 returns-then-is_none-clause-blocks t c = grind (arith, common_steps, first_blocks, takes, nodes_to_first_cases)
 

@@ -29,7 +29,7 @@ rewrite_at-change-requires-in-Less t c =
     let ordered = rewritten_right (side c.args.at.now) (side i.left) _ (side i.right) c.args.old.now (y ∷ []) e c.in-Less.ensures tree c.requires.ordered in
     (search rules, (known, (ordered, grind arith)))
 
--- what the rewritten side makes of the node, where what it keeps changed
+-- The node over the changed child, if the summary of the child changed.
 rewritten_changed : (t : ℕ) (c : In_default-change t) → (blocks (shape_of c.match-compare.tree-inside) ≡ with_block c.args.old.now c.args.key c.args.node_state (blocks (side c.args.at.now))) × KeepsShape (side c.args.at.now) (shape_of c.match-compare.tree-inside) c.match-compare.change
 rewritten_changed t c =
     let i = c.tree.inside in
@@ -42,7 +42,7 @@ rewritten_changed t c =
           rw (w.tree-inside-is, w.change-is) (node_rewritten_right _ (side i.left) _ _ (side i.right) _ _ _ e w.in-Less.ensures tree c.requires.ordered w.rewrite_at-change-in-Less.ensures.blocks w.rewrite_at-change-in-Less.ensures.keeps)
     ]
 
--- what the rewritten side makes of the node, where what it keeps is the same
+-- The node over the changed child, if the summary of the child is unchanged.
 rewritten_unchanged : (t : ℕ) (c : In-Nothing t) → (blocks (shape_of c.match-compare.tree-inside) ≡ with_block c.args.old.now c.args.key c.args.node_state (blocks (side c.args.at.now))) × KeepsShape (side c.args.at.now) (shape_of c.match-compare.tree-inside) c.match-compare.change
 rewritten_unchanged t c =
     let i = c.tree.inside in

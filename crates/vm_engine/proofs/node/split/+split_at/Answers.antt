@@ -31,7 +31,7 @@ split_at-change-requires-in-Less t c =
     let ordered = rewritten_right (side c.args.at.now) (side i.left) _ (side i.right) c.args.cut.now.choice.key _ e c.in-Less.ensures tree c.requires.can_be_split.ordered in
     (search rules, (c.requires.leaves, (record { known = known; ordered = ordered }, (grind arith, grind arith))))
 
--- where nothing that is kept of a side changed: the node over it
+-- The node over a child whose summary is unchanged.
 summary_over_side : (t : ℕ) (c : In-Nothing t) → IsNode c.match-compare.tree-inside × KeepsSummary (shape_of c.tree.inside) (shape_of c.match-compare.tree-inside) Nothing
 summary_over_side t c =
     let e : side c.args.at.now ≡ shape_of c.tree.inside = cc in
@@ -49,7 +49,7 @@ summary_over_side t c =
 pub invariant_of-tree : goal.invariant_of-tree
 invariant_of-tree t c = (summary_over_side t (goal.at.invariant_of-tree t c).In-Nothing).0
 
--- where the room alone of a side changed: the node over it, brought up to date
+-- The updated node over a child of which only the free summary changed.
 refreshed_over_side : (t : ℕ) (c : After-refresh_free t)
     → let n = record c.match-compare.tree-inside { max_free = c.refresh_free.new.cached_max_free; alignments = c.refresh_free.new.cached_alignments } in
     IsNode n × Grows (shape_of c.tree.inside) (shape_of n) c.refresh_free.result
@@ -73,7 +73,7 @@ refreshed_over_side t c =
 pub invariant_of-tree-in-FreeOnly : goal.invariant_of-tree-in-FreeOnly
 invariant_of-tree-in-FreeOnly t c = (refreshed_over_side t (goal.at.invariant_of-tree-in-FreeOnly t c).After-refresh_free).0
 
--- where anything of a side changed: the blocks over it
+-- The blocks of the node over a child that changed in any way.
 ordered_over_side : (t : ℕ) (c : After-update-updated t)
     → let n = c.match-compare.tree-inside in IsOrderedFrom 0 (blocks (side n.left) ++ own_of n ∷ blocks (side n.right))
 ordered_over_side t c =

@@ -3,7 +3,7 @@ use Rattle.std.proofs.Common.{arith}
 use Rattle.vm_engine.specs.Checks.NodeChecks.{checked_subtree}
 use Rattle.vm_engine.proofs.saved.check.+check_subtree.Goals as goal
 
--- named, since the search for them is slow
+-- Proof: this goal has a name because the search for a proof is slow.
 pub returns-then-is_null-clause-found : goal.returns-then-is_null-clause-found
 unfolding checked_subtree
 returns-then-is_null-clause-found t c = grind (arith, common_steps)
