@@ -1,5 +1,5 @@
 -- What a caller wants to know of a range or an id that it was given, and of an allocator that it saved.
-use Rattle.std.proofs.Common.{◌≡◌, ℕ, ◌+◌, ◌-◌, ◌%◌, List, [], ◌∷◌, ◌<◌, ◌≤◌, ◌⊎◌, arith, refl, sym, ap, ◌∙◌, inl, inr, ⊎_elim, subst, Result, Ok, Err, IfOk, IfErr}
+use Rattle.std.proofs.Common.{◌≡◌, ℕ, ◌+◌, ◌-◌, ◌%◌, List, [], ◌∷◌, ◌<◌, ◌≤◌, ◌⊎◌, arith, refl, sym, ap, ◌∙◌, inl, inr, ⊎_elim, subst, Result, Ok, Err, IfOk, IfErr, OnOk}
 use Rattle.std.specs.List.{Contains}
 use Rattle.serde_json.specs.Data.{Data}
 use Rattle.vm_ranges.proofs.NumberSets.{inserted_here}
@@ -8,12 +8,12 @@ use Rattle.vm_engine.specs.Address.{AddressState, AreClear, IsPlace, IsAddressSt
 use Rattle.vm_ranges.specs.Alignment.{IsAlignment}
 use Rattle.vm_ranges.specs.Request.{Request, request_for, IsRequest, IsStartAligned}
 use Rattle.vm_engine.specs.Answer.{IsChosen, IsSplitRefusal, AllocatesAt, Allocates, Frees}
-use Rattle.vm_allocator.specs.Ids.{IdState, IsIdState, IsHeld, IsLowestNotHeld, holding_id, ByLowestNotHeld, AllocatesId}
+use Rattle.vm_allocator.specs.Ids.{IdState, IsIdState, IsHeld, IsLowestNotHeld, holding_id, releasing_id, ByLowestNotHeld, AllocatesId, FreesId}
 use Rattle.vm_allocator.specs.Allocator.{SpaceInTree, state_of}
 use Rattle.vm_allocator.specs.Values.AllocatorValues.{EncodesAllocator, EncodesAddresses}
 use Rattle.vm_allocator.specs.Values.IdValues.{EncodesIds}
 use Rattle.vm_ranges.specs.declared.error.Error.{Error}
-use Rattle.vm_ranges.specs.declared.error.Error.TheVariants.{Overflow, OutOfMemory}
+use Rattle.vm_ranges.specs.declared.error.Error.TheVariants.{Overflow, OutOfMemory, ResourceNotAvailable}
 use Rattle.vm_ranges.specs.declared.constraint.AllocPolicy.{AllocPolicy}
 use Rattle.vm_ranges.specs.declared.constraint.AllocPolicy.TheVariants.{ExactMatch}
 use Rattle.vm_engine.proofs.Blocks.PlainWords.{IsHeldAddress, IsHeld as IsHeldRange, contains_held, held_contains, all_miss, none_holds, held_address}
@@ -75,6 +75,22 @@ allocated_long old new size align policy (Ok r) h =
     let end : r.end ≡ r.start + size - 1 = ap (λ (v : Range). v.end) g.long in
     omega arith
 allocated_long old new size align policy (Err e) h = tt
+
+pub allocated_fits : (old new : AddressState) (size align : ℕ) (policy : AllocPolicy) (answer : Result Range Error) → Allocates old (request_for size align policy) answer new → IfOk answer (λ r. (address_count r ≡ size) × (r.start % align ≡ 0))
+allocated_fits old new size align policy (Ok r) h = (allocated_long old new size align policy (Ok r) h, allocated_aligned old new size align policy (Ok r) h)
+allocated_fits old new size align policy (Err e) h = tt
+
+-- it is at the place that the policy chooses
+pub allocated_chosen : (old new : AddressState) (request : Request) (answer : Result Range Error) → Allocates old request answer new → IfOk answer (λ r. IsChosen request old r.start)
+allocated_chosen old new request (Ok r) h = (given old new request r h).chosen
+allocated_chosen old new request (Err e) h = tt
+
+-- and nothing but this range is held after it
+pub allocated_leaves : (old new : AddressState) (request : Request) (answer : Result Range Error) → Allocates old request answer new → IfOk answer (λ r. new ≡ holding r old)
+allocated_leaves old new request (Ok r) h = (given old new request r h).left
+allocated_leaves old new request (Err e) h = tt
+
+pub ruleset allocations = (allocated_fits, allocated_chosen, allocated_leaves)
 
 -- and is held from then on
 pub allocated_held : (old new : AddressState) (request : Request) (r : Range) → Allocates old request (Ok r) new → Contains new.held r
@@ -144,14 +160,24 @@ allocated_again old mid new r freed answer i c f h =
     (λ k. ⊎_elim (λ t. inl (t.0 ∙ ap (λ (v : Range). Ok v) (same_range r l.1))) (λ t. inr t.2) k.1)
     (allocates_chosen request r.start mid new answer valid (omega (arith, l.1, l.3)) chosen h)
 
--- and nothing but memory or depth refuses it
-pub refused_only_by_limits : (old mid new : AddressState) (r : Range) (freed : Result (Unit {0}) Error) (answer : Result Range Error) → IsAddressState old → Contains old.held r → Frees old r freed mid → Allocates mid (request_for (address_count r) 1 (ExactMatch r.start)) answer new → IfErr answer (λ e. (e ≡ OutOfMemory) ⊎ (e ≡ Overflow))
-refused_only_by_limits old mid new r freed (Ok again) i c f h = tt
-refused_only_by_limits old mid new r freed (Err e) i c f h =
+-- An allocation of the range by its start returns it, or fails by a limit. A caller's proof finds the state before the
+-- range was freed by the first lemma, and the request by the second: one lemma over both would be tried too often.
+pub record FitsAgain (r : Range) (state : AddressState) : Type 0 where
+  pub by : (new : AddressState) (answer : Result Range Error) → Allocates state (request_for (address_count r) 1 (ExactMatch r.start)) answer new →
+      (answer ≡ Ok r) ⊎ IsSplitRefusal state answer
+
+pub freed_fits_again : (old mid : AddressState) (r : Range) (freed : Result (Unit {0}) Error) → IsAddressState old → Contains old.held r → Frees old r freed mid →
+    FitsAgain r mid
+freed_fits_again old mid r freed i c f = record { by = λ new answer h. allocated_again old mid new r freed answer i c f h }
+
+pub fits_again_or_limit : (mid new : AddressState) (r : Range) (answer : Result Range Error) → FitsAgain r mid →
+    Allocates mid (request_for (address_count r) 1 (ExactMatch r.start)) answer new → IfErr answer (λ e. (e ≡ OutOfMemory) ⊎ (e ≡ Overflow))
+fits_again_or_limit mid new r (Ok again) i h = tt
+fits_again_or_limit mid new r (Err e) i h =
     ⊎_elim
     (λ k. absurd (cc (k)))
     (λ k. ⊎_elim (λ o. inl (cc o)) (λ o. inr (cc (o.1))) k)
-    (allocated_again old mid new r freed (Err e) i c f h)
+    (i.by new (Err e) h)
 
 -- ---- ids
 -- an id that was given was held by no one, and is held now
@@ -176,6 +202,36 @@ id_is_held old new (Ok id) h =
     h
 id_is_held old new (Err e) h = tt
 
+-- an id that was given is the least that was not held
+pub id_is_least : (old new : IdState) (answer : Result ℕ Error) → AllocatesId old answer new → IfOk answer (λ id. IsLowestNotHeld old id)
+unfolding AllocatesId ByLowestNotHeld
+id_is_least old new (Ok id) h =
+    ⊎_elim
+    (λ l. let e : l.0 ≡ id = cc (l.2.0) in subst (IsLowestNotHeld old) e l.1)
+    (λ r. absurd (⊎_elim (λ f. cc (f.1.0)) (λ f. cc (f.1.0)) r.1))
+    h
+id_is_least old new (Err e) h = tt
+
+-- and nothing but this id is held after it
+pub id_state : (old new : IdState) (answer : Result ℕ Error) → AllocatesId old answer new → IfOk answer (λ id. new ≡ holding_id id old)
+unfolding AllocatesId ByLowestNotHeld
+id_state old new (Ok id) h =
+    ⊎_elim
+    (λ l. let e : l.0 ≡ id = cc (l.2.0) in l.2.1 ∙ ap (λ (v : ℕ). holding_id v old) e)
+    (λ r. absurd (⊎_elim (λ f. cc (f.1.0)) (λ f. cc (f.1.0)) r.1))
+    h
+id_state old new (Err e) h = tt
+
+-- an id that is freed is held no more, and nothing else changes
+pub freed_id_state : (old new : IdState) (id : ℕ) (answer : Result ℕ Error) → FreesId old id answer new → IfOk answer (λ i. (i ≡ id) × (new ≡ releasing_id id old))
+unfolding FreesId
+freed_id_state old new id (Ok i) h =
+    ⊎_elim (λ a. absurd (cc (a.1.0))) (λ b.
+    ⊎_elim (λ a. absurd (cc (a.1.0))) (λ c.
+    ⊎_elim (λ a. absurd (cc (a.1.0))) (λ d.
+    ⊎_elim (λ k. (cc (k.0), k.1)) (λ k. absurd (cc (k.0))) d.1) c.1) b.1) h
+freed_id_state old new id (Err e) h = tt
+
 -- a range that was given was held by no one
 pub range_was_free : (old new : AddressState) (request : Request) (r : Range) → Allocates old request (Ok r) new → ¬ Contains old.held r
 unfolding IsPlace
@@ -185,6 +241,19 @@ range_was_free old new request r h c =
     let end : r.end ≡ r.start + request.size - 1 = ap (λ (v : Range). v.end) g.long in
     let inside : IsIn r r.start = (omega arith, omega arith) in
     none_holds old.held r.start (g.place.1 r.start (omega arith) (omega arith)).1 (held_address old.held r r.start (held_contains old.held r c) inside)
+
+-- a range that is freed is held no more, and nothing else changes
+pub freed_state : (old new : AddressState) (r : Range) (answer : Result (Unit {0}) Error) → Frees old r answer new → OnOk answer (new ≡ releasing r old)
+unfolding Frees
+freed_state old new r (Ok u) h = ⊎_elim (λ k. k.1.1) (λ k. absurd (cc (k.1.0))) h
+freed_state old new r (Err e) h = tt
+
+-- a range that is not held is not freed
+pub not_freed : (old new : AddressState) (r : Range) (answer : Result (Unit {0}) Error) → Frees old r answer new → ¬ Contains old.held r → answer ≡ Err ResourceNotAvailable
+unfolding Frees
+not_freed old new r answer h n = ⊎_elim (λ k. absurd (n k.0)) (λ k. k.1.0) h
+
+pub ruleset releases = (freed_state, not_freed)
 
 -- a held range can be given back
 pub frees_held : (old : AddressState) (r : Range) → Contains old.held r → Frees old r (Ok tt) (releasing r old)
@@ -208,4 +277,4 @@ ids_encoded d state s = encoded_ids d state s
 pub addresses_encoded : (d : Data) (state : AddressState) → EncodesAddresses d state → IsAddressState state
 addresses_encoded d state s = subst IsAddressState s.is (encoded_addresses d s.allocator s.encoded)
 
-pub ruleset callers = (allocated_aligned, allocated_long, allocated_held, allocated_apart, allocated_same, refused_only_by_limits, id_was_free, id_is_held, allocator_again, ids_again)
+pub ruleset callers = (allocated_held, allocated_apart, allocated_same, freed_fits_again, fits_again_or_limit, id_was_free, id_is_held, allocator_again, ids_again)

@@ -3,11 +3,12 @@
 //! for `saved`, and whoever puts them together proves the invariant. The plain calls are the counted
 //! ones without the count. That some calls always succeed follows from their answers, and is a clause
 //! of its own all the same: a monitor relies on it.
-ghost use Rattle.std.specs.Prelude.{ℕ, ◌≡◌, OnErr, IfOk, IsOk};
+ghost use Rattle.std.specs.Prelude.{ℕ, ◌≡◌, ◌%◌, Err, OnErr, OnOk, IfOk, IsOk};
 ghost use Rattle.std.specs.List.{Contains};
-ghost use Rattle.vm_engine.specs.Address.{IsAddressState};
+ghost use Rattle.vm_engine.specs.Address.{IsAddressState, holding, releasing};
+ghost use Rattle.vm_ranges.specs.Range.{address_count};
 ghost use Rattle.vm_ranges.specs.Request.{request_for};
-ghost use Rattle.vm_engine.specs.Answer.{Allocates, FillsGap, Frees, Makes};
+ghost use Rattle.vm_engine.specs.Answer.{Allocates, FillsGap, Frees, IsChosen, Makes};
 ghost use Rattle.vm_allocator.specs.Allocator.{state_of, made_state};
 ghost use Rattle.vm_ranges.specs.Cloning.{Clones};
 ghost use Rattle.vm_engine.specs.Tree.Shape.{height_of};
@@ -87,6 +88,7 @@ impl AddressAllocator {
     /// ends at `u64::MAX` is `Overflow`, also where there is another place. Only where the place
     /// leaves a part of its gap over come `Overflow` for a tree of height 48 or more, which
     /// takes more than 6 * 10^9 held ranges, and `OutOfMemory`. A refusal changes nothing.
+    #[tactic(auto, using(crate::proofs::Callers::allocations))]
     pub fn allocate(
         &mut self,
         alloc: Global,
@@ -94,15 +96,25 @@ impl AddressAllocator {
         alignment: u64,
         policy: AllocPolicy,
     ) -> Result<RangeInclusive>
-        ensures answer { Allocates (state_of self.old) (request_for size alignment policy) result (state_of self.new) }
+        // The range is as long as asked and aligned, at the place that the policy chooses.
+        ensures fits { IfOk result (λ range. (address_count range ≡ size) × (range.start % alignment ≡ 0)) }
+        ensures chosen { IfOk result (λ range.
+            IsChosen (request_for size alignment policy) (state_of self.old) range.start) }
+
+        // It is held, and nothing else changes.
+        ensures held { IfOk result (λ range. state_of self.new ≡ holding range (state_of self.old)) }
         ensures unchanged { OnErr result (self.new ≡ self.old) }
 
-        // What fills its gap needs no memory, and succeeds.
-        ensures filling { (s : ℕ) → FillsGap (state_of self.old) (request_for size alignment policy) s → IsOk result }
+        // A request that fills its gap needs no memory, and succeeds.
+        ensures filling { (start : ℕ) → FillsGap (state_of self.old) (request_for size alignment policy) start
+            → IsOk result }
 
-        // The refusal for depth comes before out of memory.
+        // The error for depth comes before out of memory.
         ensures depth { SplitsIfLow (height_of self.old.tree) (state_of self.old) result }
         ensures state { IsAddressState (state_of self.new) }
+
+        // Each result under its exact condition.
+        ensures answer { Allocates (state_of self.old) (request_for size alignment policy) result (state_of self.new) }
     {
         let answer = self.allocate_counted(alloc, size, alignment, policy).0;
         self.recall_invariant();
@@ -129,8 +141,9 @@ impl AddressAllocator {
             (request_for size alignment policy) result.0 (state_of self.new) }
         ensures unchanged { OnErr result.0 (self.new ≡ self.old) }
 
-        // What fills its gap needs no memory, and succeeds.
-        ensures filling { (s : ℕ) → FillsGap (state_of self.old) (request_for size alignment policy) s → IsOk result.0 }
+        // A request that fills its gap needs no memory, and succeeds.
+        ensures filling { (start : ℕ) → FillsGap (state_of self.old) (request_for size alignment policy) start
+            → IsOk result.0 }
 
         // The refusal for depth comes before out of memory.
         ensures depth { SplitsIfLow (height_of self.old.tree) (state_of self.old) result.0 }
@@ -150,13 +163,17 @@ impl AddressAllocator {
 
     /// Gives a held range back. Any other range is `ResourceNotAvailable`, a part of a held one and
     /// a clear one among them. Takes no memory, and a refusal changes nothing.
+    #[tactic(auto, using(crate::proofs::Callers::releases))]
     pub fn free(&mut self, key: &RangeInclusive) -> Result<()>
-        ensures answer { Frees (state_of self.old) key.now result (state_of self.new) }
-        ensures unchanged { OnErr result (self.new ≡ self.old) }
-
-        // Giving back needs no memory, and succeeds.
+        // A held range is freed, without memory, and nothing else changes. Any other range is refused.
         ensures held { Contains (state_of self.old).held key.now → IsOk result }
+        ensures freed { OnOk result (state_of self.new ≡ releasing key.now (state_of self.old)) }
+        ensures refused { ¬ Contains (state_of self.old).held key.now → result ≡ Err Error.ResourceNotAvailable }
+        ensures unchanged { OnErr result (self.new ≡ self.old) }
         ensures state { IsAddressState (state_of self.new) }
+
+        // Each result under its exact condition.
+        ensures answer { Frees (state_of self.old) key.now result (state_of self.new) }
     {
         self.free_counted(key).0
     }

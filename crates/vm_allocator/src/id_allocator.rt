@@ -1,6 +1,6 @@
 //! Ids of one range: those handed out so far lie below the next one, and those given back stand in a
 //! set, the least first. Only giving back and cloning ask for memory.
-ghost use Rattle.std.specs.Prelude.{◌≡◌, ℕ, ◌≤◌, ◌⊎◌, ◌↔◌, IsTrue, IsOk, OnErr, Ok, Err};
+ghost use Rattle.std.specs.Prelude.{◌≡◌, ℕ, ◌≤◌, ◌⊎◌, ◌↔◌, IsTrue, IsOk, IfOk, OnErr, Ok, Err};
 ghost use Rattle.vm_ranges.specs.Cloning.{Clones};
 ghost use Rattle.vm_allocator.specs.Ids.{
   MakesIds,
@@ -12,7 +12,10 @@ ghost use Rattle.vm_allocator.specs.Ids.{
   WasEverAllocated,
   IsHeld,
   IsNotHeld,
+  IsLowestNotHeld,
   IsIdState,
+  holding_id,
+  releasing_id,
   held_count,
   bound_of,
 };
@@ -106,9 +109,14 @@ impl IdAllocator {
     /// to `u32::MAX`, and else `ResourceNotAvailable`. It takes no memory.
     #[tactic(auto, using(crate::proofs::Ids::AllocatedIds::allocates))]
     pub fn allocate_id(&mut self) -> Result<u32>
-        ensures answer { AllocatesId self.old result self.new }
+        // The id is the lowest that is not held. It is held after the call, and nothing else changes.
+        ensures lowest { IfOk result (λ id. IsLowestNotHeld self.old id) }
+        ensures held { IfOk result (λ id. self.new ≡ holding_id id self.old) }
         ensures succeeds { (id : ℕ) → IsNotHeld self.old id → IsOk result }
         ensures unchanged { OnErr result (self.new ≡ self.old) }
+
+        // Each result under its exact condition.
+        ensures answer { AllocatesId self.old result self.new }
     {
         if let Some(id) = self.freed_ids.pop_first() {
             return Ok(id);
@@ -153,11 +161,15 @@ impl IdAllocator {
     /// outside the range, `NeverAllocated(id)` where it was never handed out, `AlreadyReleased(id)`
     /// where it is not held any more, and `OutOfMemory` where a request for memory was refused. A
     /// refusal changes nothing.
-    #[tactic(auto, using(crate::proofs::Ids::FreedIds::frees))]
+    #[tactic(auto, using(crate::proofs::Ids::FreedIds::frees, crate::proofs::Callers::freed_id_state))]
     pub fn free_id(&mut self, id: u32) -> Result<u32>
-        ensures answer { FreesId self.old id result self.new }
+        // A held id is freed unless memory runs out, and nothing else changes.
         ensures held { IsHeld self.old id → (result ≡ Ok id) ⊎ (result ≡ Err Error.OutOfMemory) }
+        ensures freed { IfOk result (λ freed. (freed ≡ id) × (self.new ≡ releasing_id id self.old)) }
         ensures unchanged { OnErr result (self.new ≡ self.old) }
+
+        // Each result under its exact condition.
+        ensures answer { FreesId self.old id result self.new }
     {
         if !self.id_in_range(id) {
             return Err(Error::OutOfRange(id));

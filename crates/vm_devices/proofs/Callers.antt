@@ -1,16 +1,17 @@
 -- What a caller wants to know of devices that it reserved.
-use Rattle.std.proofs.Common.{◌≡◌, ℕ, ◌%◌, sym, ap, ⊎_elim, subst, Result, Ok, Err, IfOk}
-use Rattle.vm_ranges.specs.Range.{Overlaps, address_count}
+use Rattle.std.proofs.Common.{◌≡◌, ℕ, ◌%◌, sym, ap, ⊎_elim, subst, Result, Ok, Err, IfOk, OnOk}
+use Rattle.vm_ranges.specs.Range.{Range, Overlaps, address_count}
 use Rattle.vm_engine.specs.Address.{holding}
 use Rattle.vm_ranges.specs.Request.{Request, request_for}
-use Rattle.vm_engine.specs.Answer.{Allocates}
+use Rattle.vm_engine.specs.Answer.{Allocates, IsChosen}
 use Rattle.vm_ranges.specs.declared.error.Error.{Error}
 use Rattle.vm_ranges.specs.declared.constraint.AllocPolicy.{AllocPolicy}
-use Rattle.vm_allocator.proofs.Callers.{allocated_aligned, allocated_long, allocated_apart}
+use Rattle.vm_allocator.proofs.Callers.{allocated_aligned, allocated_long, allocated_apart, allocated_chosen}
+use Rattle.vm_allocator.specs.Ids.{IsLowestNotHeld}
 use Rattle.vm_devices.specs.declared.device_slot.DeviceSlot.{DeviceSlot}
-use Rattle.vm_devices.specs.Devices.{DeviceState, IsDevice, IsDeviceState, Reserves, Releases}
+use Rattle.vm_devices.specs.Devices.{DeviceState, IsDevice, IsDeviceState, Reserves, Releases, with_device, without_device}
 use Rattle.vm_devices.proofs.DevicesAgain.{reserved_again}
-use Rattle.vm_devices.proofs.Reserving.{reserved_device}
+use Rattle.vm_devices.proofs.Reserving.{reserved_device, releasing_outcome}
 use Rattle.vm_devices.proofs.Tables.{with_here}
 
 -- the range of a device starts at a multiple of the alignment
@@ -28,6 +29,37 @@ device_long old new size align policy (Ok slot) h =
     let d = reserved_device old new (request_for size align policy) slot h in
     allocated_long old.space (holding slot.range old.space) size align policy (Ok slot.range) d.given
 device_long old new size align policy (Err e) h = tt
+
+pub device_fits : (old new : DeviceState) (size align : ℕ) (policy : AllocPolicy) (answer : Result DeviceSlot Error) →
+    Reserves old (request_for size align policy) answer new → IfOk answer (λ slot. (address_count slot.range ≡ size) × (slot.range.start % align ≡ 0))
+device_fits old new size align policy (Ok slot) h = (device_long old new size align policy (Ok slot) h, device_aligned old new size align policy (Ok slot) h)
+device_fits old new size align policy (Err e) h = tt
+
+-- it is at the place that the policy chooses
+pub device_chosen : (old new : DeviceState) (request : Request) (answer : Result DeviceSlot Error) → Reserves old request answer new → IfOk answer (λ slot. IsChosen request old.space slot.range.start)
+device_chosen old new request (Ok slot) h =
+    let d = reserved_device old new request slot h in
+    allocated_chosen old.space (holding slot.range old.space) request (Ok slot.range) d.given
+device_chosen old new request (Err e) h = tt
+
+-- the id of a device is the least that was not held
+pub device_least : (old new : DeviceState) (request : Request) (answer : Result DeviceSlot Error) → Reserves old request answer new → IfOk answer (λ slot. IsLowestNotHeld old.ids slot.id)
+device_least old new request (Ok slot) h = (reserved_device old new request slot h).lowest
+device_least old new request (Err e) h = tt
+
+-- and nothing but this device is there after it
+pub device_state : (old new : DeviceState) (request : Request) (answer : Result DeviceSlot Error) → Reserves old request answer new → IfOk answer (λ slot. new ≡ with_device slot.id slot.range old)
+device_state old new request (Ok slot) h = (reserved_device old new request slot h).left
+device_state old new request (Err e) h = tt
+
+-- a device that is released is there no more, and nothing else changes
+pub released_device : (old new : DeviceState) (id : ℕ) (answer : Result (Unit {0}) Error) → Releases old id answer new → OnOk answer ((r : Range) × IsDevice old id r × (new ≡ without_device id r old))
+released_device old new id (Ok u) h =
+    ⊎_elim
+    (λ r. absurd (cc (r.1)))
+    (λ k. (k.0, k.1, k.3))
+    (releasing_outcome old new id (Ok u) h)
+released_device old new id (Err e) h = tt
 
 -- it is a device from then on
 pub device_there : (old new : DeviceState) (request : Request) (answer : Result DeviceSlot Error) → Reserves old request answer new → IfOk answer (λ slot. IsDevice new slot.id slot.range)
@@ -55,4 +87,17 @@ device_again old mid new later request slot (Ok again) i s f t =
     (reserved_again old mid new later request slot (Ok tt) (Ok again) i s f (λ e. cc (e)) t)
 device_again old mid new later request slot (Err e) i s f t = tt
 
-pub ruleset callers = (device_aligned, device_long, device_there, devices_share_none, device_again)
+-- A request of the state reserves this device or fails. The two lemmas share the work of `device_again`, as those of
+-- `FitsAgain` do.
+pub record DeviceFitsAgain (request : Request) (slot : DeviceSlot) (state : DeviceState) : Type 0 where
+  pub by : (later : DeviceState) (answer : Result DeviceSlot Error) → Reserves state request answer later → IfOk answer (λ again. again ≡ slot)
+
+pub released_fits_again : (old mid new : DeviceState) (request : Request) (slot : DeviceSlot) → IsDeviceState old →
+    Reserves old request (Ok slot) mid → Releases mid slot.id (Ok tt) new → DeviceFitsAgain request slot new
+released_fits_again old mid new request slot i s f = record { by = λ later answer h. device_again old mid new later request slot answer i s f h }
+
+pub fits_again_is_reserved : (new later : DeviceState) (request : Request) (slot : DeviceSlot) (answer : Result DeviceSlot Error) →
+    DeviceFitsAgain request slot new → Reserves new request answer later → IfOk answer (λ again. again ≡ slot)
+fits_again_is_reserved new later request slot answer i h = i.by later answer h
+
+pub ruleset callers = (device_there, devices_share_none, released_fits_again, fits_again_is_reserved)

@@ -1,9 +1,20 @@
 //! The manager of devices. Ids, ranges and the table that pairs them change together or not at all:
 //! what may be refused comes first, and what follows it is always done.
-ghost use Rattle.std.specs.Prelude.{◌≡◌, OnErr, IfOk};
+ghost use Rattle.std.specs.Prelude.{◌≡◌, ◌%◌, OnErr, OnOk, IfOk};
 ghost use Rattle.std.specs.FinMap as map;
+ghost use Rattle.vm_ranges.specs.Range.{Range, address_count};
 ghost use Rattle.vm_ranges.specs.Request.{request_for};
-ghost use Rattle.vm_devices.specs.Devices.{IsDeviceState, MakesManager, Reserves, Releases};
+ghost use Rattle.vm_engine.specs.Answer.{IsChosen};
+ghost use Rattle.vm_allocator.specs.Ids.{IsLowestNotHeld};
+ghost use Rattle.vm_devices.specs.Devices.{
+  IsDeviceState,
+  IsDevice,
+  MakesManager,
+  Reserves,
+  Releases,
+  with_device,
+  without_device,
+};
 
 use crate::device_slot::DeviceSlot;
 use std::alloc::Global;
@@ -67,9 +78,20 @@ impl DeviceManager {
         align: u64,
         policy: AllocPolicy,
     ) -> Result<DeviceSlot>
-        ensures answer { Reserves self.old (request_for size align policy) result self.new }
+        // The id is the lowest that is not held. The range is as long as asked and aligned, at the place
+        // that the policy chooses.
+        ensures lowest { IfOk result (λ slot. IsLowestNotHeld self.old.ids slot.id) }
+        ensures fits { IfOk result (λ slot. (address_count slot.range ≡ size) × (slot.range.start % align ≡ 0)) }
+        ensures chosen { IfOk result (λ slot.
+            IsChosen (request_for size align policy) self.old.space slot.range.start) }
+
+        // The device has both, and nothing else changes.
+        ensures held { IfOk result (λ slot. self.new ≡ with_device slot.id slot.range self.old) }
         ensures unchanged { OnErr result (self.new ≡ self.old) }
         ensures state { IsDeviceState self.new }
+
+        // Each result under its exact condition.
+        ensures answer { Reserves self.old (request_for size align policy) result self.new }
     {
         let id = self.id_allocator.peek_id()?;
         let range = self.mmio_allocator.allocate(alloc, size, align, policy)?;
@@ -87,9 +109,14 @@ impl DeviceManager {
     /// and then `OutOfMemory`. A refusal leaves ids, ranges and devices as they were.
     #[tactic(auto, using(crate::proofs::DeviceCalls::no_device))]
     pub fn release(&mut self, id: u32) -> Result<()>
-        ensures answer { Releases self.old id result self.new }
+        // The id and the range of the device are freed, and nothing else changes.
+        ensures released { OnOk result ((range : Range) × IsDevice self.old id range
+            × (self.new ≡ without_device id range self.old)) }
         ensures unchanged { OnErr result (self.new ≡ self.old) }
         ensures state { IsDeviceState self.new }
+
+        // Each result under its exact condition.
+        ensures answer { Releases self.old id result self.new }
     {
         let Some(range) = self.slot(id) else {
             return Err(Error::NeverAllocated(id));

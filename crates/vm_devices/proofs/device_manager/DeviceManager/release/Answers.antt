@@ -1,8 +1,9 @@
-use Rattle.std.proofs.Common.{◌≡◌, sym, ap, ◌∙◌, Err, rules}
+use Rattle.std.proofs.Common.{◌≡◌, sym, ap, ◌∙◌, Ok, Err, rules}
 use Rattle.std.specs.FinMap as map
 use Rattle.vm_allocator.specs.Allocator.{state_of}
 use Rattle.vm_devices.specs.Devices.{DeviceState, devices_of}
 use Rattle.vm_devices.proofs.DeviceCalls.{Parts, Goes, release_refused, go, go_state}
+use Rattle.vm_devices.proofs.Callers.{released_device}
 use Rattle.vm_devices.proofs.device_manager.DeviceManager.release.Goals as goal
 
 pub invariant_of-self-2 : goal.invariant_of-self-2
@@ -46,3 +47,6 @@ returns-in_err-free_id-clause-answer c =
     let same = ap (λ ids. devices_of ids (state_of c.self.inside.mmio_allocator) c.self.inside.slots) c.in_err-free_id.ensures.unchanged in
     rw (← c.self.view_is, is)
     (release_refused _ _ c.args.id c.in-Some.range e c.free_id.result c.self.invariant device c.free_id.ensures.held c.in_err-free_id.was same)
+
+pub returns-clause-released : goal.returns-clause-released
+returns-clause-released c = released_device _ _ c.args.id (Ok tt) (returns-clause-answer c)
