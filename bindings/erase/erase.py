@@ -92,7 +92,7 @@ ALLOWED = {
     "unused_assignments, unused_variables": ("vm_allocator/src/saved/ids.rt collect_ids",),
     "clippy::let_and_return": (
         "vm_allocator/src/address_allocator.rt allocate", "vm_engine/src/interval_tree.rt allocate",
-        "vm_engine/src/node/remove.rt delete_root"),
+        "vm_engine/src/node/delete.rt delete_root"),
     "clippy::needless_range_loop": ("vm_lines/src/number.rt are_digits", "vm_lines/src/number.rt digits_value"),
     "clippy::only_used_in_recursion": ("vm_allocator/src/saved/repaired.rt hold_keys", "vm_engine/src/saved/tree.rt build"),
     "clippy::question_mark": (

@@ -11,12 +11,12 @@ ghost use Rattle.vm_engine.specs.Tree.Shape.{Tip, Fork, height_of, single, root_
 ghost use Rattle.vm_engine.specs.Engine.NodeFields.{side};
 
 mod balance;
+pub(crate) mod delete;
 mod find;
 mod laws;
 mod link;
 pub(crate) mod neighbours;
 pub(crate) mod places;
-pub(crate) mod remove;
 pub(crate) mod rewrite;
 mod search_tree;
 pub(crate) mod split;

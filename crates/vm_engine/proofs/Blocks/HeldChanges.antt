@@ -98,7 +98,7 @@ without_with lo hi r (x ∷ xs) s l m =
     rw (e, f) (ap (λ (v : List Range). x ∷ v) (without_with (x.end + 1) hi r xs s.4 l (misses_later x r xs m))))
     (beside x r xs s.1 l m)
 
--- A held range after the removal was held before.
+-- A held range after the deletion was held before.
 pub held_without : (r q : Range) (hs : List Range) → IsHeld (without_range r hs) q → IsHeld hs q
 held_without r q [] h = h
 held_without r q (x ∷ xs) h =

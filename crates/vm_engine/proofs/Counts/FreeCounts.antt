@@ -3,19 +3,19 @@ use Rattle.std.proofs.Common.{◌≡◌, ℕ, ◌+◌, ◌≤◌, Option, Some, 
 use Rattle.vm_ranges.specs.Range.{Range}
 use Rattle.vm_engine.specs.Tree.Shape.{Shape, Tip, Fork, blocks, height_of}
 use Rattle.vm_engine.specs.Engine.FreedBlocks.{neighbours}
-use Rattle.vm_engine.specs.Counts.NodeCounts.{nodes_around, nodes_to_remove_if_some}
+use Rattle.vm_engine.specs.Counts.NodeCounts.{nodes_around, nodes_to_delete_if_some}
 use Rattle.vm_engine.specs.Tree.SpaceTree.{IsSpaceTree}
 use Rattle.vm_engine.specs.Counts.Steps.{IsFreeCount, IsJoinCount, EntersToFree}
 use Rattle.vm_ranges.specs.declared.error.Error.{Error}
 use Rattle.vm_engine.specs.declared.node.neighbours.Neighbours.{Neighbours}
 use Rattle.vm_engine.proofs.Nodes.Spaces.{few_nodes, no_empty_tree}
 use Rattle.vm_engine.proofs.Releasing.Finding.{held_block_found}
-use Rattle.vm_engine.proofs.Counts.NodeCountBounds.{nodes_to_at_most, nodes_to_remove_at_most, nodes_around_at_most}
+use Rattle.vm_engine.proofs.Counts.NodeCountBounds.{nodes_to_at_most, nodes_to_delete_at_most, nodes_around_at_most}
 
 -- ---- Freeing a range
-pub nodes_if_at_most : (k : Option Range) (s : Shape) → nodes_to_remove_if_some k s ≤ height_of s
+pub nodes_if_at_most : (k : Option Range) (s : Shape) → nodes_to_delete_if_some k s ≤ height_of s
 nodes_if_at_most None s = omega arith
-nodes_if_at_most (Some k) s = nodes_to_remove_at_most k s
+nodes_if_at_most (Some k) s = nodes_to_delete_at_most k s
 
 some_nodes_around : (k : Range) (s : Shape) → IsSpaceTree s → 1 ≤ nodes_around k s
 unfolding nodes_around
@@ -41,7 +41,7 @@ enters_to_none s k e before after p = record { refused = p; given = tt }
 pub enters_to_free : (s : Shape) (k : Range) (beside : Neighbours) (before mid after : ℕ) → neighbours k None (blocks s) None ≡ Some beside → mid ≡ before + nodes_around k s → IsJoinCount s k beside.before beside.after mid after → EntersToFree s k (Ok tt) before after
 enters_to_free s k beside before mid after f p w = record { refused = tt; given = (beside.before, beside.after, held_block_found s k beside f, subst (λ (v : ℕ). IsJoinCount s k beside.before beside.after v after) p w) }
 
-pub ruleset removals = (nodes_if_at_most)
+pub ruleset deletions = (nodes_if_at_most)
 
 pub ruleset releasings = (few_nodes, release_count)
 

@@ -3,7 +3,7 @@ use Rattle.std.proofs.Common.{ℕ, ◌+◌, ◌-◌, ◌*◌, ◌≤◌, Bool, t
 use Rattle.vm_ranges.specs.Range.{Range}
 use Rattle.vm_ranges.specs.RangeOrder.{same_range, is_before}
 use Rattle.vm_engine.specs.Tree.Shape.{Shape, Tip, Fork, height_of, IsBalanced, IsTree}
-use Rattle.vm_engine.specs.Counts.NodeCounts.{nodes_down, nodes_to, nodes_across, nodes_to_first, nodes_to_last, nodes_to_join, nodes_to_remove, nodes_to_neighbours, nodes_around}
+use Rattle.vm_engine.specs.Counts.NodeCounts.{nodes_down, nodes_to, nodes_across, nodes_to_first, nodes_to_last, nodes_to_join, nodes_to_delete, nodes_to_neighbours, nodes_around}
 use Rattle.vm_ranges.specs.declared.state.NodeState.{NodeState}
 use Rattle.vm_ranges.specs.declared.state.NodeState.TheVariants.{Free, Allocated}
 use Rattle.vm_engine.proofs.Counts.NodeCountCases.{search_at_max, search_named, nodes_around_cases}
@@ -75,18 +75,18 @@ unfolding nodes_to_join
 nodes_to_join_at_most Tip r = omega arith
 nodes_to_join_at_most (Fork l b m) r = nodes_to_first_at_most r
 
-pub nodes_to_remove_at_most : (k : Range) (s : Shape) → nodes_to_remove k s ≤ height_of s
-unfolding nodes_to_remove
-nodes_to_remove_at_most k Tip = omega arith
-nodes_to_remove_at_most k (Fork l b r) =
+pub nodes_to_delete_at_most : (k : Range) (s : Shape) → nodes_to_delete k s ≤ height_of s
+unfolding nodes_to_delete
+nodes_to_delete_at_most k Tip = omega arith
+nodes_to_delete_at_most k (Fork l b r) =
     let most = height_of (Fork l b r) - 1 in
     omega (
       arith,
       either_at_most (same_range k b.key) (nodes_to_join l r) _ most (omega (arith, nodes_to_join_at_most l r))
-          (either_at_most (is_before k b.key) (nodes_to_remove k l) (nodes_to_remove k r) most (omega (arith, nodes_to_remove_at_most k l)) (omega (arith, nodes_to_remove_at_most k r))),
+          (either_at_most (is_before k b.key) (nodes_to_delete k l) (nodes_to_delete k r) most (omega (arith, nodes_to_delete_at_most k l)) (omega (arith, nodes_to_delete_at_most k r))),
     )
 
-pub ruleset removal_bounds = (nodes_to_first_at_most, nodes_to_join_at_most, nodes_to_remove_at_most)
+pub ruleset deletion_bounds = (nodes_to_first_at_most, nodes_to_join_at_most, nodes_to_delete_at_most)
 
 beside_at_most : (state : NodeState) (l r : Shape) → nodes_to_neighbours state l r ≤ height_of l + height_of r
 beside_at_most Free l r = omega arith

@@ -5,7 +5,7 @@ use Rattle.vm_ranges.specs.Range.{Range, MAX, at_address}
 use Rattle.vm_ranges.specs.RangeOrder.{Before, StartsBefore, StartsAtOrAfter, EndsBefore, EndsAtOrAfterStartOf, is_before}
 use Rattle.vm_engine.specs.Tree.Block.{Block}
 use Rattle.vm_engine.specs.Tree.Shape.{Shape, Tip, Fork}
-use Rattle.vm_engine.specs.Counts.NodeCounts.{nodes_down, nodes_to, nodes_across, nodes_to_first, nodes_to_last, nodes_to_join, nodes_to_remove, nodes_around, nodes_of_first, nodes_of_last, nodes_of_search}
+use Rattle.vm_engine.specs.Counts.NodeCounts.{nodes_down, nodes_to, nodes_across, nodes_to_first, nodes_to_last, nodes_to_join, nodes_to_delete, nodes_around, nodes_of_first, nodes_of_last, nodes_of_search}
 use Rattle.vm_ranges.specs.Request.{Request}
 use Rattle.vm_ranges.specs.declared.constraint.AllocPolicy.TheVariants.{FirstMatch, LastMatch, ExactMatch}
 use Rattle.vm_ranges.specs.declared.state.NodeState.TheVariants.{Free, Allocated}
@@ -115,23 +115,23 @@ join_both (Fork l b m) r n = refl
 pub ruleset nodes_to_join_cases = (join_no_left, join_no_right, join_both)
 
 -- ---- Removing a block
-pub remove_tip : (k : Range) → nodes_to_remove k Tip ≡ 0
-unfolding nodes_to_remove
-remove_tip k = refl
+pub delete_tip : (k : Range) → nodes_to_delete k Tip ≡ 0
+unfolding nodes_to_delete
+delete_tip k = refl
 
-pub remove_here : (k : Range) (l : Shape) (b : Block) (r : Shape) → b.key ≡ k → nodes_to_remove k (Fork l b r) ≡ nodes_to_join l r + 1
-unfolding nodes_to_remove
-remove_here k l b r e = rw (e, same_range_self k)
+pub delete_here : (k : Range) (l : Shape) (b : Block) (r : Shape) → b.key ≡ k → nodes_to_delete k (Fork l b r) ≡ nodes_to_join l r + 1
+unfolding nodes_to_delete
+delete_here k l b r e = rw (e, same_range_self k)
 
-pub remove_left : (k : Range) (l : Shape) (b : Block) (r : Shape) → Before k b.key → nodes_to_remove k (Fork l b r) ≡ nodes_to_remove k l + 1
-unfolding nodes_to_remove
-remove_left k l b r p = rw (same_range_before k b.key (inl p), before_first k b.key p)
+pub delete_left : (k : Range) (l : Shape) (b : Block) (r : Shape) → Before k b.key → nodes_to_delete k (Fork l b r) ≡ nodes_to_delete k l + 1
+unfolding nodes_to_delete
+delete_left k l b r p = rw (same_range_before k b.key (inl p), before_first k b.key p)
 
-pub remove_right : (k : Range) (l : Shape) (b : Block) (r : Shape) → Before b.key k → nodes_to_remove k (Fork l b r) ≡ nodes_to_remove k r + 1
-unfolding nodes_to_remove
-remove_right k l b r p = rw (same_range_before k b.key (inr p), after_first k b.key p)
+pub delete_right : (k : Range) (l : Shape) (b : Block) (r : Shape) → Before b.key k → nodes_to_delete k (Fork l b r) ≡ nodes_to_delete k r + 1
+unfolding nodes_to_delete
+delete_right k l b r p = rw (same_range_before k b.key (inr p), after_first k b.key p)
 
-pub ruleset nodes_to_remove_cases = (remove_tip, remove_here, remove_left, remove_right)
+pub ruleset nodes_to_delete_cases = (delete_tip, delete_here, delete_left, delete_right)
 
 -- ---- Finding a held block and its neighbours
 pub around_tip : (k : Range) → nodes_around k Tip ≡ 0

@@ -47,17 +47,17 @@ nodes_to_join Tip r = 0
 nodes_to_join (Fork l b m) r = nodes_to_first r
 
 -- The nodes entered to remove the block with key k: the path to it, and those to join its children.
-unfoldable pub nodes_to_remove : Range → Shape → ℕ
-nodes_to_remove k Tip = 0
-nodes_to_remove k (Fork l b r) =
+unfoldable pub nodes_to_delete : Range → Shape → ℕ
+nodes_to_delete k Tip = 0
+nodes_to_delete k (Fork l b r) =
     (if same_range k b.key then nodes_to_join l r
-    else if is_before k b.key then nodes_to_remove k l
-    else nodes_to_remove k r) + 1
+    else if is_before k b.key then nodes_to_delete k l
+    else nodes_to_delete k r) + 1
 
 -- The nodes entered to remove the block with a key, or 0 if there is no key.
-abbrev pub nodes_to_remove_if_some : Option Range → Shape → ℕ
-nodes_to_remove_if_some None s = 0
-nodes_to_remove_if_some (Some k) s = nodes_to_remove k s
+abbrev pub nodes_to_delete_if_some : Option Range → Shape → ℕ
+nodes_to_delete_if_some None s = 0
+nodes_to_delete_if_some (Some k) s = nodes_to_delete k s
 
 -- The nodes entered to find the neighbours of a block in its children l and r, or 0 if the block is free.
 abbrev pub nodes_to_neighbours : NodeState → Shape → Shape → ℕ

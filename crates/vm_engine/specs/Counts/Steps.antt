@@ -8,7 +8,7 @@ use Rattle.vm_ranges.specs.Request.{Request, IsRequest, MakesConstraint}
 use Rattle.vm_engine.specs.Tree.Shape.{Shape, MAX_HEIGHT, blocks, height_of, node_count, IsBalanced}
 use Rattle.vm_engine.specs.Tree.BlockEdits.{IsTakenFrom}
 use Rattle.vm_engine.specs.Tree.FreeBeside.{HasHeld, without_if_some}
-use Rattle.vm_engine.specs.Counts.NodeCounts.{nodes_of_search, nodes_to_allocate, nodes_to, nodes_around, nodes_to_remove_if_some}
+use Rattle.vm_engine.specs.Counts.NodeCounts.{nodes_of_search, nodes_to_allocate, nodes_to, nodes_around, nodes_to_delete_if_some}
 use Rattle.vm_engine.specs.Counts.Fibonacci.{fibonacci}
 use Rattle.vm_ranges.specs.declared.error.Error.{Error}
 use Rattle.vm_ranges.specs.declared.error.Error.TheVariants.{OutOfMemory}
@@ -69,7 +69,7 @@ pub record EntersToAllocate (s : Shape) (request : Request) (answer : Result Ran
   pub valid : IsRequest request → Enters s request answer 0 count
 
 -- The nodes entered to join a held block with its free neighbours. Each neighbour is removed from the tree that the
--- previous removal leaves. The block is then widened in the last tree.
+-- previous deletion leaves. The block is then widened in the last tree.
 pub record IsJoinCount (s : Shape) (key : Range) (lower upper : Option Range) (before after : ℕ) : Type 0 where
   pub mid : Shape
   pub last : Shape
@@ -78,7 +78,7 @@ pub record IsJoinCount (s : Shape) (key : Range) (lower upper : Option Range) (b
   pub same_first : lower ≡ None → mid ≡ s
   pub same_last : upper ≡ None → last ≡ mid
   pub no_higher : (height_of mid ≤ height_of s) × (height_of last ≤ height_of mid)
-  pub count : after ≡ before + nodes_to_remove_if_some lower s + nodes_to_remove_if_some upper mid + nodes_to key last
+  pub count : after ≡ before + nodes_to_delete_if_some lower s + nodes_to_delete_if_some upper mid + nodes_to key last
 
 -- The exact number of nodes that `free` enters, from the count `before` to the count `after`: those of the search, and
 -- if the range is held also those of `IsJoinCount`.

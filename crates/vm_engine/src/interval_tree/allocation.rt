@@ -64,8 +64,8 @@ impl IntervalTree {
             return Err(Error::Overflow);
         }
         let rest = rest_of(alloc, &choice)?;
-        let mut cut = Split { choice, rest };
-        split_at(&mut self.root, &mut cut, count);
+        let mut split = Split { choice, rest };
+        split_at(&mut self.root, &mut split, count);
         Ok(choice.range)
     }
 }

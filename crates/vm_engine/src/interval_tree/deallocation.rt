@@ -13,13 +13,13 @@ ghost use Rattle.vm_engine.specs.Tree.Shape.{blocks, height_of};
 ghost use Rattle.vm_engine.specs.Engine.NodeFields.{side};
 ghost use Rattle.vm_engine.specs.Tree.SpaceTree.{tree_state, IsSpaceTree};
 ghost use Rattle.vm_engine.specs.Counts.Steps.{EntersToFree, IsJoinCount};
-ghost use Rattle.vm_engine.specs.Counts.NodeCounts.{nodes_to_remove_if_some};
+ghost use Rattle.vm_engine.specs.Counts.NodeCounts.{nodes_to_delete_if_some};
 
 use super::IntervalTree;
 use crate::Steps;
 use crate::node::Child;
+use crate::node::delete::delete_at;
 use crate::node::neighbours::Neighbours;
-use crate::node::remove::delete_at;
 use crate::node::widen::widen;
 use crate::ordering::valid_range;
 use vm_ranges::{Error, RangeInclusive, Result};
@@ -44,7 +44,7 @@ impl IntervalTree {
 
 /// Removes the free neighbours of an allocated block. Then makes the block free, with the addresses
 /// of all three.
-#[tactic(auto, using(crate::proofs::Releasing::JoinedBlocks::joins_free, crate::proofs::Counts::FreeCounts::removals))]
+#[tactic(auto, using(crate::proofs::Releasing::JoinedBlocks::joins_free, crate::proofs::Counts::FreeCounts::deletions))]
 fn join_free(root: &mut Child, key: &RangeInclusive, beside: &Neighbours, count: &mut Steps)
     requires around { IsAround (blocks (side root.old)) key.now beside.now }
     requires count_fits { count.old + 3 * height_of (side root.old) ≤ MAX }
@@ -53,8 +53,8 @@ fn join_free(root: &mut Child, key: &RangeInclusive, beside: &Neighbours, count:
     ensures count { IsJoinCount (side root.old) key.now beside.now.before beside.now.after count.old count.new }
 {
     let range = joined(key, beside);
-    remove_if_some(root, &beside.before, count);
-    remove_if_some(root, &beside.after, count);
+    delete_if_some(root, &beside.before, count);
+    delete_if_some(root, &beside.after, count);
     widen(root, key, &range, count);
 }
 
@@ -75,13 +75,13 @@ fn joined(key: &RangeInclusive, beside: &Neighbours) -> RangeInclusive
 }
 
 /// Removes the node with this key, if there is a key.
-#[tactic(auto, using(crate::proofs::Counts::NodeCountBounds::removal_bounds))]
-fn remove_if_some(root: &mut Child, key: &Option<RangeInclusive>, count: &mut Steps)
+#[tactic(auto, using(crate::proofs::Counts::NodeCountBounds::deletion_bounds))]
+fn delete_if_some(root: &mut Child, key: &Option<RangeInclusive>, count: &mut Steps)
     requires { count.old + height_of (side root.old) ≤ MAX }
     ensures blocks { blocks (side root.new) ≡ without_if_some key.now (blocks (side root.old)) }
     ensures height { height_of (side root.new) ≤ height_of (side root.old) }
     ensures same { key.now ≡ None → side root.new ≡ side root.old }
-    ensures count { count.new ≡ count.old + nodes_to_remove_if_some key.now (side root.old) }
+    ensures count { count.new ≡ count.old + nodes_to_delete_if_some key.now (side root.old) }
 {
     if let Some(key) = key {
         delete_at(root, key, count);

@@ -165,7 +165,9 @@ impl InnerNode {
         }
     }
 
-    /// The free blocks beside the held block with this key, if there is one.
+    /// Returns the free neighbours of the allocated block with this key.
+    ///
+    /// It returns `None` if there is no such block.
     pub(crate) fn neighbours(&self, key: &RangeInclusive, count: &mut Steps) -> Option<Neighbours>
         requires { count.old + 2 * height_of self.now ≤ MAX }
         ensures value { result ≡ neighbours key.now None (blocks self.now) None }

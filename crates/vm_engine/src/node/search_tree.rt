@@ -1,4 +1,4 @@
-//! The usual calls of a search tree: searches, insertions, removals and marks by key.
+//! The usual calls of a search tree: searches, insertions, deletions and marks by key.
 //!
 //! The allocator makes none of these calls. They exist for the tests of the tree.
 ghost use Rattle.std.specs.Prelude.{◌≡◌, ◌+◌, ◌*◌, ◌<◌, ◌≤◌, [], ◌↔◌, None, IsNone, IfOk, IfErr, OnOk, OnErr};
@@ -8,11 +8,11 @@ ghost use Rattle.vm_engine.specs.Tree.BlockList.{IsClearOf, insert_block, replac
 ghost use Rattle.vm_engine.specs.Tree.Shape.{MAX_HEIGHT, Tip, blocks, height_of, root_block, IsTree};
 ghost use Rattle.vm_engine.specs.Engine.Changes.{IsLeaf, Grows, Shrinks};
 ghost use Rattle.vm_engine.specs.Engine.NodeAnswer.{first_overlap, Inserts, FindsOverlap, RefusesKey, Marks, MarksBlock};
-ghost use Rattle.vm_engine.specs.Counts.NodeCounts.{nodes_down, nodes_to, nodes_across, nodes_to_remove};
+ghost use Rattle.vm_engine.specs.Counts.NodeCounts.{nodes_down, nodes_to, nodes_across, nodes_to_delete};
 ghost use Rattle.vm_engine.specs.Engine.NodeFields.{side};
 
+use super::delete::delete_at;
 use super::link::link_at;
-use super::remove::delete_at;
 use super::summary::{Change, free_summary_of, refresh_free, summary_of};
 use super::{InnerNode, recall_invariant};
 use crate::Steps;
@@ -88,7 +88,7 @@ impl InnerNode {
         ensures unchanged { find_key key.now (blocks tree.value) ≡ None → side result ≡ tree.value }
         ensures none { IsNone result ↔ (side result ≡ Tip) }
         ensures shrinks { Shrinks tree.value (side result) Change.Height }
-        ensures count { count.new ≡ count.old + nodes_to_remove key.now tree.value }
+        ensures count { count.new ≡ count.old + nodes_to_delete key.now tree.value }
     {
         let mut at = Some(tree);
         delete_at(&mut at, key, count);

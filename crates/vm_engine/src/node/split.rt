@@ -73,25 +73,25 @@ pub(crate) struct Split {
 /// Returns the change of the subtree's summary.
 #[tactic(auto, using(crate::proofs::Splitting::SplitTrees::split_steps, crate::proofs::Counts::SplitCounts::nodes_to_split_cases, crate::proofs::Counts::SplitCounts::link_bounds))]
 #[inline(never)]
-fn split_here(at: &mut Child, cut: &mut Split, count: &mut Steps) -> Change
+fn split_here(at: &mut Child, split: &mut Split, count: &mut Steps) -> Change
     requires some { IsSome at.old }
-    requires leaves { AreLeaves cut.old.rest }
-    requires can_be_split { CanSplit (blocks (side at.old)) (root_block (side at.old)).key cut.old.choice.range cut.old.rest }
+    requires leaves { AreLeaves split.old.rest }
+    requires can_be_split { CanSplit (blocks (side at.old)) (root_block (side at.old)).key split.old.choice.range split.old.rest }
     requires height { height_of (side at.old) < MAX_HEIGHT }
     requires count_fits { count.old + 2 * height_of (side at.old) ≤ MAX + 1 }
     ensures blocks { blocks (side at.new)
-        ≡ with_split (root_block (side at.old)).key cut.old.choice.range cut.old.rest (blocks (side at.old)) }
+        ≡ with_split (root_block (side at.old)).key split.old.choice.range split.old.rest (blocks (side at.old)) }
     ensures grows { Grows (side at.old) (side at.new) result }
     ensures count { count.new
-        ≡ count.old + nodes_to_link_both (side cut.old.rest.before) (side cut.old.rest.after) (side at.old) }
+        ≡ count.old + nodes_to_link_both (side split.old.rest.before) (side split.old.rest.after) (side at.old) }
 {
     let Some(tree) = at else { unreachable!() };
     let tree: &mut InnerNode = tree;
     let _ = &tree.height;
-    tree.key = cut.choice.range;
+    tree.key = split.choice.range;
     tree.node_state = NodeState::Allocated;
-    link_if_some(&mut tree.left, cut.rest.before.take(), count);
-    link_if_some(&mut tree.right, cut.rest.after.take(), count);
+    link_if_some(&mut tree.left, split.rest.before.take(), count);
+    link_if_some(&mut tree.right, split.rest.after.take(), count);
     let updated = update(
         &mut tree.left,
         &mut tree.right,
@@ -104,27 +104,27 @@ fn split_here(at: &mut Child, cut: &mut Split, count: &mut Steps) -> Change
     updated.rebalance(at)
 }
 
-/// Splits the free block of `cut` in the subtree at a link, and rebalances the path. Returns the
+/// Splits the free block of `split` in the subtree at a link, and rebalances the path. Returns the
 /// change of the subtree's summary.
 #[tactic(auto, using(crate::proofs::Splitting::SplitTrees::split_steps, crate::proofs::Counts::SplitCounts::nodes_to_split_cases))]
-pub(crate) fn split_at(at: &mut Child, cut: &mut Split, count: &mut Steps) -> Change
-    requires leaves { AreLeaves cut.old.rest }
-    requires can_be_split { CanSplit (blocks (side at.old)) cut.old.choice.key cut.old.choice.range cut.old.rest }
+pub(crate) fn split_at(at: &mut Child, split: &mut Split, count: &mut Steps) -> Change
+    requires leaves { AreLeaves split.old.rest }
+    requires can_be_split { CanSplit (blocks (side at.old)) split.old.choice.key split.old.choice.range split.old.rest }
     requires height { height_of (side at.old) < MAX_HEIGHT }
     requires count_fits { count.old + 2 * height_of (side at.old) ≤ MAX }
     ensures blocks { blocks (side at.new)
-        ≡ with_split cut.old.choice.key cut.old.choice.range cut.old.rest (blocks (side at.old)) }
+        ≡ with_split split.old.choice.key split.old.choice.range split.old.rest (blocks (side at.old)) }
     ensures grows { Grows (side at.old) (side at.new) result }
     ensures count { count.new ≡ count.old
-        + nodes_to_split cut.old.choice.key (side cut.old.rest.before) (side cut.old.rest.after) (side at.old) }
+        + nodes_to_split split.old.choice.key (side split.old.rest.before) (side split.old.rest.after) (side at.old) }
 {
     let Some(tree) = at else { unreachable!() };
     let tree: &mut InnerNode = tree;
     tree.enter(count);
-    let change = match compare(&tree.key, &cut.choice.key) {
-        Ordering::Equal => return split_here(at, cut, count),
-        Ordering::Greater => split_at(&mut tree.left, cut, count),
-        Ordering::Less => split_at(&mut tree.right, cut, count),
+    let change = match compare(&tree.key, &split.choice.key) {
+        Ordering::Equal => return split_here(at, split, count),
+        Ordering::Greater => split_at(&mut tree.left, split, count),
+        Ordering::Less => split_at(&mut tree.right, split, count),
     };
     match change {
         Change::Nothing => Change::Nothing,

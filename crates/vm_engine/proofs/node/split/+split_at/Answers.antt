@@ -18,8 +18,8 @@ split_at-change-requires t c =
     let i = c.tree.inside in
     let e : side c.args.at.now ≡ shape_of i = cc in
     let tree : IsTree (side c.args.at.now) = rw e c.tree.invariant.tree in
-    let known = known_left (side c.args.at.now) (side i.left) _ (side i.right) c.args.cut.now.choice.key e c.in-Greater.ensures tree c.requires.can_be_split.known in
-    let ordered = rewritten_left (side c.args.at.now) (side i.left) _ (side i.right) c.args.cut.now.choice.key _ e c.in-Greater.ensures tree c.requires.can_be_split.ordered in
+    let known = known_left (side c.args.at.now) (side i.left) _ (side i.right) c.args.split.now.choice.key e c.in-Greater.ensures tree c.requires.can_be_split.known in
+    let ordered = rewritten_left (side c.args.at.now) (side i.left) _ (side i.right) c.args.split.now.choice.key _ e c.in-Greater.ensures tree c.requires.can_be_split.ordered in
     (search rules, (c.requires.leaves, (record { known = known; ordered = ordered }, (grind arith, grind arith))))
 
 pub split_at-change-requires-in-Less : goal.split_at-change-requires-in-Less
@@ -27,8 +27,8 @@ split_at-change-requires-in-Less t c =
     let i = c.tree.inside in
     let e : side c.args.at.now ≡ shape_of i = cc in
     let tree : IsTree (side c.args.at.now) = rw e c.tree.invariant.tree in
-    let known = known_right (side c.args.at.now) (side i.left) _ (side i.right) c.args.cut.now.choice.key e c.in-Less.ensures tree c.requires.can_be_split.known in
-    let ordered = rewritten_right (side c.args.at.now) (side i.left) _ (side i.right) c.args.cut.now.choice.key _ e c.in-Less.ensures tree c.requires.can_be_split.ordered in
+    let known = known_right (side c.args.at.now) (side i.left) _ (side i.right) c.args.split.now.choice.key e c.in-Less.ensures tree c.requires.can_be_split.known in
+    let ordered = rewritten_right (side c.args.at.now) (side i.left) _ (side i.right) c.args.split.now.choice.key _ e c.in-Less.ensures tree c.requires.can_be_split.ordered in
     (search rules, (c.requires.leaves, (record { known = known; ordered = ordered }, (grind arith, grind arith))))
 
 -- The node over a child whose summary is unchanged.

@@ -13,20 +13,20 @@ pub link_if_some-requires-clause-clear : goal.link_if_some-requires-clause-clear
 link_if_some-requires-clause-clear c =
     let i = c.tree.inside in
     let e : side c.args.at.now ≡ shape_of i = cc in
-    rw c.take.ensures.value (before_clear (shape_of i) (side i.left) _ (side i.right) (blocks (side c.args.cut.now.rest.before)) (blocks (side c.args.cut.now.rest.after)) (held_block c.args.cut.now.choice.range) refl c.tree.invariant.tree (rw e at c.requires.can_be_split.ordered))
+    rw c.take.ensures.value (before_clear (shape_of i) (side i.left) _ (side i.right) (blocks (side c.args.split.now.rest.before)) (blocks (side c.args.split.now.rest.after)) (held_block c.args.split.now.choice.range) refl c.tree.invariant.tree (rw e at c.requires.can_be_split.ordered))
 
 pub link_if_some-requires-2-clause-clear : goal.link_if_some-requires-2-clause-clear
 link_if_some-requires-2-clause-clear c =
     let i = c.tree.inside in
     let e : side c.args.at.now ≡ shape_of i = cc in
-    rw c.take-2.ensures.value (after_clear (shape_of i) (side i.left) _ (side i.right) (blocks (side c.args.cut.now.rest.before)) (blocks (side c.args.cut.now.rest.after)) (held_block c.args.cut.now.choice.range) refl c.tree.invariant.tree (rw e at c.requires.can_be_split.ordered))
+    rw c.take-2.ensures.value (after_clear (shape_of i) (side i.left) _ (side i.right) (blocks (side c.args.split.now.rest.before)) (blocks (side c.args.split.now.rest.after)) (held_block c.args.split.now.choice.range) refl c.tree.invariant.tree (rw e at c.requires.can_be_split.ordered))
 
 pub invariant_of-tree : goal.invariant_of-tree
 invariant_of-tree c =
-    let i = record c.tree.inside { key = c.args.cut.now.choice.range; node_state = Allocated; left = c.link_if_some.new.child; right = c.link_if_some-2.new.child } in
+    let i = record c.tree.inside { key = c.args.split.now.choice.range; node_state = Allocated; left = c.link_if_some.new.child; right = c.link_if_some-2.new.child } in
     updated_node i c.update-updated.result _ (grind (arith, common_steps, split_steps)) c.update-updated.ensures.left c.update-updated.ensures.right c.update-updated.ensures.updated
 
 pub returns : goal.returns
 returns c =
-    let f = rebalanced (record { key = c.args.cut.now.choice.range; state = Allocated }) _ c.update-updated.result _ _ c.rebalance.new.at c.rebalance.result (grind (arith, common_steps, split_steps, nodes_to_split_cases, link_bounds)) c.update-updated.ensures.left c.update-updated.ensures.right c.update-updated.ensures.updated refl c.rebalance.ensures in
+    let f = rebalanced (record { key = c.args.split.now.choice.range; state = Allocated }) _ c.update-updated.result _ _ c.rebalance.new.at c.rebalance.result (grind (arith, common_steps, split_steps, nodes_to_split_cases, link_bounds)) c.update-updated.ensures.left c.update-updated.ensures.right c.update-updated.ensures.updated refl c.rebalance.ensures in
     grind (arith, common_steps, split_steps, nodes_to_split_cases, link_bounds)

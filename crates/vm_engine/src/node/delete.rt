@@ -7,7 +7,7 @@ ghost use Rattle.vm_ranges.specs.Range.{MAX};
 ghost use Rattle.vm_engine.specs.Tree.BlockList.{IsOrderedFrom, replace_block};
 ghost use Rattle.vm_engine.specs.Tree.Shape.{Shape, Tip, Fork, blocks, height_of, root_block, DifferByAtMost};
 ghost use Rattle.vm_engine.specs.Engine.Changes.{IsLeaf, Joins, Shrinks, LeavesIfAbsent};
-ghost use Rattle.vm_engine.specs.Counts.NodeCounts.{nodes_to_first, nodes_to_join, nodes_to_remove};
+ghost use Rattle.vm_engine.specs.Counts.NodeCounts.{nodes_to_first, nodes_to_join, nodes_to_delete};
 ghost use Rattle.vm_engine.specs.Engine.NodeFields.{side};
 
 use super::balance::{balance, update};
@@ -87,7 +87,7 @@ impl InnerNode {
     /// node.
     ///
     /// It does not allocate.
-    #[tactic(auto, using(crate::proofs::Counts::NodeCountBounds::removal_bounds, crate::proofs::Counts::NodeCountCases::nodes_to_remove_cases))]
+    #[tactic(auto, using(crate::proofs::Counts::NodeCountBounds::deletion_bounds, crate::proofs::Counts::NodeCountCases::nodes_to_delete_cases))]
     #[inline(never)]
     pub(crate) fn delete_root(tree: Box<InnerNode>, count: &mut Steps) -> Option<Box<InnerNode>>
         requires { count.old + height_of tree.value ≤ MAX + 1 }
@@ -96,7 +96,7 @@ impl InnerNode {
         ensures no_right { (left : Shape) → tree.value ≡ Fork left (root_block tree.value) Tip → side result ≡ left }
         ensures no_left { (right : Shape) → tree.value ≡ Fork Tip (root_block tree.value) right → side result ≡ right }
         ensures shrinks { Shrinks tree.value (side result) Change.Height }
-        ensures count { count.new + 1 ≡ count.old + nodes_to_remove (root_block tree.value).key tree.value }
+        ensures count { count.new + 1 ≡ count.old + nodes_to_delete (root_block tree.value).key tree.value }
     {
         let InnerNode { left, right, .. } = Box::into_inner(tree);
         let joined = join(left, right, count);
@@ -107,13 +107,13 @@ impl InnerNode {
 
 /// Removes the node with this key from the subtree at a link, if there is one, and rebalances the
 /// path. Returns the change of the subtree's summary.
-#[tactic(auto, using(crate::proofs::Nodes::SideChange::deletions, crate::proofs::Counts::NodeCountCases::nodes_to_remove_cases))]
+#[tactic(auto, using(crate::proofs::Nodes::SideChange::deletions, crate::proofs::Counts::NodeCountCases::nodes_to_delete_cases))]
 pub(crate) fn delete_at(at: &mut Child, key: &RangeInclusive, count: &mut Steps) -> Change
     requires { count.old + height_of (side at.old) ≤ MAX }
     ensures blocks { blocks (side at.new) ≡ replace_block key.now [] (blocks (side at.old)) }
     ensures absent { LeavesIfAbsent key.now result (side at.old) (side at.new) }
     ensures shrinks { Shrinks (side at.old) (side at.new) result }
-    ensures count { count.new ≡ count.old + nodes_to_remove key.now (side at.old) }
+    ensures count { count.new ≡ count.old + nodes_to_delete key.now (side at.old) }
 {
     let Some(tree) = at else {
         return Change::Nothing

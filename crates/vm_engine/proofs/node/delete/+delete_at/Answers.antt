@@ -6,8 +6,8 @@ use Rattle.vm_engine.specs.Engine.NodeFields.{side, shape_of, IsNode}
 use Rattle.vm_engine.specs.Tree.Shape.{IsTree}
 use Rattle.vm_engine.proofs.Blocks.Replacement.{changes_in_left, changes_in_right, removed_in_left, removed_in_right, replace_in_left, replace_in_right}
 use Rattle.vm_engine.proofs.Nodes.UpdatedNodes.{own_of, open_of, IsRebalanced, rebalanced, updated_node, shrunk_left, shrunk_right, unchanged_left, unchanged_right, unchanged_shrinks}
-use Rattle.vm_engine.proofs.node.remove.+delete_at.Goals as goal
-use Rattle.vm_engine.proofs.node.remove.+delete_at.Goals.{in-Greater, in-Less, In-Nothing, After-rebalance}
+use Rattle.vm_engine.proofs.node.delete.+delete_at.Goals as goal
+use Rattle.vm_engine.proofs.node.delete.+delete_at.Goals.{in-Greater, in-Less, In-Nothing, After-rebalance}
 
 -- The node over a child whose summary is unchanged.
 summary_over_side : (t : ℕ) (c : In-Nothing t) → IsNode c.match-compare.tree-inside × KeepsSummary (shape_of c.tree.inside) (shape_of c.match-compare.tree-inside) Nothing

@@ -6,7 +6,7 @@ use Rattle.vm_engine.proofs.Nodes.UpdatedNodes.{own_of, open_of, rebalanced, upd
 use Rattle.vm_engine.proofs.Nodes.SideChange.{takes}
 use Rattle.vm_engine.proofs.Blocks.Replacement.{first_blocks}
 use Rattle.vm_engine.proofs.Counts.NodeCountCases.{nodes_to_first_cases}
-use Rattle.vm_engine.proofs.node.remove.+take_first_at.Goals as goal
+use Rattle.vm_engine.proofs.node.delete.+take_first_at.Goals as goal
 
 pub invariant_of-tree : goal.invariant_of-tree
 invariant_of-tree t c =
