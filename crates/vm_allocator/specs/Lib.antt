@@ -1,5 +1,6 @@
 pub mod Allocator
 pub mod Ids
+pub mod Several
 pub mod Histories
 pub mod Laws
 pub mod Values
@@ -15,6 +16,7 @@ pub use Rattle.vm_ranges.specs.Cloning
 pub use Rattle.vm_ranges.specs.Saving
 pub use Rattle.vm_engine.specs.Address
 pub use Rattle.vm_engine.specs.Answer
+pub use Rattle.vm_engine.specs.Held
 pub use Rattle.vm_engine.specs.Comparison
 pub use Rattle.vm_engine.specs.Tree
 pub use Rattle.vm_engine.specs.Counts

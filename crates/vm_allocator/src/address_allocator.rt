@@ -10,6 +10,7 @@ ghost use Rattle.vm_ranges.specs.Range.{address_count};
 ghost use Rattle.vm_ranges.specs.Request.{request_for};
 ghost use Rattle.vm_engine.specs.Answer.{Allocates, FillsGap, Frees, IsChosen, Makes};
 ghost use Rattle.vm_allocator.specs.Allocator.{state_of, made_state};
+ghost use Rattle.vm_engine.specs.Held.{MakesSpace, MakesWithHeld};
 ghost use Rattle.vm_ranges.specs.Cloning.{Clones};
 ghost use Rattle.vm_engine.specs.Tree.Shape.{height_of};
 ghost use Rattle.vm_engine.specs.Counts.GapSearch.{SearchesGaps, SearchesAligned};
@@ -22,6 +23,7 @@ use vm_ranges::{AllocPolicy, Constraint, Error, RangeInclusive, Result};
 
 mod comparing;
 mod held_ranges;
+mod several;
 
 /// Gives out the ranges of one space of addresses. Two ranges held at one time share no address,
 /// each lies in the space, and none contains `u64::MAX`.
@@ -61,6 +63,24 @@ impl AddressAllocator {
         let end = base.checked_add(size - 1).ok_or(Error::Overflow)?;
         let address_space = RangeInclusive::new(base, end)?;
         let interval_tree = IntervalTree::new(alloc, address_space)?;
+        Ok(AddressAllocator {
+            address_space,
+            interval_tree,
+        })
+    }
+
+    /// The allocator of the `size` addresses from `base` on, with these ranges held, which are given in
+    /// rising order. Errors in this order: those of `new`; for the first range that cannot be held,
+    /// `ResourceNotAvailable` where it does not start behind the end of the one before it, `Overflow` where
+    /// it starts at `u64::MAX`, `ResourceNotAvailable` where it does not lie in the space, and `Overflow`
+    /// where it ends at `u64::MAX`; `Overflow` for 2^49 gaps and held ranges or more; and `OutOfMemory`.
+    #[tactic(auto, using(crate::proofs::Answers::Making::making_held, vm_engine::proofs::Nodes::Spaces::spaces))]
+    pub fn with_held(alloc: Global, base: u64, size: u64, held: &[RangeInclusive]) -> Result<Self>
+        ensures answer { MakesWithHeld base size held.now (made_state result) }
+        ensures state { IfOk result (λ allocator. IsAddressState (state_of allocator)) }
+    {
+        let address_space = space_from(base, size)?;
+        let interval_tree = IntervalTree::with_held(alloc, address_space, held)?;
         Ok(AddressAllocator {
             address_space,
             interval_tree,
@@ -228,4 +248,17 @@ impl AddressAllocator {
     {
         self.address_space.end()
     }
+}
+
+/// The `size` addresses from `base` on. In this order: a size of 0 is `Underflow`, and an end past
+/// `u64::MAX` is `Overflow`.
+#[tactic(auto, using(crate::proofs::Answers::Making::making_held))]
+fn space_from(base: u64, size: u64) -> Result<RangeInclusive>
+    ensures { MakesSpace base size result }
+{
+    if size == 0 {
+        return Err(Error::Underflow);
+    }
+    let end = base.checked_add(size - 1).ok_or(Error::Overflow)?;
+    RangeInclusive::new(base, end)
 }

@@ -9,3 +9,4 @@ pub mod Answers
 pub mod Walking
 pub mod Comparing
 pub mod Reading
+pub mod Making

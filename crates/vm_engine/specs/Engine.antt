@@ -1,3 +1,4 @@
+pub mod Building
 pub mod Changes
 pub mod Place
 pub mod FreedBlocks

@@ -3,6 +3,7 @@ pub mod Answer
 pub mod Comparison
 pub mod Tree
 pub mod Counts
+pub mod Held
 pub mod Laws
 pub mod Values
 pub mod Checks

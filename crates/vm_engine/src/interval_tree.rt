@@ -30,6 +30,7 @@ use std::marker::Model;
 use vm_ranges::{Constraint, NodeState, RangeInclusive, Result};
 
 mod allocation;
+mod building;
 mod comparing;
 pub(crate) mod counted;
 mod deallocation;

@@ -1,8 +1,14 @@
 -- A space with nothing held.
-use Rattle.std.proofs.Common.{◌≡◌, ℕ, ◌+◌, ◌-◌, ◌<◌, ◌≤◌, [], ◌∷◌, refl, ap, ◌∙◌, arith, inl, inr, Ok, Err}
-use Rattle.vm_ranges.specs.Range.{Range, MAX}
+use Rattle.std.proofs.Common.{List, length, Result, Option, Some, None, MatchOption, ◌⊎◌, ⊎_elim, subst, ◌≡◌, ℕ, ◌+◌, ◌-◌, ◌<◌, ◌≤◌, [], ◌∷◌, refl, ap, ◌∙◌, arith, inl, inr, Ok, Err}
+use Rattle.vm_ranges.specs.Range.{Range, MAX, span}
 use Rattle.vm_engine.specs.Answer.{Makes}
-use Rattle.vm_engine.specs.Tree.Blocks.{blocks_state, TilesSpace, IsTiling}
+use Rattle.vm_ranges.specs.Cases.{IfElse}
+use Rattle.vm_engine.specs.Address.{AddressState}
+use Rattle.vm_ranges.specs.declared.error.Error.{Error}
+use Rattle.vm_engine.specs.Tree.Shape.{Shape, blocks}
+use Rattle.vm_engine.specs.Tree.SpaceTree.{space_of, tree_state}
+use Rattle.vm_engine.specs.Held.{BySpace, MakesSpace, MakesHeld, MakesWithHeld, first_fault, TOO_MANY_BLOCKS}
+use Rattle.vm_engine.specs.Tree.Blocks.{blocks_of, blocks_state, TilesSpace, IsTiling}
 use Rattle.vm_ranges.specs.declared.error.Error.TheVariants.{Overflow, Underflow, OutOfMemory}
 use Rattle.vm_ranges.specs.declared.state.NodeState.TheVariants.{Free}
 
@@ -29,3 +35,51 @@ unfolding TilesSpace
 tiles_space sp l = record { tiles = (refl, l, tt, refl); below = tt }
 
 pub ruleset making = (makes_none, makes_over, makes_memory, makes_space, tiles_space)
+
+-- ---- a space, and an allocator of it
+pub no_space : (base size : ℕ) → size ≡ 0 → MakesSpace base size (Err Underflow)
+unfolding BySpace
+no_space base size e = inl (e, refl)
+
+pub space_past : (base size : ℕ) → 0 < size → MAX < base + (size - 1) → MakesSpace base size (Err Overflow)
+unfolding BySpace
+space_past base size z o = inr (λ e. omega arith, inl (omega arith, refl))
+
+pub space_made : (base size : ℕ) (sp : Range) → 0 < size → base + (size - 1) ≤ MAX → sp ≡ record { start = base; end = base + (size - 1) } → MakesSpace base size (Ok sp)
+unfolding BySpace
+space_made base size sp z o e =
+    let last : base + (size - 1) ≡ base + size - 1 = omega arith in
+    inr (λ e. omega arith, inr (λ e. omega arith, ap (λ (v : Range). Ok v) (e ∙ ap (λ (v : ℕ). record { start = base; end = v }) last)))
+
+pub over_space : (base size : ℕ) (sp : Range) (held : List Range) (answer : Result AddressState Error) → MakesSpace base size (Ok sp) → MakesHeld sp held answer → MakesWithHeld base size held answer
+unfolding BySpace
+over_space base size sp held answer s h =
+    ⊎_elim
+    (λ l. absurd (cc (l.1)))
+    (λ r. ⊎_elim (λ l. absurd (cc (l.1))) (λ k. let e : sp ≡ span base size = cc (k.1) in inr (r.0, inr (k.0, subst (λ (v : Range). MakesHeld v held answer) e h))) r.1)
+    s
+
+pub without_space : (base size : ℕ) (held : List Range) (e : Error) → MakesSpace base size (Err e) → MakesWithHeld base size held (Err e)
+unfolding BySpace
+without_space base size held e s =
+    ⊎_elim
+    (λ l. inl (l.0, cc (l.1)))
+    (λ r. ⊎_elim (λ l. inr (r.0, inl (l.0, cc (l.1)))) (λ k. absurd (cc (k.1))) r.1)
+    s
+
+-- what is made is the state
+made_is : (o : Option Error) (many : Type 0) (answer : Result AddressState Error) (state made : AddressState) → MatchOption o (IfElse many (answer ≡ Err Overflow) ((answer ≡ Ok state) ⊎ (answer ≡ Err OutOfMemory))) (λ fault. answer ≡ Err fault) → answer ≡ Ok made → made ≡ state
+made_is None many answer state made h e = ⊎_elim (λ l. absurd (cc (l.1, e))) (λ r. ⊎_elim (λ k. cc (k, e)) (λ k. absurd (cc (k, e))) r.1) h
+made_is (Some f) many answer state made h e = absurd (cc (h, e))
+
+pub held_made : (space : Range) (held : List Range) (made : AddressState) → MakesHeld space held (Ok made) → made ≡ record { space = space; held = held }
+unfolding MakesHeld
+held_made space held made m =
+    let state : AddressState = record { space = space; held = held } in
+    made_is (first_fault space.start space.end held) (TOO_MANY_BLOCKS ≤ length (blocks_of state)) (Ok made) state made m refl
+
+-- the space of a tree is the one that it was made for
+pub space_of_made : (space : Range) (held : List Range) (s : Shape) → MakesHeld space held (Ok (tree_state s)) → space_of (blocks s) ≡ space
+space_of_made space held s m = ap (λ (v : AddressState). v.space) (held_made space held (tree_state s) m)
+
+pub ruleset making_held = (no_space, space_past, space_made, over_space, without_space, space_of_made)

@@ -19,7 +19,7 @@ use Rattle.vm_engine.proofs.Blocks.HeldSets.{held_lies, later_above}
 use Rattle.vm_engine.proofs.Answers.Filling.{otherwise, allocates_chosen}
 
 -- ---- some ranges, and then others
-in_order_below : (xs ys : List Range) (lo hi : ℕ) → AreInOrder lo (xs ++ ys) hi → AreInOrder lo xs hi
+pub in_order_below : (xs ys : List Range) (lo hi : ℕ) → AreInOrder lo (xs ++ ys) hi → AreInOrder lo xs hi
 in_order_below [] ys lo hi s = tt
 in_order_below (x ∷ xs) ys lo hi s = (s.0, s.1, s.2, s.3, in_order_below xs ys (x.end + 1) hi s.4)
 
@@ -57,7 +57,7 @@ misses (y ∷ ys) r lo hi x s l h =
     h
 
 -- so it comes last
-goes_last : (xs : List Range) (r : Range) (lo hi : ℕ) → AreInOrder lo (xs ++ r ∷ []) hi → with_range r xs ≡ xs ++ r ∷ []
+pub goes_last : (xs : List Range) (r : Range) (lo hi : ℕ) → AreInOrder lo (xs ++ r ∷ []) hi → with_range r xs ≡ xs ++ r ∷ []
 goes_last [] r lo hi s = refl
 goes_last (y ∷ ys) r lo hi s =
     rw (le-ltb r.start y.start (omega (arith, s.1, later_above lo hi y (ys ++ r ∷ []) r s (last_held ys r))))

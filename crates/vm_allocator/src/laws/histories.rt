@@ -1,5 +1,6 @@
 //! Laws of whole histories: every list of calls of an address allocator, from one on that was made or
 //! read, clones made on the way among them.
+ghost use Rattle.vm_allocator.specs.Several.{HeldAsAllocated};
 ghost use Rattle.vm_allocator.specs.Values.AllocatorValues.{EncodesAddresses};
 ghost use Rattle.vm_allocator.specs.Values.RepairedValues.{EncodesRepaired};
 ghost use Rattle.vm_allocator.specs.Laws.HistoryLaws.{
@@ -46,6 +47,12 @@ fn held_are_valid()
 #[tactic(auto, using(crate::proofs::Histories::AlongHistories::decided))]
 fn state_decides()
     ensures { StateDecides }
+{}
+
+/// Ranges that are held from the start are held as if allocated one after the other.
+#[tactic(auto, using(crate::proofs::Answers::HeldOnes::held_ones, crate::proofs::Answers::HeldFaults::faults))]
+fn held_is_allocated()
+    ensures { HeldAsAllocated }
 {}
 
 /// What is given back leaves no trace, in whatever order.

@@ -17,7 +17,7 @@ use Rattle.vm_engine.proofs.Blocks.HeldSets.{held_lies, one_held}
 
 -- ---- The two outcomes of a request
 -- An error changes nothing, or a range at a place is allocated.
-pub record IsGiven (old : AddressState) (request : Request) (answer : Result Range Error) (new : AddressState) : Type 0 where
+pub record IsAllocation (old : AddressState) (request : Request) (answer : Result Range Error) (new : AddressState) : Type 0 where
   pub from : ℕ
   pub some : 0 < request.size
   pub place : IsPlace request.size request.align old from
@@ -25,7 +25,7 @@ pub record IsGiven (old : AddressState) (request : Request) (answer : Result Ran
   pub given : answer ≡ Ok (span from request.size)
   pub left : new ≡ holding (span from request.size) old
 
-pub outcome : (request : Request) (old new : AddressState) (answer : Result Range Error) → Allocates old request answer new → IsRefused old answer new ⊎ IsGiven old request answer new
+pub outcome : (request : Request) (old new : AddressState) (answer : Result Range Error) → Allocates old request answer new → IsRefused old answer new ⊎ IsAllocation old request answer new
 unfolding AllocatesAt
 outcome request old new answer h =
     ⊎_elim
@@ -39,12 +39,12 @@ outcome request old new answer h =
     (allocates_outcome old new answer request h)
 
 -- A success is an allocation.
-gets : (request : Request) (old new : AddressState) (r : Range) → Allocates old request (Ok r) new → IsGiven old request (Ok r) new
+gets : (request : Request) (old new : AddressState) (r : Range) → Allocates old request (Ok r) new → IsAllocation old request (Ok r) new
 gets request old new r h = ⊎_elim (λ l. absurd (cc (l.1))) (λ g. g) (outcome request old new (Ok r) h)
 
 -- ---- Each call keeps the state valid
 -- An allocated range lies in the space and ends below MAX, and none of its addresses was held.
-lies_clear : (old new : AddressState) (request : Request) (answer : Result Range Error) (g : IsGiven old request answer new) → IsAddressState old → (old.space.start ≤ g.from) × (g.from + request.size - 1 ≤ old.space.end) × (g.from + request.size - 1 < MAX) × Misses old.held (span g.from request.size)
+lies_clear : (old new : AddressState) (request : Request) (answer : Result Range Error) (g : IsAllocation old request answer new) → IsAddressState old → (old.space.start ≤ g.from) × (g.from + request.size - 1 ≤ old.space.end) × (g.from + request.size - 1 < MAX) × Misses old.held (span g.from request.size)
 unfolding IsPlace
 lies_clear old new request answer g i =
     let some = g.some in
@@ -56,7 +56,7 @@ lies_clear old new request answer g i =
       λ x m. none_holds old.held x (g.place.1 x m.0 (omega (arith, m.1))).1,
     )
 
-given_state : (old new : AddressState) (request : Request) (answer : Result Range Error) → IsGiven old request answer new → IsAddressState old → IsAddressState new
+given_state : (old new : AddressState) (request : Request) (answer : Result Range Error) → IsAllocation old request answer new → IsAddressState old → IsAddressState new
 given_state old new request answer g i =
     let l = lies_clear old new request answer g i in
     let some = g.some in
@@ -69,7 +69,7 @@ pub allocated_state : (old new : AddressState) (request : Request) (answer : Res
 allocated_state old new request answer i h =
     ⊎_elim
     (λ (l : IsRefused old answer new). subst IsAddressState (sym l.2) i)
-    (λ (g : IsGiven old request answer new). given_state old new request answer g i)
+    (λ (g : IsAllocation old request answer new). given_state old new request answer g i)
     (outcome request old new answer h)
 
 released_state : (old : AddressState) (r : Range) → IsAddressState old → IsAddressState (releasing r old)
@@ -124,7 +124,7 @@ with_members r hs q = (
       (λ (k : q ≡ r). subst (Contains (with_range r hs)) (sym k) (contains_held (with_range r hs) r (held_now r hs))),
 )
 
-adds_given : (old new : AddressState) (request : Request) (r : Range) → IsGiven old request (Ok r) new → AddsRange old new r
+adds_given : (old new : AddressState) (request : Request) (r : Range) → IsAllocation old request (Ok r) new → AddsRange old new r
 unfolding IsPlace
 adds_given old new request r g =
     let some = g.some in
@@ -174,7 +174,7 @@ removes_range old new r i h =
     }
 
 -- ---- Freeing a range right after its allocation
-undoes_given : (old mid new : AddressState) (request : Request) (r : Range) (answer : Result (Unit {0}) Error) → IsAddressState old → IsGiven old request (Ok r) mid → Frees mid r answer new → (answer ≡ Ok tt) × (new ≡ old)
+undoes_given : (old mid new : AddressState) (request : Request) (r : Range) (answer : Result (Unit {0}) Error) → IsAddressState old → IsAllocation old request (Ok r) mid → Frees mid r answer new → (answer ≡ Ok tt) × (new ≡ old)
 undoes_given old mid new request r answer i g f =
     let some = g.some in
     let held_one = span g.from request.size in

@@ -1,0 +1,27 @@
+use Rattle.std.proofs.Common.{◌≡◌, ◌∙◌, ◌++◌, ◌-◌, ℕ, ap, take, subst, List, []}
+use Rattle.vm_ranges.specs.Range.{Range}
+use Rattle.vm_allocator.specs.Allocator.{state_of}
+use Rattle.vm_allocator.specs.Several.{AllocatesEach}
+use Rattle.vm_allocator.proofs.Answers.Several.{last_undone, none_given}
+use Rattle.vm_allocator.proofs.address_allocator.AddressAllocator.take_back.Goals as goal
+
+pub loop-range-init : goal.loop-range-init
+loop-range-init c = record { left = λ before requests i e. (requests, e); state = c.recall_invariant.ensures }
+
+pub loop-range-preserved : goal.loop-range-preserved
+loop-range-preserved c = record {
+  left = λ before requests i e.
+      let l = c.loop-range.invariant.left before requests i e in
+      let s = subst (λ (v : List Range). AllocatesEach before l.0 v (state_of c.loop-range.self)) c.in-Some.ensures.items l.1 in
+      last_undone c.pop.new.self.items l.0 before (state_of c.loop-range.self) (state_of c.free.new.self) c.in-Some.range c.free.result i s c.free.ensures.answer;
+  state = c.free.ensures.state;
+}
+
+pub returns-clause-undone : goal.returns-clause-undone
+returns-clause-undone c = λ before requests i e.
+    let l = c.loop-range.invariant.left before requests i e in
+    let none : c.loop-range.ranges.items ≡ [] = c.in_default.ensures.items ∙ ap (λ (v : List Range). v ++ []) (c.in_default.ensures.rest ∙ ap (λ (n : ℕ). take (n - 1) c.loop-range.ranges.items) c.in_default.ensures.cases.0) in
+    none_given l.0 before (state_of c.loop-range.self) (subst (λ (v : List Range). AllocatesEach before l.0 v (state_of c.loop-range.self)) none l.1)
+
+pub returns-clause-state : goal.returns-clause-state
+returns-clause-state c = c.loop-range.invariant.state

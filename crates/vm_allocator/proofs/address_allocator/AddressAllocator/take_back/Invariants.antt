@@ -1,0 +1,16 @@
+use Rattle.std.specs.Prelude.{List, length}
+use Rattle.vm_ranges.specs.Request.{Request}
+use Rattle.vm_engine.specs.Address.{AddressState, IsAddressState}
+use Rattle.vm_allocator.specs.Allocator.{state_of}
+use Rattle.vm_allocator.specs.Several.{AllocatesEach}
+use Rattle.vm_allocator.proofs.address_allocator.AddressAllocator.take_back.Given as goal
+
+-- where requests got the ranges, some got those that are left
+abbrev pub invariant-loop-range : goal.invariant-loop-range
+invariant-loop-range l = record {
+  left : (before : AddressState) (requests : List Request) → IsAddressState before → AllocatesEach before requests l.initial.ranges.items (state_of l.initial.self) → (ps : List Request) × AllocatesEach before ps l.ranges.items (state_of l.self);
+  state : IsAddressState (state_of l.self);
+}
+
+abbrev pub decreases-loop-range : goal.decreases-loop-range
+decreases-loop-range l = length l.ranges.items

@@ -1,0 +1,87 @@
+-- The tree that is built of the blocks of a space with some ranges held.
+use Rattle.std.proofs.Common.{◌≡◌, ℕ, ◌+◌, ◌^◌, ◌≤◌, ◌<◌, List, [], ◌∷◌, ◌++◌, length, Some, None, Ok, Err, refl, sym, ap, ◌∙◌, arith, subst, ⊎_elim, inl, inr}
+use Rattle.std.proofs.lemmas.Bool.{cases_lt}
+use Rattle.std.proofs.lemmas.List.{append-nil}
+use Rattle.vm_ranges.specs.Range.{Range, IsRange}
+use Rattle.vm_engine.specs.Tree.Block.{Block}
+use Rattle.vm_engine.specs.Address.{AddressState, AreInOrder, IsAddressState}
+use Rattle.vm_engine.specs.Tree.Blocks.{blocks_between, blocks_of, held_of, AreBelowMax, IsTiling, TilesSpace}
+use Rattle.vm_engine.specs.Tree.Shape.{Shape, blocks, height_of}
+use Rattle.vm_engine.specs.Tree.SpaceTree.{tree_state, IsSpaceTree}
+use Rattle.vm_engine.specs.Held.{first_fault, MakesHeld}
+use Rattle.vm_engine.specs.Engine.Building.{IsBuilt}
+use Rattle.vm_ranges.specs.declared.error.Error.{Error}
+use Rattle.vm_ranges.specs.declared.error.Error.TheVariants.{Overflow, OutOfMemory}
+use Rattle.vm_engine.proofs.Comparing.Tilings.{held_of-blocks_of}
+use Rattle.vm_engine.proofs.Nodes.MinNodes.{power_grows}
+use Rattle.vm_engine.proofs.Nodes.Spaces.{space_tiled, space_tree}
+use Rattle.vm_engine.proofs.Making.Rows.{between_tiles}
+use Rattle.vm_engine.proofs.Making.Built.{left_over}
+
+below_max : (lo hi : ℕ) (rs : List Range) → AreInOrder lo rs hi → AreBelowMax rs
+below_max lo hi [] s = tt
+below_max lo hi (r ∷ rs) s = (s.3, below_max (r.end + 1) hi rs s.4)
+
+nothing : (bs : List Block) → length bs ≡ 0 → bs ≡ []
+nothing [] e = refl
+nothing (b ∷ bs) e = absurd (omega arith)
+
+module _ (space : Range) (held : List Range) (range : IsRange space.start space.end) (order : AreInOrder space.start held space.end) (n : ℕ) (count : n ≡ length (blocks_between space.start held space.end)) (few : n < 2 ^ 49) (s : Shape) (new : List Block) (built : IsBuilt n (blocks_between space.start held space.end) s new) where
+  abbrev state : AddressState
+  state = record { space = space; held = held }
+
+  blocks_are : blocks s ≡ blocks_between space.start held space.end
+  blocks_are =
+      let e = left_over n (blocks_between space.start held space.end) new s built in
+      let z = nothing new (omega arith) in
+      sym (built.cut ∙ ap (λ (v : List Block). blocks s ++ v) z ∙ append-nil (blocks s))
+
+  held_are : held_of (blocks s) ≡ held
+  unfolding blocks_of
+  held_are = ap held_of blocks_are ∙ held_of-blocks_of state
+
+  tiling : IsTiling space (blocks s)
+  unfolding TilesSpace
+  tiling =
+      let l = range.0 in
+      let tiles = between_tiles space.start space.end held (omega arith) order in
+      record {
+        tiles = subst (TilesSpace space) (sym blocks_are) tiles;
+        below = subst AreBelowMax (sym held_are) (below_max space.start space.end held order);
+      }
+
+  low : height_of s ≤ 49
+  low =
+      ⊎_elim
+      (λ (c : 49 < height_of s). let f = power_grows 50 (height_of s) (omega arith) in let h = built.height.1 in absurd (omega arith))
+      (λ (c : height_of s ≤ 49). c)
+      (cases_lt 49 (height_of s))
+
+  pub built_tree : IsSpaceTree s
+  built_tree = space_tree space s tiling range low
+
+  pub built_state : tree_state s ≡ state
+  built_state =
+      let e = space_tiled space (blocks s) tiling.tiles range.0 in
+      ap (λ (v : Range). record { space = v; held = held_of (blocks s) }) e ∙ ap (λ (v : List Range). record { space = space; held = v }) held_are
+
+  pub makes_tree : first_fault space.start space.end held ≡ None → MakesHeld space held (Ok (tree_state s))
+  unfolding MakesHeld blocks_of
+  makes_tree f = rw f (inr (λ h. omega (arith, h), inl (ap (λ (v : AddressState). Ok v) built_state)))
+
+  pub built_is_state : IsAddressState (tree_state s)
+  built_is_state = subst IsAddressState (sym built_state) (record { space = range; in_order = order })
+
+pub makes_fault : (space : Range) (held : List Range) (e : Error) → first_fault space.start space.end held ≡ Some e → MakesHeld space held (Err e)
+unfolding MakesHeld
+makes_fault space held e f = rw f refl
+
+pub makes_high : (space : Range) (held : List Range) (n : ℕ) → first_fault space.start space.end held ≡ None → n ≡ length (blocks_between space.start held space.end) → 2 ^ 49 ≤ n → MakesHeld space held (Err Overflow)
+unfolding MakesHeld blocks_of
+makes_high space held n f c l = rw f (inl (omega arith, refl))
+
+pub makes_memory : (space : Range) (held : List Range) (n : ℕ) → first_fault space.start space.end held ≡ None → n ≡ length (blocks_between space.start held space.end) → n < 2 ^ 49 → MakesHeld space held (Err OutOfMemory)
+unfolding MakesHeld blocks_of
+makes_memory space held n f c l = rw f (inr (λ h. omega (arith, h), inr refl))
+
+pub ruleset makings = (built_tree, built_is_state, makes_tree, makes_fault, makes_high, makes_memory)

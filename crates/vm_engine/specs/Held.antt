@@ -1,0 +1,55 @@
+-- What making a space with some ranges held answers.
+use Rattle.std.specs.Prelude.{◌≡◌, ℕ, ◌+◌, ◌-◌, ◌^◌, ◌<◌, ◌≤◌, ◌⊎◌, nat_lt, nat_eq, if◌then◌else◌, List, [], ◌∷◌, length, Option, Some, None, MatchOption, Result, Ok, Err}
+use Rattle.vm_ranges.specs.Cases.{IfElse}
+use Rattle.vm_ranges.specs.Range.{Range, MAX, span}
+use Rattle.vm_engine.specs.Address.{AddressState}
+use Rattle.vm_engine.specs.Tree.Blocks.{blocks_of}
+use Rattle.vm_ranges.specs.declared.error.Error.{Error}
+use Rattle.vm_ranges.specs.declared.error.Error.TheVariants.{Overflow, ResourceNotAvailable, Underflow, OutOfMemory}
+
+-- why a range cannot be held from lo on in a space that ends at hi, by the first that applies: it starts below lo; it
+-- starts at MAX; it ends past the space; it ends at MAX
+abbrev pub range_fault : ℕ → ℕ → Range → Option Error
+range_fault lo hi r =
+    if nat_lt r.start lo then Some ResourceNotAvailable
+    else if nat_eq r.start MAX then Some Overflow
+    else if nat_lt hi r.end then Some ResourceNotAvailable
+    else if nat_eq r.end MAX then Some Overflow
+    else None
+
+abbrev or_else : Option Error → Option Error → Option Error
+or_else None e = e
+or_else (Some e) f = Some e
+
+-- why the first of some ranges that cannot be held behind the ones before it cannot
+abbrev pub first_fault : ℕ → ℕ → List Range → Option Error
+first_fault lo hi [] = None
+first_fault lo hi (r ∷ rs) = or_else (range_fault lo hi r) (first_fault (r.end + 1) hi rs)
+
+-- the tree of a state is too high where it has so many blocks
+abbrev pub TOO_MANY_BLOCKS : ℕ
+TOO_MANY_BLOCKS = 2 ^ 49
+
+-- the answer to making the state in which these ranges are held
+unfoldable pub MakesHeld : Range → List Range → Result AddressState Error → Type 0
+MakesHeld space held answer =
+    let state : AddressState = record { space = space; held = held } in
+    MatchOption (first_fault space.start space.end held)
+    (IfElse (TOO_MANY_BLOCKS ≤ length (blocks_of state))
+    (answer ≡ Err Overflow)
+    ((answer ≡ Ok state) ⊎ (answer ≡ Err OutOfMemory)))
+    (λ fault. answer ≡ Err fault)
+
+-- what follows for the size addresses from base on, where they are a space, and the error where they are none
+unfoldable pub BySpace : ℕ → ℕ → (Error → Type 0) → (Range → Type 0) → Type 0
+BySpace base size refused makes =
+    IfElse (size ≡ 0) (refused Underflow) (
+    IfElse (MAX < base + size - 1) (refused Overflow) (makes (span base size)))
+
+-- the space of size addresses from base on, or why there is none
+abbrev pub MakesSpace : ℕ → ℕ → Result Range Error → Type 0
+MakesSpace base size answer = BySpace base size (λ e. answer ≡ Err e) (λ space. answer ≡ Ok space)
+
+-- the answer to making an allocator of size addresses from base on in which these ranges are held
+abbrev pub MakesWithHeld : ℕ → ℕ → List Range → Result AddressState Error → Type 0
+MakesWithHeld base size held answer = BySpace base size (λ e. answer ≡ Err e) (λ space. MakesHeld space held answer)
