@@ -1,8 +1,12 @@
-//! Ranges of one space. The space stands beside the tree, which tells it too, so that `base` and
-//! `end` are one read each; that the two agree is the invariant. Its fields are open inside the crate,
-//! for `saved`, and whoever puts them together proves the invariant. The plain calls are the counted
-//! ones without the count. That some calls always succeed follows from their answers, and is a clause
-//! of its own all the same: a monitor relies on it.
+//! An allocator of address ranges.
+//!
+//! The allocator stores its space next to the tree of blocks, so that `base` and `end` are one load
+//! each. The invariant states that the two agree. The fields are `pub(crate)` because `saved`
+//! builds allocators from values.
+//!
+//! `allocate` and `free` call the counted versions and drop the count. Some clauses follow from
+//! `answer`, and are there because callers rely on them: for example that some calls always
+//! succeed.
 ghost use Rattle.std.specs.Prelude.{ℕ, ◌≡◌, OnErr, IfOk, IsOk};
 ghost use Rattle.std.specs.List.{Contains};
 ghost use Rattle.vm_engine.specs.Address.{IsAddressState};
@@ -22,8 +26,10 @@ use vm_ranges::{AllocPolicy, Constraint, Error, RangeInclusive, Result};
 mod comparing;
 mod held_ranges;
 
-/// Gives out the ranges of one space of addresses. Two ranges held at one time share no address,
-/// each lies in the space, and none contains `u64::MAX`.
+/// Allocates ranges of addresses from one space.
+///
+/// Allocated ranges never overlap, each lies in the space, and none contains `u64::MAX`. A range
+/// includes both of its ends. Sizes and alignments are numbers of addresses.
 #[derive(Debug, Drop)]
 pub struct AddressAllocator {
     pub(crate) address_space: RangeInclusive,
@@ -47,8 +53,16 @@ impl Model for AddressAllocator {
 }
 
 impl AddressAllocator {
-    /// The allocator of the `size` addresses from `base` on, with none held. In this order: a size
-    /// of 0 is `Underflow`, an end past `u64::MAX` is `Overflow`, and `OutOfMemory` comes last.
+    /// Creates an allocator for the `size` addresses starting at `base`. All of them are free.
+    ///
+    /// It allocates one node.
+    ///
+    /// # Errors
+    ///
+    /// In this order:
+    /// - `Underflow` if `size` is 0.
+    /// - `Overflow` if the last address would be past `u64::MAX`.
+    /// - `OutOfMemory` if the allocation of the node fails.
     #[tactic(auto, using(crate::proofs::Answers::Making::making, vm_engine::proofs::Nodes::Spaces::spaces))]
     pub fn new(alloc: Global, base: u64, size: u64) -> Result<Self>
         ensures answer { Makes base size (made_state result) }
@@ -66,8 +80,11 @@ impl AddressAllocator {
         })
     }
 
-    /// A copy, whose tree has the same nodes. `OutOfMemory` where there is no memory for one of them;
-    /// the others are given back then.
+    /// Returns a copy. Its tree has the same nodes, so both allocators have the same height.
+    ///
+    /// # Errors
+    ///
+    /// - `OutOfMemory` if the allocation of a node fails. The nodes copied so far are freed.
     pub fn try_clone(&self, alloc: Global) -> Result<Self>
         ensures answer { Clones (state_of self.now) (made_state result) }
         ensures same { Clones self.now result }
@@ -78,15 +95,33 @@ impl AddressAllocator {
         })
     }
 
-    /// Holds the `size` addresses at the place that the policy chooses, a multiple of `alignment`
-    /// from which on they are clear. In this order: size 0 is `InvalidSize(0)`; an alignment that is
-    /// no power of two is `InvalidAlignment`; for `ExactMatch` a start that is no multiple of the
-    /// alignment is `UnalignedAddress`, `u64::MAX` is `Overflow`, a start outside the space is
-    /// `ResourceNotAvailable`, a range that passes `u64::MAX` is `Overflow`, and a range that is held
-    /// as it is is `InvalidStateTransition`; no place at all is `ResourceNotAvailable`; a range that
-    /// ends at `u64::MAX` is `Overflow`, also where there is another place. Only where the place
-    /// leaves a part of its gap over come `Overflow` for a tree of height 48 or more, which
-    /// takes more than 6 * 10^9 held ranges, and `OutOfMemory`. A refusal changes nothing.
+    /// Allocates `size` free addresses that start at a multiple of `alignment`, and returns their
+    /// range.
+    ///
+    /// `FirstMatch` chooses the lowest such range and `LastMatch` the highest. `ExactMatch(start)`
+    /// chooses the range that starts at `start`.
+    ///
+    /// A gap is a longest run of free addresses. A range that fills its gap is allocated without
+    /// memory, and always succeeds if it ends below `u64::MAX`. A range that leaves a part of its
+    /// gap free splits the gap, which allocates one or two nodes.
+    ///
+    /// # Errors
+    ///
+    /// An error changes nothing. In this order:
+    /// - `InvalidSize(0)` if `size` is 0.
+    /// - `InvalidAlignment` if `alignment` is not a power of two.
+    /// - For `ExactMatch(start)`:
+    ///   - `UnalignedAddress` if `start` is not a multiple of `alignment`.
+    ///   - `Overflow` if `start` is `u64::MAX`.
+    ///   - `ResourceNotAvailable` if `start` is outside the space.
+    ///   - `Overflow` if the range would end past `u64::MAX`.
+    ///   - `InvalidStateTransition` if exactly this range is already allocated.
+    /// - `ResourceNotAvailable` if there is no such range.
+    /// - `Overflow` if the chosen range ends at `u64::MAX`, even if another range is free.
+    /// - Only if the range splits its gap:
+    ///   - `Overflow` if the height of the tree is 48 or more. This takes more than 6 * 10^9
+    ///     allocated ranges.
+    ///   - `OutOfMemory` if the allocation of a node fails.
     pub fn allocate(
         &mut self,
         alloc: Global,
@@ -97,10 +132,10 @@ impl AddressAllocator {
         ensures answer { Allocates (state_of self.old) (request_for size alignment policy) result (state_of self.new) }
         ensures unchanged { OnErr result (self.new ≡ self.old) }
 
-        // What fills its gap needs no memory, and succeeds.
+        // An allocation that fills its gap needs no memory, so it succeeds.
         ensures filling { (s : ℕ) → FillsGap (state_of self.old) (request_for size alignment policy) s → IsOk result }
 
-        // The refusal for depth comes before out of memory.
+        // The limit on the height is checked before memory is allocated.
         ensures depth { SplitsIfLow (height_of self.old.tree) (state_of self.old) result }
         ensures state { IsAddressState (state_of self.new) }
     {
@@ -109,14 +144,26 @@ impl AddressAllocator {
         answer
     }
 
-    /// Does what `allocate` does, and answers besides how many nodes of the tree it entered. With the
-    /// height h and k held ranges before, these are at most 8h + 8 for `ExactMatch` and at most
-    /// 2k + 1 + 8h + 8 for the other policies, and none where the request makes no sense; a success
-    /// enters one at least, and one that leaves a part of its gap over h / 2 at least. Where v gaps
-    /// are long enough and have no place all the same, the other policies enter at most
-    /// h(v + 1) + 8h + 8, and at most hv where they answer `ResourceNotAvailable`; at alignment 1 no
-    /// gap is such. The same holds of w in the place of v, where w gaps have a multiple of the
-    /// alignment and no place: these are no more than the multiples in the space.
+    /// Allocates like [`allocate`](Self::allocate), and also returns the number of tree nodes that
+    /// the call entered.
+    ///
+    /// Let h be the [`height`](Self::height) and k the number of allocated ranges before the call.
+    /// The count is
+    /// - at most 8h + 8 for `ExactMatch`.
+    /// - at most 2k + 1 + 8h + 8 for `FirstMatch` and `LastMatch`.
+    /// - at least 1 for a success, and at least h / 2 for a success that splits its gap.
+    /// - 0 for `InvalidSize`, `InvalidAlignment` and `UnalignedAddress`.
+    ///
+    /// A search enters a subtree only if one of its gaps is long enough and one has a multiple of
+    /// `alignment`. So `FirstMatch` and `LastMatch` enter at most h(v + 1) + 8h + 8 nodes, and at
+    /// most hv if they return `ResourceNotAvailable`. Here v is the lesser of two numbers:
+    /// - The gaps that are long enough but misaligned. This number is 0 if `alignment` is 1.
+    /// - The gaps that have a multiple of `alignment` but are too short after it. There are at most
+    ///   as many as multiples of `alignment` in the space.
+    ///
+    /// # Errors
+    ///
+    /// Those of [`allocate`](Self::allocate), in the same order.
     #[tactic(auto, using(vm_engine::proofs::Counts::GapBounds::counted_allocations))]
     pub fn allocate_counted(
         &mut self,
@@ -129,10 +176,10 @@ impl AddressAllocator {
             (request_for size alignment policy) result.0 (state_of self.new) }
         ensures unchanged { OnErr result.0 (self.new ≡ self.old) }
 
-        // What fills its gap needs no memory, and succeeds.
+        // An allocation that fills its gap needs no memory, so it succeeds.
         ensures filling { (s : ℕ) → FillsGap (state_of self.old) (request_for size alignment policy) s → IsOk result.0 }
 
-        // The refusal for depth comes before out of memory.
+        // The limit on the height is checked before memory is allocated.
         ensures depth { SplitsIfLow (height_of self.old.tree) (state_of self.old) result.0 }
         ensures count { EntersToAllocate self.old.tree (request_for size alignment policy) result.0 result.1 }
         ensures steps { IsAllocationCount (height_of self.old.tree) (state_of self.old)
@@ -148,27 +195,41 @@ impl AddressAllocator {
         }
     }
 
-    /// Gives a held range back. Any other range is `ResourceNotAvailable`, a part of a held one and
-    /// a clear one among them. Takes no memory, and a refusal changes nothing.
+    /// Frees an allocated range.
+    ///
+    /// It does not allocate, and always succeeds for an allocated range.
+    ///
+    /// # Errors
+    ///
+    /// An error changes nothing.
+    /// - `ResourceNotAvailable` if exactly this range is not allocated. A part of an allocated
+    ///   range cannot be freed.
     pub fn free(&mut self, key: &RangeInclusive) -> Result<()>
         ensures answer { Frees (state_of self.old) key.now result (state_of self.new) }
         ensures unchanged { OnErr result (self.new ≡ self.old) }
 
-        // Giving back needs no memory, and succeeds.
+        // Freeing an allocated range always succeeds.
         ensures held { Contains (state_of self.old).held key.now → IsOk result }
         ensures state { IsAddressState (state_of self.new) }
     {
         self.free_counted(key).0
     }
 
-    /// Does what `free` does, and answers besides how many nodes of the tree it entered: with the
-    /// height h before at most 8h + 8, and always one at least.
+    /// Frees like [`free`](Self::free), and also returns the number of tree nodes that the call
+    /// entered.
+    ///
+    /// The count is at least 1, and at most 8h + 8 if h is the [`height`](Self::height) before the
+    /// call.
+    ///
+    /// # Errors
+    ///
+    /// Those of [`free`](Self::free).
     #[tactic(auto, using(vm_engine::proofs::Nodes::Spaces::spaces, vm_engine::proofs::Answers::Filling::succeeding))]
     pub fn free_counted(&mut self, key: &RangeInclusive) -> (Result<()>, u64)
         ensures answer { Frees (state_of self.old) key.now result.0 (state_of self.new) }
         ensures unchanged { OnErr result.0 (self.new ≡ self.old) }
 
-        // Giving back needs no memory, and succeeds.
+        // Freeing an allocated range always succeeds.
         ensures held { Contains (state_of self.old).held key.now → IsOk result.0 }
         ensures count { EntersToFree self.old.tree key.now result.0 0 result.1 }
         ensures steps { IsFreeCount (height_of self.old.tree) result.1 }
@@ -177,9 +238,10 @@ impl AddressAllocator {
         self.interval_tree.free_counted(key)
     }
 
-    /// The height of the tree, which is balanced: with k held ranges its
-    /// height h has F(h + 2) at most 2k + 2, where F is the sequence 1, 1, 2, 3, 5 of Fibonacci, and is
-    /// 49 at most.
+    /// Returns the height of the tree: the number of nodes on its longest path, at most 49.
+    ///
+    /// The tree is balanced. With k allocated ranges its height h satisfies F(h + 2) <= 2k + 2,
+    /// where F is the Fibonacci sequence 1, 1, 2, 3, 5.
     pub fn height(&self) -> u64
         ensures value { result ≡ height_of self.now.tree }
         ensures tree { IsBalancedTreeOf (state_of self.now) self.now.tree }
@@ -187,7 +249,7 @@ impl AddressAllocator {
         self.interval_tree.height()
     }
 
-    /// The first address of the space.
+    /// Returns the first address of the space.
     pub fn base(&self) -> u64
         ensures value { result ≡ (state_of self.now).space.start }
         ensures state { IsAddressState (state_of self.now) }
@@ -196,7 +258,8 @@ impl AddressAllocator {
         self.address_space.start()
     }
 
-    /// For the prover alone: what holds of every state is known from here on.
+    // Proof: makes the invariant of the state available to the caller. It does nothing when it
+    // runs.
     #[inline(always)]
     #[tactic(auto, using(vm_engine::proofs::Blocks::BlockStates::is_state))]
     fn recall_invariant(&self)
@@ -205,7 +268,7 @@ impl AddressAllocator {
         let _ = self.interval_tree.height();
     }
 
-    /// The last address of the space.
+    /// Returns the last address of the space.
     pub fn end(&self) -> u64
         ensures { result ≡ (state_of self.now).space.end }
     {

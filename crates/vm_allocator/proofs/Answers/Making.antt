@@ -1,4 +1,4 @@
--- A space with nothing held.
+-- The results of creating an allocator, and the state of a new one.
 use Rattle.std.proofs.Common.{◌≡◌, ℕ, ◌+◌, ◌-◌, ◌<◌, ◌≤◌, [], ◌∷◌, refl, ap, ◌∙◌, arith, inl, inr, Ok, Err}
 use Rattle.vm_ranges.specs.Range.{Range, MAX}
 use Rattle.vm_engine.specs.Answer.{Makes}
