@@ -28,8 +28,8 @@ pub record DevicesAreValid : Type 0 where
   pub reserved : (calls : List DeviceCall) (old : DeviceState) (id : ℕ) (r : Range) (reached : AreDevicesReached calls old) →
       IsDevice old id r → WasReserved calls id r ⊎ WasRead reached.first id r
 
--- The result is OutOfMemory, or it is Overflow and so many ranges are held that the height of the tree can make a split
--- fail.
+-- The result is OutOfMemory, or it is Overflow and at least SPLIT_LIMIT_MIN_HELD ranges are held: the tree may be too
+-- high.
 abbrev pub IsLimit : DeviceState → Result DeviceSlot Error → Type 0
 IsLimit old answer =
     (answer ≡ Err OutOfMemory) ⊎ ((SPLIT_LIMIT_MIN_HELD ≤ length old.space.held) × (answer ≡ Err Overflow))

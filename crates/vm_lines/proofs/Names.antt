@@ -23,7 +23,7 @@ alone_so name text word (next ∷ more) e h same =
     let begins = begins_with text word next more e in
     absurd (h begins.0 (begins.1 ∙ ap (λ w. w ++ blank ∷ begins.0) same ∙ sym (append_assoc name (blank ∷ []) begins.0)))
 
--- A name that has no other command than the rest is skipped.
+-- The test for a name is skipped if its command is the command of the rest.
 other_name : (word name : List ℕ) (found other : Option Command) → (word ≡ name → found ≡ other)
     → (if bytes_eq word name then found else other) ≡ other
 other_name word name found other same = step (bytes_eq word name) refl
@@ -32,7 +32,7 @@ other_name word name found other same = step (bytes_eq word name) refl
     step true e = same ((bytes_eq-Decides word name).0 e)
     step false e = refl
 
--- A name without words after it has no command, so it is skipped.
+-- The test for a name is skipped if the name without words has the command of the rest.
 skip : (word name : List ℕ) (words : List (List ℕ)) (found other : Option Command) → (word ≡ name → words ≡ [])
     → (word ≡ name → words ≡ [] → found ≡ other) → (if bytes_eq word name then found else other) ≡ other
 skip word name words found other alone none = other_name word name found other (λ same. none same (alone same))

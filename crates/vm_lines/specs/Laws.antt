@@ -10,7 +10,7 @@ use Rattle.vm_lines.specs.Runs.{MayAnswer}
 use Rattle.vm_lines.specs.declared.reply.Reply.{Reply}
 use Rattle.vm_lines.specs.declared.reply.Reply.TheVariants.{Failed}
 
--- Few ranges are held, by lines on the space and by devices, so the height of a tree never makes a split fail.
+-- The space and the devices hold fewer than SPLIT_LIMIT_MIN_HELD ranges each, so the height never makes a split fail.
 abbrev pub IsBelowLimits : Machine → Type 0
 IsBelowLimits machine =
     IfSome machine.space (λ state. length state.held < SPLIT_LIMIT_MIN_HELD)

@@ -63,8 +63,8 @@ fn input_of(rows: &[(&str, &str)]) -> Text {
     input
 }
 
-/// Returns its bytes in pieces, and fails at read number `bad_read` if this is not 0. After the error
-/// it continues as if there was none.
+/// Returns its bytes in pieces, and fails at read number `bad_read` if this is not 0. After the
+/// error it continues as if there was none.
 #[derive(Drop)]
 struct Pieces<'a> {
     bytes: &'a [u8],

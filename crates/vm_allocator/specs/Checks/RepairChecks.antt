@@ -59,7 +59,7 @@ decoded_repaired d =
 abbrev pub adding : List Range → AddressState → AddressState
 adding rs state = record state { held = state.held ++ rs }
 
--- The ranges can be added, and the height of the tree never makes one of their splits fail.
+-- The ranges can be added. At most SPLIT_LIMIT_MIN_HELD ranges are then held, so the height never makes a split fail.
 pub record CanAdd (rs : List Range) (state : AddressState) : Type 0 where
   pub reached : IsAddressState (adding rs state)
   pub few : length (state.held ++ rs) ≤ SPLIT_LIMIT_MIN_HELD

@@ -15,9 +15,10 @@ use Rattle.vm_allocator.specs.Values.AllocatorValues.{EncodesTree}
 abbrev pub MAX_NESTING_REPAIRED : ℕ
 MAX_NESTING_REPAIRED = 50
 
--- The value is an object with exactly a space and a tree. The tree has any nodes or none, is not too high, and its keys
--- are in order in the space. Held keys end below MAX, and the height never makes a split fail. They are the held ranges
--- of the state, and all other addresses of its space are clear.
+-- The value is an object with exactly a space and a tree. The tree has any nodes or none, nested at most
+-- MAX_NESTING_REPAIRED deep, and its keys are in order in the space. Held keys end below MAX. At most
+-- SPLIT_LIMIT_MIN_HELD keys are held, so the height never makes a split fail. They are the held ranges of the state,
+-- and all other addresses of its space are clear.
 pub record EncodesRepaired (d : Data) (state : AddressState) : Type 0 where
   pub tree : Shape
   pub two_fields : field_count d ≡ Some 2

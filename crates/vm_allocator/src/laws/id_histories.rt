@@ -21,8 +21,8 @@ fn lowest_ids_are_allocated()
     ensures twice { NoIdIsHeldTwice }
 {}
 
-/// Proves that an id is allocated if and only if a call allocated it, or it was allocated in the
-/// value that was read, and it was not freed since.
+/// Proves which ids are allocated: the ids that a call allocated or that were allocated in the
+/// value that was read, without the ids that were freed since.
 #[tactic(auto, using(crate::proofs::Ids::AlongIdHistories::held_ids))]
 fn held_ids_are_allocated()
     ensures held { HeldIsAllocated }
