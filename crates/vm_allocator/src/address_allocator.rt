@@ -101,9 +101,9 @@ impl AddressAllocator {
     /// `FirstMatch` chooses the lowest such range and `LastMatch` the highest. `ExactMatch(start)`
     /// chooses the range that starts at `start`.
     ///
-    /// A gap is a run of free addresses with no free address next to it. A range that fills its gap is
-    /// allocated without memory, and always succeeds if it ends below `u64::MAX`. A range that leaves
-    /// a part of its gap free splits the gap, which allocates one or two nodes.
+    /// A gap is a run of free addresses with no free address next to it. A range that fills its gap
+    /// is allocated without memory, and always succeeds if it ends below `u64::MAX`. A range that
+    /// leaves a part of its gap free splits the gap, which allocates one or two nodes.
     ///
     /// # Errors
     ///
