@@ -1,4 +1,4 @@
--- What a caller wants to know of a range or an id that it was given, and of an allocator that it saved.
+-- Facts for callers about allocated ranges and ids, and about allocators that were saved.
 use Rattle.std.proofs.Common.{◌≡◌, ℕ, ◌+◌, ◌-◌, ◌%◌, List, [], ◌∷◌, ◌<◌, ◌≤◌, ◌⊎◌, arith, refl, sym, ap, ◌∙◌, inl, inr, ⊎_elim, subst, Result, Ok, Err, IfOk, IfErr, OnOk}
 use Rattle.std.specs.List.{Contains}
 use Rattle.serde_json.specs.Data.{Data}
@@ -25,13 +25,13 @@ use Rattle.vm_engine.proofs.Answers.Filling.{allocates_chosen}
 use Rattle.vm_engine.proofs.Answers.Outcomes.{allocates_outcome}
 use Rattle.vm_allocator.proofs.Reading.ReadAllocators.{one_allocator, encoded_state as encoded_addresses}
 use Rattle.vm_allocator.proofs.Ids.ReadIdStates.{one_encoded, encoded_state as encoded_ids}
--- a list of held ranges or ids, no two the same, has all of them exactly if it has as many as are held
+-- A list of different held ranges or ids contains all of them if and only if its length is their number.
 pub use Rattle.vm_engine.proofs.Blocks.HeldLists.{ranges_listed}
 pub use Rattle.vm_allocator.proofs.Ids.IdCounts.{ids_listed}
--- the range that a value states is what is found of it
+-- Decoding a value finds the range that it encodes.
 pub use Rattle.vm_ranges.proofs.ReadRanges.{found-states, states-found}
 
--- a range that was given: as long as was asked, from a multiple of the alignment on, clear before and held after
+-- The range has the requested length, starts at a multiple of the alignment, was clear before and is held after.
 pub record IsAllocation (old : AddressState) (request : Request) (r : Range) (new : AddressState) : Type 0 where
   pub some : 0 < request.size
   pub long : r ≡ span r.start request.size
@@ -61,13 +61,13 @@ given old new request r h =
     k.1.3)
     (allocates_outcome old new (Ok r) request h)
 
--- a range that was given starts at a multiple of the alignment
+-- An allocated range starts at a multiple of the alignment.
 pub allocated_aligned : (old new : AddressState) (size align : ℕ) (policy : AllocPolicy) (answer : Result Range Error) → Allocates old (request_for size align policy) answer new → IfOk answer (λ r. r.start % align ≡ 0)
 unfolding IsPlace
 allocated_aligned old new size align policy (Ok r) h = (given old new (request_for size align policy) r h).place.0
 allocated_aligned old new size align policy (Err e) h = tt
 
--- and has as many addresses as were asked for
+-- An allocated range has the requested number of addresses.
 pub allocated_long : (old new : AddressState) (size align : ℕ) (policy : AllocPolicy) (answer : Result Range Error) → Allocates old (request_for size align policy) answer new → IfOk answer (λ r. address_count r ≡ size)
 allocated_long old new size align policy (Ok r) h =
     let g = given old new (request_for size align policy) r h in
@@ -80,24 +80,24 @@ pub allocated_fits : (old new : AddressState) (size align : ℕ) (policy : Alloc
 allocated_fits old new size align policy (Ok r) h = (allocated_long old new size align policy (Ok r) h, allocated_aligned old new size align policy (Ok r) h)
 allocated_fits old new size align policy (Err e) h = tt
 
--- it is at the place that the policy chooses
+-- An allocated range is at the place that the policy chooses.
 pub allocated_chosen : (old new : AddressState) (request : Request) (answer : Result Range Error) → Allocates old request answer new → IfOk answer (λ r. IsChosen request old r.start)
 allocated_chosen old new request (Ok r) h = (given old new request r h).chosen
 allocated_chosen old new request (Err e) h = tt
 
--- and nothing but this range is held after it
+-- Only this range is held in addition after the call.
 pub allocated_leaves : (old new : AddressState) (request : Request) (answer : Result Range Error) → Allocates old request answer new → IfOk answer (λ r. new ≡ holding r old)
 allocated_leaves old new request (Ok r) h = (given old new request r h).left
 allocated_leaves old new request (Err e) h = tt
 
 pub ruleset allocations = (allocated_fits, allocated_chosen, allocated_leaves)
 
--- and is held from then on
+-- An allocated range is held after the call.
 pub allocated_held : (old new : AddressState) (request : Request) (r : Range) → Allocates old request (Ok r) new → Contains new.held r
 allocated_held old new request r h =
     let g = given old new request r h in contains_held new.held r (subst (λ (v : AddressState). IsHeldRange v.held r) (sym g.left) (held_now r old.held))
 
--- two that were given one after the other have no address in common
+-- Two ranges that were allocated one after the other do not overlap.
 pub allocated_apart : (old mid new : AddressState) (first second : Request) (r s : Range) → Allocates old first (Ok r) mid → Allocates mid second (Ok s) new → ¬ Overlaps r s
 unfolding IsPlace Overlaps
 allocated_apart old mid new first second r s h k o =
@@ -107,15 +107,15 @@ allocated_apart old mid new first second r s h k o =
     let held = held_contains mid.held r (allocated_held old mid first r h) in
     none_holds mid.held o.0 (f.place.1 o.0 o.2.0 (omega (arith, o.2.1))).1 (held_address mid.held r o.0 held o.1)
 
--- ---- a range that is given back and asked for again by its start
--- a range that was asked for by its start starts there
+-- ---- A range that is freed, and requested again by its start
+-- A range that ExactMatch allocates starts at the given start.
 allocated_at_start : (old new : AddressState) (size align start : ℕ) (r : Range) → Allocates old (request_for size align (ExactMatch start)) (Ok r) new → r ≡ span start size
 unfolding IsChosen
 allocated_at_start old new size align start r h =
     let g = given old new (request_for size align (ExactMatch start)) r h in
     g.long ∙ ap (λ (v : ℕ). span v size) g.chosen.0
 
--- a range that has as many addresses as another, from its start on, is that one
+-- A range with the same start and the same number of addresses is the same range.
 same_range : (r : Range) → r.start ≤ r.end → span r.start (address_count r) ≡ r
 same_range r l = let e : r.start + address_count r - 1 ≡ r.end = omega arith in ap (λ (v : ℕ). record { start = r.start; end = v }) e
 
@@ -123,13 +123,13 @@ pub allocated_same : (mid new : AddressState) (r : Range) (answer : Result Range
 allocated_same mid new r (Ok again) l h = allocated_at_start mid new (address_count r) 1 r.start again h ∙ same_range r l
 allocated_same mid new r (Err e) l h = tt
 
--- a held address is one of a held range
+-- A held address is in a held range.
 range_of : (hs : List Range) (x : ℕ) → IsHeldAddress hs x → (q : Range) × IsHeldRange hs q × IsIn q x
 range_of [] x h = absurd h
 range_of (y ∷ ys) x h =
     ⊎_elim (λ (i : IsIn y x). (y, inl refl, i)) (λ (k : IsHeldAddress ys x). let q = range_of ys x k in (q.0, inr q.1, q.2)) h
 
--- the addresses of a range that is given back are clear
+-- The addresses of a freed range are clear.
 released_clear : (old : AddressState) (r : Range) → IsAddressState old → IsHeldRange old.held r → AreClear (address_count r) (releasing r old) r.start
 released_clear old r i h x low high =
     let lo = old.space.start in
@@ -143,7 +143,7 @@ released_clear old r i h x low high =
           (one_held lo hi x old.held r q.0 i.in_order h (held_without r q.0 old.held q.1) inside q.2)),
     )
 
--- so it is given again, unless the split is refused
+-- A freed range can be allocated again, unless a split fails.
 pub allocated_again : (old mid new : AddressState) (r : Range) (freed : Result (Unit {0}) Error) (answer : Result Range Error) → IsAddressState old → Contains old.held r → Frees old r freed mid → Allocates mid (request_for (address_count r) 1 (ExactMatch r.start)) answer new → (answer ≡ Ok r) ⊎ IsSplitRefusal mid answer
 unfolding Frees AllocatesAt IsPlace IsChosen IsStartAligned IsAlignment
 allocated_again old mid new r freed answer i c f h =
@@ -179,8 +179,8 @@ fits_again_or_limit mid new r (Err e) i h =
     (λ k. ⊎_elim (λ o. inl (cc o)) (λ o. inr (cc (o.1))) k)
     (i.by new (Err e) h)
 
--- ---- ids
--- an id that was given was held by no one, and is held now
+-- ---- Ids
+-- An allocated id was not held before, and is held after.
 pub id_was_free : (old new : IdState) (answer : Result ℕ Error) → AllocatesId old answer new → IfOk answer (λ id. ¬ IsHeld old id)
 unfolding AllocatesId ByLowestNotHeld IsLowestNotHeld
 id_was_free old new (Ok id) h =
@@ -202,17 +202,17 @@ id_is_held old new (Ok id) h =
     h
 id_is_held old new (Err e) h = tt
 
--- an id that was given is the least that was not held
-pub id_is_least : (old new : IdState) (answer : Result ℕ Error) → AllocatesId old answer new → IfOk answer (λ id. IsLowestNotHeld old id)
+-- An allocated id is the lowest that was not held.
+pub id_is_lowest : (old new : IdState) (answer : Result ℕ Error) → AllocatesId old answer new → IfOk answer (λ id. IsLowestNotHeld old id)
 unfolding AllocatesId ByLowestNotHeld
-id_is_least old new (Ok id) h =
+id_is_lowest old new (Ok id) h =
     ⊎_elim
     (λ l. let e : l.0 ≡ id = cc (l.2.0) in subst (IsLowestNotHeld old) e l.1)
     (λ r. absurd (⊎_elim (λ f. cc (f.1.0)) (λ f. cc (f.1.0)) r.1))
     h
-id_is_least old new (Err e) h = tt
+id_is_lowest old new (Err e) h = tt
 
--- and nothing but this id is held after it
+-- Only this id is held in addition after the call.
 pub id_state : (old new : IdState) (answer : Result ℕ Error) → AllocatesId old answer new → IfOk answer (λ id. new ≡ holding_id id old)
 unfolding AllocatesId ByLowestNotHeld
 id_state old new (Ok id) h =
@@ -222,7 +222,7 @@ id_state old new (Ok id) h =
     h
 id_state old new (Err e) h = tt
 
--- an id that is freed is held no more, and nothing else changes
+-- A freed id is not held after the call, and nothing else changes.
 pub freed_id_state : (old new : IdState) (id : ℕ) (answer : Result ℕ Error) → FreesId old id answer new → IfOk answer (λ i. (i ≡ id) × (new ≡ releasing_id id old))
 unfolding FreesId
 freed_id_state old new id (Ok i) h =
@@ -232,7 +232,7 @@ freed_id_state old new id (Ok i) h =
     ⊎_elim (λ k. (cc (k.0), k.1)) (λ k. absurd (cc (k.0))) d.1) c.1) b.1) h
 freed_id_state old new id (Err e) h = tt
 
--- a range that was given was held by no one
+-- An allocated range was not held before.
 pub range_was_free : (old new : AddressState) (request : Request) (r : Range) → Allocates old request (Ok r) new → ¬ Contains old.held r
 unfolding IsPlace
 range_was_free old new request r h c =
@@ -242,25 +242,25 @@ range_was_free old new request r h c =
     let inside : IsIn r r.start = (omega arith, omega arith) in
     none_holds old.held r.start (g.place.1 r.start (omega arith) (omega arith)).1 (held_address old.held r r.start (held_contains old.held r c) inside)
 
--- a range that is freed is held no more, and nothing else changes
+-- A freed range is not held after the call, and nothing else changes.
 pub freed_state : (old new : AddressState) (r : Range) (answer : Result (Unit {0}) Error) → Frees old r answer new → OnOk answer (new ≡ releasing r old)
 unfolding Frees
 freed_state old new r (Ok u) h = ⊎_elim (λ k. k.1.1) (λ k. absurd (cc (k.1.0))) h
 freed_state old new r (Err e) h = tt
 
--- a range that is not held is not freed
+-- A range that is not held cannot be freed.
 pub not_freed : (old new : AddressState) (r : Range) (answer : Result (Unit {0}) Error) → Frees old r answer new → ¬ Contains old.held r → answer ≡ Err ResourceNotAvailable
 unfolding Frees
 not_freed old new r answer h n = ⊎_elim (λ k. absurd (n k.0)) (λ k. k.1.0) h
 
 pub ruleset releases = (freed_state, not_freed)
 
--- a held range can be given back
+-- A held range can be freed.
 pub frees_held : (old : AddressState) (r : Range) → Contains old.held r → Frees old r (Ok tt) (releasing r old)
 frees_held old r c = releases_held old r (held_contains old.held r c)
 
--- ---- saved values
--- what is read of a written value is what was written
+-- ---- Saved values
+-- The allocator that is read from a written value is the allocator that was written.
 pub allocator_again : (d : Data) (old new : SpaceInTree) → EncodesAllocator d old → EncodesAllocator d new → new ≡ old
 allocator_again d old new s t = one_allocator d new old t s
 
@@ -270,7 +270,7 @@ ids_again d old new s t = one_encoded d new old t s
 pub addresses_again : (d : Data) (old new : AddressState) → EncodesAddresses d old → EncodesAddresses d new → new ≡ old
 addresses_again d old new s t = sym t.is ∙ ap state_of (one_allocator d t.allocator s.allocator t.encoded s.encoded) ∙ s.is
 
--- and is the state of an allocator
+-- A state that a value encodes is valid.
 pub ids_encoded : (d : Data) (state : IdState) → EncodesIds d state → IsIdState state
 ids_encoded d state s = encoded_ids d state s
 

@@ -1,4 +1,4 @@
--- Facts of the state of an allocator that hold or do not.
+-- Decidable facts of the state of an allocator.
 use Rattle.std.proofs.Common.{◌≡◌, ℕ, ◌%◌, List, [], ◌∷◌, inl, inr, ⊎_elim}
 use Rattle.std.proofs.lemmas.Bool.{cases_eq}
 use Rattle.std.specs.List.{Contains}

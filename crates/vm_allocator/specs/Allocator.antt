@@ -1,4 +1,4 @@
--- What an address allocator is seen as, and the state that it stands for.
+-- The view of an address allocator in clauses, and its state.
 use Rattle.std.specs.Prelude.{Result, Ok, Err, refl}
 use Rattle.std.specs.Coded.{Coded, code_by, coded×}
 use Rattle.vm_ranges.specs.Range.{Range, range_code}
@@ -7,12 +7,12 @@ use Rattle.vm_engine.specs.Tree.Shape.{Shape}
 use Rattle.vm_engine.specs.Tree.ShapeCode.{shape_code}
 use Rattle.vm_engine.specs.Tree.SpaceTree.{tree_state}
 
--- a space, and the tree of its blocks
+-- The space of an allocator, and the shape of its tree of blocks.
 pub record SpaceInTree : Type 0 where
   pub space : Range
   pub tree : Shape
 
--- it is stored as the pair of the two
+-- Proof: encodes the view as the pair of its fields.
 abbrev pub space_code : Coded SpaceInTree
 space_code =
     code_by (Range × Shape) (coded× range_code shape_code)
@@ -20,11 +20,11 @@ space_code =
     (λ p. record { space = p.0; tree = p.1 })
     (λ _. refl)
 
--- the space and the held ranges
+-- The state of an allocator: its space and its held ranges.
 abbrev pub state_of : SpaceInTree → AddressState
 state_of allocator = tree_state allocator.tree
 
--- the state of the allocator that is made or read, or why none is
+-- The result of creating or reading an allocator, with its state instead of the allocator.
 abbrev pub made_state : {E : Type 0} → Result SpaceInTree E → Result AddressState E
 made_state (Ok allocator) = Ok (state_of allocator)
 made_state (Err error) = Err error

@@ -5,7 +5,7 @@ pub mod Histories
 pub mod Laws
 pub mod Values
 pub mod Checks
--- What the public clauses cite of the crates below: a caller names it by this crate.
+-- Re-exports the definitions of the crates below that public clauses cite. Callers name them by this crate.
 pub use Rattle.vm_ranges.specs.Cases
 pub use Rattle.vm_ranges.specs.Range
 pub use Rattle.vm_ranges.specs.Making

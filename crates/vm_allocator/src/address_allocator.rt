@@ -1,8 +1,12 @@
-//! Ranges of one space. The space stands beside the tree, which tells it too, so that `base` and
-//! `end` are one read each; that the two agree is the invariant. Its fields are open inside the crate,
-//! for `saved`, and whoever puts them together proves the invariant. The plain calls are the counted
-//! ones without the count. That some calls always succeed follows from their answers, and is a clause
-//! of its own all the same: a monitor relies on it.
+//! An allocator of address ranges.
+//!
+//! The allocator stores its space next to the tree of blocks, so that `base` and `end` are one load
+//! each. The invariant states that the two agree. The fields are `pub(crate)` because `saved`
+//! builds allocators from values.
+//!
+//! `allocate` and `free` call the counted versions and drop the count. Some clauses follow from
+//! `answer`, and are there because callers rely on them: for example that some calls always
+//! succeed.
 ghost use Rattle.std.specs.Prelude.{ℕ, ◌≡◌, ◌%◌, Err, OnErr, OnOk, IfOk, IsOk};
 ghost use Rattle.std.specs.List.{Contains};
 ghost use Rattle.vm_engine.specs.Address.{IsAddressState, holding, releasing};
@@ -25,8 +29,10 @@ mod comparing;
 mod held_ranges;
 mod several;
 
-/// Gives out the ranges of one space of addresses. Two ranges held at one time share no address,
-/// each lies in the space, and none contains `u64::MAX`.
+/// Allocates ranges of addresses from one space.
+///
+/// Allocated ranges never overlap, each lies in the space, and none contains `u64::MAX`. A range
+/// includes both of its ends. Sizes and alignments are numbers of addresses.
 #[derive(Debug, Drop)]
 pub struct AddressAllocator {
     pub(crate) address_space: RangeInclusive,
@@ -50,18 +56,22 @@ impl Model for AddressAllocator {
 }
 
 impl AddressAllocator {
-    /// The allocator of the `size` addresses from `base` on, with none held. In this order: a size
-    /// of 0 is `Underflow`, an end past `u64::MAX` is `Overflow`, and `OutOfMemory` comes last.
-    #[tactic(auto, using(crate::proofs::Answers::Making::making, vm_engine::proofs::Nodes::Spaces::spaces))]
+    /// Creates an allocator for the `size` addresses starting at `base`. All of them are free.
+    ///
+    /// It allocates one node.
+    ///
+    /// # Errors
+    ///
+    /// In this order:
+    /// - `Underflow` if `size` is 0.
+    /// - `Overflow` if the last address would be past `u64::MAX`.
+    /// - `OutOfMemory` if the allocation of the node fails.
+    #[tactic(auto, using(crate::proofs::Answers::Making::making, crate::proofs::Answers::Making::making_held, vm_engine::proofs::Nodes::Spaces::spaces))]
     pub fn new(alloc: Global, base: u64, size: u64) -> Result<Self>
         ensures answer { Makes base size (made_state result) }
         ensures state { IfOk result (λ allocator. IsAddressState (state_of allocator)) }
     {
-        if size == 0 {
-            return Err(Error::Underflow);
-        }
-        let end = base.checked_add(size - 1).ok_or(Error::Overflow)?;
-        let address_space = RangeInclusive::new(base, end)?;
+        let address_space = space_from(base, size)?;
         let interval_tree = IntervalTree::new(alloc, address_space)?;
         Ok(AddressAllocator {
             address_space,
@@ -69,11 +79,23 @@ impl AddressAllocator {
         })
     }
 
-    /// The allocator of the `size` addresses from `base` on, with these ranges held, which are given in
-    /// rising order. Errors in this order: those of `new`; for the first range that cannot be held,
-    /// `ResourceNotAvailable` where it does not start behind the end of the one before it, `Overflow` where
-    /// it starts at `u64::MAX`, `ResourceNotAvailable` where it does not lie in the space, and `Overflow`
-    /// where it ends at `u64::MAX`; `Overflow` for 2^49 gaps and held ranges or more; and `OutOfMemory`.
+    /// Creates an allocator of the `size` addresses that start at `base`, with these ranges allocated.
+    /// They must be in increasing order.
+    ///
+    /// Its tree is as low as possible. It takes time linear in the number of ranges.
+    ///
+    /// # Errors
+    ///
+    /// In this order:
+    /// - `Underflow` if `size` is 0.
+    /// - `Overflow` if the space would end past `u64::MAX`.
+    /// - For the first range that cannot be allocated:
+    ///   - `ResourceNotAvailable` if it does not start after the end of the range before it.
+    ///   - `Overflow` if it starts at `u64::MAX`.
+    ///   - `ResourceNotAvailable` if it is outside the space.
+    ///   - `Overflow` if it ends at `u64::MAX`.
+    /// - `Overflow` if the ranges and the gaps together are 2^49 or more.
+    /// - `OutOfMemory` if the allocation of a node fails.
     #[tactic(auto, using(crate::proofs::Answers::Making::making_held, vm_engine::proofs::Nodes::Spaces::spaces))]
     pub fn with_held(alloc: Global, base: u64, size: u64, held: &[RangeInclusive]) -> Result<Self>
         ensures answer { MakesWithHeld base size held.now (made_state result) }
@@ -87,8 +109,11 @@ impl AddressAllocator {
         })
     }
 
-    /// A copy, whose tree has the same nodes. `OutOfMemory` where there is no memory for one of them;
-    /// the others are given back then.
+    /// Returns a copy. Its tree has the same nodes, so both allocators have the same height.
+    ///
+    /// # Errors
+    ///
+    /// - `OutOfMemory` if the allocation of a node fails. The nodes copied so far are freed.
     pub fn try_clone(&self, alloc: Global) -> Result<Self>
         ensures answer { Clones (state_of self.now) (made_state result) }
         ensures same { Clones self.now result }
@@ -99,15 +124,33 @@ impl AddressAllocator {
         })
     }
 
-    /// Holds the `size` addresses at the place that the policy chooses, a multiple of `alignment`
-    /// from which on they are clear. In this order: size 0 is `InvalidSize(0)`; an alignment that is
-    /// no power of two is `InvalidAlignment`; for `ExactMatch` a start that is no multiple of the
-    /// alignment is `UnalignedAddress`, `u64::MAX` is `Overflow`, a start outside the space is
-    /// `ResourceNotAvailable`, a range that passes `u64::MAX` is `Overflow`, and a range that is held
-    /// as it is is `InvalidStateTransition`; no place at all is `ResourceNotAvailable`; a range that
-    /// ends at `u64::MAX` is `Overflow`, also where there is another place. Only where the place
-    /// leaves a part of its gap over come `Overflow` for a tree of height 48 or more, which
-    /// takes more than 6 * 10^9 held ranges, and `OutOfMemory`. A refusal changes nothing.
+    /// Allocates `size` free addresses that start at a multiple of `alignment`, and returns their
+    /// range.
+    ///
+    /// `FirstMatch` chooses the lowest such range and `LastMatch` the highest. `ExactMatch(start)`
+    /// chooses the range that starts at `start`.
+    ///
+    /// A gap is a run of free addresses with no free address next to it. A range that fills its gap
+    /// is allocated without memory, and always succeeds if it ends below `u64::MAX`. A range that
+    /// leaves a part of its gap free splits the gap, which allocates one or two nodes.
+    ///
+    /// # Errors
+    ///
+    /// An error changes nothing. In this order:
+    /// - `InvalidSize(0)` if `size` is 0.
+    /// - `InvalidAlignment` if `alignment` is not a power of two.
+    /// - For `ExactMatch(start)`:
+    ///   - `UnalignedAddress` if `start` is not a multiple of `alignment`.
+    ///   - `Overflow` if `start` is `u64::MAX`.
+    ///   - `ResourceNotAvailable` if `start` is outside the space.
+    ///   - `Overflow` if the range would end past `u64::MAX`.
+    ///   - `InvalidStateTransition` if exactly this range is already allocated.
+    /// - `ResourceNotAvailable` if there is no such range.
+    /// - `Overflow` if the chosen range ends at `u64::MAX`, even if another range is free.
+    /// - Only if the range splits its gap:
+    ///   - `Overflow` if the height of the tree is 48 or more. This takes more than 6 * 10^9
+    ///     allocated ranges.
+    ///   - `OutOfMemory` if the allocation of a node fails.
     #[tactic(auto, using(crate::proofs::Callers::allocations))]
     pub fn allocate(
         &mut self,
@@ -116,7 +159,8 @@ impl AddressAllocator {
         alignment: u64,
         policy: AllocPolicy,
     ) -> Result<RangeInclusive>
-        // The range is as long as asked and aligned, at the place that the policy chooses.
+        // The range is as long as asked and aligned. It is at the place that the policy chooses, and all of
+        // its addresses were clear.
         ensures fits { IfOk result (λ range. (address_count range ≡ size) × (range.start % alignment ≡ 0)) }
         ensures chosen { IfOk result (λ range.
             IsChosen (request_for size alignment policy) (state_of self.old) range.start) }
@@ -125,11 +169,11 @@ impl AddressAllocator {
         ensures held { IfOk result (λ range. state_of self.new ≡ holding range (state_of self.old)) }
         ensures unchanged { OnErr result (self.new ≡ self.old) }
 
-        // A request that fills its gap needs no memory, and succeeds.
+        // A request that fills its gap needs no memory, so it succeeds.
         ensures filling { (start : ℕ) → FillsGap (state_of self.old) (request_for size alignment policy) start
             → IsOk result }
 
-        // The error for depth comes before out of memory.
+        // The limit on the height is checked before memory is allocated.
         ensures depth { SplitsIfLow (height_of self.old.tree) (state_of self.old) result }
         ensures state { IsAddressState (state_of self.new) }
 
@@ -141,14 +185,26 @@ impl AddressAllocator {
         answer
     }
 
-    /// Does what `allocate` does, and answers besides how many nodes of the tree it entered. With the
-    /// height h and k held ranges before, these are at most 8h + 8 for `ExactMatch` and at most
-    /// 2k + 1 + 8h + 8 for the other policies, and none where the request makes no sense; a success
-    /// enters one at least, and one that leaves a part of its gap over h / 2 at least. Where v gaps
-    /// are long enough and have no place all the same, the other policies enter at most
-    /// h(v + 1) + 8h + 8, and at most hv where they answer `ResourceNotAvailable`; at alignment 1 no
-    /// gap is such. The same holds of w in the place of v, where w gaps have a multiple of the
-    /// alignment and no place: these are no more than the multiples in the space.
+    /// Allocates like [`allocate`](Self::allocate), and also returns the number of tree nodes that
+    /// the call entered.
+    ///
+    /// Let h be the [`height`](Self::height) and k the number of allocated ranges before the call.
+    /// The count is
+    /// - at most 8h + 8 for `ExactMatch`.
+    /// - at most 2k + 1 + 8h + 8 for `FirstMatch` and `LastMatch`.
+    /// - at least 1 for a success, and at least h / 2 for a success that splits its gap.
+    /// - 0 for `InvalidSize`, `InvalidAlignment` and `UnalignedAddress`.
+    ///
+    /// A search enters a subtree only if one of its gaps is long enough and one has a multiple of
+    /// `alignment`. So `FirstMatch` and `LastMatch` enter at most h(v + 1) + 8h + 8 nodes, and at
+    /// most hv if they return `ResourceNotAvailable`. Here v is the lesser of two numbers:
+    /// - The gaps that are long enough but misaligned. This number is 0 if `alignment` is 1.
+    /// - The gaps that have a multiple of `alignment` but are too short after it. There are at most
+    ///   as many as multiples of `alignment` in the space.
+    ///
+    /// # Errors
+    ///
+    /// Those of [`allocate`](Self::allocate), in the same order.
     #[tactic(auto, using(vm_engine::proofs::Counts::GapBounds::counted_allocations))]
     pub fn allocate_counted(
         &mut self,
@@ -161,11 +217,11 @@ impl AddressAllocator {
             (request_for size alignment policy) result.0 (state_of self.new) }
         ensures unchanged { OnErr result.0 (self.new ≡ self.old) }
 
-        // A request that fills its gap needs no memory, and succeeds.
+        // A request that fills its gap needs no memory, so it succeeds.
         ensures filling { (start : ℕ) → FillsGap (state_of self.old) (request_for size alignment policy) start
             → IsOk result.0 }
 
-        // The refusal for depth comes before out of memory.
+        // The limit on the height is checked before memory is allocated.
         ensures depth { SplitsIfLow (height_of self.old.tree) (state_of self.old) result.0 }
         ensures count { EntersToAllocate self.old.tree (request_for size alignment policy) result.0 result.1 }
         ensures steps { IsAllocationCount (height_of self.old.tree) (state_of self.old)
@@ -181,11 +237,18 @@ impl AddressAllocator {
         }
     }
 
-    /// Gives a held range back. Any other range is `ResourceNotAvailable`, a part of a held one and
-    /// a clear one among them. Takes no memory, and a refusal changes nothing.
+    /// Frees an allocated range.
+    ///
+    /// It does not allocate, and always succeeds for an allocated range.
+    ///
+    /// # Errors
+    ///
+    /// An error changes nothing.
+    /// - `ResourceNotAvailable` if exactly this range is not allocated. A part of an allocated
+    ///   range cannot be freed.
     #[tactic(auto, using(crate::proofs::Callers::releases))]
     pub fn free(&mut self, key: &RangeInclusive) -> Result<()>
-        // A held range is freed, without memory, and nothing else changes. Any other range is refused.
+        // A held range is freed without memory, and nothing else changes. Any other range is an error.
         ensures held { Contains (state_of self.old).held key.now → IsOk result }
         ensures freed { OnOk result (state_of self.new ≡ releasing key.now (state_of self.old)) }
         ensures refused { ¬ Contains (state_of self.old).held key.now → result ≡ Err Error.ResourceNotAvailable }
@@ -198,14 +261,21 @@ impl AddressAllocator {
         self.free_counted(key).0
     }
 
-    /// Does what `free` does, and answers besides how many nodes of the tree it entered: with the
-    /// height h before at most 8h + 8, and always one at least.
+    /// Frees like [`free`](Self::free), and also returns the number of tree nodes that the call
+    /// entered.
+    ///
+    /// The count is at least 1, and at most 8h + 8 if h is the [`height`](Self::height) before the
+    /// call.
+    ///
+    /// # Errors
+    ///
+    /// Those of [`free`](Self::free).
     #[tactic(auto, using(vm_engine::proofs::Nodes::Spaces::spaces, vm_engine::proofs::Answers::Filling::succeeding))]
     pub fn free_counted(&mut self, key: &RangeInclusive) -> (Result<()>, u64)
         ensures answer { Frees (state_of self.old) key.now result.0 (state_of self.new) }
         ensures unchanged { OnErr result.0 (self.new ≡ self.old) }
 
-        // Giving back needs no memory, and succeeds.
+        // Freeing an allocated range always succeeds.
         ensures held { Contains (state_of self.old).held key.now → IsOk result.0 }
         ensures count { EntersToFree self.old.tree key.now result.0 0 result.1 }
         ensures steps { IsFreeCount (height_of self.old.tree) result.1 }
@@ -214,9 +284,10 @@ impl AddressAllocator {
         self.interval_tree.free_counted(key)
     }
 
-    /// The height of the tree, which is balanced: with k held ranges its
-    /// height h has F(h + 2) at most 2k + 2, where F is the sequence 1, 1, 2, 3, 5 of Fibonacci, and is
-    /// 49 at most.
+    /// Returns the height of the tree: the number of nodes on its longest path, at most 49.
+    ///
+    /// The tree is balanced. With k allocated ranges its height h satisfies F(h + 2) <= 2k + 2,
+    /// where F is the Fibonacci sequence 1, 1, 2, 3, 5.
     pub fn height(&self) -> u64
         ensures value { result ≡ height_of self.now.tree }
         ensures tree { IsBalancedTreeOf (state_of self.now) self.now.tree }
@@ -224,7 +295,7 @@ impl AddressAllocator {
         self.interval_tree.height()
     }
 
-    /// The first address of the space.
+    /// Returns the first address of the space.
     pub fn base(&self) -> u64
         ensures value { result ≡ (state_of self.now).space.start }
         ensures state { IsAddressState (state_of self.now) }
@@ -233,7 +304,8 @@ impl AddressAllocator {
         self.address_space.start()
     }
 
-    /// For the prover alone: what holds of every state is known from here on.
+    // Proof: makes the invariant of the state available to the caller. It does nothing when it
+    // runs.
     #[inline(always)]
     #[tactic(auto, using(vm_engine::proofs::Blocks::BlockStates::is_state))]
     fn recall_invariant(&self)
@@ -242,7 +314,7 @@ impl AddressAllocator {
         let _ = self.interval_tree.height();
     }
 
-    /// The last address of the space.
+    /// Returns the last address of the space.
     pub fn end(&self) -> u64
         ensures { result ≡ (state_of self.now).space.end }
     {
@@ -250,8 +322,9 @@ impl AddressAllocator {
     }
 }
 
-/// The `size` addresses from `base` on. In this order: a size of 0 is `Underflow`, and an end past
-/// `u64::MAX` is `Overflow`.
+/// Returns the range of the `size` addresses that start at `base`.
+///
+/// Its errors are `Underflow` for size 0, and `Overflow` if the range would end past `u64::MAX`.
 #[tactic(auto, using(crate::proofs::Answers::Making::making_held))]
 fn space_from(base: u64, size: u64) -> Result<RangeInclusive>
     ensures { MakesSpace base size result }

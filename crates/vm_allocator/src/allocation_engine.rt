@@ -1,3 +1,3 @@
-//! How addresses are aligned, and the tree of the blocks of a space.
+//! Alignment of addresses, the states of blocks, and the tree of the blocks of a space.
 pub use vm_engine::IntervalTree;
 pub use vm_ranges::{NodeState, align_down, align_up};

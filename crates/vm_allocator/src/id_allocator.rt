@@ -1,5 +1,7 @@
-//! Ids of one range: those handed out so far lie below the next one, and those given back stand in a
-//! set, the least first. Only giving back and cloning ask for memory.
+//! An allocator of ids from a range.
+//!
+//! The ids below the next id were allocated at some time. A set contains the ids that were freed
+//! since. Only freeing and cloning allocate memory.
 ghost use Rattle.std.specs.Prelude.{◌≡◌, ℕ, ◌≤◌, ◌⊎◌, ◌↔◌, IsTrue, IsOk, IfOk, OnErr, Ok, Err};
 ghost use Rattle.vm_ranges.specs.Cloning.{Clones};
 ghost use Rattle.vm_allocator.specs.Ids.{
@@ -25,14 +27,16 @@ use std::collections::BTreeSet;
 use std::marker::Model;
 use vm_ranges::{Error, Result};
 
-/// Gives out the ids of a range, each to one holder at a time.
+/// Allocates ids from a range, the lowest free id first.
+///
+/// An id is never allocated twice at the same time.
 #[derive(Debug, Drop)]
 pub struct IdAllocator {
     pub(crate) range_base: u32,
-    // The least id that was never handed out; none where that would pass `u32::MAX`.
+    // The lowest id that was never allocated, or `None` if it would be past `u32::MAX`.
     pub(crate) next_id: Option<u32>,
     pub(crate) range_end: u32,
-    // The ids that were handed out and are not held any more.
+    // The ids that were allocated and are free now.
     pub(crate) freed_ids: BTreeSet<u32>,
 }
 
@@ -48,7 +52,8 @@ impl Model for IdAllocator {
     ghost invariant = { λ a. AreIds a.range_base a.range_end a.next_id a.freed_ids };
 }
 
-/// The next id, where it is one of the range up to `range_end`.
+/// Returns the next id. Returns `Overflow` if there is none, and `ResourceNotAvailable` if it is
+/// past `range_end`.
 fn next_in_range(next_id: Option<u32>, range_end: u32) -> Result<u32>
     ensures { NextId next_id range_end result }
 {
@@ -59,7 +64,8 @@ fn next_in_range(next_id: Option<u32>, range_end: u32) -> Result<u32>
     }
 }
 
-/// The bound of the ids handed out: no id from there on was.
+/// Returns the bound of the ids: an id of the range was allocated at some time if and only if it is
+/// below the bound.
 pub(crate) fn bound_of(next: Option<u32>, end: u32) -> u64
     ensures { result ≡ bound_of next end }
 {
@@ -70,9 +76,14 @@ pub(crate) fn bound_of(next: Option<u32>, end: u32) -> u64
 }
 
 impl IdAllocator {
-    /// An allocator of the ids from `range_base` to `range_end`, both included, none of them handed
-    /// out yet. `InvalidRange(range_base, range_end)` where the end is below the base. It takes no
-    /// memory.
+    /// Creates an allocator for the ids from `range_base` to `range_end`, both included. All of
+    /// them are free.
+    ///
+    /// It does not allocate memory.
+    ///
+    /// # Errors
+    ///
+    /// - `InvalidRange(range_base, range_end)` if `range_end` is below `range_base`.
     #[tactic(auto, using(crate::proofs::Ids::IdFields::makes))]
     pub fn new(alloc: Global, range_base: u32, range_end: u32) -> Result<Self>
         ensures answer { MakesIds range_base range_end result }
@@ -89,13 +100,18 @@ impl IdAllocator {
         })
     }
 
-    /// A copy: the same range, held ids and ids ever handed out. `OutOfMemory` where there is no memory
-    /// for it. The ids given back ask the allocator that they came with: their own `clone` promises the
-    /// same set, where a new one would promise the same members.
+    /// Returns a copy. It has the same range, the same allocated ids and the same ids that were
+    /// allocated at some time.
+    ///
+    /// # Errors
+    ///
+    /// - `OutOfMemory` if an allocation of memory fails.
     #[tactic(auto, using(crate::proofs::Ids::IdFields::clones))]
     pub fn try_clone(&self, _alloc: Global) -> Result<Self>
         ensures { Clones self.now result }
     {
+        // The set is cloned with its own allocator, because the contract of `clone` promises an
+        // equal set. A new set would only have equal members.
         let freed_ids = self.freed_ids.clone()?;
         Ok(IdAllocator {
             range_base: self.range_base,
@@ -105,8 +121,15 @@ impl IdAllocator {
         })
     }
 
-    /// Takes the least id of the range that is not held. Where all are held, `Overflow` in a range up
-    /// to `u32::MAX`, and else `ResourceNotAvailable`. It takes no memory.
+    /// Allocates the lowest free id of the range, and returns it.
+    ///
+    /// It does not allocate memory, and always succeeds if an id is free.
+    ///
+    /// # Errors
+    ///
+    /// An error changes nothing.
+    /// - `Overflow` if all ids are allocated and the range ends at `u32::MAX`.
+    /// - `ResourceNotAvailable` if all ids are allocated and the range ends below `u32::MAX`.
     #[tactic(auto, using(crate::proofs::Ids::AllocatedIds::allocates))]
     pub fn allocate_id(&mut self) -> Result<u32>
         // The id is the lowest that is not held. It is held after the call, and nothing else changes.
@@ -126,7 +149,12 @@ impl IdAllocator {
         Ok(id)
     }
 
-    /// What `allocate_id` would answer, its refusals included; nothing is taken.
+    /// Returns the id that [`allocate_id`](Self::allocate_id) would allocate, and does not allocate
+    /// it.
+    ///
+    /// # Errors
+    ///
+    /// Those of [`allocate_id`](Self::allocate_id).
     #[tactic(auto, using(crate::proofs::Ids::AllocatedIds::peeks, crate::proofs::Ids::IdFields::states))]
     pub fn peek_id(&self) -> Result<u32>
         ensures answer { PeeksId self.now result }
@@ -139,7 +167,7 @@ impl IdAllocator {
         }
     }
 
-    /// Whether the id is held. No id outside the range is.
+    /// Returns whether the id is allocated. Returns `false` for an id outside the range.
     #[tactic(auto, using(crate::proofs::Ids::IdFields::holdings))]
     pub fn is_allocated(&self, id: u32) -> bool
         ensures value { IsTrue result ↔ IsHeld self.now id }
@@ -148,7 +176,9 @@ impl IdAllocator {
         self.was_allocated(id) && !self.freed_ids.contains(&id)
     }
 
-    /// How many ids are held. It takes no memory, and looks at none of them.
+    /// Returns the number of allocated ids.
+    ///
+    /// It does not visit the ids, and does not allocate memory.
     #[tactic(auto, using(crate::proofs::Ids::IdCounts::counts))]
     pub fn held_count(&self) -> u64
         ensures { result ≡ held_count self.now }
@@ -157,10 +187,15 @@ impl IdAllocator {
         ever_allocated - self.freed_ids.len() as u64
     }
 
-    /// Gives back an id that is held, and answers it. In this order: `OutOfRange(id)` where it is
-    /// outside the range, `NeverAllocated(id)` where it was never handed out, `AlreadyReleased(id)`
-    /// where it is not held any more, and `OutOfMemory` where a request for memory was refused. A
-    /// refusal changes nothing.
+    /// Frees an allocated id, and returns it.
+    ///
+    /// # Errors
+    ///
+    /// An error changes nothing. In this order:
+    /// - `OutOfRange(id)` if the id is outside the range.
+    /// - `NeverAllocated(id)` if the id was never allocated.
+    /// - `AlreadyReleased(id)` if the id was freed and was not allocated since.
+    /// - `OutOfMemory` if an allocation of memory fails.
     #[tactic(auto, using(crate::proofs::Ids::FreedIds::frees, crate::proofs::Callers::freed_id_state))]
     pub fn free_id(&mut self, id: u32) -> Result<u32>
         // A held id is freed unless memory runs out, and nothing else changes.
@@ -177,7 +212,7 @@ impl IdAllocator {
         if !self.was_allocated(id) {
             return Err(Error::NeverAllocated(id));
         }
-        // Only an id that is not in the set yet asks for memory.
+        // The set allocates memory only for an id that it does not contain yet.
         if self.freed_ids.insert(id)? {
             Ok(id)
         } else {
@@ -185,7 +220,7 @@ impl IdAllocator {
         }
     }
 
-    /// Whether the id is one of the range.
+    /// Returns whether the id is in the range.
     #[tactic(auto, using(crate::proofs::Ids::IdFields::states), unfolding(crate::specs::Ids::ids_of))]
     fn id_in_range(&self, id: u32) -> bool
         ensures value { IsTrue result ↔ IsOfRange self.now id }
@@ -194,7 +229,7 @@ impl IdAllocator {
         self.range_base <= id && id <= self.range_end
     }
 
-    /// Whether the id was handed out at some time.
+    /// Returns whether the id was allocated at some time.
     #[tactic(auto, using(crate::proofs::Ids::IdFields::states), unfolding(crate::specs::Ids::ids_of))]
     fn was_allocated(&self, id: u32) -> bool
         ensures value { IsTrue result ↔ WasEverAllocated self.now id }

@@ -1,5 +1,6 @@
-//! Laws: theorems about the definitions that the calls' contracts cite. Each is the contract of a
-//! function that does nothing.
+//! Laws: theorems about the definitions that the contracts of the calls cite.
+//!
+//! Each law is the contract of a function that does nothing.
 mod histories;
 mod id_histories;
 mod ids;

@@ -1,4 +1,7 @@
-//! Gives out ranges of addresses and ids.
+//! Allocators of address ranges and of ids.
+//!
+//! - [`AddressAllocator`] allocates ranges of 64-bit addresses from one space.
+//! - [`IdAllocator`] allocates 32-bit ids from a range, the lowest free id first.
 #![tactic(auto)]
 
 mod address_allocator;

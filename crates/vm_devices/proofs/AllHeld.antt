@@ -1,4 +1,4 @@
--- Devices that are as many as the held ids and the held ranges, each with its own, pair them all.
+-- Devices pair all held ids with all held ranges if their number is right, and they are held and distinct.
 use Rattle.std.proofs.Common.{◌≡◌, ◌≢◌, ℕ, List, [], ◌∷◌, refl, sym, ap, ◌∙◌, arith, inl, inr, ⊎_elim, subst, Option, Some, None, IsSome, IsTrue}
 use Rattle.std.proofs.lemmas.Bool.{both_ways}
 use Rattle.std.proofs.lemmas.List.Elements.{All-nil, All-cons, Contains-get_or}
@@ -20,7 +20,7 @@ use Rattle.vm_devices.specs.Devices.{DeviceState, IsDevice, ArePaired}
 use Rattle.vm_devices.specs.SavedChecks.{AreHeldAndDistinct, AreAllHeld}
 use Rattle.vm_devices.proofs.Entries.{IsEntry, Rise, head_below, rest_increases, found_entry, entry_found, entry_of_id, entry_of_range, has_id, has_range, ids_differ}
 
--- ---- each has its own
+-- ---- Each device is held and distinct
 module _ (ids : IdState) (space : AddressState) where
   each_held : (seen : set.FinSet nat_cmp) (es : List (ℕ × Range)) (id : ℕ) (r : Range) → AreHeldAndDistinct ids space seen es → IsEntry es id r →
       IsHeld ids id × Contains space.held r × ¬ IsTrue (set.contains seen r.start)
@@ -34,7 +34,7 @@ module _ (ids : IdState) (space : AddressState) where
       let i = each_held (set.insert seen e.1.start) es id r a.3 h in
       (i.0, i.1, λ t. i.2 (inserted_other seen e.1.start r.start t))
 
-  -- what stands behind a device starts elsewhere
+  -- A device after another one has another start.
   starts_elsewhere : (seen : set.FinSet nat_cmp) (e : ℕ × Range) (es : List (ℕ × Range)) (id : ℕ) (r : Range) → AreHeldAndDistinct ids space seen (e ∷ es) → IsEntry es id r → ¬ (r.start ≡ e.1.start)
   starts_elsewhere seen e es id r a h same =
       (each_held (set.insert seen e.1.start) es id r a.3 h).2 (subst (λ (v : ℕ). IsTrue (set.contains (set.insert seen e.1.start) v)) (sym same) (inserted_here seen e.1.start))
@@ -64,8 +64,8 @@ module _ (ids : IdState) (space : AddressState) where
       starts_elsewhere seen e es i.0 e.1 a i.1 refl)
       (ranges_differ (set.insert seen e.1.start) es a.3)
 
--- ---- the pairs of a table
--- a map of entries, as the devices of a state
+-- ---- The pairs of a table
+-- The entries of a map, as the devices of a state.
 module _ (state : DeviceState) (es : List (ℕ × Range)) (is : state.devices ≡ map.from_entries es) (s : Rise es) where
   device_entry : (id : ℕ) (r : Range) → IsDevice state id r → IsEntry es id r
   device_entry id r d =
@@ -98,7 +98,7 @@ module _ (state : DeviceState) (es : List (ℕ × Range)) (is : state.devices �
         once = λ j k r d e. one_id state.ids state.space set.empty es j k r a.apart (device_entry j r d) (device_entry k r e);
       }
 
-  -- two devices that start alike are one
+  -- Two devices with the same start are the same device.
   one_start : IsAddressState state.space → ArePaired state → (j k : ℕ) (q r : Range) → IsEntry es j q → IsEntry es k r → q.start ≡ r.start → j ≡ k
   unfolding Overlaps
   one_start i p j k q r d e same =
@@ -110,7 +110,7 @@ module _ (state : DeviceState) (es : List (ℕ × Range)) (is : state.devices �
       let one : q ≡ r = l.apart q r first second (q.start, (omega arith, within), (omega (arith, same), omega (arith, same, other))) in
       p.once j k r (subst (IsDevice state j) one (entry_device j q d)) (entry_device k r e)
 
-  -- so some of the devices, which do not start where those seen before them do, have each its own
+  -- So devices that have no start in `seen` are held and distinct.
   apart_from : IsAddressState state.space → ArePaired state → (seen : set.FinSet nat_cmp) (fs : List (ℕ × Range)) → Rise fs →
       ((id : ℕ) (r : Range) → IsEntry fs id r → IsEntry es id r) → ((id : ℕ) (r : Range) → IsEntry fs id r → ¬ IsTrue (set.contains seen r.start)) →
       AreHeldAndDistinct state.ids state.space seen fs

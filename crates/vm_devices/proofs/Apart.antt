@@ -1,4 +1,4 @@
--- Devices gone through one by one: whether those that are left have each its own, behind the starts seen so far.
+-- The devices one by one: the devices that are left are held and distinct, after the starts seen so far.
 use Rattle.std.proofs.Common.{◌≡◌, ℕ, ◌↔◌, true, false, List, ◌∷◌, sym, ap, ◌∙◌, subst, ⊎_elim, IsTrue}
 use Rattle.std.proofs.lemmas.Bool.{cases_eq, both_ways}
 use Rattle.std.specs.Cmp.{nat_cmp_total}
@@ -12,7 +12,7 @@ use Rattle.vm_engine.specs.Address.{AddressState}
 use Rattle.vm_allocator.specs.Ids.{IdState, IsHeld}
 use Rattle.vm_devices.specs.SavedChecks.{AreHeldAndDistinct}
 
--- the starts in a set, as a finite set
+-- The starts in a set, as a finite set.
 abbrev seen : BTreeSet ℕ → set.FinSet nat_cmp
 seen starts = set.from_list starts.keys
 
@@ -38,14 +38,15 @@ one_more_seen starts more k u =
     (cases_eq k q))
     (from_inserted (seen starts) k q h))
 
--- one of the devices, with those behind it, where the whole is so if they and those that are left are
+-- One of the devices and the devices after it. The whole is true if and only if it is true for the devices that are
+-- left.
 pub record IsAt (ids : IdState) (space : AddressState) (whole : Type 0) (starts : BTreeSet ℕ) (e : ℕ × Range) (rest : List (ℕ × Range)) : Type 0 where
   pub left : List (ℕ × Range)
   pub at : left ≡ e ∷ rest
   pub so_far : whole ↔ AreHeldAndDistinct ids space (seen starts) left
 
 module _ {ids : IdState} {space : AddressState} {whole : Type 0} {starts : BTreeSet ℕ} {e : ℕ × Range} {rest : List (ℕ × Range)} (h : IsAt ids space whole starts e rest) where
-  -- behind one that has its own
+  -- The step for a device that is held and has a new start.
   pub one_apart : (more : BTreeSet ℕ) → IsHeld ids e.0 → Contains space.held e.1 → contains nat_cmp starts e.1.start ≡ false →
       Updates nat_cmp starts more e.1.start true → whole ↔ AreHeldAndDistinct ids space (seen more) rest
   one_apart more id range new u =
@@ -59,7 +60,7 @@ module _ {ids : IdState} {space : AddressState} {whole : Type 0} {starts : BTree
             h.so_far.1 (subst (AreHeldAndDistinct ids space (seen starts)) (sym h.at) (id, range, fresh, others)),
       )
 
-  -- one that starts where an earlier one does
+  -- A device with the start of an earlier device.
   pub one_twice : contains nat_cmp starts e.1.start ≡ true → ¬ whole
   one_twice old w =
       let all = subst (AreHeldAndDistinct ids space (seen starts)) h.at (h.so_far.0 w) in

@@ -1,4 +1,4 @@
--- What a caller wants to know of devices that it reserved.
+-- Facts for callers about reserved devices.
 use Rattle.std.proofs.Common.{◌≡◌, ℕ, ◌%◌, sym, ap, ⊎_elim, subst, Result, Ok, Err, IfOk, OnOk}
 use Rattle.vm_ranges.specs.Range.{Range, Overlaps, address_count}
 use Rattle.vm_engine.specs.Address.{holding}
@@ -14,7 +14,7 @@ use Rattle.vm_devices.proofs.DevicesAgain.{reserved_again}
 use Rattle.vm_devices.proofs.Reserving.{reserved_device, releasing_outcome}
 use Rattle.vm_devices.proofs.Tables.{with_here}
 
--- the range of a device starts at a multiple of the alignment
+-- The range of a device starts at a multiple of the alignment.
 pub device_aligned : (old new : DeviceState) (size align : ℕ) (policy : AllocPolicy) (answer : Result DeviceSlot Error) →
     Reserves old (request_for size align policy) answer new → IfOk answer (λ slot. slot.range.start % align ≡ 0)
 device_aligned old new size align policy (Ok slot) h =
@@ -22,7 +22,7 @@ device_aligned old new size align policy (Ok slot) h =
     allocated_aligned old.space (holding slot.range old.space) size align policy (Ok slot.range) d.given
 device_aligned old new size align policy (Err e) h = tt
 
--- and has as many addresses as were asked for
+-- The range of a device has the requested number of addresses.
 pub device_long : (old new : DeviceState) (size align : ℕ) (policy : AllocPolicy) (answer : Result DeviceSlot Error) →
     Reserves old (request_for size align policy) answer new → IfOk answer (λ slot. address_count slot.range ≡ size)
 device_long old new size align policy (Ok slot) h =
@@ -35,24 +35,24 @@ pub device_fits : (old new : DeviceState) (size align : ℕ) (policy : AllocPoli
 device_fits old new size align policy (Ok slot) h = (device_long old new size align policy (Ok slot) h, device_aligned old new size align policy (Ok slot) h)
 device_fits old new size align policy (Err e) h = tt
 
--- it is at the place that the policy chooses
+-- The range of a device is at the place that the policy chooses.
 pub device_chosen : (old new : DeviceState) (request : Request) (answer : Result DeviceSlot Error) → Reserves old request answer new → IfOk answer (λ slot. IsChosen request old.space slot.range.start)
 device_chosen old new request (Ok slot) h =
     let d = reserved_device old new request slot h in
     allocated_chosen old.space (holding slot.range old.space) request (Ok slot.range) d.given
 device_chosen old new request (Err e) h = tt
 
--- the id of a device is the least that was not held
-pub device_least : (old new : DeviceState) (request : Request) (answer : Result DeviceSlot Error) → Reserves old request answer new → IfOk answer (λ slot. IsLowestNotHeld old.ids slot.id)
-device_least old new request (Ok slot) h = (reserved_device old new request slot h).lowest
-device_least old new request (Err e) h = tt
+-- The id of a device is the lowest that was not held.
+pub device_lowest : (old new : DeviceState) (request : Request) (answer : Result DeviceSlot Error) → Reserves old request answer new → IfOk answer (λ slot. IsLowestNotHeld old.ids slot.id)
+device_lowest old new request (Ok slot) h = (reserved_device old new request slot h).lowest
+device_lowest old new request (Err e) h = tt
 
--- and nothing but this device is there after it
+-- Only this device is added.
 pub device_state : (old new : DeviceState) (request : Request) (answer : Result DeviceSlot Error) → Reserves old request answer new → IfOk answer (λ slot. new ≡ with_device slot.id slot.range old)
 device_state old new request (Ok slot) h = (reserved_device old new request slot h).left
 device_state old new request (Err e) h = tt
 
--- a device that is released is there no more, and nothing else changes
+-- A released device is removed, and nothing else changes.
 pub released_device : (old new : DeviceState) (id : ℕ) (answer : Result (Unit {0}) Error) → Releases old id answer new → OnOk answer ((r : Range) × IsDevice old id r × (new ≡ without_device id r old))
 released_device old new id (Ok u) h =
     ⊎_elim
@@ -61,14 +61,14 @@ released_device old new id (Ok u) h =
     (releasing_outcome old new id (Ok u) h)
 released_device old new id (Err e) h = tt
 
--- it is a device from then on
+-- A reserved device is a device of the manager.
 pub device_there : (old new : DeviceState) (request : Request) (answer : Result DeviceSlot Error) → Reserves old request answer new → IfOk answer (λ slot. IsDevice new slot.id slot.range)
 device_there old new request (Ok slot) h =
     let d = reserved_device old new request slot h in
     subst (λ (s : DeviceState). IsDevice s slot.id slot.range) (sym d.left) (with_here old.devices slot.id slot.range)
 device_there old new request (Err e) h = tt
 
--- two that were reserved one after the other have no address in common
+-- Two devices that were reserved one after the other share no address.
 pub devices_share_none : (old mid new : DeviceState) (first second : Request) (slot other : DeviceSlot) → Reserves old first (Ok slot) mid →
     Reserves mid second (Ok other) new → ¬ Overlaps slot.range other.range
 devices_share_none old mid new first second slot other h k =
@@ -77,7 +77,7 @@ devices_share_none old mid new first second slot other h k =
     let space : mid.space ≡ holding slot.range old.space = ap (λ (s : DeviceState). s.space) d.left in
     allocated_apart old.space mid.space (holding other.range mid.space) first second slot.range other.range (subst (Allocates old.space first (Ok slot.range)) (sym space) d.given) e.given
 
--- a device that is released at once is reserved again by the same request
+-- A device that is released at once is reserved again by the same request.
 pub device_again : (old mid new later : DeviceState) (request : Request) (slot : DeviceSlot) (answer : Result DeviceSlot Error) → IsDeviceState old →
     Reserves old request (Ok slot) mid → Releases mid slot.id (Ok tt) new → Reserves new request answer later → IfOk answer (λ again. again ≡ slot)
 device_again old mid new later request slot (Ok again) i s f t =

@@ -1,4 +1,5 @@
--- What the calls of a manager need: the answers of its parts make its own. A record is what a call comes with.
+-- The results of the calls of a manager follow from the results of its parts. A record has the facts of one case of a
+-- call.
 use Rattle.std.proofs.Common.{◌≡◌, ℕ, ◌⊎◌, refl, sym, ap, ◌∙◌, inl, inr, ⊎_elim, subst, Some, None, Result, Ok, Err}
 use Rattle.std.specs.Ordering.{nat_cmp}
 use Rattle.std.specs.BTreeMap.{BTreeMap, IsEmpty, IsUnchanged, Updates}
@@ -22,17 +23,17 @@ use Rattle.vm_devices.proofs.Pairs.{id_held}
 use Rattle.vm_devices.proofs.NewManagers.{IsMade, no_devices}
 use Rattle.vm_devices.proofs.Reserving.{reserved_state, released_state}
 
--- ids, a space and a table, as a manager has them
+-- The ids, the space and the table of a manager.
 pub record Parts : Type 0 where
   pub ids : IdState
   pub space : AddressState
   pub slots : BTreeMap ℕ Range
 
--- the state that they stand for
+-- The state that they represent.
 abbrev pub state_in : Parts → DeviceState
 state_in p = devices_of p.ids p.space p.slots
 
--- ---- making
+-- ---- Creating
 pub ids_refused : (lo hi base size : ℕ) (e : Error) → MakesIds lo hi (Err e) → MakesManager lo hi base size (Err e)
 unfolding MakesManager
 ids_refused lo hi base size e m = let space = every_call.made base size in (Err e, space.0, m, space.1, refl)
@@ -54,8 +55,8 @@ manager_state {lo} {hi} {base} {size} new m e =
 
 pub ruleset makes_managers = (ids_refused, space_refused, manager_made)
 
--- ---- reserving
--- an id that is foretold is the least
+-- ---- Reserving
+-- The id that `peek_id` returned is the lowest.
 for_peeked : (ids : IdState) (id : ℕ) (takes : ℕ → Type 0) (refused : Error → Type 0) → PeeksId ids (Ok id) → takes id → ByLowestNotHeld ids takes refused
 unfolding PeeksId ByLowestNotHeld
 for_peeked ids id takes refused (inl h) t = let same : id ≡ h.0 = cc (h.2) in inl (h.0, h.1, subst takes same t)
@@ -69,7 +70,7 @@ id_refused old new request e (inr (all, inl h)) same = let is : e ≡ Overflow =
 id_refused old new request e (inr (all, inr h)) same =
     let is : e ≡ ResourceNotAvailable = cc (h.1) in inr (all, inr (h.0, (ap (λ (v : Error). Err v) is, same)))
 
--- an id is foretold, and a range asked for
+-- `peek_id` returned an id, and a range is requested.
 pub record IsAsked (old : DeviceState) (request : Request) (given : Result Range Error) : Type 0 where
   pub id : ℕ
   pub space : AddressState
@@ -85,7 +86,7 @@ pub table_refused : {old new : DeviceState} {request : Request} {r : Range} → 
 unfolding Reserves
 table_refused {old} {new} {request} {r} a same = for_peeked old.ids a.id _ _ a.predicted (Ok r, a.space, a.answer, inr (refl, same))
 
--- a range is given and given back, and the table left as it was
+-- A range is allocated and freed, and the table is unchanged.
 pub record IsUndone (old : Parts) (later : AddressState) (left : BTreeMap ℕ Range) : Type 0 where
   pub mid : AddressState
   pub request : Request
@@ -95,7 +96,7 @@ pub record IsUndone (old : Parts) (later : AddressState) (left : BTreeMap ℕ Ra
   pub back : Frees mid range answer later
   pub unchanged : IsUnchanged old.slots left
 
--- that is the state from before
+-- The state is then the state before.
 pub undone : {old : Parts} {later : AddressState} {left : BTreeMap ℕ Range} → IsDeviceState (state_in old) → IsUndone old later left →
     devices_of old.ids later left ≡ state_in old
 undone {old} {later} {left} i u =
@@ -103,7 +104,7 @@ undone {old} {later} {left} i u =
     ap (λ (s : AddressState). devices_of old.ids s left) back
     ∙ ap (λ es. record { ids = old.ids; space = old.space; devices = map.from_entries es }) u.unchanged
 
--- the id that was foretold and a range are given, and entered in the table
+-- The predicted id and a range are allocated, and entered in the table.
 pub record Comes (old new : Parts) (request : Request) (slot : DeviceSlot) : Type 0 where
   pub answer : Result ℕ Error
   pub predicted : PeeksId old.ids (Ok slot.id)
@@ -111,7 +112,7 @@ pub record Comes (old new : Parts) (request : Request) (slot : DeviceSlot) : Typ
   pub given : Allocates old.space request (Ok slot.range) new.space
   pub entered : Updates nat_cmp old.slots new.slots slot.id (Some slot.range)
 
--- that is a device that comes
+-- A device is then reserved.
 pub come : {old new : Parts} {request : Request} {slot : DeviceSlot} → Comes old new request slot → Reserves (state_in old) request (Ok slot) (state_in new)
 unfolding Reserves
 come {old} {new} {request} {slot} c =
@@ -124,12 +125,12 @@ pub come_state : {old new : Parts} {request : Request} {slot : DeviceSlot} → I
     IsDeviceState (state_in new)
 come_state {old} {new} {request} {slot} i c = reserved_state (state_in old) (state_in new) request (Ok slot) i (come c)
 
--- ---- releasing
+-- ---- Releasing
 pub no_device : (old new : DeviceState) (id : ℕ) → map.get old.devices id ≡ None → new ≡ old → Releases old id (Err (NeverAllocated id)) new
 unfolding Releases
 no_device old new id e same = rw e (refl, same)
 
--- the id of a device is held, so only memory refuses to take it back
+-- The id of a device is held, so freeing it fails only if memory runs out.
 pub release_refused : (old new : DeviceState) (id : ℕ) (r : Range) (e : Error) (back : Result ℕ Error) → IsDeviceState old → IsDevice old id r →
     (IsHeld old.ids id → (back ≡ Ok id) ⊎ (back ≡ Err OutOfMemory)) → back ≡ Err e → new ≡ old → Releases old id (Err e) new
 unfolding Releases
@@ -150,7 +151,7 @@ unfolding Frees
 range_freed old new r answer c (inl a) = a.1.1
 range_freed old new r answer c (inr a) = absurd (a.0 c)
 
--- the id and the range of a device are given back, and it is taken out of the table
+-- The id and the range of a device are freed, and its entry is removed from the table.
 pub record Goes (old new : Parts) (id : ℕ) : Type 0 where
   pub range : Range
   pub back : ℕ
@@ -160,7 +161,7 @@ pub record Goes (old new : Parts) (id : ℕ) : Type 0 where
   pub freed_range : Frees old.space range answer new.space
   pub removed : Updates nat_cmp old.slots new.slots id None
 
--- that is a device that goes
+-- The device is then released.
 pub go : {old new : Parts} {id : ℕ} → IsDeviceState (state_in old) → Goes old new id → Releases (state_in old) id (Ok tt) (state_in new)
 unfolding Releases
 go {old} {new} {id} i g =

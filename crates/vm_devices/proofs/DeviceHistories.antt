@@ -1,4 +1,4 @@
--- What holds along every history of a manager.
+-- Facts of every history of a manager.
 use Rattle.std.proofs.Common.{◌≡◌, ◌≢◌, ℕ, ◌<◌, ◌⊎◌, List, [], ◌∷◌, suc, arith, sym, ap, ◌∙◌, inl, inr, ⊎_elim, subst, Some, None, Ok}
 use Rattle.std.proofs.lemmas.Bool.{cases_eq}
 use Rattle.std.specs.Ordering.{nat_cmp}
@@ -19,7 +19,7 @@ use Rattle.vm_devices.proofs.NewManagers.{made_state}
 use Rattle.vm_devices.proofs.SavedManagers.{encoded_state}
 use Rattle.vm_devices.proofs.Reserving.{reserving_outcome, releasing_outcome, reserved_state, released_state}
 
--- ---- every state that is reached is one
+-- ---- Every reached state is valid
 call_state : (old new : DeviceState) (call : DeviceCall) → IsDeviceCallFrom old call new → IsDeviceState old → IsDeviceState new
 call_state old new (Reservation request answer) h i = reserved_state old new request answer i h
 call_state old new (Release id answer) h i = released_state old new id answer i h
@@ -35,13 +35,13 @@ first_state first (inr r) = encoded_state r.value first r.encoded
 reached_state : (calls : List DeviceCall) (old : DeviceState) → AreDevicesReached calls old → IsDeviceState old
 reached_state calls old r = history_state calls r.first old r.history (first_state r.first r.begins)
 
--- ---- each device was reserved
+-- ---- Each device was reserved
 reserved_later : (call : DeviceCall) (calls : List DeviceCall) (id : ℕ) (r : Range) → WasReserved calls id r → WasReserved (call ∷ calls) id r
 reserved_later call calls id r g =
     let c = g.call in
     record { request = g.request; call = (suc c.0, omega (arith, c.1), c.2); aligned = g.aligned; long = g.long }
 
--- a device after a call was one before it, or the call reserved it
+-- A device after a call was a device before it, or the call reserved it.
 call_reserves : (old new : DeviceState) (call : DeviceCall) (calls : List DeviceCall) (id : ℕ) (r : Range) → IsDeviceCallFrom old call new → IsDeviceState old →
     IsDevice new id r → IsDevice old id r ⊎ WasReserved (call ∷ calls) id r
 call_reserves old new (Reservation request answer) calls id r h i d =
@@ -80,7 +80,7 @@ history_reserves (call ∷ calls) first last id r h i d =
     (λ (g : WasReserved calls id r). inr (reserved_later call calls id r g))
     (history_reserves calls h.0 last id r h.2 (call_state first h.0 call h.1 i) d)
 
--- a new manager has no device, so each was reserved, or stated by the value that was read
+-- A new manager has no device. So a device of the first state is from the value that was read.
 first_devices : (first : DeviceState) (id : ℕ) (r : Range) → IsManagerMade first ⊎ IsManagerRead first → IsDevice first id r → WasRead first id r
 first_devices first id r (inl m) k =
     let made = made_state m.lo m.hi m.base m.size first m.id m.word m.made in
@@ -95,7 +95,7 @@ reached_reserved calls old id r h d =
     (λ (g : WasReserved calls id r). inl g)
     (history_reserves calls h.first old id r h.history (first_state h.first h.begins) d)
 
--- ---- where devices lie
+-- ---- The ids and ranges of devices
 devices_apart : (old : DeviceState) (i j : ℕ) (r s : Range) → IsDeviceState old → IsDevice old i r → IsDevice old j s → i ≢ j → ¬ Overlaps r s
 devices_apart old i j r s is d f ne o =
     let p = is.pairs in

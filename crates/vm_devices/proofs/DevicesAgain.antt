@@ -1,4 +1,4 @@
--- What a released device held is reserved again.
+-- The id and the range of a released device can be reserved again.
 use Rattle.std.proofs.Common.{◌≡◌, ◌≢◌, ℕ, ◌≤◌, ◌⊎◌, arith, refl, sym, ap, ◌∙◌, inl, inr, ⊎_elim, subst, Option, MatchOption, Result, Ok, Err}
 use Rattle.std.specs.FinMap as map
 use Rattle.vm_ranges.proofs.NumberSets.{inserted_other, removed_other, from_removed}
@@ -21,7 +21,7 @@ use Rattle.vm_devices.proofs.Tables.{with_here}
 use Rattle.vm_devices.proofs.Pairs.{id_held}
 use Rattle.vm_devices.proofs.Reserving.{reserved_device}
 
--- a device that is released without want of memory is gone
+-- A device that was released is gone, unless memory ran out.
 device_released : (old new : DeviceState) (id : ℕ) (r : Range) (answer : Result (Unit {0}) Error) → IsDevice old id r → Releases old id answer new →
     answer ≢ Err OutOfMemory → new ≡ without_device id r old
 unfolding Releases
@@ -31,7 +31,7 @@ device_released old new id r answer d h plain =
     (λ r. ((answer ≡ Ok tt) × (new ≡ without_device id r old)) ⊎ ((answer ≡ Err OutOfMemory) × (new ≡ old))) in
     ⊎_elim (λ t. t.1) (λ m. absurd (plain m.0)) (subst P d h)
 
--- what a request for a range comes to, for an id
+-- The result of a reservation, if its request gets the range or its split fails.
 told : (old new : DeviceState) (id : ℕ) (given : Result Range Error) (answer : Result DeviceSlot Error) (r : Range) →
     Pairs old id given answer new → (given ≡ Ok r) ⊎ IsSplitRefusal old.space given → (answer ≡ Ok (record { id = id; range = r })) ⊎ IsLimit old answer
 told old new id given answer r p (inl e) =
@@ -41,8 +41,8 @@ told old new id given answer r p (inr (inl e)) =
 told old new id given answer r p (inr (inr e)) =
     inr (inr (e.0, (subst (λ (g : Result Range Error). Pairs old id g answer new) e.1 p).0))
 
--- ---- the same request
--- the id that was taken and given back is the least again
+-- ---- The same request
+-- The id that was allocated and freed is the lowest again.
 lowest_again : (ids : IdState) (id : ℕ) → IsLowestNotHeld ids id → IsLowestNotHeld (releasing_id id (holding_id id ids)) id
 unfolding IsLowestNotHeld
 lowest_again ids id h = (
@@ -50,13 +50,13 @@ lowest_again ids id h = (
   λ j n. h.1 j (n.0, λ k. n.1 (removed_other (holding_id id ids).held id j (λ e. h.0.1 (subst (IsHeld ids) e k)) (inserted_other ids.held id j k))),
 )
 
--- where an id is the least that is not held, a request is for that one
+-- The lowest id that is not held is the id that is allocated.
 for_lowest : (ids : IdState) (id : ℕ) (takes : ℕ → Type 0) (refused : Error → Type 0) → IsLowestNotHeld ids id → ByLowestNotHeld ids takes refused → takes id
 unfolding ByLowestNotHeld AreAllHeld IsLowestNotHeld
 for_lowest ids id takes refused lowest (inl h) = subst takes (one_lowest ids h.0 id h.1 lowest) h.2
 for_lowest ids id takes refused lowest (inr h) = absurd (lowest.0.1 (h.0 id lowest.0.0))
 
--- the same range is given, or the split is refused
+-- The same range is allocated, or its split fails.
 same_given : (old new : AddressState) (request : Request) (r : Range) (given : Result Range Error) →
     Allocates old request (Ok r) (holding r old) → Allocates old request given new → (given ≡ Ok r) ⊎ IsSplitRefusal old given
 same_given old new request r given a b =
@@ -82,8 +82,8 @@ reserved_again old mid new later request slot released answer i s f plain t =
     let first = subst (λ (v : AddressState). Allocates v request (Ok r) (holding r v)) (sym space) m.given in
     told new later id u.0 answer r u.3 (same_given new.space u.1 request r u.0 first u.2)
 
--- ---- the same range
--- an id that is given back leaves one that is not held
+-- ---- The same range
+-- After an id is freed, some id is not held.
 for_some : (ids : IdState) (id : ℕ) (takes : ℕ → Type 0) (refused : Error → Type 0) → (ids.lo ≤ id) × (id ≤ ids.hi) → ByLowestNotHeld (releasing_id id ids) takes refused → (some : ℕ) × takes some
 unfolding ByLowestNotHeld AreAllHeld
 for_some ids id takes refused inside (inl h) = (h.0, h.2)

@@ -1,4 +1,4 @@
--- A call of a manager has one answer, where memory suffices and few ranges are held.
+-- A call of a manager has one result, if memory suffices and few ranges are held.
 use Rattle.std.proofs.Common.{◌≡◌, ◌≢◌, ℕ, ◌<◌, ◌⊎◌, length, sym, ap, ◌∙◌, ⊎_elim, subst, Option, Some, None, MatchOption, Result, Ok, Err}
 use Rattle.std.specs.FinMap as map
 use Rattle.vm_ranges.specs.Range.{Range}
@@ -14,7 +14,7 @@ use Rattle.vm_devices.specs.declared.device_slot.DeviceSlot.{DeviceSlot}
 use Rattle.vm_devices.specs.Devices.{DeviceState, made_devices, without_device, MakesManager, Pairs, Reserves, Releases}
 use Rattle.vm_devices.specs.Laws.{DevicesDecide}
 
--- ---- making
+-- ---- Creating
 made_with : (base size : ℕ) (ids : Result IdState Error) (x y : Result AddressState Error) (answer other : Result DeviceState Error) → answer ≢ Err OutOfMemory →
     other ≢ Err OutOfMemory → Makes base size x → Makes base size y → answer ≡ made_devices ids x → other ≡ made_devices ids y → answer ≡ other
 made_with base size (Err e) x y answer other p q m n a b = a ∙ sym b
@@ -30,8 +30,8 @@ manager_once lo hi base size answer other p q a b =
     let ids = making_is_determined lo hi a.0 b.0 a.2 b.2 in
     made_with base size b.0 a.1 b.1 answer other p q a.3 b.3 (a.4 ∙ ap (λ (i : Result IdState Error). made_devices i a.1) ids) b.4
 
--- ---- reserving
--- two answers for one id, with the states that they leave
+-- ---- Reserving
+-- Two results for one id, and the states that they leave.
 module _ (old new later : DeviceState) (id : ℕ) (answer other : Result DeviceSlot Error) (p : answer ≢ Err OutOfMemory) (q : other ≢ Err OutOfMemory) where
   pairs_once : (given : Result Range Error) → Pairs old id given answer new → Pairs old id given other later → (answer ≡ other) × (new ≡ later)
   pairs_once (Err e) a b = (a.0 ∙ sym b.0, a.1 ∙ sym b.1)
@@ -41,7 +41,7 @@ module _ (old new later : DeviceState) (id : ℕ) (answer other : Result DeviceS
       (λ m. absurd (p m.0))
       a
 
--- an answer that memory ran out for the range is told
+-- If memory ran out for the range, the result is OutOfMemory.
 plain_range : (old new : DeviceState) (id : ℕ) (given : Result Range Error) (answer : Result DeviceSlot Error) → answer ≢ Err OutOfMemory → Pairs old id given answer new → given ≢ Err OutOfMemory
 plain_range old new id given answer plain p e =
     plain ((subst (λ (g : Result Range Error). Pairs old id g answer new) e p).0)
@@ -56,7 +56,7 @@ reserved_once old new later request answer other p q few a b =
     pairs_once old new later id answer other p q v.0 (subst (λ (g : Result Range Error). Pairs old id g answer new) same.0 u.3) v.3)
     (λ e u v. (u.0 ∙ sym v.0, u.1 ∙ sym v.1))
 
--- ---- releasing
+-- ---- Releasing
 abbrev ReleasesAt : DeviceState → ℕ → Option Range → Result (Unit {0}) Error → DeviceState → Type 0
 ReleasesAt old id at answer new =
     MatchOption at

@@ -1,4 +1,4 @@
--- Entries of a list whose ids rise.
+-- The entries of a list whose ids are strictly increasing.
 use Rattle.std.proofs.Common.{◌≡◌, ◌≢◌, ℕ, ◌<◌, ◌⊎◌, true, false, cond, List, [], ◌∷◌, length, sym, ap, ◌∙◌, arith, inl, inr, ⊎_elim, subst, zero, suc, Some, Less}
 use Rattle.std.proofs.lemmas.Bool.{eq-eqb, ne_eqb, cases_eq}
 use Rattle.std.proofs.lemmas.Option.{same_Some}
@@ -14,13 +14,13 @@ use Rattle.std.specs.FinMap as map
 use Rattle.vm_ranges.proofs.Items.{less_is}
 use Rattle.vm_ranges.specs.Range.{Range}
 
--- ---- entries of a list
--- the id stands in the list with the range
+-- ---- The entries of a list
+-- The list contains the id with the range.
 abbrev pub IsEntry : List (ℕ × Range) → ℕ → Range → Type 0
 IsEntry [] id r = ⊥
 IsEntry (e ∷ es) id r = (e ≡ (id, r)) ⊎ IsEntry es id r
 
--- the ids rise
+-- The ids are strictly increasing.
 abbrev pub Rise : List (ℕ × Range) → Type 0
 Rise es = IsStrictlySortedBy nat_cmp (keys_of es)
 
@@ -62,7 +62,7 @@ entry_found (e ∷ es) id r s (inr h) =
     let above = head_below e es id r s h in
     ap (λ t. cond t (Some e.1) (map.find nat_cmp id es)) (not_tied id e.0 (λ k. omega (arith, above))) ∙ entry_found es id r (rest_increases e es s) h
 
--- an id of the list stands in it with some range, and a range with some id
+-- An id of the list has some range, and a range of the list has some id.
 pub entry_of_id : (es : List (ℕ × Range)) (id k : ℕ) → k < length (keys_of es) → slice_index_or (keys_of es) k id ≡ id → (r : Range) × IsEntry es id r
 entry_of_id [] id k l h = absurd (omega arith)
 entry_of_id (e ∷ es) id zero l h = (e.1, inl (ap (λ (v : ℕ). (v, e.1)) h))
@@ -83,7 +83,7 @@ has_range [] id r h = absurd h
 has_range (e ∷ es) id r (inl k) = (0, omega arith, ap (λ (v : ℕ × Range). v.1) k)
 has_range (e ∷ es) id r (inr h) = let c = has_range es id r h in (suc c.0, omega (arith, c.1), c.2)
 
--- no two ids are the same
+-- The ids are different.
 pub ids_differ : (es : List (ℕ × Range)) → Rise es → AllPairs (λ i j. i ≢ j) (keys_of es)
 ids_differ [] s = λ i j d l m. absurd (omega (arith, m))
 ids_differ (e ∷ es) s =

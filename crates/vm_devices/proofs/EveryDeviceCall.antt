@@ -1,4 +1,4 @@
--- Every call of a manager has an answer, and so every list of calls a history.
+-- Every call of a manager has a result, so every list of calls has a history.
 use Rattle.std.proofs.Common.{◌≡◌, ◌≢◌, ℕ, List, [], ◌∷◌, refl, ap, inl, inr, Option, Some, None, Result, Ok, Err}
 use Rattle.std.proofs.lemmas.List.Elements.{All-nil, All-cons}
 use Rattle.std.specs.FinMap as map
@@ -17,7 +17,7 @@ use Rattle.vm_devices.specs.Devices.{DeviceState, made_devices, with_device, wit
 use Rattle.vm_devices.specs.Histories.{Reservation, Release, DeviceAsked, Reserve, GiveBack, RunsOutOfMemory}
 use Rattle.vm_devices.specs.Laws.{EveryDeviceCallIsAnswered, EveryDeviceListHasHistory}
 
--- ---- making
+-- ---- Creating
 made_plainly : (ids : Result IdState Error) (space : Result AddressState Error) → ids ≢ Err OutOfMemory → space ≢ Err OutOfMemory → made_devices ids space ≢ Err OutOfMemory
 made_plainly (Err e) space p q h = let same : e ≡ OutOfMemory = cc (h) in p (ap (λ (v : Error). Err v) same)
 made_plainly (Ok ids) (Err e) p q h = let same : e ≡ OutOfMemory = cc (h) in q (ap (λ (v : Error). Err v) same)
@@ -33,8 +33,8 @@ total_makes lo hi base size =
       made_plainly ids.0 space.0 (makes_ids_no_memory lo hi ids.0 ids.1) space.2,
     )
 
--- ---- reserving
--- some answer, not that memory ran out, and some next state
+-- ---- Reserving
+-- The request has a result other than OutOfMemory, and a next state.
 abbrev IsAnswered : DeviceState → Request → Type 0
 IsAnswered old request =
     (answer : Result DeviceSlot Error) × (new : DeviceState) × Reserves old request answer new × (answer ≢ Err OutOfMemory)
@@ -58,7 +58,7 @@ by_peeking old request peeked (inr (all, inr h)) = (Err ResourceNotAvailable, ol
 total_reserves : (old : DeviceState) (request : Request) → IsAnswered old request
 total_reserves old request = let p = every_id_call.peeked old.ids in by_peeking old request p.0 p.1
 
--- ---- releasing
+-- ---- Releasing
 total_releases_at : (old : DeviceState) (id : ℕ) (at : Option Range) → map.get old.devices id ≡ at →
     (answer : Result (Unit {0}) Error) × (new : DeviceState) × Releases old id answer new × (answer ≢ Err OutOfMemory)
 unfolding Releases
@@ -71,7 +71,7 @@ total_releases old id = total_releases_at old id (map.get old.devices id) refl
 pub every_device_call : EveryDeviceCallIsAnswered
 every_device_call = record { made = total_makes; reserved = total_reserves; released = total_releases }
 
--- ---- and so is each list of what is asked
+-- ---- Each list of calls has a history
 pub every_list : EveryDeviceListHasHistory
 every_list old [] = ([], old, refl, refl, All-nil _)
 every_list old (Reserve request ∷ asked) =

@@ -1,4 +1,4 @@
--- Devices that are found one behind the other have ids that rise.
+-- Devices that are found one after the other have strictly increasing ids.
 use Rattle.std.proofs.Common.{◌≡◌, ℕ, ◌+◌, ◌≤◌, leb, List, [], ◌∷◌, Some, subst, arith, Less}
 use Rattle.std.proofs.lemmas.Bool.{leb-true}
 use Rattle.std.specs.List.{AllByRecursion}

@@ -1,4 +1,4 @@
--- The fields of a value that states a manager: what stands in them, and that a refused part refuses the whole.
+-- The fields of a manager's value: their contents, and the error of the whole if a part has one.
 use Rattle.std.proofs.Common.{◌≡◌, ℕ, List, Some, None, Err, codes, refl, sym, ◌∙◌, subst}
 use Rattle.std.proofs.lemmas.Option.{same_Some}
 use Rattle.serde_json.specs.Data.{Data, Items}
@@ -19,11 +19,11 @@ use Rattle.vm_devices.specs.Saved.{EncodesDevice, EncodesList, EncodesManager, R
 use Rattle.vm_devices.specs.SavedChecks.{increasing_devices, decoded_manager}
 use Rattle.vm_devices.proofs.SavedDevices.{states-increasing}
 
--- the value states no manager
+-- The value does not encode a manager.
 abbrev pub EncodesNothing : Data → Type 0
 EncodesNothing d = ¬ ((state : DeviceState) × EncodesManager d state)
 
--- what the parts of a value state of a manager
+-- The parts of the value encode the parts of the manager.
 pub record ArePartsOf (d : Data) (state : DeviceState) (listed : List (ℕ × Range)) : Type 0 where
   pub ids : Data
   pub space : Data
@@ -49,7 +49,7 @@ parts_of d state s =
       slots_encoded = list.2;
     }
 
--- what is found in the fields of a value
+-- The decoded fields of a value.
 pub record FieldsOf (d : Data) : Type 0 where
   pub ids : Data
   pub space : Data
@@ -59,7 +59,7 @@ pub record FieldsOf (d : Data) : Type 0 where
 abbrev pub fields_found : (d ids space : Data) (slots : Items) → decoded_manager d ≡ Some (ids, space, slots) → FieldsOf d
 fields_found d ids space slots e = record { ids = ids; space = space; slots = slots; found = e }
 
--- and the ids and the space that two of them state
+-- The decoded fields of a value, and the ids and the space that two of them encode.
 pub record ReadOf (d : Data) : Type 0 where
   pub fields : FieldsOf d
   pub ids : IdState
@@ -67,12 +67,12 @@ pub record ReadOf (d : Data) : Type 0 where
   pub ids_encoded : EncodesIds fields.ids ids
   pub space_encoded : EncodesAddresses fields.space space
 
--- the three, as the reader comes by them
+-- The fields, the ids and the space, as the reader finds them.
 abbrev pub read_of : (d : Data) (fields : FieldsOf d) (ids : IdState) (space : AddressState) → EncodesIds fields.ids ids
     → EncodesAddresses fields.space space → ReadOf d
 read_of d fields ids space i s = record { fields = fields; ids = ids; space = space; ids_encoded = i; space_encoded = s }
 
--- what a manager that the value states has in its fields
+-- The fields of a manager that the value encodes.
 module _ {d : Data} (f : FieldsOf d) where
   module _ (state : DeviceState) (s : EncodesManager d state) where
     same_parts : ◌≡◌ {A = Data × Data × Items} (f.ids, f.space, f.slots) ((parts_of d state s).ids, (parts_of d state s).space, (parts_of d state s).slots)
@@ -87,14 +87,14 @@ module _ {d : Data} (f : FieldsOf d) where
     pub its_slots : increasing_devices 0 f.slots ≡ Some s.listed
     its_slots = states-increasing f.slots s.listed (subst (λ (p : Data × Data × Items). EncodesItems EncodesDevice p.2 s.listed) (sym same_parts) (parts_of d state s).slots_encoded) s.increasing
 
-  -- ---- where a part states nothing, the whole states none
+  -- ---- If a part encodes nothing, the value does not encode a manager
   no_ids : ¬ ((i : IdState) × EncodesIds f.ids i) → EncodesNothing d
   no_ids none h = none (h.0.ids, its_ids h.0 h.1)
 
   no_space : ¬ ((a : AddressState) × EncodesAddresses f.space a) → EncodesNothing d
   no_space none h = none (h.0.space, its_space h.0 h.1)
 
-  -- ---- a refused part refuses the whole
+  -- ---- The error of a part is the error of the whole
   pub ids_refused : (e : ValueError) → Reads {X = IdState} (EncodesIds f.ids) (Err e) → ReadsInParts (EncodesManager d) (Err e)
   ids_refused NotAState r = no_ids r
   ids_refused OutOfMemory r = tt

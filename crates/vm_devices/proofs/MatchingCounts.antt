@@ -1,4 +1,4 @@
--- Whether there are as many items as held ids and as held ranges.
+-- Whether the number of items is the number of held ids and of held ranges.
 use Rattle.std.proofs.Common.{◌≡◌, ℕ, nat_eq, Bool, true, false, length, List, refl, sym, ◌∙◌}
 use Rattle.std.proofs.lemmas.Bool.{eqb-true, eqb-false, ne_eqb}
 use Rattle.serde_json.specs.Events.{items_len}
@@ -10,7 +10,7 @@ use Rattle.vm_engine.specs.Address.{AddressState}
 use Rattle.vm_allocator.specs.Ids.{IdState, held_count}
 use Rattle.vm_devices.specs.SavedChecks.{CountsMatch}
 
--- a list has as many values as its view has items
+-- The length of a list is the number of items of its view.
 list_long : (vs : List Value) → length vs ≡ items_len (items_view vs)
 list_long vs = sym (items_len-items_view vs)
 

@@ -1,4 +1,4 @@
--- What a new manager is.
+-- The state of a new manager.
 use Rattle.std.proofs.Common.{◌≡◌, ℕ, ◌≤◌, arith, [], refl, sym, ap, ◌∙◌, ⊎_elim, subst, Some, None, IsSome, Result, Ok, Err}
 use Rattle.std.proofs.lemmas.Bool.{both_ways}
 use Rattle.std.specs.List.{Contains}
@@ -15,14 +15,14 @@ use Rattle.vm_allocator.proofs.Ids.IdAnswers.{id_states_are_preserved}
 use Rattle.vm_devices.proofs.Pairs.{none_there}
 use Rattle.vm_devices.specs.Devices.{DeviceState, IsDeviceState, made_devices, MakesManager}
 
--- the two allocators of a manager that is made
+-- The two allocators of a new manager.
 pub record IsMade (lo hi base size : ℕ) (ids : IdState) (space : AddressState) : Type 0 where
   pub id : hi ≤ MAX_ID
   pub word : size ≤ MAX
   pub ids_made : MakesIds lo hi (Ok ids)
   pub space_made : Makes base size (Ok space)
 
--- no id and no range is held, and there is no device
+-- No id and no range is held, and there is no device.
 pub no_devices : (lo hi base size : ℕ) (ids : IdState) (space : AddressState) → IsMade lo hi base size ids space →
     IsDeviceState (record { ids = ids; space = space; devices = map.empty })
 unfolding MakesIds

@@ -1,4 +1,5 @@
--- The list of devices in a value: a refusal is right, and what is read pairs the held ids with the held ranges.
+-- The list of devices in a value: its errors are right, and a list that is read pairs the held ids with the held
+-- ranges.
 use Rattle.std.proofs.Common.{◌≡◌, ℕ, Some, None, Ok, Err, sym, ◌∙◌, subst}
 use Rattle.std.proofs.lemmas.Option.{same_Some}
 use Rattle.std.specs.BTreeMap.{BTreeMap}
@@ -22,7 +23,7 @@ module _ (ids : IdState) (space : AddressState) (ds : Items) where
   slots_refused NotAState none = λ h. let e : None ≡ Some h.0 = sym none ∙ h.1 in absurd (cc (e))
   slots_refused OutOfMemory found = tt
 
-  -- of a table that is read
+  -- The table that was read.
   module _ (table : BTreeMap ℕ Range) (rise : increasing_devices 0 ds ≡ Some table.entries) where
     pub not_paired : ¬ AreHeldAndDistinct ids space set.empty table.entries → FindsPaired ids space ds (Err NotAState)
     not_paired none h =

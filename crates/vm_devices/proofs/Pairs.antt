@@ -1,4 +1,4 @@
--- A device that comes and one that goes leave ids and ranges in pairs.
+-- After a device is reserved or released, the devices still pair the held ids with the held ranges.
 use Rattle.std.proofs.Common.{◌≡◌, ℕ, ◌↔◌, refl, sym, ap, ◌∙◌, arith, inl, inr, ⊎_elim, subst, Option, Some, None, IsSome, Ok}
 use Rattle.std.proofs.lemmas.Bool.{cases_eq}
 use Rattle.std.specs.List.{Contains}
@@ -16,15 +16,15 @@ use Rattle.vm_allocator.proofs.Callers.{range_was_free, frees_held, id_was_free}
 use Rattle.vm_devices.specs.Devices.{DeviceState, IsDevice, ArePaired, IsDeviceState, with_device, without_device}
 use Rattle.vm_devices.proofs.Tables.{with_here, with_other, without_here, without_other}
 
--- one value stands at one key
+-- A key has one value.
 pub one_range : (r s : Range) (o : Option Range) → o ≡ Some r → o ≡ Some s → r ≡ s
 one_range r s o e f = cc
 
--- where there is none, there is not some
+-- None is not Some.
 pub none_there : ¬ IsSome {T = Range} None
 none_there h = cc (h)
 
--- ---- a device that comes
+-- ---- A reserved device
 module _ (old : DeviceState) (id : ℕ) (r : Range) where
   here : map.get (with_device id r old).devices id ≡ Some r
   here = with_here old.devices id r
@@ -32,7 +32,7 @@ module _ (old : DeviceState) (id : ℕ) (r : Range) where
   other : (q : ℕ) → ¬ (q ≡ id) → map.get (with_device id r old).devices q ≡ map.get old.devices q
   other q ne = with_other old.devices id r q ne
 
-  -- of an id and a range that were not held
+  -- Its id and its range were not held.
   module _ (i : IsDeviceState old) (free : ¬ IsHeld old.ids id) (a : AddsId old.ids (holding_id id old.ids) id)
       (was_clear : ¬ Contains old.space.held r) (s : AddsRange old.space (holding r old.space) r) where
     ids_with : (q : ℕ) → IsHeld (with_device id r old).ids q ↔ IsSome (map.get (with_device id r old).devices q)
@@ -67,7 +67,7 @@ module _ (old : DeviceState) (id : ℕ) (r : Range) where
         (λ (e : p ≡ r). (id, here ∙ ap Some (sym e)))
         ((s.held p).0 c)
 
-    -- no other device has the range
+    -- No other device has the range.
     not_twice : (q : ℕ) (p : Range) → ¬ (q ≡ id) → IsDevice (with_device id r old) id p → ¬ IsDevice (with_device id r old) q p
     not_twice q p ne d k =
         let same : p ≡ r = one_range p r _ d here in
@@ -105,12 +105,12 @@ state_with old id r request i a s =
       pairs = pairs_with old id r i free (allocating_adds old.ids (holding_id id old.ids) id i.ids a) clear added;
     }
 
--- ---- a device that goes
+-- ---- A released device
 module _ (old : DeviceState) (id : ℕ) (r : Range) (i : IsDeviceState old) (d : IsDevice old id r) where
   rest : (q : ℕ) → ¬ (q ≡ id) → map.get (without_device id r old).devices q ≡ map.get old.devices q
   rest q ne = without_other old.devices id q ne
 
-  -- it is no device any more
+  -- There is no device with the id any more.
   gone : (p : Range) → ¬ IsDevice (without_device id r old) id p
   gone p k = let none : None ≡ Some p = sym (without_here old.devices id) ∙ k in absurd (cc (none))
 
@@ -152,7 +152,7 @@ module _ (old : DeviceState) (id : ℕ) (r : Range) (i : IsDeviceState old) (d :
       once = λ j k p f g. i.pairs.once j k p (was j p f) (was k p g);
     }
 
-  -- its id and its range are held
+  -- The id and the range of the device are held.
   pub id_held : IsHeld old.ids id
   id_held = (i.pairs.ids id).1 (subst IsSome (sym d) refl)
 

@@ -1,4 +1,4 @@
--- The answers to one call of a manager, case by case.
+-- The results of one call of a manager, case by case.
 use Rattle.std.proofs.Common.{◌≡◌, ℕ, refl, sym, inl, inr, ◌⊎◌, ⊎_elim, subst, Option, Some, None, MatchOption, Result, Ok, Err}
 use Rattle.std.specs.FinMap as map
 use Rattle.vm_ranges.specs.Range.{Range}
@@ -13,23 +13,23 @@ use Rattle.vm_devices.specs.declared.device_slot.DeviceSlot.{DeviceSlot}
 use Rattle.vm_devices.specs.Devices.{DeviceState, IsDevice, IsDeviceState, with_device, without_device, Pairs, Reserves, Releases}
 use Rattle.vm_devices.proofs.Pairs.{state_with, state_without}
 
--- ---- a reservation
--- a device that a reservation made: the least id that was not held, with the range that the request got
+-- ---- A reservation
+-- A reserved device has the lowest id that was not held, and the range that the request allocates.
 pub record IsReserved (old : DeviceState) (request : Request) (slot : DeviceSlot) (new : DeviceState) : Type 0 where
   pub lowest : IsLowestNotHeld old.ids slot.id
   pub given : Allocates old.space request (Ok slot.range) (holding slot.range old.space)
   pub left : new ≡ with_device slot.id slot.range old
 
--- the least id that is not held is what a request for one gets
+-- The lowest id that is not held is the id that is allocated.
 gets_lowest : (old : DeviceState) (id : ℕ) → IsLowestNotHeld old.ids id → AllocatesId old.ids (Ok id) (holding_id id old.ids)
 unfolding AllocatesId ByLowestNotHeld
 gets_lowest old id lowest = inl (id, lowest, (refl, refl))
 
--- what is held after a range was given
+-- The state after a range is allocated.
 given_holding : (old new : AddressState) (request : Request) (r : Range) → Allocates old request (Ok r) new → Allocates old request (Ok r) (holding r old)
 given_holding old new request r a = subst (Allocates old request (Ok r)) (given old new request r a).left a
 
--- a refusal that changes nothing, or a device
+-- Either an error that changes nothing, or a reserved device.
 abbrev pub IsRefusedOrReserved : DeviceState → Request → Result DeviceSlot Error → DeviceState → Type 0
 IsRefusedOrReserved old request answer new =
     ((e : Error) × (answer ≡ Err e) × (new ≡ old))
@@ -63,8 +63,8 @@ reserved_device old new request slot h =
     (λ d. let same : d.0 ≡ slot = cc (d.1) in subst (λ (s : DeviceSlot). IsReserved old request s new) same d.2)
     (reserving_outcome old new request (Ok slot) h)
 
--- ---- a release
--- a refusal that changes nothing, or a device that is gone
+-- ---- A release
+-- Either an error that changes nothing, or a released device.
 abbrev pub IsRefusedOrReleased : DeviceState → ℕ → Result (Unit {0}) Error → DeviceState → Type 0
 IsRefusedOrReleased old id answer new =
     ((e : Error) × (answer ≡ Err e) × (new ≡ old))
@@ -81,7 +81,7 @@ pub releasing_outcome : (old new : DeviceState) (id : ℕ) (answer : Result (Uni
 unfolding Releases
 releasing_outcome old new id answer h = released_outcome old new id answer (map.get old.devices id) refl h
 
--- ---- each call keeps ids and ranges in pairs
+-- ---- Each call preserves the pairs
 pub reserved_state : (old new : DeviceState) (request : Request) (answer : Result DeviceSlot Error) → IsDeviceState old → Reserves old request answer new → IsDeviceState new
 reserved_state old new request answer i h =
     ⊎_elim

@@ -1,4 +1,4 @@
--- The list of devices in a value: what is found of it is what it states.
+-- The list of devices in a value: decoding finds exactly the devices that it encodes.
 use Rattle.std.proofs.Common.{◌≡◌, ℕ, suc, ◌+◌, ◌<◌, ◌≤◌, leb, List, [], ◌∷◌, ◌++◌, length, get_or, drop, Option, Some, None, option_map, option_and_then, refl, sym, ap, ◌∙◌, subst, arith, append_assoc, Greater, Less, codes}
 use Rattle.std.proofs.lemmas.Bool.{le-leb, lt-leb}
 use Rattle.std.specs.Cmp.{nat_cmp_is}
@@ -25,7 +25,7 @@ use Rattle.vm_allocator.proofs.Callers.{found-states, states-found}
 use Rattle.vm_devices.specs.Saved.{EncodesDevice}
 use Rattle.vm_devices.specs.SavedChecks.{decoded_device, increasing_devices}
 
--- ---- one device
+-- ---- One device
 device-states : (d : Data) (e : ℕ × Range) → decoded_device d ≡ Some e → EncodesDevice d e
 device-states d e h =
     let two = if_some (is_count 2 (field_count d)) _ e h in
@@ -45,7 +45,7 @@ states-device d e s =
     let range = in_field (codes "mmio_range") d (λ v. EncodesRange v e.1) s.mmio_range in
     rw (true-count 2 (field_count d) s.two_fields, s.id, some-u32 e.0 s.word, range.1, states-found range.0 e.1 range.2) refl
 
--- ---- the list
+-- ---- The list
 pub increasing-states : (lowest : ℕ) (ds : Items) (es : List (ℕ × Range)) → increasing_devices lowest ds ≡ Some es → EncodesItems EncodesDevice ds es
 increasing-states lowest no_items [] h = tt
 increasing-states lowest no_items (e ∷ es) h = absurd (cc)
@@ -55,7 +55,7 @@ increasing-states lowest (item d ds) es h =
     let m = map_some _ (increasing_devices (a.0.0 + 1) ds) es b.1 in
     subst (EncodesItems EncodesDevice (item d ds)) m.2 (device-states d a.0 a.1, increasing-states (a.0.0 + 1) ds m.0 m.1)
 
--- each item is a device
+-- Each item is a device.
 pub increasing-length : (lowest : ℕ) (ds : Items) (es : List (ℕ × Range)) → increasing_devices lowest ds ≡ Some es → length es ≡ items_len ds
 increasing-length lowest no_items [] h = refl
 increasing-length lowest no_items (e ∷ es) h = absurd (cc)
@@ -65,7 +65,7 @@ increasing-length lowest (item d ds) es h =
     let m = map_some _ (increasing_devices (a.0.0 + 1) ds) es b.1 in
     ap (λ (v : List (ℕ × Range)). length v) (sym m.2) ∙ ap suc (increasing-length (a.0.0 + 1) ds m.0 m.1)
 
--- each id is above the one before it, the first from `lowest` on
+-- The ids are strictly increasing, and at least `lowest`.
 abbrev pub IncreaseFrom : ℕ → List (ℕ × Range) → Type 0
 IncreaseFrom lowest [] = Unit {0}
 IncreaseFrom lowest (e ∷ es) = (lowest ≤ e.0) × IncreaseFrom (e.0 + 1) es
@@ -90,7 +90,7 @@ increasing_from lowest (item d ds) (e ∷ es) s r =
 pub states-increasing : (ds : Items) (es : List (ℕ × Range)) → EncodesItems EncodesDevice ds es → IsStrictlySortedBy nat_cmp (keys_of es) → increasing_devices 0 ds ≡ Some es
 states-increasing ds es s r = increasing_from 0 ds es s (from_sorted es r)
 
--- ---- item by item
+-- ---- Item by item
 pub no_device : (lowest i : ℕ) (vs : List Value) (v : Value) → i < length vs → v ≡ get_or vs i v → decoded_device (view v) ≡ None → increasing_devices lowest (items_view (drop i vs)) ≡ None
 no_device lowest i vs v h e w = rw (items_from vs i v h e, w) refl
 
@@ -102,7 +102,7 @@ next_increases : (lowest i : ℕ) (vs : List Value) (v : Value) (f : ℕ × Rang
     increasing_devices lowest (items_view (drop i vs)) ≡ option_map (λ es. f ∷ es) (increasing_devices (f.0 + 1) (items_view (drop (i + 1) vs)))
 next_increases lowest i vs v f h e w p = rw (items_from vs i v h e, w, le-leb lowest f.0 p) refl
 
--- all ids so far are below
+-- All ids so far are below the bound.
 abbrev pub AreBelow : ℕ → List (ℕ × Range) → Type 0
 AreBelow n [] = Unit {0}
 AreBelow n (e ∷ es) = (e.0 < n) × AreBelow n es
@@ -121,7 +121,7 @@ front_and_rest : (es : List (ℕ × Range)) (f : ℕ × Range) (o : Option (List
 front_and_rest es f None = refl
 front_and_rest es f (Some fs) = ap Some (sym (append_assoc es (f ∷ []) fs))
 
--- the devices so far, and those that are left
+-- The devices so far, and the devices that are left.
 pub record IsSoFar (vs : List Value) (i lowest : ℕ) (es : List (ℕ × Range)) : Type 0 where
   pub so_far : increasing_devices 0 (items_view vs) ≡ option_map (λ fs. es ++ fs) (increasing_devices lowest (items_view (drop i vs)))
   pub below : AreBelow lowest es
@@ -136,7 +136,7 @@ one_more vs i lowest es fs v f h e w p s put =
       below = subst (AreBelow (f.0 + 1)) (sym is) (last_below lowest f es s.below p);
     }
 
--- where what is left is none, the whole is none
+-- If the items that are left are not valid, the whole list is not valid.
 pub none_left : (vs : List Value) (i lowest : ℕ) (es : List (ℕ × Range)) → IsSoFar vs i lowest es → increasing_devices lowest (items_view (drop i vs)) ≡ None → increasing_devices 0 (items_view vs) ≡ None
 none_left vs i lowest es s none = s.so_far ∙ ap (option_map (λ fs. es ++ fs)) none
 

@@ -1,4 +1,4 @@
--- A manager's value: what is found of it is what it states, what is read is that, and what is written states it.
+-- A manager's value: decoding finds exactly the manager that it encodes, and a written value encodes the manager.
 use Rattle.std.proofs.Common.{◌≡◌, ℕ, ◌==◌, List, Some, Result, Ok, Err, inl, inr, ◌⊎◌, option_and_then, codes, refl, sym, ap, ◌∙◌}
 use Rattle.std.proofs.lemmas.Bool.{eqb-true}
 use Rattle.std.proofs.lemmas.Option.{same_Some}
@@ -31,9 +31,9 @@ use Rattle.vm_devices.proofs.SavedDevices.{increasing-states}
 use Rattle.vm_devices.proofs.IncreasingIds.{increasing_sorted}
 use Rattle.vm_devices.proofs.ManagerFields.{parts_of, fields_found, ReadOf, its_ids, its_space, its_slots}
 
--- ---- what is read of both allocators
+-- ---- Both allocators were read
 module _ {d : Data} (r : ReadOf d) where
-  -- a manager that is stated pairs them
+  -- A manager that the value encodes pairs their held ids and ranges.
   all_its_own : (state : DeviceState) (s : EncodesManager d state) → AreAllHeld r.ids r.space s.listed
   all_its_own state s =
       let f = r.fields in
@@ -42,12 +42,12 @@ module _ {d : Data} (r : ReadOf d) where
       let all = all_paired state s.listed s.devices s.increasing (addresses_encoded f.space state.space (its_space f state s)) s.pairs in
       rw (← same_ids, ← same_space) all
 
-  -- a refused list refuses the whole
+  -- The error of the list is the error of the whole.
   pub devices_refused : (e : ValueError) → FindsPaired r.ids r.space r.fields.slots (Err e) → ReadsInParts (EncodesManager d) (Err e)
   devices_refused NotAState none = λ h. none (h.1.listed, its_slots r.fields h.0 h.1, all_its_own h.0 h.1)
   devices_refused OutOfMemory found = tt
 
-  -- what is read is stated: devices that pair the held ids with the held ranges
+  -- The manager that is read is the manager that the value encodes.
   module _ (table : BTreeMap ℕ Range) (paired : FindsPaired r.ids r.space r.fields.slots (Ok table)) where
     increasing : IsStrictlySortedBy nat_cmp (keys_of table.entries)
     increasing = increasing_sorted r.fields.slots table.entries paired.0
@@ -88,7 +88,7 @@ module _ {d : Data} (r : ReadOf d) where
           pairs = read_state.pairs;
         }
 
--- ---- one manager
+-- ---- One manager
 pub encoded_state : (d : Data) (state : DeviceState) → EncodesManager d state → IsDeviceState state
 encoded_state d state s =
     let p = parts_of d state s in
@@ -114,7 +114,7 @@ read_again d old (Err OutOfMemory) s r = inr refl
 pub manager_again : ManagerIsReadAgain
 manager_again = record { one = one_manager; again = read_again }
 
--- ---- what is written states the manager
+-- ---- A written value encodes the manager
 pub manager_written : {d ids space slots : Data} {i : IdState} {a : SpaceInTree} (table : BTreeMap ℕ Range) → ManagerParts d ids space slots →
     EncodesIds ids i → EncodesAllocator space a → EncodesList slots table.entries → IsStrictlySortedBy nat_cmp (keys_of table.entries) →
     IsDeviceState (devices_of i (state_of a) table) → EncodesManager d (devices_of i (state_of a) table)

@@ -1,4 +1,4 @@
--- The table of a manager, seen as a map; a map with one more key, and with one less.
+-- The table of a manager as a map, and maps after one key is inserted or removed.
 use Rattle.std.proofs.Common.{◌≡◌, ℕ, List, [], ◌∷◌, cond, refl, sym, ap, ◌∙◌, Option, Some, None}
 use Rattle.std.proofs.lemmas.Bool.{eq-eqb, ne_eqb}
 use Rattle.std.specs.Ordering.{nat_cmp, eq_by_cmp}
@@ -8,7 +8,7 @@ use Rattle.std.specs.BTreeMap.{BTreeMap, is_at, IsEmpty, Updates}
 use Rattle.std.specs.FinMap as map
 use Rattle.vm_ranges.specs.Range.{Range}
 
--- ---- a map with one more key, and with one less
+-- ---- A map after one key is inserted or removed
 module _ (m : map.FinMap nat_cmp Range) (k : ℕ) where
   pub with_here : (v : Range) → map.get (map.insert m k v) k ≡ Some v
   with_here v = map.get-insert nat_cmp_total m k v k ∙ ap (λ t. cond t (Some v) (map.get m k)) (unsigned_tied k k ∙ eq-eqb k k refl)
@@ -22,8 +22,8 @@ module _ (m : map.FinMap nat_cmp Range) (k : ℕ) where
   pub without_other : (q : ℕ) → ¬ (q ≡ k) → map.get (map.remove m k) q ≡ map.get m q
   without_other q ne = map.get-remove nat_cmp_total m k q ∙ ap (λ t. cond t None (map.get m q)) (unsigned_tied q k ∙ ne_eqb q k ne)
 
--- ---- the table as a map
--- its entries, as one
+-- ---- The table as a map
+-- The map of the entries of the table.
 abbrev table : BTreeMap ℕ Range → map.FinMap nat_cmp Range
 table slots = map.from_entries slots.entries
 
@@ -34,7 +34,7 @@ found q (e ∷ es) = ap (cond (eq_by_cmp nat_cmp q e.0) (Some e.1)) (found q es)
 pub seen : (slots : BTreeMap ℕ Range) (q : ℕ) → map.get (table slots) q ≡ lookup (is_at (nat_cmp q)) slots.entries
 seen slots q = map.get-from_entries nat_cmp_total slots.entries q ∙ found q slots.entries
 
--- what is written at one key, read at each
+-- The value of each key after one key is written.
 written : (old new : BTreeMap ℕ Range) (k : ℕ) (w : Option Range) → Updates nat_cmp old new k w → (q : ℕ) → map.get (table new) q ≡ cond (eq_by_cmp nat_cmp q k) w (map.get (table old) q)
 written old new k w u q =
     seen new q

@@ -1,4 +1,4 @@
--- Histories: calls of a manager of devices, one after the other.
+-- Histories of a manager of devices: lists of calls with their results.
 use Rattle.std.specs.Prelude.{◌≡◌, ℕ, ◌%◌, ◌≤◌, ◌⊎◌, List, [], ◌∷◌, Result, Ok, Err}
 use Rattle.std.specs.List.{Contains}
 use Rattle.serde_json.specs.Data.{Data}
@@ -11,38 +11,38 @@ use Rattle.vm_devices.specs.declared.device_slot.DeviceSlot.{DeviceSlot}
 use Rattle.vm_devices.specs.Devices.{DeviceState, IsDevice, MakesManager, Reserves, Releases}
 use Rattle.vm_devices.specs.Saved.{EncodesManager}
 
--- a call with its answer: a request for a device, or the id of one that is given back
+-- A call with its result: a reservation by a request, or a release by an id.
 pub data DeviceCall : Type 0 where
   Reservation : Request → Result DeviceSlot Error → DeviceCall
   Release : ℕ → Result (Unit {0}) Error → DeviceCall
 
--- what is asked by a call
+-- A call without its result.
 pub data DeviceAsked : Type 0 where
   Reserve : Request → DeviceAsked
   GiveBack : ℕ → DeviceAsked
 
--- a call without its answer
+-- The call without its result.
 abbrev pub device_asked_by : DeviceCall → DeviceAsked
 device_asked_by (Reservation request answer) = Reserve request
 device_asked_by (Release id answer) = GiveBack id
 
--- the call was refused for memory
+-- The call returned OutOfMemory.
 abbrev pub RunsOutOfMemory : DeviceCall → Type 0
 RunsOutOfMemory (Reservation request answer) = answer ≡ Err OutOfMemory
 RunsOutOfMemory (Release id answer) = answer ≡ Err OutOfMemory
 
--- in the state old the call has its answer, and leaves new
+-- In the state old the call has its result, and leaves the state new.
 abbrev pub IsDeviceCallFrom : DeviceState → DeviceCall → DeviceState → Type 0
 IsDeviceCallFrom old (Reservation request answer) new = Reserves old request answer new
 IsDeviceCallFrom old (Release id answer) new = Releases old id answer new
 
--- each call is on the state that the one before it left
+-- The calls lead from the state old to the state new: each begins in the state that the call before it left.
 abbrev pub IsDeviceHistoryFrom : DeviceState → List DeviceCall → DeviceState → Type 0
 IsDeviceHistoryFrom old [] new = new ≡ old
 IsDeviceHistoryFrom old (call ∷ calls) new =
     (mid : DeviceState) × IsDeviceCallFrom old call mid × IsDeviceHistoryFrom mid calls new
 
--- the state of a new manager
+-- The state of a new manager.
 pub record IsManagerMade (state : DeviceState) : Type 0 where
   pub lo : ℕ
   pub hi : ℕ
@@ -52,25 +52,25 @@ pub record IsManagerMade (state : DeviceState) : Type 0 where
   pub word : size ≤ MAX
   pub made : MakesManager lo hi base size (Ok state)
 
--- the state that a saved value states, and so that of the manager read from it
+-- A state that a saved value encodes.
 pub record IsManagerRead (state : DeviceState) : Type 0 where
   pub value : Data
   pub encoded : EncodesManager value state
 
--- the calls lead from a manager that was made or read to the state
+-- The calls lead to the state from a manager that is new or was read.
 pub record AreDevicesReached (calls : List DeviceCall) (state : DeviceState) : Type 0 where
   pub first : DeviceState
   pub begins : IsManagerMade first ⊎ IsManagerRead first
   pub history : IsDeviceHistoryFrom first calls state
 
--- some call reserved the range for the id, for as many addresses as it has, at a multiple of the alignment asked for
+-- A call reserved the range for the id, with the requested length and at a multiple of the requested alignment.
 pub record WasReserved (calls : List DeviceCall) (id : ℕ) (r : Range) : Type 0 where
   pub request : Request
   pub call : Contains calls (Reservation request (Ok (record { id = id; range = r })))
   pub aligned : r.start % request.align ≡ 0
   pub long : r ≡ span r.start request.size
 
--- a value that was read stated the device
+-- The device is in the first state, which was read from a value.
 pub record WasRead (first : DeviceState) (id : ℕ) (r : Range) : Type 0 where
   pub read : IsManagerRead first
   pub device : IsDevice first id r

@@ -1,4 +1,4 @@
--- What holds along every history of a manager of devices, from one on that was made or read.
+-- Laws of every history of a manager of devices that is new or was read.
 use Rattle.std.specs.Prelude.{◌≡◌, ◌≢◌, ℕ, ◌<◌, ◌≤◌, ◌⊎◌, List, map, length, Result, Ok, Err}
 use Rattle.std.specs.List.{All}
 use Rattle.serde_json.specs.Data.{Data}
@@ -16,8 +16,9 @@ use Rattle.vm_devices.specs.Devices.{DeviceState, IsDevice, IsDeviceState, Makes
 use Rattle.vm_devices.specs.Saved.{EncodesManager, ReadsInParts}
 use Rattle.vm_devices.specs.Histories.{DeviceCall, DeviceAsked, device_asked_by, RunsOutOfMemory, IsDeviceHistoryFrom, AreDevicesReached, WasReserved, WasRead}
 
--- in each state the devices pair the held ids with the held ranges; no two share an address; each lies in the space,
--- below MAX, and has an id of the range and what some call reserved for it, or what the value stated that was read
+-- In every history the devices pair the held ids with the held ranges, and no two devices share an address. Each device
+-- has an id of the range and a range in the space, below MAX. It was reserved as requested, or is from the value that
+-- was read.
 pub record DevicesAreValid : Type 0 where
   pub state : (calls : List DeviceCall) (old : DeviceState) → AreDevicesReached calls old → IsDeviceState old
   pub apart : (calls : List DeviceCall) (old : DeviceState) (i j : ℕ) (r s : Range) → AreDevicesReached calls old →
@@ -27,12 +28,13 @@ pub record DevicesAreValid : Type 0 where
   pub reserved : (calls : List DeviceCall) (old : DeviceState) (id : ℕ) (r : Range) (reached : AreDevicesReached calls old) →
       IsDevice old id r → WasReserved calls id r ⊎ WasRead reached.first id r
 
--- the answer is a refusal for memory, or, where so many ranges are held that a tree of them may be too deep, for depth
+-- The result is OutOfMemory, or it is Overflow and at least SPLIT_LIMIT_MIN_HELD ranges are held: the tree may be too
+-- high.
 abbrev pub IsLimit : DeviceState → Result DeviceSlot Error → Type 0
 IsLimit old answer =
     (answer ≡ Err OutOfMemory) ⊎ ((SPLIT_LIMIT_MIN_HELD ≤ length old.space.held) × (answer ≡ Err Overflow))
 
--- a device that was just reserved and released is reserved again by the same request, with the same id and range
+-- If a device was just reserved and released, the same request reserves it again, with the same id and range.
 abbrev pub ReservedAgain : Type 0
 ReservedAgain =
     (old mid new later : DeviceState) (request : Request) (slot : DeviceSlot)
@@ -40,7 +42,7 @@ ReservedAgain =
     Reserves old request (Ok slot) mid → Releases mid slot.id released new → released ≢ Err OutOfMemory →
     Reserves new request answer later → (answer ≡ Ok slot) ⊎ IsLimit new answer
 
--- the range of any device that was released can be reserved at once, by its start
+-- The range of a released device can be reserved at once, by its start.
 abbrev pub RangeIsReservedAgain : Type 0
 RangeIsReservedAgain =
     (old new later : DeviceState) (id : ℕ) (r : Range)
@@ -49,7 +51,7 @@ RangeIsReservedAgain =
     Reserves new (request_for (address_count r) 1 (ExactMatch r.start)) answer later →
     ((some : ℕ) × (answer ≡ Ok (record { id = some; range = r }))) ⊎ IsLimit new answer
 
--- where memory suffices and few ranges are held, a call has one answer and one next state
+-- A call has one result and one next state in each state, if memory suffices and few ranges are held.
 pub record DevicesDecide : Type 0 where
   pub made : (lo hi base size : ℕ) (answer other : Result DeviceState Error) →
       answer ≢ Err OutOfMemory → other ≢ Err OutOfMemory →
@@ -61,7 +63,7 @@ pub record DevicesDecide : Type 0 where
       answer ≢ Err OutOfMemory → other ≢ Err OutOfMemory →
       Releases old id answer new → Releases old id other later → (answer ≡ other) × (new ≡ later)
 
--- in every state each call has an answer, and one other than out of memory
+-- In every state each call has a result other than OutOfMemory.
 pub record EveryDeviceCallIsAnswered : Type 0 where
   pub made : (lo hi base size : ℕ) →
       (answer : Result DeviceState Error) × MakesManager lo hi base size answer × (answer ≢ Err OutOfMemory)
@@ -72,14 +74,15 @@ pub record EveryDeviceCallIsAnswered : Type 0 where
       (answer : Result (Unit {0}) Error) × (new : DeviceState) ×
       Releases old id answer new × (answer ≢ Err OutOfMemory)
 
--- so whatever is asked, one after the other, has a history, and one in which no call runs out of memory
+-- Every list of calls has a history in which no call returns OutOfMemory.
 abbrev pub EveryDeviceListHasHistory : Type 0
 EveryDeviceListHasHistory =
     (old : DeviceState) (asked : List DeviceAsked) →
     (calls : List DeviceCall) × (new : DeviceState) × IsDeviceHistoryFrom old calls new ×
     (map device_asked_by calls ≡ asked) × All (λ call. ¬ RunsOutOfMemory call) calls
 
--- what reading a written value answers is what was written, unless memory runs out; a value states one manager at most
+-- The value that was written for a manager is read as this manager, unless memory runs out. A value encodes at most one
+-- manager.
 pub record ManagerIsReadAgain : Type 0 where
   pub one : (d : Data) (a b : DeviceState) → EncodesManager d a → EncodesManager d b → a ≡ b
   pub again : (d : Data) (old : DeviceState) (answer : Result DeviceState ValueError) →

@@ -17,19 +17,19 @@ use Rattle.vm_ranges.specs.declared.saved.ValueError.{ValueError}
 use Rattle.vm_ranges.specs.declared.saved.ValueError.TheVariants.{NotAState, OutOfMemory}
 use Rattle.vm_devices.specs.Devices.{DeviceState, ArePaired}
 
--- the value is an object of an id and a range alone
+-- The value is an object with exactly an id and a range, those of the device.
 pub record EncodesDevice (d : Data) (device : ℕ × Range) : Type 0 where
   pub two_fields : field_count d ≡ Some 2
   pub id : number_in (codes "id") d ≡ Some device.0
   pub word : device.0 ≤ MAX_ID
   pub mmio_range : FieldIs (codes "mmio_range") d (λ v. EncodesRange v device.1)
 
--- the value is the list of these devices
+-- The value is the list of these devices.
 abbrev pub EncodesList : Data → List (ℕ × Range) → Type 0
 EncodesList d es = EncodesListOf EncodesDevice d es
 
--- the value is an object of a version, the two allocators and the devices alone; the version is 1, the ids of the
--- devices rise, and they pair the held ids with the held ranges
+-- The value is an object with exactly a version, the two allocators and the devices. The version is 1. The ids of the
+-- devices are strictly increasing, and the devices pair the held ids with the held ranges.
 pub record EncodesManager (d : Data) (state : DeviceState) : Type 0 where
   pub four_fields : field_count d ≡ Some 4
   pub version : number_in (codes "version") d ≡ Some 1
@@ -41,7 +41,8 @@ pub record EncodesManager (d : Data) (state : DeviceState) : Type 0 where
   pub devices : state.devices ≡ map.from_entries listed
   pub pairs : ArePaired state
 
--- the object that is stated; NotAState where none is; memory may run out for any value, since its parts are read in turn
+-- The result of reading a value in parts: the object that it encodes, or NotAState if it encodes none. OutOfMemory is
+-- possible for every value, because its parts are read one after the other.
 abbrev pub ReadsInParts : {X : Type 0} → (X → Type 0) → Result X ValueError → Type 0
 ReadsInParts States (Ok x) = States x
 ReadsInParts {X} States (Err NotAState) = ¬ ((x : X) × States x)

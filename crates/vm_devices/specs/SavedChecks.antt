@@ -1,5 +1,5 @@
--- What the reader of a manager finds, part by part, in the order in which it looks, and objects put together field by
--- field. Private functions alone cite these.
+-- The checks of a manager's value, part by part, in the order of the code, and the objects that encoding builds. Only
+-- private functions cite them.
 use Rattle.std.specs.Prelude.{◌≡◌, ℕ, ◌+◌, ◌==◌, nat_le, if◌then◌else◌, List, [], ◌∷◌, length, Option, Some, None, option_map, option_and_then, Result, Ok, Err, IsTrue, codes}
 use Rattle.std.specs.List.{Contains}
 use Rattle.std.specs.Ordering.{nat_cmp}
@@ -17,7 +17,7 @@ use Rattle.vm_ranges.specs.declared.saved.ValueError.{ValueError}
 use Rattle.vm_ranges.specs.declared.saved.ValueError.TheVariants.{NotAState, OutOfMemory}
 use Rattle.vm_ranges.specs.RangeValues.{decoded_range}
 
--- the device that a value states
+-- The device that a value encodes.
 abbrev pub decoded_device : Data → Option (ℕ × Range)
 decoded_device d =
     if is_count 2 (field_count d) then
@@ -25,7 +25,7 @@ decoded_device d =
     (u32_in (codes "id") d)
     else None
 
--- the devices of the items, where their ids rise from `lowest` on
+-- The devices of the items, if their ids are in strictly increasing order and at least `lowest`.
 abbrev pub increasing_devices : ℕ → Items → Option (List (ℕ × Range))
 increasing_devices lowest no_items = Some []
 increasing_devices lowest (item d ds) =
@@ -33,13 +33,13 @@ increasing_devices lowest (item d ds) =
     if nat_le lowest e.0 then option_map (λ es. e ∷ es) (increasing_devices (e.0 + 1) ds) else None)
     (decoded_device d)
 
--- what the reader of the items answers: these devices, or that there are none such
+-- The result of reading the items: their devices by increasing ids, or NotAState if an item or the order is not valid.
 abbrev pub FindsDevices : Items → Result (BTreeMap ℕ Range) ValueError → Type 0
 FindsDevices ds (Ok slots) = increasing_devices 0 ds ≡ Some slots.entries
 FindsDevices ds (Err NotAState) = increasing_devices 0 ds ≡ None
 FindsDevices ds (Err OutOfMemory) = Unit {0}
 
--- the values of a manager's fields, where the version is 1
+-- The values of a manager's fields, if there are no other fields and the version is 1.
 abbrev pub decoded_manager : Data → Option (Data × Data × Items)
 decoded_manager d =
     if is_count 4 (field_count d) then
@@ -53,37 +53,37 @@ decoded_manager d =
     (number_in (codes "version") d)
     else None
 
--- the id and the range of each device are held, and no range starts where an earlier one does, or one of `seen`
+-- The id and the range of each device are held. No range has the start of an earlier range or a start in `seen`.
 abbrev pub AreHeldAndDistinct : IdState → AddressState → set.FinSet nat_cmp → List (ℕ × Range) → Type 0
 AreHeldAndDistinct ids space seen [] = Unit {0}
 AreHeldAndDistinct ids space seen (e ∷ es) =
     IsHeld ids e.0 × Contains space.held e.1 × ¬ IsTrue (set.contains seen e.1.start)
     × AreHeldAndDistinct ids space (set.insert seen e.1.start) es
 
--- the items are as many as the held ids and as the held ranges
+-- The number of items is the number of held ids and the number of held ranges.
 pub record CountsMatch (ids : IdState) (space : AddressState) (ds : Items) : Type 0 where
   pub ids_counted : items_len ds ≡ held_count ids
   pub ranges_counted : items_len ds ≡ length space.held
 
--- the devices are as many as the held ids and as the held ranges, and each has its own
+-- The number of devices is the number of held ids and of held ranges, and the devices are held and distinct.
 pub record AreAllHeld (ids : IdState) (space : AddressState) (es : List (ℕ × Range)) : Type 0 where
   pub ids_counted : length es ≡ held_count ids
   pub ranges_counted : length es ≡ length space.held
   pub apart : AreHeldAndDistinct ids space set.empty es
 
--- what the reader of the list answers: these devices, which pair what is held, or that the list states none that do
+-- The result of reading the list: its devices if they pair the held ids with the held ranges, otherwise NotAState.
 abbrev pub FindsPaired : IdState → AddressState → Items → Result (BTreeMap ℕ Range) ValueError → Type 0
 FindsPaired ids space ds (Ok slots) = (increasing_devices 0 ds ≡ Some slots.entries) × AreAllHeld ids space slots.entries
 FindsPaired ids space ds (Err NotAState) = ¬ ((es : List (ℕ × Range)) × (increasing_devices 0 ds ≡ Some es) × AreAllHeld ids space es)
 FindsPaired ids space ds (Err OutOfMemory) = Unit {0}
 
--- a device's two fields, and no other
+-- The value is an object with exactly the two fields of a device.
 pub record DeviceParts (d : Data) (id : ℕ) (range : Data) : Type 0 where
   pub two_fields : field_count d ≡ Some 2
   pub id_is : number_in (codes "id") d ≡ Some id
   pub range_is : get (codes "mmio_range") d ≡ Some range
 
--- a manager's four fields, and no other
+-- The value is an object with exactly the four fields of a manager.
 pub record ManagerParts (d ids space slots : Data) : Type 0 where
   pub four_fields : field_count d ≡ Some 4
   pub version_is : number_in (codes "version") d ≡ Some 1

@@ -1,7 +1,7 @@
-//! What a device is known by.
+//! The id and the range of a device.
 use vm_allocator::RangeInclusive;
 
-/// What a device holds: an id, and a range of addresses.
+/// The id and the range of addresses of a device.
 #[derive(Clone, Copy, Debug, PartialEq, Eq)]
 pub struct DeviceSlot {
     pub id: u32,

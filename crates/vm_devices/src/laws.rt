@@ -1,5 +1,6 @@
-//! Laws: theorems about the definitions that the contracts cite, each the contract of a function that
-//! does nothing.
+//! Laws: theorems about the definitions that the contracts of the calls cite.
+//!
+//! Each law is the contract of a function that does nothing.
 ghost use Rattle.vm_devices.specs.Laws.{
   DevicesAreValid,
   ReservedAgain,
@@ -10,35 +11,39 @@ ghost use Rattle.vm_devices.specs.Laws.{
   ManagerIsReadAgain,
 };
 
-/// In every history no two devices share an id or an address, and each lies in the space, aligned and
-/// as long as it was asked for, or as the value stated it that was read.
+/// Proves that in every history no two devices share an id or an address, and each device is in the
+/// space.
+///
+/// Its range has the requested length and alignment, or the device is from the value that was read.
 #[tactic(auto, using(crate::proofs::DeviceHistories::devices_are_valid))]
 fn devices_are_valid()
     ensures { DevicesAreValid }
 {}
 
-/// What a released device held can be reserved again at once; the same request gets the same slot.
+/// Proves that the id and the range of a released device can be reserved again at once. The same
+/// request reserves the same device.
 #[tactic(auto, using(crate::proofs::DevicesAgain::again))]
 fn released_devices_are_reserved_again()
     ensures same { ReservedAgain }
     ensures range { RangeIsReservedAgain }
 {}
 
-/// Ids, space and devices alone decide what a call answers, where memory suffices and few ranges are
-/// held.
+/// Proves that the result of a call depends only on ids, space and devices, if memory suffices and
+/// few ranges are allocated.
 #[tactic(auto, using(crate::proofs::DevicesOnce::devices_decide))]
 fn devices_decide()
     ensures { DevicesDecide }
 {}
 
-/// Every call has an answer in every state, and so every list of calls a history.
+/// Proves that every call has a result in every state, so every list of calls has a history.
 #[tactic(auto, using(crate::proofs::EveryDeviceCall::answers))]
 fn every_call_is_answered()
     ensures call { EveryDeviceCallIsAnswered }
     ensures list { EveryDeviceListHasHistory }
 {}
 
-/// What is read of a written manager is that manager, and a value states one at most.
+/// Proves that a manager that was written is read again, and that a value encodes at most one
+/// manager.
 #[tactic(auto, using(crate::proofs::SavedManagers::manager_again))]
 fn managers_are_read_again()
     ensures { ManagerIsReadAgain }

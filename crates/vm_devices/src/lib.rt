@@ -1,4 +1,4 @@
-//! Devices of a virtual machine: each has an id and a range of addresses, both or neither.
+//! Devices of a virtual machine. Each has an id and a range of addresses, both or neither.
 #![tactic(auto)]
 
 mod device_manager;

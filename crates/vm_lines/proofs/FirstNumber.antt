@@ -1,4 +1,4 @@
--- The number that the first word of a text says.
+-- The number of the first word of a text.
 use Rattle.std.proofs.Common.{◌≡◌, ◌≢◌, ℕ, ◌+◌, ◌-◌, ◌<◌, ◌≤◌, Bool, true, false, List, [], ◌∷◌, length, take, drop, get_or, Option, Some, None, ◌==◌, refl, sym, ap, ◌∙◌, arith, ⊎_elim}
 use Rattle.std.specs.Prelude.{not}
 use Rattle.std.specs.List.{position_or_len, after_first}
@@ -16,7 +16,7 @@ use Rattle.vm_lines.proofs.Splitting.{words_some, words_none}
 
 -- Words that begin with a number.
 
--- what the first word says
+-- The number of the first word.
 pub says_none : (word : List ℕ) (words : List (List ℕ)) → number_first (word ∷ words) ≡ None → number_of word ≡ None
 says_none word words e = step (number_of word) refl
   where
@@ -34,7 +34,7 @@ says_some word words behind number e = step (number_of word) refl
         let p : (n, words) ≡ (number, behind) = let f = rw is at e in cc in
         (is ∙ ap (λ (q : ℕ × List (List ℕ)). Some q.0) p, ap (λ (q : ℕ × List (List ℕ)). q.1) p)
 
--- one number
+-- One number.
 pub one_none : (words : List (List ℕ)) → number_first words ≡ None → one_in number_of words ≡ None
 one_none [] e = refl
 one_none (word ∷ []) e = says_none word [] e
@@ -51,7 +51,7 @@ one_more [] behind number e some = refl
 one_more (word ∷ []) behind number e some = let h = (says_some word [] behind number e).1 in absurd (omega (arith, rw (sym h) at some))
 one_more (word ∷ second ∷ more) behind number e some = refl
 
--- two numbers
+-- Two numbers.
 pub two_none : (words : List (List ℕ)) → number_first words ≡ None → two_in number_of words ≡ None
 two_none [] e = refl
 two_none (word ∷ []) e = refl
@@ -70,7 +70,7 @@ two_some (word ∷ second ∷ []) behind number e =
     zip (Some n) = refl
 two_some (word ∷ second ∷ third ∷ more) behind number e = rw (sym (says_some word (second ∷ third ∷ more) behind number e).1) refl
 
--- three numbers
+-- Three numbers.
 pub three_none : (words : List (List ℕ)) → number_first words ≡ None → three_in number_of words ≡ None
 three_none [] e = refl
 three_none (word ∷ words) e = rw (says_none word words e) refl
@@ -85,13 +85,13 @@ three_some (word ∷ words) behind number e =
     zip None = refl
     zip (Some p) = refl
 
--- A text by the digits that it begins with.
+-- A text and the digits at its beginning.
 
--- where the first blank stands, or the end
+-- The index of the first blank, or the length of the text.
 abbrev end_of_word : List ℕ → ℕ
 end_of_word text = position_or_len (λ byte. byte == blank) text
 
--- no digit is a blank
+-- No digit is a blank.
 digits_before_blank : (text : List ℕ) → leading_digits text ≤ end_of_word text
 digits_before_blank [] = omega arith
 digits_before_blank (x ∷ xs) = step (is_digit x) refl (digits_before_blank xs)
@@ -100,7 +100,7 @@ digits_before_blank (x ∷ xs) = step (is_digit x) refl (digits_before_blank xs)
     step true e h = let other : (x == blank) ≡ false = grind (arith, nat_tests) in rw (e, other) (omega arith)
     step false e h = rw e (omega arith)
 
--- the first word, and some words behind it
+-- The first word of a text, and the words after it.
 first_word_is : (text : List ℕ) → (words : List (List ℕ)) × (words_of text ≡ take (end_of_word text) text ∷ words)
 first_word_is text =
     ⊎_elim (λ within. (words_of (after_first (λ byte. byte == blank) text), slice_split_first (λ byte. byte == blank) text 0 within))
@@ -110,7 +110,7 @@ first_word_is text =
 end_within : (text : List ℕ) → end_of_word text ≤ length text
 end_within text = prefix_len-le-length (λ byte. not (byte == blank)) text
 
--- a word with more than digits says no number
+-- A word that has other bytes after its digits is not a number.
 mixed_none : (text : List ℕ) (n : ℕ) → n ≡ leading_digits text → n < end_of_word text → number_of (take (end_of_word text) text) ≡ None
 mixed_none text n is more =
     let m = end_of_word text in
@@ -120,7 +120,7 @@ mixed_none text n is more =
     let mixed = list_all_at is_digit (take m text) n 0 within at in
     rw mixed (grind (arith, nat_tests))
 
--- so what the first word says is what its digits say, or nothing
+-- If the first word is not a number, there is no first number.
 says_word : (text : List ℕ) → number_of (take (end_of_word text) text) ≡ None → number_first (words_of text) ≡ None
 says_word text none = let first = first_word_is text in rw (first.1, none) refl
 

@@ -1,4 +1,4 @@
--- Ids among the numbers that words say.
+-- Ids and numbers of words.
 use Rattle.std.proofs.Common.{◌≡◌, ℕ, ◌^◌, List, [], ◌∷◌, Option, Some, None, refl, sym, ap, ◌∙◌, arith}
 use Rattle.std.specs.Prelude.{if◌then◌else◌, nat_lt}
 use Rattle.std.specs.Option.{option_map, option_zip}
@@ -8,12 +8,12 @@ use Rattle.vm_lines.specs.Reading.{number_first}
 use Rattle.vm_lines.specs.Words.{one_in, two_in, three_in, four_in}
 use Rattle.vm_lines.proofs.FirstNumber.{says_none, says_some}
 
--- one id
+-- One id.
 abbrev pub id_in : Option ℕ → Option ℕ
 id_in None = None
 id_in (Some n) = if nat_lt n (2 ^ 32) then Some n else None
 
--- two
+-- Two ids.
 abbrev pub ids_in : Option (ℕ × ℕ) → Option (ℕ × ℕ)
 ids_in None = None
 ids_in (Some p) = option_zip (id_in (Some p.0)) (id_in (Some p.1))
@@ -41,7 +41,7 @@ two_ids (word ∷ second ∷ []) = rw (id_is word, id_is second) (zip (number_of
     zip (Some n) (Some m) = refl
 two_ids (word ∷ second ∷ third ∷ more) = refl
 
--- two ids and two numbers
+-- Two ids and two numbers.
 abbrev pub ids_among : ℕ → Option (ℕ × ℕ × ℕ) → Option ((ℕ × ℕ) × (ℕ × ℕ))
 ids_among number None = None
 ids_among number (Some p) = option_map (λ ids. (ids, (p.1, p.2))) (option_zip (id_in (Some number)) (id_in (Some p.0)))

@@ -1,4 +1,4 @@
--- What a line asks, by what it does not begin with.
+-- The command of a line that does not begin with some names.
 use Rattle.std.proofs.Common.{◌≡◌, ◌≢◌, ℕ, Bool, true, false, List, [], ◌∷◌, ◌++◌, Option, None, refl, sym, ap, ◌∙◌, append_assoc}
 use Rattle.std.specs.Prelude.{codes, if◌then◌else◌}
 use Rattle.std.specs.Str.{bytes_eq}
@@ -11,11 +11,11 @@ use Rattle.vm_lines.specs.declared.command.Command.{Command}
 use Rattle.vm_lines.specs.declared.command.Command.TheVariants.{Id}
 use Rattle.vm_lines.proofs.Splitting.{begins_with}
 
--- a text does not begin so
+-- The text does not begin with the prefix.
 abbrev pub BeginsNot : List ℕ → List ℕ → Type 0
 BeginsNot prefix text = (rest : List ℕ) → text ≢ prefix ++ rest
 
--- then the name stands alone, if at all
+-- If the first word is this name, it is the only word.
 alone_so : (name text word : List ℕ) (words : List (List ℕ)) → words_of text ≡ word ∷ words
     → BeginsNot (name ++ blank ∷ []) text → word ≡ name → words ≡ []
 alone_so name text word [] e h same = refl
@@ -23,7 +23,7 @@ alone_so name text word (next ∷ more) e h same =
     let begins = begins_with text word next more e in
     absurd (h begins.0 (begins.1 ∙ ap (λ w. w ++ blank ∷ begins.0) same ∙ sym (append_assoc name (blank ∷ []) begins.0)))
 
--- what is asked by another name
+-- The test for a name is skipped if its command is the command of the rest.
 other_name : (word name : List ℕ) (found other : Option Command) → (word ≡ name → found ≡ other)
     → (if bytes_eq word name then found else other) ≡ other
 other_name word name found other same = step (bytes_eq word name) refl
@@ -32,12 +32,12 @@ other_name word name found other same = step (bytes_eq word name) refl
     step true e = same ((bytes_eq-Decides word name).0 e)
     step false e = refl
 
--- a name that stands alone, if at all, asks for nothing
+-- The test for a name is skipped if the name without words has the command of the rest.
 skip : (word name : List ℕ) (words : List (List ℕ)) (found other : Option Command) → (word ≡ name → words ≡ [])
     → (word ≡ name → words ≡ [] → found ≡ other) → (if bytes_eq word name then found else other) ≡ other
 skip word name words found other alone none = other_name word name found other (λ same. none same (alone same))
 
--- a line that begins with none of these names asks for what it asks of ids and devices
+-- A line that begins with none of these names has the command of the ids or of the devices.
 pub none_of_space : (line : List ℕ) → BeginsNot (codes "space ") line → BeginsNot (codes "first ") line
     → BeginsNot (codes "last ") line → BeginsNot (codes "exact ") line → BeginsNot (codes "free ") line
     → asked (words_of line) ≡ ids_command (words_of line)
@@ -52,11 +52,11 @@ none_of_space line space first last exact free = step (words_of line) refl
         ∙ skip word (codes "exact") words _ _ (alone_so (codes "exact") line word words e exact) (λ w n. rw (w, n) refl)
         ∙ skip word (codes "free") words _ _ (alone_so (codes "free") line word words e free) (λ w n. rw (w, n) refl)
 
--- a word alone is the line
+-- A line of one word is this word.
 alone_is : (line word : List ℕ) → words_of line ≡ word ∷ [] → line ≡ word
 alone_is line word e = sym (join_with_byte-slice_split blank line) ∙ ap (join_with_byte blank) e
 
--- a line that begins with none of these, and is not the name that stands alone, asks for what it asks of devices
+-- A line that begins with none of these names and is not `id` has the command of the devices.
 pub none_of_ids : (line : List ℕ) → BeginsNot (codes "ids ") line → BeginsNot (codes "unid ") line
     → BeginsNot (codes "has ") line → line ≢ codes "id" → ids_command (words_of line) ≡ devices_command (words_of line)
 none_of_ids line ids unid has id = step (words_of line) refl
@@ -73,7 +73,7 @@ none_of_ids line ids unid has id = step (words_of line) refl
         ∙ skip word (codes "unid") words _ _ (alone_so (codes "unid") line word words e unid) (λ w n. rw (w, n) refl)
         ∙ skip word (codes "has") words _ _ (alone_so (codes "has") line word words e has) (λ w n. rw (w, n) refl)
 
--- a line that begins with none of these asks for nothing of devices
+-- A line that begins with none of these names has no command of the devices.
 pub none_of_devices : (line : List ℕ) → BeginsNot (codes "manager ") line → BeginsNot (codes "device ") line
     → BeginsNot (codes "undevice ") line → devices_command (words_of line) ≡ None
 none_of_devices line manager device undevice = step (words_of line) refl

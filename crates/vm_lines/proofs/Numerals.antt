@@ -12,7 +12,7 @@ use Rattle.vm_lines.specs.Reading.{leading_digits}
 
 -- Values.
 
--- one more digit
+-- The value with one more digit.
 value_push : (before digit : ℕ) (digits : List ℕ)
     → value_from before (digits ++ digit ∷ []) ≡ value_from before digits * 10 + (digit - digit_zero)
 value_push before digit [] = refl
@@ -22,12 +22,12 @@ pub value_more : (text : List ℕ) (i : ℕ) → i < length text
     → value_from 0 (take (i + 1) text) ≡ value_from 0 (take i text) * 10 + (get_or text i 0 - digit_zero)
 value_more text i h = rw (take_more text i 0 h) (value_push 0 (get_or text i 0) (take i text))
 
--- the first digit alone
+-- The value of the first digit.
 value_one : (text : List ℕ) → 0 < length text → value_from 0 (take 1 text) ≡ get_or text 0 0 - digit_zero
 value_one [] h = absurd (omega arith)
 value_one (digit ∷ text) h = omega arith
 
--- the value of so few digits fits
+-- The value with one more digit is below the next power of ten.
 pub next_below : (value count digit : ℕ) → value < 10 ^ count → digit ≤ 9 → value * 10 + digit < 10 ^ (count + 1)
 next_below value count digit h d = rw (pow_more 10 count) (omega arith)
 
@@ -38,7 +38,7 @@ next_fits value count h few =
 
 -- Digits at the beginning.
 
--- the first of the digits are digits
+-- The first bytes are digits, up to the number of leading digits.
 all_digits : (text : List ℕ) (n : ℕ) → n ≤ leading_digits text → list_all is_digit (take n text) ≡ true
 all_digits text zero h = refl
 all_digits [] (suc n) h = refl
@@ -49,12 +49,12 @@ all_digits (x ∷ xs) (suc n) h = step (is_digit x) refl (all_digits xs n)
     step true e all = let rest : n ≤ leading_digits xs = omega (arith, rw e at h) in rw (e, all rest)
     step false e all = absurd (omega (arith, rw e at h))
 
--- each of some digits is one
+-- Each byte of a list of digits is a digit.
 pub digit_at : (digits : List ℕ) (i : ℕ) → i < length digits → list_all is_digit digits ≡ true
     → is_digit (get_or digits i 0) ≡ true
 digit_at digits i h all = All-get_or (λ x. is_digit x ≡ true) digits i 0 h (AllPass-from_list_all is_digit digits all)
 
--- the digits behind some of them
+-- The digits after some of them.
 pub ahead_drop : (text : List ℕ) (n : ℕ) → n ≤ leading_digits text → leading_digits text ≡ n + leading_digits (drop n text)
 ahead_drop text zero h = omega arith
 ahead_drop [] (suc n) h = absurd (omega arith)
@@ -70,7 +70,7 @@ ahead_within text = prefix_len-le-length is_digit text
 
 -- Numbers.
 
--- what so few digits say, where it fits
+-- The number of at most 20 digits, if its value fits.
 pub number_is : (text : List ℕ) (n value : ℕ) → n ≤ leading_digits text → 0 < n → n ≤ 20 → value ≡ value_from 0 (take n text)
     → value < 2 ^ 64 → number_of (take n text) ≡ Some value
 number_is text n value h some few is fits =
@@ -78,29 +78,29 @@ number_is text n value h some few is fits =
     let long : length (take n text) ≡ n = omega (arith, length-take n text, prefix_len-le-length is_digit text) in
     rw (long, all, sym is) (grind (arith, nat_tests))
 
--- no digit says nothing
+-- A text without digits is not a number.
 pub number_none : (text : List ℕ) → number_of (take 0 text) ≡ None
 number_none text = refl
 
--- digits that say too much, or are too many, say nothing
+-- Too many digits, or digits with too large a value, are not a number.
 pub number_large : (text : List ℕ) (n : ℕ) → 2 ^ 64 ≤ value_from 0 (take n text) → number_of (take n text) ≡ None
 number_large text n large = grind (arith, nat_tests)
 
--- The last digit, behind nineteen.
+-- The last digit after nineteen digits.
 
--- what stands behind nineteen bytes
+-- The text after nineteen bytes.
 abbrev pub behind : List ℕ → List ℕ
 behind text = take (length text - 19) (drop 19 text)
 
 behind_is : (text : List ℕ) → behind text ≡ drop 19 text
 behind_is text = take_all (length text - 19) (drop 19 text) (omega (arith, length-drop 19 text))
 
--- how many digits there are in all
+-- The number of all leading digits.
 ahead_is : (text : List ℕ) (more : ℕ) → 19 ≤ leading_digits text → more ≡ min (leading_digits (behind text)) 19 → more < 19
     → leading_digits text ≡ 19 + more
 ahead_is text more h is few = omega (arith, ahead_drop text 19 h, rw (behind_is text) at is)
 
--- what twenty say
+-- The value of twenty digits.
 value_last : (text : List ℕ) (value last : ℕ) → 19 < length text → value ≡ value_from 0 (take 19 text)
     → last ≡ value_from 0 (take 1 (behind text)) → value_from 0 (take 20 text) ≡ value * 10 + last
 value_last text value last h is one =

@@ -1,4 +1,4 @@
--- Lines have one text and leave one machine, where memory suffices and few ranges are held.
+-- Lines have one output and leave one machine, if memory suffices and few ranges are held.
 use Rattle.std.proofs.Common.{◌≡◌, ◌≢◌, ℕ, ◌<◌, ◌↔◌, Bool, true, false, List, [], ◌∷◌, ◌++◌, length, refl, sym, ap, ◌∙◌, subst, Option, Some, None, Result, Err}
 use Rattle.std.specs.Prelude.{IfSome, IsTrue}
 use Rattle.vm_engine.specs.Address.{AddressState}
@@ -24,15 +24,15 @@ use Rattle.vm_lines.specs.declared.command.Command.TheVariants.{Space, First, La
 use Rattle.vm_lines.specs.declared.reply.Reply.{Reply}
 use Rattle.vm_lines.specs.declared.reply.Reply.TheVariants.{Held, Failed, NoSpace, NoIds, NoManager}
 
--- Answers.
+-- Replies.
 
--- an answer that memory ran out is told
+-- The reply to OutOfMemory is that memory ran out.
 not_memory : {A : Type 0} (tell : Result A Error → Reply) (reply : Reply) (answer : Result A Error)
     → tell (Err OutOfMemory) ≡ Failed OutOfMemory → reply ≡ tell answer → reply ≢ Failed OutOfMemory
     → answer ≢ Err OutOfMemory
 not_memory tell reply answer told is plain e = plain (is ∙ ap tell e ∙ told)
 
--- one answer is told in one way
+-- A result has one reply.
 same_outcome : {A : Type 0} (tell : Result A Error → Reply) (x y : Reply) (answer other : Result A Error) → x ≡ tell answer
     → y ≡ tell other → answer ≡ other → x ≡ y
 same_outcome tell x y answer other p q e = p ∙ ap tell e ∙ sym q
@@ -43,7 +43,7 @@ unfolding FreesRange
 released_once old m n start end x y a b =
     unless_same _ _ _ _ _ a b (λ u v. (u.0 ∙ sym v.0, u.1 ∙ sym v.1)) (frees_once old m n (record { start = start; end = end }) x y)
 
--- the ids that are held are known
+-- Whether an id is held has one result.
 outcome_once : (state : IdState) (id : ℕ) (held other : Bool) → IsTrue held ↔ IsHeld state id → IsTrue other ↔ IsHeld state id → held ≡ other
 outcome_once state id true true p q = refl
 outcome_once state id true false p q = absurd (cc (q.1 (p.0 refl)))
@@ -52,11 +52,11 @@ outcome_once state id false false p q = refl
 
 -- One line.
 
--- one reply and one machine
+-- Both replies and both machines are equal.
 abbrev Agree : Reply → Machine → Reply → Machine → Type 0
 Agree x m y n = (x ≡ y) × (m ≡ n)
 
--- What a line does to a part that may be there is determined where the call on that part is.
+-- The effect of a line on a part is determined if the call on that part is determined.
 part_once : {S : Type 0} (part : Option S) (put : S → Machine) (old m n : Machine) (absent x y : Reply) (call other : S → S → Type 0)
     → ((state later after : S) → part ≡ Some state → call state later → other state after → (x ≡ y) × (later ≡ after))
     → OnPart part put absent old x m call → OnPart part put absent old y n other → Agree x m y n
@@ -96,7 +96,7 @@ places_once old m n request x y few p q a b =
     let same = placed_once state later after request u.0 v.0 f (not_memory range_reply x u.0 refl u.2 p) (not_memory range_reply y v.0 refl v.2 q) u.1 v.1 in
     (same_outcome range_reply x y u.0 v.0 u.2 v.2 same.0, same.1)) a b
 
--- a line has one reply and leaves one machine
+-- A line has one reply and leaves one machine.
 does_once : (command : Command) (old m n : Machine) (x y : Reply) → IsBelowLimits old → x ≢ Failed OutOfMemory
     → y ≢ Failed OutOfMemory → Does old command x m → Does old command y n → Agree x m y n
 unfolding Does
@@ -137,9 +137,9 @@ does_once (Undevice id) old m n x y few p q a b =
     let same = devices_decide.released state later after id u.0 v.0 (not_memory done_reply x u.0 refl u.2 p) (not_memory done_reply y v.0 refl v.2 q) u.1 v.1 in
     (same_outcome done_reply x y u.0 v.0 u.2 v.2 same.0, same.1)) a b
 
--- Lines one after the other.
+-- Several lines.
 
--- from any machine such lines have one text, and leave one machine
+-- On each machine these lines have one output, and leave one machine.
 answered_once : (lines : List (List ℕ)) (old new end : Machine) (text other : List ℕ)
     → AreAnsweredBelowLimits old lines text new → AreAnsweredInMemory old lines other end → (text ≡ other) × (new ≡ end)
 answered_once [] old new end text other a b = (a.0 ∙ sym b.0, a.1 ∙ sym b.1)

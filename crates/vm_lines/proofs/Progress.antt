@@ -1,4 +1,4 @@
--- How far a session has come in its input.
+-- The state of a session after a prefix of its input.
 use Rattle.std.proofs.Common.{◌≡◌, ℕ, ◌+◌, ◌-◌, ◌<◌, Bool, true, false, List, [], ◌∷◌, ◌++◌, length, take, drop, ◌==◌, nat_le, nat_lt, Some, None, refl, sym, ap, ◌∙◌, subst, append-nil, append_assoc, length-append, arith}
 use Rattle.std.specs.Prelude.{if◌then◌else◌, MatchBool, position}
 use Rattle.std.proofs.lemmas.Bool.Decides.{nat_tests}
@@ -12,7 +12,7 @@ use Rattle.vm_lines.specs.Sessions.{Session, within_max_len, line_after, with_mo
 use Rattle.vm_lines.proofs.Parts.{glued, some_parts, parts_glued, glued_is, ended_is, lines_are}
 use Rattle.vm_lines.proofs.Splitting.{parts_some, parts_none}
 
--- what is kept of a line, with more bytes
+-- A copied line after more bytes.
 append_more : (line bytes : List ℕ) → line_after (within_max_len line) bytes ≡ within_max_len (line ++ bytes)
 append_more line bytes = step (nat_le (length line) max_line_len) refl
   where
@@ -20,7 +20,7 @@ append_more line bytes = step (nat_le (length line) max_line_len) refl
     step true e = rw e refl
     step false e = rw (e, length-append line bytes) (grind (arith, nat_tests))
 
--- what is kept asks what the line asks
+-- The command of a copied line is the command of the line.
 pub pending_of_line : (line : List ℕ) → pending_command (within_max_len line) ≡ command_of line
 pending_of_line line = step (nat_le (length line) max_line_len) refl
   where
@@ -28,7 +28,7 @@ pending_of_line line = step (nat_le (length line) max_line_len) refl
     step true e = rw e (rw e)
     step false e = rw e
 
--- a line has begun if it has a byte
+-- A line has begun if it is not empty.
 begun_of_line : (line : List ℕ) → has_begun (within_max_len line) ≡ nat_lt 0 (length line)
 begun_of_line line = step (nat_le (length line) max_line_len) refl
   where
@@ -36,7 +36,7 @@ begun_of_line line = step (nat_le (length line) max_line_len) refl
     step true e = rw e
     step false e = rw e (grind (arith, nat_tests))
 
--- one line more
+-- One more line.
 pub answered_push : (old mid new : Machine) (lines : List (List ℕ)) (line text : List ℕ) (reply : Reply)
     → AreAnswered old lines text mid → Does mid (command_of line) reply new
     → AreAnswered old (lines ++ line ∷ []) (text ++ (text_of reply ++ newline ∷ [])) new
@@ -44,7 +44,7 @@ answered_push old mid new [] line text reply r d = (reply, new, [], subst (λ s.
 answered_push old mid new (x ∷ lines) line text reply r d =
     (r.0, r.1, r.2 ++ (text_of reply ++ newline ∷ []), r.3, answered_push r.1 mid new lines line r.2 reply r.4 d, ap (λ t. t ++ (text_of reply ++ newline ∷ [])) r.5 ∙ append_assoc (text_of r.0) (newline ∷ r.2) (text_of reply ++ newline ∷ []))
 
--- Of these parts, those that are ended were answered by this text, and the session keeps the line that has begun.
+-- The text is the output of the ended parts, and the session has the last part as the line that has begun.
 pub record Holds (parts : List (List ℕ)) (text : List ℕ) (session : Session) : Type 0 where
   pub ended : List (List ℕ)
   pub begun : List ℕ
@@ -52,15 +52,15 @@ pub record Holds (parts : List (List ℕ)) (text : List ℕ) (session : Session)
   pub replaced_if_ok : session.line ≡ within_max_len begun
   pub answered : AreAnswered start ended text session.machine
 
--- the same of the parts of what was read
+-- The same for the parts of the text that was read.
 abbrev pub At : List ℕ → List ℕ → Session → Type 0
 At read text session = Holds (parts_of read) text session
 
--- before the first byte
+-- The session before the first byte.
 pub at_start : At [] [] (record { machine = start; line = Some [] })
 at_start = record { ended = []; begun = []; parts_are = refl; replaced_if_ok = refl; answered = (refl, refl) }
 
--- one more line ends
+-- One more line ends.
 holds_line : (parts : List (List ℕ)) (part text added : List ℕ) (old new : Session) (h : Holds parts text old)
     → EndsLine (with_more old part) added new
     → Holds ((h.ended ++ (h.begun ++ part) ∷ []) ++ [] ∷ []) (text ++ added) new
@@ -74,7 +74,7 @@ holds_line parts part text added old new h f =
       answered = subst (λ t. AreAnswered start (h.ended ++ (h.begun ++ part) ∷ []) (text ++ t) new.machine) (sym f.3) (answered_push start old.machine new.machine h.ended (h.begun ++ part) text f.0 h.answered (subst (λ q. Does old.machine q f.0 new.machine) asks f.1));
     }
 
--- more parts come
+-- More parts are read.
 holds_parts : (others parts : List (List ℕ)) (text added : List ℕ) (old new : Session) → 0 < length others
     → Holds parts text old → AnswersParts old others added new → Holds (glued parts others) (text ++ added) new
 holds_parts [] parts text added old new some h f = absurd (omega arith)
@@ -95,13 +95,13 @@ holds_parts (part ∷ next ∷ others) parts text added old new some h f =
     ∙ sym (ap (λ ps. glued ps (part ∷ next ∷ others)) h.parts_are ∙ glued_is h.ended h.begun part (next ∷ others)) in
     subst (λ t. Holds (glued parts (part ∷ next ∷ others)) t new) (append_assoc text f.1 f.2 ∙ ap (λ t. text ++ t) (sym f.5)) (subst (λ ps. Holds ps ((text ++ f.1) ++ f.2) new) behind all)
 
--- a piece more
+-- One more piece is read.
 pub at_feeds : (piece read text added : List ℕ) (old new : Session) → At read text old → AnswersPiece old piece added new
     → At (read ++ piece) (text ++ added) new
 at_feeds piece read text added old new a f =
     rw (parts_glued read piece) (holds_parts (parts_of piece) (parts_of read) text added old new (some_parts piece) a f)
 
--- a piece begins with the end of a line
+-- A piece that begins with the end of a line.
 pub feeds_line : (piece : List ℕ) (i : ℕ) (first rest : List ℕ) (old mid new : Session)
     → position (λ byte. byte == newline) piece ≡ Some i → EndsLine (with_more old (take i piece)) first mid
     → AnswersPiece mid (take (length piece - (i + 1)) (drop (i + 1) piece)) rest new → AnswersPiece old piece (first ++ rest) new
@@ -114,16 +114,16 @@ feeds_line piece i first rest old mid new e h f =
     cons part [] some h f = absurd (omega arith)
     cons part (next ∷ parts) some h f = (mid, first, rest, h, f, refl)
 
--- a piece in which no line ends
+-- A piece in which no line ends.
 pub feeds_none : (piece : List ℕ) (old : Session) → position (λ byte. byte == newline) piece ≡ None
     → AnswersPiece old piece [] (with_more old piece)
 feeds_none piece old e = rw (parts_none piece e) (refl, refl)
 
--- at a fault the ended lines are answered
+-- After a failed read the output is that of the ended lines.
 pub at_fault : (read text : List ℕ) (session : Session) → At read text session → MayAnswer (ended_lines_of read) text
 at_fault read text session a = (session.machine, subst (λ ls. AreAnswered start ls text session.machine) (sym (ap ended_among a.parts_are ∙ ended_is a.ended a.begun)) a.answered)
 
--- the end of the input, by whether a line has begun
+-- The end of the input, by whether a line has begun.
 at_end : (read text added : List ℕ) (session : Session) (b : Bool) (a : At read text session)
     → nat_lt 0 (length a.begun) ≡ b → MatchBool b ((new : Session) × EndsLine (with_more session []) added new) (added ≡ [])
     → MayAnswer (a.ended ++ (if length a.begun == 0 then [] else a.begun ∷ [])) (text ++ added)
@@ -135,17 +135,17 @@ at_end read text added session false a e f =
     let none : (length a.begun == 0) ≡ true = grind (arith, nat_tests) in
     rw (none, f, append-nil a.ended, append-nil text) (session.machine, a.answered)
 
--- at the end of the input all lines are answered
+-- At the end of the input the output is that of all lines.
 pub at_finish : (read text added : List ℕ) (session : Session) → At read text session → AnswersLastLine session added
     → MayAnswer (lines_of read) (text ++ added)
 at_finish read text added session a f =
     subst (λ ls. MayAnswer ls (text ++ added)) (sym (ap lines_among a.parts_are ∙ lines_are a.ended a.begun))
     (at_end read text added session (nat_lt 0 (length a.begun)) a refl (subst (λ b. MatchBool b ((new : Session) × EndsLine (with_more session []) added new) (added ≡ [])) (ap has_begun a.replaced_if_ok ∙ begun_of_line a.begun) f))
 
--- a line that has begun is answered at the end
+-- If a line has begun, it ends at the end of the input.
 pub answers_last_some : (old new : Session) (text : List ℕ) → has_begun old.line ≡ true → EndsLine (with_more old []) text new → AnswersLastLine old text
 answers_last_some old new text e h = rw e (new, h)
 
--- where no line has begun, nothing is written at the end
+-- If no line has begun, the end of the input has no output.
 pub answers_last_none : (old : Session) → has_begun old.line ≡ false → AnswersLastLine old []
 answers_last_none old e = rw e

@@ -1,4 +1,4 @@
--- Each call that a line may make has an answer, other than that memory ran out: from the library's laws.
+-- Each call of a line has a result other than OutOfMemory, by the laws of the libraries.
 use Rattle.std.proofs.Common.{◌≡◌, ◌≢◌, ℕ, ◌<◌, ◌≤◌, refl, inl, inr, ⊎_elim, Result, Err}
 use Rattle.std.proofs.lemmas.Bool.{cases_eq}
 use Rattle.vm_ranges.specs.Range.{MAX, IsRange}
@@ -14,7 +14,7 @@ use Rattle.vm_allocator.proofs.Answers.EveryAddressCall.{every_call}
 use Rattle.vm_allocator.proofs.Ids.EveryIdCall.{every_call as every_id_call}
 use Rattle.vm_lines.specs.Machines.{FreesRange}
 
--- some answer, not that memory ran out, and some next state are allowed
+-- The relation is true for some result other than OutOfMemory and some next state.
 abbrev pub IsAnswered : {A S : Type 0} → (Result A Error → S → Type 0) → Type 0
 IsAnswered {A} {S} allowed =
     (answer : Result A Error) × (new : S) × allowed answer new × (answer ≢ Err OutOfMemory)
@@ -34,7 +34,7 @@ decided_range start end = by_last (decided_both (start ≤ end) (end ≤ MAX) (d
     by_last (inl a) (inl b) (inl c) = inl (a.0, a.1, λ e. c)
     by_last (inl a) (inl b) (inr n) = inr (λ r. n (r.2 b))
 
--- each range, and what is none, is given back or refused
+-- Freeing has a result for all ends, also if they are not those of a range.
 pub releases_answered : (old : AddressState) (start end : ℕ) → IsAnswered (FreesRange old start end)
 unfolding FreesRange
 releases_answered old start end =

@@ -1,4 +1,4 @@
--- Each line has a reply, and so each input has a text.
+-- Each line has a reply, so each input has an output.
 use Rattle.std.proofs.Common.{◌≡◌, ◌≢◌, ℕ, List, [], ◌∷◌, ◌++◌, refl, ap, Option, Some, None, Result, Ok, Err}
 use Rattle.std.specs.FinSet as set
 use Rattle.vm_ranges.specs.Range.{Range}
@@ -25,11 +25,11 @@ use Rattle.vm_lines.proofs.SomeAnswer.{IsAnswered, allocates_answered, releases_
 
 -- One line.
 
--- some reply, not that memory ran out, and some next state are allowed
+-- The relation is true for some reply, other than that memory ran out, and some next state.
 abbrev IsReplied : {S : Type 0} → (Reply → S → Type 0) → Type 0
 IsReplied {S} allowed = (reply : Reply) × (new : S) × allowed reply new × (reply ≢ Failed OutOfMemory)
 
--- a refusal is told with its error
+-- The reply to another error is not that memory ran out.
 plain_refused : (e : Error) {A : Type 0} → (let answer : Result A Error = Err e in answer ≢ Err OutOfMemory)
     → Failed e ≢ Failed OutOfMemory
 plain_refused e {A} plain same = let told : e ≡ OutOfMemory = cc in plain (ap (λ (f : Error). let answer : Result A Error = Err f in answer) told)
@@ -50,14 +50,14 @@ plain_device : (answer : Result DeviceSlot Error) → answer ≢ Err OutOfMemory
 plain_device (Ok slot) plain = λ e. cc
 plain_device (Err e) plain = plain_refused e {A = DeviceSlot} plain
 
--- a call that is answered is replied to in the words for its answer
+-- A call that has a result has a reply.
 replied : {A S : Type 0} (tell : Result A Error → Reply)
     → ((answer : Result A Error) → answer ≢ Err OutOfMemory → tell answer ≢ Failed OutOfMemory)
     → (call : Result A Error → S → Type 0) → IsAnswered call
     → IsReplied (λ reply new. (answer : Result A Error) × call answer new × (reply ≡ tell answer))
 replied tell plain call h = (tell h.0, h.1, (h.0, h.2, refl), plain h.0 h.3)
 
--- a line on a part that may be there
+-- A line on a part that can be absent has a reply.
 on_part : {S : Type 0} (part : Option S) (put : S → Machine) (old : Machine) (absent : Reply)
     → absent ≢ Failed OutOfMemory → (call : Reply → S → S → Type 0)
     → ((state : S) → IsReplied (λ reply later. call reply state later))
@@ -88,7 +88,7 @@ unfolding AllocatesRange
 places_replied old request =
     on_space old _ (λ state. replied range_reply plain_given _ (allocates_answered state request))
 
--- each command has a reply
+-- Each command has a reply.
 does_replied : (command : Command) (old : Machine) → IsReplied (λ reply new. Does old command reply new)
 unfolding Does
 does_replied Malformed old = (NotInLanguage, old, (refl, refl), λ e. cc)
@@ -115,7 +115,7 @@ does_replied (Device size alignment) old =
 does_replied (Undevice id) old =
     on_devices old _ (λ state. replied done_reply plain_done _ (every_device_call.released state id))
 
--- Lines one after the other.
+-- Several lines.
 
 lines_answered : (lines : List (List ℕ)) (old : Machine)
     → (text : List ℕ) × (new : Machine) × AreAnswered old lines text new × AreAnsweredInMemory old lines text new

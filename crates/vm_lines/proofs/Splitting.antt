@@ -1,4 +1,4 @@
--- The words of a line and the parts of a piece, by where the first byte between them stands.
+-- The words of a line and the parts of a piece, by the index of the first byte between them.
 use Rattle.std.proofs.Common.{◌≡◌, ◌≢◌, ℕ, ◌+◌, ◌-◌, ◌<◌, ◌≤◌, Bool, true, false, List, [], ◌∷◌, length, take, drop, Some, None, ◌==◌, refl, arith, rules, ◌++◌, get_or, length-drop, sym, ⊎_elim, ap, ◌∙◌}
 use Rattle.std.specs.Prelude.{position}
 use Rattle.std.specs.List.{position_or_len, slice_split, after_first}
@@ -12,21 +12,21 @@ use Rattle.std.proofs.lemmas.Grind.{common_steps}
 use Rattle.vm_lines.specs.Lines.{newline, parts_of}
 use Rattle.vm_lines.specs.Words.{blank, words_of}
 
--- a text, cut at each such byte
+-- The parts of a text between bytes of this value.
 abbrev cut_at : ℕ → List ℕ → List (List ℕ)
 cut_at c text = slice_split (λ byte. byte == c) text
 
--- where the first such byte stands
+-- The index of the first such byte.
 some_below : (c : ℕ) (text : List ℕ) (i : ℕ) → position (λ byte. byte == c) text ≡ Some i
     → (i < length text) × (position_or_len (λ byte. byte == c) text ≡ i)
 some_below c text i e = search (rules, common_steps)
 
--- a text with such a byte
+-- A text with such a byte.
 cut_some : (c : ℕ) (text : List ℕ) (i : ℕ) → position (λ byte. byte == c) text ≡ Some i
     → cut_at c text ≡ take i text ∷ cut_at c (take (length text - (i + 1)) (drop (i + 1) text))
 cut_some c text i e = let h = some_below c text i e in search (rules, common_steps, slice_split_first (λ byte. byte == c) text 0 (omega arith))
 
--- a text with no such byte is one part
+-- A text without such a byte is one part.
 none_step : (c : ℕ) (xs : List ℕ) → length xs ≤ position_or_len (λ byte. byte == c) xs → cut_at c xs ≡ xs ∷ []
 none_step c [] h = refl
 none_step c (x ∷ xs) h = none_cons c x xs (x == c) refl (none_step c xs) h
@@ -40,16 +40,16 @@ none_step c (x ∷ xs) h = none_cons c x xs (x == c) refl (none_step c xs) h
 cut_none : (c : ℕ) (text : List ℕ) → position (λ byte. byte == c) text ≡ None → cut_at c text ≡ text ∷ []
 cut_none c text e = none_step c text (grind (arith, nat_tests))
 
--- the first word of a text with a blank, and the words behind it
+-- The first word of a text with a blank, and the words after it.
 pub words_some : (line : List ℕ) (i : ℕ) → position (λ byte. byte == blank) line ≡ Some i
     → words_of line ≡ take i line ∷ words_of (take (length line - (i + 1)) (drop (i + 1) line))
 words_some line i e = cut_some blank line i e
 
--- the words of a text with no blank
+-- The words of a text without a blank.
 pub words_none : (line : List ℕ) → position (λ byte. byte == blank) line ≡ None → words_of line ≡ line ∷ []
 words_none line e = cut_none blank line e
 
--- a text of some words begins with the first and a blank
+-- A text of several words begins with the first word and a blank.
 pub begins_with : (text word next : List ℕ) (more : List (List ℕ)) → words_of text ≡ word ∷ next ∷ more
     → (rest : List ℕ) × (text ≡ word ++ blank ∷ rest)
 begins_with text word next more e =
@@ -63,7 +63,7 @@ begins_with text word next more e =
     (λ all. absurd (let alone = words_none text (grind (arith, nat_tests)) in cc))
     (cases_lt m (length text))
 
--- whether a text begins so
+-- Whether a text begins with a prefix.
 pub too_short : (text prefix rest : List ℕ) → length text < length prefix → text ≢ prefix ++ rest
 too_short text prefix rest h e = omega (arith, front_fits text prefix rest e)
 
@@ -76,15 +76,15 @@ pub begins_so : (text prefix : List ℕ) → length prefix ≤ length text
 begins_so text prefix fits same =
     rw (take_all (length text - length prefix) (drop (length prefix) text) (omega (arith, length-drop (length prefix) text))) (front_from_reads 0 text prefix fits same)
 
--- the first part of a piece with a newline, and the parts behind it
+-- The first part of a piece with a newline, and the parts after it.
 pub parts_some : (piece : List ℕ) (i : ℕ) → position (λ byte. byte == newline) piece ≡ Some i
     → parts_of piece ≡ take i piece ∷ parts_of (take (length piece - (i + 1)) (drop (i + 1) piece))
 parts_some piece i e = cut_some newline piece i e
 
--- the parts of a piece with no newline
+-- The parts of a piece without a newline.
 pub parts_none : (piece : List ℕ) → position (λ byte. byte == newline) piece ≡ None → parts_of piece ≡ piece ∷ []
 parts_none piece e = cut_none newline piece e
 
--- a text has a word
+-- A text has at least one word.
 pub some_words : (text : List ℕ) → 0 < length (words_of text)
 some_words text = omega (arith, length-slice_split (λ byte. byte == blank) text)

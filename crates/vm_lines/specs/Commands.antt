@@ -1,4 +1,4 @@
--- What a line asks for.
+-- The command of a line.
 use Rattle.std.specs.Prelude.{ℕ, if◌then◌else◌, nat_le, List, [], ◌∷◌, length, codes, Option, Some, None}
 use Rattle.std.specs.Option.{option_map}
 use Rattle.std.specs.Str.{bytes_eq}
@@ -7,7 +7,7 @@ use Rattle.vm_lines.specs.Words.{words_of, alone, one_in, two_in, three_in, four
 use Rattle.vm_lines.specs.declared.command.Command.{Command}
 use Rattle.vm_lines.specs.declared.command.Command.TheVariants.{Space, First, Last, Exact, Free, Ids, Id, Unid, Has, Manager, Device, Undevice, Malformed}
 
--- what they ask of devices
+-- The command of the words for the devices, if they are in the language.
 abbrev pub devices_command : List (List ℕ) → Option Command
 devices_command [] = None
 devices_command (name ∷ words) =
@@ -16,7 +16,7 @@ devices_command (name ∷ words) =
     else if bytes_eq name (codes "undevice") then option_map (λ i. Undevice i) (one_in id_of words)
     else None
 
--- what they ask of ids, and else of devices
+-- The command of the words for the ids or for the devices, if they are in the language.
 abbrev pub ids_command : List (List ℕ) → Option Command
 ids_command [] = None
 ids_command (name ∷ words) =
@@ -26,7 +26,7 @@ ids_command (name ∷ words) =
     else if bytes_eq name (codes "has") then option_map (λ i. Has i) (one_in id_of words)
     else devices_command (name ∷ words)
 
--- what the words of a line ask for, where they are in the language: of a space, and else of ids or of devices
+-- The command of the words for the space, for the ids or for the devices, if they are in the language.
 abbrev pub asked : List (List ℕ) → Option Command
 asked [] = None
 asked (name ∷ words) =
@@ -37,15 +37,15 @@ asked (name ∷ words) =
     else if bytes_eq name (codes "free") then option_map (λ p. Free p.0 p.1) (two_in number_of words)
     else ids_command (name ∷ words)
 
--- a longer line is not in the language
+-- The maximum length of a line.
 abbrev pub max_line_len : ℕ
 max_line_len = 120
 
--- the command that is asked for, if there is one
+-- The command, or Malformed if there is none.
 abbrev pub command_or_malformed : Option Command → Command
 command_or_malformed None = Malformed
 command_or_malformed (Some command) = command
 
--- what a line asks for
+-- The command of a line.
 abbrev pub command_of : List ℕ → Command
 command_of line = if nat_le (length line) max_line_len then command_or_malformed (asked (words_of line)) else Malformed

@@ -1,4 +1,4 @@
--- What follows from the definitions alone.
+-- Laws that follow only from the definitions.
 use Rattle.std.specs.Prelude.{◌≡◌, ◌≢◌, ℕ, ◌<◌, List, [], ◌∷◌, ◌++◌, length, IfSome}
 use Rattle.vm_engine.specs.Answer.{SPLIT_LIMIT_MIN_HELD}
 use Rattle.vm_ranges.specs.declared.error.Error.TheVariants.{OutOfMemory}
@@ -10,13 +10,13 @@ use Rattle.vm_lines.specs.Runs.{MayAnswer}
 use Rattle.vm_lines.specs.declared.reply.Reply.{Reply}
 use Rattle.vm_lines.specs.declared.reply.Reply.TheVariants.{Failed}
 
--- so few ranges are held, by lines on the space and by devices, that no split is refused for the depth of a tree
+-- The space and the devices hold fewer than SPLIT_LIMIT_MIN_HELD ranges each, so the height never makes a split fail.
 abbrev pub IsBelowLimits : Machine → Type 0
 IsBelowLimits machine =
     IfSome machine.space (λ state. length state.held < SPLIT_LIMIT_MIN_HELD)
     × IfSome machine.devices (λ state. length state.space.held < SPLIT_LIMIT_MIN_HELD)
 
--- As `AreAnswered`, where no line is refused because memory ran out.
+-- Like `AreAnswered`, and no reply is that memory ran out.
 abbrev pub AreAnsweredInMemory : Machine → List (List ℕ) → List ℕ → Machine → Type 0
 AreAnsweredInMemory old [] text new = (text ≡ []) × (new ≡ old)
 AreAnsweredInMemory old (line ∷ lines) text new =
@@ -26,7 +26,7 @@ AreAnsweredInMemory old (line ∷ lines) text new =
     × AreAnsweredInMemory mid lines rest new
     × (text ≡ text_of reply ++ newline ∷ rest)
 
--- As `AreAnsweredInMemory`, where few ranges are held before each line.
+-- Like `AreAnsweredInMemory`, and few ranges are held before each line.
 abbrev pub AreAnsweredBelowLimits : Machine → List (List ℕ) → List ℕ → Machine → Type 0
 AreAnsweredBelowLimits old [] text new = (text ≡ []) × (new ≡ old)
 AreAnsweredBelowLimits old (line ∷ lines) text new =
@@ -37,20 +37,19 @@ AreAnsweredBelowLimits old (line ∷ lines) text new =
     × AreAnsweredBelowLimits mid lines rest new
     × (text ≡ text_of reply ++ newline ∷ rest)
 
--- where few ranges are held, lines have no other text in which none is refused because memory ran out, and leave one
--- state
+-- If few ranges are held, lines have no other output in which no line runs out of memory, and they leave one machine.
 unfoldable pub OneText : Type 0
 OneText =
     (lines : List (List ℕ)) (text other : List ℕ) (new end : Machine) →
     AreAnsweredBelowLimits start lines text new → AreAnsweredInMemory start lines other end → (text ≡ other) × (new ≡ end)
 
--- whatever the lines so far have made, each line has a reply, other than that memory ran out
+-- For each machine, each line has a reply other than that memory ran out.
 unfoldable pub HasReply : Type 0
 HasReply =
     (old : Machine) (line : List ℕ) →
     (reply : Reply) × (new : Machine) × Does old (command_of line) reply new × (reply ≢ Failed OutOfMemory)
 
--- and so the lines of each input have a text in which none is refused because memory ran out
+-- The lines of each input have an output in which no line runs out of memory.
 unfoldable pub HasText : Type 0
 HasText =
     (lines : List (List ℕ)) →

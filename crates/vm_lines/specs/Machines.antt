@@ -1,5 +1,5 @@
--- What the lines so far have made, and what a further line does to it: by the very relations that the calls of the
--- libraries ensure.
+-- The machine, and the effect of a line on it. The effect is defined by the relations in the contracts of the
+-- libraries.
 use Rattle.std.specs.Prelude.{◌≡◌, ◌↔◌, ℕ, Bool, IsTrue, Option, Some, None, Result, Ok, Err, MatchOption, refl}
 use Rattle.std.specs.Coded.{Coded, code_by, coded×, coded_option}
 use Rattle.vm_ranges.specs.Cases.{Unless}
@@ -19,14 +19,13 @@ use Rattle.vm_lines.specs.declared.command.Command.TheVariants.{Space, First, La
 use Rattle.vm_lines.specs.declared.reply.Reply.{Reply}
 use Rattle.vm_lines.specs.declared.reply.Reply.TheVariants.{Held, NoSpace, NoIds, NoManager, NotInLanguage}
 
--- what the lines so far have made: the space of the last `space` that was done, the ids of the last `ids`, and the
--- devices of the last `manager`
+-- The space of the last `space` that succeeded, the ids of the last `ids`, and the devices of the last `manager`.
 pub record Machine : Type 0 where
   pub space : Option AddressState
   pub ids : Option IdState
   pub devices : Option DeviceState
 
--- a machine is stored as the tuple of its fields
+-- Proof: encodes a machine as the tuple of its fields.
 abbrev pub machine_code : Coded Machine
 machine_code =
     code_by (Option AddressState × (Option IdState × Option DeviceState))
@@ -35,62 +34,62 @@ machine_code =
     (λ p. record { space = p.0; ids = p.1.0; devices = p.1.1 })
     (λ _. refl)
 
--- before the first line
+-- The machine before the first line.
 abbrev pub start : Machine
 start = record { space = None; ids = None; devices = None }
 
--- what is made takes the place of what was there, and what is refused does not
+-- The new part, or the old part if there is an error.
 abbrev pub replaced_if_ok : {A : Type 0} → Result A Error → Option A → Option A
 replaced_if_ok (Ok made) old = Some made
 replaced_if_ok (Err error) old = old
 
--- the machine with the space that was made, if it was
+-- The machine with the new space, or with the old one if there is an error.
 abbrev pub with_space : Machine → Result AddressState Error → Machine
 with_space old answer = record old { space = replaced_if_ok answer old.space }
 
--- with the ids that were made
+-- The machine with the new ids, or with the old ones if there is an error.
 abbrev pub with_ids : Machine → Result IdState Error → Machine
 with_ids old answer = record old { ids = replaced_if_ok answer old.ids }
 
--- with the devices that were made
+-- The machine with the new devices, or with the old ones if there is an error.
 abbrev pub with_devices : Machine → Result DeviceState Error → Machine
 with_devices old answer = record old { devices = replaced_if_ok answer old.devices }
 
--- the line needs this part: where it is absent this is the reply; else this call decides the reply, and the state that is
--- put back
+-- The line needs a part. If the part is absent, the reply is `absent` and nothing changes. Otherwise the call decides
+-- the reply and the new part.
 abbrev pub OnPart : {S : Type 0} → Option S → (S → Machine) → Reply → Machine → Reply → Machine → (S → S → Type 0) → Type 0
 OnPart {S} part put absent old reply new call =
     MatchOption part
     ((reply ≡ absent) × (new ≡ old))
     (λ state. (later : S) × call state later × (new ≡ put later))
 
--- the line needs a space: where there is one, this call decides the reply and the state that it leaves
+-- The line needs a space. If there is one, the call decides the reply and the new space.
 unfoldable pub OnSpace : Machine → Reply → Machine → (AddressState → AddressState → Type 0) → Type 0
 OnSpace old reply new call = OnPart old.space (λ later. record old { space = Some later }) NoSpace old reply new call
 
--- the line needs ids: where there are some, this call decides the reply and the state that it leaves
+-- The line needs ids. If there are some, the call decides the reply and the new ids.
 unfoldable pub OnIds : Machine → Reply → Machine → (IdState → IdState → Type 0) → Type 0
 OnIds old reply new call = OnPart old.ids (λ later. record old { ids = Some later }) NoIds old reply new call
 
--- the line needs a manager: where there is one, this call decides the reply and the state that it leaves
+-- The line needs a manager. If there is one, the call decides the reply and the new devices.
 unfoldable pub OnDevices : Machine → Reply → Machine → (DeviceState → DeviceState → Type 0) → Type 0
 OnDevices old reply new call =
     OnPart old.devices (λ later. record old { devices = Some later }) NoManager old reply new call
 
--- an allocation
+-- The line allocates a range by a request.
 unfoldable pub AllocatesRange : Machine → Request → Reply → Machine → Type 0
 AllocatesRange old request reply new =
     OnSpace old reply new (λ state later.
     (answer : Result Range Error) × Allocates state request answer later × (reply ≡ range_reply answer))
 
--- the release of what is to be a range
+-- The result of freeing the range from start to end: InvalidRange if these are not the ends of a range.
 unfoldable pub FreesRange : AddressState → ℕ → ℕ → Result (Unit {0}) Error → AddressState → Type 0
 FreesRange old start end answer new =
     Unless (IsRange start end)
     ((answer ≡ Err (InvalidRange start end)) × (new ≡ old))
     (Frees old (record { start = start; end = end }) answer new)
 
--- From old, the command can get this reply, and new is what it leaves.
+-- On the machine old the command can have this reply and leave the machine new.
 unfoldable pub Does : Machine → Command → Reply → Machine → Type 0
 Does old Malformed reply new = (reply ≡ NotInLanguage) × (new ≡ old)
 Does old (Space base size) reply new =

@@ -1,4 +1,4 @@
--- How a line is answered.
+-- The replies to lines, and their text.
 use Rattle.std.specs.Prelude.{ℕ, if◌then◌else◌, List, ◌∷◌, ◌++◌, codes, decimal, Result, Ok, Err}
 use Rattle.vm_ranges.specs.Range.{Range}
 use Rattle.vm_ranges.specs.declared.error.Error.{Error}
@@ -8,15 +8,15 @@ use Rattle.vm_lines.specs.Words.{blank}
 use Rattle.vm_lines.specs.declared.reply.Reply.{Reply}
 use Rattle.vm_lines.specs.declared.reply.Reply.TheVariants.{Done, Given, Id, Held, Device, Failed, NoSpace, NoIds, NoManager, NotInLanguage}
 
--- two numbers, with a blank between them
+-- Two numbers with a blank between them.
 abbrev pub pair_text : ℕ → ℕ → List ℕ
 pair_text first second = decimal first ++ blank ∷ decimal second
 
--- how a device reads: its id and its range
+-- The text of a device: its id and its range.
 abbrev pub device_text : DeviceSlot → List ℕ
 device_text slot = codes "device " ++ decimal slot.id ++ blank ∷ pair_text slot.range.start slot.range.end
 
--- how a refusal reads: no call answers an overlap
+-- The text of an error. No call returns Overlap.
 abbrev pub error_text : Error → List ℕ
 error_text Overflow = codes "error overflow"
 error_text (OutOfRange id) = codes "error out-of-range " ++ decimal id
@@ -32,7 +32,7 @@ error_text Underflow = codes "error underflow"
 error_text (InvalidSize size) = codes "error invalid-size " ++ decimal size
 error_text OutOfMemory = codes "error memory"
 
--- how a reply reads
+-- The text of a reply.
 abbrev pub text_of : Reply → List ℕ
 text_of Done = codes "done"
 text_of (Given range) = codes "range " ++ pair_text range.start range.end
@@ -45,22 +45,22 @@ text_of NoIds = codes "error no-ids"
 text_of NoManager = codes "error no-manager"
 text_of NotInLanguage = codes "error line"
 
--- the reply to a call that gives nothing which is told
+-- The reply to a call that returns nothing.
 abbrev pub done_reply : {A : Type 0} → Result A Error → Reply
 done_reply (Ok value) = Done
 done_reply (Err error) = Failed error
 
--- the reply to a call that gives a range
+-- The reply to a call that returns a range.
 abbrev pub range_reply : Result Range Error → Reply
 range_reply (Ok range) = Given range
 range_reply (Err error) = Failed error
 
--- the reply to a call that gives an id
+-- The reply to a call that returns an id.
 abbrev pub id_reply : Result ℕ Error → Reply
 id_reply (Ok id) = Id id
 id_reply (Err error) = Failed error
 
--- the reply to a call that gives a device
+-- The reply to a call that returns a device.
 abbrev pub device_reply : Result DeviceSlot Error → Reply
 device_reply (Ok slot) = Device slot
 device_reply (Err error) = Failed error

@@ -1,4 +1,4 @@
--- What may be written for the lines of a text.
+-- The output of the lines of a text.
 use Rattle.std.specs.Prelude.{◌≡◌, ℕ, List, [], ◌∷◌, ◌++◌, Option, Some, IfSome}
 use Rattle.vm_lines.specs.Commands.{command_of}
 use Rattle.vm_lines.specs.Lines.{newline, lines_of, ended_lines_of}
@@ -6,7 +6,7 @@ use Rattle.vm_lines.specs.Machines.{Machine, start, Does}
 use Rattle.vm_lines.specs.Replies.{text_of}
 use Rattle.vm_lines.specs.declared.reply.Reply.{Reply}
 
--- From old, these lines may be answered by this text, one line for each, and new is what they leave.
+-- On the machine old these lines can have this output, one line for each, and leave the machine new.
 abbrev pub AreAnswered : Machine → List (List ℕ) → List ℕ → Machine → Type 0
 AreAnswered old [] text new = (text ≡ []) × (new ≡ old)
 AreAnswered old (line ∷ lines) text new =
@@ -15,22 +15,22 @@ AreAnswered old (line ∷ lines) text new =
     × AreAnswered mid lines rest new
     × (text ≡ text_of reply ++ newline ∷ rest)
 
--- the lines may be answered by this text, from the start
+-- The lines can have this output, beginning with the first machine.
 abbrev pub MayAnswer : List (List ℕ) → List ℕ → Type 0
 MayAnswer lines text = (end : Machine) × AreAnswered start lines text end
 
--- The writer had these bytes before, and now has them and a text that may answer the lines.
+-- An output of the lines was appended to the bytes of the writer.
 abbrev pub AppendsAnswers : List (List ℕ) → Option (List ℕ) → Option (List ℕ) → Type 0
 AppendsAnswers lines written_old written_new =
     IfSome written_old (λ before. (text : List ℕ) × MayAnswer lines text × (written_new ≡ Some (before ++ text)))
 
--- All of the input was read, and its lines are answered. This speaks of a reader and a writer that tell their bytes:
--- those that are left to read, and those that were written.
+-- All of the input was read, and the output of its lines was written. This is about readers and writers whose bytes are
+-- known: the bytes that are left to read, and the bytes that were written.
 abbrev pub AnswersInput : Option (List ℕ) → Option (List ℕ) → Option (List ℕ) → Option (List ℕ) → Type 0
 AnswersInput left_old left_new written_old written_new =
     IfSome left_old (λ input. (left_new ≡ Some []) × AppendsAnswers (lines_of input) written_old written_new)
 
--- Of what was read, the lines that a newline ended are answered, and nothing else was written.
+-- A prefix of the input was read. Only the output of its lines that a newline ends was written.
 abbrev pub AnswersEndedLines : Option (List ℕ) → Option (List ℕ) → Option (List ℕ) → Option (List ℕ) → Type 0
 AnswersEndedLines left_old left_new written_old written_new =
     IfSome left_old (λ input. (prefix : List ℕ) × (rest : List ℕ)

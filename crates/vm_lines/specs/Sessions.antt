@@ -9,12 +9,12 @@ use Rattle.vm_lines.specs.Replies.{text_of}
 use Rattle.vm_lines.specs.declared.command.Command.{Command}
 use Rattle.vm_lines.specs.declared.reply.Reply.{Reply}
 
--- what its lines have made, and the line that has begun, unless it is too long
+-- The machine of the lines so far, and the line that has begun, or None if it is too long.
 pub record Session : Type 0 where
   pub machine : Machine
   pub line : Option (List ℕ)
 
--- a session is stored as the pair of its fields
+-- Proof: encodes a session as the pair of its fields.
 abbrev pub session_code : Coded Session
 session_code =
     code_by (Machine × Option (List ℕ))
@@ -23,30 +23,30 @@ session_code =
     (λ p. record { machine = p.0; line = p.1 })
     (λ _. refl)
 
--- a line that has begun is kept unless it is too long
+-- The line, or None if it is too long.
 abbrev pub within_max_len : List ℕ → Option (List ℕ)
 within_max_len line = if nat_le (length line) max_line_len then Some line else None
 
--- the line that has begun, after more bytes
+-- The line that has begun, after more bytes.
 abbrev pub line_after : Option (List ℕ) → List ℕ → Option (List ℕ)
 line_after None bytes = None
 line_after (Some line) bytes = within_max_len (line ++ bytes)
 
--- the session, after more bytes of the line that has begun
+-- The session, after more bytes of the line that has begun.
 abbrev pub with_more : Session → List ℕ → Session
 with_more old bytes = record old { line = line_after old.line bytes }
 
--- what the line that has begun asks
+-- The command of the line that has begun.
 abbrev pub pending_command : Option (List ℕ) → Command
 pending_command None = Malformed
 pending_command (Some line) = command_of line
 
--- some of a line has come
+-- Whether a line has begun.
 abbrev pub has_begun : Option (List ℕ) → Bool
 has_begun None = true
 has_begun (Some line) = nat_lt 0 (length line)
 
--- the line ends, and is answered by this text
+-- The line that has begun ends, and this is its output.
 abbrev pub EndsLine : Session → List ℕ → Session → Type 0
 EndsLine old text new =
     (reply : Reply)
@@ -54,7 +54,7 @@ EndsLine old text new =
     × (new.line ≡ Some [])
     × (text ≡ text_of reply ++ newline ∷ [])
 
--- the parts of a piece come, each of them but the last the end of a line, and this text is written
+-- The parts of a piece are read, and this is the output. Each part except the last ends a line.
 abbrev pub AnswersParts : Session → List (List ℕ) → List ℕ → Session → Type 0
 AnswersParts old [] text new = (text ≡ []) × (new ≡ old)
 AnswersParts old (last ∷ []) text new = (text ≡ []) × (new ≡ with_more old last)
@@ -64,10 +64,10 @@ AnswersParts old (part ∷ next ∷ parts) text new =
     × AnswersParts mid (next ∷ parts) rest new
     × (text ≡ first ++ rest)
 
--- a piece comes, and this text is written
+-- A piece is read, and this is the output.
 abbrev pub AnswersPiece : Session → List ℕ → List ℕ → Session → Type 0
 AnswersPiece old piece text new = AnswersParts old (parts_of piece) text new
 
--- the input ends, and this text is written
+-- The input ends, and this is the output of the last line.
 abbrev pub AnswersLastLine : Session → List ℕ → Type 0
 AnswersLastLine old text = MatchBool (has_begun old.line) ((new : Session) × EndsLine (with_more old []) text new) (text ≡ [])

@@ -1,4 +1,4 @@
-//! The replay language: each line asks an allocator or a manager of devices for something, and gets one
+//! The replay language: each line is a call of an allocator or of a manager of devices, and has one
 //! line of output.
 #![tactic(auto)]
 

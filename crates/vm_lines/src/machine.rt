@@ -1,4 +1,4 @@
-//! What a line does to what the lines so far have made: a space, ids, devices.
+//! The space, the ids and the devices of a session, and the effect of each command on them.
 ghost use Rattle.std.specs.Prelude.{◌≡◌};
 ghost use Rattle.vm_allocator.specs.Allocator.{state_of};
 ghost use Rattle.vm_lines.specs.Machines.{AllocatesRange, FreesRange, replaced_if_ok};
@@ -11,7 +11,7 @@ use std::marker::Model;
 use vm_allocator::{AddressAllocator, AllocPolicy, IdAllocator, RangeInclusive, Result};
 use vm_devices::DeviceManager;
 
-/// What the lines so far have made.
+/// The space, the ids and the devices that the lines so far have created.
 #[derive(Drop)]
 pub(crate) struct Machine {
     space: Option<AddressAllocator>,
@@ -34,7 +34,7 @@ impl Model for Machine {
 impl Machine {
     ghost use Rattle.vm_lines.specs.Machines.{start, Does};
 
-    /// Nothing is made yet.
+    /// Creates a machine without space, ids and devices.
     pub(crate) fn new() -> Machine
         ensures { result ≡ start }
     {
@@ -83,7 +83,7 @@ impl Machine {
         }
     }
 
-    /// Makes a space, which takes the place of the old one. A refused one does not.
+    /// Creates a space, which replaces the old one. An error keeps the old one.
     #[tactic(auto, unfolding(crate::specs::Machines::Does))]
     fn make_space(&mut self, alloc: Global, base: u64, size: u64) -> Reply
         ensures { Does self.old (Command.Space base size) result self.new }
@@ -91,7 +91,7 @@ impl Machine {
         replace_if_ok(AddressAllocator::new(alloc, base, size), &mut self.space)
     }
 
-    /// Holds the `size` addresses at the place that the policy chooses.
+    /// Allocates `size` addresses by a policy.
     #[tactic(auto, unfolding(crate::specs::Machines::AllocatesRange, crate::specs::Machines::OnSpace))]
     fn allocate(&mut self, alloc: Global, size: u64, alignment: u64, policy: AllocPolicy) -> Reply
         ensures { AllocatesRange self.old (record { size = size; align = alignment; policy = policy }) result self.new }
@@ -102,7 +102,7 @@ impl Machine {
         range_reply(space.allocate(alloc, size, alignment, policy))
     }
 
-    /// Gives a range back.
+    /// Frees a range.
     #[tactic(auto, unfolding(crate::specs::Machines::Does, crate::specs::Machines::OnSpace))]
     fn free(&mut self, start: u64, end: u64) -> Reply
         ensures { Does self.old (Command.Free start end) result self.new }
@@ -113,7 +113,7 @@ impl Machine {
         done_reply(free_range(space, start, end))
     }
 
-    /// Makes ids, which take the place of the old ones. Refused ones do not.
+    /// Creates ids, which replace the old ones. An error keeps the old ones.
     #[tactic(auto, unfolding(crate::specs::Machines::Does))]
     fn make_ids(&mut self, alloc: Global, range_base: u32, range_end: u32) -> Reply
         ensures { Does self.old (Command.Ids range_base range_end) result self.new }
@@ -124,7 +124,7 @@ impl Machine {
         )
     }
 
-    /// Holds the least id that is not held.
+    /// Allocates the lowest free id.
     #[tactic(auto, unfolding(crate::specs::Machines::Does, crate::specs::Machines::OnIds))]
     fn allocate_id(&mut self) -> Reply
         ensures { Does self.old Command.Id result self.new }
@@ -135,7 +135,7 @@ impl Machine {
         id_reply(ids.allocate_id())
     }
 
-    /// Gives an id back.
+    /// Frees an id.
     #[tactic(auto, unfolding(crate::specs::Machines::Does, crate::specs::Machines::OnIds))]
     fn free_id(&mut self, id: u32) -> Reply
         ensures { Does self.old (Command.Unid id) result self.new }
@@ -146,7 +146,7 @@ impl Machine {
         id_reply(ids.free_id(id))
     }
 
-    /// Tells whether an id is held.
+    /// Checks whether an id is allocated.
     #[tactic(auto, unfolding(crate::specs::Machines::Does, crate::specs::Machines::OnIds))]
     fn has_id(&self, id: u32) -> Reply
         ensures { Does self.now (Command.Has id) result self.now }
@@ -157,7 +157,7 @@ impl Machine {
         Reply::Held(ids.is_allocated(id))
     }
 
-    /// Makes a manager, which takes the place of the old one. A refused one does not.
+    /// Creates a manager, which replaces the old one. An error keeps the old one.
     #[tactic(auto, unfolding(crate::specs::Machines::Does))]
     fn make_manager(&mut self, alloc: Global, id_lo: u32, id_hi: u32, base: u64, size: u64) -> Reply
         ensures { Does self.old (Command.Manager id_lo id_hi base size) result self.new }
@@ -166,7 +166,7 @@ impl Machine {
         replace_if_ok(made, &mut self.devices)
     }
 
-    /// Holds the least id that is not held, and `size` addresses at the first place, for one device.
+    /// Reserves a device with the lowest free id and the lowest free addresses.
     #[tactic(auto, unfolding(crate::specs::Machines::Does, crate::specs::Machines::OnDevices))]
     fn reserve(&mut self, alloc: Global, size: u64, alignment: u64) -> Reply
         ensures { Does self.old (Command.Device size alignment) result self.new }
@@ -177,7 +177,7 @@ impl Machine {
         device_reply(devices.reserve(alloc, size, alignment, AllocPolicy::FirstMatch))
     }
 
-    /// Gives back the id and the range of a device.
+    /// Releases a device.
     #[tactic(auto, unfolding(crate::specs::Machines::Does, crate::specs::Machines::OnDevices))]
     fn release_device(&mut self, id: u32) -> Reply
         ensures { Does self.old (Command.Undevice id) result self.new }
@@ -189,7 +189,7 @@ impl Machine {
     }
 }
 
-/// Keeps what was made, in the place of what was there. What was refused leaves that.
+/// Replaces a part by the new one. An error keeps the old one.
 #[inline(always)]
 fn replace_if_ok<T: Drop>(made: Result<T>, part: &mut Option<T>) -> Reply
     ensures reply { result ≡ done_reply made }
@@ -204,7 +204,8 @@ fn replace_if_ok<T: Drop>(made: Result<T>, part: &mut Option<T>) -> Reply
     }
 }
 
-/// Gives back the range from `start` to `end`. `InvalidRange(start, end)` where that is none.
+/// Frees the range from `start` to `end`. Returns `InvalidRange(start, end)` if there is no range
+/// with these ends.
 #[tactic(auto, unfolding(crate::specs::Machines::FreesRange))]
 fn free_range(space: &mut AddressAllocator, start: u64, end: u64) -> Result<()>
     ensures { FreesRange (state_of space.old) start end result (state_of space.new) }

@@ -1,14 +1,14 @@
-//! The search for the end of a line, sixteen bytes at once: a byte at a time cost fourteen
-//! instructions for each byte.
+//! Finds the end of a line. It compares sixteen bytes at the same time, which needs fewer
+//! instructions than one byte at a time.
 ghost use Rattle.std.specs.Prelude.{◌≡◌, ◌==◌, position};
 ghost use Rattle.vm_lines.specs.Lines.{newline};
 
 use std::simd::prelude::*;
 
-/// How many bytes are compared at a time.
+/// The number of bytes that are compared at the same time.
 const LANES: usize = 16;
 
-/// Where the first newline stands.
+/// Returns the index of the first newline, or `None` if there is no newline.
 pub(crate) fn newline_at(text: &[u8]) -> Option<usize>
     ensures { result ≡ position (λ byte. byte == newline) text.now }
 {

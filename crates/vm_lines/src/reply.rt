@@ -1,4 +1,4 @@
-//! How an answer reads.
+//! Replies to lines, and their text.
 ghost use Rattle.std.specs.Prelude.{◌≡◌, ◌++◌, ◌+◌, ◌≤◌, length, decimal};
 ghost use Rattle.vm_lines.specs.Replies.{text_of, error_text, pair_text, device_text, done_reply, range_reply, id_reply, device_reply};
 
@@ -7,35 +7,36 @@ use crate::number::MAX_DIGITS;
 use vm_allocator::{Error, RangeInclusive, Result};
 use vm_devices::DeviceSlot;
 
-/// The most bytes that a reply takes, the newline behind it aside: those of an invalid range.
+/// The maximum length of a reply in bytes, without its newline: the length of the error for an
+/// invalid range.
 pub(crate) const MAX_REPLY_LEN: usize = 61;
 
-/// How a line is answered.
+/// The reply to a line.
 #[derive(Drop)]
 pub(crate) enum Reply {
-    /// The call succeeded, and there is no more to tell.
+    /// The call succeeded and returned nothing.
     Done,
-    /// This range is held from now on.
+    /// The range was allocated.
     Given(RangeInclusive),
-    /// This id was taken or given back.
+    /// The id was allocated or freed.
     Id(u32),
-    /// Whether the id is held.
+    /// Whether the id is allocated.
     Held(bool),
-    /// This device is there from now on.
+    /// The device was reserved.
     Device(DeviceSlot),
-    /// The call was refused.
+    /// The call returned an error.
     Failed(Error),
-    /// The line needs a space, and none has been made.
+    /// The line needs a space, and there is none.
     NoSpace,
-    /// The line needs ids, and none have been made.
+    /// The line needs ids, and there are none.
     NoIds,
-    /// The line needs a manager, and none has been made.
+    /// The line needs a manager, and there is none.
     NoManager,
     /// The line is not in the language, or it is too long.
     NotInLanguage,
 }
 
-/// The reply to a call that gives nothing which is told.
+/// Returns the reply to a call that returns nothing.
 #[inline(always)]
 pub(crate) fn done_reply(answer: Result<()>) -> Reply
     ensures { result ≡ done_reply answer }
@@ -46,7 +47,7 @@ pub(crate) fn done_reply(answer: Result<()>) -> Reply
     }
 }
 
-/// The reply to a call that gives a range.
+/// Returns the reply to a call that returns a range.
 #[inline(always)]
 pub(crate) fn range_reply(answer: Result<RangeInclusive>) -> Reply
     ensures { result ≡ range_reply answer }
@@ -57,7 +58,7 @@ pub(crate) fn range_reply(answer: Result<RangeInclusive>) -> Reply
     }
 }
 
-/// The reply to a call that gives an id.
+/// Returns the reply to a call that returns an id.
 #[inline(always)]
 pub(crate) fn id_reply(answer: Result<u32>) -> Reply
     ensures { result ≡ id_reply answer }
@@ -68,7 +69,7 @@ pub(crate) fn id_reply(answer: Result<u32>) -> Reply
     }
 }
 
-/// The reply to a call that gives a device.
+/// Returns the reply to a call that returns a device.
 #[inline(always)]
 pub(crate) fn device_reply(answer: Result<DeviceSlot>) -> Reply
     ensures { result ≡ device_reply answer }
@@ -79,7 +80,7 @@ pub(crate) fn device_reply(answer: Result<DeviceSlot>) -> Reply
     }
 }
 
-/// Writes how a reply reads.
+/// Writes the text of a reply.
 pub(crate) fn write_reply(output: &mut Buffer, reply: Reply)
     requires { length output.old + MAX_REPLY_LEN ≤ CAPACITY }
     ensures text { output.new ≡ output.old ++ text_of reply }
@@ -100,7 +101,7 @@ pub(crate) fn write_reply(output: &mut Buffer, reply: Reply)
     }
 }
 
-/// Writes how a device reads.
+/// Writes the text of a device.
 fn write_device(output: &mut Buffer, slot: DeviceSlot)
     requires { length output.old + MAX_REPLY_LEN ≤ CAPACITY }
     ensures text { output.new ≡ output.old ++ device_text slot }
@@ -112,7 +113,7 @@ fn write_device(output: &mut Buffer, slot: DeviceSlot)
     push_pair(output, slot.range.start(), slot.range.end());
 }
 
-/// Writes how a refusal reads.
+/// Writes the text of an error.
 fn write_error(output: &mut Buffer, error: Error)
     requires { length output.old + MAX_REPLY_LEN ≤ CAPACITY }
     ensures text { output.new ≡ output.old ++ error_text error }
@@ -140,7 +141,7 @@ fn write_error(output: &mut Buffer, error: Error)
     }
 }
 
-/// Writes a text and a number behind it.
+/// Writes a text, followed by a number.
 #[inline(always)]
 fn write_number(output: &mut Buffer, text: &[u8], number: u64)
     requires short { length text.now + MAX_DIGITS ≤ MAX_REPLY_LEN }
@@ -152,7 +153,7 @@ fn write_number(output: &mut Buffer, text: &[u8], number: u64)
     output.push_number(number);
 }
 
-/// Writes a text and two numbers behind it.
+/// Writes a text, followed by two numbers.
 #[inline(always)]
 fn write_pair(output: &mut Buffer, text: &[u8], first: u64, second: u64)
     requires short { length text.now + MAX_DIGITS + 1 + MAX_DIGITS ≤ MAX_REPLY_LEN }

@@ -1,5 +1,7 @@
-//! What ended lines have made, and the line that has begun. A line is read where it lies in its
-//! piece; only one that began in an earlier piece is kept.
+//! A session: the machine, and the line that has begun.
+//!
+//! A line is parsed in its piece of the input without a copy. It is copied only if it began in an
+//! earlier piece.
 ghost use Rattle.std.specs.Prelude.{◌≡◌, ◌++◌, [], ◌+◌, ◌<◌, ℕ, List, length, Some};
 ghost use Rattle.vm_lines.specs.Machines.{start};
 ghost use Rattle.vm_lines.specs.Sessions.{EndsLine, pending_command, line_after, with_more, has_begun};
@@ -11,7 +13,7 @@ use crate::reply::{MAX_REPLY_LEN, write_reply};
 use std::alloc::Global;
 use std::marker::Model;
 
-/// What the lines so far have made, and the line that has begun.
+/// The machine of the lines so far, and the line that has begun.
 #[derive(Drop)]
 pub(crate) struct Session {
     machine: Machine,
@@ -38,7 +40,7 @@ impl Model for Session {
 }
 
 impl Session {
-    /// Before the first byte of the input.
+    /// Creates the session before the first byte of the input.
     pub(crate) fn new() -> Session
         ensures { result ≡ record { machine = start; line = Some [] } }
     {
@@ -50,7 +52,7 @@ impl Session {
         }
     }
 
-    /// Ends the line that has begun, of which these are the last bytes, and writes the answer to it.
+    /// Ends the line that has begun with its last bytes, executes it, and writes its reply.
     pub(crate) fn end_line(&mut self, alloc: Global, last: &[u8], output: &mut Buffer)
         requires { length output.old + MAX_REPLY_LEN < CAPACITY }
         ensures { (text : List ℕ)
@@ -63,7 +65,7 @@ impl Session {
         output.push(b'\n');
     }
 
-    /// Tells what the line asks of which these are the last bytes. After that no line has begun.
+    /// Returns the command of the line that ends with these bytes. No line has begun after that.
     fn take_line(&mut self, last: &[u8]) -> Command
         ensures asked { result ≡ pending_command (line_after self.old.line last.now) }
         ensures machine { self.new.machine ≡ self.old.machine }
@@ -76,7 +78,7 @@ impl Session {
         self.take_appended()
     }
 
-    /// Tells what the line asks of which all bytes are kept. After that no line has begun.
+    /// Returns the command of the line that was copied. No line has begun after that.
     #[cold]
     fn take_appended(&mut self) -> Command
         ensures asked { result ≡ pending_command self.old.line }
@@ -93,7 +95,7 @@ impl Session {
         asked
     }
 
-    /// Takes more bytes of the line that has begun.
+    /// Appends more bytes to the line that has begun.
     pub(crate) fn append(&mut self, bytes: &[u8])
         ensures machine { self.new.machine ≡ self.old.machine }
         ensures line { self.new.line ≡ line_after self.old.line bytes.now }
@@ -107,7 +109,7 @@ impl Session {
         self.filled = end;
     }
 
-    /// Whether some of a line has come.
+    /// Returns whether a line has begun.
     pub(crate) fn has_begun(&self) -> bool
         ensures { result ≡ has_begun self.now.line }
     {

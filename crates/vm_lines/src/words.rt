@@ -1,5 +1,7 @@
-//! The words of a line: whether it begins with a name, and the numbers and ids behind that. The four
-//! numbers of `manager` are read as three are, and two of them then taken as ids.
+//! The words of a line: its name, and the numbers and ids after it.
+//!
+//! The four numbers of `manager` are read as one and three numbers, and the first two are converted
+//! to ids.
 ghost use Rattle.std.specs.Prelude.{◌≡◌, ◌≢◌, ◌++◌, ℕ, List, None, Some, MatchOption};
 ghost use Rattle.std.specs.Option.{option_copied};
 ghost use Rattle.vm_lines.specs.Numbers.{number_of, id_of};
@@ -8,7 +10,7 @@ ghost use Rattle.vm_lines.specs.Reading.{number_first};
 
 use crate::number::leading_number;
 
-/// What stands behind the beginning of a text, where the text begins so.
+/// Returns the text after a prefix, or `None` if the text does not begin with it.
 #[inline(always)]
 #[tactic(auto, using(crate::proofs::Splitting::too_short, crate::proofs::Splitting::begins_else, crate::proofs::Splitting::begins_so))]
 pub(crate) fn strip_prefix<'a, const N: usize>(prefix: &[u8; N], text: &'a [u8]) -> Option<&'a [u8]>
@@ -27,7 +29,7 @@ pub(crate) fn strip_prefix<'a, const N: usize>(prefix: &[u8; N], text: &'a [u8])
     Some(&text[N..])
 }
 
-/// The number that the first word of a text says, and what stands after the space behind it.
+/// Returns the number in the first word of a text, and the text after the space that follows it.
 #[inline(always)]
 #[tactic(auto, using(crate::proofs::FirstNumber::first_numbers))]
 fn first_number(text: &[u8]) -> Option<(u64, Option<&[u8]>)>
@@ -45,7 +47,7 @@ fn first_number(text: &[u8]) -> Option<(u64, Option<&[u8]>)>
     Some((number, Some(&text[count + 1..])))
 }
 
-/// The number that the word of a text says, where it is one.
+/// Returns the number of a text of one word.
 #[inline(always)]
 #[tactic(auto, using(crate::proofs::FirstNumber::one_numbers, crate::proofs::Splitting::some_words))]
 fn one_number(text: &[u8]) -> Option<u64>
@@ -58,7 +60,7 @@ fn one_number(text: &[u8]) -> Option<u64>
     Some(number)
 }
 
-/// The numbers that the words of a text say, where they are two.
+/// Returns the numbers of a text of two words.
 #[tactic(auto, using(crate::proofs::FirstNumber::two_none, crate::proofs::FirstNumber::two_some))]
 pub(crate) fn two_numbers(text: &[u8]) -> Option<(u64, u64)>
     ensures { result ≡ two_in number_of (words_of text.now) }
@@ -67,7 +69,7 @@ pub(crate) fn two_numbers(text: &[u8]) -> Option<(u64, u64)>
     Some((first, one_number(rest?)?))
 }
 
-/// The numbers that the words of a text say, where they are three.
+/// Returns the numbers of a text of three words.
 #[inline(always)]
 #[tactic(auto, using(crate::proofs::FirstNumber::three_none, crate::proofs::FirstNumber::three_some))]
 pub(crate) fn three_numbers(text: &[u8]) -> Option<(u64, u64, u64)>
@@ -78,7 +80,7 @@ pub(crate) fn three_numbers(text: &[u8]) -> Option<(u64, u64, u64)>
     Some((first, second, third))
 }
 
-/// The id that the word of a text says, where it is one.
+/// Returns the id of a text of one word.
 #[tactic(auto, using(crate::proofs::IdNumbers::one_id))]
 pub(crate) fn one_id(text: &[u8]) -> Option<u32>
     ensures { result ≡ one_in id_of (words_of text.now) }
@@ -86,7 +88,7 @@ pub(crate) fn one_id(text: &[u8]) -> Option<u32>
     u32::try_from(one_number(text)?).ok()
 }
 
-/// The ids that the words of a text say, where they are two.
+/// Returns the ids of a text of two words.
 #[tactic(auto, using(crate::proofs::IdNumbers::two_ids))]
 pub(crate) fn two_ids(text: &[u8]) -> Option<(u32, u32)>
     ensures { result ≡ two_in id_of (words_of text.now) }
@@ -95,7 +97,7 @@ pub(crate) fn two_ids(text: &[u8]) -> Option<(u32, u32)>
     Some((u32::try_from(first).ok()?, u32::try_from(second).ok()?))
 }
 
-/// The two ids and the two numbers that the words of a text say, where they are four.
+/// Returns the two ids and the two numbers of a text of four words.
 #[tactic(auto, using(crate::proofs::IdNumbers::four_none, crate::proofs::IdNumbers::four_some))]
 pub(crate) fn ids_and_numbers(text: &[u8]) -> Option<((u32, u32), (u64, u64))>
     ensures { result ≡ four_in id_of number_of (words_of text.now) }

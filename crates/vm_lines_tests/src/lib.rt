@@ -1,5 +1,7 @@
-//! Tests of `vm_lines` through its public call. tests/refused_memory runs each again and again, with its
-//! first, second, third .. request for memory refused.
+//! Tests of `vm_lines` through its public call.
+//!
+//! tests/refused_memory runs each test several times, and makes its first, second, third allocation
+//! fail.
 #![tactic(auto)]
 
 #[cfg(test)]

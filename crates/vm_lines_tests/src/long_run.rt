@@ -1,6 +1,7 @@
-//! A long run on 64 addresses, as lines that are made while they are read. Each answer is compared
-//! while it is written with that of a plain search over the addresses, which goes on from what was
-//! not done where a line is refused for memory.
+//! A long run on 64 addresses, with lines that are created when they are read.
+//!
+//! Each reply is compared, while it is written, with a plain search over the addresses. If memory
+//! runs out for a line, the search continues without it.
 use std::io;
 use std::io::{ErrorKind, Read, Write};
 use std::str::from_utf8;
@@ -9,16 +10,17 @@ use vm_model::Answer::{Done, Held, NotAvailable, Range, Unaligned};
 use vm_model::Call::{Exact, First, Free, Last};
 use vm_model::{ADDRESSES, Addresses, Answer, CALLS, Call, Draws};
 
-/// The lines that make the space: a second one for a run in which the first is refused.
+/// The number of lines that create the space. The second line is for a run in which the first one
+/// fails.
 const SPACES: u64 = 2;
 
-/// No line and no answer of the run is longer.
+/// The maximum length of the lines and of the replies of the run.
 const LONGEST: usize = 64;
 
-/// What a line asks for.
+/// The command of a line.
 #[derive(Clone, Copy)]
 enum Asked {
-    /// The space, fresh.
+    /// Creates the space.
     Space,
     On(Call),
 }
@@ -81,7 +83,7 @@ fn line_of_answer(answer: Answer) -> io::Result<Line> {
     Ok(Line { bytes, filled })
 }
 
-/// The calls of the run, and what they make of the addresses if none is refused for memory.
+/// The calls of the run, and the addresses after them if memory never runs out.
 #[derive(Drop)]
 struct Calls {
     draws: Draws,
@@ -113,7 +115,7 @@ impl Calls {
     }
 }
 
-/// Each read gives one line.
+/// Each read returns one line.
 impl Read for Calls {
     fn read(&mut self, buf: &mut [u8]) -> io::Result<usize> {
         let Some(asked) = self.next_call() else {
@@ -128,11 +130,11 @@ impl Read for Calls {
     }
 }
 
-/// Takes the answers, and fails at a wrong one.
+/// Receives the replies, and fails at a wrong one.
 #[derive(Drop)]
 struct Answers {
     calls: Calls,
-    /// What the calls have made of the addresses.
+    /// The addresses after the calls.
     addresses: Addresses,
     line: Line,
     refusals: u64,
@@ -148,7 +150,7 @@ impl Answers {
         }
     }
 
-    /// Compares an answer. One for which memory ran out changes nothing.
+    /// Compares a reply. The reply that memory ran out changes nothing.
     fn end_line(&mut self) -> io::Result<()> {
         let Some(asked) = self.calls.next_call() else {
             return Err(io::Error::from(ErrorKind::InvalidData));

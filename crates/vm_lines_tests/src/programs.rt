@@ -21,7 +21,7 @@ use vm_lines::{RunError, run};
 
 const ROOM: usize = 16384;
 
-/// Text in an array of its own.
+/// Text in a fixed array.
 #[derive(Drop)]
 struct Text {
     bytes: [u8; ROOM],
@@ -41,7 +41,7 @@ impl Text {
         &self.bytes[..self.filled]
     }
 
-    /// Adds the beginning of some more text, as far as there is room. The answer is the length of that.
+    /// Appends as much of a text as fits, and returns the number of appended bytes.
     fn push(&mut self, text: &[u8]) -> usize
         ensures { result ≤ length text.now }
     {
@@ -53,7 +53,7 @@ impl Text {
     }
 }
 
-/// The lines of a table, each ended by a newline.
+/// Returns the lines of a table, each with a newline.
 fn input_of(rows: &[(&str, &str)]) -> Text {
     let mut input = Text::new();
     for (line, _) in rows {
@@ -63,8 +63,8 @@ fn input_of(rows: &[(&str, &str)]) -> Text {
     input
 }
 
-/// Gives its bytes in pieces, and fails at one of its reads, if that is not 0. After a fault it goes
-/// on as if there had been none.
+/// Returns its bytes in pieces, and fails at read number `bad_read` if this is not 0. After the
+/// error it continues as if there was none.
 #[derive(Drop)]
 struct Pieces<'a> {
     bytes: &'a [u8],
@@ -99,7 +99,7 @@ impl Read for Pieces<'_> {
     }
 }
 
-/// Gives one text so many times, once for each read, and then fails or is at its end.
+/// Returns the same text for a number of reads, and then fails or is at its end.
 #[derive(Drop)]
 struct Again<'a> {
     text: &'a [u8],
@@ -122,8 +122,8 @@ impl Read for Again<'_> {
     }
 }
 
-/// Takes at most three bytes a call, fails at one of its writes, if that is not 0, or at each flush,
-/// and counts both.
+/// Accepts at most three bytes per call. It fails at write number `bad_write` if this is not 0, and
+/// at each flush if `bad_flush` is an error. It counts both.
 #[derive(Drop)]
 struct Sink {
     text: Text,
@@ -144,7 +144,7 @@ impl Sink {
         }
     }
 
-    /// Whether a line was refused because memory ran out.
+    /// Returns whether memory ran out for a line.
     fn met_refusal(&self) -> bool {
         for line in self.text.as_slice().split(|byte| *byte == b'\n') {
             if line == b"error memory".as_slice() {
@@ -173,7 +173,7 @@ impl Write for Sink {
     }
 }
 
-/// What a run answered, how often it read, and what it wrote.
+/// The result of a run, the number of its reads, and its output.
 #[derive(Drop)]
 struct Outcome {
     result: Result<(), RunError>,
@@ -191,8 +191,8 @@ fn run_once(alloc: Global, mut reader: Pieces) -> Outcome {
     }
 }
 
-/// Runs over the input. Where memory ran out it runs once more, so that the texts of the tables hold
-/// whichever request for memory is refused.
+/// Runs the input. If memory runs out, it runs once more, so the tables are right whichever
+/// allocation fails.
 fn run_on(alloc: Global, input: &[u8], longest: usize, bad_read: u64, fault: ErrorKind) -> Outcome {
     let outcome = run_once(alloc, Pieces::new(input, longest, bad_read, fault));
     if outcome.sink.met_refusal() {
@@ -202,12 +202,12 @@ fn run_on(alloc: Global, input: &[u8], longest: usize, bad_read: u64, fault: Err
     }
 }
 
-/// A text, as it is printed where a test fails.
+/// Returns a text in the form for the message of a failed test.
 fn shown(text: &[u8]) -> &str {
     from_utf8(text).unwrap_or("no text")
 }
 
-/// What was written are the answers of these lines, each ended by a newline, and nothing else.
+/// Checks that the output is exactly the replies of these lines, each with a newline.
 fn expect_answers(rt: &impl Abort, written: &[u8], rows: &[(&str, &str)], place: &str) {
     let mut answers = written.split(|byte| *byte == b'\n');
     for (line, want) in rows {
@@ -222,13 +222,14 @@ fn expect_answers(rt: &impl Abort, written: &[u8], rows: &[(&str, &str)], place:
     );
 }
 
-/// How often an input in pieces of this length is read: once for each piece, and once at its end.
+/// Returns the number of reads for an input in pieces of this length: one for each piece, and one
+/// at the end.
 fn reads_of(input: &[u8], longest: usize) -> usize {
     let pieces = input.len().saturating_add(longest).saturating_sub(1);
     pieces.checked_div(longest).unwrap_or(0).saturating_add(1)
 }
 
-/// The input is answered as a whole, in whatever pieces it comes.
+/// Checks the output of an input, for pieces of several lengths.
 fn expect_program(rt: &impl Abort, alloc: Global, input: &[u8], rows: &[(&str, &str)], name: &str) {
     for longest in [1, 2, 3, 7, 64, 4096] {
         let outcome = run_on(alloc, input, longest, 0, ErrorKind::Other);
@@ -240,7 +241,7 @@ fn expect_program(rt: &impl Abort, alloc: Global, input: &[u8], rows: &[(&str, &
     }
 }
 
-/// The lines of a table are answered, also where no newline ends the last.
+/// Checks the output of the lines of a table, with and without a newline after the last line.
 fn expect_rows(rt: &impl Abort, alloc: Global, name: &str, rows: &[(&str, &str)]) {
     let input = input_of(rows);
     let whole = input.as_slice();
@@ -292,7 +293,7 @@ fn programs_on_devices(rt: HostRuntime) {
     );
 }
 
-/// A line may begin and end anywhere in a piece.
+/// Checks that a line can begin and end at each byte of a piece.
 #[test]
 fn pieces_of_each_small_size(rt: HostRuntime) {
     let input = input_of(PROGRAM_ERRORS);
@@ -348,7 +349,7 @@ fn two_million_reads(rt: HostRuntime) {
     );
 }
 
-/// A fault of any kind ends the run at once, also one that asks to be tried again.
+/// Checks that an error of any kind ends the run at once, including an error that asks for a retry.
 #[test]
 fn each_read_fails(rt: HostRuntime) {
     let input = input_of(FIRST_PROGRAM);
@@ -440,7 +441,7 @@ fn the_flush_fails(rt: HostRuntime) {
     }
 }
 
-/// The text is `error line` and a newline, so many times.
+/// Checks that the text is `error line` and a newline, this number of times.
 fn expect_line_errors(rt: &impl Abort, text: &[u8], count: usize) {
     let mut lines = 0usize;
     for line in text.chunks(11) {

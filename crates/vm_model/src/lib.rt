@@ -1,66 +1,66 @@
-//! A space of 64 addresses, searched address by address, and a long run of calls on it: what the
-//! tests of a library and of the program compare its answers with. It is a library, since the tests
-//! of a program share nothing with those of a library but through one below both. Nothing but tests
-//! uses it.
+//! A space of 64 addresses that is searched address by address, and a long run of calls on it.
+//!
+//! The tests of the libraries and of the program compare their results with it. It is a library
+//! because both kinds of tests use it, and only tests use it.
 #![tactic(auto)]
 
 use Answer::{Done, Held, NotAvailable, Range, Unaligned};
 use Call::{Exact, First, Free, Last};
 use Place::{Clear, Further, Start};
 
-/// How many addresses the space has, from 0 on.
+/// The number of addresses in the space, starting at 0.
 pub const ADDRESSES: u64 = 64;
 
-/// How many calls a long run has.
+/// The number of calls in a long run.
 pub const CALLS: u64 = 20_000;
 
-/// What is asked of the space.
+/// A call on the space.
 #[derive(Clone, Copy, Debug)]
 pub enum Call {
-    /// A size and an alignment, for the least place.
+    /// Allocates the lowest range of a size and an alignment.
     First(u64, u64),
-    /// A size and an alignment, for the greatest place.
+    /// Allocates the highest range of a size and an alignment.
     Last(u64, u64),
-    /// A size, an alignment and a start.
+    /// Allocates a range by its size, its alignment and its start.
     Exact(u64, u64, u64),
-    /// The first and the last address of what is given back.
+    /// Frees a range by its first and its last address.
     Free(u64, u64),
 }
 
-/// What a call has to answer.
+/// The expected result of a call.
 #[derive(Clone, Copy, Debug)]
 pub enum Answer {
-    /// The first and the last address of a range that is given out.
+    /// The first and the last address of an allocated range.
     Range(u64, u64),
-    /// A range was given back.
+    /// A range was freed.
     Done,
-    /// A refusal, since exactly this range is held.
+    /// An error because exactly this range is allocated.
     Held(u64, u64),
     Unaligned,
     NotAvailable,
 }
 
-/// What an address is.
+/// The state of an address.
 #[derive(Clone, Copy, PartialEq, Eq)]
 enum Place {
     Clear,
-    /// The first one of a held range.
+    /// The first address of an allocated range.
     Start,
-    /// A further one of a held range.
+    /// Another address of an allocated range.
     Further,
 }
 
-/// The addresses of the space, and which ranges of them are held.
+/// The addresses of the space, and the ranges that are allocated in it.
 #[derive(Drop)]
 pub struct Addresses([Place; 64]);
 
 impl Addresses {
-    /// No range is held.
+    /// Creates a space without allocated ranges.
     pub fn new() -> Addresses {
         Addresses([Clear; 64])
     }
 
-    /// What stands at an address: `None` outside the space.
+    /// Returns the state of an address, or `None` if it is outside the space.
     fn at(&self, address: u64) -> Option<Place> {
         self.0.get(address as usize).copied()
     }
@@ -74,7 +74,7 @@ impl Addresses {
         true
     }
 
-    /// The held range that starts here.
+    /// Returns the allocated range that starts at an address.
     fn range_at(&self, start: u64) -> Option<(u64, u64)> {
         if self.at(start) != Some(Start) {
             return None;
@@ -89,7 +89,7 @@ impl Addresses {
         Some((start, end))
     }
 
-    /// How many ranges are held.
+    /// Returns the number of allocated ranges.
     pub fn held_count(&self) -> u64 {
         let mut count = 0u64;
         for place in self.0 {
@@ -100,7 +100,7 @@ impl Addresses {
         count
     }
 
-    /// The held range with so many others before it.
+    /// Returns the allocated range with this number of allocated ranges before it.
     pub fn held_range(&self, others: u64) -> Option<(u64, u64)> {
         let mut left = others;
         for start in 0..ADDRESSES {
@@ -138,7 +138,7 @@ impl Addresses {
         highest
     }
 
-    /// What a call has to answer.
+    /// Returns the expected result of a call.
     pub fn answer(&self, call: Call) -> Answer {
         match call {
             First(size, alignment) => range_from(self.lowest_place(size, alignment), size),
@@ -170,7 +170,7 @@ impl Addresses {
         }
     }
 
-    /// What a call with this answer makes of the addresses.
+    /// Changes the addresses as a call with this result does.
     pub fn change(&mut self, call: Call, answer: Answer) {
         match (call, answer) {
             (_, Range(start, end)) => self.set(start, end, Start, Further),
@@ -192,7 +192,7 @@ fn range_from(start: Option<u64>, size: u64) -> Answer {
 pub struct Draws(u64);
 
 impl Draws {
-    /// The numbers from their beginning on.
+    /// Creates the numbers at their beginning.
     pub fn new() -> Draws {
         Draws(1)
     }
@@ -203,7 +203,8 @@ impl Draws {
         *number
     }
 
-    /// The next call where these addresses are held. What is given back is held, unless nothing is.
+    /// Returns the next call for these addresses. A range that it frees is allocated, unless no
+    /// range is.
     pub fn call(&mut self, addresses: &Addresses) -> Call {
         let (kind, second, third) = (self.next(), self.next(), self.next());
         let size = second % 8 + 1;

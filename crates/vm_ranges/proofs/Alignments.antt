@@ -1,4 +1,4 @@
--- Rounding by a mask gives the multiples that it should.
+-- Rounding by a mask gives the highest and the lowest multiple.
 use Rattle.std.proofs.Common.{◌≡◌, ℕ, ◌+◌, ◌-◌, ◌^◌, ◌<◌, ◌≤◌, true, false, refl, arith, inl, inr, bit_and, Result, Ok, Err, ⊎_elim}
 use Rattle.std.specs.Int.{is_power_of_two}
 use Rattle.vm_ranges.specs.Range.{MAX}

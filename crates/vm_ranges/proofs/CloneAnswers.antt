@@ -7,7 +7,7 @@ use Rattle.vm_ranges.specs.declared.error.Error.{Error}
 pub clone_is : {X : Type 0} (original clone : X) → Clones original (Ok clone) → clone ≡ original
 clone_is original clone h = ⊎_elim (λ e. cc e) (λ e. absurd (cc e)) h
 
--- the calls after it go on in that state, whether a clone was made or not
+-- The state does not change, whether a clone was made or not.
 pub cloning_keeps : {X : Type 0} (old new : X) (answer : Result X Error) → Clones old answer → new ≡ result_unwrap_or answer old → new ≡ old
 cloning_keeps {X} old new answer h e =
     let left : Result X Error → X = λ a. result_unwrap_or a old in

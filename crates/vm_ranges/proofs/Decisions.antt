@@ -1,4 +1,4 @@
--- Facts that hold or do not, and searches among numbers for one that has such a fact.
+-- Decidable facts, and searches for a number with a decidable fact.
 use Rattle.std.proofs.Common.{◌≡◌, ℕ, ◌+◌, ◌%◌, ◌^◌, ◌<◌, ◌≤◌, ◌⊎◌, zero, suc, true, false, sym, arith, inl, inr, ⊎_elim, subst}
 use Rattle.std.proofs.lemmas.Bool.{cases_eq, cases_lt, cases_Bool}
 use Rattle.std.specs.Int.{is_power_of_two}
@@ -10,7 +10,7 @@ use Rattle.vm_ranges.specs.declared.constraint.AllocPolicy.TheVariants.{FirstMat
 use Rattle.vm_ranges.proofs.Power.{alignment_if_true, no_alignment_if_false, alignment_below}
 use Rattle.vm_ranges.proofs.RangeCalls.{same_range}
 
--- the fact holds or does not
+-- The fact is true or false.
 abbrev pub Decided : Type 0 → Type 0
 Decided P = P ⊎ ¬ P
 
@@ -29,7 +29,7 @@ decided_below a b = ⊎_elim (λ (l : a < b). inl l) (λ (l : b ≤ a). inr (λ 
 pub decided_up_to : (a b : ℕ) → Decided (a ≤ b)
 decided_up_to a b = ⊎_elim (λ (l : b < a). inr (λ h. omega arith)) (λ (l : a ≤ b). inl l) (cases_lt b a)
 
--- each number of a row
+-- A fact of all n numbers starting at s.
 pub decided_row : (P : ℕ → Type 0) → ((x : ℕ) → Decided (P x)) → (s n : ℕ) → Decided ((x : ℕ) → s ≤ x → x < s + n → P x)
 decided_row P decide s zero = inl (λ x l m. absurd (omega arith))
 decided_row P decide s (suc n) =
@@ -38,7 +38,7 @@ decided_row P decide s (suc n) =
     (λ h. (λ x l m. h x l (omega arith), h (s + n) (omega arith) (omega arith)))
     (decided_both _ _ (decided_row P decide s n) (decide (s + n)))
 
--- ---- facts of ranges and of a request
+-- ---- Facts of ranges and of requests
 pub decided_in : (r : Range) (x : ℕ) → Decided (IsIn r x)
 decided_in r x = decided_both _ _ (decided_up_to r.start x) (decided_up_to x r.end)
 
@@ -62,8 +62,8 @@ decided_start a FirstMatch = inl tt
 decided_start a LastMatch = inl tt
 decided_start a (ExactMatch t) = cases_eq (t % a) 0
 
--- ---- searches
--- the least number of all that has the fact, or none below the bound has
+-- ---- Searches
+-- Either no number below the bound has the fact, or there is a lowest number with the fact.
 pub lowest_or_none : (P : ℕ → Type 0) → ((x : ℕ) → Decided (P x)) → (bound : ℕ) → ((x : ℕ) → x < bound → ¬ P x) ⊎ ((x : ℕ) × P x × ((y : ℕ) → P y → x ≤ y))
 lowest_or_none P decide zero = inl (λ x l p. omega arith)
 lowest_or_none P decide (suc bound) =
@@ -76,7 +76,7 @@ lowest_or_none P decide (suc bound) =
     (λ found. inr found)
     (lowest_or_none P decide bound)
 
--- the greatest number below the bound that has the fact, or none has
+-- Either no number below the bound has the fact, or there is a highest number below the bound with the fact.
 pub highest_or_none : (P : ℕ → Type 0) → ((x : ℕ) → Decided (P x)) → (bound : ℕ) → ((x : ℕ) → x < bound → ¬ P x) ⊎ ((x : ℕ) × P x × ((y : ℕ) → y < bound → P y → y ≤ x))
 highest_or_none P decide zero = inl (λ x l p. omega arith)
 highest_or_none P decide (suc bound) =

@@ -1,4 +1,4 @@
--- A list of as many different things as there are of a kind has each of them.
+-- A list of different things of a kind contains all of them if its length is their number.
 use Rattle.std.proofs.Common.{◌≡◌, ◌≢◌, ℕ, ◌≤◌, Bool, true, false, List, ◌∷◌, length, sym, subst, arith, ⊎_elim}
 use Rattle.std.proofs.lemmas.Bool.{cases_Bool, both_ways}
 use Rattle.std.proofs.lemmas.List.Elements.{All-cons, Contains-get_or}
@@ -7,20 +7,20 @@ use Rattle.std.proofs.lemmas.Map.Made.{is_member-Decides}
 use Rattle.std.specs.Bool.{Decides}
 use Rattle.std.specs.List.{All, AllPairs, Contains, list_any}
 
--- no two are the same
+-- No two elements are the same.
 abbrev pub Differ : {K : Type 0} → List K → Type 0
 Differ xs = AllPairs (λ x y. x ≢ y) xs
 
--- no list of different things of the kind is longer than this
+-- No list of different things of the kind is longer than this.
 abbrev pub AreAtMost : {K : Type 0} → (K → Type 0) → ℕ → Type 0
 AreAtMost {K} P most = (xs : List K) → Differ xs → All P xs → length xs ≤ most
 
 module _ {K : Type 0} {eq : K → K → Bool} (tells : (x y : K) → Decides (eq x y) (x ≡ y)) where
-  -- an element of the list is of the kind
+  -- An element of the list is of the kind.
   pub listed_is : (P : K → Type 0) (xs : List K) (x : K) → All P xs → list_any (eq x) xs ≡ true → P x
   listed_is P xs x a m = let c = (is_member-Decides tells xs x).0 m in subst P c.2 (a c.0 x c.1)
 
-  -- one more would be one too many
+  -- A thing that is not in the list would make the list too long.
   pub each_listed : (P : K → Type 0) (most : ℕ) → AreAtMost P most → (xs : List K) (x : K) → Differ xs → All P xs → length xs ≡ most → P x → Contains xs x
   each_listed P most few xs x d a e p =
       ⊎_elim

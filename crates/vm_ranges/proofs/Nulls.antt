@@ -1,4 +1,4 @@
--- Which values are null.
+-- The values that are null.
 use Rattle.std.proofs.Common.{◌≡◌, ℕ, true, false, Some, is_some, refl}
 use Rattle.serde_json.specs.Data.{Data, null, boolean, number, string, array, object}
 use Rattle.serde_json.specs.Find.{as_null}

@@ -1,4 +1,4 @@
--- Members of sets of numbers, of one with one more and of one with one less.
+-- The members of a set of numbers, and of the set after a number is inserted or removed.
 use Rattle.std.proofs.Common.{◌≡◌, ℕ, ◌⊎◌, Bool, true, false, cond, not, refl, sym, ap, ◌∙◌, inl, inr, ⊎_elim, IsTrue}
 use Rattle.std.proofs.lemmas.Bool.{both_ways, and_parts, or_cases, and_from, or_left, or_right, not-true, eq-eqb, eqb-true, ne_eqb}
 use Rattle.std.specs.Ordering.{nat_cmp, eq_by_cmp}

@@ -1,4 +1,4 @@
--- A number with one bit is a power of two, and what follows for its multiples.
+-- A number with one bit is a power of two, and facts of its multiples.
 use Rattle.std.proofs.Common.{◌≡◌, ℕ, ◌+◌, ◌-◌, ◌*◌, ◌/◌, ◌%◌, ◌^◌, ◌<◌, ◌≤◌, zero, suc, true, false, refl, sym, ap, ◌∙◌, arith, subst, bit_and, eq-eqb, ⊎_elim}
 use Rattle.std.specs.Int.RustNames.{count_ones}
 use Rattle.std.specs.Int.{is_power_of_two}
@@ -15,7 +15,7 @@ ones_of_one : count_ones 1 ≡ 1
 unfolding count_ones
 ones_of_one = refl
 
--- the lowest bit is r, and the others are those of a
+-- The lowest bit of n is r, and the other bits are those of a.
 last_bit : (w n a r : ℕ) → (a < 2 ^ w → count_ones a ≡ 1 → (k : ℕ) × (k < w) × (a ≡ 2 ^ k)) → n ≡ a * 2 + r → n < 2 ^ suc w → count_ones n ≡ 1 → r < 2 → (k : ℕ) × (k < suc w) × (n ≡ 2 ^ k)
 last_bit w n a zero rest e p c s =
     let ones : count_ones n ≡ count_ones a + count_ones 0 = ap count_ones e ∙ ones_cat 1 a 0 (omega arith) in
@@ -29,14 +29,14 @@ last_bit w n a (suc zero) rest e p c s =
     (0, omega arith, omega arith)
 last_bit w n a (suc (suc r)) rest e p c s = absurd (omega arith)
 
--- a number of w bits of which one is set is a power of two
+-- A number of w bits with exactly one bit set is a power of two.
 one_bit : (w n : ℕ) → n < 2 ^ w → count_ones n ≡ 1 → (k : ℕ) × (k < w) × (n ≡ 2 ^ k)
 one_bit zero n p e =
     let z : n ≡ 0 = omega arith in
     let f : count_ones 0 ≡ 1 = ap count_ones (sym z) ∙ e in absurd (omega (arith, ones_of_zero))
 one_bit (suc w) n p e = last_bit w n (n / 2) (n % 2) (one_bit w (n / 2)) (omega arith) p e (omega arith)
 
--- and a power of two has one bit
+-- A power of two has one bit.
 pow_one_bit : (k : ℕ) → count_ones (2 ^ k) ≡ 1
 pow_one_bit zero = ones_of_one
 pow_one_bit (suc k) =
@@ -62,12 +62,12 @@ pub alignment_below : (a : ℕ) → IsAlignment a → a < 2 ^ 64
 unfolding IsAlignment
 alignment_below a h = omega (arith, h.2, pow_below h.0 64 h.1)
 
--- the bits below an alignment are the remainder
+-- The bits below an alignment are the remainder.
 pub low_bits : (x a : ℕ) → IsAlignment a → bit_and x (a - 1) ≡ x % a
 unfolding IsAlignment
 low_bits x a h = subst (λ (v : ℕ). bit_and x (v - 1) ≡ x % v) (sym h.2) (and_mask x h.0)
 
--- the mask takes the remainder away
+-- The mask removes the remainder.
 pub masked : (x a : ℕ) → x < 2 ^ 64 → IsAlignment a → bit_and x (18446744073709551615 - (a - 1)) ≡ x - x % a
 unfolding IsAlignment
 masked x a p h =
@@ -75,7 +75,7 @@ masked x a p h =
     let both : bit_and (18446744073709551615 - (a - 1)) x + bit_and (a - 1) x ≡ x = and-not 64 (a - 1) x (omega (arith, alignment_below a h)) p in
     and_comm x (18446744073709551615 - (a - 1)) ∙ omega (arith, both, low, and_comm (a - 1) x)
 
--- two multiples of a are a apart at least
+-- The distance of two multiples of a is at least a.
 pub gap : (a m r : ℕ) → m % a ≡ 0 → r % a ≡ 0 → m < r → m + a ≤ r
 gap a m r p q l =
     let em : m / a * a + m % a ≡ m = div-add-mod' m a in
@@ -102,7 +102,7 @@ highest_multiple a x z =
           ⊎_elim (λ (h : x - x % a < m). let g = gap a (x - x % a) m d p h in absurd (omega arith)) (λ (h : m ≤ x - x % a). h) (cases_lt (x - x % a) m),
     )
 
--- rounding the last address of a stretch down is rounding its first up
+-- Rounding x up is rounding x + (a - 1) down.
 pub lowest_multiple : (a x r : ℕ) → 0 < a → IsHighestMultiple a (x + (a - 1)) r → IsLowestMultiple a x r
 unfolding IsHighestMultiple IsLowestMultiple
 lowest_multiple a x r z h =

@@ -1,17 +1,17 @@
--- What the calls of a range return.
+-- The results of the calls of a range.
 use Rattle.std.proofs.Common.{◌≡◌, ℕ, ◌<◌, ◌≤◌, ◌⊎◌, arith, inl, inr, refl, ap, ◌∙◌, ⊎_elim}
 use Rattle.std.proofs.lemmas.Bool.{cases_lt, and_parts, eq-eqb, eqb-true, lt-ltb, le-ltb, ltb-true}
 use Rattle.vm_ranges.specs.Range.{Range, Overlaps, Covers}
 use Rattle.vm_ranges.specs.RangeOrder.{Before}
 
--- ranges of the same ends are one
+-- Ranges with the same ends are equal.
 pub same_range : (x y : Range) → x.start ≡ y.start → x.end ≡ y.end → x ≡ y
 same_range x y p q =
     let f : ℕ → ℕ → Range = λ s e. record { start = s; end = e } in
     let g : f x.start x.end ≡ f y.start x.end = ap (λ v. f v x.end) p in
     g ∙ ap (λ v. f y.start v) q
 
--- ---- which of two ranges comes first
+-- ---- The order of two ranges
 pub before_parts : (a b : Range) → Before a b → (a.start < b.start) ⊎ ((a.start ≡ b.start) × (a.end < b.end))
 unfolding Before
 before_parts a b h =
@@ -36,7 +36,7 @@ starts_low a b h = ⊎_elim (λ (l : a.start < b.start). omega arith) (λ p. ome
 
 pub ruleset orders = (before_by_start, before_by_end)
 
--- ---- what lies in both, and in one of the two
+-- ---- Ranges that overlap, and ranges that contain others
 
 pub meet : (r s : Range) → r.start ≤ r.end → s.start ≤ s.end → r.start ≤ s.end → s.start ≤ r.end → Overlaps r s
 unfolding Overlaps

@@ -1,4 +1,4 @@
--- What the order of ranges says.
+-- The order of ranges, and what it means.
 use Rattle.std.proofs.Common.{◌≡◌, ◌<◌, ◌≤◌, ◌⊎◌, refl, sym, ap, ◌∙◌, arith, inl, inr, subst, ⊎_elim}
 use Rattle.std.proofs.lemmas.Bool.{cases_lt}
 use Rattle.std.specs.declared.cmp.Ordering.{Ordering}
@@ -11,20 +11,20 @@ use Rattle.vm_ranges.specs.RangeOrder.{range_cmp, range_cmp-total, Before}
 use Rattle.vm_ranges.specs.RangeLaws.{RangesAreSets}
 use Rattle.vm_ranges.proofs.RangeCalls.{before_parts, before_by_start, before_by_end, same_range}
 
--- two answers in a row are Equal only where both are
+-- A comparison in two steps is Equal only if both steps are.
 pub both_equal : (o p : Ordering) → ordering_then o p ≡ Equal → (o ≡ Equal) × (p ≡ Equal)
 both_equal Less p h = cc
 both_equal Equal p h = (refl, h)
 both_equal Greater p h = cc
 
--- where the starts are one, the ends decide
+-- If the starts are equal, the ends decide.
 by_ends : (a b : Range) (o : Ordering) → a.start ≡ b.start → o ≡ nat_cmp a.end b.end → o ≡ range_cmp a b
 by_ends a b o s e = e ∙ ap (λ (v : Ordering). ordering_then v (nat_cmp a.end b.end)) (nat_cmp_is a.start b.start Equal s)
 
 by_starts : (a b : Range) (o : Ordering) → o ≡ nat_cmp a.start b.start → ordering_then o (nat_cmp a.end b.end) ≡ range_cmp a b
 by_starts a b o e = ap (λ (v : Ordering). ordering_then v (nat_cmp a.end b.end)) e
 
--- which of two ranges comes first is what their order says
+-- An order that agrees with `Before` is the order of ranges.
 pub ordered_is : (o : Ordering) (a b : Range) → MatchOrdering o (Before a b) (a ≡ b) (Before b a) → o ≡ range_cmp a b
 ordered_is Less a b h =
     ⊎_elim
@@ -41,7 +41,7 @@ ordered_is Greater a b h =
 
 pub ruleset by_order = (ordered_is)
 
--- one of two ranges comes first, unless they are one
+-- One of two ranges is before the other, unless they are equal.
 in_turn : (a b : Range) → Before a b ⊎ ((a ≡ b) ⊎ Before b a)
 in_turn a b =
     ⊎_elim
@@ -62,7 +62,7 @@ in_turn a b =
     (cases_lt b.start a.start))
     (cases_lt a.start b.start)
 
--- and what their order says is which of the two comes first
+-- The order of ranges agrees with `Before`.
 pub told : (o : Ordering) (a b : Range) → o ≡ range_cmp a b → MatchOrdering o (Before a b) (a ≡ b) (Before b a)
 told o a b e =
     let said : Ordering → Type 0 = λ v. MatchOrdering v (Before a b) (a ≡ b) (Before b a) in
@@ -82,7 +82,7 @@ range_cmp-exact a b h =
     let p = both_equal (nat_cmp a.start b.start) (nat_cmp a.end b.end) h in
     same_range a b (exact_unsigned a.start b.start p.0) (exact_unsigned a.end b.end p.1)
 
--- ---- ranges as sets of addresses
+-- ---- Ranges as sets of addresses
 pub ranges_are_sets : RangesAreSets
 unfolding Overlaps Covers
 ranges_are_sets = record {

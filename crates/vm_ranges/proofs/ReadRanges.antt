@@ -1,4 +1,4 @@
--- The range that a value states.
+-- The range that a value encodes.
 use Rattle.std.proofs.Common.{◌≡◌, ℕ, zero, suc, ◌<◌, Bool, true, false, not, cond, ◌&&◌, ◌||◌, eqb, leb, ltb, Some, None, Ok, Err, codes, refl, sym, ◌∙◌, subst, arith, inl, inr, ⊎_elim}
 use Rattle.std.proofs.lemmas.Bool.{and_parts, and_from, eq-eqb, ne_eqb, leb-true, ltb-true, le-leb, lt-ltb, or_cases, not-true}
 use Rattle.std.proofs.lemmas.Option.{same_Some}
@@ -55,6 +55,6 @@ none_encoded d e p = let t = states-found d p.0 p.1 in cc
 
 pub ruleset read = (found-states, none_encoded)
 
--- a value states one range at most
+-- A value encodes at most one range.
 pub one_range : (d : Data) (a b : Range) → EncodesRange d a → EncodesRange d b → a ≡ b
 one_range d a b p q = same_Some a b (sym (states-found d a p) ∙ states-found d b q)

@@ -1,4 +1,4 @@
--- The state that a value states.
+-- The state that a value encodes.
 use Rattle.std.proofs.Common.{◌≡◌, ℕ, true, false, cond, List, Option, Some, None, codes, bytes_eq, refl, sym, ap, ◌∙◌}
 use Rattle.std.proofs.lemmas.Option.{same_Some}
 use Rattle.std.proofs.lemmas.Slice.Eq.{bytes_eq-Decides}
@@ -39,6 +39,6 @@ none_encoded d e p = let t = states-found d p.0 p.1 in cc
 
 pub ruleset read = (found-states, none_encoded)
 
--- a value states one state at most
+-- A value encodes at most one state.
 pub one_state : (d : Data) (a b : NodeState) → EncodesState d a → EncodesState d b → a ≡ b
 one_state d a b p q = same_Some a b (sym (states-found d a p) ∙ states-found d b q)

@@ -1,4 +1,4 @@
--- From a request to its constraint.
+-- Requests and their constraints.
 use Rattle.std.proofs.Common.{◌≡◌, ℕ, ◌^◌, ◌<◌, true, false, refl, arith, inl, inr, Ok, Err, ⊎_elim}
 use Rattle.std.specs.Int.{is_power_of_two}
 use Rattle.vm_ranges.specs.Request.{Request, request_for, IsRequest, IsStartAligned, ByConstraint, MakesConstraint}
@@ -28,7 +28,7 @@ is_valid_request size align policy z l e u = record { some = z; aligned = alignm
 
 pub ruleset constrains = (constrains_size, constrains_alignment, constrains_start, constrains_given, is_valid_request)
 
--- a request that is refused or not is refused alike where each refusal says more
+-- A fact that follows from the fact of each case of a request.
 pub constraint_map : (request : Request) (P Q : Error → Type 0) (R S : Type 0) → ((e : Error) → P e → Q e) → (R → S) → ByConstraint request P R → ByConstraint request Q S
 unfolding ByConstraint
 constraint_map request P Q R S f g h =

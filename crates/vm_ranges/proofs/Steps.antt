@@ -1,4 +1,4 @@
--- A chain of steps that has come to an end: each step has.
+-- A chain of steps succeeds only if each step does.
 use Rattle.std.proofs.Common.{◌≡◌, Bool, true, false, cond, Option, Some, None, option_map, option_and_then, refl}
 use Rattle.std.proofs.lemmas.Option.{same_Some}
 

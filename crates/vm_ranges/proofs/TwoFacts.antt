@@ -1,4 +1,4 @@
--- Two facts by one condition.
+-- Two facts by the same condition.
 use Rattle.std.proofs.Common.{inl, inr}
 use Rattle.vm_ranges.specs.Cases.{IfElse, Unless}
 

@@ -1,8 +1,8 @@
--- What cloning answers.
+-- The result of cloning.
 use Rattle.std.specs.Prelude.{◌≡◌, ◌⊎◌, Result, Ok, Err}
 use Rattle.vm_ranges.specs.declared.error.Error.{Error}
 use Rattle.vm_ranges.specs.declared.error.Error.TheVariants.{OutOfMemory}
 
--- what is cloned once more, or no memory for it
+-- The result of cloning is the original state, or OutOfMemory.
 abbrev pub Clones : {X : Type 0} → X → Result X Error → Type 0
 Clones original answer = (answer ≡ Ok original) ⊎ (answer ≡ Err OutOfMemory)

@@ -1,18 +1,18 @@
--- The fields of a saved value: its order of fields is not looked at.
+-- The fields of a saved value. Their order does not matter.
 use Rattle.std.specs.Prelude.{ℕ, ◌==◌, Bool, false, List, Option, Some, None, option_map, MatchOption}
 use Rattle.serde_json.specs.Data.{Data}
 use Rattle.serde_json.specs.Find.{get, as_object}
 use Rattle.serde_json.specs.Events.{members_len}
 
--- how many fields an object has, each under a name of its own; a value of another kind has no such number
+-- The number of fields of an object, which have different names. It is None for other values.
 abbrev pub field_count : Data → Option ℕ
 field_count d = option_map members_len (as_object d)
 
--- whether there are that many fields
+-- Whether the number of fields is n.
 abbrev pub is_count : ℕ → Option ℕ → Bool
 is_count n None = false
 is_count n (Some c) = c == n
 
--- the value has a field of this name, and the fact holds of what stands there
+-- The value has a field with this name, and the fact is true for the value of the field.
 abbrev pub FieldIs : List ℕ → Data → (Data → Type 0) → Type 0
 FieldIs name d fact = MatchOption (get name d) ⊥ fact

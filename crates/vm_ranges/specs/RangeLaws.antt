@@ -1,11 +1,11 @@
--- What follows from the definitions alone for ranges.
+-- Laws of ranges that follow only from the definitions.
 use Rattle.std.specs.Prelude.{◌≡◌, ◌↔◌}
 use Rattle.std.specs.declared.cmp.Ordering.TheVariants.{Equal}
 use Rattle.vm_ranges.specs.Range.{Range, Overlaps, Covers}
 use Rattle.vm_ranges.specs.RangeOrder.{range_cmp}
 
--- overlapping goes both ways, each range covers itself and what a covered one covers, and the order finds two ranges
--- equal just where they are one
+-- Overlapping is symmetric, covering is reflexive and transitive, and the order finds two ranges equal if and only if
+-- they are.
 pub record RangesAreSets : Type 0 where
   pub symmetric : (r s : Range) → Overlaps r s → Overlaps s r
   pub reflexive : (r : Range) → Covers r r

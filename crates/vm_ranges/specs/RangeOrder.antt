@@ -1,4 +1,4 @@
--- How two ranges lie to one another.
+-- The order of ranges, and the relations of two ranges.
 use Rattle.std.specs.Prelude.{◌≡◌, ◌<◌, ◌≤◌, ◌⊎◌, ◌==◌, ◌&&◌, ◌||◌, nat_le, nat_lt, Bool, true}
 use Rattle.std.specs.declared.cmp.Ordering.{Ordering}
 use Rattle.std.specs.Ordering.{nat_cmp, on, then_cmp}
@@ -6,50 +6,50 @@ use Rattle.std.specs.Cmp.{IsTotalOrder}
 use Rattle.std.proofs.lemmas.Cmp.{then_total, on_total, nat_cmp_total}
 use Rattle.vm_ranges.specs.Range.{Range}
 
--- whether a comes first, by the start and then by the end
+-- Whether a is before b: by the start, then by the end.
 abbrev pub is_before : Range → Range → Bool
 is_before a b = nat_lt a.start b.start || a.start == b.start && nat_lt a.end b.end
 
--- a comes first
+-- a is before b.
 unfoldable pub Before : Range → Range → Type 0
 Before a b = is_before a b ≡ true
 
--- a starts before b
+-- a starts before b starts.
 unfoldable pub StartsBefore : Range → Range → Type 0
 StartsBefore a b = a.start < b.start
 
--- a starts where b does, or after that
+-- a starts at the start of b or after it.
 unfoldable pub StartsAtOrAfter : Range → Range → Type 0
 StartsAtOrAfter a b = b.start ≤ a.start
 
--- all of a comes before all of b
+-- a ends before b starts.
 unfoldable pub EndsBefore : Range → Range → Type 0
 EndsBefore a b = a.end < b.start
 
--- a does not end before b starts
+-- a ends at the start of b or after it.
 unfoldable pub EndsAtOrAfterStartOf : Range → Range → Type 0
 EndsAtOrAfterStartOf a b = b.start ≤ a.end
 
--- the start is at most the end
+-- The start is at most the end.
 unfoldable pub IsInOrder : Range → Type 0
 IsInOrder a = a.start ≤ a.end
 
--- whether both have the same ends
+-- Whether both ranges have the same ends.
 abbrev pub same_range : Range → Range → Bool
 same_range a b = a.start == b.start && a.end == b.end
 
--- whether both ends of k lie in a
+-- Whether both ends of k are in a.
 unfoldable pub covers : Range → Range → Bool
 covers a k = nat_le a.start k.start && nat_le k.end a.end
 
--- one of the two ends before the other starts
+-- One of the two ranges ends before the other starts.
 abbrev pub Apart : Range → Range → Type 0
 Apart a b = (a.end < b.start) ⊎ (b.end < a.start)
 
--- the order of ranges: by start, then by end
+-- The order of ranges: by start, then by end.
 abbrev pub range_cmp : Range → Range → Ordering
 range_cmp = then_cmp (on (λ r. r.start) nat_cmp) (on (λ r. r.end) nat_cmp)
 
--- this order is total, as it is made of total ones
+-- Proof: the order is total, because it is composed of total orders.
 pub range_cmp-total : IsTotalOrder range_cmp
 range_cmp-total = then_total (on_total (λ (r : Range). r.start) nat_cmp_total) (on_total (λ (r : Range). r.end) nat_cmp_total)

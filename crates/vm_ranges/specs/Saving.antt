@@ -1,4 +1,4 @@
--- What writing and reading saved values answers.
+-- The results of writing and of reading saved values.
 use Rattle.std.specs.Prelude.{◌≡◌, Result, Ok, Err, MatchResult}
 use Rattle.serde_json.specs.Data.{Data}
 use Rattle.serde_json.specs.View.{view}
@@ -8,11 +8,12 @@ use Rattle.vm_ranges.specs.declared.error.Error.TheVariants as errors
 use Rattle.vm_ranges.specs.declared.saved.ValueError.{ValueError}
 use Rattle.vm_ranges.specs.declared.saved.ValueError.TheVariants.{NotAState, OutOfMemory}
 
--- a value that states the object, or no memory for it
+-- The result of writing an object: a value that encodes it, or OutOfMemory.
 abbrev pub Saves : (Data → Type 0) → Result Value Error → Type 0
 Saves States answer = MatchResult answer (λ v. States (view v)) (λ e. e ≡ errors.OutOfMemory)
 
--- the object that is stated; NotAState where none is, and OutOfMemory only where one is
+-- The result of reading a value: the object that it encodes, or NotAState if it encodes none. OutOfMemory is possible
+-- only if it encodes an object.
 abbrev pub Reads : {X : Type 0} → (X → Type 0) → Result X ValueError → Type 0
 Reads States (Ok x) = States x
 Reads {X} States (Err NotAState) = ¬ ((x : X) × States x)

@@ -1,10 +1,13 @@
-//! How addresses are aligned.
+//! Rounding of addresses to multiples of an alignment.
 ghost use Rattle.vm_ranges.specs.Alignment.{AlignsDown, AlignsUp};
 
 use crate::error::{Error, Result};
 
-/// The greatest multiple of the alignment that is the address or less. `InvalidAlignment` where the
-/// alignment is no power of two.
+/// Returns the highest multiple of `alignment` that is at most `address`.
+///
+/// # Errors
+///
+/// - `InvalidAlignment` if `alignment` is not a power of two.
 #[tactic(auto, using(crate::proofs::Alignments::aligns))]
 pub fn align_down(address: u64, alignment: u64) -> Result<u64>
     ensures { AlignsDown address alignment result }
@@ -15,9 +18,14 @@ pub fn align_down(address: u64, alignment: u64) -> Result<u64>
     Ok(address & !(alignment - 1))
 }
 
-/// The least multiple of the alignment that is the address or more. In this order: an alignment of 0
-/// is `InvalidAlignment`, an address + alignment - 1 past `u64::MAX` is `Overflow`, and an alignment
-/// that is no power of two is `InvalidAlignment`.
+/// Returns the lowest multiple of `alignment` that is at least `address`.
+///
+/// # Errors
+///
+/// In this order:
+/// - `InvalidAlignment` if `alignment` is 0.
+/// - `Overflow` if `address + alignment - 1` is past `u64::MAX`.
+/// - `InvalidAlignment` if `alignment` is not a power of two.
 #[tactic(auto, using(crate::proofs::Alignments::aligns))]
 pub fn align_up(address: u64, alignment: u64) -> Result<u64>
     ensures { AlignsUp address alignment result }

@@ -1,5 +1,7 @@
-//! Requests. That a request makes sense is the invariant of `Constraint`, so what takes one needs no
-//! condition.
+//! Requests for a range of addresses.
+//!
+//! The invariant of `Constraint` is that the request is valid, so functions that take a
+//! `Constraint` need no condition.
 ghost use Rattle.std.specs.Prelude.{◌≡◌};
 ghost use Rattle.vm_ranges.specs.Alignment.{IsAlignment};
 ghost use Rattle.vm_ranges.specs.Cases.{IsTestOf};
@@ -8,22 +10,23 @@ ghost use Rattle.vm_ranges.specs.Request.{request_for, MakesConstraint, IsStartA
 use crate::error::{Error, Result};
 use std::marker::Model;
 
-/// An alignment for requests that need no particular one.
+/// The alignment for requests that need no particular alignment.
 pub const DEFAULT_CONSTRAINT_ALIGN: u64 = 4;
 
-/// Which of the places for a request is taken.
+/// The policy that chooses a free range for a request.
 #[derive(Clone, Copy, Debug, Default, PartialEq, Eq)]
 pub enum AllocPolicy {
-    /// First fit: the least.
+    /// Chooses the lowest range.
     #[default]
     FirstMatch,
-    /// Last fit: the greatest.
+    /// Chooses the highest range.
     LastMatch,
-    /// The one with this start.
+    /// Chooses the range with this start.
     ExactMatch(u64),
 }
 
-/// Whether the alignment divides the start, where the policy names one.
+/// Returns whether the start of `ExactMatch` is a multiple of the alignment. Returns `true` for the
+/// other policies.
 #[tactic(auto, unfolding(crate::specs::Request::IsStartAligned), using(crate::proofs::Power::low_bits, crate::proofs::Power::alignment_pos))]
 fn is_start_aligned(align: u64, policy: AllocPolicy) -> bool
     requires { IsAlignment align }
@@ -36,8 +39,10 @@ fn is_start_aligned(align: u64, policy: AllocPolicy) -> bool
     }
 }
 
-/// A request for addresses that makes sense: at least one address, an alignment that is a power of
-/// two, and, where a start is named, one that the alignment divides.
+/// A valid request for a range of addresses.
+///
+/// Its size is at least 1, its alignment is a power of two, and the start of `ExactMatch` is a
+/// multiple of the alignment.
 #[derive(Clone, Copy, Debug, PartialEq, Eq)]
 pub struct Constraint {
     size: u64,
@@ -58,9 +63,14 @@ impl Model for Constraint {
 }
 
 impl Constraint {
-    /// The request for `size` addresses from a multiple of `align` on. In this order: size 0 is
-    /// `InvalidSize(0)`, an alignment that is no power of two `InvalidAlignment`, and an
-    /// `ExactMatch` of a start that is no multiple of the alignment `UnalignedAddress`.
+    /// Creates a request for `size` addresses that start at a multiple of `align`.
+    ///
+    /// # Errors
+    ///
+    /// In this order:
+    /// - `InvalidSize(0)` if `size` is 0.
+    /// - `InvalidAlignment` if `align` is not a power of two.
+    /// - `UnalignedAddress` if the start of `ExactMatch` is not a multiple of `align`.
     #[tactic(auto, using(crate::proofs::Requests::constrains, crate::proofs::Power::alignment_if_true))]
     pub fn new(size: u64, align: u64, policy: AllocPolicy) -> Result<Self>
         ensures { MakesConstraint (request_for size align policy) result }
@@ -81,14 +91,14 @@ impl Constraint {
         })
     }
 
-    /// What has to divide the first address.
+    /// Returns the alignment: the first address of the range is a multiple of it.
     pub fn align(self) -> u64
         ensures { result ≡ self.align }
     {
         self.align
     }
 
-    /// How many addresses are asked for.
+    /// Returns the number of requested addresses.
     pub fn size(self) -> u64
         ensures value { result ≡ self.size }
         ensures valid { IsRequest self }
@@ -96,7 +106,7 @@ impl Constraint {
         self.size
     }
 
-    /// Which of the places is taken.
+    /// Returns the policy that chooses the range.
     pub fn policy(self) -> AllocPolicy
         ensures { result ≡ self.policy }
     {

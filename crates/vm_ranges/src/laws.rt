@@ -1,8 +1,8 @@
 //! Laws of ranges.
 ghost use Rattle.vm_ranges.specs.RangeLaws.{RangesAreSets};
 
-/// Overlapping is symmetric, containing reflexive and transitive, and the order of ranges agrees with
-/// their equality.
+/// Proves that overlapping is symmetric, that containing is reflexive and transitive, and that the
+/// order of ranges agrees with their equality.
 #[tactic(auto, using(crate::proofs::RangeOrders::ranges_are_sets))]
 fn ranges_are_sets()
     ensures { RangesAreSets }

@@ -1,5 +1,5 @@
-//! Ranges of addresses, the states of blocks, what is asked of an allocator and why it is refused, and
-//! the saved forms of ranges and states.
+//! Ranges of addresses, alignment, requests, errors, states of blocks, and the saved values of
+//! ranges and states.
 #![tactic(auto)]
 
 mod alignment;

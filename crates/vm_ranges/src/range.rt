@@ -1,5 +1,6 @@
-//! Ranges of addresses. Their order is written by hand and not derived, so that the contract of `cmp`
-//! names it: by start, then by end.
+//! Closed ranges of addresses.
+//!
+//! Their order is written by hand, so that the contract of `cmp` names it: by start, then by end.
 ghost use Rattle.std.specs.Prelude.{◌≡◌, ◌↔◌, IsTrue};
 ghost use Rattle.std.proofs.Common.{rules};
 ghost use Rattle.std.specs.Cmp.{partial_order_from_own_ties};
@@ -13,9 +14,10 @@ use crate::error::{Error, Result};
 use std::cmp::Ordering;
 use std::marker::Model;
 
-/// A closed range of addresses: its start, its end and all between them. It is never empty and
-/// never all of the 2^64 addresses, so its length fits a `u64`. Ranges are ordered by start, then
-/// by end.
+/// A closed range of addresses: its start, its end and all addresses between them.
+///
+/// A range is never empty and never contains all 2^64 addresses, so its length fits into a `u64`.
+/// Ranges are ordered by start, then by end.
 #[derive(Clone, Copy, Debug, PartialEq, Eq, Hash)]
 pub struct RangeInclusive {
     start: u64,
@@ -37,8 +39,12 @@ impl Model for RangeInclusive {
 }
 
 impl RangeInclusive {
-    /// The range from `start` to `end`. `InvalidRange(start, end)` where the start is past the
-    /// end, or where they are 0 and `u64::MAX`.
+    /// Creates the range from `start` to `end`, both included.
+    ///
+    /// # Errors
+    ///
+    /// - `InvalidRange(start, end)` if `start` is past `end`, or if the range would contain all
+    ///   2^64 addresses.
     pub fn new(start: u64, end: u64) -> Result<Self>
         ensures { MakesRange start end result }
     {
@@ -48,7 +54,7 @@ impl RangeInclusive {
         Ok(RangeInclusive { start, end })
     }
 
-    /// How many addresses the range has.
+    /// Returns the number of addresses in the range.
     #[allow(clippy::len_without_is_empty)]
     pub fn len(&self) -> u64
         ensures { result ≡ address_count self.now }
@@ -56,7 +62,7 @@ impl RangeInclusive {
         1 + (self.end - self.start)
     }
 
-    /// Whether some address lies in both ranges.
+    /// Returns whether an address is in both ranges.
     #[tactic(auto, using(crate::proofs::RangeCalls::overlappings))]
     pub fn overlaps(&self, other: &RangeInclusive) -> bool
         ensures { IsTrue result ↔ Overlaps self.now other.now }
@@ -64,7 +70,7 @@ impl RangeInclusive {
         other.start <= self.end && self.start <= other.end
     }
 
-    /// Whether every address of `other` lies in the range.
+    /// Returns whether every address of `other` is in this range.
     #[tactic(auto, using(crate::proofs::RangeCalls::coverings))]
     pub fn contains(&self, other: &RangeInclusive) -> bool
         ensures { IsTrue result ↔ Covers self.now other.now }
@@ -72,7 +78,7 @@ impl RangeInclusive {
         other.start >= self.start && other.end <= self.end
     }
 
-    /// The first address.
+    /// Returns the first address.
     pub fn start(&self) -> u64
         ensures value { result ≡ self.now.start }
         ensures range { IsRange self.now.start self.now.end }
@@ -80,7 +86,7 @@ impl RangeInclusive {
         self.start
     }
 
-    /// The last address.
+    /// Returns the last address.
     pub fn end(&self) -> u64
         ensures value { result ≡ self.now.end }
         ensures range { IsRange self.now.start self.now.end }
@@ -98,7 +104,7 @@ impl Ord for RangeInclusive {
 
     ghost matches_eq = { Prim.search (comparing, rules) };
 
-    /// By start, then by end. It stops at the first difference.
+    /// Compares by start, then by end. It stops at the first difference.
     #[tactic(auto, using(crate::proofs::RangeOrders::by_order, crate::proofs::RangeCalls::orders))]
     fn cmp(&self, other: &RangeInclusive) -> Ordering {
         if self.start < other.start {
@@ -116,7 +122,7 @@ impl PartialOrd for RangeInclusive {
 
     ghost laws = { partial_order_from_own_ties (Prim.search (comparing, rules)) (Prim.search (comparing, rules)) };
 
-    /// By start, then by end.
+    /// Compares like `cmp`.
     fn partial_cmp(&self, other: &RangeInclusive) -> Option<Ordering> {
         Some(self.cmp(other))
     }

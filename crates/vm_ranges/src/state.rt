@@ -1,17 +1,17 @@
-//! Whether a block of a space is held.
+//! The state of a block of a space: free or allocated.
 ghost use Rattle.std.specs.Prelude.{◌≡◌, ◌↔◌, IsTrue};
 
-/// Whether a block is held. `Free` is less.
+/// The state of a block of a space. `Free` is less than `Allocated`.
 #[derive(Clone, Copy, Debug, PartialEq, Eq, PartialOrd, Ord)]
 pub enum NodeState {
-    /// No one holds the block.
+    /// The addresses of the block are free.
     Free,
-    /// Someone holds the block.
+    /// The block is an allocated range.
     Allocated,
 }
 
 impl NodeState {
-    /// Whether no one holds the block.
+    /// Returns whether the block is free.
     fn is_free(&self) -> bool
         ensures { IsTrue result ↔ (self.now ≡ NodeState.Free) }
     {

@@ -1,9 +1,9 @@
--- The status that the program ends with.
+-- The exit status of the program.
 use Rattle.std.specs.Prelude.{ℕ, Result, Ok, Err}
 use Rattle.vm_lines.specs.declared.replay.RunError.{RunError}
 use Rattle.vm_lines.specs.declared.replay.RunError.TheVariants.{Read, Write}
 
--- 0 at the end of the input, 1 after a read that failed, 2 after a write that failed
+-- The exit status: 0 at the end of the input, 1 after a failed read, 2 after a failed write.
 abbrev pub status_of : Result (Unit {0}) RunError → ℕ
 status_of (Ok unit) = 0
 status_of (Err Read) = 1

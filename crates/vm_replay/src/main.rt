@@ -1,5 +1,5 @@
-//! Replays lines of calls: each line of the standard input asks an allocator or a manager of devices
-//! for something, and is answered by one line of the standard output.
+//! Replays calls. Each line of the standard input is a call of an allocator or of a manager of
+//! devices, and has one line in the standard output.
 #![tactic(auto)]
 
 ghost use Rattle.std.specs.Prelude.{◌≡◌};
@@ -11,7 +11,7 @@ mod tests;
 use std::process::ExitCode;
 use vm_lines::{RunError, run};
 
-/// The status that the program ends with.
+/// Returns the exit status of the program.
 fn status(outcome: Result<(), RunError>) -> u8
     ensures { result ≡ status_of outcome }
 {

@@ -1,4 +1,4 @@
-//! The exit status of the program.
+//! Tests the exit status of the program.
 use crate::status;
 use vm_lines::RunError;
 

@@ -1,4 +1,4 @@
-//! Address allocators.
+//! Tests of address allocators.
 use crate::fixtures::{block_count, cloned, expect_eq, expect_true, made};
 use AllocPolicy::{ExactMatch, FirstMatch, LastMatch};
 use Call::{Exact, First, Free, Last, Space};
@@ -21,37 +21,36 @@ mod without_memory;
 
 const MAX: u64 = u64::MAX;
 
-/// The greatest address that can be held.
+/// The highest address that can be allocated.
 const LAST: u64 = MAX - 1;
 
 /// Half of all addresses.
 const HALF: u64 = 1 << 63;
 
-/// What is asked of an allocator.
+/// A call of an allocator.
 #[derive(Clone, Copy, Debug)]
 enum Call {
-    /// Another allocator in the place of this one: its base and its size.
+    /// Replaces the allocator by a new one, with a base and a size.
     Space(u64, u64),
-    /// A size and an alignment, for the least place.
+    /// Allocates the lowest range of a size and an alignment.
     First(u64, u64),
-    /// A size and an alignment, for the greatest place.
+    /// Allocates the highest range of a size and an alignment.
     Last(u64, u64),
-    /// A size, an alignment and a start.
+    /// Allocates a range by its size, its alignment and its start.
     Exact(u64, u64, u64),
-    /// The first and the last address of what is given back.
+    /// Frees a range by its first and its last address.
     Free(u64, u64),
 }
 
-/// The first and the last address of the space that is made, or of the range that is given out or
-/// given back.
+/// The first and the last address of the new space, or of the range that is allocated or freed.
 type Answer = Result<(u64, u64)>;
 
-/// The answer that a call has to have.
+/// The expected result of a call.
 #[derive(Clone, Copy)]
 enum Expected {
-    /// The first and the last address of what is made, given out or given back.
+    /// The first and the last address of the space or range that is created, allocated or freed.
     Range(u64, u64),
-    /// A refusal, since exactly this range is held.
+    /// An error because exactly this range is allocated.
     Held(u64, u64),
     NotAvailable,
     Overflow,
@@ -79,7 +78,7 @@ impl Expected {
     }
 }
 
-/// Which of two calls that do the same.
+/// Chooses one of two calls that do the same.
 #[derive(Clone, Copy)]
 enum Form {
     Plain,
@@ -87,12 +86,12 @@ enum Form {
 }
 
 impl Call {
-    /// Does the call.
+    /// Makes the call.
     fn ask(self, space: &mut AddressAllocator, alloc: Global, form: Form) -> Answer {
         self.count(space, alloc, form).0
     }
 
-    /// Does the call, and says how many nodes it entered, where that is counted.
+    /// Makes the call, and also returns the number of entered nodes if it is counted.
     fn count(self, space: &mut AddressAllocator, alloc: Global, form: Form) -> (Answer, u64) {
         let (size, alignment, policy) = match self {
             Space(base, size) => return (replace(space, alloc, base, size), 0),
@@ -112,13 +111,13 @@ impl Call {
     }
 }
 
-/// Puts another allocator in the place of one.
+/// Replaces an allocator by a new one.
 fn replace(space: &mut AddressAllocator, alloc: Global, base: u64, size: u64) -> Answer {
     *space = AddressAllocator::new(alloc, base, size)?;
     Ok((space.base(), space.end()))
 }
 
-/// Gives a range back, and says how many nodes that entered, where they are counted.
+/// Frees a range, and also returns the number of entered nodes if it is counted.
 fn free_all(space: &mut AddressAllocator, start: u64, end: u64, form: Form) -> (Answer, u64) {
     let range = match RangeInclusive::new(start, end) {
         Ok(range) => range,
@@ -134,7 +133,8 @@ fn free_all(space: &mut AddressAllocator, start: u64, end: u64, form: Form) -> (
     }
 }
 
-/// The answer to a call. Where memory ran out nothing has changed.
+/// Returns the result of a call. If memory runs out, checks that nothing changed, and repeats the
+/// call.
 fn ask(rt: &(impl Abort + AllocGlobal), space: &mut AddressAllocator, call: Call) -> Answer {
     let before = cloned(rt, space);
     match call.ask(space, rt.alloc(), Plain) {
@@ -146,7 +146,7 @@ fn ask(rt: &(impl Abort + AllocGlobal), space: &mut AddressAllocator, call: Call
     }
 }
 
-/// The answer to a call, which is made again where memory ran out.
+/// Returns the result of a call, which is repeated if memory ran out.
 fn call_again(rt: &impl AllocGlobal, space: &mut AddressAllocator, call: Call) -> Answer {
     match call.ask(space, rt.alloc(), Plain) {
         Err(Error::OutOfMemory) => call.ask(space, rt.alloc(), Plain),
@@ -154,7 +154,7 @@ fn call_again(rt: &impl AllocGlobal, space: &mut AddressAllocator, call: Call) -
     }
 }
 
-/// Does the calls in turn, each with the answer that it has to have.
+/// Makes the calls in turn, and checks their results.
 fn replay(
     rt: &(impl Abort + AllocGlobal),
     space: &mut AddressAllocator,
@@ -165,7 +165,7 @@ fn replay(
     }
 }
 
-/// Does the calls in turn in a fresh allocator of a space.
+/// Makes the calls in turn on a new allocator of a space.
 fn replay_in(rt: &(impl Abort + AllocGlobal), base: u64, size: u64, rows: &[(Call, Expected)]) {
     replay(rt, &mut made(rt, base, size), rows);
 }
@@ -274,7 +274,7 @@ fn test_regression_exact_match_length_check(rt: HostRuntime) {
 #[test]
 fn answers_of_calls(rt: HostRuntime) {
     let rows = &[
-        // Each address on its own.
+        // Single addresses.
         (Exact(1, 1, 3), Range(3, 3)),
         (Exact(1, 1, 0), Range(0, 0)),
         (Exact(1, 1, 5), Range(5, 5)),
@@ -286,7 +286,7 @@ fn answers_of_calls(rt: HostRuntime) {
         // The whole space.
         (Space(0, 0x1000), Range(0, 0xFFF)),
         (Last(0x1000, 1), Range(0, 0xFFF)),
-        // What is given back is clear again, and nothing else can be given back.
+        // A freed range is free again, and other ranges cannot be freed.
         (Space(1, 0x10), Range(1, 0x10)),
         (First(4, 1), Range(1, 4)),
         (Free(1, 4), Range(1, 4)),
@@ -328,7 +328,7 @@ fn a_tree_of_one_block(rt: HostRuntime) {
     expect_counted(&rt, First(0, 1), &found, NoSize, (0, 0));
 }
 
-/// Each address of [0, 5], given back in three orders.
+/// Each address of [0, 5], freed in three orders.
 const ORDERS: [[(Call, Expected); 6]; 3] = [
     [
         (Free(0, 0), Range(0, 0)),
@@ -375,7 +375,7 @@ fn joins_freed_ranges(rt: HostRuntime) {
     }
 }
 
-/// The number at `n` of the sequence 0, 1, 1, 2, 3, 5, .. of Fibonacci.
+/// Returns the number at index `n` of the Fibonacci sequence 0, 1, 1, 2, 3, 5, ...
 fn fibonacci(n: u64) -> u64 {
     let mut low: u64 = 0;
     let mut high: u64 = 1;
@@ -387,17 +387,18 @@ fn fibonacci(n: u64) -> u64 {
     low
 }
 
-/// Whether the tree is as low as `held` ranges ask for.
+/// Returns whether the tree is as low as it must be with `held` allocated ranges.
 fn is_low(space: &AddressAllocator, held: u64) -> bool {
     fibonacci(space.height().saturating_add(2)) <= held.saturating_mul(2).saturating_add(2)
 }
 
-/// The most nodes that a release may enter in a tree of a height.
+/// Returns the maximum number of nodes that freeing enters in a tree of a height.
 fn max_on_paths(height: u64) -> u64 {
     height.saturating_mul(8).saturating_add(8)
 }
 
-/// What a call answers, and how many nodes it enters. Where memory ran out it is made again.
+/// Returns the result of a call and the number of entered nodes. The call is repeated if memory ran
+/// out.
 fn count_again(rt: &impl AllocGlobal, space: &mut AddressAllocator, call: Call) -> (Answer, u64) {
     match call.count(space, rt.alloc(), Counted) {
         (Err(Error::OutOfMemory), _) => call.count(space, rt.alloc(), Counted),
@@ -405,7 +406,7 @@ fn count_again(rt: &impl AllocGlobal, space: &mut AddressAllocator, call: Call) 
     }
 }
 
-/// A call has this answer, and entered from `bounds.0` to `bounds.1` nodes.
+/// Checks the result of a call, and that it entered from `bounds.0` to `bounds.1` nodes.
 fn expect_counted(
     rt: &impl Abort,
     call: Call,
@@ -421,8 +422,9 @@ fn expect_counted(
     );
 }
 
-/// Allocates the lowest single address of 2047, if the `held` addresses below it are allocated. The last
-/// one fills its gap. Each other one is a split, which enters at least half the height.
+/// Allocates the lowest single address of 2047, if the `held` addresses below it are allocated.
+///
+/// The last one fills its gap. Each other one is a split, which enters at least half the height.
 fn take_first_counted(rt: &(impl Abort + AllocGlobal), space: &mut AddressAllocator, held: u64) {
     let blocks = held.saturating_mul(2).saturating_add(1);
     let height = space.height();
@@ -441,7 +443,7 @@ fn take_first_counted(rt: &(impl Abort + AllocGlobal), space: &mut AddressAlloca
     );
 }
 
-/// A single address given back, after which `held` ranges are held.
+/// Frees a single address, after which `held` ranges are allocated.
 fn free_counted_range(rt: &impl Abort, space: &mut AddressAllocator, address: u64, held: u64) {
     let most = max_on_paths(space.height());
     let found = free_all(space, address, address, Counted);
@@ -464,8 +466,8 @@ fn balanced_and_counted(rt: HostRuntime) {
     every_second_is_clear(&rt, &mut space);
 }
 
-/// In the space from 0 to 2046 the odd addresses are clear: two in a row are not looked for anywhere,
-/// and one is found without a look at the blocks before it.
+/// Checks searches in the space from 0 to 2046, in which the odd addresses are free. A search for
+/// two addresses visits no gap. A search for one finds it and visits no block before it.
 fn every_second_is_clear(rt: &(impl Abort + AllocGlobal), space: &mut AddressAllocator) {
     let most = 9u64.saturating_mul(space.height()).saturating_add(8);
     let rows = [

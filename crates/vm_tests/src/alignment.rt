@@ -1,4 +1,4 @@
-//! Rounding to multiples.
+//! Tests of rounding to multiples.
 use crate::fixtures::expect_eq;
 use vm_allocator::Error;
 use vm_allocator::allocation_engine::{align_down, align_up};

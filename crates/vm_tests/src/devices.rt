@@ -1,4 +1,4 @@
-//! Managers of devices.
+//! Tests of managers of devices.
 use crate::fixtures::{expect_eq, expect_true};
 use Call::{Exact, First, Last, LookUp, Release};
 use Expected::{Device, Gone, Held, NeverAllocated, NoSize, NotAvailable, Overflow, Unaligned};
@@ -13,38 +13,38 @@ mod reserving;
 mod saved;
 mod without_memory;
 
-/// What is asked of a manager.
+/// A call of a manager.
 #[derive(Clone, Copy, Debug)]
 enum Call {
-    /// A size and an alignment, for the least place.
+    /// Reserves the lowest range of a size and an alignment.
     First(u64, u64),
-    /// A size and an alignment, for the greatest place.
+    /// Reserves the highest range of a size and an alignment.
     Last(u64, u64),
-    /// A size, an alignment and a start.
+    /// Reserves a range by its size, its alignment and its start.
     Exact(u64, u64, u64),
-    /// The id of a device that is given back.
+    /// Releases the device with an id.
     Release(u32),
-    /// The id of a device that is looked up.
+    /// Looks up the device with an id.
     LookUp(u32),
 }
 
-/// The answer that a call has to have.
+/// The expected result of a call.
 #[derive(Clone, Copy)]
 enum Expected {
     /// The id of a device, new or looked up, and the first and the last address of its range.
     Device(u32, u64, u64),
-    /// A device was given back, or there is none with that id.
+    /// A device was released, or there is no device with the id.
     Gone,
     NotAvailable,
     Overflow,
     Unaligned,
     NoSize,
     NeverAllocated(u32),
-    /// A refusal, since exactly this range is held.
+    /// An error because exactly this range is allocated.
     Held(u64, u64),
 }
 
-/// The id of a device with the ends of its range, or none where there is none any more.
+/// The id of a device with the ends of its range, or `None` if there is no such device any more.
 type Answer = Result<Option<(u32, u64, u64)>>;
 
 impl Expected {
@@ -66,7 +66,7 @@ impl Expected {
 }
 
 impl Call {
-    /// Does the call.
+    /// Makes the call.
     fn ask(self, devices: &mut DeviceManager, alloc: Global) -> Answer {
         let (size, align, policy) = match self {
             Release(id) => {
@@ -83,8 +83,7 @@ impl Call {
     }
 }
 
-/// A manager. A second try stands for a run in which one request for memory is refused, here and
-/// below.
+/// Creates a manager. Here and below, the second try is for a run in which one allocation fails.
 fn made(rt: &(impl Abort + AllocGlobal), ids: (u32, u32), base: u64, size: u64) -> DeviceManager {
     match DeviceManager::new(rt.alloc(), ids.0, ids.1, base, size) {
         Ok(devices) => devices,
@@ -95,14 +94,14 @@ fn made(rt: &(impl Abort + AllocGlobal), ids: (u32, u32), base: u64, size: u64) 
     }
 }
 
-/// The device with an id, and the ends of its range.
+/// Returns the device with an id, and the ends of its range.
 fn look_up(devices: &DeviceManager, id: u32) -> Option<(u32, u64, u64)> {
     let range = devices.slot(id)?;
     Some((id, range.start(), range.end()))
 }
 
-/// What a manager holds: its saved value, and the allocator of its addresses, whose tree may have
-/// another shape after a refusal.
+/// The state of a manager: its saved value, and the allocator of its addresses. The tree of the
+/// allocator can have another shape after an error.
 #[derive(Drop)]
 struct Parts {
     value: Value,
@@ -117,12 +116,12 @@ impl Parts {
         Parts { value, space }
     }
 
-    /// Whether a field is the same in both saved values.
+    /// Returns whether a field is the same in both saved values.
     fn share(&self, other: &Parts, field: &str) -> bool {
         self.value.get(field) == other.value.get(field)
     }
 
-    /// The ids, the devices and the held ranges are the same.
+    /// Checks that the ids, the devices and the allocated ranges are the same.
     fn expect_of(&self, rt: &(impl Abort + AllocGlobal), devices: &DeviceManager) {
         let other = Parts::of(rt, devices);
         let is_true = self.share(&other, "id_allocator")
@@ -132,7 +131,7 @@ impl Parts {
     }
 }
 
-/// The value that states a manager.
+/// Returns the saved value of a manager.
 fn saved_devices(rt: &(impl Abort + AllocGlobal), devices: &DeviceManager) -> Value {
     match devices.to_value(rt.alloc()) {
         Ok(value) => value,
@@ -142,8 +141,8 @@ fn saved_devices(rt: &(impl Abort + AllocGlobal), devices: &DeviceManager) -> Va
     }
 }
 
-/// Does a call, which has to have its answer. Where memory is refused everything stays, and the same
-/// call is made again.
+/// Makes a call and checks its result. If memory runs out, checks that nothing changed, and repeats
+/// the call.
 fn ask(rt: &(impl Abort + AllocGlobal), devices: &mut DeviceManager, call: Call, want: Expected) {
     let before = Parts::of(rt, devices);
     let mut answer = call.ask(devices, rt.alloc());
@@ -157,15 +156,15 @@ fn ask(rt: &(impl Abort + AllocGlobal), devices: &mut DeviceManager, call: Call,
     }
 }
 
-/// Does the calls in turn, each with the answer that it has to have.
+/// Makes the calls in turn, and checks their results.
 fn replay(rt: &(impl Abort + AllocGlobal), devices: &mut DeviceManager, rows: &[(Call, Expected)]) {
     for (call, want) in rows {
         ask(rt, devices, *call, *want);
     }
 }
 
-/// Does a call of many, which has to have its answer. Where memory is refused the devices stay, and
-/// the same call is made again.
+/// Makes one of many calls and checks its result. If memory runs out, checks that the devices are
+/// unchanged, and repeats the call.
 fn call_again(
     rt: &(impl Abort + AllocGlobal),
     devices: &mut DeviceManager,
@@ -192,7 +191,7 @@ fn reserve_sixteen(
     call_again(rt, devices, First(16, 16), want);
 }
 
-/// The ranges of the devices with the first ids.
+/// Returns the ranges of the devices with the first ids.
 fn slots_of(devices: &DeviceManager) -> [Option<RangeInclusive>; 64] {
     let mut slots = [None; 64];
     for (id, slot) in slots.iter_mut().enumerate() {
@@ -201,7 +200,7 @@ fn slots_of(devices: &DeviceManager) -> [Option<RangeInclusive>; 64] {
     slots
 }
 
-/// No manager is made of these ids and these addresses.
+/// Checks that no manager is created for these ids and these addresses.
 fn expect_no_manager(
     rt: &(impl Abort + AllocGlobal),
     ids: (u32, u32),

@@ -1,5 +1,5 @@
-//! What the tests share. Where a call is tried a second time, that stands for a run in which one
-//! request for memory is refused.
+//! Functions that the tests share. A second try of a call is for a run in which one allocation
+//! fails.
 use serde_json::Value;
 use std::alloc::Global;
 use std::fmt::Debug;
@@ -8,59 +8,59 @@ use vm_allocator::allocation_engine::NodeState;
 use vm_allocator::{AddressAllocator, AllocPolicy, IdAllocator, RangeInclusive, ValueError};
 use vm_devices::DeviceManager;
 
-/// How many bytes `fail_from_here` asks for. Nothing else asks for as many, and tests/refused_memory
-/// has the same number.
+/// The number of bytes that `fail_from_here` allocates. Nothing else allocates this number, and
+/// tests/refused_memory has the same number.
 const LAST_ALLOCATION: usize = 1_000_003;
 
-/// How many bytes `balance` asks for; tests/refused_memory has the same number.
+/// The number of bytes that `balance` allocates. tests/refused_memory has the same number.
 const BALANCE_ALLOCATION: usize = 1_000_005;
 
-/// How many bytes `count_allocations` asks for, and `expect_allocations` one more and one for each request;
-/// tests/refused_memory has the same number.
+/// The number of bytes that `count_allocations` allocates. `expect_allocations` allocates one more,
+/// and one for each expected allocation. tests/refused_memory has the same number.
 const COUNT_ALLOCATION: usize = 1_000_100;
 
-/// What a second try says where it fails too.
+/// The message if the second try fails too.
 const FAILED_ONCE: &str = "memory is refused once";
 
-/// Ends the test where an answer is not the one that it has to be; `of` says of what.
+/// Ends the test if a result is not the expected one. The message contains `of`.
 pub(crate) fn expect_eq<T: PartialEq + Debug>(rt: &impl Abort, got: &T, want: &T, of: &impl Debug) {
     assert!(rt; got == want, "{of:?}: {got:?} where {want:?} is due");
 }
 
-/// Ends the test where something is not so; `of` says what.
+/// Ends the test if `is_true` is false. The message contains `of`.
 pub(crate) fn expect_true(rt: &impl Abort, is_true: bool, of: &impl Debug) {
     assert!(rt; is_true, "{of:?} is not so");
 }
 
-/// The range from one address to another.
+/// Returns the range from one address to another.
 pub(crate) fn range(rt: &impl Abort, start: u64, end: u64) -> RangeInclusive {
     RangeInclusive::new(start, end).expect(rt, "it is a range")
 }
 
-/// Asks for memory, whether it is there or not. tests/refused_memory refuses every later request.
+/// Allocates, whether that fails or not. tests/refused_memory makes every later allocation fail.
 pub(crate) fn fail_from_here(alloc: Global) {
     let _ = Vec::<u8>::with_capacity(alloc, LAST_ALLOCATION);
 }
 
-/// Asks for memory, whether it is there or not. From one call of this to the next as much has to be
-/// given back as was given: tests/refused_memory counts.
+/// Allocates, whether that fails or not. tests/refused_memory checks that all memory that is
+/// allocated from one call of this to the next is freed.
 pub(crate) fn balance(alloc: Global) {
     let _ = Vec::<u8>::with_capacity(alloc, BALANCE_ALLOCATION);
 }
 
-/// Asks for memory, whether it is there or not: from here on tests/refused_memory counts requests.
+/// Allocates, whether that fails or not. tests/refused_memory counts the allocations after this.
 pub(crate) fn count_allocations(alloc: Global) {
     let _ = Vec::<u8>::with_capacity(alloc, COUNT_ALLOCATION);
 }
 
-/// Asks for memory, whether it is there or not. So many requests were made since they are counted,
-/// where none was refused.
+/// Allocates, whether that fails or not. tests/refused_memory checks the number of counted
+/// allocations, if none failed.
 pub(crate) fn expect_allocations(alloc: Global, number: usize) {
     let size = COUNT_ALLOCATION.saturating_add(number).saturating_add(1);
     let _ = Vec::<u8>::with_capacity(alloc, size);
 }
 
-/// The allocator of a space.
+/// Creates the allocator of a space.
 pub(crate) fn made(rt: &(impl Abort + AllocGlobal), base: u64, size: u64) -> AddressAllocator {
     match AddressAllocator::new(rt.alloc(), base, size) {
         Ok(space) => space,
@@ -68,7 +68,7 @@ pub(crate) fn made(rt: &(impl Abort + AllocGlobal), base: u64, size: u64) -> Add
     }
 }
 
-/// A clone of an allocator.
+/// Clones an allocator.
 pub(crate) fn cloned(
     rt: &(impl Abort + AllocGlobal),
     space: &AddressAllocator,
@@ -79,7 +79,7 @@ pub(crate) fn cloned(
     }
 }
 
-/// Whether these ranges are held, and no others.
+/// Returns whether exactly these ranges are allocated.
 pub(crate) fn holds_exactly(space: &AddressAllocator, ranges: &[(u64, u64)]) -> bool {
     let mut held = space.held_ranges();
     for range in ranges {
@@ -91,7 +91,7 @@ pub(crate) fn holds_exactly(space: &AddressAllocator, ranges: &[(u64, u64)]) -> 
     held.next().is_none()
 }
 
-/// The value of a text.
+/// Parses the value of a text.
 pub(crate) fn parsed(rt: &(impl Abort + AllocGlobal), text: &str) -> Value {
     match Value::from_str(rt.alloc(), text) {
         Ok(value) => value,
@@ -99,12 +99,12 @@ pub(crate) fn parsed(rt: &(impl Abort + AllocGlobal), text: &str) -> Value {
     }
 }
 
-/// The items of a list.
+/// Returns the items of a list.
 pub(crate) fn items<'a>(rt: &impl Abort, list: &'a Value) -> &'a [Value] {
     list.as_array().expect(rt, "it is a list").as_slice()
 }
 
-/// The text of a value.
+/// Returns the text of a value.
 pub(crate) fn text_of(rt: &(impl Abort + AllocGlobal), value: &Value) -> String {
     match value.to_string(rt.alloc()) {
         Ok(text) => text,
@@ -112,7 +112,7 @@ pub(crate) fn text_of(rt: &(impl Abort + AllocGlobal), value: &Value) -> String 
     }
 }
 
-/// The value that states an allocator: its tree too, node for node.
+/// Returns the saved value of an allocator, with its tree node for node.
 pub(crate) fn saved(rt: &(impl Abort + AllocGlobal), space: &AddressAllocator) -> Value {
     match space.to_value(rt.alloc()) {
         Ok(value) => value,
@@ -120,7 +120,7 @@ pub(crate) fn saved(rt: &(impl Abort + AllocGlobal), space: &AddressAllocator) -
     }
 }
 
-/// Holds a range that is clear.
+/// Allocates a range that is free.
 pub(crate) fn hold(
     rt: &(impl Abort + AllocGlobal),
     space: &mut AddressAllocator,
@@ -134,13 +134,13 @@ pub(crate) fn hold(
     }
 }
 
-/// How many blocks the tree of an allocator has.
+/// Returns the number of blocks in the tree of an allocator.
 pub(crate) fn block_count(rt: &(impl Abort + AllocGlobal), space: &AddressAllocator) -> usize {
     let text = text_of(rt, &saved(rt, space));
     text.as_str().match_indices("node_state").count()
 }
 
-/// The value that states an id allocator.
+/// Returns the saved value of an id allocator.
 pub(crate) fn saved_ids(rt: &(impl Abort + AllocGlobal), ids: &IdAllocator) -> Value {
     match ids.to_value(rt.alloc()) {
         Ok(value) => value,
@@ -148,7 +148,7 @@ pub(crate) fn saved_ids(rt: &(impl Abort + AllocGlobal), ids: &IdAllocator) -> V
     }
 }
 
-/// The allocator that a value states.
+/// Reads the allocator of a value.
 pub(crate) fn read(
     rt: &(impl Abort + AllocGlobal),
     value: &Value,
@@ -159,7 +159,7 @@ pub(crate) fn read(
     }
 }
 
-/// The allocator that a value states, read with repairs.
+/// Reads the allocator of a value with repairs.
 pub(crate) fn read_repaired(
     rt: &(impl Abort + AllocGlobal),
     value: &Value,
@@ -170,7 +170,7 @@ pub(crate) fn read_repaired(
     }
 }
 
-/// The id allocator that a value states.
+/// Reads the id allocator of a value.
 pub(crate) fn read_ids(
     rt: &(impl Abort + AllocGlobal),
     value: &Value,
@@ -181,7 +181,7 @@ pub(crate) fn read_ids(
     }
 }
 
-/// The answer is an allocator that is equal to this one.
+/// Checks that the result is an allocator that is equal to this one.
 pub(crate) fn expect_space(
     rt: &impl Abort,
     answer: Result<AddressAllocator, ValueError>,
@@ -195,7 +195,7 @@ pub(crate) fn expect_space(
     assert!(rt; is_equal, "{of}");
 }
 
-/// What reads a value.
+/// A reader of values.
 #[derive(Clone, Copy, Debug)]
 pub(crate) enum Reader {
     Range,
@@ -207,7 +207,7 @@ pub(crate) enum Reader {
 }
 
 impl Reader {
-    /// Why the value states nothing to this reader, which is asked once.
+    /// Returns the error of reading the value once.
     fn refusal(self, alloc: Global, value: &Value) -> Option<ValueError> {
         match self {
             Reader::Range => RangeInclusive::from_value(alloc, value).err(),
@@ -220,7 +220,7 @@ impl Reader {
     }
 }
 
-/// The value states nothing to this reader; `of` says which value it is.
+/// Checks that this reader rejects the value. The message contains `of`.
 pub(crate) fn expect_refused(
     rt: &(impl Abort + AllocGlobal),
     reader: Reader,
@@ -234,20 +234,20 @@ pub(crate) fn expect_refused(
     );
 }
 
-/// No value of the list states something to this reader.
+/// Checks that this reader rejects each value of the list.
 pub(crate) fn reject_each(rt: &(impl Abort + AllocGlobal), reader: Reader, list: &Value) {
     for (number, value) in items(rt, list).iter().enumerate() {
         expect_refused(rt, reader, value, &number);
     }
 }
 
-/// Puts a part into a place that a value has.
+/// Replaces the part at a path of a value.
 pub(crate) fn put(rt: &impl Abort, value: &mut Value, place: &str, part: Value) {
     *value.pointer_mut(place).expect(rt, "it has the place") = part;
 }
 
-/// Copies of a node, each with one address for its key and the copy before it at `side`. The keys go by
-/// one, up from 0 or down from `first`, that of the innermost node.
+/// Returns nested copies of a node. Each has one address as its key and the copy before it at
+/// `side`. The keys increase from 0, or decrease from `first`, the key of the innermost node.
 pub(crate) fn chain(
     rt: &(impl Abort + AllocGlobal),
     node: &str,

@@ -1,4 +1,4 @@
-//! Id allocators.
+//! Tests of id allocators.
 use crate::fixtures::{
     balance, expect_eq, expect_true, fail_from_here, parsed, read_ids, saved_ids,
 };
@@ -9,8 +9,8 @@ use vm_allocator::{Error, IdAllocator, Result};
 
 mod counts;
 
-/// What the calls that only read answer: whether each of some ids is held, how many are, and what a
-/// request would get.
+/// Returns the results of the calls that only read: whether some ids are allocated, the number of
+/// allocated ids, and the next id.
 fn answers(ids: &IdAllocator) -> ([bool; 24], u64, Result<u32>) {
     let mut held = [false; 24];
     for (id, is_held) in held.iter_mut().enumerate() {
@@ -19,7 +19,7 @@ fn answers(ids: &IdAllocator) -> ([bool; 24], u64, Result<u32>) {
     (held, ids.held_count(), ids.peek_id())
 }
 
-/// Gives an id back. Where memory is refused the answers stay, and the same call is made again.
+/// Frees an id. If memory runs out, checks that nothing changed, and repeats the call.
 fn free_all(rt: &impl Abort, ids: &mut IdAllocator, id: u32) -> Result<u32> {
     let before = answers(ids);
     match ids.free_id(id) {
@@ -31,7 +31,7 @@ fn free_all(rt: &impl Abort, ids: &mut IdAllocator, id: u32) -> Result<u32> {
     }
 }
 
-/// Takes ids, which have to be those from `first` to `last`.
+/// Allocates ids, and checks that they are those from `first` to `last`.
 fn take_all(rt: &impl Abort, ids: &mut IdAllocator, first: u32, last: u32) {
     for id in first..=last {
         expect_eq(rt, &ids.peek_id(), &Ok(id), &id);
@@ -39,17 +39,17 @@ fn take_all(rt: &impl Abort, ids: &mut IdAllocator, first: u32, last: u32) {
     }
 }
 
-/// The range, the next fresh id and the ids given back are those of the text.
+/// Checks that the range, the next id and the freed ids are those of the text.
 fn expect_fields(rt: &(impl Abort + AllocGlobal), ids: &IdAllocator, text: &str) {
     expect_true(rt, saved_ids(rt, ids) == parsed(rt, text), &text);
 }
 
-/// The allocator of the ids from `first` to `last`.
+/// Creates the allocator of the ids from `first` to `last`.
 fn made(rt: &(impl Abort + AllocGlobal), first: u32, last: u32) -> IdAllocator {
     IdAllocator::new(rt.alloc(), first, last).expect(rt, "it is a range")
 }
 
-/// A clone of an allocator.
+/// Clones an allocator.
 fn cloned(rt: &(impl Abort + AllocGlobal), ids: &IdAllocator) -> IdAllocator {
     match ids.try_clone(rt.alloc()) {
         Ok(clone) => clone,
@@ -59,7 +59,7 @@ fn cloned(rt: &(impl Abort + AllocGlobal), ids: &IdAllocator) -> IdAllocator {
     }
 }
 
-/// A call, with the answer that it has to have.
+/// A call with its expected result.
 #[derive(Clone, Copy)]
 enum Call {
     Allocate(Expected),
@@ -67,13 +67,13 @@ enum Call {
     Free(u32, Expected),
     Holds(u32, bool),
     Count(u64),
-    /// The first and the last of the ids that are taken, one by one.
+    /// Allocates the ids from the first to the last, one by one.
     TakeAll(u32, u32),
-    /// What is written of the allocator.
+    /// Checks the saved value of the allocator.
     Fields(&'static str),
 }
 
-/// An id, or why there is none.
+/// An id or an error.
 #[derive(Clone, Copy)]
 enum Expected {
     Id(u32),
@@ -97,7 +97,7 @@ impl Expected {
     }
 }
 
-/// Does the calls in turn.
+/// Makes the calls in turn.
 fn replay(rt: &(impl Abort + AllocGlobal), ids: &mut IdAllocator, calls: &[Call]) {
     for call in calls {
         match *call {
@@ -112,12 +112,12 @@ fn replay(rt: &(impl Abort + AllocGlobal), ids: &mut IdAllocator, calls: &[Call]
     }
 }
 
-/// Does the calls in turn in a fresh allocator of the ids from `first` to `last`.
+/// Makes the calls in turn on a new allocator of the ids from `first` to `last`.
 fn replay_in(rt: &(impl Abort + AllocGlobal), first: u32, last: u32, calls: &[Call]) {
     replay(rt, &mut made(rt, first, last), calls);
 }
 
-/// No allocator is made of a range whose last id is below the first.
+/// Checks that no allocator is created for a range whose last id is below the first.
 fn expect_no_range(rt: &(impl Abort + AllocGlobal), first: u32, last: u32) {
     let refused = IdAllocator::new(rt.alloc(), first, last).err();
     let want = Some(Error::InvalidRange(u64::from(first), u64::from(last)));
@@ -197,7 +197,7 @@ fn test_is_allocated(rt: HostRuntime) {
     replay_in(&rt, 5, 23, calls);
 }
 
-/// The greatest two ids.
+/// The highest two ids.
 const LOW: u32 = 4294967294;
 
 const HIGH: u32 = 4294967295;
@@ -252,12 +252,13 @@ fn highest_id_alone(rt: HostRuntime) {
     replay_in(&rt, HIGH, HIGH, calls);
 }
 
-/// The greatest id alone, taken and given back.
+/// Allocates and frees only the highest id.
 fn allocate_highest(rt: &(impl Abort + AllocGlobal)) {
     let mut ids = made(rt, u32::MAX, u32::MAX);
     let calls = &[Allocate(Id(u32::MAX)), Peek(Overflow), Allocate(Overflow)];
     replay(rt, &mut ids, calls);
-    // An id given back for the first time asks for memory: what a run without memory is known by.
+    // Freeing an id for the first time allocates memory. Its result shows whether the run is
+    // without memory.
     let answer = ids.free_id(u32::MAX);
     let is_true = match &answer {
         Ok(id) => *id == u32::MAX,
@@ -296,7 +297,8 @@ fn without_memory(rt: HostRuntime) {
     allocate_highest(&rt);
 }
 
-/// Clones an allocator: the clone answers alike, or memory is refused. Nothing changes either way.
+/// Clones an allocator. Checks that the clone has the same results, or that memory ran out. Nothing
+/// changes in both cases.
 fn clone_or_refuse(rt: &(impl Abort + AllocGlobal), ids: &IdAllocator) {
     let before = answers(ids);
     balance(rt.alloc());
@@ -320,14 +322,16 @@ fn cloned_or_unchanged(rt: HostRuntime) {
     replay(&rt, &mut ids, &[Allocate(Id(6))]);
 }
 
-/// What is written of an allocator that holds twelve ids is read, and answers alike.
+/// Writes an allocator with twelve allocated ids, and checks that the allocator that is read has
+/// the same results.
 fn write_and_read(rt: &(impl Abort + AllocGlobal), ids: &IdAllocator) {
     let again = read_ids(rt, &saved_ids(rt, ids)).expect(rt, "it states ids");
     let is_true = answers(&again) == answers(ids) && again.held_count() == 12;
     expect_true(rt, is_true, &"the same twelve ids");
 }
 
-/// A clone without ids given back; then twelve given back, one by one, written and read.
+/// Clones an allocator without freed ids. Then frees twelve ids, one by one, and writes and reads
+/// the allocator.
 #[test]
 fn memory_for_twelve_ids(rt: HostRuntime) {
     let mut ids = made(&rt, 0, 23);

@@ -1,5 +1,6 @@
-//! Tests of `vm_allocator` and `vm_devices` by their public calls.
-//! tests/refused_memory runs each again and again, with request 1, 2, 3 .. for memory refused.
+//! Tests of `vm_allocator` and `vm_devices` through their public calls.
+//!
+//! tests/refused_memory runs each test several times, and makes allocation 1, 2, 3 .. fail.
 #![tactic(auto)]
 
 #[cfg(test)]

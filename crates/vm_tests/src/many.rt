@@ -1,6 +1,8 @@
-//! What is long or deep. Each test ends in seconds where its calls take the time that they should, and
-//! is stopped at the limit of a test where one of them takes its square, or goes down a value as deep
-//! as that goes. tests/refused_memory passes over these, and runs the deep ones on a small stack.
+//! Tests with long or deep values.
+//!
+//! Each test is fast if its calls are as fast as they should be. It reaches the time limit of a
+//! test if a call takes quadratic time, or descends a deep value completely. tests/refused_memory
+//! skips these tests, and runs the deep ones on a small stack.
 use crate::fixtures::{
     Reader, chain, cloned, expect_eq, expect_refused, expect_space, hold, items, made, parsed, put,
     range, read, read_ids, read_repaired, saved, saved_ids,
@@ -11,19 +13,20 @@ use std::process::Abort;
 use vm_allocator::{AddressAllocator, AllocPolicy, IdAllocator};
 use vm_devices::DeviceManager;
 
-/// How many ranges, ids or devices are held.
+/// The number of allocated ranges, ids or devices.
 const MANY: u64 = 100_000;
 
-/// The same as an id.
+/// The same number as an id.
 const MANY_IDS: u32 = 100_000;
 
-/// How deep a value is nested.
+/// The nesting depth of a value.
 const DEPTH: u64 = 1_000_000;
 
-/// What a call that is refused is said to lack.
+/// The message of a call that fails.
 const ENOUGH: &str = "there is enough memory";
 
-/// Each even address of a space is held, from the first on or from the last on.
+/// Returns an allocator with each even address of a space allocated, from the first to the last or
+/// from the last to the first.
 fn half_held(rt: &(impl Abort + AllocGlobal), increases: bool) -> AddressAllocator {
     let mut space = made(rt, 0, 2 * MANY);
     for number in 0..MANY {
@@ -34,7 +37,7 @@ fn half_held(rt: &(impl Abort + AllocGlobal), increases: bool) -> AddressAllocat
     space
 }
 
-/// They are equal, and a clone of the first is equal to the second too.
+/// Checks that both are equal, and that a clone of the first is equal to the second.
 fn expect_equal(
     rt: &(impl Abort + AllocGlobal),
     first: &AddressAllocator,
@@ -46,7 +49,7 @@ fn expect_equal(
     assert!(rt; cloned(rt, first) == *second);
 }
 
-/// What is written of the first states the second to both readers.
+/// Checks that both readers read the written value of the first as the second.
 fn expect_states(
     rt: &(impl Abort + AllocGlobal),
     first: &AddressAllocator,
@@ -92,7 +95,7 @@ fn ranges_looked_up(rt: HostRuntime) {
     assert!(rt; answer.is_ok());
 }
 
-/// Takes so many ids, which go by `step`, up from 0.
+/// Allocates a number of ids, and checks that they increase by `step` from 0.
 fn take_ids(rt: &impl Abort, ids: &mut IdAllocator, count: u32, step: u32) {
     for number in 0..count {
         let want = Ok(step.saturating_mul(number));
@@ -116,7 +119,7 @@ fn ids_looked_up_and_saved(rt: HostRuntime) {
     take_ids(&rt, &mut again, MANY_IDS, 2);
 }
 
-/// A manager of as many devices as there are ids, of 16 addresses each, one behind the other.
+/// Returns a manager with a device for each id. Each device has 16 addresses, one after the other.
 fn reserved(rt: &(impl Abort + AllocGlobal)) -> DeviceManager {
     let devices = DeviceManager::new(rt.alloc(), 0, MANY_IDS, 0, 16 * MANY);
     let mut devices = devices.expect(rt, ENOUGH);
@@ -128,13 +131,13 @@ fn reserved(rt: &(impl Abort + AllocGlobal)) -> DeviceManager {
     devices
 }
 
-/// What reading a written manager gives.
+/// Writes and reads a manager.
 fn saved_and_read(rt: &(impl Abort + AllocGlobal), devices: &DeviceManager) -> DeviceManager {
     let value = devices.to_value(rt.alloc()).expect(rt, ENOUGH);
     DeviceManager::from_value(rt.alloc(), &value).expect(rt, ENOUGH)
 }
 
-/// Each id has a device in one manager, and the same one in another.
+/// Checks that each id has a device in one manager, and the same device in the other.
 fn expect_same_devices(rt: &impl Abort, first: &DeviceManager, second: &DeviceManager) {
     for id in 0..MANY_IDS {
         let slot = first.slot(id);
@@ -153,11 +156,11 @@ fn devices_looked_up_and_saved(rt: HostRuntime) {
     assert!(rt; again.slot(0).is_none());
 }
 
-/// What a tree goes deep with.
+/// The node that is nested in a deep tree.
 const NODE: &str =
     r#"{"key":{"start":0,"end":0},"node_state":"Allocated","left":null,"right":null,"height":1}"#;
 
-/// A list in a list, and so on.
+/// Returns a list in a list, and so on.
 fn deep_list(rt: &(impl Abort + AllocGlobal)) -> Value {
     let mut list = Value::Null;
     for _ in 0..DEPTH {
@@ -168,7 +171,7 @@ fn deep_list(rt: &(impl Abort + AllocGlobal)) -> Value {
     list
 }
 
-/// Values of which none is accepted by a reader with a deep part at its place of `PLACES`.
+/// Values that every reader rejects if they have a deep part at their path in `PLACES`.
 const VALUES: &str = r#"[
     null,
     {"start":16,"end":19},
@@ -189,7 +192,7 @@ const VALUES: &str = r#"[
         "mmio_allocator":{"address_space":{"start":16,"end":19},"interval_tree":{"root":{
         "key":{"start":16,"end":19},"node_state":"Free","left":null,"right":null,"height":1}}},"slots":[]}]"#;
 
-/// One place in each of `VALUES`.
+/// One path in each of `VALUES`.
 const PLACES: [&str; 9] = [
     "/0",
     "/1/start",
@@ -202,7 +205,7 @@ const PLACES: [&str; 9] = [
     "/8/slots",
 ];
 
-/// Every reader that there is.
+/// All readers.
 const READERS: [Reader; 6] = [
     Reader::Range,
     Reader::State,
@@ -212,7 +215,7 @@ const READERS: [Reader; 6] = [
     Reader::Manager,
 ];
 
-/// No reader accepts the value.
+/// Checks that every reader rejects the value.
 fn reject_by_all(rt: &(impl Abort + AllocGlobal), value: Option<&Value>, place: &str) {
     let value = value.expect(rt, "there is a value");
     for reader in READERS {
@@ -220,8 +223,10 @@ fn reject_by_all(rt: &(impl Abort + AllocGlobal), value: Option<&Value>, place: 
     }
 }
 
-/// No reader accepts a value with this part, wherever it stands. The part is taken apart level by
-/// level at the end: to drop it whole would take a frame of the stack for each.
+/// Checks that every reader rejects a value with this part at each path.
+///
+/// The part is dropped level by level at the end, because dropping it at once needs a stack frame
+/// for each level.
 fn reject_with(rt: &(impl Abort + AllocGlobal), part: Value, inner: &str) {
     let mut deep = part;
     let mut values = parsed(rt, VALUES);
@@ -233,7 +238,7 @@ fn reject_with(rt: &(impl Abort + AllocGlobal), part: Value, inner: &str) {
     take_apart(deep, inner);
 }
 
-/// The part in that place of a value, which it leaves.
+/// Removes the part at a path from a value.
 fn taken(rt: &impl Abort, value: &mut Value, place: &str) -> Value {
     let there = value.pointer_mut(place).expect(rt, "it has the place");
     assert!(rt; !there.is_null(), "{place}");

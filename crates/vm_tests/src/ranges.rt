@@ -1,4 +1,4 @@
-//! Ranges, constraints, and errors with their texts.
+//! Tests of ranges, constraints, and errors with their texts.
 use crate::fixtures::{expect_eq, range};
 use std::cmp::Ordering;
 use std::fmt::Display;
@@ -11,7 +11,7 @@ use vm_devices::DeviceSlot;
 
 const MAX: u64 = u64::MAX;
 
-/// Each range has this length, or is none for this reason.
+/// Checks that each range has this length, or that creating it returns this error.
 fn expect_lengths(rt: &impl Abort, rows: &[(u64, u64, std::result::Result<u64, Error>)]) {
     for (start, end, want) in rows {
         let length = match RangeInclusive::new(*start, *end) {
@@ -98,7 +98,7 @@ fn test_getters(rt: HostRuntime) {
     expect_eq(&rt, &(range.start(), range.end()), &(3, 5), &range);
 }
 
-/// A request, its fields, and why it is none.
+/// A request, its fields, and the error if it is not valid.
 type Request = (
     u64,
     u64,
@@ -106,7 +106,8 @@ type Request = (
     std::result::Result<(u64, u64), Error>,
 );
 
-/// Each request has this size and this alignment, or is none for this reason.
+/// Checks that each request has this size and this alignment, or that creating it returns this
+/// error.
 fn expect_allocations(rt: &impl Abort, rows: &[Request]) {
     for (size, align, policy, want) in rows {
         let got = match Constraint::new(*size, *align, *policy) {
@@ -152,7 +153,7 @@ fn constraints(rt: HostRuntime) {
     assert!(rt; AllocPolicy::default() == AllocPolicy::FirstMatch);
 }
 
-/// The text of an error. A second try stands for a run in which one request for memory is refused.
+/// Returns the text of an error. The second try is for a run in which one allocation fails.
 fn text_of<T: Display>(rt: &(impl Abort + AllocGlobal), error: &T) -> String {
     match error.to_string(rt.alloc()) {
         Ok(text) => text,
@@ -237,7 +238,7 @@ fn texts_of_value_errors(rt: HostRuntime) {
     assert!(rt; not_a_state == ValueError::NotAState && not_a_state != out_of_memory);
 }
 
-/// By the kind of error first, and then by its fields.
+/// Checks that errors are ordered by variant, then by fields.
 #[test]
 fn errors_increase(rt: HostRuntime) {
     let (low, middle) = (range(&rt, 1, 2), range(&rt, 1, 3));
@@ -275,12 +276,12 @@ fn errors_increase(rt: HostRuntime) {
     }
 }
 
-/// The request of this size, alignment and policy.
+/// Creates the request of this size, alignment and policy.
 fn request(rt: &impl Abort, size: u64, align: u64, policy: AllocPolicy) -> Constraint {
     Constraint::new(size, align, policy).expect(rt, "it is a request")
 }
 
-/// Policies, requests and devices are equal where all their fields are.
+/// Checks that policies, requests and devices are equal if all their fields are.
 #[test]
 fn fields_compared(rt: HostRuntime) {
     let rows = [

@@ -1,4 +1,4 @@
-//! Values that are written and read.
+//! Tests of values that are written and read.
 use crate::fixtures::{
     Reader, balance, block_count, chain, expect_eq, expect_space, fail_from_here, hold,
     holds_exactly, made, parsed, put, range, read_ids, read_repaired, reject_each, saved,
@@ -18,7 +18,8 @@ mod repaired;
 mod snapshots;
 mod without_memory;
 
-/// The allocator that a value states. Each that is read is equal to the one read with repairs.
+/// Reads the allocator of a value. Checks that it is equal to the allocator that is read with
+/// repairs.
 fn read(
     rt: &(impl Abort + AllocGlobal),
     value: &Value,
@@ -30,7 +31,7 @@ fn read(
     answer
 }
 
-/// The answer is that a value states no allocator.
+/// Checks that the result is that a value does not encode an allocator.
 fn expect_no_state(
     rt: &impl Abort,
     answer: std::result::Result<AddressAllocator, ValueError>,
@@ -39,12 +40,13 @@ fn expect_no_state(
     expect_eq(rt, &answer.err(), &Some(ValueError::NotAState), of);
 }
 
-/// The value of the text states no allocator.
+/// Checks that the value of the text does not encode an allocator.
 fn assert_refused(rt: &(impl Abort + AllocGlobal), text: &str) {
     expect_no_state(rt, read(rt, &parsed(rt, text)), &text);
 }
 
-/// The answer is an allocator with just these ranges held, or there was no memory for it.
+/// Checks that the result is an allocator with exactly these allocated ranges, or that memory ran
+/// out.
 fn expect_held_or_no_memory(
     rt: &impl Abort,
     answer: std::result::Result<AddressAllocator, ValueError>,
@@ -56,11 +58,11 @@ fn expect_held_or_no_memory(
     }
 }
 
-/// A held node of one address, without children.
+/// An allocated node of one address, without children.
 const HELD_NODE: &str =
     r#"{"key":{"start":0,"end":0},"node_state":"Allocated","left":null,"right":null,"height":1}"#;
 
-/// The value of a space from 0 to `end`, with this tree.
+/// Returns the value of a space from 0 to `end`, with this tree.
 fn with_root(rt: &(impl Abort + AllocGlobal), end: u64, root: Value) -> Value {
     let text = r#"{"address_space":{"start":0,"end":0},"interval_tree":{"root":null}}"#;
     let mut value = parsed(rt, text);

@@ -1,4 +1,4 @@
-//! Trees by themselves.
+//! Tests of trees.
 use crate::fixtures::{count_allocations, expect_allocations, expect_eq, expect_true, range};
 use AllocPolicy::{ExactMatch, FirstMatch, LastMatch};
 use std::alloc::Global;
@@ -6,7 +6,7 @@ use std::process::Abort;
 use vm_allocator::allocation_engine::IntervalTree;
 use vm_allocator::{AllocPolicy, Constraint, Error};
 
-/// The tree of a space.
+/// Creates the tree of a space.
 fn tree_of(rt: &(impl Abort + AllocGlobal), start: u64, end: u64) -> IntervalTree {
     let space = range(rt, start, end);
     match IntervalTree::new(rt.alloc(), space) {
@@ -15,12 +15,12 @@ fn tree_of(rt: &(impl Abort + AllocGlobal), start: u64, end: u64) -> IntervalTre
     }
 }
 
-/// What is asked of a tree.
+/// Creates a request for a tree.
 fn request(rt: &impl Abort, size: u64, align: u64, policy: AllocPolicy) -> Constraint {
     Constraint::new(size, align, policy).expect(rt, "it makes sense")
 }
 
-/// Holds so many addresses from a start on.
+/// Allocates a number of addresses that start at an address.
 fn hold(rt: &(impl Abort + AllocGlobal), tree: &mut IntervalTree, start: u64, size: u64) {
     let constraint = request(rt, size, 1, ExactMatch(start));
     if tree.allocate(rt.alloc(), constraint).is_err() {
@@ -37,7 +37,7 @@ fn test_integer_wrapping(rt: HostRuntime) {
     expect_eq(&rt, &answer, &Err(Error::Overflow), &"half of all");
 }
 
-/// A tree made by one request.
+/// Creates a tree by one allocation.
 fn tree_of_one_request(rt: &(impl Abort + AllocGlobal), start: u64, end: u64) -> IntervalTree {
     let space = range(rt, start, end);
     count_allocations(rt.alloc());
@@ -49,7 +49,7 @@ fn tree_of_one_request(rt: &(impl Abort + AllocGlobal), start: u64, end: u64) ->
     }
 }
 
-/// Holds so many addresses, which have to start there, by so many requests.
+/// Allocates a number of addresses. Checks their start and the number of allocations.
 fn hold_counting(
     rt: &(impl Abort + AllocGlobal),
     tree: &mut IntervalTree,
@@ -67,8 +67,8 @@ fn hold_counting(
     expect_eq(rt, &answer, &Ok(range(rt, start, end)), &policy);
 }
 
-/// A split asks for a box for each part of its gap that is left over; what fills its gap, and a
-/// release, ask for none.
+/// Checks that a split allocates once for each part of its gap that stays free. Filling a gap and
+/// freeing do not allocate.
 #[test]
 fn allocations_of_a_tree(rt: HostRuntime) {
     let mut tree = tree_of_one_request(&rt, 0, 15);
@@ -88,7 +88,7 @@ fn allocations_of_a_tree(rt: HostRuntime) {
     expect_true(&rt, answer.is_ok(), &"a release");
 }
 
-/// The blocks of the one tree are a beginning of those of the other.
+/// Checks a tree whose blocks are a prefix of the blocks of another.
 #[test]
 fn a_beginning_is_less(rt: HostRuntime) {
     let mut short = tree_of(&rt, 0, 7);

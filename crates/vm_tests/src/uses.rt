@@ -1,4 +1,4 @@
-//! Short uses, as a caller writes them.
+//! Short examples of calls.
 ghost use Rattle.std.specs.Prelude.{◌≡◌, ◌%◌, ◌⊎◌, IfOk, IfErr};
 ghost use Rattle.std.specs.List.{Contains};
 ghost use Rattle.vm_allocator.specs.Range.{address_count};
@@ -12,7 +12,7 @@ use std::alloc::Global;
 use std::process::Abort;
 use vm_allocator::{AddressAllocator, AllocPolicy, Error, IdAllocator, RangeInclusive, Result};
 
-/// A bar, which has to lie at a multiple of its size.
+/// Allocates a bar, which must start at a multiple of its size.
 #[tactic(auto, using(vm_allocator::proofs::Callers::callers))]
 fn place_bar(alloc: Global, gap: &mut AddressAllocator, size: u64) -> Result<RangeInclusive>
     ensures aligned { IfOk result (λ bar. bar.start % size ≡ 0) }
@@ -21,7 +21,7 @@ fn place_bar(alloc: Global, gap: &mut AddressAllocator, size: u64) -> Result<Ran
     gap.allocate(alloc, size, size, AllocPolicy::FirstMatch)
 }
 
-/// Gives a slot back and takes it again, as for a device that is plugged out and in.
+/// Frees a slot and allocates it again, as for a device that is unplugged and plugged in.
 #[tactic(auto, using(vm_allocator::proofs::Callers::callers))]
 fn replug(
     alloc: Global,
@@ -32,13 +32,13 @@ fn replug(
     ensures same_place { IfOk result (λ again. again ≡ slot.now) }
     ensures refused { IfErr result (λ error. (error ≡ Error.OutOfMemory) ⊎ (error ≡ Error.Overflow)) }
 {
-    // From here on the prover knows that what is held lies apart.
+    // Proof: the prover now knows that allocated ranges are disjoint.
     let _ = memory.base();
     memory.free(slot)?;
     memory.allocate(alloc, slot.len(), 1, AllocPolicy::ExactMatch(slot.start()))
 }
 
-/// An interrupt number for a device, which no other device holds.
+/// Allocates an interrupt number for a device, which no other device has.
 #[tactic(auto, using(vm_allocator::proofs::Callers::callers))]
 fn take_interrupt(numbers: &mut IdAllocator) -> Result<u32>
     ensures nobodys { IfOk result (λ number. ¬ IsHeld numbers.old number) }
@@ -47,7 +47,7 @@ fn take_interrupt(numbers: &mut IdAllocator) -> Result<u32>
     numbers.allocate_id()
 }
 
-/// Two windows, each in its place.
+/// Allocates two windows.
 fn use_windows(rt: &(impl Abort + AllocGlobal)) {
     let both = match windows(rt.alloc()) {
         Err(Error::OutOfMemory) => windows(rt.alloc()),
@@ -58,7 +58,7 @@ fn use_windows(rt: &(impl Abort + AllocGlobal)) {
     expect_true(rt, are_there, &"both windows");
 }
 
-/// A gap written and read.
+/// Writes and reads a gap.
 fn use_restored(rt: &(impl Abort + AllocGlobal), gap: &AddressAllocator) {
     let empty = match restored(rt.alloc(), gap) {
         Ok(empty) => empty,
@@ -67,7 +67,7 @@ fn use_restored(rt: &(impl Abort + AllocGlobal), gap: &AddressAllocator) {
     expect_true(rt, empty == *gap, &"the same gap");
 }
 
-/// A bar in a gap.
+/// Allocates a bar in a gap.
 fn use_bar(rt: &(impl Abort + AllocGlobal), gap: &mut AddressAllocator) {
     let bar = match place_bar(rt.alloc(), gap, 0x10_0000) {
         Err(Error::OutOfMemory) => place_bar(rt.alloc(), gap, 0x10_0000),
@@ -77,7 +77,7 @@ fn use_bar(rt: &(impl Abort + AllocGlobal), gap: &mut AddressAllocator) {
     expect_true(rt, bar == want, &bar);
 }
 
-/// A slot of a memory, plugged out and in.
+/// Unplugs a slot of a memory, and plugs it in.
 #[tactic(auto, using(vm_allocator::proofs::Callers::callers))]
 fn use_memory(rt: &(impl Abort + AllocGlobal)) {
     let mut memory = made(rt, 0x1_0000_0000, 0x4000_0000);
@@ -88,7 +88,7 @@ fn use_memory(rt: &(impl Abort + AllocGlobal)) {
     expect_true(rt, again == Ok(slot), &again);
 }
 
-/// The first two numbers for devices.
+/// Allocates the first two numbers for devices.
 fn use_numbers(rt: &(impl Abort + AllocGlobal)) {
     let mut numbers = IdAllocator::new(rt.alloc(), 5, 23).expect(rt, "it is a range");
     expect_true(rt, take_interrupt(&mut numbers) == Ok(5), &"5");

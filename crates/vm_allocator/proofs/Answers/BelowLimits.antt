@@ -1,4 +1,4 @@
--- Where memory suffices and few ranges are held, a call has one answer; which calls no want of memory refuses.
+-- A call has one result if memory suffices and few ranges are held. Some calls never return OutOfMemory.
 use Rattle.std.proofs.Common.{◌≡◌, ◌≢◌, ℕ, ◌<◌, length, sym, ◌∙◌, arith, inl, inr, ⊎_elim, Result, Err}
 use Rattle.vm_ranges.specs.Range.{Range}
 use Rattle.vm_engine.specs.Address.{AddressState}
@@ -10,14 +10,14 @@ use Rattle.vm_ranges.specs.declared.error.Error.TheVariants.{OutOfMemory}
 use Rattle.vm_ranges.proofs.TwoFacts.{if_same}
 use Rattle.vm_engine.proofs.Answers.Once.{allocates_once}
 
--- ---- one answer
--- where few ranges are held, no request is refused for the depth of a tree
+-- ---- One result
+-- If few ranges are held, the height never makes a request fail.
 no_split_refusal : (old : AddressState) (answer : Result Range Error) → length old.held < SPLIT_LIMIT_MIN_HELD
     → answer ≢ Err OutOfMemory → IsSplitRefusal old answer → ⊥
 no_split_refusal old answer few plain (inl e) = plain e
 no_split_refusal old answer few plain (inr p) = omega (arith, few, p.0)
 
--- so a request has one answer
+-- So a request has one result and one next state.
 pub placed_once : (old m n : AddressState) (request : Request) (x y : Result Range Error)
     → length old.held < SPLIT_LIMIT_MIN_HELD → x ≢ Err OutOfMemory → y ≢ Err OutOfMemory
     → Allocates old request x m
@@ -27,7 +27,7 @@ placed_once old m n request x y few p q a b =
     (λ differ. absurd (⊎_elim (no_split_refusal old x few p) (no_split_refusal old y few q) differ.refused))
     (allocates_once old m n request x y a b)
 
--- a space is made or refused, by its ends, or there is no memory for it
+-- Creating an allocator has one result, unless memory runs out.
 pub made_once : (base size : ℕ) (x y : Result AddressState Error) → x ≢ Err OutOfMemory → y ≢ Err OutOfMemory
     → Makes base size x → Makes base size y → x ≡ y
 unfolding Makes
@@ -36,7 +36,7 @@ made_once base size x y p q a b =
     (λ a b. if_same _ _ _ _ _ a b (λ u v. u ∙ sym v) (λ u v.
     ⊎_elim (λ e. ⊎_elim (λ f. e ∙ sym f) (λ f. absurd (q f)) v) (λ e. absurd (p e)) u))
 
--- ---- calls that ask for no memory
+-- ---- Calls that never return OutOfMemory
 pub frees_no_memory : (old new : AddressState) (r : Range) (answer : Result (Unit {0}) Error) → Frees old r answer new → answer ≢ Err OutOfMemory
 unfolding Frees
 frees_no_memory old new r answer (inl k) e = cc (k.1.0, e)

@@ -1,4 +1,4 @@
--- Every call has an answer, and so every list of calls a history.
+-- Every call has a result, so every list of calls has a history.
 use Rattle.std.proofs.Common.{◌≡◌, ◌≢◌, ℕ, ◌+◌, ◌-◌, ◌<◌, ◌⊎◌, List, [], ◌∷◌, refl, ap, arith, inl, inr, ⊎_elim, Result, Ok, Err}
 use Rattle.std.proofs.lemmas.Bool.{cases_eq}
 use Rattle.std.specs.List.{Contains}
@@ -19,15 +19,15 @@ use Rattle.std.proofs.lemmas.List.Elements.{All-nil, All-cons}
 use Rattle.vm_ranges.proofs.Decisions.{Decided, decided_below, decided_alignment, decided_start, lowest_or_none, highest_or_none}
 use Rattle.vm_allocator.proofs.Decisions.{decided_all_clear, decided_place, decided_inside, decided_held}
 
--- ---- an answer by the tests of a relation
--- some answer and next state, not out of memory, fit the relation
+-- ---- A result of a relation, by deciding its conditions
+-- The relation is true for some result other than OutOfMemory and some next state.
 abbrev IsTotal : (Result Range Error → AddressState → Type 0) → Type 0
 IsTotal relation = (answer : Result Range Error) × (new : AddressState) × relation answer new × (answer ≢ Err OutOfMemory)
 
 abbrev Refuses : AddressState → Error → Result Range Error → AddressState → Type 0
 Refuses old e answer new = (answer ≡ Err e) × (new ≡ old)
 
--- a refusal for another reason
+-- An error other than OutOfMemory.
 refusal : (old : AddressState) (e : Error) → e ≢ OutOfMemory → IsTotal (Refuses old e)
 refusal old e other = (Err e, old, (refl, refl), λ h. other (cc h))
 
@@ -39,16 +39,16 @@ total_unless : (old : AddressState) (C : Type 0) (P Q : Result Range Error → A
 total_unless old C P Q (inl y) p q = let k = q y in (k.0, k.1, inr (y, k.2), k.3)
 total_unless old C P Q (inr n) p q = (p.0, p.1, inl (n, p.2), p.3)
 
--- ---- a request is answered
+-- ---- Each request has a result
 taken : (old : AddressState) (r : Range) → IsTotal (AllocatesAt old r)
 unfolding AllocatesAt
 taken old r = (Ok r, holding r old, inl (refl, refl), λ h. absurd (cc h))
 
--- a place is chosen or there is none
+-- Either there is no place, or the policy chooses a place.
 abbrev HasChoice : Request → AddressState → Type 0
 HasChoice request old = ((s : ℕ) → ¬ IsPlace request.size request.align old s) ⊎ ((s : ℕ) × IsChosen request old s)
 
--- a place lies in the space
+-- A place is in the space.
 place_inside : (n a s : ℕ) (old : AddressState) → 0 < n → IsPlace n a old s → s < old.space.end + 1
 unfolding IsPlace
 place_inside n a s old some p = let first = p.1 s (omega arith) (omega arith) in omega (arith, first.0.1)
@@ -106,7 +106,7 @@ total_allocates old request =
     total_unless old _ (Refuses old UnalignedAddress) _ (decided_start request.align request.policy) (refusal old UnalignedAddress (λ e. cc e)) (λ aligned.
     total_grants request.policy request.size request.align old (omega (arith, some)) aligned)))
 
--- ---- a range given back is answered, and so is an allocator that is made
+-- ---- Freeing a range, creating an allocator and cloning have a result
 total_frees : (old : AddressState) (r : Range) → (answer : Result (Unit {0}) Error) × (new : AddressState) × Frees old r answer new
 unfolding Frees
 total_frees old r =
@@ -133,7 +133,7 @@ total_clones old = (Ok old, inl refl, λ h. absurd (cc h))
 pub every_call : EveryCallIsAnswered
 every_call = record { made = total_makes; allocated = total_allocates; freed = total_frees; cloned = total_clones }
 
--- ---- and so is each list of what is asked
+-- ---- Each list of calls has a history
 pub every_list : EveryListHasHistory
 unfolding total_clones
 every_list old [] = ([], old, refl, refl, All-nil _)

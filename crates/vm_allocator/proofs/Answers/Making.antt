@@ -1,4 +1,4 @@
--- A space with nothing held.
+-- The results of creating an allocator, and the state of a new one.
 use Rattle.std.proofs.Common.{List, length, Result, Option, Some, None, MatchOption, ◌⊎◌, ⊎_elim, subst, ◌≡◌, ℕ, ◌+◌, ◌-◌, ◌<◌, ◌≤◌, [], ◌∷◌, refl, ap, ◌∙◌, arith, inl, inr, Ok, Err}
 use Rattle.vm_ranges.specs.Range.{Range, MAX, span}
 use Rattle.vm_engine.specs.Answer.{Makes}

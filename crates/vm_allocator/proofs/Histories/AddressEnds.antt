@@ -1,4 +1,4 @@
--- Where a history ends: in a clone, or in a state that others end in.
+-- The states that histories reach: those of clones, those that were read, and those that are equal to others.
 use Rattle.std.proofs.Common.{List, [], ◌∷◌, ◌++◌, refl, subst, inl, inr, Ok}
 use Rattle.vm_engine.specs.Address.{AddressState}
 use Rattle.vm_allocator.specs.Values.AllocatorValues.{EncodesAddresses}

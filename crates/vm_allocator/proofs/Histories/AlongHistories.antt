@@ -1,4 +1,4 @@
--- What holds along every history of an address allocator.
+-- Facts of every history of an address allocator.
 use Rattle.std.proofs.Common.{◌≡◌, ◌⊎◌, ◌↔◌, List, [], ◌∷◌, suc, refl, sym, ap, ◌∙◌, arith, inl, inr, ⊎_elim, subst, Result}
 use Rattle.std.specs.List.{Contains}
 use Rattle.vm_ranges.specs.Range.{Range, span}
@@ -18,7 +18,7 @@ use Rattle.vm_engine.proofs.Blocks.HeldSets.{same_ranges_held}
 use Rattle.vm_engine.proofs.Blocks.HeldChanges.{held_with, held_without}
 use Rattle.vm_engine.proofs.Answers.AddressAnswers.{IsAllocation, outcome, allocated_state, freed_state, made_is, made_state, lie_apart, freeing_undoes}
 
--- ---- every state that is reached is one
+-- ---- Every reached state is valid
 call_state : (old new : AddressState) (call : Call) → IsCallFrom old call new → IsAddressState old → IsAddressState new
 call_state old new (Allocation request answer) h i = allocated_state old new request answer i h
 call_state old new (Release r answer) h i = freed_state old new r answer i h
@@ -36,8 +36,8 @@ pub reached_state : (old : Reached) → IsAddressState old.state
 reached_state old =
     let r = old.reached in history_state old.calls r.first old.state r.history (first_state r.first r.begins)
 
--- ---- the held ranges
--- what a call gave a longer list of calls gave
+-- ---- The held ranges
+-- A range that some calls allocated is allocated by a longer list of calls too.
 given_later : (call : Call) (calls : List Call) (r : Range) → WasAllocated calls r → WasAllocated (call ∷ calls) r
 given_later call calls r g =
     let c = g.call in
@@ -48,7 +48,7 @@ unfolding IsPlace
 given_here old new request answer calls g =
     record { request = request; call = (0, omega arith, ap (Allocation request) g.given); aligned = g.place.0; long = refl }
 
--- a range that is held after a call was held before it, or given by it
+-- A range that is held after a call was held before it, or the call allocated it.
 call_gives : (old new : AddressState) (call : Call) (calls : List Call) (r : Range) → IsCallFrom old call new → IsHeld new.held r → IsHeld old.held r ⊎ WasAllocated (call ∷ calls) r
 unfolding Frees
 call_gives old new (Allocation request answer) calls r s h =
@@ -77,7 +77,7 @@ history_gives (call ∷ calls) first last r s h =
     (λ (g : WasAllocated calls r). inr (given_later call calls r g))
     (history_gives calls s.0 last r s.2 h)
 
--- a new allocator holds none, so each held range was given, or stated by the value that was read
+-- A new allocator holds no range. So a range that is held at first was held in the value that was read.
 first_holds : (first : AddressState) (r : Range) → Begins first → IsHeld first.held r → WasRead first r
 first_holds first r (inl m) k = absurd (subst (λ (v : AddressState). IsHeld v.held r) (made_is m.base m.size first m.made).2 k)
 first_holds first r (inr read) k = record { read = read; held = contains_held first.held r k }
@@ -93,7 +93,7 @@ reached_given old r c =
 pub held_good : HeldAreValid
 held_good = record { state = reached_state; apart = λ old. lie_apart old.state (reached_state old); given = reached_given }
 
--- ---- the space and the held ranges decide
+-- ---- The result depends only on the space and the held ranges
 pub same_members : (xs ys : List Range) → ((r : Range) → Contains xs r ↔ Contains ys r) → (r : Range) → IsHeld xs r ↔ IsHeld ys r
 same_members xs ys h r = (λ k. held_contains ys r ((h r).0 (contains_held xs r k)), λ k. held_contains xs r ((h r).1 (contains_held ys r k)))
 

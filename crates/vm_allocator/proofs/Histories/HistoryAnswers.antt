@@ -1,4 +1,4 @@
--- What every call of a history returns.
+-- The results of the calls of a history.
 use Rattle.std.proofs.Common.{◌≡◌, ◌≢◌, ℕ, ◌+◌, ◌-◌, ◌<◌, arith, sym, ap, ◌∙◌, ◌⊎◌, ⊎_elim, subst, Result, Ok, Err}
 use Rattle.std.proofs.lemmas.Bool.{cases_eq}
 use Rattle.vm_ranges.specs.Range.{Range, MAX, IsIn, span}
@@ -18,7 +18,7 @@ use Rattle.vm_engine.proofs.Answers.Filling.{otherwise, given, faulty, lacking, 
 use Rattle.vm_engine.proofs.Answers.Outcomes.{allocates_outcome}
 use Rattle.vm_allocator.proofs.Histories.AlongHistories.{reached_state}
 
--- ---- a range that was given starts at the chosen place
+-- ---- An allocated range starts at the chosen place
 takes_given : (old new : AddressState) (r p : Range) → AllocatesAt old r (Ok p) new → p ≡ r
 unfolding AllocatesAt
 takes_given old new r p h = ⊎_elim (λ l. cc (l.0)) (λ k. ⊎_elim (λ o. absurd (cc o)) (λ o. absurd (cc (o.1))) k.2) h
@@ -48,8 +48,8 @@ exact_is_named old new size align start r h =
     let g = allocated_chosen (request_for size align (ExactMatch start)) old.state new r h in
     (subst (IsPlace size align old.state) g.0.0 g.0.1, g.1 ∙ ap (λ (s : ℕ). span s size) g.0.0)
 
--- ---- each request is answered by the places
--- what makes no constraint is refused alike
+-- ---- The places decide the result of each request
+-- An invalid request returns the error of its constraint.
 invalid : (request : Request) (old new : AddressState) (answer : Result Range Error) (e : Error) → Allocates old request answer new → MakesConstraint request (Err e) → answer ≡ Err e
 unfolding MakesConstraint Allocates ByConstraint
 invalid request old new answer e h m =
@@ -63,7 +63,7 @@ invalid request old new answer e h m =
     same : (x : Error) → made ≡ Err x → (answer ≡ Err x) × (new ≡ old) → answer ≡ Err e
     same x m h = let s : x ≡ e = cc in h.0 ∙ ap (λ (v : Error). Err v) s
 
--- the answer to a request that makes sense, with the state that it leaves
+-- The result of a valid request, and the next state.
 module _ (request : Request) (old new : AddressState) (answer : Result Range Error) (sense : IsRequest request) (h : Allocates old request answer new) where
   chosen_taken : (s : ℕ) → IsChosen request old s → s + request.size - 1 < MAX → AllocatesAt old (span s request.size) answer new
   chosen_taken s c l = otherwise _ _ _ (λ k. omega arith) (allocates_chosen request s old new answer sense (omega arith) c h)
@@ -81,7 +81,7 @@ none_grants FirstMatch n a old new answer p none h = none_by_place (request_for 
 none_grants LastMatch n a old new answer p none h = none_by_place (request_for n a LastMatch) old new answer none h
 none_grants (ExactMatch t) n a old new answer p none h = ⊎_elim (λ e. absurd (cc e)) (λ e. absurd (cc e)) p
 
--- where there is a place, what is refused is refused for memory, for depth or for its end
+-- If there is a place, an error is due to memory, the height or the end of the range.
 taken_not_lacking : (old new : AddressState) (r : Range) (answer : Result Range Error) → AllocatesAt old r answer new → answer ≢ Err ResourceNotAvailable
 unfolding AllocatesAt
 taken_not_lacking old new r answer h e = ⊎_elim (λ l. cc (l.0, e)) (λ k. ⊎_elim (λ o. cc (o, e)) (λ o. cc (o.1, e)) k.2) h
@@ -100,7 +100,7 @@ some_grants FirstMatch n a old new answer p s place h = some_by_place (request_f
 some_grants LastMatch n a old new answer p s place h = some_by_place (request_for n a LastMatch) old new answer s place h
 some_grants (ExactMatch t) n a old new answer p s place h = ⊎_elim (λ e. absurd (cc e)) (λ e. absurd (cc e)) p
 
--- the faults of a request for the n addresses from t on, in order
+-- The errors of an exact request for the n addresses starting at t, in order.
 exact_errors : (old new : AddressState) (answer : Result Range Error) (t n : ℕ) (Rest : Type 0) → IsAddressState old → 0 < n → ByStart t n old (λ e. (answer ≡ Err e) × (new ≡ old)) Rest → FailsInOrder old t n answer
 unfolding ByStart
 exact_errors old new answer t n Rest state some h =
@@ -148,7 +148,7 @@ answered request old new answer state h =
 pub places_answer : PlacesAnswer
 places_answer old new request answer h = answered request old.state new answer (reached_state old) h
 
--- ---- a refusal changes nothing
+-- ---- An error changes nothing
 takes_refused : (old new : AddressState) (r : Range) (e : Error) → AllocatesAt old r (Err e) new → new ≡ old
 unfolding AllocatesAt
 takes_refused old new r e h = ⊎_elim (λ l. absurd (cc (l.0))) (λ k. k.1) h

@@ -1,4 +1,4 @@
--- Ranges given back one after the other, in any order.
+-- Ranges that are freed one after the other, in any order.
 use Rattle.std.proofs.Common.{◌≡◌, ◌↔◌, List, [], ◌∷◌, Bool, true, false, nat_eq, eq-eqb, refl, sym, ap, ◌∙◌, inl, inr, ⊎_elim, subst, Ok}
 use Rattle.std.proofs.lemmas.Bool.{cases_eq, ne_eqb}
 use Rattle.std.proofs.lemmas.Map.Keys.{IsDistinct-IsPermutation}
@@ -15,7 +15,7 @@ use Rattle.vm_engine.proofs.Blocks.HeldChanges.{held_without, not_held_without, 
 use Rattle.vm_engine.proofs.Answers.AddressAnswers.{freed_held, freed_state, releases_held}
 use Rattle.vm_allocator.proofs.Histories.AlongHistories.{history_state, reached_state, same_members, same_state}
 
--- what is held once ranges are given back: those from before but for them
+-- The ranges that are held after some ranges are freed: those held before, without the freed ones.
 left_held : (rs : List Range) (old new : AddressState) (q : Range) → IsAddressState old → IsHistoryFrom old (releases rs) new → IsHeld new.held q ↔ (IsHeld old.held q × ¬ IsHeld rs q)
 left_held [] old new q i s =
     let P : AddressState → Type 0 = λ v. IsHeld v.held q in
@@ -33,7 +33,7 @@ left_held (r ∷ rs) old new q i s =
       λ k. rest.1 (subst P (sym f.1) (others_held lo hi r q old.held i.in_order f.0 k.0 (λ e. k.1 (inl e))), λ n. k.1 (inr n)),
     )
 
--- and the space is the one from before
+-- The space does not change.
 left_space : (rs : List Range) (old new : AddressState) → IsHistoryFrom old (releases rs) new → new.space ≡ old.space
 left_space [] old new s = ap (λ (v : AddressState). v.space) s
 left_space (r ∷ rs) old new s = left_space rs s.0 new s.2 ∙ ap (λ (v : AddressState). v.space) (freed_held old s.0 r s.1).1
@@ -49,8 +49,8 @@ same_left old first second rs qs i e s t =
       λ u. let v = k.0 u in l.1 (v.0, λ n. v.1 (m.0 n)),
     ))
 
--- ---- every order succeeds
--- whether two ranges have one start
+-- ---- Every order succeeds
+-- Whether two ranges have the same start.
 abbrev same_start : Range → Range → Bool
 same_start r q = nat_eq r.start q.start
 
@@ -61,7 +61,7 @@ same_start-comm r q =
     (λ (n : r.start ≡ q.start → ⊥). ne_eqb r.start q.start n ∙ sym (ne_eqb q.start r.start (λ e. n (sym e))))
     (cases_eq r.start q.start)
 
--- a fact on each range of a list, at one of them
+-- A fact that is true for each range of a list is true for one of them.
 each_of : (P : Range → Type 0) (rs : List Range) (r : Range) → AllByRecursion P rs → IsHeld rs r → P r
 each_of P [] r a h = absurd h
 each_of P (x ∷ xs) r a h = ⊎_elim (λ (e : x ≡ r). subst P e a.0) (λ (k : IsHeld xs r). each_of P xs r a.1 k) h
@@ -70,7 +70,7 @@ all_of : (P : Range → Type 0) (rs : List Range) → ((r : Range) → IsHeld rs
 all_of P [] h = tt
 all_of P (x ∷ xs) h = (h x (inl refl), all_of P xs (λ r k. h r (inr k)))
 
--- what is given back was held
+-- A range that is freed was held.
 all_held : (rs : List Range) (old new : AddressState) (q : Range) → IsHistoryFrom old (releases rs) new → IsHeld rs q → IsHeld old.held q
 all_held (r ∷ rs) old new q s h =
     let f = freed_held old s.0 r s.1 in
@@ -80,7 +80,7 @@ all_held (r ∷ rs) old new q s h =
     h
 all_held [] old new q s h = absurd h
 
--- and only once
+-- No range is freed twice.
 all_distinct : (rs : List Range) (old new : AddressState) → IsAddressState old → IsHistoryFrom old (releases rs) new → IsDistinct same_start rs
 unfolding IsDistinct
 all_distinct [] old new i s = tt
@@ -92,7 +92,7 @@ all_distinct (r ∷ rs) old new i s =
       all_distinct rs s.0 new (freed_state old s.0 r (Ok tt) i s.1) s.2,
     )
 
--- ranges that are held, each once, can be given back one after the other
+-- Different held ranges can be freed one after the other.
 give_back : (rs : List Range) (old : AddressState) → IsAddressState old → ((r : Range) → IsHeld rs r → IsHeld old.held r) → IsDistinct same_start rs → (new : AddressState) × IsHistoryFrom old (releases rs) new
 unfolding IsDistinct
 give_back [] old i h d = (old, refl)

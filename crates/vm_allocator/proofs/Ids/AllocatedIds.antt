@@ -1,4 +1,4 @@
--- The least id that is not held is taken.
+-- Allocating an id allocates the lowest id that is not held.
 use Rattle.std.proofs.Common.{◌≡◌, ℕ, ◌+◌, ◌-◌, ◌^◌, ◌<◌, ◌≤◌, true, false, refl, sym, ap, ◌∙◌, arith, inl, inr, ⊎_elim, max, Option, Some, None, Result, Ok, Err, IsTrue, IsOk, List, [], ◌∷◌, ◌↔◌, length, subst}
 use Rattle.std.proofs.lemmas.Bool.{cases_lt, cases_eq, cases_Bool, both_ways}
 use Rattle.std.proofs.lemmas.Map.Keys.{le_from_not_gt}
@@ -13,7 +13,7 @@ use Rattle.vm_ranges.specs.declared.error.Error.{Error}
 use Rattle.vm_ranges.specs.declared.error.Error.TheVariants.{Overflow, ResourceNotAvailable}
 use Rattle.vm_allocator.proofs.Ids.IdSets.{held_from, from_held, holds_from, from_holds, bound_fits}
 
--- The least id that is not held.
+-- The lowest id that is not held.
 
 freed_not_held : (lo hi i : ℕ) (next : Option ℕ) (freed : BTreeSet ℕ) → IsTrue (contains nat_cmp freed i) → ¬ IsHeld (ids_of lo hi next freed) i
 freed_not_held lo hi i next freed t h = both_ways _ ((from_holds lo hi i next freed h).2) t
@@ -44,7 +44,7 @@ all_held : (lo hi : ℕ) (next : Option ℕ) (freed : BTreeSet ℕ) → hi < bou
 unfolding AreAllHeld ids_of
 all_held lo hi next freed h none i r = holds_from lo hi i next freed r.0 (omega (arith, r.1)) (none i)
 
--- Taking an id.
+-- Allocating an id.
 
 released_held : (lo bound k : ℕ) (freed left : BTreeSet ℕ) → lo ≤ k → k < bound → IsTrue (contains nat_cmp freed k) → Updates nat_cmp freed left k false → held_of lo bound left ≡ set.insert (held_of lo bound freed) k
 released_held lo bound k freed left l b t u =
@@ -93,7 +93,7 @@ unfolding PeeksId ByLowestNotHeld
 peeks_released state lo hi k next freed e a t lowest =
     subst (λ (s : IdState). PeeksId s (Ok k)) e (inl (k, lowest_released lo hi k next freed a t lowest, refl))
 
--- Without an id given back.
+-- Allocating an id if there is no freed id.
 
 takes_next_at : (lo hi n : ℕ) (next after : Option ℕ) (freed left : BTreeSet ℕ) → next ≡ Some n → lo ≤ n → bound_of after hi ≡ n + 1 → ((i : ℕ) → contains nat_cmp freed i ≡ false) → ((i : ℕ) → contains nat_cmp left i ≡ false) → ids_of lo hi after left ≡ holding_id n (ids_of lo hi next freed)
 takes_next_at lo hi n next after freed left s l e none none' =
@@ -131,7 +131,7 @@ allocates_next_at lo hi n next after freed left r a v h is b same =
     by_next lo hi next freed r (λ i. (r ≡ Ok i) × (ids_of lo hi after left ≡ holding_id i (ids_of lo hi next freed))) (λ x. (r ≡ Err x) × (ids_of lo hi after left ≡ ids_of lo hi next freed)) a (λ i. none_without_first freed i v) h
     (λ m s l k t. let same_id : n ≡ m = cc in (t, takes_next_at lo hi m next after freed left s l (b ∙ ap (λ (x : ℕ). x + 1) same_id) (λ i. none_without_first freed i v) (next_none freed left same v))) (λ x t. absurd (cc))
 
--- the id after the last of the range up to MAX_ID is none
+-- The next id after MAX_ID is None.
 bound_after : (hi n : ℕ) (next after : Option ℕ) → hi ≤ MAX_ID → NextId next hi (Ok n) → SomeIff after (n + 1 < 2 ^ 32) (n + 1) → bound_of after hi ≡ n + 1
 bound_after hi n None after m h s = absurd (cc)
 bound_after hi n (Some k) after m (inl h) s = absurd (cc)
@@ -162,7 +162,7 @@ pub allocates_none : (old : IdState) (lo hi : ℕ) (x : Error) (next : Option �
 allocates_none old lo hi x next freed left r e a v h is same =
     subst (λ (s : IdState). AllocatesId s r (ids_of lo hi next left)) e (allocates_none_at lo hi x next freed left r a v (subst (NextId next hi) (sym is) h) is same)
 
--- where the next id is refused each id of the range is held
+-- If there is no next id in the range, all ids of the range are held.
 pub none_not_held : (old : IdState) (lo hi i : ℕ) (x : Error) (next : Option ℕ) (freed : BTreeSet ℕ) (r : Result ℕ Error) → ids_of lo hi next freed ≡ old → AreIds lo hi next freed → (false ≡ true) ↔ (0 < btree_set_len freed) → NextId next hi (Err x) → IsNotHeld old i → IsOk r
 unfolding ByLowestNotHeld AreAllHeld
 none_not_held old lo hi i x next freed r e a v h free =

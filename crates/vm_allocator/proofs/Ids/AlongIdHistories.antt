@@ -1,4 +1,4 @@
--- What holds along every history of an id allocator.
+-- Facts of every history of an id allocator.
 use Rattle.std.proofs.Common.{◌≡◌, ◌≢◌, ◌⊎◌, ℕ, Bool, true, false, cond, nat_eq, refl, sym, ap, ◌∙◌, subst, arith, inl, inr, ⊎_elim, List, [], ◌∷◌, ◌++◌, Ok, Err}
 use Rattle.std.proofs.lemmas.Bool.{cases_eq, cases_Bool, both_ways, cond-true, cond-false, eq-eqb, ne_eqb, false_from_ne_true}
 use Rattle.std.proofs.lemmas.List.Elements.{Contains-append_right}
@@ -14,7 +14,7 @@ use Rattle.vm_ranges.proofs.CloneAnswers.{cloning_keeps}
 use Rattle.vm_allocator.proofs.Ids.ReadIdStates.{encoded_state}
 use Rattle.vm_allocator.proofs.Ids.IdAnswers.{id_states_are_preserved, allocating_adds, freeing_removes}
 
--- What one call says.
+-- One call.
 
 allocated_is_lowest : (old new : IdState) (id : ℕ) → AllocatesId old (Ok id) new → IsLowestNotHeld old id
 unfolding AllocatesId ByLowestNotHeld
@@ -40,7 +40,7 @@ refused_return_keeps old new id e (inr (_, inr (_, inl a))) = a.1.1
 refused_return_keeps old new id e (inr (_, inr (_, inr (_, inl a)))) = absurd (cc (a.0))
 refused_return_keeps old new id e (inr (_, inr (_, inr (_, inr a)))) = a.1
 
--- the answer names the id that was given back
+-- The result of freeing an id is this id.
 answer_names_id : (old new : IdState) (id back : ℕ) → FreesId old id (Ok back) new → back ≡ id
 unfolding FreesId
 answer_names_id old new id back (inl a) = absurd (cc (a.1.0))
@@ -52,7 +52,7 @@ answer_names_id old new id back (inr (_, inr (_, inr (_, inr a)))) = absurd (cc 
 same_held : (old new : IdState) (id : ℕ) → new ≡ old → set.contains new.held id ≡ set.contains old.held id
 same_held old new id e = ap (λ (s : IdState). set.contains s.held id) e
 
--- Each state of a history is one of ids.
+-- Each state of a history is valid.
 
 call_state : (call : IdCall) (old new : IdState) → IsIdState old → IsIdCallFrom old call new → IsIdState new
 call_state (Allocation answer) old new s h = id_states_are_preserved.allocated old new answer s h
@@ -72,7 +72,7 @@ pub states_are_of_ids : StatesAreOfIds
 unfolding StatesAreOfIds
 states_are_of_ids calls state r = history_state calls r.first state (first_state r.first r.begins) r.history
 
--- An id is held exactly if it is out.
+-- An id is held if and only if it was allocated and not freed since.
 
 held_after_taking : (old new : IdState) (i id : ℕ) → IsIdState old → AllocatesId old (Ok i) new → set.contains new.held id ≡ cond (nat_eq i id) true (set.contains old.held id)
 held_after_taking old new i id s h =
@@ -126,7 +126,7 @@ held_is_out = record {
 
 pub ruleset held_ids = (held_is_out, states_are_of_ids)
 
--- The ids that are given.
+-- The allocated ids.
 
 given_is_held : (old new : IdState) (id : ℕ) → IsIdState old → AllocatesId old (Ok id) new → IsHeld new id
 given_is_held old new id s h = ((allocating_adds old new id s h).held id).1 (inr refl)
@@ -135,7 +135,7 @@ pub each_is_lowest : EachIsLowestNotHeld
 unfolding EachIsLowestNotHeld StatesAreOfIds
 each_is_lowest calls old new id r h = (allocated_is_lowest old new id h, given_is_held old new id (states_are_of_ids calls old r) h)
 
--- only where it is given back is an id held no more
+-- An id stops being held only if it is freed.
 call_frees : (call : IdCall) (old new : IdState) (id : ℕ) → IsIdState old → IsIdCallFrom old call new → IsHeld old id → ¬ IsHeld new id → call ≡ Release id (Ok id)
 call_frees (Allocation (Ok i)) old new id s h held gone =
     absurd (gone (((allocating_adds old new i s h).held id).1 (inl held)))
@@ -152,7 +152,7 @@ call_frees (Release i (Err e)) old new id s h held gone =
 call_frees (Cloning answer) old new id s h held gone =
     absurd (gone (same_held old new id (cloning_keeps old new answer h.0 h.1) ∙ held))
 
--- an id that is held at first and not at last was given back on the way
+-- An id that is held at first and not at last was freed by one of the calls.
 history_frees : (calls : List IdCall) (first last : IdState) (id : ℕ) → IsIdState first → IsIdHistoryFrom first calls last → IsHeld first id → ¬ IsHeld last id → Contains calls (Release id (Ok id))
 history_frees [] first last id s e held gone = absurd (gone (same_held first last id e ∙ held))
 history_frees (call ∷ calls) first last id s history held gone =
@@ -163,13 +163,13 @@ history_frees (call ∷ calls) first last id s history held gone =
     (0, omega arith, call_frees call first history.0 id s history.1 held (both_ways _ not_now)))
     (cases_Bool (set.contains history.0.held id))
 
--- a history of two parts has a state between them
+-- A history of two parts has a state between them.
 state_between : (xs ys : List IdCall) (first last : IdState) → IsIdHistoryFrom first (xs ++ ys) last → (mid : IdState) × IsIdHistoryFrom first xs mid × IsIdHistoryFrom mid ys last
 state_between [] ys first last history = (first, refl, history)
 state_between (x ∷ xs) ys first last history =
     let rest = state_between xs ys history.0 last history.2 in (rest.0, (history.0, history.1, rest.1), rest.2)
 
--- an id that is given, and given again at the end
+-- An id that is allocated first and last was freed in between.
 given_twice : (between : List IdCall) (old state : IdState) (id : ℕ) → IsIdState old → IsIdHistoryFrom old (Allocation (Ok id) ∷ (between ++ Allocation (Ok id) ∷ [])) state → Contains between (Release id (Ok id))
 given_twice between old state id s history =
     let cut = state_between between (Allocation (Ok id) ∷ []) history.0 state history.2 in

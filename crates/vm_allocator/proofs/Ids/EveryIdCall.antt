@@ -1,4 +1,4 @@
--- Every call of an id allocator has an answer, and so every list of calls a history.
+-- Every call of an id allocator has a result, so every list of calls has a history.
 use Rattle.std.proofs.Common.{◌≡◌, ◌≢◌, ℕ, ◌+◌, ◌<◌, ◌⊎◌, List, [], ◌∷◌, true, false, refl, ap, arith, inl, inr, ⊎_elim, Result, Ok, Err}
 use Rattle.std.proofs.lemmas.Bool.{cases_eq, cases_Bool, both_ways}
 use Rattle.std.proofs.lemmas.List.Elements.{All-nil, All-cons}
@@ -11,7 +11,7 @@ use Rattle.vm_ranges.specs.declared.error.Error.{Error}
 use Rattle.vm_ranges.specs.declared.error.Error.TheVariants.{OutOfMemory, Overflow, ResourceNotAvailable, InvalidRange, OutOfRange, NeverAllocated, AlreadyReleased}
 use Rattle.vm_ranges.proofs.Decisions.{Decided, decided_both, decided_below, decided_up_to, lowest_or_none}
 
--- ---- what is decided of an id
+-- ---- Decidable facts of an id
 decided_held : (state : IdState) (i : ℕ) → Decided (IsHeld state i)
 decided_held state i =
     ⊎_elim (λ (e : set.contains state.held i ≡ true). inl e) (λ (e : set.contains state.held i ≡ false). inr (λ h. both_ways _ e h)) (cases_Bool (set.contains state.held i))
@@ -23,7 +23,7 @@ decided_not_held : (state : IdState) (i : ℕ) → Decided (IsNotHeld state i)
 decided_not_held state i =
     decided_both _ _ (decided_of_range state i) (⊎_elim (λ (h : IsHeld state i). inr (λ n. n h)) (λ (n : IsHeld state i → ⊥). inl n) (decided_held state i))
 
--- an id is the least that is not held, or all are held
+-- Either an id is the lowest that is not held, or all ids are held.
 lowest_or_all : (state : IdState) → ((i : ℕ) × IsLowestNotHeld state i) ⊎ AreAllHeld state
 unfolding IsLowestNotHeld AreAllHeld
 lowest_or_all state =
@@ -32,8 +32,8 @@ lowest_or_all state =
     (λ found. inl (found.0, (found.1, found.2)))
     (lowest_or_none (IsNotHeld state) (decided_not_held state) (state.hi + 1))
 
--- ---- each call is answered
--- the answer that a request gets: an id or an error
+-- ---- Each call has a result
+-- The result of allocating an id: an id or an error.
 by_lowest : (state : IdState) → ((i : ℕ) × IsLowestNotHeld state i) ⊎ ((e : Error) × ((takes : ℕ → Type 0) (refused : Error → Type 0) → refused e → ByLowestNotHeld state takes refused))
 unfolding ByLowestNotHeld
 by_lowest state =
@@ -100,7 +100,7 @@ every_call = record {
   cloned = total_clones;
 }
 
--- ---- and so is each list of what is asked
+-- ---- Each list of calls has a history
 pub every_list : EveryIdListHasHistory
 unfolding total_clones
 every_list old [] = ([], old, refl, refl, All-nil _)

@@ -1,4 +1,4 @@
--- A held id is given back.
+-- Freeing a held id.
 use Rattle.std.proofs.Common.{◌≡◌, ℕ, ◌<◌, ◌≤◌, true, false, refl, sym, ap, ◌∙◌, inl, inr, ⊎_elim, Option, Ok, Err, IsTrue, subst}
 use Rattle.std.proofs.lemmas.Bool.{cases_eq, both_ways}
 use Rattle.std.specs.List.{list_any}
@@ -12,7 +12,7 @@ use Rattle.vm_allocator.proofs.Ids.IdSets.{held_from, from_held}
 use Rattle.vm_allocator.proofs.Ids.IdFields.{holds, holds_not}
 use Rattle.vm_allocator.proofs.Ids.AllocatedIds.{takes_same, same_ids}
 
--- Giving back.
+-- Freeing.
 
 held_before_free : (lo bound k : ℕ) (freed more : BTreeSet ℕ) → Updates nat_cmp freed more k true → held_of lo bound more ≡ set.remove (held_of lo bound freed) k
 held_before_free lo bound k freed more u =

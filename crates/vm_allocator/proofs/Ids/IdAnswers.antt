@@ -1,4 +1,4 @@
--- What the calls of an id allocator return.
+-- The results of the calls of an id allocator.
 use Rattle.std.proofs.Common.{◌≡◌, ◌≢◌, ℕ, ◌<◌, ◌≤◌, ◌⊎◌, ◌↔◌, refl, sym, ap, ◌∙◌, subst, arith, inl, inr, ⊎_elim, Result, Ok, Err}
 use Rattle.std.proofs.lemmas.Bool.{cases_lt, cases_eq, both_ways}
 use Rattle.std.specs.Ordering.{nat_cmp}
@@ -10,7 +10,7 @@ use Rattle.vm_ranges.specs.declared.error.Error.{Error}
 use Rattle.vm_ranges.specs.declared.error.Error.TheVariants.{Overflow, ResourceNotAvailable, OutOfMemory}
 use Rattle.vm_ranges.proofs.TwoFacts.{if_same, unless_same}
 
--- One answer.
+-- One result.
 
 pub one_lowest : (state : IdState) (i j : ℕ) → IsLowestNotHeld state i → IsLowestNotHeld state j → i ≡ j
 unfolding IsLowestNotHeld
@@ -68,7 +68,7 @@ freeing_is_determined old new other id r s m n a b =
 
 pub ruleset determined = (making_is_determined, allocating_is_determined, peeking_predicts, freeing_is_determined)
 
--- States of ids.
+-- Valid states.
 
 fresh_state : (lo hi : ℕ) → lo ≤ hi → hi ≤ MAX_ID → IsIdState (new_ids lo hi)
 fresh_state lo hi l m = record {
@@ -78,7 +78,7 @@ fresh_state lo hi l m = record {
   held = λ i h. absurd (both_ways _ (set.contains-empty nat_cmp i) h);
 }
 
--- an id that is least among those not held is at most the first one never handed out
+-- The lowest id that is not held is at most the lowest id that was never allocated.
 lowest_to_bound : (old : IdState) (id : ℕ) → IsIdState old → IsLowestNotHeld old id → (old.lo ≤ id) × (id ≤ old.hi) × (id ≤ old.bound)
 unfolding IsLowestNotHeld
 lowest_to_bound old id s a = (
@@ -132,7 +132,7 @@ id_states_are_preserved = record { made = made_ids; allocated = allocated_ids; f
 
 pub ruleset kept = (id_states_are_preserved)
 
--- What changes.
+-- The effect of one call.
 
 more_allocated : (old : IdState) (id q : ℕ) → IsIdState old → IsLowestNotHeld old id → WasEverAllocated (holding_id id old) q ↔ (WasEverAllocated old q ⊎ (q ≡ id))
 more_allocated old id q s a =

@@ -1,4 +1,5 @@
--- How many ids are held: those handed out but for those given back. And a list of as many held ids as are held.
+-- The number of held ids: the ids that were allocated at some time, without the freed ids. A list of different held ids
+-- contains all of them if and only if it has this length.
 use Rattle.std.proofs.Common.{◌≡◌, ℕ, zero, suc, ◌+◌, ◌-◌, ◌<◌, ◌≤◌, Bool, true, false, cond, not, ◌&&◌, ◌||◌, List, [], ◌∷◌, length, get_or, refl, sym, ap, ◌∙◌, subst, arith, ⊎_elim, Option, IsTrue}
 use Rattle.std.proofs.lemmas.Bool.{cases_eq, both_ways, and_from, or_left, or_right}
 use Rattle.std.proofs.lemmas.List.Elements.{All-head, All-tail, All-from_recursion}
@@ -17,7 +18,7 @@ use Rattle.vm_allocator.specs.Laws.IdLaws.{IdCountFindsAll}
 use Rattle.vm_ranges.proofs.Listed.{Differ, listed_is, each_listed}
 use Rattle.vm_allocator.proofs.Ids.IdSets.{in_row, bound_above}
 
--- ---- a set of numbers that differ
+-- ---- A set of different numbers
 abbrev same : ℕ → ℕ → Bool
 same = eq_by_cmp nat_cmp
 
@@ -44,7 +45,7 @@ unfolding IsDistinct
 row_differs zero a = tt
 row_differs (suc n) a = (row_above n (a + 1) a (omega arith), row_differs n (a + 1))
 
--- ---- taken from a set
+-- ---- Numbers removed from a set
 some_in : (s : set.FinSet nat_cmp) (i : ℕ) → IsTrue (set.contains s i) → 0 < set.len s
 some_in s i h =
     ⊎_elim
@@ -98,7 +99,7 @@ len-but_for s (i ∷ is) d h =
     ∙ and_from _ _ (h i (or_left _ _ (tied_here i))) (ap not (set.contains-from_list nat_cmp_total is i ∙ none_same i is d.0)) in
     omega (arith, len-but_for s is d.1 (λ j m. h j (or_right _ _ m)), one_less (but_for s is) i here, ap set.len (but_for_more s i is))
 
--- ---- of an allocator
+-- ---- The held ids of an allocator
 pub allocated_above : (lo hi : ℕ) (next : Option ℕ) (freed : BTreeSet ℕ) → AreIds lo hi next freed → lo ≤ bound_of next hi
 allocated_above lo hi next freed a = bound_above lo hi next a.range a.next_id
 
@@ -123,7 +124,7 @@ counted state lo hi next freed e a o =
 
 pub ruleset counts = (allocated_above, freed_fit, counted)
 
--- ---- a list of held ids
+-- ---- A list of held ids
 tells_apart : (i j : ℕ) → Decides (same i j) (i ≡ j)
 tells_apart i j = (tied_is i j, λ e. subst (λ (v : ℕ). same i v ≡ true) e (tied_here i))
 

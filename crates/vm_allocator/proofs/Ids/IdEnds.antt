@@ -1,4 +1,4 @@
--- Where a history of ids ends and begins: in a clone, in what was read.
+-- The states that histories of ids reach: those of clones, and those that were read.
 use Rattle.std.proofs.Common.{List, [], ◌∷◌, ◌++◌, refl, subst, inr, Ok}
 use Rattle.vm_allocator.specs.Ids.{IdState}
 use Rattle.vm_allocator.specs.Histories.IdHistories.{IdCall, Cloning, IsIdHistoryFrom}

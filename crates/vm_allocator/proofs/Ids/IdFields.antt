@@ -1,4 +1,4 @@
--- What the fields of an id allocator say of its state.
+-- The fields of an id allocator and its state.
 use Rattle.std.proofs.Common.{◌≡◌, ℕ, ◌<◌, ◌≤◌, List, false, refl, sym, ap, arith, inl, inr, Option, Some, Ok, Err, IsTrue, subst}
 use Rattle.std.proofs.lemmas.Bool.{both_ways}
 use Rattle.std.specs.Ordering.{nat_cmp}
@@ -11,7 +11,7 @@ use Rattle.vm_allocator.specs.Ids.{IdState, WasEverAllocated, IsHeld, new_ids, M
 use Rattle.vm_ranges.specs.declared.error.Error.TheVariants.{InvalidRange}
 use Rattle.vm_allocator.proofs.Ids.IdSets.{from_held, from_holds, holds_of, bound_fits, bound_above}
 
--- Making.
+-- Creating.
 
 pub fresh : (lo hi : ℕ) (freed : BTreeSet ℕ) → IsEmpty freed → ids_of lo hi (Some lo) freed ≡ new_ids lo hi
 unfolding ids_of
@@ -29,7 +29,7 @@ makes_refused lo hi h = inl (h, refl)
 
 pub ruleset makes = (makes_fresh, makes_refused)
 
--- What is true of each state.
+-- Facts of each state.
 
 is_state_of : (lo hi : ℕ) (next : Option ℕ) (freed : BTreeSet ℕ) → AreIds lo hi next freed → IsIdState (ids_of lo hi next freed)
 unfolding ids_of
@@ -57,7 +57,7 @@ pub ruleset holdings = (holds, holds_not)
 
 -- Cloning.
 
--- ids given back that are copied one by one are the same
+-- Freed ids that are copied one by one are the same.
 pub copied_ids : (freed copy : BTreeSet ℕ) → AllZip (λ x y. y ≡ x) freed.keys copy.keys → copy ≡ freed
 copied_ids freed copy h =
     ap (λ (ks : List ℕ). record { keys = ks }) (same_from_all_zip (λ x y. y ≡ x) freed.keys copy.keys h (λ x y e. e))

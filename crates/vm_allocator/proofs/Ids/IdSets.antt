@@ -1,4 +1,4 @@
--- The ids that an allocator's fields hold, as a set.
+-- The held ids of an allocator's fields, as a set.
 use Rattle.std.proofs.Common.{◌≡◌, ℕ, zero, suc, ◌+◌, ◌-◌, ◌<◌, ◌≤◌, true, false, not, refl, sym, ap, ◌∙◌, arith, ⊎_elim, Option, Some, None, IsTrue}
 use Rattle.std.proofs.lemmas.Bool.{cases_eq, both_ways, and_parts, or_cases, and_from, or_left, or_right, not-true}
 use Rattle.std.specs.List.{range_with_len, list_any}
@@ -9,7 +9,7 @@ use Rattle.std.specs.FinSet as set
 use Rattle.vm_ranges.proofs.NumberSets.{tied_here, tied_is}
 use Rattle.vm_allocator.specs.Ids.{WasEverAllocated, IsHeld, bound_of, held_of, ids_of, IsNext}
 
--- The numbers of a row.
+-- The numbers of a range.
 
 pub in_row : (a n i : ℕ) → a ≤ i → i < a + n → list_any (eq_by_cmp nat_cmp i) (range_with_len a n) ≡ true
 in_row a zero i l h = absurd (omega arith)
@@ -21,7 +21,7 @@ from_row a zero i h = absurd (both_ways false refl h)
 from_row a (suc n) i h =
     ⊎_elim (λ (t : eq_by_cmp nat_cmp i a ≡ true). let e = tied_is i a t in (omega (arith, e), omega (arith, e))) (λ (m : list_any (eq_by_cmp nat_cmp i) (range_with_len (a + 1) n) ≡ true). let r = from_row (a + 1) n i m in (omega (arith, r.0), omega (arith, r.1))) (or_cases _ _ h)
 
--- The ids held.
+-- The held ids.
 
 pub held_from : (lo bound i : ℕ) (freed : BTreeSet ℕ) → lo ≤ i → i < bound → contains nat_cmp freed i ≡ false → IsTrue (set.contains (held_of lo bound freed) i)
 unfolding held_of
@@ -51,7 +51,7 @@ pub holds_of : (lo hi i : ℕ) (next : Option ℕ) (freed : BTreeSet ℕ) → Wa
 unfolding ids_of
 holds_of lo hi i next freed h = held_from lo (bound_of next hi) i freed h.0 h.1
 
--- the bound is at most one past the range
+-- The bound is at most one past the range.
 pub bound_fits : (lo hi : ℕ) (next : Option ℕ) → IsNext lo hi next → (bound_of next hi ≤ hi + 1)
 bound_fits lo hi None h = omega arith
 bound_fits lo hi (Some n) h = h.1

@@ -1,4 +1,4 @@
--- Numbers that rise between two bounds.
+-- Numbers in strictly increasing order between two bounds.
 use Rattle.std.proofs.Common.{◌≡◌, ℕ, ◌+◌, ◌<◌, ◌≤◌, ◌&&◌, leb, ltb, List, [], ◌∷◌, Option, Some, None, option_map, refl, subst, arith, nat_cmp, Less}
 use Rattle.std.proofs.lemmas.Bool.{le-leb, lt-ltb, leb-true, ltb-true, and_parts}
 use Rattle.std.proofs.lemmas.List.Elements.{recursion_from_All, All-from_recursion}
@@ -12,7 +12,7 @@ use Rattle.vm_ranges.specs.Lists.{EncodesItems}
 use Rattle.vm_allocator.specs.Values.IdValues.{EncodesNumber}
 use Rattle.vm_allocator.specs.Checks.IdChecks.{increasing}
 
--- each number is above the one before it, the first from `lowest` on, and all are below `bound`
+-- The numbers are in strictly increasing order, at least `lowest` and below `bound`.
 abbrev pub IncreaseWithin : ℕ → ℕ → List ℕ → Type 0
 IncreaseWithin lowest bound [] = Unit {0}
 IncreaseWithin lowest bound (n ∷ ns) = (lowest ≤ n) × (n < bound) × IncreaseWithin (n + 1) bound ns
@@ -37,7 +37,7 @@ states-increasing [] lowest bound (item d ds) s r = absurd s
 states-increasing (n ∷ ns) lowest bound no_items s r = absurd s
 states-increasing (n ∷ ns) lowest bound (item d ds) s r = rw (s.0, le-leb lowest n r.0, lt-ltb n bound r.1, states-increasing ns (n + 1) bound ds s.1 r.2) refl
 
--- in the words of the standard library
+-- The same with the definitions of the standard library.
 
 abbrev IsWithin : ℕ → ℕ → ℕ → Type 0
 IsWithin lowest bound n = (lowest ≤ n) × (n < bound)

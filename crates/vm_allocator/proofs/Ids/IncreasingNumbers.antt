@@ -1,4 +1,4 @@
--- Lists of numbers that rise.
+-- Lists of numbers in strictly increasing order.
 use Rattle.std.proofs.Common.{◌≡◌, ℕ, ◌+◌, ◌<◌, ◌≤◌, Bool, true, false, ◌&&◌, leb, ltb, List, [], ◌∷◌, ◌++◌, length, get_or, drop, Option, Some, None, is_some, option_map, refl, sym, ap, ◌∙◌, subst, arith, append_assoc, nat_cmp, Greater, IsSome}
 use Rattle.std.proofs.lemmas.Bool.{le-leb, lt-ltb, leb-true, ltb-true, lt-leb, le-ltb, and_parts}
 use Rattle.std.specs.Cmp.{nat_cmp_is}
@@ -13,7 +13,7 @@ use Rattle.vm_ranges.specs.Lists.{EncodesItems}
 use Rattle.vm_allocator.specs.Values.IdValues.{EncodesNumber}
 use Rattle.vm_allocator.specs.Checks.IdChecks.{increasing}
 
--- Items one by one.
+-- The items one by one.
 
 pub no_number : (lowest bound i : ℕ) (vs : List Value) (v : Value) → i < length vs → v ≡ get_or vs i v → whole_number (view v) ≡ None → increasing lowest bound (items_view (drop i vs)) ≡ None
 no_number lowest bound i vs v h e w = rw (items_from vs i v h e, w) refl
@@ -46,7 +46,7 @@ pub some_of : {A : Type 0} (o : Option A) → IsSome o → (a : A) × (o ≡ Som
 some_of None h = absurd (cc)
 some_of (Some a) h = (a, refl)
 
--- where the rest rises, the next item is a number between the bounds
+-- If the rest of the items is in order, the next item is a number between the bounds.
 next_number : (lowest bound i : ℕ) (vs : List Value) (v : Value) → i < length vs → v ≡ get_or vs i v → IsSome (increasing lowest bound (items_view (drop i vs))) → (n : ℕ) × (whole_number (view v) ≡ Some n) × (lowest ≤ n) × (n < bound)
 next_number lowest bound i vs v h e s =
     let t : IsSome (increasing lowest bound (item (view v) (items_view (drop (i + 1) vs)))) = subst (λ (x : Items). IsSome (increasing lowest bound x)) (items_from vs i v h e) s in
@@ -58,7 +58,7 @@ next_number lowest bound i vs v h e s =
 
 -- Numbers collected in a set.
 
--- all of them are below
+-- All numbers are below the bound.
 abbrev pub AreBelow : ℕ → List ℕ → Type 0
 AreBelow n [] = Unit {0}
 AreBelow n (k ∷ ks) = (k < n) × AreBelow n ks

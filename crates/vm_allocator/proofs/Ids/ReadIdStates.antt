@@ -1,4 +1,4 @@
--- The state of ids that a value states, and the fields that have it.
+-- The state that a value encodes, and the fields of an allocator with this state.
 use Rattle.std.proofs.Common.{◌≡◌, ℕ, zero, suc, ◌≤◌, ◌<◌, true, false, List, [], ◌∷◌, length, Option, Some, None, is_some, codes, IsTrue, refl, sym, ap, ◌∙◌, subst, arith, true≢false}
 use Rattle.std.proofs.lemmas.Option.{same_Some}
 use Rattle.std.proofs.lemmas.Map.Views.{Contains-from_any, list_any-from_Contains}
@@ -33,7 +33,7 @@ not_among freed i n =
       | false ↦ λ h. h
     ] refl
 
--- the state of an allocator's fields is that of the same fields in a value
+-- The fields of an allocator have the state of the same fields in a value.
 state_of_fields : (lo hi : ℕ) (next : Option ℕ) (freed : BTreeSet ℕ) → AreIdsOf (fields_of lo next hi freed.keys) (ids_of lo hi next freed)
 unfolding ids_of
 state_of_fields lo hi next freed = record {
@@ -69,7 +69,7 @@ valid lo hi next freed i s = record {
   same (n ∷ ns) zero d l = refl
   same (n ∷ ns) (suc k) d l = same ns k d (omega arith)
 
--- fields have one state
+-- Fields have one state.
 one_state : (f : IdFields) (a b : IdState) → AreIdsOf f a → AreIdsOf f b → a ≡ b
 one_state f a b p q =
     let lo : a.lo ≡ b.lo = p.lo ∙ sym q.lo in
@@ -80,7 +80,7 @@ one_state f a b p q =
       moved : (a b : IdState) → AreIdsOf f a → AreIdsOf f b → a.lo ≡ b.lo → a.bound ≡ b.bound → (i : ℕ) → IsTrue (set.contains a.held i) → IsTrue (set.contains b.held i)
       moved a b p q lo bound i h = let x = (p.held i).0 h in (q.held i).1 ((subst (λ (l : ℕ). l ≤ i) lo x.0.0, subst (λ (n : ℕ). i < n) bound x.0.1), x.1)
 
--- What the code's clauses say.
+-- The facts that the contracts of the code need.
 
 pub none_encoded : (d : Data) → decoded_ids d ≡ None → ((state : IdState) × EncodesIds d state) → ⊥
 none_encoded d e p = true≢false (sym (passes d p.1.fields p.1.written p.1.valid) ∙ ap is_some e)
@@ -130,7 +130,7 @@ encodes_ids d v w state lo hi next freed e p next_encoded freed_encoded i s = su
 
 pub ruleset written = (encodes_ids)
 
--- a value states one state of ids at most
+-- A value encodes at most one state.
 pub one_encoded : (d : Data) (a b : IdState) → EncodesIds d a → EncodesIds d b → a ≡ b
 one_encoded d a b p q =
     let e = one_fields d p.fields q.fields p.written q.written in

@@ -1,4 +1,4 @@
--- The check of an id allocator's value finds just the id allocators that values state.
+-- The check of a value finds exactly the id allocators that values encode.
 use Rattle.std.proofs.Common.{◌≡◌, ℕ, ◌+◌, ◌≤◌, true, false, cond, ◌&&◌, leb, List, Option, Some, None, is_some, option_map, option_and_then, MatchOption, codes, refl, sym, ap, ◌∙◌, subst, arith}
 use Rattle.std.proofs.lemmas.Bool.{le-leb, leb-true, eq-eqb, eqb-true, and_parts}
 use Rattle.std.proofs.lemmas.Option.{same_Some}
@@ -20,7 +20,7 @@ use Rattle.vm_allocator.proofs.Ids.IncreasingBounds.{increasing-states, states-i
 
 -- The next id.
 
--- it is an id, if there is one
+-- The next id is at most MAX_ID, if there is one.
 IsIdIf : Option ℕ → Type 0
 IsIdIf None = Unit {0}
 IsIdIf (Some n) = n ≤ MAX_ID
@@ -76,7 +76,7 @@ fields_of lo next hi freed = record { range_base = lo; next_id = next; range_end
 abbrev pub Found : Type 0
 Found = ℕ × Option ℕ × ℕ × Items
 
--- the numbers rise, and the fields are those of an id allocator
+-- The value has valid fields of an id allocator, and its freed ids are in order.
 pub record IsChecked (d : Data) (p : Found) : Type 0 where
   pub freed : List ℕ
   pub increases : increasing p.0 (bound_of p.1 p.2) p.3 ≡ Some freed
@@ -149,7 +149,7 @@ one_freed d a b p q = both (as_array d) p q where
   both None p q = absurd p
   both (Some ds) p q = one_list ds a b p q
 
--- the fields of a value say one thing
+-- A value has one list of fields.
 pub one_fields : (d : Data) (a b : IdFields) → HasIdFields d a → HasIdFields d b → a ≡ b
 one_fields d a b p q =
     let n = same_field (codes "next_id") d (λ v. EncodesNext v a.next_id) (λ v. EncodesNext v b.next_id) p.next_id q.next_id in

@@ -12,13 +12,13 @@ use Rattle.vm_allocator.specs.Values.AllocatorValues.{EncodesTree}
 use Rattle.vm_allocator.specs.Checks.AllocatorChecks.{decoded_root, decoded_parts}
 use Rattle.vm_ranges.proofs.ReadRanges as ranges
 
--- the value is an object of this space and a tree alone: what stands for the root
+-- The value is an object with exactly this space and a tree, and `Root` is true for its root.
 pub record HasParts (d : Data) (space : Range) (Root : Data → Type 0) : Type 0 where
   pub two_fields : field_count d ≡ Some 2
   pub address_space : FieldIs (codes "address_space") d (λ v. EncodesRange v space)
   pub interval_tree : FieldIs (codes "interval_tree") d (λ v. EncodesTree v Root)
 
--- what is found in the fields stands there
+-- The decoded fields are the fields of the value.
 pub parts_encoded : (d : Data) (space : Range) (root : Data) (Root : Data → Type 0) → decoded_parts d ≡ Some (space, root) → Root root → HasParts d space Root
 parts_encoded d space root Root e root_encoded =
     let two = if_some (is_count 2 (field_count d)) _ (space, root) e in
@@ -35,7 +35,7 @@ parts_encoded d space root Root e root_encoded =
       interval_tree = field_is (codes "interval_tree") d v_at.0 (λ x. EncodesTree x Root) v_at.1 (record { one_field = count-true 1 (field_count v_at.0) one.0; root = field_is (codes "root") v_at.0 v.0 Root one.1 is });
     }
 
--- and what stands in an allocator's fields is found
+-- The fields of an allocator's value are decoded.
 pub parts_are : (d : Data) (space : Range) (Root : Data → Type 0) → HasParts d space Root → (root : Data) × (decoded_parts d ≡ Some (space, root)) × Root root × IsRange space.start space.end
 parts_are d space Root p =
     let r = in_field (codes "address_space") d (λ v. EncodesRange v space) p.address_space in
@@ -43,7 +43,7 @@ parts_are d space Root p =
     let v = in_field (codes "root") t.0 Root t.2.root in
     (v.0, rw (true-count 2 (field_count d) p.two_fields, r.1, ranges.states-found r.0 space r.2, t.1, true-count 1 (field_count t.0) t.2.one_field, v.1) refl, v.2, r.2.range)
 
--- a value has one space and one root at most
+-- A value has at most one space and one root.
 pub one_root : (d : Data) (first second : Range) (First Second : Data → Type 0) → HasParts d first First → HasParts d second Second → (root : Data) × (first ≡ second) × First root × Second root
 one_root d first second First Second p q =
     let x = parts_are d first First p in

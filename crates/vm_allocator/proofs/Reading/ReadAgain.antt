@@ -1,4 +1,4 @@
--- What is written is read again.
+-- A value that was written is read again.
 use Rattle.std.proofs.Common.{ap, inl, inr, refl, Ok, Err}
 use Rattle.serde_json.specs.View.{view}
 use Rattle.serde_json.specs.Data.{Data}
@@ -50,6 +50,6 @@ ids_again = again EncodesIds one_encoded
 
 pub ruleset read_again = (range_again, state_again, allocator_again, ids_again)
 
--- and what is read without repairs is read with them
+-- A value that is read without repairs is read with repairs to the same state.
 pub reads_alike : ReadersAgree
 reads_alike value state answer s few r = again EncodesRepaired one_repaired state value answer (strict_repaired (view value) state s few) r

@@ -1,4 +1,4 @@
--- A value states an allocator just where its space and the tree of its root are stated.
+-- A value encodes an allocator if and only if its fields encode the space and the tree.
 use Rattle.std.proofs.Common.{◌≡◌, Some, Err, refl, sym, ap, ◌∙◌, subst}
 use Rattle.std.proofs.lemmas.Option.{same_Some}
 use Rattle.serde_json.specs.Data.{Data}
@@ -27,18 +27,18 @@ RootIs a v = EncodesSpaceTree v a.space a.tree
 fields_of : (d : Data) (a : SpaceInTree) → EncodesAllocator d a → HasParts d a.space (RootIs a)
 fields_of d a p = record { two_fields = p.two_fields; address_space = p.address_space; interval_tree = p.interval_tree }
 
--- what the value of an allocator has for its root
+-- The root in an allocator's value.
 pub root_of : (d : Data) (a : SpaceInTree) → EncodesAllocator d a → (root : Data) × (decoded_parts d ≡ Some (a.space, root)) × EncodesSpaceTree root a.space a.tree × IsRange a.space.start a.space.end
 root_of d a p = parts_are d a.space (RootIs a) (fields_of d a p)
 
--- a value states one allocator at most
+-- A value encodes at most one allocator.
 pub one_allocator : (d : Data) (a b : SpaceInTree) → EncodesAllocator d a → EncodesAllocator d b → a ≡ b
 one_allocator d a b p q =
     let one = one_root d a.space b.space (RootIs a) (RootIs b) (fields_of d a p) (fields_of d b q) in
     let tree : a.tree ≡ b.tree = one_shape a.tree b.tree one.0 one.2.encoded one.3.encoded in
     ap (λ (x : Range). over x a.tree) one.1 ∙ ap (λ (s : Shape). over b.space s) tree
 
--- What the code's clauses say.
+-- The facts that the contracts of the code need.
 
 pub parts_encoded_by : (d : Data) (space : Range) (root : Data) (s : Shape) → decoded_parts d ≡ Some (space, root) → EncodesSpaceTree root space s → EncodesAllocator d (over space s)
 parts_encoded_by d space root s e p =
@@ -51,12 +51,12 @@ no_tree d space root e none p =
     let same : (p.0.space, r.0) ≡ (space, root) = same_Some (p.0.space, r.0) (space, root) (sym r.1 ∙ e) in
     none (p.0.tree, subst (λ (x : Range × Data). EncodesSpaceTree x.1 x.0 p.0.tree) same r.2)
 
--- why the tree is not read is why the allocator is not
+-- The error of reading the tree is the error of reading the allocator.
 pub not_read : (d : Data) (space : Range) (root : Data) (error : ValueError) → decoded_parts d ≡ Some (space, root) → Reads (EncodesSpaceTree root space) (Err error) → Reads (EncodesAllocator d) (Err error)
 not_read d space root NotAState e r = no_tree d space root e r
 not_read d space root OutOfMemory e r = (over space r.0, parts_encoded_by d space root r.0 e r.1)
 
--- and no state of one
+-- It is also the error of reading the state of the allocator.
 pub no_state_read : (d : Data) (error : ValueError) → Reads (EncodesAllocator d) (Err error) → Reads (EncodesAddresses d) (Err error)
 no_state_read d NotAState r = λ p. r (p.1.allocator, p.1.encoded)
 no_state_read d OutOfMemory r = (state_of r.0, record { allocator = r.0; encoded = r.1; is = refl })

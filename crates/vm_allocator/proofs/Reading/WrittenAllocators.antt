@@ -1,4 +1,4 @@
--- What is put together of an allocator's written parts states the allocator.
+-- The object of an allocator's written parts encodes the allocator.
 use Rattle.std.proofs.Common.{◌≡◌, codes, Option, Some, sym, ◌∙◌, subst}
 use Rattle.serde_json.specs.Data.{Data}
 use Rattle.serde_json.specs.Find.{get}

@@ -1,4 +1,4 @@
--- Ranges held above all others: an `ExactMatch` holds each, unless memory runs out.
+-- Ranges above all held ranges: `ExactMatch` allocates each of them, unless memory runs out.
 use Rattle.std.proofs.Common.{◌≡◌, ◌≢◌, ◌⊎◌, ℕ, ◌+◌, ◌-◌, ◌<◌, ◌≤◌, List, [], ◌∷◌, ◌++◌, length, refl, sym, ap, ◌∙◌, subst, arith, inl, inr, ⊎_elim, Result, Ok, Err}
 use Rattle.std.proofs.lemmas.Bool.{le-ltb}
 use Rattle.std.proofs.lemmas.List.{append_assoc, append-nil, length-append}
@@ -18,7 +18,7 @@ use Rattle.vm_engine.proofs.Blocks.PlainWords.{IsHeld, IsHeldAddress, all_miss}
 use Rattle.vm_engine.proofs.Blocks.HeldSets.{held_lies, later_above}
 use Rattle.vm_engine.proofs.Answers.Filling.{otherwise, allocates_chosen}
 
--- ---- some ranges, and then others
+-- ---- Ranges followed by other ranges
 pub in_order_below : (xs ys : List Range) (lo hi : ℕ) → AreInOrder lo (xs ++ ys) hi → AreInOrder lo xs hi
 in_order_below [] ys lo hi s = tt
 in_order_below (x ∷ xs) ys lo hi s = (s.0, s.1, s.2, s.3, in_order_below xs ys (x.end + 1) hi s.4)
@@ -42,12 +42,12 @@ can_above xs ys state c = record {
   few = subst (λ (v : AddressState). length v.held ≤ SPLIT_LIMIT_MIN_HELD) (sym (adding_both xs ys state)) c.few;
 }
 
--- ---- one range above all others
+-- ---- One range above all others
 last_held : (xs : List Range) (r : Range) → IsHeld (xs ++ r ∷ []) r
 last_held [] r = inl refl
 last_held (x ∷ xs) r = inr (last_held xs r)
 
--- no other range has an address from its start on
+-- No other range has an address at or above its start.
 misses : (xs : List Range) (r : Range) (lo hi x : ℕ) → AreInOrder lo (xs ++ r ∷ []) hi → r.start ≤ x → ¬ IsHeldAddress xs x
 misses [] r lo hi x s l h = h
 misses (y ∷ ys) r lo hi x s l h =
@@ -56,7 +56,7 @@ misses (y ∷ ys) r lo hi x s l h =
     (λ (k : IsHeldAddress ys x). misses ys r (y.end + 1) hi x s.4 l k)
     h
 
--- so it comes last
+-- So it is the last range.
 pub goes_last : (xs : List Range) (r : Range) (lo hi : ℕ) → AreInOrder lo (xs ++ r ∷ []) hi → with_range r xs ≡ xs ++ r ∷ []
 goes_last [] r lo hi s = refl
 goes_last (y ∷ ys) r lo hi s =
@@ -92,7 +92,7 @@ module _ (r : Range) (old : AddressState) (can : CanAdd (r ∷ []) old) where
   is_span : span r.start (address_count r) ≡ r
   is_span = let l = lies in let e : r.start + address_count r - 1 ≡ r.end = omega (arith, l.1) in ap (λ (v : ℕ). record r { end = v }) e
 
-  -- the range is held, or memory ran out
+  -- The range is held, or memory ran out.
   takes : (new : AddressState) (answer : Result Range Error) → AllocatesAt old (span r.start (address_count r)) answer new → ((answer ≡ Ok r) × (new ≡ adding (r ∷ []) old)) ⊎ (answer ≡ Err OutOfMemory)
   unfolding AllocatesAt
   takes new answer t =
@@ -109,12 +109,12 @@ module _ (r : Range) (old : AddressState) (can : CanAdd (r ∷ []) old) where
       let l = lies in
       takes new answer (otherwise _ _ _ (λ m. omega (arith, l.1, l.3)) (allocates_chosen request r.start old new answer valid (omega (arith, l.1, l.3)) chosen h))
 
--- ---- what the code's clauses say
+-- ---- The facts that the contracts of the code need
 not_free : (s : NodeState) → s ≢ Free → s ≡ Allocated
 not_free Free n = absurd (n refl)
 not_free Allocated n = refl
 
--- the key of a block that is a held one
+-- The key of a held block.
 module _ (s : NodeState) (k : Range) (old new : AddressState) (answer : Result Range Error) (held : s ≢ Free) (can : CanAdd (range_if_held s k) old) (h : Allocates old (request_for (address_count k) 1 (ExactMatch k.start)) answer new) where
   key_taken : ((answer ≡ Ok k) × (new ≡ adding (range_if_held s k) old)) ⊎ (answer ≡ Err OutOfMemory)
   key_taken =

@@ -1,4 +1,4 @@
--- What holding the keys of nodes one after the other makes of a state.
+-- The state after the held keys of nodes are added one after the other.
 use Rattle.std.proofs.Common.{◌≡◌, ℕ, ◌-◌, ◌≤◌, List, [], ◌∷◌, ◌++◌, None, Some, refl, sym, ap, ◌∙◌, subst, arith}
 use Rattle.std.proofs.lemmas.List.{append_assoc, append-nil}
 use Rattle.std.proofs.lemmas.Option.{same_Some}
@@ -20,11 +20,11 @@ held_node (x ∷ xs) b ys =
     ap (λ (v : List Range). range_if_held x.state x.key ++ v) (held_node xs b ys)
     ∙ sym (append_assoc (range_if_held x.state x.key) (held_of xs) (range_if_held b.state b.key ++ held_of ys))
 
--- what is held of a node's own block
+-- The key of the node's block if it is held.
 abbrev pub own : NodeData → List Range
 own n = range_if_held n.block.state n.block.key
 
--- the trees of the children of a node whose keys can be held besides
+-- The trees of the children of a node whose held keys can be added.
 pub record ToAdd (depth : ℕ) (d : Data) (old : AddressState) (n : NodeData) : Type 0 where
   pub left : Shape
   pub right : Shape
@@ -58,7 +58,7 @@ to_add_of depth d old n (Fork l b r) p e =
 pub to_add : (depth : ℕ) (d : Data) (old : AddressState) (n : NodeData) → CanAddNodes depth d old → decoded_node d ≡ Some n → ToAdd depth d old n
 to_add depth d old n p e = to_add_of depth d old n p.0 p.1 e
 
--- a value without a node's fields has no keys
+-- A value without the fields of a node has no keys.
 pub none_added : (depth : ℕ) (d : Data) (old : AddressState) → CanAddNodes depth d old → decoded_node d ≡ None → AddsNodes d old old
 none_added depth d old p e =
     let tip : HasNodes d Tip = subst (HasNodes d) (none_tip p.0 d p.1.nodes e) p.1.nodes in
@@ -74,7 +74,7 @@ module _ (depth : ℕ) (d : Data) (old : AddressState) (n : NodeData) (p : ToAdd
   pub left_can : CanAddNodes (depth - 1) n.left old
   left_can = (p.left, record { nodes = p.left_nodes; height = p.left_height; can = can_below (held_of (blocks p.left)) (own n ++ held_of (blocks p.right)) old p.can })
 
-  -- once the keys to the left are held
+  -- The state after the keys of the left child are added.
   module _ (mid : AddressState) (added : AddsNodes n.left old mid) where
     left_is : mid ≡ with_left
     left_is = added.2 ∙ ap (λ (s : Shape). adding (held_of (blocks s)) old) (one_tree added.0 p.left n.left added.1 p.left_nodes)
@@ -82,7 +82,7 @@ module _ (depth : ℕ) (d : Data) (old : AddressState) (n : NodeData) (p : ToAdd
     pub key_can : CanAdd (own n) mid
     key_can = subst (CanAdd (own n)) (sym left_is) (can_below (own n) (held_of (blocks p.right)) with_left rest_can)
 
-    -- and the node's own
+    -- The state after the key of the node is added too.
     module _ (next : AddressState) (held : next ≡ adding (own n) mid) where
       key_is : next ≡ adding (own n) with_left
       key_is = held ∙ ap (adding (own n)) left_is

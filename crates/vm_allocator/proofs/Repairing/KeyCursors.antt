@@ -1,4 +1,4 @@
--- Blocks that may stand in a row are those of keys in order, few of them held.
+-- Blocks can follow a cursor if and only if their keys are in order and few of them are held.
 use Rattle.std.proofs.Common.{◌≡◌, ℕ, ◌+◌, ◌≤◌, true, cond, ◌&&◌, ◌||◌, leb, ltb, List, [], ◌∷◌, ◌++◌, length, Some, refl, sym, ap, ◌∙◌, subst, arith}
 use Rattle.std.proofs.lemmas.Bool.{and_parts, and_from, leb-true, ltb-true, le-leb, lt-ltb}
 use Rattle.std.proofs.lemmas.Option.{same_Some}
@@ -14,14 +14,14 @@ use Rattle.vm_ranges.specs.declared.state.NodeState.TheVariants.{Free, Allocated
 use Rattle.vm_allocator.specs.declared.saved.repaired.KeyCursor.{KeyCursor}
 use Rattle.vm_engine.proofs.Reading.Cursors.{AreKeys}
 
--- how many are held with one more block
+-- The number of held blocks with one more block.
 abbrev count_with : NodeState → ℕ → ℕ
 count_with s n = cond (is_free s) n (n + 1)
 
 abbrev with_block : KeyCursor → Block → KeyCursor
 with_block cursor b = record { next = b.key.end + 1; held = count_with b.state cursor.held }
 
--- the held ranges of one block and of those behind it
+-- The held ranges of one block and of the blocks after it.
 may_hold : (s : NodeState) (k : Range) (rs : List Range) (n : ℕ) → (is_free s || (ltb k.end MAX && ltb n SPLIT_LIMIT_MIN_HELD)) ≡ true → n ≤ SPLIT_LIMIT_MIN_HELD → AreBelowMax rs → AreBelowMax (range_if_held s k ++ rs) × (count_with s n ≤ SPLIT_LIMIT_MIN_HELD) × (n + length (range_if_held s k ++ rs) ≡ count_with s n + length rs)
 may_hold Free k rs n h f b = (b, f, refl)
 may_hold Allocated k rs n h f b =
@@ -33,7 +33,7 @@ held_may : (s : NodeState) (k : Range) (rs : List Range) (n : ℕ) → AreBelowM
 held_may Free k rs n b f = (refl, b, f)
 held_may Allocated k rs n b f = (and_from _ _ (lt-ltb k.end MAX b.0) (lt-ltb n SPLIT_LIMIT_MIN_HELD (omega arith)), b.1, omega arith)
 
--- what is in a row behind another
+-- The blocks lead from one cursor to another.
 pub record IsInRow (end : ℕ) (bs : List Block) (cursor last : KeyCursor) : Type 0 where
   pub keys : AreKeysIn cursor.next bs end
   pub below : AreBelowMax (held_of bs)

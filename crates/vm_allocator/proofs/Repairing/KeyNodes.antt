@@ -1,4 +1,4 @@
--- The check of keys finds just the nodes that values have.
+-- The check of keys finds exactly the nodes that a value has.
 use Rattle.std.proofs.Common.{◌≡◌, ℕ, zero, suc, ◌≤◌, true, false, cond, Some, is_some, refl, ap, ◌∙◌, arith}
 use Rattle.serde_json.specs.Data.{Data}
 use Rattle.serde_json.specs.Find.{as_null}
@@ -12,7 +12,7 @@ use Rattle.vm_engine.proofs.Reading.Cursors.{after_three, cut_in_three}
 use Rattle.vm_engine.proofs.Reading.ReadNodes.{over_sides, fork_is}
 use Rattle.vm_ranges.proofs.Nulls.{null_of, not_null}
 
--- nodes that the value has, whose blocks stand between two rows
+-- The value has the nodes of s, and their blocks lead from one cursor to another.
 pub record IsFound (end depth : ℕ) (d : Data) (cursor last : KeyCursor) (s : Shape) : Type 0 where
   pub nodes : HasNodes d s
   pub within : height_of s ≤ depth
@@ -21,7 +21,7 @@ pub record IsFound (end depth : ℕ) (d : Data) (cursor last : KeyCursor) (s : S
 found_null : (end depth : ℕ) (d : Data) (cursor last : KeyCursor) → is_some (as_null d) ≡ true → Some cursor ≡ Some last → IsFound end depth d cursor last Tip
 found_null end depth d cursor last z e = record { nodes = null_of d z; within = omega arith; keys = e }
 
--- a node over what is found of its children
+-- The nodes of the children and of the node over them.
 over_found : (end depth : ℕ) (d : Data) (cursor left middle last : KeyCursor) (n : NodeData) (l r : Shape) →
     decoded_node d ≡ Some n → IsFound end depth n.left cursor left l → advance_key end left n.block ≡ Some middle → IsFound end depth n.right middle last r → IsFound end (suc depth) d cursor last (Fork l n.block r)
 over_found end depth d cursor left middle last n l r e il between ir =
@@ -46,7 +46,7 @@ found_fork end depth d cursor last below e =
       over_found end depth d cursor left.0 middle.0 last node.0 l.0 r.0 node.1 l.1 middle.1 r.1,
     )
 
--- what is found are nodes that the value has
+-- The value has the nodes that the check finds.
 pub sound : (end depth : ℕ) (d : Data) (cursor last : KeyCursor) → checked_keys end depth d cursor ≡ Some last → (s : Shape) × IsFound end depth d cursor last s
 unfolding checked_keys
 sound end zero d cursor last e = let q = if_some (is_some (as_null d)) (Some cursor) last e in (Tip, found_null end 0 d cursor last q.0 q.1)
@@ -56,7 +56,7 @@ sound end (suc depth) d cursor last e =
       | false ↦ λ z q. found_fork end depth d cursor last (λ v f r g. sound end depth v f r g) q
     ] refl e
 
--- all nodes that a value has are found
+-- The check finds all nodes that the value has.
 pub complete : (s : Shape) (end depth : ℕ) (d : Data) (cursor last : KeyCursor) → HasNodes d s → height_of s ≤ depth → try_fold_blocks (advance_key end) (blocks s) cursor ≡ Some last → checked_keys end depth d cursor ≡ Some last
 unfolding checked_keys
 complete Tip end zero d cursor last p w e = rw p e

@@ -1,4 +1,4 @@
--- The check of a whole value finds just the values that state an allocator when read with repairs.
+-- The check of a whole value finds exactly the values that encode an allocator when they are read with repairs.
 use Rattle.std.proofs.Common.{◌≡◌, ℕ, ◌+◌, ◌-◌, ◌≤◌, true, cond, List, [], length, Some, None, is_some, codes, refl, sym, ap, ◌∙◌, subst, arith, true≢false, Ok}
 use Rattle.std.proofs.lemmas.Option.{same_Some}
 use Rattle.serde_json.specs.Data.{Data}
@@ -29,7 +29,7 @@ use Rattle.vm_allocator.proofs.Repairing.KeyNodes.{sound, complete}
 abbrev state_with : Range → Shape → AddressState
 state_with space s = record { space = space; held = held_of (blocks s) }
 
--- the value states an allocator, and the root has its keys
+-- The value encodes an allocator, whose keys are those of the root.
 record IsChecked (d : Data) (space : Range) (root : Data) (s : Shape) : Type 0 where
   encoded : EncodesRepaired d (state_with space s)
   nodes : HasNodes root s
@@ -77,7 +77,7 @@ checks d space root e =
 fields_of : (d : Data) (state : AddressState) (p : EncodesRepaired d state) → HasParts d state.space (λ v. HasNodes v p.tree)
 fields_of d state p = record { two_fields = p.two_fields; address_space = p.address_space; interval_tree = p.interval_tree }
 
--- a value that states an allocator passes
+-- A value that encodes an allocator passes the check.
 passes : (d : Data) (state : AddressState) → EncodesRepaired d state → is_some (decoded_repaired d) ≡ true
 passes d state p =
     let parts = parts_are d state.space (λ v. HasNodes v p.tree) (fields_of d state p) in
@@ -86,7 +86,7 @@ passes d state p =
     let found = complete p.tree state.space.end MAX_NESTING_REPAIRED parts.0 (key_cursor_at_start state.space) last.0 parts.2 p.nested last.1 in
     rw (parts.1, found) refl
 
--- a value states one such allocator at most
+-- A value encodes at most one state.
 pub one_repaired : (d : Data) (a b : AddressState) → EncodesRepaired d a → EncodesRepaired d b → a ≡ b
 one_repaired d a b p q =
     let one = one_root d a.space b.space (λ v. HasNodes v p.tree) (λ v. HasNodes v q.tree) (fields_of d a p) (fields_of d b q) in
@@ -96,14 +96,14 @@ one_repaired d a b p q =
     let first : f a.space a.held ≡ f b.space a.held = ap (λ (s : Range). f s a.held) one.1 in
     first ∙ ap (λ (hs : List Range). f b.space hs) held
 
--- it is the state of an allocator
+-- The state that a value encodes is valid.
 pub repaired_state : (d : Data) (state : AddressState) → EncodesRepaired d state → IsAddressState state
 repaired_state d state p =
     let range = (parts_are d state.space (λ v. HasNodes v p.tree) (fields_of d state p)).3 in
     let in_order = keys_in_order state.space.start state.space.end (blocks p.tree) p.keys p.below in
     record { space = range; in_order = subst (λ (hs : List Range). AreInOrder state.space.start hs state.space.end) p.held in_order }
 
--- what is read without repairs is read to the same state with them, where no split of it can be refused for depth
+-- A value that is read without repairs is read with repairs to the same state, if the height never makes a split fail.
 strict_tree : (d : Data) (a : SpaceInTree) → EncodesTree d (λ v. EncodesSpaceTree v a.space a.tree) → EncodesTree d (λ v. HasNodes v a.tree)
 strict_tree d a t = record {
   one_field = t.one_field;
@@ -133,7 +133,7 @@ strict_repaired d state p few =
     let same : state_with a.space a.tree ≡ state = ap (λ (r : Range). state_with r a.tree) (sym (encoded_ends d a p.encoded)) ∙ p.is in
     subst (EncodesRepaired d) same (strict_with d a p.encoded (subst (λ (v : AddressState). length v.held ≤ SPLIT_LIMIT_MIN_HELD) (sym same) few))
 
--- What the code's clauses say.
+-- The facts that the contracts of the code need.
 
 pub none_encoded : (d : Data) → decoded_repaired d ≡ None → ((state : AddressState) × EncodesRepaired d state) → ⊥
 none_encoded d e p = true≢false (sym (passes d p.0 p.1) ∙ ap is_some e)
@@ -141,7 +141,7 @@ none_encoded d e p = true≢false (sym (passes d p.0 p.1) ∙ ap is_some e)
 pub some_encoded : (d : Data) (space : Range) (root : Data) → decoded_repaired d ≡ Some (space, root) → (state : AddressState) × EncodesRepaired d state
 some_encoded d space root e = let c = checks d space root e in (state_with space c.0, c.1.encoded)
 
--- a new allocator of the space
+-- The state of a new allocator for the space.
 module _ (d : Data) (space : Range) (root : Data) (e : decoded_repaired d ≡ Some (space, root)) (new : AddressState) (made : Makes space.start (address_count space) (Ok new)) where
   abbrev fresh : AddressState
   fresh = record { space = space; held = [] }
@@ -153,14 +153,14 @@ module _ (d : Data) (space : Range) (root : Data) (e : decoded_repaired d ≡ So
       (made_is space.start (address_count space) new made).2
       ∙ ap (λ (v : ℕ). record { space = record { start = space.start; end = v }; held = [] }) end
 
-  -- all keys can be held in it
+  -- All held keys can be added to a new allocator.
   pub can_add : CanAddNodes MAX_NESTING_REPAIRED root new
   can_add =
       let c = checks d space root e in
       let can : CanAdd (held_of (blocks c.0)) fresh = record { reached = record { space = c.1.range; in_order = c.1.in_order }; few = c.1.few } in
       (c.0, record { nodes = c.1.nodes; height = c.1.height; can = subst (CanAdd (held_of (blocks c.0))) (sym is_fresh) can })
 
-  -- and once they are, it is what the value states
+  -- After they are added, the state is the state that the value encodes.
   pub added_encoded : (last : AddressState) → AddsNodes root new last → EncodesRepaired d last
   added_encoded last a =
       let c = checks d space root e in

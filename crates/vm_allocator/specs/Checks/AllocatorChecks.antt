@@ -1,4 +1,4 @@
--- What the reading of an allocator's value finds, and what its writing puts together.
+-- The fields that decoding an allocator's value finds, and the object that encoding builds.
 use Rattle.std.specs.Prelude.{◌≡◌, if◌then◌else◌, Option, Some, None, option_map, option_and_then, codes}
 use Rattle.serde_json.specs.Data.{Data}
 use Rattle.serde_json.specs.Find.{get}
@@ -6,18 +6,18 @@ use Rattle.vm_ranges.specs.Fields.{field_count, is_count}
 use Rattle.vm_ranges.specs.Range.{Range}
 use Rattle.vm_ranges.specs.RangeValues.{decoded_range}
 
--- an allocator's two fields, and no other
+-- The value is an object with exactly the two fields of an allocator, and a tree with exactly this root.
 pub record AllocatorParts (d space root : Data) : Type 0 where
   pub two_fields : field_count d ≡ Some 2
   pub space_is : get (codes "address_space") d ≡ Some space
   pub one_field : option_and_then field_count (get (codes "interval_tree") d) ≡ Some 1
   pub root_is : option_and_then (get (codes "root")) (get (codes "interval_tree") d) ≡ Some root
 
--- the root of a tree's value
+-- The root in a tree's value, if it is the only field.
 abbrev pub decoded_root : Data → Option Data
 decoded_root d = if is_count 1 (field_count d) then get (codes "root") d else None
 
--- the fields of an allocator's value: the space, and the root of the tree
+-- The decoded space of an allocator's value and the root of its tree, if there are no other fields.
 abbrev pub decoded_parts : Data → Option (Range × Data)
 decoded_parts d =
     if is_count 2 (field_count d) then

@@ -1,4 +1,4 @@
--- Histories: calls of an address allocator, one after the other.
+-- Histories of an address allocator: lists of calls with their results. A history can go on with a clone.
 use Rattle.std.specs.Prelude.{◌≡◌, ℕ, ◌%◌, ◌≤◌, ◌⊎◌, List, [], ◌∷◌, Result, Ok, Err}
 use Rattle.std.specs.List.{Contains}
 use Rattle.std.specs.Result.{result_unwrap_or}
@@ -13,82 +13,83 @@ use Rattle.vm_allocator.specs.Values.RepairedValues.{EncodesRepaired}
 use Rattle.vm_ranges.specs.declared.error.Error.{Error}
 use Rattle.vm_ranges.specs.declared.error.Error.TheVariants.{OutOfMemory}
 
--- a call with its answer: a request, a range given back, or the making of a clone
+-- A call with its result: a request, the freeing of a range, or the creation of a clone.
 pub data Call : Type 0 where
   Allocation : Request → Result Range Error → Call
   Release : Range → Result (Unit {0}) Error → Call
   Cloning : Result AddressState Error → Call
 
--- what is asked by a call
+-- A call without its result.
 pub data Asked : Type 0 where
   Allocate : Request → Asked
   Free : Range → Asked
   Clone : Asked
 
--- a call without its answer
+-- The call without its result.
 abbrev pub asked_by : Call → Asked
 asked_by (Allocation request answer) = Allocate request
 asked_by (Release r answer) = Free r
 asked_by (Cloning answer) = Clone
 
--- the call was refused for memory
+-- The call returned OutOfMemory.
 abbrev pub RunsOutOfMemory : Call → Type 0
 RunsOutOfMemory (Allocation request answer) = answer ≡ Err OutOfMemory
 RunsOutOfMemory (Release r answer) = ⊥
 RunsOutOfMemory (Cloning answer) = answer ≡ Err OutOfMemory
 
--- in the state old the call has its answer, and leaves new; where a clone is made, new is the state of the clone
+-- In the state old the call has its result, and leaves the state new. After a clone is made, new is the state of the
+-- clone.
 abbrev pub IsCallFrom : AddressState → Call → AddressState → Type 0
 IsCallFrom old (Allocation request answer) new = Allocates old request answer new
 IsCallFrom old (Release r answer) new = Frees old r answer new
 IsCallFrom old (Cloning answer) new = Clones old answer × (new ≡ result_unwrap_or answer old)
 
--- each call is on the state that the one before it left
+-- The calls lead from the state old to the state new: each begins in the state that the call before it left.
 abbrev pub IsHistoryFrom : AddressState → List Call → AddressState → Type 0
 IsHistoryFrom old [] new = new ≡ old
 IsHistoryFrom old (call ∷ calls) new = (mid : AddressState) × IsCallFrom old call mid × IsHistoryFrom mid calls new
 
--- the state of a new allocator
+-- The state of a new allocator.
 pub record IsMade (state : AddressState) : Type 0 where
   pub base : ℕ
   pub size : ℕ
   pub word : size ≤ MAX
   pub made : Makes base size (Ok state)
 
--- the state that a saved value states, read with repairs or without, and so that of the allocator read from it
+-- A state that a saved value encodes, for the reader without repairs or for the reader with repairs.
 pub record IsRead (state : AddressState) : Type 0 where
   pub value : Data
   pub encoded : EncodesAddresses value state ⊎ EncodesRepaired value state
 
--- a history begins with an allocator that is new, or was read
+-- The first state of a history is that of an allocator that is new or was read.
 abbrev pub Begins : AddressState → Type 0
 Begins first = IsMade first ⊎ IsRead first
 
--- the calls lead from an allocator that was made or read to the state, of it or of a clone that one of them made
+-- The calls lead to the state from an allocator that is new or was read. The state can be that of a clone.
 pub record IsReached (calls : List Call) (state : AddressState) : Type 0 where
   pub first : AddressState
   pub begins : Begins first
   pub history : IsHistoryFrom first calls state
 
--- a state, and calls that lead to it from an allocator that was made or read
+-- A state, with calls that lead to it from an allocator that is new or was read.
 pub record Reached : Type 0 where
   pub calls : List Call
   pub state : AddressState
   pub reached : IsReached calls state
 
--- some call gave the range, for as many addresses as it has, at a multiple of the alignment asked for
+-- A call allocated the range, with the requested length and at a multiple of the requested alignment.
 pub record WasAllocated (calls : List Call) (r : Range) : Type 0 where
   pub request : Request
   pub call : Contains calls (Allocation request (Ok r))
   pub aligned : r.start % request.align ≡ 0
   pub long : r ≡ span r.start request.size
 
--- a value that was read stated the range as held
+-- The range is held in the first state, which was read from a value.
 pub record WasRead (first : AddressState) (r : Range) : Type 0 where
   pub read : IsRead first
   pub held : Contains first.held r
 
--- the ranges given back in this order, each with success
+-- The calls that free the ranges in this order, each with success.
 abbrev pub releases : List Range → List Call
 releases [] = []
 releases (r ∷ rs) = Release r (Ok tt) ∷ releases rs

@@ -1,4 +1,4 @@
--- What holds along every history of an address allocator, from one on that was made or read.
+-- Laws of every history of an address allocator that is new or was read.
 use Rattle.std.specs.Prelude.{◌≡◌, ◌≢◌, ℕ, ◌+◌, ◌-◌, ◌<◌, ◌≤◌, ◌⊎◌, ◌↔◌, List, [], ◌∷◌, ◌++◌, map, Result, Ok, Err}
 use Rattle.std.specs.List.{All, Contains}
 use Rattle.std.specs.List.Sorted.{IsPermutation}
@@ -16,29 +16,30 @@ use Rattle.vm_ranges.specs.declared.error.Error.TheVariants.{Overflow, ResourceN
 use Rattle.vm_ranges.specs.declared.state.NodeState.TheVariants.{Allocated}
 use Rattle.vm_ranges.specs.declared.constraint.AllocPolicy.TheVariants.{FirstMatch, LastMatch, ExactMatch}
 
--- a range that FirstMatch gave starts at the least place of the state before
+-- A range that FirstMatch allocates starts at the lowest place of the state before.
 abbrev pub FirstIsLowest : Type 0
 FirstIsLowest =
     (old : Reached) (new : AddressState) (size align : ℕ) (r : Range) →
     Allocates old.state (request_for size align FirstMatch) (Ok r) new →
     IsLowestPlace size align old.state r.start × (r ≡ span r.start size)
 
--- a range that LastMatch gave starts at the greatest place
+-- A range that LastMatch allocates starts at the highest place of the state before.
 abbrev pub LastIsHighest : Type 0
 LastIsHighest =
     (old : Reached) (new : AddressState) (size align : ℕ) (r : Range) →
     Allocates old.state (request_for size align LastMatch) (Ok r) new →
     IsHighestPlace size align old.state r.start × (r ≡ span r.start size)
 
--- a range that ExactMatch gave starts at the named place
+-- A range that ExactMatch allocates starts at the given start, which is a place.
 abbrev pub ExactIsAtItsStart : Type 0
 ExactIsAtItsStart =
     (old : Reached) (new : AddressState) (size align start : ℕ) (r : Range) →
     Allocates old.state (request_for size align (ExactMatch start)) (Ok r) new →
     IsPlace size align old.state start × (r ≡ span start size)
 
--- A request for the n addresses from the start t on is refused for the first of these: the start is MAX; it is outside
--- the space; the range passes MAX; the range is a held one; an address of it is not clear; it ends at MAX.
+-- A request for the n addresses starting at t returns the error of the first condition that is true, in this order: t
+-- is MAX; t is outside the space; the range passes MAX; the range is held; an address of it is not clear; it ends at
+-- MAX.
 pub record FailsInOrder (old : AddressState) (t n : ℕ) (answer : Result Range Error) : Type 0 where
   pub start_is_max : t ≡ MAX → answer ≡ Err Overflow
   pub start_is_outside : t ≢ MAX → ¬ IsIn old.space t → answer ≡ Err ResourceNotAvailable
@@ -48,9 +49,9 @@ pub record FailsInOrder (old : AddressState) (t n : ℕ) (answer : Result Range 
       ¬ AreClear n old t → answer ≡ Err ResourceNotAvailable
   pub ends_at_max : AreClear n old t → t + n - 1 ≡ MAX → answer ≡ Err Overflow
 
--- A request that makes sense is answered by the places: the range at the chosen place is taken if it ends below MAX,
--- and refused if it ends there; where there is no place, and only there, FirstMatch and LastMatch answer that nothing is
--- available; a named start is refused for its first fault.
+-- The places decide the result of a valid request. The range at the chosen place is allocated if it ends below MAX, and
+-- it is Overflow otherwise. FirstMatch and LastMatch return ResourceNotAvailable if and only if there is no place.
+-- ExactMatch returns its first error.
 pub record IsAnsweredByPlaces (old : AddressState) (request : Request)
     (answer : Result Range Error) (new : AddressState) : Type 0 where
   pub taken : (s : ℕ) → IsChosen request old s → s + request.size - 1 < MAX →
@@ -62,41 +63,42 @@ pub record IsAnsweredByPlaces (old : AddressState) (request : Request)
       (s : ℕ) → IsPlace request.size request.align old s → answer ≢ Err ResourceNotAvailable
   pub named : (t : ℕ) → request.policy ≡ ExactMatch t → FailsInOrder old t request.size answer
 
--- so is each request; one that makes no sense is refused as its constraint is, and what is given is the chosen place
+-- The places decide the result of a request. An invalid request returns the error of its constraint, and an allocated
+-- range is at the chosen place.
 pub record IsAnswered (old : AddressState) (request : Request)
     (answer : Result Range Error) (new : AddressState) : Type 0 where
   pub invalid : (e : Error) → MakesConstraint request (Err e) → answer ≡ Err e
   pub valid : IsRequest request → IsAnsweredByPlaces old request answer new
   pub given : (r : Range) → answer ≡ Ok r → IsChosen request old r.start × (r ≡ span r.start request.size)
 
--- each request of a history is answered by the places
+-- In every history the places decide the result of each request.
 abbrev pub PlacesAnswer : Type 0
 PlacesAnswer =
     (old : Reached) (new : AddressState) (request : Request) (answer : Result Range Error) →
     Allocates old.state request answer new → IsAnswered old.state request answer new
 
--- a refusal changes nothing
+-- An error changes nothing.
 pub record ErrorsChangeNothing : Type 0 where
   pub allocation : (old : Reached) (new : AddressState) (request : Request) (e : Error) →
       Allocates old.state request (Err e) new → new ≡ old.state
   pub release : (old : Reached) (new : AddressState) (r : Range) (e : Error) →
       Frees old.state r (Err e) new → new ≡ old.state
 
--- in each state the held ranges lie apart, and each was given as it was asked for, or was held in the value from which
--- the allocator was read
+-- In every history the state is valid and the held ranges are disjoint. Each of them was allocated as requested, or was
+-- held in the value that was read.
 pub record HeldAreValid : Type 0 where
   pub state : (old : Reached) → IsAddressState old.state
   pub apart : (old : Reached) → AreDisjoint old.state
   pub given : (old : Reached) (r : Range) → Contains old.state.held r →
       WasAllocated old.calls r ⊎ WasRead old.reached.first r
 
--- one space, and the same held ranges as sets: that the ascending lists are then equal is proved
+-- Both states have the same space and the same set of held ranges. The sorted lists are then equal, which is proved.
 pub record HaveSameState (first second : AddressState) : Type 0 where
   pub space : first.space ≡ second.space
   pub held : (r : Range) → Contains first.held r ↔ Contains second.held r
 
--- whatever led there, the space and the held ranges alone decide the answer to a call and the state after it, a split
--- that is refused aside
+-- The result of a call and the state after it depend only on the space and the held ranges, except whether a split
+-- fails.
 pub record StateDecides : Type 0 where
   pub allocation : (first second : Reached) (new later : AddressState) (request : Request)
       (answer other : Result Range Error) → HaveSameState first.state second.state →
@@ -106,13 +108,13 @@ pub record StateDecides : Type 0 where
       (answer other : Result (Unit {0}) Error) → HaveSameState first.state second.state →
       Frees first.state r answer new → Frees second.state r other later → (answer ≡ other) × (new ≡ later)
 
--- giving back what was just given succeeds, and leaves the state from before
+-- Freeing the range that was just allocated succeeds, and leaves the state before the allocation.
 abbrev pub FreeUndoes : Type 0
 FreeUndoes =
     (old : Reached) (mid new : AddressState) (request : Request) (r : Range) (answer : Result (Unit {0}) Error) →
     Allocates old.state request (Ok r) mid → Frees mid r answer new → (answer ≡ Ok tt) × (new ≡ old.state)
 
--- ranges that can be given back can be so in every order, and the same ranges leave the same state
+-- Ranges that can be freed in one order can be freed in every order. Freeing the same ranges leaves the same state.
 pub record FreesInAnyOrder : Type 0 where
   pub succeeds : (old : Reached) (new : AddressState) (rs qs : List Range) → IsPermutation rs qs →
       IsHistoryFrom old.state (releases rs) new → IsHistoryFrom old.state (releases qs) new
@@ -120,7 +122,7 @@ pub record FreesInAnyOrder : Type 0 where
       ((r : Range) → Contains rs r ↔ Contains qs r) →
       IsHistoryFrom old.state (releases rs) first → IsHistoryFrom old.state (releases qs) second → first ≡ second
 
--- in every state each call has an answer, and one other than out of memory
+-- In every state each call has a result other than OutOfMemory.
 pub record EveryCallIsAnswered : Type 0 where
   pub made : (base size : ℕ) →
       (answer : Result AddressState Error) × Makes base size answer × (answer ≢ Err OutOfMemory)
@@ -132,34 +134,34 @@ pub record EveryCallIsAnswered : Type 0 where
   pub cloned : (old : AddressState) →
       (answer : Result AddressState Error) × Clones old answer × (answer ≢ Err OutOfMemory)
 
--- so whatever is asked, one after the other, has a history, and one in which no request runs out of memory
+-- Every list of calls has a history in which no call returns OutOfMemory.
 abbrev pub EveryListHasHistory : Type 0
 EveryListHasHistory =
     (old : AddressState) (asked : List Asked) →
     (calls : List Call) × (new : AddressState) × IsHistoryFrom old calls new × (map asked_by calls ≡ asked) ×
     All (λ call. ¬ RunsOutOfMemory call) calls
 
--- a clone of what is reached is reached, and has the state of the original
+-- A clone of a reached allocator is reached, and has the state of its original.
 abbrev pub CloneIsReached : Type 0
 CloneIsReached =
     (old : Reached) (clone : AddressState) → Clones old.state (Ok clone) →
     (clone ≡ old.state) × IsReached (old.calls ++ Cloning (Ok clone) ∷ []) clone
 
--- the state of an allocator that was read is reached, by no call
+-- The state of an allocator that was read is reached without a call.
 abbrev pub ReadIsReached : (Data → AddressState → Type 0) → Type 0
 ReadIsReached States = (value : Data) (state : AddressState) → States value state → IsReached [] state
 
--- allocators with one space and the same held ranges are equal, whatever the calls that led there
+-- Reached allocators with the same space and the same held ranges are equal, whatever calls led there.
 abbrev pub EqualStatesAreEqual : Type 0
 EqualStatesAreEqual = (first second : Reached) → HaveSameState first.state second.state → AreEqual first.state second.state
 
--- giving back what was just given makes an allocator equal to the one from before
+-- Freeing the range that was just allocated makes the allocator equal to the allocator before the allocation.
 abbrev pub FreeMakesEqual : Type 0
 FreeMakesEqual =
     (old : Reached) (mid new : AddressState) (request : Request) (r : Range) (answer : Result (Unit {0}) Error) →
     Allocates old.state request (Ok r) mid → Frees mid r answer new → AreEqual new old.state
 
--- giving back the same ranges makes equal allocators, whatever the order
+-- Freeing the same ranges makes equal allocators, whatever the order.
 abbrev pub FreesInAnyOrderMakeEqual : Type 0
 FreesInAnyOrderMakeEqual =
     (old : Reached) (first second : AddressState) (rs qs : List Range) →

@@ -1,4 +1,4 @@
--- What follows from the definitions of saved values alone.
+-- Laws of saved values that follow only from the definitions.
 use Rattle.std.specs.Prelude.{◌≡◌, ◌≤◌, ◌⊎◌, length, Result, Ok, Err}
 use Rattle.serde_json.specs.Data.{Data}
 use Rattle.serde_json.specs.View.{view}
@@ -11,19 +11,19 @@ use Rattle.vm_ranges.specs.Saving.{Saves, Reads}
 use Rattle.vm_ranges.specs.declared.saved.ValueError.{ValueError}
 use Rattle.vm_ranges.specs.declared.saved.ValueError.TheVariants.{OutOfMemory}
 
--- a value states one object at most
+-- A value encodes at most one object.
 abbrev pub EncodesAtMostOne : {X : Type 0} → (Data → X → Type 0) → Type 0
 EncodesAtMostOne {X} States = (d : Data) (first second : X) → States d first → States d second → first ≡ second
 
--- what is written of an object is read as this object, unless there is no memory for reading it
+-- The value that was written for an object is read as this object, unless memory runs out.
 abbrev pub ReadsWritten : {X : Type 0} → (Data → X → Type 0) → Type 0
 ReadsWritten {X} States =
     (old : X) (value : Value) (answer : Result X ValueError) →
     Saves (λ d. States d old) (Ok value) → Reads (States (view value)) answer →
     (answer ≡ Ok old) ⊎ (answer ≡ Err OutOfMemory)
 
--- a value that is read without repairs is read to the same state with them, unless there is no memory, where so few
--- ranges are held that no split of them can be refused for depth
+-- A value that is read without repairs is read with repairs to the same state, unless memory runs out. At most
+-- SPLIT_LIMIT_MIN_HELD ranges are held, so the height never makes a split fail.
 abbrev pub ReadersAgree : Type 0
 ReadersAgree =
     (value : Value) (state : AddressState) (answer : Result AddressState ValueError) →

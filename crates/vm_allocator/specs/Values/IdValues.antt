@@ -9,27 +9,27 @@ use Rattle.vm_ranges.specs.Lists.{EncodesListOf}
 use Rattle.vm_ranges.specs.Numbers.{whole_number, number_in}
 use Rattle.vm_allocator.specs.Ids.{MAX_ID, IdState, WasEverAllocated, IsHeld, IsNext, bound_of}
 
--- what the fields say: the range, the next id, and the ids given back
+-- The fields of a saved id allocator: its range, the next id and the freed ids.
 pub record IdFields : Type 0 where
   pub range_base : ℕ
   pub next_id : Option ℕ
   pub range_end : ℕ
   pub freed_ids : List ℕ
 
--- null for no next id, and else its number
+-- The value encodes the next id: null if there is none, otherwise its number.
 abbrev pub EncodesNext : Data → Option ℕ → Type 0
 EncodesNext d None = d ≡ null
 EncodesNext d (Some n) = whole_number d ≡ Some n
 
--- the value is the whole number
+-- The value is the whole number n.
 abbrev pub EncodesNumber : Data → ℕ → Type 0
 EncodesNumber d n = whole_number d ≡ Some n
 
--- the value is the list of these whole numbers
+-- The value is the list of these whole numbers.
 abbrev pub EncodesList : Data → List ℕ → Type 0
 EncodesList d ns = EncodesListOf EncodesNumber d ns
 
--- the value is an object of these four fields alone
+-- The value is an object with exactly these four fields.
 pub record HasIdFields (d : Data) (fields : IdFields) : Type 0 where
   pub four_fields : field_count d ≡ Some 4
   pub range_base : number_in (codes "range_base") d ≡ Some fields.range_base
@@ -37,7 +37,8 @@ pub record HasIdFields (d : Data) (fields : IdFields) : Type 0 where
   pub range_end : number_in (codes "range_end") d ≡ Some fields.range_end
   pub freed_ids : FieldIs (codes "freed_ids") d (λ v. EncodesList v fields.freed_ids)
 
--- the range has an id, the next id fits it, and the ids given back rise and were handed out
+-- The fields are valid: the range is not empty, the next id is valid, and the freed ids are strictly increasing and
+-- were allocated at some time.
 pub record AreIdFields (fields : IdFields) : Type 0 where
   pub range : fields.range_base ≤ fields.range_end
   pub ids : fields.range_end ≤ MAX_ID
@@ -46,14 +47,15 @@ pub record AreIdFields (fields : IdFields) : Type 0 where
   pub ever_allocated :
       All (λ i. (fields.range_base ≤ i) × (i < bound_of fields.next_id fields.range_end)) fields.freed_ids
 
--- the ids handed out are those before the next one, and held are these but for those given back
+-- The fields represent the state: the ids before the next id were allocated at some time, and those that are not freed
+-- are held.
 pub record AreIdsOf (fields : IdFields) (state : IdState) : Type 0 where
   pub lo : state.lo ≡ fields.range_base
   pub hi : state.hi ≡ fields.range_end
   pub bound : state.bound ≡ bound_of fields.next_id fields.range_end
   pub held : (i : ℕ) → IsHeld state i ↔ (WasEverAllocated state i × ¬ Contains fields.freed_ids i)
 
--- the value states an id allocator with this range, these ids handed out and these held
+-- The value encodes an id allocator with this state.
 pub record EncodesIds (d : Data) (state : IdState) : Type 0 where
   pub fields : IdFields
   pub written : HasIdFields d fields

@@ -1,5 +1,5 @@
--- The saved values of address allocators that are read with repairs: those of the Rust crate vm-allocator 0.1.4, which
--- may have lost a tree, left free neighbours apart or kept gaps between the keys.
+-- The saved values that are read with repairs. Bugs of the Rust crate vm-allocator 0.1.4 can lose the tree, leave free
+-- neighbours, or leave gaps between keys.
 use Rattle.std.specs.Prelude.{◌≡◌, ℕ, ◌≤◌, length, codes, Some}
 use Rattle.serde_json.specs.Data.{Data}
 use Rattle.vm_ranges.specs.Fields.{field_count, FieldIs}
@@ -11,13 +11,14 @@ use Rattle.vm_ranges.specs.RangeValues.{EncodesRange}
 use Rattle.vm_engine.specs.Values.TreeValues.{HasNodes}
 use Rattle.vm_allocator.specs.Values.AllocatorValues.{EncodesTree}
 
--- no tree that the Rust crate saves is higher
+-- The maximum nesting of nodes: no tree that the Rust crate saves is higher.
 abbrev pub MAX_NESTING_REPAIRED : ℕ
 MAX_NESTING_REPAIRED = 50
 
--- The value is an object of a space and a tree alone; the tree has any nodes or none, is not too high, and its keys stand
--- in order in the space. None of those held ends at MAX, and they are so few that no split of them can be refused for
--- depth. They are the held ranges of the state, and all else in its space is clear.
+-- The value is an object with exactly a space and a tree. The tree has any nodes or none, nested at most
+-- MAX_NESTING_REPAIRED deep, and its keys are in order in the space. Held keys end below MAX. At most
+-- SPLIT_LIMIT_MIN_HELD keys are held, so the height never makes a split fail. They are the held ranges of the state,
+-- and all other addresses of its space are clear.
 pub record EncodesRepaired (d : Data) (state : AddressState) : Type 0 where
   pub tree : Shape
   pub two_fields : field_count d ≡ Some 2

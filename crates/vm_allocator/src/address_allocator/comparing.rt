@@ -1,5 +1,7 @@
-//! Equality and order of allocators: by their states, whatever the shapes of their trees. Both stand
-//! here and for trees too, since each is a trait's implementation with a clause of its own.
+//! Equality and order of allocators.
+//!
+//! Both compare states, so the shapes of the trees do not matter. `IntervalTree` implements the
+//! same traits with its own contracts.
 ghost use Rattle.std.specs.Prelude.{◌≡◌, ◌↔◌, IsTrue, Some};
 ghost use Rattle.std.proofs.Common.{rules};
 ghost use Rattle.std.specs.Cmp.Rules.{comparing};
@@ -17,8 +19,9 @@ impl PartialEq for AddressAllocator {
 
     ghost laws = { Prim.search (comparing, state_cmp-total, rules) };
 
-    /// Whether the spaces and the held ranges are the same. It takes no memory and stops at the first
-    /// difference.
+    /// Returns whether both allocators have the same space and the same allocated ranges.
+    ///
+    /// It stops at the first difference and does not allocate.
     #[tactic(auto, using(vm_engine::proofs::Comparing::StateOrders::allocators_compared))]
     fn eq(&self, other: &AddressAllocator) -> bool
         ensures equal { IsTrue result ↔ AreEqual (state_of self.now) (state_of other.now) }
@@ -37,7 +40,7 @@ impl PartialOrd for AddressAllocator {
 
     ghost laws = { Prim.search (comparing, state_cmp-total, rules) };
 
-    /// As `cmp` compares.
+    /// Compares like `cmp`.
     fn partial_cmp(&self, other: &AddressAllocator) -> Option<Ordering>
         ensures { result ≡ Some (state_cmp (state_of self.now) (state_of other.now)) }
     {
@@ -54,9 +57,11 @@ impl Ord for AddressAllocator {
 
     ghost matches_eq = { Prim.search (comparing, rules) };
 
-    /// By the space, then by the first blocks that differ: by start, then by end, then by state, where
-    /// clear is less. An allocator whose blocks are a beginning of the other's is less. It takes no
-    /// memory and stops at the first difference.
+    /// Compares the spaces, then the first blocks that differ.
+    ///
+    /// Blocks are compared by start, then by end, then by state, where `Free` is less than
+    /// `Allocated`. If the blocks of one allocator are a prefix of the blocks of the other, it is
+    /// less. It stops at the first difference and does not allocate.
     #[tactic(auto, using(vm_engine::proofs::Comparing::StateOrders::allocators_compared))]
     fn cmp(&self, other: &AddressAllocator) -> Ordering
         ensures order { result ≡ state_cmp (state_of self.now) (state_of other.now) }

@@ -1,4 +1,4 @@
-//! A private question: whether an id is one of the range.
+//! Tests a private function: whether an id is in the range.
 use super::*;
 use std::test::Fail;
 

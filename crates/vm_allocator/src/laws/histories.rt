@@ -1,5 +1,7 @@
-//! Laws of whole histories: every list of calls of an address allocator, from one on that was made or
-//! read, clones made on the way among them.
+//! Laws of histories of an address allocator.
+//!
+//! A history is a list of calls of an allocator that was created or read. It can go on with a
+//! clone.
 ghost use Rattle.vm_allocator.specs.Several.{HeldAsAllocated};
 ghost use Rattle.vm_allocator.specs.Values.AllocatorValues.{EncodesAddresses};
 ghost use Rattle.vm_allocator.specs.Values.RepairedValues.{EncodesRepaired};
@@ -22,65 +24,71 @@ ghost use Rattle.vm_allocator.specs.Laws.HistoryLaws.{
   FreesInAnyOrderMakeEqual,
 };
 
-/// In every history `FirstMatch` gives the least place, `LastMatch` the greatest and `ExactMatch` the
-/// named one.
+/// Proves that in every history `FirstMatch` allocates the lowest place, `LastMatch` the highest
+/// place, and `ExactMatch` the place at its start.
 fn chosen_places_are_allocated()
     ensures first { FirstIsLowest }
     ensures last { LastIsHighest }
     ensures exact { ExactIsAtItsStart }
 {}
 
-/// Each request is answered by the places, and a refusal changes nothing.
+/// Proves that the places decide the result of each request, and that an error changes nothing.
 fn places_answer()
     ensures answers { PlacesAnswer }
     ensures refusals { ErrorsChangeNothing }
 {}
 
-/// The held ranges have no address in common, lie in the space and do not contain `u64::MAX`; each is
-/// aligned and as long as was asked, or was stated by the value that was read.
+/// Proves that allocated ranges never overlap, lie in the space and do not contain `u64::MAX`.
+///
+/// Each of them has the requested length and alignment, or was allocated in the value that was
+/// read.
 #[tactic(auto, using(crate::proofs::Histories::AlongHistories::held_good))]
 fn held_are_valid()
     ensures { HeldAreValid }
 {}
 
-/// The space and the held ranges alone decide what a call answers.
+/// Proves that the result of a call depends only on the space and the allocated ranges, except
+/// whether a split fails.
 #[tactic(auto, using(crate::proofs::Histories::AlongHistories::decided))]
 fn state_decides()
     ensures { StateDecides }
 {}
 
-/// Ranges that are held from the start are held as if allocated one after the other.
+/// Proves that ranges which are held from the start are held as if they were allocated one after
+/// the other.
 #[tactic(auto, using(crate::proofs::Answers::HeldOnes::held_ones, crate::proofs::Answers::HeldFaults::faults))]
 fn held_is_allocated()
     ensures { HeldAsAllocated }
 {}
 
-/// What is given back leaves no trace, in whatever order.
+/// Proves that freed ranges leave no trace, in whatever order they are freed.
 fn frees_leave_no_trace()
     ensures undone { FreeUndoes }
     ensures order { FreesInAnyOrder }
 {}
 
-/// Every call has an answer in every state, and so every list of calls a history.
+/// Proves that every call has a result in every state, so every list of calls has a history.
 #[tactic(auto, using(crate::proofs::Answers::EveryAddressCall::answers))]
 fn every_call_is_answered()
     ensures call { EveryCallIsAnswered }
     ensures list { EveryListHasHistory }
 {}
 
-/// A clone is reached as its original is, so all that holds of every history holds of clones.
+/// Proves that a clone is reached by a history. So what is true for every history is true for
+/// clones.
 fn clones_are_reached()
     ensures { CloneIsReached }
 {}
 
-/// An allocator that was read, with repairs or without, is reached too, by no call, so all that holds of
-/// every history holds of it.
+/// Proves that an allocator that was read, with or without repairs, is reached by a history without
+/// calls. So what is true for every history is true for it.
 fn reads_are_reached()
     ensures read { ReadIsReached EncodesAddresses }
     ensures repaired { ReadIsReached EncodesRepaired }
 {}
 
-/// Allocators that hold the same are equal, whatever the order and the kind of the calls before.
+/// Proves that allocators with the same space and the same allocated ranges are equal. The order
+/// and the kind of the calls before do not matter.
 fn equal_states_are_equal()
     ensures any { EqualStatesAreEqual }
     ensures undone { FreeMakesEqual }

@@ -1,5 +1,7 @@
-//! Laws of whole histories: every list of calls of an id allocator, from one on that was made or read,
-//! clones made on the way among them.
+//! Laws of histories of an id allocator.
+//!
+//! A history is a list of calls of an allocator that was created or read. It can go on with a
+//! clone.
 ghost use Rattle.vm_allocator.specs.Laws.IdHistoryLaws.{
   EachIsLowestNotHeld,
   NoIdIsHeldTwice,
@@ -11,34 +13,37 @@ ghost use Rattle.vm_allocator.specs.Laws.IdHistoryLaws.{
   IdReadIsReached,
 };
 
-/// In every history each id given is the least that is not held, and none is held twice.
+/// Proves that in every history each allocated id is the lowest free one, and no id is allocated
+/// twice at the same time.
 #[tactic(auto, using(crate::proofs::Ids::AlongIdHistories::lowest_ids))]
 fn lowest_ids_are_allocated()
     ensures lowest { EachIsLowestNotHeld }
     ensures twice { NoIdIsHeldTwice }
 {}
 
-/// An id is held exactly if it was given out, or held in the value that was read, and not given back
-/// since.
+/// Proves which ids are allocated: the ids that a call allocated or that were allocated in the
+/// value that was read, without the ids that were freed since.
 #[tactic(auto, using(crate::proofs::Ids::AlongIdHistories::held_ids))]
 fn held_ids_are_allocated()
     ensures held { HeldIsAllocated }
     ensures states { StatesAreOfIds }
 {}
 
-/// Every call has an answer in every state, and so every list of calls a history.
+/// Proves that every call has a result in every state, so every list of calls has a history.
 #[tactic(auto, using(crate::proofs::Ids::EveryIdCall::answers))]
 fn every_id_call_is_answered()
     ensures call { EveryIdCallIsAnswered }
     ensures list { EveryIdListHasHistory }
 {}
 
-/// A clone is reached as its original is, so all that holds of every history holds of clones.
+/// Proves that a clone is reached by a history. So what is true for every history is true for
+/// clones.
 fn id_clones_are_reached()
     ensures { IdCloneIsReached }
 {}
 
-/// An allocator that was read is reached too, by no call, so all that holds of every history holds of it.
+/// Proves that an allocator that was read is reached by a history without calls. So what is true
+/// for every history is true for it.
 fn id_reads_are_reached()
     ensures { IdReadIsReached }
 {}

@@ -1,4 +1,4 @@
-//! Laws of ids.
+//! Laws of ids that follow from the definitions of the calls.
 ghost use Rattle.vm_allocator.specs.Laws.IdLaws.{
   MakingIsDetermined,
   AllocatingIsDetermined,
@@ -10,7 +10,7 @@ ghost use Rattle.vm_allocator.specs.Laws.IdLaws.{
   IdCountFindsAll,
 };
 
-/// From one state a call has one answer and one next state, out of memory aside.
+/// Proves that a call has one result and one next state in each state, unless memory runs out.
 #[tactic(auto, using(crate::proofs::Ids::IdAnswers::determined))]
 fn calls_are_determined()
     ensures makes { MakingIsDetermined }
@@ -19,20 +19,22 @@ fn calls_are_determined()
     ensures frees { FreeingIsDetermined }
 {}
 
-/// The ids handed out are the first of the range, and the held ones are among them.
+/// Proves that the calls preserve the valid states: the ids ever allocated are the first ids of the
+/// range, and only such ids are allocated.
 #[tactic(auto, using(crate::proofs::Ids::IdAnswers::kept))]
 fn id_states_are_preserved()
     ensures { IdStateIsPreserved }
 {}
 
-/// What an id that is taken or given back changes.
+/// Proves that allocating or freeing an id changes only this id.
 #[tactic(auto, using(crate::proofs::Ids::IdAnswers::changes))]
 fn one_id_changes()
     ensures takes { AllocatingAdds }
     ensures frees_one { FreeingRemoves }
 {}
 
-/// As many different held ids as are held are all of them.
+/// Proves that a list of different allocated ids contains all allocated ids if and only if its
+/// length is their number.
 #[tactic(auto, using(crate::proofs::Ids::IdCounts::listings))]
 fn id_counts_find_all()
     ensures { IdCountFindsAll }

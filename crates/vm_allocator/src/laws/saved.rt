@@ -5,7 +5,7 @@ ghost use Rattle.vm_allocator.specs.Values.RepairedValues.{EncodesRepaired};
 ghost use Rattle.vm_allocator.specs.Values.IdValues.{EncodesIds};
 ghost use Rattle.vm_allocator.specs.Laws.ValueLaws.{EncodesAtMostOne, ReadsWritten, ReadersAgree};
 
-/// A value states one object of a type at most.
+/// Proves that a value encodes at most one object of each type.
 #[tactic(auto, using(crate::proofs::Reading::ReadAgain::one_object))]
 fn values_encode_at_most_one()
     ensures ranges { EncodesAtMostOne EncodesRange }
@@ -15,8 +15,8 @@ fn values_encode_at_most_one()
     ensures repaired { EncodesAtMostOne EncodesRepaired }
 {}
 
-/// What `to_value` writes of an object `from_value` reads as this object, node for node, unless it is
-/// refused memory.
+/// Proves that `from_value` reads the value that `to_value` writes, and returns the same object,
+/// node for node, unless memory runs out.
 #[tactic(auto, using(crate::proofs::Reading::ReadAgain::read_again))]
 fn written_is_read()
     ensures ranges { ReadsWritten EncodesRange }
@@ -25,8 +25,9 @@ fn written_is_read()
     ensures id_allocators { ReadsWritten EncodesIds }
 {}
 
-/// A value that `from_value` reads with at most 6,293,134,512 held ranges `from_value_repaired` reads to
-/// the same space and held ranges, unless it is refused memory; so the two allocators are equal.
+/// Proves that both readers return equal allocators, unless memory runs out.
+///
+/// This is true for each value that `from_value` reads with at most 6,293,134,512 allocated ranges.
 fn both_readers_agree()
     ensures { ReadersAgree }
 {}

@@ -1,4 +1,4 @@
-//! The saved form of an id allocator.
+//! The saved value of an id allocator.
 ghost use Rattle.std.specs.Prelude.{◌≡◌, ◌≤◌, ◌<◌, ◌+◌, ◌^◌, IfOk, IsSome, Some, is_some, option_map, option_and_then};
 ghost use Rattle.std.specs.List.Sorted.{IsStrictlySortedBy};
 ghost use Rattle.std.specs.Ordering.{nat_cmp};
@@ -17,8 +17,11 @@ use std::collections::BTreeSet;
 use vm_ranges::{Result, ValueError, has_fields, list_in, u32_from, u32_in};
 
 impl IdAllocator {
-    /// The value that states the allocator: its range, the next id and the ids given back.
-    /// `OutOfMemory` where there is no memory for it.
+    /// Encodes the allocator as a value: its range, the next id and the freed ids.
+    ///
+    /// # Errors
+    ///
+    /// - `OutOfMemory` if an allocation of memory fails.
     #[tactic(auto, using(crate::proofs::Ids::ReadIdStates::written))]
     pub fn to_value(&self, alloc: Global) -> Result<Value>
         ensures { Saves (λ d. EncodesIds d self.now) result }
@@ -28,9 +31,16 @@ impl IdAllocator {
         Ok(ids_object(alloc, self.range_base, next, self.range_end, freed)?)
     }
 
-    /// The allocator that a value states: its range, the ids ever handed out and those held.
-    /// `NotAState` where the value states none, and else `OutOfMemory` where there is no memory for the
-    /// ids given back. To find out which takes no memory.
+    /// Decodes an allocator from a value: its range, the ids that were allocated at some time, and
+    /// the ids that are allocated now.
+    ///
+    /// The value can be untrusted input. All of it is checked before memory is allocated.
+    ///
+    /// # Errors
+    ///
+    /// In this order:
+    /// - `NotAState` if the value does not encode an allocator.
+    /// - `OutOfMemory` if an allocation of memory fails.
     pub fn from_value(alloc: Global, value: &Value) -> std::result::Result<Self, ValueError>
         ensures answer { Reads (EncodesIds (view value.now)) result }
         ensures state { IfOk result (λ ids. IsIdState ids) }
@@ -49,7 +59,7 @@ impl IdAllocator {
     }
 }
 
-/// The value of a next id.
+/// Encodes the next id as a number, or as null if there is none.
 fn encode_next(next: Option<u32>) -> Value
     ensures { EncodesNext (view result) next }
 {
@@ -59,7 +69,7 @@ fn encode_next(next: Option<u32>) -> Value
     }
 }
 
-/// The list of ids given back.
+/// Encodes the freed ids as a list, in increasing order.
 fn encode_ids(alloc: Global, ids: &BTreeSet<u32>) -> std::result::Result<Value, AllocError>
     ensures answer { IfOk result (λ list. EncodesList (view list) ids.now.keys) }
     ensures increasing { IsStrictlySortedBy nat_cmp ids.now.keys }
@@ -71,7 +81,7 @@ fn encode_ids(alloc: Global, ids: &BTreeSet<u32>) -> std::result::Result<Value, 
     Ok(Value::from(list))
 }
 
-/// The object of an id allocator's fields.
+/// Builds the object with the fields of an id allocator.
 fn ids_object(
     alloc: Global,
     base: u32,
@@ -81,11 +91,11 @@ fn ids_object(
 ) -> std::result::Result<Value, AllocError>
     ensures { IfOk result (λ value. IdParts (view value) base (view next) end (view freed)) }
 {
-    // The numbers come last: so a refusal has less to drop.
+    // The numbers are last: if an allocation for them fails, only the object has to be dropped.
     json!(in alloc; {"next_id": next, "freed_ids": freed, "range_base": base, "range_end": end})
 }
 
-/// The fields of an id allocator's value; all of them are checked.
+/// The decoded fields of an id allocator's value. All of them are checked.
 #[derive(Drop)]
 struct CheckedIds<'a> {
     base: u32,
@@ -94,7 +104,7 @@ struct CheckedIds<'a> {
     freed: &'a Vec<Value>,
 }
 
-/// What the fields of a value say, where it states an id allocator.
+/// Decodes and checks the fields of a value. Returns `None` if it does not encode an id allocator.
 fn check_ids(value: &Value) -> Option<CheckedIds<'_>>
     ensures { option_map (λ c. (c.base, c.next, c.end, items_view c.freed.now.items)) result
         ≡ decoded_ids (view value.now) }
@@ -120,7 +130,8 @@ fn check_ids(value: &Value) -> Option<CheckedIds<'_>>
     None
 }
 
-/// The next id that a value states.
+/// Decodes a next id. Returns `Some(None)` for null, and `None` if the value is not a 32-bit
+/// number.
 fn decode_next(value: &Value) -> Option<Option<u32>>
     ensures { result ≡ decoded_next (view value.now) }
 {
@@ -130,14 +141,14 @@ fn decode_next(value: &Value) -> Option<Option<u32>>
     Some(Some(u32_from(value.as_u64()?)?))
 }
 
-/// The next id in a field.
+/// Decodes the next id in the field `name`.
 fn next_in(value: &Value, name: &str) -> Option<Option<u32>>
     ensures { result ≡ option_and_then decoded_next (get name.now (view value.now)) }
 {
     decode_next(value.get(name)?)
 }
 
-/// Whether this may be the next id of a range.
+/// Returns whether `next` can be the next id of the range from `base` to `end`.
 fn is_next(next: Option<u32>, base: u32, end: u32) -> bool
     ensures { result ≡ is_next next base end }
 {
@@ -147,7 +158,8 @@ fn is_next(next: Option<u32>, base: u32, end: u32) -> bool
     }
 }
 
-/// Whether the items are whole numbers that rise from `lowest` on and stay below `bound`.
+/// Returns whether the items are whole numbers in strictly increasing order, at least `lowest` and
+/// below `bound`.
 #[tactic(auto, using(crate::proofs::Ids::IncreasingNumbers::increasing_steps))]
 fn are_increasing(list: &[Value], lowest: u64, bound: u64) -> bool
     requires { bound < 2 ^ 64 }
@@ -166,7 +178,8 @@ fn are_increasing(list: &[Value], lowest: u64, bound: u64) -> bool
     true
 }
 
-/// The set of the numbers, which rise from `lowest` on and stay below `bound`.
+/// Collects the numbers into a set. They are in strictly increasing order, at least `lowest` and
+/// below `bound`.
 fn collect_ids(
     alloc: Global,
     list: &[Value],

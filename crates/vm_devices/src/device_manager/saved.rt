@@ -1,5 +1,4 @@
-//! The saved form of a manager: its version, both allocators, and the list of its devices. A value may
-//! come from a stranger; it is read only where all of this fits together.
+//! The saved value of a manager: its version, both allocators, and the list of its devices.
 ghost use Rattle.std.specs.Prelude.{◌≡◌, IfOk, option_map};
 ghost use Rattle.serde_json.specs.View.{view, items_view};
 ghost use Rattle.vm_ranges.specs.Saving.{Saves};
@@ -18,12 +17,16 @@ use std::alloc::{AllocError, Global};
 use vm_allocator::{AddressAllocator, IdAllocator, Result, ValueError};
 use vm_ranges::{has_fields, list_in, number_in};
 
-/// The version of the saved form.
+/// The version of the saved value.
 const VERSION: u64 = 1;
 
 impl DeviceManager {
-    /// The value that states the manager: its version, its ids, its space and its devices, by rising
-    /// ids. `OutOfMemory` where there is no memory for it.
+    /// Encodes the manager as a value: its version, its ids, its space and its devices, by
+    /// increasing ids.
+    ///
+    /// # Errors
+    ///
+    /// - `OutOfMemory` if an allocation fails.
     pub fn to_value(&self, alloc: Global) -> Result<Value>
         ensures { Saves (λ d. EncodesManager d self.now) result }
     {
@@ -33,10 +36,21 @@ impl DeviceManager {
         Ok(manager_object(alloc, ids, space, slots)?)
     }
 
-    /// The manager that a value states: its ids, its space and its devices. `NotAState` where the value
-    /// states none: the version is another, a part states nothing, ids do not rise, a device has an id
-    /// or a range that is not held, or a held one has no device. Its parts are read in turn, so
-    /// `OutOfMemory` may come for any value.
+    /// Decodes a manager from a value: its ids, its space and its devices.
+    ///
+    /// The value can be untrusted input. Its parts are read one after the other, so `OutOfMemory`
+    /// is possible for every value.
+    ///
+    /// # Errors
+    ///
+    /// - `NotAState` if one of these is true:
+    ///   - The fields or the version are not those of a manager.
+    ///   - A part of the value is not valid.
+    ///   - The ids of the devices are not in increasing order.
+    ///   - The id or the range of a device is not allocated.
+    ///   - An allocated id or range has no device.
+    ///   - Two devices have the same range.
+    /// - `OutOfMemory` if an allocation fails.
     #[tactic(auto, using(crate::proofs::ManagerFields::no_fields))]
     pub fn from_value(alloc: Global, value: &Value) -> std::result::Result<Self, ValueError>
         ensures answer { ReadsInParts (EncodesManager (view value.now)) result }
@@ -56,7 +70,7 @@ impl DeviceManager {
     }
 }
 
-/// The object of a manager's fields.
+/// Builds the object with the fields of a manager.
 fn manager_object(
     alloc: Global,
     ids: Value,
@@ -65,11 +79,11 @@ fn manager_object(
 ) -> std::result::Result<Value, AllocError>
     ensures { IfOk result (λ value. ManagerParts (view value) (view ids) (view space) (view slots)) }
 {
-    // The version comes last: so a refusal has less to drop.
+    // The version is last: if an allocation for it fails, only the object has to be dropped.
     json!(in alloc; {"id_allocator": ids, "mmio_allocator": space, "slots": slots, "version": VERSION})
 }
 
-/// What stands in the fields of a manager's value.
+/// The values of the fields of a manager's value.
 #[derive(Drop)]
 struct Fields<'a> {
     ids: &'a Value,
@@ -77,7 +91,7 @@ struct Fields<'a> {
     slots: &'a Vec<Value>,
 }
 
-/// What stands in the fields of a value, where they are those of a manager, of this version.
+/// Returns the fields of a value, or `None` if they are not those of a manager of this version.
 fn decode_fields(value: &Value) -> Option<Fields<'_>>
     ensures { option_map (λ f. (view f.ids.now, view f.space.now, items_view f.slots.now.items)) result
         ≡ decoded_manager (view value.now) }

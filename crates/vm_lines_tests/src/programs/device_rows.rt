@@ -1,7 +1,7 @@
-//! Lines on devices, each with its answer.
+//! Lines on devices, each with its reply.
 use super::rows::Rows;
 
-/// A device takes an id and a range together, and gives both back.
+/// A device has an id and a range together, and both are freed together.
 pub const PROGRAM_DEVICES: Rows = &[
     ("device 1 1", "error no-manager"),
     ("manager 0 1 4096 4096", "done"),
@@ -15,8 +15,8 @@ pub const PROGRAM_DEVICES: Rows = &[
     ("device 4096 1", "device 0 4096 8191"),
 ];
 
-/// Which refusal comes first, that of the id before that of the range; a refused manager keeps the
-/// old one.
+/// The error of the id is before the error of the range. An error for a new manager keeps the old
+/// one.
 pub const ERRORS_OF_DEVICES: Rows = &[
     ("undevice 0", "error no-manager"),
     ("device 0 3", "error no-manager"),
@@ -49,7 +49,7 @@ pub const ERRORS_OF_DEVICES: Rows = &[
     ("device 0 3", "error overflow"),
 ];
 
-/// The ids of these lines have 32 bits, the other numbers 64.
+/// The ids of these lines have 32 bits, and the other numbers have 64 bits.
 pub const WORDS_ON_DEVICES: Rows = &[
     ("manager", "error line"),
     ("manager 0", "error line"),

@@ -1,10 +1,12 @@
-//! Programs of which one request for memory is refused, over a slice and into an array, so that
-//! nothing but the calls of their lines asks for any. tests/refused_memory refuses the requests in
-//! turn.
+//! Programs in which one allocation fails.
+//!
+//! They read from a slice and write into an array, so only the calls of their lines allocate.
+//! tests/refused_memory makes each allocation fail in turn.
 use super::*;
 use std::env::Env;
 
-/// The answers where no request is refused, and where the first, the second .. is.
+/// The replies if no allocation fails, and the replies if the first, the second .. allocation
+/// fails.
 type Columns = &'static [&'static str];
 
 const TWO_REQUESTS: Columns = &[
@@ -26,7 +28,7 @@ const REQUESTS_OF_DEVICES: Columns = &[
     "done\ndevice 0 16 16\ndevice 1 17 19\nerror memory\ndone\ndevice 0 16 16\n",
 ];
 
-/// A line comes again where memory ran out for it: the space of before stands until then.
+/// A line is repeated if memory ran out for it. The old space is unchanged until then.
 const SPACES_AGAIN: Columns = &[
     "done\ndone\nrange 16 16\nerror state 16 16\ndone\nrange 32 32\ndone\nrange 32 32\n",
     "error memory\ndone\nrange 16 16\nerror state 16 16\ndone\nrange 32 32\ndone\nrange 32 32\n",
@@ -38,7 +40,7 @@ const SPACES_AGAIN: Columns = &[
     "done\ndone\nrange 16 16\nerror state 16 16\ndone\nrange 32 32\ndone\nerror memory\n",
 ];
 
-/// The same of managers, whose devices ask twice for memory.
+/// The same for managers, whose devices allocate twice.
 const MANAGERS_AGAIN: Columns = &[
     "done\ndone\ndevice 0 16 16\ndone\nerror never-allocated 0\ndone\ndevice 0 32 32\n",
     "error memory\ndone\ndevice 0 16 16\ndone\nerror never-allocated 0\ndone\ndevice 0 32 32\n",
@@ -51,14 +53,15 @@ const MANAGERS_AGAIN: Columns = &[
     "done\ndone\ndevice 0 16 16\ndone\nerror never-allocated 0\ndone\nerror memory\n",
 ];
 
-/// The number of the request that tests/refused_memory refuses.
+/// Returns the number of the allocation that tests/refused_memory makes fail.
 fn failed_allocation(rt: &impl Env) -> Option<usize> {
     let mut digits = [0u8; 20];
     let count = rt.var("REFUSE", &mut digits).ok()?;
     from_utf8(digits.get(..count)?).ok()?.parse().ok()
 }
 
-/// The program has the answers of one column: of the one for the refused request, where it is known.
+/// Checks that the program has the replies of one column: the column of the failed allocation, if
+/// it is known.
 fn expect_column(rt: &(impl Abort + Env), alloc: Global, input: &str, columns: Columns) {
     let mut room = [0u8; 256];
     let mut writer = room.as_mut_slice();

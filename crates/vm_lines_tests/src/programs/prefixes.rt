@@ -1,8 +1,8 @@
-//! Inputs that break off, at each of their bytes.
+//! Prefixes of inputs, one for each of their bytes.
 use super::*;
 
-/// What is left of a line where an input breaks off and is still a line of the language: how many
-/// lines stand before it, what is left, and its answer.
+/// The prefixes of a line that are still lines of the language: the number of lines before it, the
+/// prefix, and its reply.
 type LinePrefixes = &'static [(usize, &'static str, &'static str)];
 
 const PREFIXES_OF_ERRORS: LinePrefixes = &[
@@ -90,7 +90,7 @@ const PREFIXES_ON_DEVICES: LinePrefixes = &[
     (2, "device 2048 204", "error invalid-alignment"),
 ];
 
-/// The answer to what the input has of the line of this number, counted from 0.
+/// Returns the reply to the part of a line that the input has. Lines are counted from 0.
 fn answer_of(
     number: usize,
     line: &[u8],
@@ -110,11 +110,12 @@ fn answer_of(
     "error line"
 }
 
-/// The answers to the beginning of an input.
+/// Returns the replies to a prefix of an input.
 fn answers_of(prefix: &[u8], rows: Rows, prefixes_allowed: LinePrefixes) -> Text {
     let mut answers = Text::new();
     for (number, line) in prefix.split(|byte| *byte == b'\n').enumerate() {
-        // No line of these inputs is empty: the beginning ends in a newline, or is empty itself.
+        // No line of these inputs is empty. So an empty last line means that the prefix ends in a
+        // newline or is empty.
         if line.is_empty() {
             continue;
         }

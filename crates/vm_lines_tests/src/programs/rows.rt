@@ -1,10 +1,10 @@
-//! Lines of inputs, each with its answer. Four tests go over these tables: a table of tables passed
-//! the limit of steps of the prover.
+//! Lines of inputs, each with its reply. Four tests use these tables, because one table of tables
+//! exceeds the step limit of the prover.
 
-/// Lines, each with its answer.
+/// Lines, each with its reply.
 pub type Rows = &'static [(&'static str, &'static str)];
 
-/// Two ranges are held and given back, and leave one gap.
+/// Two ranges are allocated and freed, and leave one gap.
 pub const FIRST_PROGRAM: Rows = &[
     ("space 16 4", "done"),
     ("first 1 1", "range 16 16"),
@@ -14,7 +14,7 @@ pub const FIRST_PROGRAM: Rows = &[
     ("first 4 1", "range 16 19"),
 ];
 
-/// What is no line of the language, and a line before any space.
+/// Lines that are not in the language, and a line before there is a space.
 pub const LINE_GRAMMAR: Rows = &[
     ("first 1 1", "error no-space"),
     ("", "error line"),
@@ -28,7 +28,7 @@ pub const LINE_GRAMMAR: Rows = &[
     ("space 0 016", "done"),
 ];
 
-/// A request for more than is left, and the release of a range that no call gave.
+/// A request for more than is free, and the freeing of a range that no call allocated.
 pub const FULL_SPACE: Rows = &[
     ("space 16 4", "done"),
     ("first 1 1", "range 16 16"),
@@ -40,7 +40,7 @@ pub const FULL_SPACE: Rows = &[
     ("first 1 1", "range 16 16"),
 ];
 
-/// Words apart by one space, and numbers of one to twenty digits.
+/// Words are separated by one space, and numbers have from one to twenty digits.
 pub const WORDS_AND_NUMBERS: Rows = &[
     ("space 00000000000000000016 4", "done"),
     ("first 000000000000000000001 1", "error line"),
@@ -59,7 +59,7 @@ pub const WORDS_AND_NUMBERS: Rows = &[
     ("first 1 1", "range 16 16"),
 ];
 
-/// Which refusal comes first; a refused space keeps the old one.
+/// The order of the errors. An error for a new space keeps the old one.
 pub const ERRORS_IN_ORDER: Rows = &[
     ("free 2 1", "error no-space"),
     ("first 0 3", "error no-space"),
@@ -87,7 +87,7 @@ pub const ERRORS_IN_ORDER: Rows = &[
     ("free 16 16", "error not-available"),
 ];
 
-/// Each refusal of a line on a space.
+/// Each error of a line on a space.
 pub const PROGRAM_ERRORS: Rows = &[
     ("space 0 0", "error underflow"),
     ("space 18446744073709551615 2", "error overflow"),
@@ -106,7 +106,7 @@ pub const PROGRAM_ERRORS: Rows = &[
     ("first 3840 1", "range 4096 7935"),
 ];
 
-/// Places by their starts, and gaps that are joined again.
+/// Ranges by their starts, and gaps that are joined again.
 pub const PLACES_OF_A_START: Rows = &[
     ("space 0 10", "done"),
     ("exact 1 1 3", "range 3 3"),
@@ -121,7 +121,7 @@ pub const PLACES_OF_A_START: Rows = &[
     ("last 10 1", "range 0 9"),
 ];
 
-/// The refusals of the three policies.
+/// The errors of the three policies.
 pub const ALL_POLICIES: Rows = &[
     ("last 1 1", "error no-space"),
     ("exact 1 1 16", "error no-space"),
@@ -145,7 +145,7 @@ pub const ALL_POLICIES: Rows = &[
     ("last 1 1", "range 16 16"),
 ];
 
-/// Each refusal of a line on ids.
+/// Each error of a line on ids.
 pub const PROGRAM_IDS: Rows = &[
     ("id", "error no-ids"),
     ("ids 5 5", "done"),
@@ -162,7 +162,7 @@ pub const PROGRAM_IDS: Rows = &[
     ("unid 4294967296", "error line"),
 ];
 
-/// Which refusal comes first; refused ids keep the old ones.
+/// The order of the errors. An error for new ids keeps the old ones.
 pub const ERRORS_OF_IDS: Rows = &[
     ("id 1", "error line"),
     ("unid", "error line"),
@@ -185,7 +185,7 @@ pub const ERRORS_OF_IDS: Rows = &[
     ("unid 0", "error already-released 0"),
 ];
 
-/// Ids are held from when they are given until they are given back.
+/// Ids are allocated until they are freed.
 pub const HELD_IDS: Rows = &[
     ("ids 7 9", "done"),
     ("has 6", "no"),

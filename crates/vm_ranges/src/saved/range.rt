@@ -1,4 +1,4 @@
-//! The saved form of a range.
+//! The saved value of a range.
 ghost use Rattle.std.specs.Prelude.{◌≡◌, ◌≢◌, IfErr, option_and_then};
 ghost use Rattle.serde_json.specs.View.{view};
 ghost use Rattle.serde_json.specs.Find.{get};
@@ -14,8 +14,11 @@ use serde_json::{Value, json};
 use std::alloc::Global;
 
 impl RangeInclusive {
-    /// The value that states the range: an object of `start` and `end`. `OutOfMemory` where there is no
-    /// memory for it.
+    /// Encodes the range as a value: an object with the fields `start` and `end`.
+    ///
+    /// # Errors
+    ///
+    /// - `OutOfMemory` if an allocation of memory fails.
     #[tactic(auto)]
     pub fn to_value(&self, alloc: Global) -> Result<Value>
         ensures { Saves (λ d. EncodesRange d self.now) result }
@@ -23,7 +26,11 @@ impl RangeInclusive {
         Ok(json!(in alloc; {"start": self.start(), "end": self.end()})?)
     }
 
-    /// The range that a value states. `NotAState` where it states none. It takes no memory.
+    /// Decodes a range from a value. It does not allocate.
+    ///
+    /// # Errors
+    ///
+    /// - `NotAState` if the value does not encode a range.
     #[tactic(auto, using(crate::proofs::ReadRanges::read))]
     pub fn from_value(_alloc: Global, value: &Value) -> std::result::Result<Self, ValueError>
         ensures answer { Reads (EncodesRange (view value.now)) result }
@@ -32,7 +39,7 @@ impl RangeInclusive {
         RangeInclusive::decode(value).ok_or(ValueError::NotAState)
     }
 
-    /// The range that a value states.
+    /// Decodes a range. Returns `None` if the value does not encode a range.
     #[tactic(auto, using(crate::proofs::ReadRanges::made))]
     fn decode(value: &Value) -> Option<RangeInclusive>
         ensures { result ≡ decoded_range (view value.now) }
@@ -46,7 +53,7 @@ impl RangeInclusive {
     }
 }
 
-/// The range in a field.
+/// Decodes the range in the field `name`. Returns `None` if there is no range.
 pub fn range_in(value: &Value, name: &str) -> Option<RangeInclusive>
     ensures { result ≡ option_and_then decoded_range (get name.now (view value.now)) }
 {

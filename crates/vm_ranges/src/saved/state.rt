@@ -1,4 +1,4 @@
-//! The saved form of a state.
+//! The saved value of a state.
 ghost use Rattle.std.specs.Prelude.{◌≡◌, ◌≢◌, IfErr, option_and_then};
 ghost use Rattle.serde_json.specs.View.{view};
 ghost use Rattle.serde_json.specs.Find.{get};
@@ -12,8 +12,11 @@ use serde_json::Value;
 use std::alloc::Global;
 
 impl NodeState {
-    /// The value that states the state: the text `Free` or the text `Allocated`. `OutOfMemory` where
-    /// there is no memory for it.
+    /// Encodes the state as a value: the text `Free` or the text `Allocated`.
+    ///
+    /// # Errors
+    ///
+    /// - `OutOfMemory` if an allocation of memory fails.
     pub fn to_value(&self, alloc: Global) -> Result<Value>
         ensures { Saves (λ d. EncodesState d self.now) result }
     {
@@ -24,7 +27,11 @@ impl NodeState {
         Ok(Value::try_from_str(alloc, name)?)
     }
 
-    /// The state that a value states. `NotAState` where it states none. It takes no memory.
+    /// Decodes a state from a value. It does not allocate.
+    ///
+    /// # Errors
+    ///
+    /// - `NotAState` if the value does not encode a state.
     #[tactic(auto, using(crate::proofs::ReadStates::read))]
     pub fn from_value(_alloc: Global, value: &Value) -> std::result::Result<Self, ValueError>
         ensures answer { Reads (EncodesState (view value.now)) result }
@@ -33,7 +40,7 @@ impl NodeState {
         NodeState::decode(value).ok_or(ValueError::NotAState)
     }
 
-    /// The state that a value states.
+    /// Decodes a state. Returns `None` if the value does not encode a state.
     fn decode(value: &Value) -> Option<NodeState>
         ensures { result ≡ decoded_state (view value.now) }
     {
@@ -45,7 +52,7 @@ impl NodeState {
     }
 }
 
-/// The state in a field.
+/// Decodes the state in the field `name`. Returns `None` if there is no state.
 pub fn state_in(value: &Value, name: &str) -> Option<NodeState>
     ensures { result ≡ option_and_then decoded_state (get name.now (view value.now)) }
 {

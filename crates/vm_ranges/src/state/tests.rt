@@ -1,4 +1,4 @@
-//! States of blocks.
+//! Tests of the states of blocks.
 use super::*;
 
 #[test]

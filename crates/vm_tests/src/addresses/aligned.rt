@@ -1,15 +1,15 @@
-//! Requests at great alignments, in spaces of many gaps without a multiple: how many nodes they
-//! enter.
+//! The number of nodes that requests with large alignments enter, in spaces with many gaps without
+//! a multiple.
 use super::*;
 
-/// Ranges of one length, evenly apart.
+/// Ranges of the same length at equal distances.
 #[derive(Clone, Copy)]
 struct Stretch {
-    /// The first one's start.
+    /// The start of the first range.
     start: u64,
-    /// How many there are.
+    /// The number of ranges.
     number: u64,
-    /// From the start of one to that of the next.
+    /// The distance from one start to the next.
     apart: u64,
     size: u64,
 }
@@ -21,23 +21,23 @@ const NONE: Stretch = Stretch {
     size: 0,
 };
 
-/// A space cut up, and what two searches in it answer and enter at most.
+/// A space with gaps, and the expected results and maximum counts of two searches in it.
 struct Row {
     /// The base and the size.
     space: (u64, u64),
     held: [Stretch; 3],
-    /// What is given back of it.
+    /// The ranges that are freed.
     freed: Stretch,
     size: u64,
     alignment: u64,
     first: Expected,
     last: Expected,
-    /// The most nodes for each level of the tree, and the most besides.
+    /// The maximum number of nodes for each level of the tree, and the maximum number in addition.
     most: (u64, u64),
 }
 
 impl Stretch {
-    /// Holds each range of these, or gives each back.
+    /// Allocates each of these ranges, or frees each of them.
     fn change(self, rt: &(impl Abort + AllocGlobal), space: &mut AddressAllocator, held: bool) {
         for i in 0..self.number {
             let start = self.start.saturating_add(i.saturating_mul(self.apart));
@@ -63,7 +63,7 @@ impl Row {
         self.search(rt, &mut space, Last(self.size, self.alignment), self.last);
     }
 
-    /// Does one of the searches.
+    /// Makes one of the searches.
     fn search(
         &self,
         rt: &(impl Abort + AllocGlobal),
@@ -80,7 +80,7 @@ impl Row {
 #[test]
 fn aligned_places_are_found_at_once(rt: HostRuntime) {
     let rows = &[
-        // No address of the space is a multiple: no gap is looked into.
+        // No address of the space is a multiple, so no gap is visited.
         Row {
             space: (1, 0x1000),
             held: [
@@ -100,7 +100,7 @@ fn aligned_places_are_found_at_once(rt: HostRuntime) {
             last: NotAvailable,
             most: (0, 0),
         },
-        // One gap is long enough, and the two that have a multiple are too short.
+        // One gap is long enough. The two gaps that have a multiple are too short.
         Row {
             space: (1, 48),
             held: [
@@ -125,7 +125,7 @@ fn aligned_places_are_found_at_once(rt: HostRuntime) {
             last: NotAvailable,
             most: (1, 0),
         },
-        // The 127 gaps below are long enough and odd.
+        // The 127 gaps below are long enough and have no multiple.
         Row {
             space: (0, 0x1000),
             held: [

@@ -1,9 +1,9 @@
-//! Equality, order and clones, and what is held.
+//! Tests of equality, order and clones, and of the allocated ranges.
 use super::*;
 use crate::fixtures::{balance, holds_exactly, saved};
 use std::cmp::Ordering;
 
-/// The allocator that the calls lead to.
+/// Returns the allocator after the calls.
 fn reached(rt: &(impl Abort + AllocGlobal), calls: &[Call]) -> AddressAllocator {
     let mut space = made(rt, 0, 1);
     for call in calls {
@@ -12,10 +12,10 @@ fn reached(rt: &(impl Abort + AllocGlobal), calls: &[Call]) -> AddressAllocator 
     space
 }
 
-/// [1, 1] and [6, 6] held in [0, 7], by two calls.
+/// [1, 1] and [6, 6] are allocated in [0, 7], by two calls.
 const TWO_HELD: [Call; 3] = [Space(0, 8), Exact(1, 1, 1), Exact(1, 1, 6)];
 
-/// The same, by taking each address and giving back all but these two.
+/// The same, by allocating each address and freeing all except these two.
 const ALL_BUT_TWO: [Call; 15] = [
     Space(0, 8),
     First(1, 1),
@@ -34,7 +34,7 @@ const ALL_BUT_TWO: [Call; 15] = [
     Free(4, 4),
 ];
 
-/// Whether two allocators compare so, whichever is asked.
+/// Returns whether two allocators compare like this in both directions.
 fn compare_so(first: &AddressAllocator, second: &AddressAllocator, want: Ordering) -> bool {
     first.cmp(second) == want
         && second.cmp(first) == want.reverse()
@@ -42,7 +42,7 @@ fn compare_so(first: &AddressAllocator, second: &AddressAllocator, want: Orderin
         && (first == second) == (want == Ordering::Equal)
 }
 
-/// The two allocators that calls lead to compare so.
+/// Checks how the two allocators after the calls compare.
 fn expect_order(rt: &(impl Abort + AllocGlobal), first: &[Call], second: &[Call], want: Ordering) {
     let is_true = compare_so(&reached(rt, first), &reached(rt, second), want);
     expect_true(rt, is_true, &want);
@@ -59,7 +59,8 @@ fn compares_by_state(rt: HostRuntime) {
     expect_order(&rt, &TWO_HELD, &ALL_BUT_TWO, Ordering::Equal);
 }
 
-/// The allocator that the calls lead to holds [1, 1] and [6, 6], and next the four between them.
+/// Checks that the allocator after the calls has [1, 1] and [6, 6] allocated, and allocates the
+/// four addresses between them next.
 fn expect_two_held(rt: &(impl Abort + AllocGlobal), calls: &[Call]) {
     let mut space = reached(rt, calls);
     expect_true(
@@ -78,7 +79,7 @@ fn equal_ones_answer_alike(rt: HostRuntime) {
     expect_two_held(&rt, &ALL_BUT_TWO);
 }
 
-/// Whether two allocators are the same, node for node.
+/// Returns whether two allocators are the same, node for node.
 fn are_same(
     rt: &(impl Abort + AllocGlobal),
     one: &AddressAllocator,
@@ -87,7 +88,8 @@ fn are_same(
     one == other && saved(rt, one) == saved(rt, other)
 }
 
-/// Clones an allocator: the clone is the same, node for node, or nothing has changed since `before`.
+/// Clones an allocator. Checks that the clone is the same, node for node, or that nothing changed
+/// since `before`.
 fn clone_or_refuse(
     rt: &(impl Abort + AllocGlobal),
     space: &AddressAllocator,
@@ -101,7 +103,7 @@ fn clone_or_refuse(
     expect_true(rt, is_true, &"a whole clone or none");
 }
 
-/// A clone is an allocator of its own.
+/// Checks that a clone does not change with its original.
 fn clone_and_change(rt: &(impl Abort + AllocGlobal), space: &mut AddressAllocator) {
     let before = cloned(rt, space);
     expect_true(rt, before == *space, &"a clone");

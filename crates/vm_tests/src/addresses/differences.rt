@@ -1,8 +1,8 @@
-//! Where the Rust crate answers otherwise: the smallest example of each of the first eight rows of
-//! docs/DIFFERENCES.md, with the answers of this port.
+//! Differences from the Rust crate: the smallest example of each of the first eight rows of
+//! docs/DIFFERENCES.md, with the results of this port.
 use super::*;
 
-/// A part of what is held.
+/// Requests a part of an allocated range.
 #[test]
 fn departure_1(rt: HostRuntime) {
     let rows = &[
@@ -13,7 +13,7 @@ fn departure_1(rt: HostRuntime) {
     replay_in(&rt, 0, 1, rows);
 }
 
-/// A block of one address, and the last address of a block.
+/// Allocates a block of one address, and the last address of a block.
 #[test]
 fn departure_2(rt: HostRuntime) {
     let rows = &[
@@ -27,7 +27,7 @@ fn departure_2(rt: HostRuntime) {
     replay_in(&rt, 0, 1, rows);
 }
 
-/// A held range of one address.
+/// Requests an allocated range of one address again.
 #[test]
 fn departure_3(rt: HostRuntime) {
     let rows = &[
@@ -38,21 +38,21 @@ fn departure_3(rt: HostRuntime) {
     replay_in(&rt, 0, 1, rows);
 }
 
-/// From the last address of a block to past all addresses.
+/// Requests a range from the last address of a block to past all addresses.
 #[test]
 fn departure_4(rt: HostRuntime) {
     let rows = &[(Space(2, 1), Range(2, 2)), (Exact(MAX, 1, 2), Overflow)];
     replay_in(&rt, 0, 1, rows);
 }
 
-/// A whole gap that starts at 0.
+/// Allocates a whole gap that starts at 0.
 #[test]
 fn departure_5(rt: HostRuntime) {
     let rows = &[(Space(0, 1), Range(0, 0)), (Last(1, 1), Range(0, 0))];
     replay_in(&rt, 0, 1, rows);
 }
 
-/// A clear neighbour of one address.
+/// Joins a free neighbour of one address.
 #[test]
 fn departure_6(rt: HostRuntime) {
     let rows = &[
@@ -66,7 +66,7 @@ fn departure_6(rt: HostRuntime) {
     replay_in(&rt, 0, 1, rows);
 }
 
-/// A range that starts at 1, and one that ends right before the greatest address.
+/// Frees a range that starts at 1, and a range that ends right before the highest address.
 #[test]
 fn departure_7(rt: HostRuntime) {
     let rows = &[
@@ -82,7 +82,7 @@ fn departure_7(rt: HostRuntime) {
     replay_in(&rt, 0, 1, rows);
 }
 
-/// A gap is given back.
+/// Tries to free a gap.
 #[test]
 fn departure_8(rt: HostRuntime) {
     let rows = &[(Space(0, 1), Range(0, 0)), (Free(0, 0), NotAvailable)];

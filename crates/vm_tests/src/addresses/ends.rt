@@ -1,4 +1,4 @@
-//! Spaces at both ends of all addresses.
+//! Tests of spaces at both ends of all addresses.
 use super::*;
 
 #[test]
@@ -17,7 +17,7 @@ fn ends_of_all_addresses(rt: HostRuntime) {
         (Exact(HALF, HALF, HALF), Overflow),
         (First(HALF, HALF), Overflow),
         (Space(1, MAX), Range(1, MAX)),
-        // All addresses but the greatest.
+        // All addresses except the highest.
         (Space(0, MAX), Range(0, LAST)),
         (First(1, 1), Range(0, 0)),
         (Last(1, 1), Range(LAST, LAST)),
@@ -25,13 +25,13 @@ fn ends_of_all_addresses(rt: HostRuntime) {
         (Free(LAST, LAST), Range(LAST, LAST)),
         (First(MAX, 1), Range(0, LAST)),
         (Free(0, LAST), Range(0, LAST)),
-        // The greatest alignment: 0 and its half are the only multiples.
+        // The largest alignment: 0 and its half are the only multiples.
         (Last(1, HALF), Range(HALF, HALF)),
         (First(1, HALF), Range(0, 0)),
         (First(1, HALF), NotAvailable),
         (Space(0, MAX), Range(0, LAST)),
         (Exact(HALF, HALF, HALF), NotAvailable),
-        // The greatest address alone.
+        // Only the highest address.
         (Space(MAX, 1), Range(MAX, MAX)),
         (Space(MAX, 2), Overflow),
         (Space(1, 0), Underflow),

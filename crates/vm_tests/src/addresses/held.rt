@@ -1,15 +1,15 @@
-//! Which ranges are held, and how many.
+//! Tests of the allocated ranges and of their number.
 use super::*;
 use crate::fixtures::range;
 use Row::{Ask, Count, Holds};
 
-/// A call with the answer that it has to have, or what has to be so in between.
+/// A call with its expected result, or a check between calls.
 #[derive(Clone, Copy)]
 enum Row {
     Ask(Call, Expected),
-    /// The first and the last address of a range, and whether it is held.
+    /// The first and the last address of a range, and whether it is allocated.
     Holds(u64, u64, bool),
-    /// How many ranges are held.
+    /// The number of allocated ranges.
     Count(u64),
 }
 
@@ -23,12 +23,12 @@ const ROWS: [Row; 41] = [
     Holds(0, 3, false),
     Holds(4, 7, false),
     Count(2),
-    // What is refused changes neither.
+    // Errors change neither.
     Ask(Free(0, 0), NotAvailable),
     Ask(Exact(2, 1, 2), Held(2, 3)),
     Holds(2, 3, true),
     Count(2),
-    // What is given back is not held any more.
+    // A freed range is not allocated any more.
     Ask(Free(0, 1), Range(0, 1)),
     Holds(0, 1, false),
     Holds(2, 3, true),

@@ -1,9 +1,9 @@
-//! A long run on 64 addresses, each answer against a plain search, address by address.
+//! A long run on 64 addresses. Each result is compared with a plain search, address by address.
 use super::*;
 use vm_model as plain;
 use vm_model::{ADDRESSES, Addresses, CALLS, Draws};
 
-/// What a call of the run asks of an allocator.
+/// Returns the call of the allocator for a call of the run.
 fn call_of(call: plain::Call) -> Call {
     match call {
         plain::Call::First(size, alignment) => First(size, alignment),
@@ -13,7 +13,7 @@ fn call_of(call: plain::Call) -> Call {
     }
 }
 
-/// What the allocator has to answer then.
+/// Returns the expected result of the allocator.
 fn want_of(call: plain::Call, answer: plain::Answer) -> Expected {
     match (answer, call) {
         (plain::Answer::Done, plain::Call::Free(start, end)) => Range(start, end),
@@ -24,7 +24,7 @@ fn want_of(call: plain::Call, answer: plain::Answer) -> Expected {
     }
 }
 
-/// A fresh allocator in which these ranges are held, each placed by its start.
+/// Returns a new allocator with these ranges, each allocated by its start.
 fn placed(rt: &(impl Abort + AllocGlobal), addresses: &Addresses) -> AddressAllocator {
     let mut space = made(rt, 0, ADDRESSES);
     for number in 0..addresses.held_count() {
@@ -42,7 +42,8 @@ fn placed(rt: &(impl Abort + AllocGlobal), addresses: &Addresses) -> AddressAllo
     space
 }
 
-/// Just what is held among these addresses is held in the space, before or after a call.
+/// Checks that exactly the ranges of these addresses are allocated in the space, before or after a
+/// call.
 fn expect_alike(
     rt: &(impl Abort + AllocGlobal),
     space: &AddressAllocator,

@@ -1,12 +1,14 @@
-//! How often each call asks for memory: making an allocator once, a split once for each part of its gap
-//! that is left over, and any other of these never. tests/refused_memory counts.
+//! The number of allocations of each call, which tests/refused_memory counts.
+//!
+//! A new allocator allocates once. A split allocates once for each part of its gap that stays free.
+//! All other calls do not allocate.
 use super::*;
 use crate::fixtures::{count_allocations, expect_allocations};
 
-/// Calls with their answers, and how many requests each makes.
+/// Calls with their results and their numbers of allocations.
 const ROWS: [(Call, Expected, usize); 22] = [
     (Space(0, 64), Range(0, 63), 1),
-    // What is left over is behind, before, and on both sides.
+    // The part that stays free is after the range, before it, and on both sides.
     (First(4, 1), Range(0, 3), 1),
     (Last(4, 1), Range(60, 63), 1),
     (First(1, 8), Range(8, 8), 2),
@@ -18,11 +20,11 @@ const ROWS: [(Call, Expected, usize); 22] = [
     (First(1, 32), Range(32, 32), 2),
     (First(4, 8), Range(16, 19), 1),
     (Exact(4, 4, 36), Range(36, 39), 2),
-    // Nothing is left over.
+    // The range fills its gap.
     (First(4, 4), Range(4, 7), 0),
     (Exact(7, 1, 9), Range(9, 15), 0),
     (Last(9, 1), Range(49, 57), 0),
-    // What is given back, and refusals.
+    // Freed ranges and errors.
     (Free(16, 19), Range(16, 19), 0),
     (Free(0, 3), Range(0, 3), 0),
     (First(0, 1), NoSize, 0),
@@ -32,7 +34,7 @@ const ROWS: [(Call, Expected, usize); 22] = [
     (Space(MAX, 2), Overflow, 0),
 ];
 
-/// Does a call, which has to have this answer and to make so many requests.
+/// Makes a call, and checks its result and its number of allocations.
 fn call_and_count(
     rt: &(impl Abort + AllocGlobal),
     space: &mut AddressAllocator,
@@ -49,7 +51,7 @@ fn call_and_count(
     expect_eq(rt, &answer, &want.answer(), &call);
 }
 
-/// Does all the calls.
+/// Makes all calls.
 fn call_all(rt: &(impl Abort + AllocGlobal), form: Form) {
     let mut space = made(rt, 0, 1);
     for row in &ROWS {

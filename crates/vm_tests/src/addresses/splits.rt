@@ -1,15 +1,16 @@
-//! Splits of one box and of two, by each policy: each of their requests for memory is refused in turn.
+//! Splits that allocate one node and two nodes, by each policy. Each of their allocations fails in
+//! turn.
 use super::*;
 
 #[test]
 fn splits_by_each_policy(rt: HostRuntime) {
     let mut space = made(&rt, 0, 16);
     let rows = &[
-        // One box: for what is left behind, before, behind.
+        // One node: the part that stays free is after the range, before it, after it.
         (First(4, 1), Range(0, 3)),
         (Last(4, 1), Range(12, 15)),
         (Exact(2, 1, 4), Range(4, 5)),
-        // Two boxes, since the clear addresses are [6, 11], then [6, 7] and [9, 11].
+        // Two nodes: the free addresses are [6, 11], then [6, 7] and [9, 11].
         (First(1, 4), Range(8, 8)),
         (Last(1, 2), Range(10, 10)),
         (Space(0, 0x1000), Range(0, 0xFFF)),

@@ -1,9 +1,10 @@
-//! What asks for no memory. tests/refused_memory refuses every request after `fail_from_here`.
+//! Calls that do not allocate. tests/refused_memory makes every allocation after `fail_from_here`
+//! fail.
 use super::*;
 use crate::fixtures::{fail_from_here, holds_exactly, range};
 use std::cmp::Ordering;
 
-/// Does the calls in turn, each with the answer that it has to have, memory or not.
+/// Makes the calls in turn without memory, and checks their results.
 fn replay(
     rt: &(impl Abort + AllocGlobal),
     space: &mut AddressAllocator,
@@ -16,7 +17,7 @@ fn replay(
     }
 }
 
-/// The allocator of [0, 15] in which [2, 3], [6, 7] and [10, 11] are held.
+/// Returns the allocator of [0, 15] in which [2, 3], [6, 7] and [10, 11] are allocated.
 fn three_held(rt: &(impl Abort + AllocGlobal)) -> AddressAllocator {
     let mut space = made(rt, 0, 16);
     let rows = &[
@@ -28,7 +29,7 @@ fn three_held(rt: &(impl Abort + AllocGlobal)) -> AddressAllocator {
     space
 }
 
-/// A split, which asks for memory once: what a run without memory is known by.
+/// Makes a split, which allocates once. Its result shows whether the run is without memory.
 fn split(rt: &(impl Abort + AllocGlobal), space: &mut AddressAllocator) {
     let answer = First(1, 1).ask(space, rt.alloc(), Plain);
     let is_true = match &answer {
@@ -39,7 +40,7 @@ fn split(rt: &(impl Abort + AllocGlobal), space: &mut AddressAllocator) {
     expect_true(rt, is_true, &answer);
 }
 
-/// The calls that only read: two allocators are equal, and hold these three ranges.
+/// Makes the calls that only read: two allocators are equal, and have these three ranges allocated.
 fn look_up(rt: &impl Abort, space: &AddressAllocator, other: &AddressAllocator) {
     let are_equal = space == other && space.cmp(other) == Ordering::Equal;
     expect_true(rt, are_equal, &"both are equal");
@@ -49,13 +50,13 @@ fn look_up(rt: &impl Abort, space: &AddressAllocator, other: &AddressAllocator) 
     expect_true(rt, is_whole && space.held_count() == 3, &"three whole ones");
 }
 
-/// Fills the space of three held ranges, and gives all back.
+/// Fills the space of three allocated ranges, and frees all.
 fn fill(rt: &(impl Abort + AllocGlobal), space: &mut AddressAllocator, form: Form) {
     let rows = &[
         (First(2, 1), Range(0, 1)),
         (Last(4, 1), Range(12, 15)),
         (Exact(2, 1, 8), Range(8, 9)),
-        // Beside clear addresses on no side, before, on both sides, and after.
+        // Free addresses are on no side, before, on both sides, and after.
         (Free(0, 1), Range(0, 1)),
         (Free(6, 7), Range(6, 7)),
         (Free(2, 3), Range(2, 3)),

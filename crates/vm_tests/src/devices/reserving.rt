@@ -1,7 +1,7 @@
-//! Devices reserved and released.
+//! Tests of devices that are reserved and released.
 use super::*;
 
-/// Does the calls in turn in a fresh manager of these ids and these addresses.
+/// Makes the calls in turn on a new manager of these ids and these addresses.
 fn replay_in(
     rt: &(impl Abort + AllocGlobal),
     ids: (u32, u32),
@@ -61,7 +61,7 @@ fn both_or_neither(rt: HostRuntime) {
     replay_in(&rt, (3, 9), 0, 4, full);
 }
 
-/// Managers that are refused: the ids, then the size, then the end.
+/// Checks the errors of new managers: the ids, then the size, then the end.
 #[test]
 fn refused_managers(rt: HostRuntime) {
     expect_no_manager(&rt, (2, 1), 0, 0, Error::InvalidRange(2, 1));
@@ -69,8 +69,8 @@ fn refused_managers(rt: HostRuntime) {
     expect_no_manager(&rt, (1, 2), u64::MAX, 2, Error::Overflow);
 }
 
-/// So many devices that the table asks for memory in its middle, reserved, released every other one
-/// and reserved again.
+/// Reserves enough devices for an allocation in the middle of the table: releases every other
+/// device, and reserves them again.
 #[test]
 fn memory_for_each_device(rt: HostRuntime) {
     let mut devices = made(&rt, (0, 40), 0, 0x1_0000);

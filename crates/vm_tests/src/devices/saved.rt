@@ -1,11 +1,11 @@
-//! Managers written and read, and values of strangers.
+//! Tests of managers that are written and read, and of untrusted input.
 use super::*;
 use crate::fixtures::{balance, parsed};
 use vm_allocator::ValueError;
 
 mod hostile;
 
-/// Ids [0, 1] and the space [4096, 8191], of which a device has id 0 and [4096, 6143].
+/// The ids [0, 1] and the space [4096, 8191]. A device has id 0 and [4096, 6143].
 const ONE_DEVICE: &str = r#"{"version":1,
     "id_allocator":{"range_base":0,"next_id":1,"range_end":1,"freed_ids":[]},
     "mmio_allocator":{"address_space":{"start":4096,"end":8191},"interval_tree":{"root":{
@@ -21,7 +21,7 @@ const TWO_DEVICES: &str = r#"{"version":1,
     "right":{"key":{"start":6144,"end":8191},"node_state":"Allocated","left":null,"right":null,"height":1},"height":2}}},
     "slots":[{"id":0,"mmio_range":{"start":4096,"end":6143}},{"id":1,"mmio_range":{"start":6144,"end":8191}}]}"#;
 
-/// The same two, and each has the other's range.
+/// The same two devices, with exchanged ranges.
 const TWO_CROSSED: &str = r#"{"version":1,
     "id_allocator":{"range_base":0,"next_id":2,"range_end":1,"freed_ids":[]},
     "mmio_allocator":{"address_space":{"start":4096,"end":8191},"interval_tree":{"root":{
@@ -29,21 +29,21 @@ const TWO_CROSSED: &str = r#"{"version":1,
     "right":{"key":{"start":6144,"end":8191},"node_state":"Allocated","left":null,"right":null,"height":1},"height":2}}},
     "slots":[{"id":0,"mmio_range":{"start":6144,"end":8191}},{"id":1,"mmio_range":{"start":4096,"end":6143}}]}"#;
 
-/// One device again, with every object's fields in another order.
+/// One device again. The fields of every object are in another order.
 const OTHER_ORDER: &str = r#"{"slots":[{"mmio_range":{"end":6143,"start":4096},"id":0}],
     "mmio_allocator":{"interval_tree":{"root":{"height":2,
     "right":{"height":1,"right":null,"left":null,"node_state":"Free","key":{"end":8191,"start":6144}},
     "left":null,"node_state":"Allocated","key":{"end":6143,"start":4096}}},"address_space":{"end":8191,"start":4096}},
     "id_allocator":{"freed_ids":[],"range_end":1,"next_id":1,"range_base":0},"version":1}"#;
 
-/// No device, after id 0 was given back.
+/// No device, after id 0 was freed.
 const NO_DEVICE: &str = r#"{"version":1,
     "id_allocator":{"range_base":0,"next_id":1,"range_end":1,"freed_ids":[0]},
     "mmio_allocator":{"address_space":{"start":4096,"end":8191},"interval_tree":{"root":{
     "key":{"start":4096,"end":8191},"node_state":"Free","left":null,"right":null,"height":1}}},
     "slots":[]}"#;
 
-/// The manager that a value states.
+/// Reads the manager of a value.
 fn read(
     rt: &(impl Abort + AllocGlobal),
     value: &Value,
@@ -54,12 +54,13 @@ fn read(
     }
 }
 
-/// The manager that a value states, which states one.
+/// Reads the manager of a valid value.
 fn read_good(rt: &(impl Abort + AllocGlobal), value: &Value) -> DeviceManager {
     read(rt, value).expect(rt, "it states a manager")
 }
 
-/// Reads a value: its second device has the last 2,048 addresses, or memory is refused.
+/// Reads a value. Checks that its second device has the last 2,048 addresses, or that memory ran
+/// out.
 fn read_or_refuse(rt: &(impl Abort + AllocGlobal), value: &Value) {
     let is_true = match DeviceManager::from_value(rt.alloc(), value) {
         Ok(devices) => look_up(&devices, 1) == Some((1, 6144, 8191)),
@@ -77,7 +78,7 @@ fn read_whole_or_not_at_all(rt: HostRuntime) {
     balance(rt.alloc());
 }
 
-/// The manager that is read from what is written of another, which stays as it is.
+/// Writes a manager, which does not change, and reads the value.
 fn written_and_read(rt: &(impl Abort + AllocGlobal), devices: &DeviceManager) -> DeviceManager {
     let before = Parts::of(rt, devices);
     let value = saved_devices(rt, devices);
@@ -99,7 +100,8 @@ fn devices_written_and_read(rt: HostRuntime) {
     replay(&rt, &mut written_and_read(&rt, &devices), rows);
 }
 
-/// A text states a manager, of which the same is written, and which answers these calls.
+/// Checks that a text encodes a manager, that the manager is written like this, and that these
+/// calls have their results.
 fn expect_manager(rt: &(impl Abort + AllocGlobal), text: &str, rows: &[(Call, Expected)]) {
     let value = parsed(rt, text);
     let mut devices = read_good(rt, &value);
@@ -136,7 +138,7 @@ fn devices_that_values_state(rt: HostRuntime) {
     expect_manager(&rt, NO_DEVICE, none);
 }
 
-/// Twelve devices, written and read one by one.
+/// Writes and reads twelve devices, one by one.
 #[test]
 fn memory_for_twelve_devices(rt: HostRuntime) {
     let mut devices = made(&rt, (0, 11), 0, 0x1000);

@@ -1,8 +1,8 @@
-//! What asks for no memory, run with every request refused.
+//! Calls that do not allocate. They run while every allocation fails.
 use super::*;
 use crate::fixtures::fail_from_here;
 
-/// Calls that ask for no memory, each with the answer that it has to have.
+/// Makes calls that do not allocate, and checks their results.
 fn replay_refused(
     rt: &(impl Abort + AllocGlobal),
     devices: &mut DeviceManager,
@@ -13,7 +13,8 @@ fn replay_refused(
     }
 }
 
-/// Giving an id back for the first time asks for memory: what a run without memory is known by.
+/// Frees an id for the first time, which allocates. Its result shows whether the run is without
+/// memory.
 fn release_first(rt: &impl Abort, devices: &mut DeviceManager) {
     let is_true = match devices.release(0) {
         Ok(()) | Err(Error::OutOfMemory) => true,

@@ -1,7 +1,7 @@
-//! How many ids are held.
+//! Tests of the number of allocated ids.
 use super::*;
 
-/// Of a range in the middle.
+/// The counts of a range in the middle.
 const MIDDLE: [Call; 16] = [
     Count(0),
     Allocate(Id(5)),
@@ -10,12 +10,12 @@ const MIDDLE: [Call; 16] = [
     Count(3),
     Free(6, Id(6)),
     Count(2),
-    // What is refused changes nothing.
+    // Errors change nothing.
     Free(6, AlreadyReleased(6)),
     Free(8, NeverAllocated(8)),
     Free(24, OutOfRange(24)),
     Count(2),
-    // All are given back, and one is taken again.
+    // All ids are freed, and one is allocated again.
     Free(7, Id(7)),
     Free(5, Id(5)),
     Count(0),
@@ -23,7 +23,7 @@ const MIDDLE: [Call; 16] = [
     Count(1),
 ];
 
-/// Of the greatest two.
+/// The counts of the highest two ids.
 const LAST: [Call; 12] = [
     Count(0),
     Allocate(Id(LOW)),
@@ -39,7 +39,7 @@ const LAST: [Call; 12] = [
     Count(1),
 ];
 
-/// Of all that there are, where all are held.
+/// The counts if all 2^32 ids are allocated.
 const ALL: [Call; 5] = [
     Count(4294967296),
     Allocate(Overflow),
@@ -48,7 +48,7 @@ const ALL: [Call; 5] = [
     Count(4294967294),
 ];
 
-/// The allocator that holds all ids that there are.
+/// Returns the allocator with all 2^32 ids allocated.
 fn all_held(rt: &(impl Abort + AllocGlobal)) -> IdAllocator {
     let text = r#"{"range_base":0,"next_id":null,"range_end":4294967295,"freed_ids":[]}"#;
     read_ids(rt, &parsed(rt, text)).expect(rt, "it states ids")

@@ -1,11 +1,11 @@
-//! Address allocators, their ranges and states.
+//! Tests of address allocators, their ranges and states.
 use super::*;
 
-/// [16, 19], with nothing held.
+/// The space [16, 19] without allocated ranges.
 pub(super) const FRESH: &str = r#"{"address_space":{"start":16,"end":19},"interval_tree":{"root":{
     "key":{"start":16,"end":19},"node_state":"Free","left":null,"right":null,"height":1}}}"#;
 
-/// The allocator is written as this text states it, and read again.
+/// Checks that the allocator is written like this text, and read again.
 fn expect_written(rt: &(impl Abort + AllocGlobal), space: &AddressAllocator, text: &str) {
     let value = saved(rt, space);
     assert!(rt; value == parsed(rt, text), "{text}");
@@ -16,7 +16,7 @@ fn expect_written(rt: &(impl Abort + AllocGlobal), space: &AddressAllocator, tex
 fn fresh_space(rt: HostRuntime) {
     expect_written(&rt, &made(&rt, 16, 4), FRESH);
     for text in [
-        // Another height, a field more, no node, two free neighbours.
+        // Another height, one more field, no node, two free neighbours.
         r#"{"address_space":{"start":16,"end":19},"interval_tree":{"root":{
             "key":{"start":16,"end":19},"node_state":"Free","left":null,"right":null,"height":2}}}"#,
         r#"{"address_space":{"start":16,"end":19},"interval_tree":{"root":{"max":4,
@@ -30,7 +30,7 @@ fn fresh_space(rt: HostRuntime) {
     }
 }
 
-/// [0, 4095], with [1280, 1535] held.
+/// The space [0, 4095] with [1280, 1535] allocated.
 pub(super) const ONE_HELD: &str =
     r#"{"address_space":{"start":0,"end":4095},"interval_tree":{"root":{
     "key":{"start":1280,"end":1535},"node_state":"Allocated",
@@ -38,13 +38,13 @@ pub(super) const ONE_HELD: &str =
     "right":{"key":{"start":1536,"end":4095},"node_state":"Free","left":null,"right":null,"height":1},
     "height":2}}}"#;
 
-/// The same three blocks, all of them held, and the fields in another order.
+/// The same three blocks, all of them allocated, and the fields in another order.
 pub(super) const ALL_HELD: &str = r#"{"interval_tree":{"root":{"height":2,
     "right":{"right":null,"left":null,"height":1,"node_state":"Allocated","key":{"end":4095,"start":1536}},
     "left":{"right":null,"left":null,"height":1,"node_state":"Allocated","key":{"end":1279,"start":0}},
     "node_state":"Allocated","key":{"end":1535,"start":1280}}},"address_space":{"end":4095,"start":0}}"#;
 
-/// The allocator with one range held.
+/// Returns the allocator with one allocated range.
 fn one_held(rt: &(impl Abort + AllocGlobal)) -> AddressAllocator {
     let mut space = made(rt, 0, 0x1000);
     hold(rt, &mut space, 0x500, 0x100);
@@ -84,11 +84,11 @@ fn blocks_that_are_none_of_a_space(rt: HostRuntime) {
             "left":{"key":{"start":0,"end":1279},"node_state":"Free","left":null,"right":null,"height":1},
             "right":{"key":{"start":1536,"end":4095},"node_state":"Free","left":null,"right":null,"height":1},
             "height":2}}}"#,
-        // A held key that ends at the last address of all.
+        // An allocated key that ends at the highest address.
         r#"{"address_space":{"start":1,"end":18446744073709551615},"interval_tree":{"root":{
             "key":{"start":1,"end":18446744073709551615},"node_state":"Allocated",
             "left":null,"right":null,"height":1}}}"#,
-        // A tree that leans, and one whose keys do not rise.
+        // A tree that is not balanced, and a tree whose keys are not in increasing order.
         r#"{"address_space":{"start":0,"end":2},"interval_tree":{"root":{
             "key":{"start":0,"end":0},"node_state":"Allocated","left":null,"right":{
             "key":{"start":1,"end":1},"node_state":"Allocated","left":null,"right":{
@@ -121,7 +121,7 @@ fn read_whole_or_not_at_all(rt: HostRuntime) {
     balance(rt.alloc());
 }
 
-/// The value that states a range.
+/// Returns the saved value of a range.
 fn saved_range(rt: &(impl Abort + AllocGlobal), range: &RangeInclusive) -> Value {
     match range.to_value(rt.alloc()) {
         Ok(value) => value,
@@ -131,7 +131,7 @@ fn saved_range(rt: &(impl Abort + AllocGlobal), range: &RangeInclusive) -> Value
     }
 }
 
-/// The value that states a state of a node.
+/// Returns the saved value of the state of a node.
 fn saved_state(rt: &(impl Abort + AllocGlobal), state: NodeState) -> Value {
     match state.to_value(rt.alloc()) {
         Ok(value) => value,

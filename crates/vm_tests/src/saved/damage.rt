@@ -1,9 +1,9 @@
-//! Values of which one field is damaged: left out, doubled under another name, or replaced.
+//! Tests of values with one damaged field: missing, doubled under another name, or replaced.
 use super::allocators::{ALL_HELD, FRESH, ONE_HELD};
 use super::*;
 use std::alloc::{AllocError, Global};
 
-/// One field of an object in a text, and what stands before and after it.
+/// One field of an object in a text, and the text before and after it.
 #[derive(Clone, Copy)]
 struct Field<'a> {
     before: &'a str,
@@ -12,7 +12,7 @@ struct Field<'a> {
     after: &'a str,
 }
 
-/// How many bytes of a text are its first value.
+/// Returns the number of bytes of the first value in a text.
 fn value_length(text: &str) -> usize {
     let mut depth = 0u64;
     for (at, byte) in text.bytes().enumerate() {
@@ -29,7 +29,7 @@ fn value_length(text: &str) -> usize {
     text.len()
 }
 
-/// The field of a number, counted from 0 in the order in which the fields begin.
+/// Returns the field with a number, counted from 0 in the order of the beginnings of the fields.
 fn field_at(text: &str, number: usize) -> Option<Field<'_>> {
     let (colon, _) = text.match_indices("\":").nth(number)?;
     let (head, tail) = text.split_at_checked(colon)?;
@@ -44,7 +44,7 @@ fn field_at(text: &str, number: usize) -> Option<Field<'_>> {
     })
 }
 
-/// The parts, one after the other.
+/// Joins the parts.
 fn joined(alloc: Global, parts: &[&str]) -> std::result::Result<String, AllocError> {
     let mut text = String::new(alloc);
     for part in parts {
@@ -53,7 +53,7 @@ fn joined(alloc: Global, parts: &[&str]) -> std::result::Result<String, AllocErr
     Ok(text)
 }
 
-/// Which type's reader is asked.
+/// The type whose reader is called.
 #[derive(Clone, Copy)]
 enum Asked {
     Allocator,
@@ -62,7 +62,7 @@ enum Asked {
 }
 
 impl Asked {
-    /// Whether the value of the parts, one after the other, states an object.
+    /// Returns whether the value of the joined parts encodes an object.
     fn accepts(self, rt: &(impl Abort + AllocGlobal), parts: &[&str]) -> bool {
         let text = match joined(rt.alloc(), parts) {
             Ok(text) => text,
@@ -79,7 +79,7 @@ impl Asked {
     }
 }
 
-/// Whether an object is stated where the field is left out.
+/// Returns whether the value is valid without the field.
 fn accepts_without(rt: &(impl Abort + AllocGlobal), asked: Asked, field: Field<'_>) -> bool {
     if let Some(after) = field.after.strip_prefix(',') {
         return asked.accepts(rt, &[field.before, after]);
@@ -89,7 +89,7 @@ fn accepts_without(rt: &(impl Abort + AllocGlobal), asked: Asked, field: Field<'
     asked.accepts(rt, &[before, field.after])
 }
 
-/// Whether an object is stated where the field's value stands under another name too.
+/// Returns whether the value is valid with the field doubled under another name.
 fn accepts_doubled(rt: &(impl Abort + AllocGlobal), asked: Asked, field: Field<'_>) -> bool {
     let Field {
         before,
@@ -101,7 +101,7 @@ fn accepts_doubled(rt: &(impl Abort + AllocGlobal), asked: Asked, field: Field<'
     asked.accepts(rt, &parts)
 }
 
-/// Whether an object is stated where the field has this value.
+/// Returns whether the value is valid with this value of the field.
 fn accepts_with(
     rt: &(impl Abort + AllocGlobal),
     asked: Asked,
@@ -112,7 +112,7 @@ fn accepts_with(
     asked.accepts(rt, &parts)
 }
 
-/// What stands in the place of a field's value.
+/// The values that replace the value of a field.
 const REPLACEMENTS: [&str; 7] = ["null", "true", "-1", "1.5", "\"x\"", "[]", "{}"];
 
 fn is_accepted(accepted: &[(&str, &str)], name: &str, value: &str) -> bool {
@@ -124,8 +124,8 @@ fn is_accepted(accepted: &[(&str, &str)], name: &str, value: &str) -> bool {
     false
 }
 
-/// Damages a field. `accepted` has the fields and the replacements with which the value states another
-/// object; a value in its own place states the same one.
+/// Damages a field. `accepted` contains the fields and the replacements with which the value
+/// encodes another object. A value that replaces itself encodes the same object.
 fn damage_field(
     rt: &(impl Abort + AllocGlobal),
     asked: Asked,
@@ -165,7 +165,7 @@ fn each_field_of_an_allocator(rt: HostRuntime) {
     damage(&rt, Asked::Allocator, ALL_HELD, 26, &[]);
 }
 
-/// With repairs any node may be missing.
+/// Checks that each node can be missing if the value is read with repairs.
 #[test]
 fn each_field_of_a_repaired_allocator(rt: HostRuntime) {
     let accepted = [("root", "null"), ("left", "null"), ("right", "null")];
@@ -181,7 +181,7 @@ fn each_field_of_ids(rt: HostRuntime) {
         4,
         &[("freed_ids", "[]")],
     );
-    // Up to the greatest id of all there may be no next one.
+    // The next id can be null if the range ends at the highest id.
     damage(
         &rt,
         Asked::Ids,

@@ -1,9 +1,9 @@
-//! Values of strangers.
+//! Tests of untrusted input.
 use super::*;
 use std::alloc::AllocError;
 
-/// Values of fields that are no whole numbers, numbers that are no range, other fields, and other kinds
-/// of values.
+/// Fields that are not whole numbers, numbers that are not a range, other fields, and values of
+/// other kinds.
 const NO_RANGES: &str = r#"[
     {"start":16,"end":18446744073709551616},
     {"start":16,"end":19.0},
@@ -25,7 +25,7 @@ const NO_RANGES: &str = r#"[
     null,
     {}]"#;
 
-/// Values that state no state of a node.
+/// Values that do not encode the state of a node.
 const NO_STATES: &str = r#"["free", "Free ", "", ["Free"], {"Free":null}, 0, false]"#;
 
 #[test]
@@ -34,7 +34,8 @@ fn no_whole_numbers(rt: HostRuntime) {
     reject_each(&rt, Reader::State, &parsed(&rt, NO_STATES));
 }
 
-/// What the reader of texts makes of a field that stands twice is its own; the value has one of them.
+/// Reads a text with a doubled field. The parser of the text decides which of the two the value
+/// has.
 #[test]
 fn doubled_fields(rt: HostRuntime) {
     let value = parsed(&rt, r#"{"start":16,"end":19,"end":17,"start":15}"#);
@@ -44,7 +45,7 @@ fn doubled_fields(rt: HostRuntime) {
     }
 }
 
-/// A hundred thousand open brackets.
+/// Returns a hundred thousand open brackets.
 fn brackets(alloc: std::alloc::Global) -> std::result::Result<String, AllocError> {
     let mut text = String::with_capacity(alloc, 100_000)?;
     for _ in 0..100_000 {
@@ -64,7 +65,7 @@ fn deep_texts(rt: HostRuntime) {
     }
 }
 
-/// A node in a node, and so on for that many levels.
+/// Reads a node in a node, and so on for a number of levels.
 #[test]
 fn deep_values(rt: HostRuntime) {
     for levels in [50, 51, 200] {

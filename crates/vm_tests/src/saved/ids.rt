@@ -1,4 +1,4 @@
-//! Id allocators.
+//! Tests of id allocators.
 use super::*;
 use crate::fixtures::{count_allocations, expect_allocations, expect_refused, items};
 
@@ -33,8 +33,11 @@ fn read_ones(rt: HostRuntime) {
     }
 }
 
-/// Values with a next id that is missing, or does not fit the range; with released ids that fall, stand
-/// still, or were not handed out; with no range; and with numbers that are no ids.
+/// Values that do not encode an id allocator:
+/// - The next id is missing, or does not fit the range.
+/// - The freed ids decrease, repeat, or were never allocated.
+/// - The range is empty.
+/// - The numbers are not ids.
 const NO_IDS: &str = r#"[
     {"range_base":5,"next_id":null,"range_end":23,"freed_ids":[]},
     {"range_base":5,"next_id":25,"range_end":23,"freed_ids":[]},

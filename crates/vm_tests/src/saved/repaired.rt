@@ -1,12 +1,12 @@
-//! Address allocators that are read with repairs.
+//! Tests of address allocators that are read with repairs.
 use super::allocators::{FRESH, ONE_HELD};
 use super::*;
 
-/// What a value states when it is read with repairs: the base and the size of the space, and the ranges
-/// held in it.
+/// The allocator that a value encodes with repairs: the base and the size of the space, and its
+/// allocated ranges.
 type Stated<'a> = Option<(u64, u64, &'a [(u64, u64)])>;
 
-/// The allocator of a space with these ranges held.
+/// Returns the allocator of a space with these allocated ranges.
 fn with_held(
     rt: &(impl Abort + AllocGlobal),
     base: u64,
@@ -20,7 +20,7 @@ fn with_held(
     space
 }
 
-/// The value of the text states nothing without repairs, and this with them.
+/// Checks that the value of the text is rejected without repairs, and encodes this with repairs.
 pub(super) fn assert_repaired(rt: &(impl Abort + AllocGlobal), text: &str, want: Stated<'_>) {
     assert_refused(rt, text);
     let answer = read_repaired(rt, &parsed(rt, text));
@@ -35,7 +35,7 @@ pub(super) fn assert_repaired(rt: &(impl Abort + AllocGlobal), text: &str, want:
 #[test]
 fn repaired_as_encoded(rt: HostRuntime) {
     for (text, want) in [
-        // A tree that was lost; two free neighbours; a gap on each side of a key, and a wrong height.
+        // A lost tree. Two free neighbours. A gap on each side of a key, and a wrong height.
         (
             r#"{"address_space":{"start":1,"end":16},"interval_tree":{"root":null}}"#,
             Some((1, 16, &[][..])),
@@ -52,7 +52,7 @@ fn repaired_as_encoded(rt: HostRuntime) {
             Some((16, 4, &[][..])),
         ),
         (ONE_BETWEEN_GAPS, Some((16, 4, &[(17, 17)][..]))),
-        // An address in two keys; a key that leaves the space, and one outside it.
+        // An address in two keys. A key that leaves the space, and a key outside it.
         (
             r#"{"address_space":{"start":16,"end":19},"interval_tree":{"root":{
                 "key":{"start":16,"end":18},"node_state":"Free","left":null,"right":{
@@ -71,7 +71,7 @@ fn repaired_as_encoded(rt: HostRuntime) {
                 "key":{"start":100,"end":200},"node_state":"Free","left":null,"right":null,"height":1}}}"#,
             None,
         ),
-        // The last address of all, held and free.
+        // The highest address, allocated and free.
         (
             r#"{"address_space":{"start":1,"end":18446744073709551615},"interval_tree":{"root":{
                 "key":{"start":18446744073709551615,"end":18446744073709551615},
@@ -89,7 +89,7 @@ fn repaired_as_encoded(rt: HostRuntime) {
     }
 }
 
-/// [16, 19] with [17, 17] held, its neighbours lost and its height wrong.
+/// The space [16, 19] with [17, 17] allocated, without its neighbours and with a wrong height.
 const ONE_BETWEEN_GAPS: &str = r#"{"address_space":{"start":16,"end":19},"interval_tree":{"root":{
     "key":{"start":17,"end":17},"node_state":"Allocated","left":null,"right":null,"height":7}}}"#;
 
@@ -101,11 +101,12 @@ fn repaired_to_blocks(rt: HostRuntime) {
     expect_eq(&rt, &counts, &(3, 2), &"blocks and height");
 }
 
-/// A held node with a wrong height.
+/// An allocated node with a wrong height.
 const FLAT_NODE: &str =
     r#"{"key":{"start":0,"end":0},"node_state":"Allocated","left":null,"right":null,"height":0}"#;
 
-/// The allocator of the addresses from 0 on, so many, each held alone.
+/// Returns the allocator of a number of addresses starting at 0, each allocated as a range of one
+/// address.
 fn each_held(rt: &(impl Abort + AllocGlobal), size: u64) -> AddressAllocator {
     let mut space = made(rt, 0, size);
     for start in 0..size {
@@ -114,8 +115,8 @@ fn each_held(rt: &(impl Abort + AllocGlobal), size: u64) -> AddressAllocator {
     space
 }
 
-/// What reading a chain of keys of one address, from 0 on, answers: `NotAState`, but for one that is no
-/// deeper than 50 and read with repairs. `first` is the innermost key.
+/// Checks the result of reading a chain of keys of one address, starting at 0. It is `NotAState`,
+/// except with repairs and at most 50 levels. `first` is the innermost key.
 fn expect_chain(rt: &(impl Abort + AllocGlobal), keys: u64, first: u64, side: &str) {
     let root = chain(rt, FLAT_NODE, keys, first, side);
     let value = with_root(rt, keys.saturating_sub(1), root);

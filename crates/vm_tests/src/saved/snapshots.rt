@@ -1,9 +1,9 @@
-//! Values that the Rust crate vm-allocator 0.1.4 wrote by its feature `serde`, its faults among them,
-//! as texts, since a test can read no file.
+//! Tests of values that the Rust crate vm-allocator 0.1.4 wrote with its feature `serde`, including
+//! the effects of its bugs. They are texts, because a test cannot read a file.
 use super::repaired::assert_repaired;
 use super::*;
 
-/// A space of which nothing was asked.
+/// A new space.
 const FRESH_SPACE: &str =
     r#"{"address_space":{"start":4096,"end":8191},"interval_tree":{"root":{"key":{"start":4096,"end":8191},
 "node_state":"Free","left":null,"right":null,"height":1}}}"#;
@@ -16,7 +16,7 @@ const THREE_WINDOWS: &str =
 "end":4294901759},"node_state":"Free","left":null,"right":{"key":{"start":4294901760,"end":4294967295},
 "node_state":"Allocated","left":null,"right":null,"height":1},"height":2},"height":3}}}"#;
 
-/// A tree that was lost when a range that starts at 1 was given back.
+/// A tree that was lost when a range that starts at 1 was freed.
 const LOST_TREE: &str = r#"{"address_space":{"start":1,"end":16},"interval_tree":{"root":null}}"#;
 
 /// Two free neighbours of one address each.
@@ -25,7 +25,7 @@ const NEIGHBOURS_NOT_JOINED: &str =
 "left":null,"right":{"key":{"start":3,"end":3},"node_state":"Free","left":null,"right":null,"height":1},
 "height":2}}}"#;
 
-/// A part of a held range, given out again.
+/// A part of an allocated range, allocated again.
 const PART_GIVEN_AGAIN: &str =
     r#"{"address_space":{"start":4096,"end":8191},"interval_tree":{"root":{"key":{"start":4352,"end":4607},
 "node_state":"Allocated","left":{"key":{"start":4096,"end":4351},"node_state":"Free","left":null,
@@ -38,13 +38,13 @@ const KEY_OUTSIDE_SPACE: &str =
     r#"{"address_space":{"start":1,"end":1},"interval_tree":{"root":{"key":{"start":2,"end":2},"node_state":"Free",
 "left":null,"right":null,"height":1}}}"#;
 
-/// A range that ends one below `u64::MAX`, removed by a release that was refused.
+/// A range that ends one below `u64::MAX`, removed by a call that returned an error.
 const END_AT_LAST_BUT_ONE: &str = r#"{"address_space":{"start":1,"end":18446744073709551615},
 "interval_tree":{"root":{"key":{"start":18446744073709551615,"end":18446744073709551615},
 "node_state":"Free","left":{"key":{"start":1,"end":18446744073709551613},"node_state":"Free","left":null,
 "right":null,"height":1},"right":null,"height":2}}}"#;
 
-/// Sixty ranges, taken in rising order.
+/// Sixty ranges, allocated in increasing order.
 const SIXTY_SLOTS: &str =
     r#"{"address_space":{"start":1048576,"end":2097151},"interval_tree":{"root":{"key":{"start":1556512,
 "end":1556527},"node_state":"Allocated","left":{"key":{"start":1294416,"end":1294431},
@@ -162,7 +162,7 @@ const SIXTY_SLOTS: &str =
 "left":null,"right":null,"height":1},"height":2},"height":3},"height":4},"height":5},"height":6},
 "height":7}}}"#;
 
-/// The same, every second one given back.
+/// The same ranges, with every second one freed.
 const EVERY_SECOND_FREED: &str =
     r#"{"address_space":{"start":1048576,"end":2097151},"interval_tree":{"root":{"key":{"start":1573016,
 "end":1573031},"node_state":"Allocated","left":{"key":{"start":1310788,"end":1310791},
@@ -223,10 +223,11 @@ const EVERY_SECOND_FREED: &str =
 "right":null,"height":1},"right":{"key":{"start":1999292,"end":2097151},"node_state":"Free","left":null,
 "right":null,"height":1},"height":2},"height":4},"height":5},"height":7}}}"#;
 
-/// Ids 5 to 23: seven taken, 6 and 9 given back.
+/// The ids 5 to 23: seven allocated, then 6 and 9 freed.
 const IDS: &str = r#"{"range_base":5,"next_id":12,"range_end":23,"freed_ids":[6,9]}"#;
 
-/// So many ranges are held, these among the first ones; `text` is what stated them.
+/// Checks that this number of ranges is allocated, including these as the first. `text` is the text
+/// that was read.
 fn expect_held(
     rt: &impl Abort,
     space: &AddressAllocator,
@@ -240,8 +241,8 @@ fn expect_held(
     }
 }
 
-/// The text states an allocator with so many ranges held, these among the first ones, and is what the
-/// allocator is written as.
+/// Checks that the text encodes an allocator with this number of allocated ranges, including these
+/// as the first, and that the allocator is written like the text.
 fn expect_read(rt: &(impl Abort + AllocGlobal), text: &str, count: u64, first: &[(u64, u64)]) {
     let value = parsed(rt, text);
     let space = read(rt, &value).expect(rt, text);

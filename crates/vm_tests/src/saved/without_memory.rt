@@ -1,9 +1,11 @@
-//! What asks for no memory. tests/refused_memory refuses every later request after `fail_from_here`.
+//! Calls that do not allocate. tests/refused_memory makes every allocation after `fail_from_here`
+//! fail.
 use super::*;
 
-/// A value that each reader accepts, and lists of values that one reader refuses. For ids these are, after
-/// other kinds of values, ids given back of which the last was never handed out, and ids given back with
-/// a next id past the range, before it, or missing, or with no range.
+/// A value that each reader accepts, and lists of values that one reader rejects.
+///
+/// The list for ids first contains values of other kinds. In the other values the last freed id was
+/// never allocated, the next id is past the range, before it or missing, or the range is empty.
 const VALUES: &str = r#"{
     "range":{"start":16,"end":19},
     "state":"Allocated",
@@ -35,12 +37,12 @@ const VALUES: &str = r#"{
         {"range_base":5,"next_id":null,"range_end":23,"freed_ids":[6,7]},
         {"range_base":23,"next_id":24,"range_end":5,"freed_ids":[23]}]}"#;
 
-/// What a value has under that name.
+/// Returns the field of a value with this name.
 fn value_of<'v>(rt: &impl Abort, values: &'v Value, name: &str) -> &'v Value {
     values.get(name).expect(rt, "there is a value of that name")
 }
 
-/// Each of these readers accepts its value.
+/// Checks that each of these readers accepts its value.
 fn expect_accepted(rt: &(impl Abort + AllocGlobal), values: &Value) {
     let got = RangeInclusive::from_value(rt.alloc(), value_of(rt, values, "range"));
     expect_eq(rt, &got, &Ok(range(rt, 16, 19)), &"range");
@@ -64,7 +66,7 @@ fn checked(rt: HostRuntime) {
     ] {
         reject_each(&rt, reader, value_of(&rt, &values, name));
     }
-    // The one request: what a run without memory is known by.
+    // The only allocation. Its result shows whether the run is without memory.
     let one_node = value_of(&rt, &values, "one_node");
     let space = AddressAllocator::from_value(rt.alloc(), one_node);
     expect_held_or_no_memory(&rt, space, &[(16, 19)]);

@@ -1,4 +1,5 @@
-//! The devices that a list states, where they pair the held ids with the held ranges.
+//! Reads the devices of a list, and checks that they pair the allocated ids with the allocated
+//! ranges.
 ghost use Rattle.std.specs.Prelude.{IfOk};
 ghost use Rattle.std.specs.FinSet as set;
 ghost use Rattle.serde_json.specs.View.{items_view};
@@ -12,7 +13,8 @@ use std::alloc::{AllocError, Global};
 use std::collections::{BTreeMap, BTreeSet};
 use vm_allocator::{AddressAllocator, IdAllocator, RangeInclusive, ValueError};
 
-/// The table of the devices that a list states, where they pair the held ids with the held ranges.
+/// Reads the table of the devices of a list. Returns `NotAState` if they do not pair the allocated
+/// ids with the allocated ranges.
 pub(super) fn read_devices(
     alloc: Global,
     ids: &IdAllocator,
@@ -21,7 +23,7 @@ pub(super) fn read_devices(
 ) -> std::result::Result<BTreeMap<u32, RangeInclusive>, ValueError>
     ensures { FindsPaired ids.now (state_of space.now) (items_view list.now) result }
 {
-    // A stranger's list is counted before it costs memory.
+    // The list can be untrusted input, so it is counted before memory is allocated for it.
     if !counts_match(ids, space, list) {
         return Err(ValueError::NotAState);
     }
@@ -32,7 +34,7 @@ pub(super) fn read_devices(
     Ok(slots)
 }
 
-/// Whether the items are as many as the held ids and as the held ranges.
+/// Returns whether the number of items is the number of allocated ids and of allocated ranges.
 fn counts_match(ids: &IdAllocator, space: &AddressAllocator, items: &[Value]) -> bool
     ensures { IsTestOf result (CountsMatch ids.now (state_of space.now) (items_view items.now)) }
 {
@@ -40,7 +42,8 @@ fn counts_match(ids: &IdAllocator, space: &AddressAllocator, items: &[Value]) ->
     ids.held_count() == count && space.held_count() == count
 }
 
-/// Whether the id and the range of each device are held, and no two have one start.
+/// Returns whether the id and the range of each device are allocated, and no two ranges have the
+/// same start.
 fn are_held_and_distinct(
     alloc: Global,
     ids: &IdAllocator,

@@ -15,7 +15,7 @@ use std::collections::BTreeMap;
 use vm_allocator::{RangeInclusive, Result, ValueError};
 use vm_ranges::{has_fields, range_in, u32_in};
 
-/// The list of devices, by rising ids.
+/// Encodes the devices as a list, by increasing ids.
 pub(super) fn encode_slots(alloc: Global, slots: &BTreeMap<u32, RangeInclusive>) -> Result<Value>
     ensures answer { Saves (λ d. EncodesList d slots.now.entries) result }
     ensures increasing { IsStrictlySortedBy nat_cmp (keys_of slots.now.entries) }
@@ -28,7 +28,7 @@ pub(super) fn encode_slots(alloc: Global, slots: &BTreeMap<u32, RangeInclusive>)
     Ok(Value::from(list))
 }
 
-/// The value of one device.
+/// Encodes one device.
 fn encode_slot(alloc: Global, id: u32, range: &RangeInclusive) -> Result<Value>
     ensures { Saves (λ d. EncodesDevice d (id, range.now)) result }
 {
@@ -36,14 +36,15 @@ fn encode_slot(alloc: Global, id: u32, range: &RangeInclusive) -> Result<Value>
     Ok(slot_object(alloc, id, range)?)
 }
 
-/// The object of a device's fields.
+/// Builds the object with the fields of a device.
 fn slot_object(alloc: Global, id: u32, range: Value) -> std::result::Result<Value, AllocError>
     ensures { IfOk result (λ value. DeviceParts (view value) id (view range)) }
 {
     json!(in alloc; {"id": id, "mmio_range": range})
 }
 
-/// The table of the devices that a list states, where their ids rise.
+/// Reads the table of the devices of a list. Returns `NotAState` if an item is not a device, or if
+/// the ids are not in strictly increasing order.
 #[tactic(auto, using(crate::proofs::SavedDevices::tables))]
 pub(super) fn read_slots(
     alloc: Global,
@@ -66,7 +67,7 @@ pub(super) fn read_slots(
     Ok(slots)
 }
 
-/// The device that a value states.
+/// Decodes a device. Returns `None` if the value is not a device.
 fn decode_slot(value: &Value) -> Option<DeviceSlot>
     ensures { option_map (λ slot. (slot.id, slot.range)) result ≡ decoded_device (view value.now) }
 {

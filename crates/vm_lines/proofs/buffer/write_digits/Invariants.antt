@@ -3,7 +3,7 @@ use Rattle.std.specs.Fmt.{decimal}
 use Rattle.vm_lines.specs.Printing.{digits_from}
 use Rattle.vm_lines.proofs.buffer.write_digits.Given as goal
 
--- the digits of the rest, and those that are written
+-- The digits of the rest, followed by the digits that are written, are the digits of the number.
 abbrev pub invariant-loop-rest : goal.invariant-loop-rest
 invariant-loop-rest l = record {
   text : decimal l.rest ++ digits_from l.start l.digits ≡ decimal l.number;

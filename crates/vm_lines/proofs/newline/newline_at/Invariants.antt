@@ -2,7 +2,7 @@ use Rattle.std.proofs.Common.{ℕ, ◌≡◌, ◌==◌, ◌≤◌, ◌<◌, ◌-
 use Rattle.vm_lines.specs.Lines.{newline}
 use Rattle.vm_lines.proofs.newline.newline_at.Given as goal
 
--- no newline so far
+-- There is no newline so far.
 abbrev pub invariant-loop-start : goal.invariant-loop-start
 invariant-loop-start l = record {
   within : l.start ≤ length l.text;

@@ -3,7 +3,7 @@ use Rattle.vm_lines.specs.Numbers.{value_from}
 use Rattle.vm_lines.specs.Reading.{leading_digits}
 use Rattle.vm_lines.proofs.number.leading_value.Given as goal
 
--- the digits so far, and those that are left
+-- The digits so far, and the digits that are left.
 abbrev pub invariant-loop-count : goal.invariant-loop-count
 invariant-loop-count l = record {
   within : l.count ≤ l.most;

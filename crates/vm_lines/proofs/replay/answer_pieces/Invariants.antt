@@ -4,7 +4,7 @@ use Rattle.vm_lines.specs.Moving.{MovesText}
 use Rattle.vm_lines.proofs.Progress.{At}
 use Rattle.vm_lines.proofs.replay.answer_pieces.Given as goal
 
--- what was read, and the text of its answers, which is written or waits
+-- The bytes that were read, and their output, which is written or in the buffer.
 abbrev pub invariant-loop : goal.invariant-loop
 invariant-loop g l =
     (read : List ℕ) × (text : List ℕ)

@@ -3,7 +3,7 @@ use Rattle.vm_lines.specs.Sessions.{Session, AnswersPiece}
 use Rattle.vm_lines.specs.Moving.{MovesText}
 use Rattle.vm_lines.proofs.replay.feed.Given as goal
 
--- the text of the lines so far is written or waits, and what the rest leads to, the piece does
+-- The output of the lines so far is written or in the buffer. The rest leads to the same session as the piece.
 abbrev pub invariant-loop-end : goal.invariant-loop-end
 invariant-loop-end g l =
     (text : List ℕ)

@@ -13,7 +13,7 @@ returns-in_err-second c =
     let first : number_first (words_of c.args.text.now) ≡ Some (c.in_ok-first.first, words_of c.in_ok-rest.field-0.now) = search rules in
     none ∙ sym (four_less (words_of c.args.text.now) (words_of c.in_ok-rest.field-0.now) c.in_ok-first.first first less)
 
--- named, since the search for them is slow
+-- Proof: the steps are named, because the search for them is slow.
 pub returns-in_err-first : goal.returns-in_err-first
 returns-in_err-first c = grind (arith, common_steps, four_none, four_some)
 

@@ -1,10 +1,11 @@
-//! Values of strangers, which state no manager: a good one's text with one part replaced. That the
-//! text without the change is read, and has the part, is asserted, so no row is refused for another
-//! reason.
+//! Untrusted input that does not encode a manager: a valid text with one part replaced.
+//!
+//! Each test first checks that the text without the change is read and has the part. So no row is
+//! rejected for another reason.
 use super::*;
 use std::alloc::AllocError;
 
-/// Three texts as one.
+/// Joins three texts.
 fn joined(alloc: Global, parts: [&str; 3]) -> std::result::Result<String, AllocError> {
     let mut text = String::new(alloc);
     for part in parts {
@@ -13,7 +14,7 @@ fn joined(alloc: Global, parts: [&str; 3]) -> std::result::Result<String, AllocE
     Ok(text)
 }
 
-/// The text in which `new` stands for the first `old`, of which it has to have one.
+/// Replaces the first `old` in a text by `new`. Checks that there is one.
 fn changed(rt: &(impl Abort + AllocGlobal), text: &str, old: &str, new: &str) -> String {
     let parts = text.split_once(old);
     let (before, after) = parts.expect(rt, "the text has what is changed");
@@ -23,13 +24,13 @@ fn changed(rt: &(impl Abort + AllocGlobal), text: &str, old: &str, new: &str) ->
     }
 }
 
-/// The value of the text states no manager.
+/// Checks that the value of the text does not encode a manager.
 fn expect_refused(rt: &(impl Abort + AllocGlobal), text: &str) {
     let answer = read(rt, &parsed(rt, text));
     expect_true(rt, answer.err() == Some(ValueError::NotAState), &text);
 }
 
-/// The text states a manager, and with each of these changes none.
+/// Checks that the text encodes a manager, and that it does not with any of these changes.
 fn expect_all_refused(rt: &(impl Abort + AllocGlobal), text: &str, changes: &[(&str, &str)]) {
     expect_manager(rt, text, &[]);
     for (old, new) in changes {
@@ -37,7 +38,7 @@ fn expect_all_refused(rt: &(impl Abort + AllocGlobal), text: &str, changes: &[(&
     }
 }
 
-/// Parts of `ONE_DEVICE`, and of `TWO_DEVICES` the list.
+/// Parts of `ONE_DEVICE`, and the list of `TWO_DEVICES`.
 const IDS: &str = r#""id_allocator":{"range_base":0,"next_id":1,"range_end":1,"freed_ids":[]},"#;
 
 const SLOTS: &str = r#"[{"id":0,"mmio_range":{"start":4096,"end":6143}}]"#;
@@ -52,7 +53,7 @@ const TWO_SLOTS: &str =
 #[test]
 fn each_field_of_a_manager(rt: HostRuntime) {
     let changes = &[
-        // Another version, or none; fields left out, or more of them.
+        // Another version or no version, missing fields, and more fields.
         (r#""version":1"#, r#""version":2"#),
         (r#""version":1"#, r#""version":0"#),
         (r#""version":1"#, r#""version":"1""#),
@@ -65,12 +66,13 @@ fn each_field_of_a_manager(rt: HostRuntime) {
         (r#""slots""#, r#""Slots""#),
         (r#""id_allocator""#, r#""ids""#),
         (r#""mmio_allocator""#, r#""mmio""#),
-        // Allocators that are none: id 1 was never handed out, a height is wrong, or a field.
+        // Allocators that are not valid: id 1 was never allocated, a height is wrong, or a field is
+        // wrong.
         (r#""freed_ids":[]"#, r#""freed_ids":[1]"#),
         (r#""range_base":0"#, r#""range_base":2"#),
         (r#""height":2"#, r#""height":3"#),
         (r#""interval_tree":"#, r#""tree":"#),
-        // Slots that are no list, and slots that are no devices.
+        // Slots that are not a list, and slots that are not devices.
         (SLOTS, "null"),
         (SLOTS, SLOT),
         (SLOTS, r#"{"0":{"start":4096,"end":6143}}"#),
@@ -85,7 +87,7 @@ fn each_field_of_a_manager(rt: HostRuntime) {
         (RANGE, r#""mmio_range":{"start":6143,"end":4096}"#),
         (RANGE, r#""mmio_range":null"#),
         (RANGE, r#""range":{"start":4096,"end":6143}"#),
-        // An id, or a range, that is not held.
+        // An id or a range that is not allocated.
         (r#""id":0"#, r#""id":1"#),
         (r#""freed_ids":[]"#, r#""freed_ids":[0]"#),
         (RANGE, r#""mmio_range":{"start":4096,"end":6142}"#),
@@ -94,11 +96,11 @@ fn each_field_of_a_manager(rt: HostRuntime) {
             "}}]}",
             r#"}},{"id":1,"mmio_range":{"start":6144,"end":8191}}]}"#,
         ),
-        // A held id, a held range, or both, without a device.
+        // An allocated id, an allocated range, or both, without a device.
         (r#""next_id":1"#, r#""next_id":2"#),
         (r#""Free""#, r#""Allocated""#),
         (SLOTS, "[]"),
-        // One device twice.
+        // The same device twice.
         (
             "}}]}",
             r#"}},{"id":0,"mmio_range":{"start":4096,"end":6143}}]}"#,
@@ -110,21 +112,21 @@ fn each_field_of_a_manager(rt: HostRuntime) {
 #[test]
 fn devices_that_share(rt: HostRuntime) {
     let changes = &[
-        // Both have the first range, or the second, or one of no device.
+        // Both have the first range, or the second, or a range of no device.
         (
             r#""id":1,"mmio_range":{"start":6144,"end":8191}"#,
             r#""id":1,"mmio_range":{"start":4096,"end":6143}"#,
         ),
         (RANGE, r#""mmio_range":{"start":6144,"end":8191}"#),
         (RANGE, r#""mmio_range":{"start":4096,"end":8191}"#),
-        // Both have one id, or their ids fall.
+        // Both have the same id, or their ids decrease.
         (r#""id":1"#, r#""id":0"#),
         (r#""id":0"#, r#""id":1"#),
         (
             TWO_SLOTS,
             r#"[{"id":1,"mmio_range":{"start":6144,"end":8191}},{"id":0,"mmio_range":{"start":4096,"end":6143}}]"#,
         ),
-        // One of them is left out, or its id or its range alone is no more held.
+        // A device is missing, or only its id or only its range is not allocated any more.
         (TWO_SLOTS, SLOTS),
         (r#""next_id":2"#, r#""next_id":1"#),
         (r#""freed_ids":[]"#, r#""freed_ids":[1]"#),

@@ -4,7 +4,7 @@ use Rattle.vm_allocator.specs.Checks.IdChecks.{increasing}
 use Rattle.vm_allocator.proofs.Ids.IncreasingNumbers.{AreBelow}
 use Rattle.vm_allocator.proofs.saved.ids.collect_ids.Given as goal
 
--- the numbers so far are in the set, and those that are left go on from them
+-- The set has the numbers so far, and the numbers that are left follow them.
 abbrev pub invariant-loop-item : goal.invariant-loop-item
 invariant-loop-item l = record {
   so_far : increasing l.fn.lowest l.bound (items_view l.list) ≡ option_map (λ ns. l.ids.keys ++ ns) (increasing l.next l.bound (items_view (drop l.item-index l.list)));

@@ -3,7 +3,7 @@ use Rattle.std.proofs.lemmas.Grind.{common_steps}
 use Rattle.vm_allocator.specs.Checks.RepairChecks.{checked_keys}
 use Rattle.vm_allocator.proofs.saved.repaired.+check_keys.Goals as goal
 
--- named, since the search for them is slow
+-- Proof: the steps are named, because the search for them is slow.
 pub returns-then-is_null : goal.returns-then-is_null
 unfolding checked_keys
 returns-then-is_null t c = grind (arith, common_steps)

@@ -5,7 +5,7 @@ use Rattle.vm_ranges.specs.declared.error.Error.TheVariants.{OutOfMemory}
 use Rattle.vm_devices.specs.declared.device_slot.DeviceSlot.{DeviceSlot}
 use Rattle.vm_devices.specs.Devices.{devices_of}
 use Rattle.vm_devices.proofs.DeviceCalls.{Parts, IsUndone, Comes, range_refused, table_refused, undone, come, come_state}
-use Rattle.vm_devices.proofs.Callers.{device_least, device_state, device_fits, device_chosen}
+use Rattle.vm_devices.proofs.Callers.{device_lowest, device_state, device_fits, device_chosen}
 use Rattle.vm_devices.proofs.device_manager.DeviceManager.reserve.Goals as goal
 
 pub returns-in_err-range-clause-answer : goal.returns-in_err-range-clause-answer
@@ -88,7 +88,7 @@ returns-clause-state c = invariant_of-self-2 c
 
 pub returns-clause-lowest : goal.returns-clause-lowest
 returns-clause-lowest c =
-    device_least _ _ (request_for c.args.size c.args.align c.args.policy) (Ok (record { id = c.in_ok-id.id; range = c.in_ok-range.range })) (returns-clause-answer c)
+    device_lowest _ _ (request_for c.args.size c.args.align c.args.policy) (Ok (record { id = c.in_ok-id.id; range = c.in_ok-range.range })) (returns-clause-answer c)
 
 pub returns-clause-held : goal.returns-clause-held
 returns-clause-held c =
