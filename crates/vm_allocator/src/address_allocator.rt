@@ -66,7 +66,7 @@ impl AddressAllocator {
     /// - `Underflow` if `size` is 0.
     /// - `Overflow` if the last address would be past `u64::MAX`.
     /// - `OutOfMemory` if the allocation of the node fails.
-    #[tactic(auto, using(crate::proofs::Answers::Making::making, crate::proofs::Answers::Making::making_held, vm_engine::proofs::Nodes::Spaces::spaces))]
+    #[tactic(auto, using(crate::proofs::Answers::Making::making, vm_engine::proofs::Nodes::Spaces::spaces))]
     pub fn new(alloc: Global, base: u64, size: u64) -> Result<Self>
         ensures answer { Makes base size (made_state result) }
         ensures state { IfOk result (λ allocator. IsAddressState (state_of allocator)) }

@@ -12,31 +12,11 @@ use Rattle.vm_engine.specs.Tree.Blocks.{blocks_of, blocks_state, TilesSpace, IsT
 use Rattle.vm_ranges.specs.declared.error.Error.TheVariants.{Overflow, Underflow, OutOfMemory}
 use Rattle.vm_ranges.specs.declared.state.NodeState.TheVariants.{Free}
 
-pub makes_none : (base size : ℕ) → size ≡ 0 → Makes base size (Err Underflow)
-unfolding Makes
-makes_none base size e = inl (e, refl)
-
-pub makes_over : (base size : ℕ) → 0 < size → MAX < base + (size - 1) → Makes base size (Err Overflow)
-unfolding Makes
-makes_over base size z o = inr (λ e. omega arith, inl (omega arith, refl))
-
-pub makes_memory : (base size : ℕ) → 0 < size → base + (size - 1) ≤ MAX → Makes base size (Err OutOfMemory)
-unfolding Makes
-makes_memory base size z o = inr (λ e. omega arith, inr (λ e. omega arith, inr refl))
-
-pub makes_space : (base size : ℕ) (sp : Range) → 0 < size → base + (size - 1) ≤ MAX → sp ≡ record { start = base; end = base + (size - 1) } → Makes base size (Ok (blocks_state sp (record { key = sp; state = Free } ∷ [])))
-unfolding Makes
-makes_space base size sp z o e =
-    let last : base + (size - 1) ≡ base + size - 1 = omega arith in
-    inr (λ e. omega arith, inr (λ e. omega arith, inl (ap (λ (v : Range). Ok (blocks_state v (record { key = v; state = Free } ∷ []))) (e ∙ ap (λ (v : ℕ). record { start = base; end = v }) last))))
-
 pub tiles_space : (sp : Range) → sp.start ≤ sp.end → IsTiling sp (record { key = sp; state = Free } ∷ [])
 unfolding TilesSpace
 tiles_space sp l = record { tiles = (refl, l, tt, refl); below = tt }
 
-pub ruleset making = (makes_none, makes_over, makes_memory, makes_space, tiles_space)
-
--- ---- a space, and an allocator of it
+-- ---- The space
 pub no_space : (base size : ℕ) → size ≡ 0 → MakesSpace base size (Err Underflow)
 unfolding BySpace
 no_space base size e = inl (e, refl)
@@ -51,6 +31,35 @@ space_made base size sp z o e =
     let last : base + (size - 1) ≡ base + size - 1 = omega arith in
     inr (λ e. omega arith, inr (λ e. omega arith, ap (λ (v : Range). Ok v) (e ∙ ap (λ (v : ℕ). record { start = base; end = v }) last)))
 
+-- ---- An allocator of the space
+pub new_refused : (base size : ℕ) (e : Error) → MakesSpace base size (Err e) → Makes base size (Err e)
+unfolding BySpace Makes
+new_refused base size e s =
+    ⊎_elim
+    (λ l. inl (l.0, cc (l.1)))
+    (λ r. ⊎_elim (λ l. inr (r.0, inl (l.0, cc (l.1)))) (λ k. absurd (cc (k.1))) r.1)
+    s
+
+pub new_memory : (base size : ℕ) (sp : Range) → MakesSpace base size (Ok sp) → Makes base size (Err OutOfMemory)
+unfolding BySpace Makes
+new_memory base size sp s =
+    ⊎_elim
+    (λ l. absurd (cc (l.1)))
+    (λ r. ⊎_elim (λ l. absurd (cc (l.1))) (λ k. inr (r.0, inr (k.0, inr refl))) r.1)
+    s
+
+pub new_made : (base size : ℕ) (sp : Range) → MakesSpace base size (Ok sp) → Makes base size (Ok (blocks_state sp (record { key = sp; state = Free } ∷ [])))
+unfolding BySpace Makes
+new_made base size sp s =
+    ⊎_elim
+    (λ l. absurd (cc (l.1)))
+    (λ r. ⊎_elim
+    (λ l. absurd (cc (l.1)))
+    (λ k. let e : sp ≡ span base size = cc (k.1) in inr (r.0, inr (k.0, inl (ap (λ (v : Range). Ok (blocks_state v (record { key = v; state = Free } ∷ []))) e))))
+    r.1)
+    s
+
+-- ---- An allocator of the space with some ranges held
 pub over_space : (base size : ℕ) (sp : Range) (held : List Range) (answer : Result AddressState Error) → MakesSpace base size (Ok sp) → MakesHeld sp held answer → MakesWithHeld base size held answer
 unfolding BySpace
 over_space base size sp held answer s h =
@@ -67,7 +76,7 @@ without_space base size held e s =
     (λ r. ⊎_elim (λ l. inr (r.0, inl (l.0, cc (l.1)))) (λ k. absurd (cc (k.1))) r.1)
     s
 
--- what is made is the state
+-- The allocator that is made has the state.
 made_is : (o : Option Error) (many : Type 0) (answer : Result AddressState Error) (state made : AddressState) → MatchOption o (IfElse many (answer ≡ Err Overflow) ((answer ≡ Ok state) ⊎ (answer ≡ Err OutOfMemory))) (λ fault. answer ≡ Err fault) → answer ≡ Ok made → made ≡ state
 made_is None many answer state made h e = ⊎_elim (λ l. absurd (cc (l.1, e))) (λ r. ⊎_elim (λ k. cc (k, e)) (λ k. absurd (cc (k, e))) r.1) h
 made_is (Some f) many answer state made h e = absurd (cc (h, e))
@@ -78,8 +87,10 @@ held_made space held made m =
     let state : AddressState = record { space = space; held = held } in
     made_is (first_fault space.start space.end held) (TOO_MANY_BLOCKS ≤ length (blocks_of state)) (Ok made) state made m refl
 
--- the space of a tree is the one that it was made for
+-- The space of a tree is the one that it was made for.
 pub space_of_made : (space : Range) (held : List Range) (s : Shape) → MakesHeld space held (Ok (tree_state s)) → space_of (blocks s) ≡ space
 space_of_made space held s m = ap (λ (v : AddressState). v.space) (held_made space held (tree_state s) m)
 
 pub ruleset making_held = (no_space, space_past, space_made, over_space, without_space, space_of_made)
+
+pub ruleset making = (no_space, space_past, space_made, new_refused, new_memory, new_made, tiles_space)
