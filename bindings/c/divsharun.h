@@ -33,8 +33,8 @@
  *
  * Memory. If an allocation fails, a call frees what it has allocated and
  * returns VM_OUT_OF_MEMORY. This is the last error, except in a call that reads
- * a text. These calls also use sets and maps of Rust's library, which end the
- * process with abort() if their allocation fails:
+ * a text. These calls also use sets and maps of the Rust standard library, which
+ * end the process with abort() if their allocation fails:
  * - vm_id_free(), vm_id_allocator_read(), vm_device_manager_read();
  * - vm_device_reserve_first(), _last() and _exact(), vm_device_release().
  *
