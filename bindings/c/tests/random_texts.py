@@ -7,8 +7,7 @@ PROGRAM is the command that runs read.c. A text encodes an object, with fields i
 blanks, or has random damage, or is in a list below. Python decides whether a text is JSON, and this file
 decides independently which object it encodes. The saved text of an object that was read must have the
 same value, or the same allocated ranges for a repaired object. The seed is printed. The exit status is 1
-at the first text with a wrong result.
-"""
+at the first text with a wrong result."""
 import argparse
 import json
 import random

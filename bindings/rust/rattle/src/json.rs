@@ -22,7 +22,7 @@ use TextError::NotJson;
 impl fmt::Display for TextError {
     fn fmt(&self, f: &mut fmt::Formatter<'_>) -> fmt::Result {
         match self {
-            NotJson => f.write_str("the text is no JSON"),
+            NotJson => f.write_str("the text is not JSON"),
             TextError::OutOfMemory => AllocError.fmt(f),
         }
     }

@@ -45,7 +45,7 @@ pub struct AllocError;
 
 impl fmt::Display for AllocError {
     fn fmt(&self, f: &mut fmt::Formatter<'_>) -> fmt::Result {
-        f.write_str("a request for memory was refused")
+        f.write_str("an allocation failed")
     }
 }
 
