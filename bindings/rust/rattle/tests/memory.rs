@@ -17,7 +17,7 @@ fn refuse_each<T>(requests: u64, call: impl Fn() -> Result<T, AllocError>) -> T 
     }
     let (result, made) = refusing(0, &call);
     assert_eq!(made, requests);
-    result.expect("no request is refused")
+    result.expect("no allocation fails")
 }
 
 #[test]
@@ -30,7 +30,7 @@ fn boxes() {
     ];
     assert!(texts
         .iter()
-        .all(|text| text.as_deref() == Some("a request for memory was refused")));
+        .all(|text| text.as_deref() == Some("an allocation failed")));
     let before = blocks();
     let mut boxed = refuse_each(1, || Ok(Box::new(Global, 7)?));
     *boxed += 1;
