@@ -1,8 +1,8 @@
 # shellcheck shell=bash
-# The inputs that programs are measured on: a function for each kind, which gets how many ranges are held. `mixed`
-# asks the program that `$program` names where its ranges stand. What is made twice waits in the files `$asked`
-# and `$once`.
-# shellcheck disable=SC2154 # who reads this file sets them
+# The inputs of measurements: a function for each kind, whose argument is the number of allocated ranges.
+# `mixed` runs the program that `$program` names, to learn the ranges. Inputs that are used twice are stored
+# in the files `$asked` and `$once`.
+# shellcheck disable=SC2154 # the sourcing file sets them
 
 # The numbers below n, shuffled the same way each time.
 shuffled='function shuffle(order, n,    i, j, t) {
@@ -15,7 +15,7 @@ shuffled='function shuffle(order, n,    i, j, t) {
 }
 BEGIN { seed = 7 }'
 
-# k ranges of one address each at named starts, and all given back, in another order.
+# k ranges of one address each at given starts, all freed in another order.
 exact() {
     awk -v k="$1" "$shuffled"'
     BEGIN {
@@ -27,18 +27,18 @@ exact() {
     }'
 }
 
-# k ranges of one address each at the least place, with nothing given back.
+# k ranges of one address each at the lowest free address, none of them freed.
 first() {
     awk -v k="$1" 'BEGIN { print "space 0 " 2 * k; for (i = 0; i < k; i++) print "first 1 1" }'
 }
 
-# A space that k ranges of one page each fill, at the least place.
+# A space that k ranges of one page each fill, in ascending order.
 fill() {
     awk -v k="$1" 'BEGIN { printf "space 0 %.0f\n", k * 4096; for (i = 0; i < k; i++) print "first 4096 1" }'
 }
 
-# k pages at the least place, every second one given back, and then ranges of two pages, which fit
-# behind all of the gaps alone, each given back at once.
+# k pages in ascending order, every second one freed, and then ranges of two pages, which fit only after all
+# gaps. Each is freed at once.
 frag() {
     awk -v k="$1" 'BEGIN {
         printf "space 0 %.0f\n", (k + 2) * 4096
@@ -48,7 +48,7 @@ frag() {
     }'
 }
 
-# The devices of `devices` at the starts that they get there, all given back in another order.
+# The devices of `devices` at the same starts, all freed in another order.
 named() {
     awk -v k="$1" "$shuffled"'
     BEGIN {
@@ -64,8 +64,8 @@ named() {
     }'
 }
 
-# k devices of 4 KiB to 16 MiB, aligned to their sizes, and then k times one given back and placed
-# again. Each stands where one of its size fits exactly, so the answers are known beforehand.
+# k devices of 4 KiB to 16 MiB, aligned to their sizes, and then k times one freed and allocated again. Each
+# fits exactly into the freed range, so the results are known in advance.
 devices() {
     awk -v k="$1" "$shuffled"'
     BEGIN {
@@ -82,8 +82,8 @@ devices() {
     }'
 }
 
-# k requests of 4 KiB to 16 MiB at alignments that are drawn apart from the sizes, and then k times one
-# of what they got given back and another request made. Where they stand the program itself tells.
+# k requests of 4 KiB to 16 MiB with independent alignments, and then k times one allocated range freed and
+# another request. The program itself determines the ranges.
 mixed() {
     local drawn='function drawn() { seed = seed * 16807 % 2147483647; return 2 ^ (12 + int(seed / 1024) % 13) }'
     awk -v k="$1" "$shuffled$drawn"'
@@ -99,8 +99,8 @@ mixed() {
     }'
 }
 
-# k devices of a page each on a manager, and then k times one plugged out and in again. It gets the id
-# and the range that it had, the least ones then, so the answers are known beforehand.
+# k devices of a page each on a manager, and then k times one unplugged and plugged in again. It gets its
+# old id and range, which are the lowest free ones, so the results are known in advance.
 plug() {
     awk -v k="$1" "$shuffled"'
     BEGIN {
@@ -111,7 +111,7 @@ plug() {
     }'
 }
 
-# The same on a space and on ids, with two lines for each one of `plug`.
+# The same on a space and on ids, with two lines for each line of `plug`.
 apart() {
     awk -v k="$1" "$shuffled"'
     BEGIN {
@@ -126,7 +126,7 @@ apart() {
     }'
 }
 
-# A million lines of which each takes or gives back one of ten ranges.
+# A million lines, each of which allocates or frees one of ten ranges.
 few() {
     awk 'BEGIN {
         print "space 0 1048576"
@@ -138,7 +138,7 @@ few() {
     }'
 }
 
-# k ids, and then k times one given back and taken again: the least one then, so it gets the same.
+# k ids, and then k times one freed and allocated again. It is the lowest free id, so it is the same.
 ids() {
     awk -v k="$1" "$shuffled"'
     BEGIN {
@@ -149,7 +149,7 @@ ids() {
     }'
 }
 
-# An input of a kind, as often as gives a hundred thousand lines.
+# Prints an input of a kind, repeated to a hundred thousand lines.
 often() { # kind, ranges
     "$@" > "$once"
     awk -v lines="$(wc -l < "$once")" 'BEGIN { print (lines < 100000) ? int(100000 / lines) : 1 }' |

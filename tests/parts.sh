@@ -1,7 +1,7 @@
 # shellcheck shell=bash
-# Sourced by tests/all, tests/quick, tests/plain_rust and tests/c_library, at the top of the repository: the
-# parts of a check. Each is named when it begins, and finish_parts lists how long each took. Output that
-# only matters if a part fails goes to the folder $scratch.
+# Parts of a check. tests/all, tests/quick, tests/plain_rust and tests/c_library source this file at the top
+# of the repository. Each part is named when it begins, and finish_parts prints the time of each. Output
+# that only matters if a part fails goes to the folder $scratch.
 scratch=$(mktemp -d) || exit 1
 trap 'rm -rf "$scratch"' EXIT
 log=$scratch/log
@@ -9,7 +9,7 @@ times=$scratch/times
 passed_parts=0
 failed_parts=()
 
-# Sets which parts a check runs. Other options show its head.
+# Sets the parts that a check runs. Unknown options print its head.
 choose_parts() { # the check's options: none, --of-sources or --of-built
     case $* in
         "") export of_sources=yes of_built=yes ;;

@@ -1,17 +1,17 @@
-"""Limits on processor time, for the checks that run a program which may never end. Other work on the machine
-changes no verdict, since it takes none of a program's processor time."""
+"""Limits on processor time, for checks that run a program that might not end. Other work on the machine
+does not change a result, because it uses no processor time of the program."""
 import resource
 
-# Seconds by the clock. They only end a program that waits forever.
+# Seconds of real time. They only end a program that hangs.
 HANG = 2 * 3600
 
 
 def limited_to(seconds):
-    """Returns what a child calls before it starts. The child then gets at most this many seconds."""
+    """Returns a function that a child calls before it starts. It limits the child to this number of seconds."""
     return lambda: resource.setrlimit(resource.RLIMIT_CPU, (seconds, seconds))
 
 
 def used_by_children():
-    """Returns the seconds that all children so far have used."""
+    """Returns the seconds that all children have used so far."""
     used = resource.getrusage(resource.RUSAGE_CHILDREN)
     return used.ru_utime + used.ru_stime

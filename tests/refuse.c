@@ -1,9 +1,15 @@
-/* Refuses requests for memory of the program that it is preloaded into: with REFUSE the request of
- * that number, counted from 1, and with REFUSE_AFTER each one after the first request for that many
- * bytes. For each refusal one byte is added to the file named by REFUSED. Ends the program where, from
- * one request for as many bytes as BALANCE says to the next, more blocks or fewer were given back than
- * were given. A request for as many bytes as COUNT says begins a count of requests; one for 1 to 99 bytes
- * more ends the program where one more or fewer were made than that, and none was refused. */
+/*
+ * A preloaded library that fails allocations of a program.
+ *
+ * - REFUSE=N fails allocation number N, counted from 1.
+ * - REFUSE_AFTER=SIZE fails each allocation after the first one of SIZE bytes.
+ * - REFUSED=FILE: each failed allocation adds one byte to FILE.
+ * - BALANCE=SIZE: between two allocations of SIZE bytes, the numbers of
+ *   allocated and freed blocks must be equal. Otherwise the program ends.
+ * - COUNT=SIZE: an allocation of SIZE bytes starts a count of allocations. One
+ *   of SIZE + 1 + N bytes ends the program if the count is not N, unless an
+ *   allocation failed. N is at most 98.
+ */
 #define _GNU_SOURCE
 #include <dlfcn.h>
 #include <fcntl.h>

@@ -1,6 +1,7 @@
 /*
- * What drm_mm.c and the trees below it use of the kernel, for a program of a user's: types, the order of
- * loads and stores on one processor, and nothing for what reports or debugs.
+ * The part of the kernel that drm_mm.c and its trees use, for a user program:
+ * types, loads and stores for one processor, and empty macros for reports and
+ * debugging.
  */
 #ifndef KERNEL_H
 #define KERNEL_H

@@ -1,14 +1,14 @@
 /*
- * The lines on a space of the replay language (space, first, last, exact, free) over Linux's drm_mm, from the
- * standard input to the standard output. Requests that make no sense are left out, and so is whatever refuses
- * one but the want of a place.
+ * Runs the lines of the replay language on a space (space, first, last, exact,
+ * free) with Linux's drm_mm, from the standard input to the standard output. It
+ * does not check requests, so the only error is that nothing fits.
  */
 #include <drm/drm_mm.h>
 
 #include <stdio.h>
 #include <string.h>
 
-/* How much is read at once; a line has fewer bytes, and its answer fewer than eight times as many. */
+/* The bytes of one read. A line has fewer bytes, and its result fewer than eight times as many. */
 enum { PIECE = 65536 };
 
 static struct drm_mm space;
@@ -44,7 +44,7 @@ static u64 number_at(const char **line)
 	return number;
 }
 
-/* What is refused, by drm_mm's number for it. */
+/* Writes the result of an allocation. The status is that of drm_mm. */
 static void answer(struct drm_mm_node *node, int status)
 {
 	if (status != 0) {
@@ -118,7 +118,7 @@ static void answer_line(const char *line)
 	}
 }
 
-/* Answers the whole lines of what was read, and says how many bytes they take. */
+/* Runs the whole lines of the input, and returns the number of their bytes. */
 static size_t answer_lines(char *input, size_t length)
 {
 	char *line = input, *newline;

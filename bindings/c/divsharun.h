@@ -1,7 +1,7 @@
 /* SPDX-License-Identifier: Apache-2.0 OR BSD-3-Clause */
 /*
- * divsharun: gives out ranges of addresses and ids to the devices of a virtual
- * machine: MMIO and PIO windows, PCI bars, interrupts, memory slots.
+ * divsharun: allocators of address ranges and ids for the devices of a virtual
+ * machine: MMIO and PIO windows, PCI bars, interrupts and memory slots.
  *
  *     vm_address_allocator *mmio;
  *     vm_range bar;
@@ -12,40 +12,41 @@
  *         vm_range_free(mmio, bar, NULL);
  *     vm_address_allocator_destroy(mmio);
  *
- * Units. Addresses, sizes and alignments are in addresses of the space, which
- * are bytes for memory and ports for PIO. A range has both of its ends.
+ * Units. Addresses, sizes and alignments are in addresses of the space: bytes
+ * of memory, or ports for PIO. A range includes its start and its end.
  *
- * Answers. Each call returns a status; the two that give words alone do not.
- * What a call answers besides is written through its last pointers, and only
- * where it returns VM_OK: after a refusal they are as before, and so is the
- * object. The order in which a call tests for its refusals stands with it,
- * after the two that come first in every call: VM_NULL where a pointer is null
- * that may not be, and VM_BUSY (see vm_range_visit).
+ * Errors. Each call returns a status, except vm_status_text() and
+ * vm_version_text(). A call writes its results through its last pointers, and
+ * only if it returns VM_OK. An error leaves the results and the object
+ * unchanged. Two errors come first in every call: VM_NULL if a pointer is null
+ * that must not be, and VM_BUSY (see vm_range_visit()). The comment of a call
+ * lists the other errors in the order in which they are checked.
  *
- * Ownership. An object belongs to who made it, until it is destroyed by the
- * call of its type; the same is so of a text that a call gave. The library
- * keeps no pointer that it was given beyond the call. A pointer that is given
- * to a call is null, or is to what the parameter says and is still there.
+ * Ownership. You own an object from the call that creates it until the call
+ * that destroys it. You own a saved text until vm_text_destroy(). The library
+ * keeps no pointer to your memory after a call returns. A pointer argument must
+ * be null or point to a valid object of its type.
  *
- * Threads. Calls on different objects may run side by side. On one object,
- * calls that take a pointer to const may; any other call on it has to be alone.
- * An object may be handed on to another thread, and be destroyed there.
+ * Threads. Calls on different objects can run at the same time. On one object,
+ * calls that take a pointer to const can run at the same time. Any other call
+ * must be the only one on its object. Any thread can use and destroy an object.
  *
- * Memory. Where a request for memory is refused, VM_OUT_OF_MEMORY is returned,
- * after all other refusals but those of a text that is read, and what the call
- * got is given back. This holds of every call but vm_id_free,
- * vm_id_allocator_read, vm_device_reserve_first, _last and _exact,
- * vm_device_release and vm_device_manager_read: these also keep ids and devices
- * in sets and maps of Rust's, which end the process by abort() where they get no
- * memory. What gives a range back, takes an id, or asks what is held takes no
- * memory. Reading a text takes less than 80 times its length, also if the text is
- * untrusted; what the malloc of glibc adds to each block is included.
+ * Memory. If an allocation fails, a call frees what it has allocated and
+ * returns VM_OUT_OF_MEMORY. This is the last error, except in a call that reads
+ * a text. These calls also use sets and maps of the Rust standard library, which
+ * end the process with abort() if their allocation fails:
+ * - vm_id_free(), vm_id_allocator_read(), vm_device_manager_read();
+ * - vm_device_reserve_first(), _last() and _exact(), vm_device_release().
  *
- * Stack. 64 KiB suffice for every call.
+ * Freeing a range, allocating an id and queries do not allocate memory. Reading
+ * a text allocates less than 80 times its length, even if the text is
+ * untrusted. This includes the overhead of glibc's malloc for each block.
  *
- * Faults. No call is known to fail in any other way than by its status. If the
- * library finds that it is at fault itself, it ends the process by abort();
- * nothing is ever thrown into C or C++.
+ * Stack. 64 KiB are enough for every call.
+ *
+ * Bugs. No call is known to fail other than by its status. If the library
+ * detects a bug in itself, it ends the process with abort(). It never throws
+ * into C or C++.
  */
 #ifndef DIVSHARUN_H
 #define DIVSHARUN_H
@@ -55,10 +56,10 @@
 #include <stdint.h>
 
 /*
- * The version of this header. The number of a status, the members of a
- * structure and what a call does stay as they are while VM_VERSION_MAJOR does,
- * which is also the number in the name of the shared library; new statuses and
- * calls may come with VM_VERSION_MINOR.
+ * The version of this header. The numbers of statuses, the members of
+ * structures and the behavior of calls stay the same within one
+ * VM_VERSION_MAJOR. It is also the number in the name of the shared library. A
+ * new VM_VERSION_MINOR can add statuses and calls.
  */
 #define VM_VERSION_MAJOR 1
 #define VM_VERSION_MINOR 0
@@ -69,47 +70,48 @@
 extern "C" {
 #endif
 
-/* What a call returns. No number is ever given another meaning. */
+/* The result of a call. The meaning of a number never changes. */
 typedef enum vm_status {
     VM_OK = 0,
-    /* A range would end past or at UINT64_MAX, or all ids up to UINT32_MAX are held. */
+    /* A range would end at or past UINT64_MAX, or all ids up to UINT32_MAX are allocated. */
     VM_OVERFLOW = 1,
-    /* The id to give back is not one of the allocator's. */
+    /* The id to free is outside the range of the allocator. */
     VM_OUT_OF_RANGE = 2,
-    /* The id to give back was held once, and is not held any more. */
+    /* The id to free was allocated and is already freed. */
     VM_ALREADY_RELEASED = 3,
-    /* The id to give back was never given out, or no device has it. */
+    /* The id to free was never allocated, or no device has it. */
     VM_NEVER_ALLOCATED = 4,
-    /* There is no place, all ids are held, or the range to give back is not held. */
+    /* No free range fits, all ids are allocated, or the range to free is not allocated. */
     VM_RESOURCE_NOT_AVAILABLE = 5,
-    /* The start is past the end, or the range is that of all 2^64 addresses. */
+    /* The start is past the end, or the range has all 2^64 addresses. */
     VM_INVALID_RANGE = 6,
-    /* The alignment is no power of two. */
+    /* The alignment is not a power of two. */
     VM_INVALID_ALIGNMENT = 7,
     /* Two ranges share an address. No call of this library returns it. */
     VM_OVERLAP = 8,
-    /* Exactly the range that is asked for is held already. */
+    /* Exactly the requested range is already allocated. */
     VM_INVALID_STATE_TRANSITION = 9,
-    /* The start that is asked for is no multiple of the alignment. */
+    /* The requested start is not a multiple of the alignment. */
     VM_UNALIGNED_ADDRESS = 10,
-    /* The space is to have no address. */
+    /* The size of a space is 0. */
     VM_UNDERFLOW = 11,
-    /* The range is to have no address. */
+    /* The size of a requested range is 0. */
     VM_INVALID_SIZE = 12,
-    /* A request for memory was refused. */
+    /* An allocation failed. */
     VM_OUT_OF_MEMORY = 13,
-    /* A pointer is null that may not be. */
+    /* A pointer is null that must not be. */
     VM_NULL = 14,
-    /* The object is being visited, so that it can't be changed or destroyed. */
+    /* The object is being visited, so it cannot be changed or destroyed. */
     VM_BUSY = 15,
     /*
-     * The text is no JSON of RFC 8259 in UTF-8, is nested more than 128 deep, has
-     * a number that is greater than any double, or half of a letter by its number.
+     * The text is not JSON of RFC 8259 in UTF-8, is nested more than 128 deep,
+     * has a number greater than any double, or has an unpaired surrogate
+     * escape.
      */
     VM_NOT_JSON = 16,
-    /* The text is JSON, and states no object of the type. */
+    /* The text is JSON, but does not encode an object of the type. */
     VM_NOT_A_STATE = 17,
-    /* Not a status: it keeps the type as wide as an int. */
+    /* Not a status. It makes the type as wide as an int. */
     VM_STATUS_WIDTH_ = 0x7fffffff
 } vm_status;
 
@@ -120,159 +122,192 @@ typedef struct vm_range {
 } vm_range;
 
 /*
- * The numbers of a refusal. A call writes all members of the one that it is
- * given a pointer to where it is refused, those without a meaning as 0, and
- * none where it is not; the pointer may be null.
+ * Details of an error. A call that returns an error writes all members of the
+ * vm_refusal that it was given, with 0 for those without a meaning. A call that
+ * returns VM_OK writes none. The pointer can be null.
  */
 typedef struct vm_refusal {
-    /* Of VM_INVALID_RANGE and VM_OVERLAP the range, of VM_INVALID_STATE_TRANSITION the held one. */
+    /* VM_INVALID_RANGE, VM_OVERLAP: the range. VM_INVALID_STATE_TRANSITION: the allocated range. */
     vm_range range;
-    /* Of VM_OVERLAP the range that is there already. */
+    /* VM_OVERLAP: the existing range. */
     vm_range other;
-    /* Of VM_INVALID_SIZE. */
+    /* VM_INVALID_SIZE: the size. */
     uint64_t size;
-    /* Of VM_OUT_OF_RANGE, VM_ALREADY_RELEASED and VM_NEVER_ALLOCATED. */
+    /* VM_OUT_OF_RANGE, VM_ALREADY_RELEASED, VM_NEVER_ALLOCATED: the id. */
     uint32_t id;
 } vm_refusal;
 
-/* What a device holds. */
+/* The resources of a device. */
 typedef struct vm_device {
     vm_range range;
     uint32_t id;
 } vm_device;
 
-/* Gives out ranges of one space of addresses. No two held ranges share an address. */
+/* Allocates ranges of addresses from one space. Allocated ranges never share an address. */
 typedef struct vm_address_allocator vm_address_allocator;
 
-/* Gives out the ids of a range, each to one holder at a time. */
+/* Allocates ids from a range, the lowest free id first. */
 typedef struct vm_id_allocator vm_id_allocator;
 
-/* Gives each device an id and a range, both or neither. */
+/* Allocates an id and a range for each device. If it cannot have both, it gets neither. */
 typedef struct vm_device_manager vm_device_manager;
 
 /*
- * What a status means, in words. The text is the library's own and stays for
- * ever; a number that is no status has a text as well.
+ * Returns a description of a status, also for a number that is not a status.
+ * The text has static storage duration.
  */
 const char *vm_status_text(vm_status status);
 
-/* The version of the library that runs, as in VM_VERSION_TEXT. The text is the library's own. */
+/*
+ * Returns the version of the library that runs, like VM_VERSION_TEXT. It has
+ * static storage duration.
+ */
 const char *vm_version_text(void);
 
 /* ---- Ranges of addresses ---- */
 
 /*
- * Makes an allocator of the `size` addresses from `base` on, with none held.
- * The caller owns it, until vm_address_allocator_destroy.
- * Refusals, in order: VM_UNDERFLOW for a size of 0; VM_OVERFLOW where the last
- * address would be past UINT64_MAX; VM_OUT_OF_MEMORY.
+ * Creates an allocator for the `size` addresses starting at `base`, all of them
+ * free. Destroy it with vm_address_allocator_destroy().
+ *
+ * Errors, in order:
+ * - VM_UNDERFLOW if `size` is 0.
+ * - VM_OVERFLOW if the last address would be past UINT64_MAX.
+ * - VM_OUT_OF_MEMORY.
  */
 vm_status vm_address_allocator_new(uint64_t base, uint64_t size, vm_address_allocator **allocator);
 
 /*
- * Destroys an allocator, whatever it holds. It can't be used any more then.
- * Refusals, with nothing destroyed: VM_NULL, VM_BUSY.
+ * Destroys an allocator, with all its allocated ranges.
+ *
+ * Errors: VM_NULL, VM_BUSY. Nothing is destroyed then.
  */
 vm_status vm_address_allocator_destroy(vm_address_allocator *allocator);
 
-/* Answers the space that the allocator was made for. It has no refusals of its own. */
+/* Writes the first and the last address of the space to `space`. Errors: VM_NULL. */
 vm_status vm_address_allocator_space(const vm_address_allocator *allocator, vm_range *space);
 
 /*
- * Holds `size` addresses from the least multiple of `alignment` on at which they
- * are all clear, and answers them. They are the caller's until vm_range_free.
- * Refusals, in order: VM_INVALID_SIZE for a size of 0; VM_INVALID_ALIGNMENT for
- * an alignment that is no power of two; VM_RESOURCE_NOT_AVAILABLE where there is
- * no place; VM_OVERFLOW where that place ends at UINT64_MAX, or where more than
- * 6 * 10^9 ranges are held; VM_OUT_OF_MEMORY.
+ * Allocates the lowest `size` free addresses that start at a multiple of
+ * `alignment`, and writes them to `range`. Free them with vm_range_free().
+ *
+ * Errors, in order:
+ * - VM_INVALID_SIZE if `size` is 0.
+ * - VM_INVALID_ALIGNMENT if `alignment` is not a power of two.
+ * - VM_RESOURCE_NOT_AVAILABLE if there is no such range.
+ * - VM_OVERFLOW if the range ends at UINT64_MAX, or more than 6 * 10^9 ranges
+ *   are allocated.
+ * - VM_OUT_OF_MEMORY.
  */
 vm_status vm_range_allocate_first(vm_address_allocator *allocator, uint64_t size,
                                   uint64_t alignment, vm_range *range, vm_refusal *refusal);
 
 /*
- * The same from the greatest multiple of `alignment` on. Its refusals are those
- * of vm_range_allocate_first; VM_OVERFLOW comes where the greatest place ends at
- * UINT64_MAX, also where there is another.
+ * Allocates the highest `size` free addresses that start at a multiple of
+ * `alignment`. Its errors are those of vm_range_allocate_first(). VM_OVERFLOW is
+ * returned if the highest range ends at UINT64_MAX, even if another is free.
  */
 vm_status vm_range_allocate_last(vm_address_allocator *allocator, uint64_t size, uint64_t alignment,
                                  vm_range *range, vm_refusal *refusal);
 
 /*
- * The same from `start` on.
- * Refusals, in order: VM_INVALID_SIZE; VM_INVALID_ALIGNMENT;
- * VM_UNALIGNED_ADDRESS where `start` is no multiple of `alignment`; VM_OVERFLOW
- * where it is UINT64_MAX; VM_RESOURCE_NOT_AVAILABLE where it is outside the
- * space; VM_OVERFLOW where the range would pass UINT64_MAX;
- * VM_INVALID_STATE_TRANSITION, with the range, where exactly it is held;
- * VM_RESOURCE_NOT_AVAILABLE where an address of it is held or outside the space;
- * VM_OVERFLOW where it ends at UINT64_MAX, or where more than 6 * 10^9 ranges are
- * held; VM_OUT_OF_MEMORY.
+ * Allocates the `size` addresses starting at `start`.
+ *
+ * Errors, in order:
+ * - VM_INVALID_SIZE if `size` is 0.
+ * - VM_INVALID_ALIGNMENT if `alignment` is not a power of two.
+ * - VM_UNALIGNED_ADDRESS if `start` is not a multiple of `alignment`.
+ * - VM_OVERFLOW if `start` is UINT64_MAX.
+ * - VM_RESOURCE_NOT_AVAILABLE if `start` is outside the space.
+ * - VM_OVERFLOW if the range would end past UINT64_MAX.
+ * - VM_INVALID_STATE_TRANSITION, with the range, if exactly this range is
+ *   already allocated.
+ * - VM_RESOURCE_NOT_AVAILABLE if an address of the range is allocated or
+ *   outside the space.
+ * - VM_OVERFLOW if the range ends at UINT64_MAX, or more than 6 * 10^9 ranges
+ *   are allocated.
+ * - VM_OUT_OF_MEMORY.
  */
 vm_status vm_range_allocate_exact(vm_address_allocator *allocator, uint64_t size,
                                   uint64_t alignment, uint64_t start, vm_range *range,
                                   vm_refusal *refusal);
 
 /*
- * Gives a held range back, whole. It takes no memory.
- * Refusals, in order: VM_INVALID_RANGE where `range` is none;
- * VM_RESOURCE_NOT_AVAILABLE where it is not held, a part of a held one, or more
- * than one.
+ * Frees an allocated range. It does not allocate memory.
+ *
+ * Errors, in order:
+ * - VM_INVALID_RANGE if `range` is not a valid range.
+ * - VM_RESOURCE_NOT_AVAILABLE if exactly this range is not allocated. A part of
+ *   an allocated range cannot be freed.
  */
 vm_status vm_range_free(vm_address_allocator *allocator, vm_range range, vm_refusal *refusal);
 
 /*
- * Answers whether exactly this range is held.
- * Refusals: VM_INVALID_RANGE where `range` is none.
+ * Writes to `is_held` whether exactly this range is allocated.
+ *
+ * Errors: VM_INVALID_RANGE if `range` is not a valid range.
  */
 vm_status vm_range_is_held(const vm_address_allocator *allocator, vm_range range, bool *is_held,
                            vm_refusal *refusal);
 
-/* Answers how many ranges are held. It looks at each, and has no refusals of its own. */
+/* Writes the number of allocated ranges to `count`. It walks all of them. Errors: VM_NULL. */
 vm_status vm_range_count(const vm_address_allocator *allocator, uint64_t *count);
 
 /*
- * The function that vm_range_visit calls, with the context that was given to it.
- * Any number but 0 ends the visit. The function has to return. The process ends by
- * abort() if an exception of C++ leaves it, if it calls pthread_exit(), or if its
- * thread is cancelled in it. A longjmp() out of it is not allowed: it would leave
- * the allocator busy.
+ * The function that vm_range_visit() calls for each range, with its `context`.
+ * It returns 0 to continue the visit and any other number to end it.
+ *
+ * The function must return. The process ends with abort() if a C++ exception
+ * leaves it, if it calls pthread_exit(), or if its thread is cancelled in it.
+ * It must not leave by longjmp(), because the allocator would stay busy.
  */
 typedef int vm_range_visitor(void *context, vm_range range);
 
 /*
- * Calls `visitor` with each held range, from the lowest to the highest. Meanwhile
- * whatever would change or destroy the allocator is refused by VM_BUSY; calls
- * that take a pointer to const may be made. `context` may be null. It takes no
- * memory, has no refusals of its own, and returns VM_OK also where the visitor
- * ended it.
+ * Calls `visitor` with each allocated range, in ascending order. `context` can
+ * be null. It does not allocate memory.
+ *
+ * During the visit, calls that would change or destroy the allocator return
+ * VM_BUSY. Calls that take a pointer to const are allowed.
+ *
+ * Returns VM_OK even if the visitor ended the visit. Errors: VM_NULL.
  */
 vm_status vm_range_visit(const vm_address_allocator *allocator, vm_range_visitor *visitor,
                          void *context);
 
 /*
- * Answers a JSON text that states the allocator, and its length in bytes without
- * the zero at its end. The text is the caller's until vm_text_destroy.
- * Refusals: VM_OUT_OF_MEMORY.
+ * Saves the allocator as JSON. Writes the text to `text` and its length in
+ * bytes, without the terminating zero, to `length`. Free the text with
+ * vm_text_destroy().
+ *
+ * Errors: VM_OUT_OF_MEMORY.
  */
 vm_status vm_address_allocator_save(const vm_address_allocator *allocator, char **text,
                                     size_t *length);
 
 /*
- * Makes the allocator that the `length` bytes of `text` state, which need no zero
- * at their end. The text may come from anyone. The caller owns the allocator.
- * Refusals, in order: VM_NOT_JSON; VM_NOT_A_STATE where a field is missing, twice
- * there or unknown, or the parts do not fit together as those of an allocator do;
- * VM_OUT_OF_MEMORY, which may also come while the text is read, before the two.
+ * Creates the allocator that the `length` bytes of `text` encode. They need no
+ * terminating zero, and can be untrusted. Destroy the allocator with
+ * vm_address_allocator_destroy().
+ *
+ * Errors, in order:
+ * - VM_NOT_JSON if the text is not JSON.
+ * - VM_NOT_A_STATE if a field is missing, duplicate or unknown, or the values
+ *   are not those of an allocator.
+ * - VM_OUT_OF_MEMORY. It can also come first, while the text is read.
  */
 vm_status vm_address_allocator_read(const char *text, size_t length,
                                     vm_address_allocator **allocator);
 
 /*
- * The same, and reads besides what the Rust crate vm-allocator 0.1.4 wrote after
- * one of its faults: the ranges that the text says to be allocated are held, and
- * all else is clear. VM_NOT_A_STATE comes where the ranges of the text do not
- * rise, overlap, leave the space, or end at UINT64_MAX while they are held, and
- * where a path from the root of the tree has more than 50 nodes.
+ * Reads like vm_address_allocator_read(), and also accepts what the Rust crate
+ * vm-allocator 0.1.4 wrote after one of its bugs. The ranges that the text
+ * marks as allocated are allocated, and all other addresses are free.
+ *
+ * VM_NOT_A_STATE is returned if a field is missing, duplicate or unknown, or
+ * - the ranges are not in ascending order, overlap or leave the space;
+ * - an allocated range ends at UINT64_MAX;
+ * - a path from the root of the tree has more than 50 nodes.
  */
 vm_status vm_address_allocator_read_repaired(const char *text, size_t length,
                                              vm_address_allocator **allocator);
@@ -280,118 +315,137 @@ vm_status vm_address_allocator_read_repaired(const char *text, size_t length,
 /* ---- Ids ---- */
 
 /*
- * Makes an allocator of the ids from `first` to `last`, both included, with none
- * held. The caller owns it, until vm_id_allocator_destroy.
- * Refusals, in order: VM_INVALID_RANGE, with both, where `last` is less than
- * `first`; VM_OUT_OF_MEMORY.
+ * Creates an allocator for the ids from `first` to `last`, both included, all
+ * of them free. Destroy it with vm_id_allocator_destroy().
+ *
+ * Errors, in order:
+ * - VM_INVALID_RANGE, with both ids, if `last` is less than `first`.
+ * - VM_OUT_OF_MEMORY.
  */
 vm_status vm_id_allocator_new(uint32_t first, uint32_t last, vm_id_allocator **allocator,
                               vm_refusal *refusal);
 
 /*
- * Destroys an allocator, whatever it holds. It can't be used any more then.
- * Refusals, with nothing destroyed: VM_NULL.
+ * Destroys an allocator, with all its allocated ids.
+ *
+ * Errors: VM_NULL. Nothing is destroyed then.
  */
 vm_status vm_id_allocator_destroy(vm_id_allocator *allocator);
 
 /*
- * Takes the least id that is not held, and answers it. It takes no memory.
- * Refusals, where all are held: VM_OVERFLOW if the last one is UINT32_MAX, else
- * VM_RESOURCE_NOT_AVAILABLE.
+ * Allocates the lowest free id and writes it to `id`. It does not allocate
+ * memory.
+ *
+ * Errors, if all ids are allocated: VM_OVERFLOW if the last id is UINT32_MAX,
+ * and VM_RESOURCE_NOT_AVAILABLE otherwise.
  */
 vm_status vm_id_allocate(vm_id_allocator *allocator, uint32_t *id);
 
-/* Answers what vm_id_allocate would answer, its refusals included, and takes nothing. */
+/* Writes the id that vm_id_allocate() would allocate, without a change. It has the same errors. */
 vm_status vm_id_peek(const vm_id_allocator *allocator, uint32_t *id);
 
 /*
- * Gives a held id back.
- * Refusals, in order, each with the id: VM_OUT_OF_RANGE where it is not between
- * the first and the last; VM_NEVER_ALLOCATED where it was never given out;
- * VM_ALREADY_RELEASED where it is not held any more. Where there is no memory
- * the process ends.
+ * Frees an allocated id. Ends the process if an allocation fails.
+ *
+ * Errors, in order, each with the id:
+ * - VM_OUT_OF_RANGE if the id is not between the first and the last.
+ * - VM_NEVER_ALLOCATED if the id was never allocated.
+ * - VM_ALREADY_RELEASED if the id is already freed.
  */
 vm_status vm_id_free(vm_id_allocator *allocator, uint32_t id, vm_refusal *refusal);
 
-/* Answers whether the id is held; one of another range is not. It has no refusals of its own. */
+/*
+ * Writes to `is_allocated` whether the id is allocated. An id outside the range
+ * is not. Errors: VM_NULL.
+ */
 vm_status vm_id_is_allocated(const vm_id_allocator *allocator, uint32_t id, bool *is_allocated);
 
-/* Answers how many ids are held. It has no refusals of its own. */
+/* Writes the number of allocated ids to `count`. Errors: VM_NULL. */
 vm_status vm_id_count(const vm_id_allocator *allocator, uint64_t *count);
 
-/* As vm_address_allocator_save. */
+/* Saves like vm_address_allocator_save(). */
 vm_status vm_id_allocator_save(const vm_id_allocator *allocator, char **text, size_t *length);
 
 /*
- * As vm_address_allocator_read; where there is no memory for the set of ids that
- * were given back, the process ends.
+ * Reads like vm_address_allocator_read(). Ends the process if the allocation of
+ * the set of freed ids fails.
  */
 vm_status vm_id_allocator_read(const char *text, size_t length, vm_id_allocator **allocator);
 
 /* ---- Devices ---- */
 
 /*
- * Makes a manager without devices, for the ids from `first_id` to `last_id`, both
- * included, and for the `size` addresses from `base` on. The caller owns it,
- * until vm_device_manager_destroy.
- * Refusals, in order: VM_INVALID_RANGE, with both ids, where the last is less
- * than the first; VM_UNDERFLOW for a size of 0; VM_OVERFLOW where the last
- * address would be past UINT64_MAX; VM_OUT_OF_MEMORY.
+ * Creates a manager without devices, for the ids from `first_id` to `last_id`,
+ * both included, and the `size` addresses starting at `base`. Destroy it with
+ * vm_device_manager_destroy().
+ *
+ * Errors, in order:
+ * - VM_INVALID_RANGE, with both ids, if `last_id` is less than `first_id`.
+ * - VM_UNDERFLOW if `size` is 0.
+ * - VM_OVERFLOW if the last address would be past UINT64_MAX.
+ * - VM_OUT_OF_MEMORY.
  */
 vm_status vm_device_manager_new(uint32_t first_id, uint32_t last_id, uint64_t base, uint64_t size,
                                 vm_device_manager **manager, vm_refusal *refusal);
 
 /*
- * Destroys a manager, whatever its devices hold. It can't be used any more then.
- * Refusals, with nothing destroyed: VM_NULL.
+ * Destroys a manager, with all its devices.
+ *
+ * Errors: VM_NULL. Nothing is destroyed then.
  */
 vm_status vm_device_manager_destroy(vm_device_manager *manager);
 
 /*
- * Gives a new device the least id that is not held, and a range as
- * vm_range_allocate_first does. Both are the device's until vm_device_release.
- * Refusals, in order: what vm_id_allocate refuses; what vm_range_allocate_first
- * refuses. Where there is no memory for the table of devices, the process ends.
+ * Allocates the lowest free id and the range of vm_range_allocate_first() for a
+ * new device, and writes both to `device`. Release the device with
+ * vm_device_release(). Ends the process if the allocation of the table of
+ * devices fails.
+ *
+ * Errors, in order: those of vm_id_allocate(), then those of
+ * vm_range_allocate_first().
  */
 vm_status vm_device_reserve_first(vm_device_manager *manager, uint64_t size, uint64_t alignment,
                                   vm_device *device, vm_refusal *refusal);
 
-/* The same, with a range as by vm_range_allocate_last. */
+/* Reserves a device like vm_device_reserve_first(), with the range of vm_range_allocate_last(). */
 vm_status vm_device_reserve_last(vm_device_manager *manager, uint64_t size, uint64_t alignment,
                                  vm_device *device, vm_refusal *refusal);
 
-/* The same, with a range as by vm_range_allocate_exact. */
+/* Reserves a device like vm_device_reserve_first(), with the range of vm_range_allocate_exact(). */
 vm_status vm_device_reserve_exact(vm_device_manager *manager, uint64_t size, uint64_t alignment,
                                   uint64_t start, vm_device *device, vm_refusal *refusal);
 
 /*
- * Gives back the id and the range of a device.
- * Refusals: VM_NEVER_ALLOCATED, with the id, where no device has it. Where there
- * is no memory the process ends.
+ * Releases a device: frees its id and its range. Ends the process if an
+ * allocation fails.
+ *
+ * Errors: VM_NEVER_ALLOCATED, with the id, if no device has it.
  */
 vm_status vm_device_release(vm_device_manager *manager, uint32_t id, vm_refusal *refusal);
 
 /*
- * Answers the range of a device.
- * Refusals: VM_NEVER_ALLOCATED, with the id, where no device has it.
+ * Writes the range of the device with this id to `range`.
+ *
+ * Errors: VM_NEVER_ALLOCATED, with the id, if no device has it.
  */
 vm_status vm_device_slot(const vm_device_manager *manager, uint32_t id, vm_range *range,
                          vm_refusal *refusal);
 
-/* As vm_address_allocator_save. */
+/* Saves like vm_address_allocator_save(). */
 vm_status vm_device_manager_save(const vm_device_manager *manager, char **text, size_t *length);
 
 /*
- * As vm_address_allocator_read; where there is no memory for the ids that were
- * given back or for the table of devices, the process ends.
+ * Reads like vm_address_allocator_read(). Ends the process if the allocation of
+ * the set of freed ids or of the table of devices fails.
  */
 vm_status vm_device_manager_read(const char *text, size_t length, vm_device_manager **manager);
 
 /* ---- Texts ---- */
 
 /*
- * Gives back a text that a call gave, unchanged. It can't be used any more then.
- * Refusals: VM_NULL.
+ * Frees a saved text. The text must not have been changed.
+ *
+ * Errors: VM_NULL.
  */
 vm_status vm_text_destroy(char *text);
 

@@ -1,22 +1,30 @@
 #!/usr/bin/env python3
-"""Writes the proved crates of a project as plain Rust crates, by cutting out what is for the prover.
+"""Writes the proved crates of a project as plain Rust crates, by removing everything that only the prover
+uses.
 
     erase.py PROJECT OUT [--tests]
 
-PROJECT/crates.txt names the crates and their dependencies. Each program and each library that it needs is
-written to OUT/NAME, as a package of a workspace that has OUT and a folder `rattle` beside it. With --tests
-every crate is written, with its tests.
+PROJECT/crates.txt names the crates and their dependencies. Each program, and each library that it needs,
+is written to OUT/NAME as a package. The workspace has OUT and a folder `rattle` next to it. With
+--tests, every crate is written, with its tests.
 
-It cuts clauses, `ghost` items, members and fields, `#[tactic(..)]`, `impl Model`, `Drop` among the derives and
-as a bound, laws (functions of nothing that do nothing), the functions FOR_PROOFS with their calls, `let _ = &..;`,
-tests and FOR_TESTS, and the imports, impls and modules that are unused or empty then. It adds the origin of a
-file, the attributes of a crate and imports of what only Rattle's prelude has. It changes the front of a path, by
-the table FOLDERS, and the parameter `rt` of `main` and of tests, which becomes the first statement.
+The eraser removes
+- clauses, `ghost` items, members and fields, `#[tactic(..)]` and `impl Model`;
+- `Drop` as a derive and as a bound;
+- laws, which are functions without arguments and result, and with an empty body;
+- the functions FOR_PROOFS with their calls, and `let _ = &..;`;
+- tests and FOR_TESTS;
+- imports, impls and modules that are unused or empty then.
 
-Everything else is kept, and refused if the tables do not name it: forms of items, paths of libraries, functions
-and methods that are not of these crates, macros, attributes, derives, traits. A caller in plain Rust could break
-what was proved by a public function with a `requires`, or a public field of a type with ghosts: both are refused.
-An error names the file, the line and what was met. The names that tests use are left to the compiler."""
+It adds the origin of a file, the attributes of a crate, and imports of the names that only Rattle's
+prelude has. It replaces the folder of a path by the table FOLDERS. The parameter `rt` of `main` and of
+tests becomes the first statement.
+
+Everything else is kept, and is an error if the tables do not name it: forms of items, paths of
+libraries, functions and methods of other crates, macros, attributes, derives and traits. A public
+function with a `requires` and a public field of a type with ghosts are errors too, because a caller in
+plain Rust could break them. An error names the file, the line and the text. The compiler checks the
+names that tests use."""
 import collections
 import os
 import pathlib
@@ -24,9 +32,9 @@ import re
 import sys
 import types
 
-# ---- What means the same in Rust ----
+# ---- Names that mean the same in Rust ----
 
-# Folders of libraries: the folder that stands for each, and what may be used of it. None: for proofs.
+# Folders of libraries: the replacement of each, and the names that may be used. None: only for proofs.
 FOLDERS = {
     "std::alloc": ("rattle", {"AllocError", "AllocFailed", "Global"}),
     "std::cmp": ("core::cmp", {"Ordering"}),
@@ -49,9 +57,9 @@ FOLDERS_OF_TESTS = {
     "std::test": ("rattle::testing", {"Fail"}),
 }
 LIBRARIES = {folder.split("::")[0] for folder in FOLDERS}
-# Names of Rattle's prelude that Rust's has not, or has otherwise: `rattle` has them.
+# Names of Rattle's prelude that Rust's prelude does not have or defines differently. `rattle` has them.
 PRELUDE = {"Box", "HostRuntime", "Vec"}
-# Names of both preludes, and of what else may be used of libraries.
+# Names of both preludes, and further names of libraries.
 NAMES = {"Err", "Iterator", "None", "Ok", "Option", "Result", "Some"}
 NUMBERS = {"u8", "u16", "u32", "u64", "u128", "usize"}
 ASSOCIATED = {
@@ -60,7 +68,7 @@ ASSOCIATED = {
     "Value::try_from_str", "Vec::new", "u128::from", "u32::MAX", "u32::from", "u32::try_from", "u64::MAX",
     "u64::from", "u8x16::from_slice", "u8x16::splat",
 }
-# Methods of types that are not of these crates; each was read beside Rust's.
+# Methods of types of other crates. Each was compared with the method of Rust.
 METHODS = {
     "alloc", "and_then", "as_array", "as_object", "as_slice", "as_str", "as_u64", "checked_add", "checked_mul",
     "clone", "cmp", "contains", "copied", "copy_from_slice", "first", "first_chunk", "flush", "get", "ilog2", "insert",
@@ -70,7 +78,7 @@ METHODS = {
 }
 MACROS = {"json", "unreachable"}
 DERIVES = {"Clone", "Copy", "Debug", "Default", "Drop", "Eq", "Error", "Hash", "Ord", "PartialEq", "PartialOrd"}
-# No item of a crate may have one of these names, since the tables mean the libraries' own.
+# Names that no item of a crate may have, because the tables mean the items of the libraries.
 TAKEN = (PRELUDE | NAMES | NUMBERS | {path.split("::")[0] for path in ASSOCIATED}) - {"Result"}
 TRAITS = {"Eq", "From", "Iterator", "Ord", "PartialEq", "PartialOrd"}
 TRAITS_OF_TESTS = {"Read", "Write"}
@@ -81,13 +89,14 @@ REFUSED_WORDS = set("""async await become box char decreases dyn extern f32 f64 
     i128 invariant isize macro_rules prove prove_eq trait try union unsafe where yield""".split())
 CLAUSES = {"ensures", "requires"}
 
-# ---- What Rust has no use for ----
+# ---- Items that Rust does not need ----
 
-# Functions that change nothing and return nothing, and are called for what they ensure.
+# Functions that change nothing and return nothing. They are called for their clauses.
 FOR_PROOFS = {"recall_invariant"}
 # Items that only tests use, by file.
 FOR_TESTS = {"vm_engine/src/node.rt search_tree", "vm_ranges/src/state.rt is_free"}
-# Lints that a function is allowed to fail: its proof reads this form, or a statement for its proof is cut.
+# Lints that a function may violate, because its proof needs its form or a statement for the proof is
+# removed.
 ALLOWED = {
     "unused_assignments, unused_variables": ("vm_allocator/src/saved/ids.rt collect_ids",),
     "clippy::let_and_return": (
@@ -103,7 +112,7 @@ ALLOWED = {
         "vm_engine/src/node/walks/comparing.rt same_blocks"),
 }
 
-# ---- What is written ----
+# ---- Text that is added ----
 
 ORIGIN = "// Written by bindings/erase from {}: do not edit.\n"
 CRATE_ATTRIBUTES = "#![forbid(unsafe_code)]\n"
@@ -143,17 +152,17 @@ Token = collections.namedtuple("Token", "kind text start end")
 
 
 class Refused(Exception):
-    """What the eraser does not know, with the place where it was met."""
+    """An error of the eraser, with the place of the unknown text."""
 
 
 class Tokens:
-    """The tokens of a file, without clauses and ghosts, which are cut at once: their text is no Rust."""
+    """The tokens of a file. Clauses and ghosts are removed at once, because their text is not Rust."""
 
     def __init__(self, path, text):
         self.path, self.text, self.tokens = path, text, []
-        self.cuts = []  # (start, end, what is written there)
-        self.signature, self.depth = None, 0  # the index of the `fn` whose signature is read
-        self.asking = {}  # the index of a `fn` with a `requires`, and where that is
+        self.cuts = []  # (start, end, replacement)
+        self.signature, self.depth = None, 0  # the index of the `fn` of the current signature
+        self.asking = {}  # the index of a `fn` with a `requires`, and the position of that
         if "\r" in text:
             self.fail("a carriage return", text.index("\r"))
         position = 0
@@ -166,7 +175,7 @@ class Tokens:
         raise Refused(f"{self.path}:{line}: {why}")
 
     def read(self, start):
-        """Reads a token, a clause or a ghost. The answer is where it ends."""
+        """Reads a token, a clause or a ghost. Returns its end."""
         found = TOKEN.match(self.text, start)
         if not found or self.text.startswith("/*", start):
             self.fail(f"text that begins with {self.text[start:start + 12]!r}", start)
@@ -187,7 +196,7 @@ class Tokens:
         return found.end()
 
     def clauses(self, start):
-        """Cuts all clauses of a function, up to its body."""
+        """Removes all clauses of a function, up to its body."""
         if self.signature is None or self.depth != 0:
             self.fail("a clause outside of a signature", start)
         position = start
@@ -217,7 +226,7 @@ class Tokens:
         self.fail("a clause without end", start)
 
     def ghost(self, start, behind):
-        """Cuts `ghost use ..;`, `ghost member = {..};` or `ghost field: {..},`."""
+        """Removes `ghost use ..;`, `ghost member = {..};` or `ghost field: {..},`."""
         last = self.tokens[-1] if self.tokens else Token("doc", "", 0, 0)
         at_an_item = last.text in ("{", "}", ";", ",") or last.kind == "doc"
         if not at_an_item and not (last.text == "]" and self.text[start - 1] == "\n"):
@@ -236,28 +245,28 @@ class Tokens:
 # ---- Items ----
 
 class File(Tokens):
-    """A source file: what is cut of it, and which names it gives and uses."""
+    """A source file: the text to remove, and the names that it defines and uses."""
 
     def __init__(self, crate, path, of_tests):
         super().__init__(os.path.relpath(path, crate.project.folder), pathlib.Path(path).read_bytes().decode())
         self.crate, self.of_tests, self.is_root = crate, of_tests, path == crate.root
         self.children = os.path.dirname(path) if self.is_root else path[:-len(".rt")]
         self.generics, self.imported, self.from_prelude = set(), {}, set()
-        self.uses, self.public_fields = [], []  # (where, kind of name, name), (where, name of the type)
-        self.imports = []  # (the first index, the one behind, the indices of the names)
+        self.uses, self.public_fields = [], []  # (position, kind of name, name), (position, name of the type)
+        self.imports = []  # (the first index, the index after the last, the indices of the names)
         self.first_kept, self.kept = None, 0
         end = self.items(self.head(), None)
         self.refuse_if(self.tokens[end].kind != "end", "a brace that closes nothing", end)
 
     def at(self, index, *texts):
-        """Whether these tokens stand at an index."""
+        """Returns whether these tokens are at an index."""
         return [token.text for token in self.tokens[index:index + len(texts)]] == list(texts)
 
     def start_of(self, index):
         return self.tokens[index].start
 
     def refuse_if(self, condition, why, index):
-        """Refuses what stands at an index if a condition is met."""
+        """Raises an error for the text at an index if a condition is true."""
         if condition:
             self.fail(why, self.tokens[index].start)
 
@@ -265,7 +274,7 @@ class File(Tokens):
         self.cuts.append((self.start_of(first), self.tokens[behind - 1].end, instead))
 
     def matching(self, index):
-        """Behind the bracket that closes the one at an index."""
+        """Returns the index after the bracket that closes the one at an index."""
         depth = 0
         for place, token in enumerate(self.tokens[index:], index):
             depth += (token.text in OPENING) - (token.text in CLOSING)
@@ -274,7 +283,8 @@ class File(Tokens):
         self.fail("a bracket without end", self.start_of(index))
 
     def next_of(self, index, *texts):
-        """The first of these marks from an index on, outside of brackets that open before it."""
+        """Returns the index of the first of these marks at or after an index, outside of brackets that open
+        there."""
         while not any(self.at(index, text) for text in texts):
             if self.tokens[index].kind == "end":
                 self.fail("an item without end", len(self.text))
@@ -282,7 +292,7 @@ class File(Tokens):
         return index
 
     def head(self):
-        """Behind the documentation and the attributes of the file itself."""
+        """Returns the index after the documentation and the attributes of the file."""
         index = 0
         while self.tokens[index].text.startswith("//!"):
             index += 1
@@ -292,7 +302,8 @@ class File(Tokens):
         return index
 
     def items(self, index, owner):
-        """Reads items up to the end of the file or of the braces of an impl: of a trait, of "impl" itself."""
+        """Reads items up to the end of the file or of the braces of an impl: of a trait, or of "impl"
+        itself."""
         while self.tokens[index].text not in ("}", ""):
             item = types.SimpleNamespace(start=index, owner=owner, of_tests=False, is_test=False, public=False)
             head = self.attributes(item)
@@ -315,14 +326,14 @@ class File(Tokens):
         return index
 
     def item(self, item, index):
-        """Reads an item by its keyword. The answer is where it ends, and whether it is kept."""
+        """Reads an item by its keyword. Returns its end, and whether it is kept."""
         item.keyword = index
         words = FORMS if item.owner is None else ("fn", "const") if item.owner == "impl" else ("fn", "type")
         self.refuse_if(self.tokens[index].text not in words, f"an item {self.tokens[index].text!r}", index)
         return FORMS[self.tokens[index].text](self, item)
 
     def attributes(self, item):
-        """Reads documentation and attributes. The answer is the index behind them."""
+        """Reads documentation and attributes. Returns the index after them."""
         index = item.start
         while self.tokens[index].kind == "doc" or self.at(index, "#"):
             self.refuse_if(self.tokens[index].text.startswith("//!"), "documentation of the file behind an item", index)
@@ -358,13 +369,14 @@ class File(Tokens):
         return index + 1 if item.public else self.matching(index + 1)
 
     def angles(self, index):
-        """Parameters of an item: lifetimes, and names with bounds. The answer is the index behind them."""
+        """Reads the generic parameters of an item: lifetimes, and names with bounds. Returns the index
+        after them."""
         if not self.at(index, "<"):
             return index
         behind = index + 1
         while not self.at(behind, ">"):
             token, before = self.tokens[behind], self.tokens[behind - 1].text
-            if self.at(behind, ":", "Drop"):  # a bound that every type of Rust's meets
+            if self.at(behind, ":", "Drop"):  # every type of Rust satisfies this bound
                 self.cut(behind, behind + 2)
                 behind += 2
                 continue
@@ -378,13 +390,13 @@ class File(Tokens):
         return behind + 1
 
     def define(self, index, names):
-        """Takes the name at an index as one of the crate's own."""
+        """Adds the name at an index to the names of the crate."""
         name = self.tokens[index].text
         self.refuse_if(self.tokens[index].kind != "word" or name in TAKEN, f"a definition of {name!r}", index)
         names.add(name)
         return name
 
-    # One function for one form: each answers where its item ends, and whether it is kept.
+    # One method per form. Each returns the end of its item, and whether the item is kept.
     def import_(self, item):
         first, end = item.keyword + 1, self.next_of(item.keyword, ";")
         folder, name, rest = self.folder_at(first)
@@ -405,7 +417,7 @@ class File(Tokens):
         return end + 1, not (folder and folder[0] is None)
 
     def import_of_crate(self, first, index):
-        """An import of one name of this crate, or of one that it stands on."""
+        """Reads an import of one name, of this crate or of a dependency."""
         head = self.tokens[first].text
         if head in self.crate.stands_on:
             self.crate.used.add(self.crate.project.crate(head).name)
@@ -417,7 +429,8 @@ class File(Tokens):
         self.imported[self.tokens[index].text] = head
 
     def folder_at(self, first):
-        """The folder of a library that a path begins with, its name, and the index of what is used of it."""
+        """Returns the library folder at the start of a path, its name, and the index of the name that is
+        used from it."""
         words, behind = [self.tokens[first].text], first + 1
         if words[0] not in LIBRARIES or not self.at(behind, "::"):
             return None, None, first
@@ -440,14 +453,14 @@ class File(Tokens):
         return item.keyword + 3, self.crate.read_module(self, name, item.of_tests or self.of_tests)
 
     def constant(self, item):
-        """`const`, `static` or `type`."""
+        """Reads `const`, `static` or `type`."""
         self.define(item.keyword + 1, self.crate.names)
         end = self.next_of(self.angles(item.keyword + 2), ";")
         self.audit(item.keyword + 2, end)
         return end + 1, True
 
     def type_(self, item):
-        """`struct` or `enum`."""
+        """Reads `struct` or `enum`."""
         name = self.define(item.keyword + 1, self.crate.names)
         index = self.angles(item.keyword + 2)
         self.refuse_if(not self.at(index, "{") and not self.of_tests, "a type without braces", item.keyword)
@@ -471,7 +484,7 @@ class File(Tokens):
         behind = self.matching(body)
         nothing = body == index + 2 and behind == body + 2
         if nothing and not (item.public or item.is_test or item.owner):
-            return behind, False  # a law: only its clauses say something
+            return behind, False  # a law: only its clauses matter
         name = self.define(item.keyword + 1, self.crate.functions)
         if name in FOR_PROOFS:
             if any(token.text in ("mut", "->") for token in self.tokens[index:behind]):
@@ -487,7 +500,7 @@ class File(Tokens):
         return behind, True
 
     def take_runtime(self, index, body):
-        """Makes the parameter `rt` a statement."""
+        """Turns the parameter `rt` into a statement."""
         if self.at(index, "(", ")"):
             return
         self.refuse_if(not self.at(index, "(", "rt", ":", "HostRuntime", ")"), "other parameters than 'rt'", index)
@@ -497,7 +510,7 @@ class File(Tokens):
     def implementation(self, item):
         index = self.angles(item.keyword + 1)
         behind = index + 1
-        if self.at(index, "From", "<"):  # the one trait that is of a type
+        if self.at(index, "From", "<"):  # the only trait with a type argument
             behind = self.next_of(index, "for", "{")
             self.uses += [(token.start, "a type", token.text) for token in self.tokens[index + 1:behind] if token.kind == "word"]
         trait = self.tokens[index].text if self.at(behind, "for") else None
@@ -523,12 +536,12 @@ class File(Tokens):
     # ---- Names in code ----
 
     def audit(self, index, behind, allowed=()):
-        """Looks at every name from an index on. An item is refused there, but for words that are allowed."""
+        """Checks every name after an index. An item is an error there, except for allowed words."""
         while index < behind:
             token = self.tokens[index]
             if token.text == "#":
                 if "pub" not in allowed or self.tokens[index + 2].text not in ATTRIBUTES:
-                    self.fail("an attribute in code", token.start)  # it may stand before fields and variants
+                    self.fail("an attribute in code", token.start)  # it can be before fields and variants
                 index = self.matching(index + 1)
             elif token.kind != "word":
                 index += 1
@@ -540,7 +553,8 @@ class File(Tokens):
                 index = self.path_of_names(index)
 
     def statement_for_proofs(self, index):
-        """Cuts `recall_invariant(&a.b);`, `self.recall_invariant();` or `let _ = &a.b;`. The answer is the index behind it."""
+        """Removes `recall_invariant(&a.b);`, `self.recall_invariant();` or `let _ = &a.b;`. Returns the
+        index after it."""
         first = index - 2 if self.at(index - 2, "self", ".") else index
         behind, inner = self.next_of(index, ";") + 1, self.tokens[index + 1:self.next_of(index, ";")]
         words = "".join(token.text if token.kind != "word" else "_" for token in inner)
@@ -550,7 +564,7 @@ class File(Tokens):
         return behind
 
     def path_of_names(self, first):
-        """Looks at the path that begins at an index. The answer is the index behind it."""
+        """Checks the path at an index. Returns the index after it."""
         word, last = self.tokens[first].text, first
         while self.at(last + 1, "::") and self.tokens[last + 2].kind == "word":
             last += 2
@@ -568,7 +582,7 @@ class File(Tokens):
         return last + 1
 
     def name_in_tests(self, index):
-        """Only `expect` is another function there: it is given the runtime, to end the test by."""
+        """Checks the function of a path. Only `expect` differs: it receives the runtime, to end the test."""
         if self.at(index - 1, ".") and self.tokens[index].text in ("expect", "expect_err"):
             runtime = index + 3 if self.at(index + 2, "&") else index + 2
             self.refuse_if(not self.at(runtime, "rt", ","), "'expect' without 'rt'", index)
@@ -592,7 +606,7 @@ class File(Tokens):
             self.uses += [(start, kind, name)] if kind != "a type" or name[0].isupper() else []
 
     def check(self):
-        """Refuses what can be seen to be wrong when all files are read, and cuts the imports that nothing uses."""
+        """Checks what needs all files, and removes unused imports."""
         self.cut_unused_imports()
         for start, kind, name in self.uses:
             if not self.is_known(kind, name):
@@ -616,7 +630,8 @@ class File(Tokens):
     # ---- Output ----
 
     def cut_unused_imports(self):
-        """Cuts what is imported and named nowhere in what is kept. Modules below this one may name what it imports."""
+        """Removes imports of names that the kept code does not use. Modules below this one can use its
+        imports."""
         gone = bytearray(len(self.text) + 1)
         for start, end in [cut[:2] for cut in self.cuts if not cut[2]] + [
                 (self.start_of(first), self.start_of(end)) for first, end, _ in self.imports]:
@@ -634,7 +649,7 @@ class File(Tokens):
                 self.cut(leaves[0] - 1, end, in_braces(names))
 
     def plain(self):
-        """The text of the file in Rust."""
+        """Returns the text of the file in Rust."""
         inserted = self.attributes_of_root() + "\n" if self.is_root else ""
         if self.of_tests:
             inserted += PRELUDE_OF_TESTS
@@ -646,22 +661,22 @@ class File(Tokens):
             start, end = self.with_lines(start, end, instead, last)
             text += self.text[last:start]
             if not instead and text.endswith(("\n\n", "{\n")) and self.text.startswith("\n", end):
-                end += 1  # of two empty lines one is left
+                end += 1  # one of two empty lines remains
             text, last = text + instead, max(end, last)
             if text.endswith("\n\n") and self.text[last:].lstrip(" ").startswith("}"):
                 text = text[:-1]
         return ORIGIN.format(self.path) + "\n" + (text + self.text[last:]).strip("\n") + "\n"
 
     def attributes_of_root(self):
-        """What the root of a crate begins with. A crate of tests has `std` without its prelude, which has a
-        `to_string` of its own."""
+        """Returns the head of the root of a crate. A crate of tests has `std` without its prelude, because
+        that has another `to_string`."""
         attributes = CRATE_ATTRIBUTES + (ATTRIBUTES_WITH_TESTS if self.crate.project.with_tests else "")
         if not self.crate.asks_for_std:
             return attributes + "#![no_std]\n"
         return attributes + ("#![no_std]\n\nextern crate std;\n" if self.of_tests else "")
 
     def outer_cuts(self):
-        """The cuts that lie in no other."""
+        """Returns the cuts that are not inside another one."""
         outer = []
         for cut in sorted(self.cuts, key=lambda cut: (cut[0], -cut[1])):
             if not outer or cut[0] >= outer[-1][1]:
@@ -671,7 +686,7 @@ class File(Tokens):
         return outer
 
     def with_lines(self, start, end, instead, last):
-        """The piece with the rest of its lines, where it is all that stands there."""
+        """Extends a cut to whole lines if nothing else is on them."""
         line = self.text.rfind("\n", 0, start) + 1
         whole = not instead and start < end and line >= last and not self.text[line:start].strip()
         return (line, end + 1) if whole and self.text.startswith("\n", end) else (start, end)
@@ -684,7 +699,7 @@ FORMS = {
 ITEM_WORDS = set(FORMS) | {"pub"}
 
 class Crate:
-    """The files of a crate, and the names that they give."""
+    """The files of a crate, and the names that they define."""
 
     def __init__(self, project, name, of_tests):
         self.project, self.name, self.of_tests = project, name, of_tests
@@ -700,7 +715,7 @@ class Crate:
             file.check()
 
     def read_module(self, parent, name, of_tests):
-        """Reads the file of a module. The answer is whether anything is kept of it."""
+        """Reads the file of a module. Returns whether anything of it is kept."""
         path = os.path.join(parent.children, name + ".rt")
         if not os.path.exists(path):
             raise Refused(f"{parent.path}: no file for the module {name!r}")
@@ -710,7 +725,8 @@ class Crate:
         return kept
 
     def and_below(self):
-        """The crate, what it uses, and what that uses: a type can be exported by a crate above its own."""
+        """Returns the crate and all its dependencies, because a crate can re-export the type of a
+        dependency."""
         found = [self]
         for crate in found:
             below = [self.project.crate(name) for name in sorted(crate.used)]
@@ -738,7 +754,7 @@ class Crate:
 
 
 class Project:
-    """The crates of a project. Those that are written are those that a program stands on, and the programs."""
+    """The crates of a project. The programs and their dependencies are written."""
 
     def __init__(self, folder, with_tests=False, kept=None):
         self.folder, self.with_tests = os.path.abspath(folder), with_tests
@@ -757,12 +773,12 @@ class Project:
 
 
 def in_braces(names):
-    """The end of an import of these names."""
+    """Returns the end of an import of these names."""
     return "{" + ", ".join(names) + "}" if len(names) > 1 else names[0]
 
 
 def write(path, text):
-    """Writes a file, unless it has that text already: who builds by the times of files then leaves it alone."""
+    """Writes a file unless it has this text already, so that builds by modification times do not repeat."""
     path = pathlib.Path(path)
     path.parent.mkdir(parents=True, exist_ok=True)
     if not path.exists() or path.read_bytes() != text.encode():
@@ -770,7 +786,7 @@ def write(path, text):
 
 
 def erase(folder, out, with_tests):
-    """Writes the crates of a project. The answer is which."""
+    """Writes the crates of a project. Returns them."""
     project = Project(folder, True, set(Project(folder).crates)) if with_tests else Project(folder)
     for name, crate in project.crates.items():
         crate.write(os.path.join(out, name))
@@ -785,7 +801,7 @@ def main():
         for name, crate in erase(*arguments, "--tests" in sys.argv).items():
             print(f"{name}: {len(crate.files)} files")
     except Refused as refused:
-        sys.exit(f"refused: {refused}")
+        sys.exit(f"rejected: {refused}")
 
 
 if __name__ == "__main__":

@@ -1,24 +1,24 @@
 #!/usr/bin/env python3
-"""A second eraser, which shares nothing with the first and says whether that did right.
+"""A second eraser, which shares no code with the first one and checks its output.
 
     erase_by_lines.py PROJECT GENERATED
 
-It goes by lines, on the layout that `rt fmt` gives the sources, where the first goes by tokens: a line
-that begins a clause, a ghost, a test or a model goes up to where its braces close. What is left of each
-source is compared with what the first eraser wrote to GENERATED: each token, and each line that is a
-comment. It ends with status 1 at any difference, and where a file is on one side alone."""
+It works by lines, on the layout of `rt fmt`, where the first one works by tokens. A line that begins a
+clause, a ghost, a test or a model extends to the line that closes its braces. The rest of each source is
+compared with the output of the first eraser in GENERATED: each token, and each comment line. The exit
+status is 1 if there is a difference, or if a file is only on one side."""
 import os
 import re
 import sys
 
 TOKEN = re.compile(r"""r\#".*?"\#|b?"(?:[^"\\]|\\.)*"|b?'(?:[^'\\]|\\.)'|\w+|[^\w\s]""", re.DOTALL)
 CLAUSE = ("requires ", "ensures ", "ghost ")
-# What only proofs and tests use, and statements for proofs.
+# Items that only proofs and tests use, and statements for proofs.
 UNUSED = re.compile(r"(pub(\(\w+\))? )?fn (recall_invariant|is_free)\b")
 UNUSED_LINE = re.compile(r"mod search_tree;$|((self\.)?recall_invariant\((&?[\w.]+)?\)|let _ = &[\w.]+);$")
 ALLOW = re.compile(r"\s*#\[allow\([\w:, ]+\)\]$")
 IMPORT = re.compile(r"^use ((?:\w+::)*)(\w+|\*|\{[^{}]*\});", re.MULTILINE)
-# What is written otherwise, in this order.
+# Replacements, in this order.
 CHANGED = [
     ("use std::marker::Model;", ""),
     *((front, "rattle::") for front in ("std::alloc::", "std::collections::", "serde_json::", "thiserror::")),
@@ -40,7 +40,7 @@ def lines_of(path):
 
 
 def block_end(lines, index):
-    """Behind the line at which the braces are closed that the line at an index opens."""
+    """Returns the index after the line that closes the braces opened at an index."""
     depth = 0
     while True:
         depth += lines[index].count("{") - lines[index].count("}")
@@ -50,14 +50,15 @@ def block_end(lines, index):
 
 
 def item_end(lines, index):
-    """Behind the item whose first attribute stands at an index."""
+    """Returns the index after the item whose first attribute is at an index."""
     while lines[index].strip().startswith(("#[", "//")):
         index += 1
     return index + 1 if lines[index].strip().endswith(";") else block_end(lines, index)
 
 
 def law_end(lines, index):
-    """Behind the law that begins at an index: a function of nothing that does nothing. None: there is none."""
+    """Returns the index after the law at an index, or None. A law is a function without arguments and
+    result, and with an empty body."""
     if re.match(r"fn \w+\(\) \{\}$", lines[index]):
         return index + 1
     if not re.match(r"fn \w+\(\)$", lines[index]):
@@ -69,7 +70,7 @@ def law_end(lines, index):
 
 
 def without_drop(line):
-    """A line without the derive of `Drop`, or without it as the bound of a function's parameter."""
+    """Returns a line without `Drop` as a derive or as the bound of a function's parameter."""
     if re.match(r"\s*(pub(\(\w+\))? )?fn \w+<", line):
         return re.sub(r": Drop(?=[,>])", "", line)
     found = re.match(r"(\s*)#\[derive\((.*)\)\]$", line)
@@ -78,13 +79,13 @@ def without_drop(line):
 
 
 def drop_front(kept, beginnings):
-    """Takes what stands before a piece that goes from the end of what is kept, since it is about that."""
+    """Removes the comments and attributes at the end of the kept lines, which belong to a removed item."""
     while kept and kept[-1].strip().startswith(beginnings):
         kept.pop()
 
 
 def erased(lines):
-    """The lines of a source that are for Rust."""
+    """Returns the lines of a source that are Rust."""
     kept, index = [], 0
     while index < len(lines):
         line = lines[index].strip()
@@ -110,7 +111,7 @@ def erased(lines):
 
 
 def tokens(lines):
-    """The tokens of lines; a line that is a comment is one."""
+    """Returns the tokens of lines. A comment line is one token."""
     found, code = [], []
     for line in lines + ["//"]:
         if line.strip().startswith("//"):
@@ -122,7 +123,8 @@ def tokens(lines):
 
 
 def modules(folder, name, found):
-    """Erases a module and those in it; `found` gets the lines of each. The answer is whether there is any code."""
+    """Erases a module and its submodules. `found` receives the lines of each. Returns whether there is any
+    code."""
     kept = erased(lines_of(os.path.join(folder, name + ".rt")))
     inside = folder if name in ("lib", "main") else os.path.join(folder, name)
     for line in list(kept):
@@ -136,14 +138,14 @@ def modules(folder, name, found):
 
 
 def without_imports(text):
-    """A text without its imports, and the path of each name that they import."""
+    """Returns a text without its imports, and the path of each imported name."""
     found = [front + name.strip() for front, names in IMPORT.findall(text) for name in names.strip("{}").split(",")]
     return IMPORT.sub("", text), sorted(path for path in found if not path.endswith("::"))
 
 
 def expected(lines):
-    """The tokens that the first eraser has to have written, and what it has to import: of Rattle's prelude, and else
-    what is named. In a file with modules all is, since they may name it."""
+    """Returns the expected tokens, and the expected imports: from Rattle's prelude, and all others that are
+    used. A file with modules keeps its imports, because the modules can use them."""
     text = "\n".join(lines)
     for old, new in CHANGED:
         text = text.replace(old, new)
@@ -155,7 +157,8 @@ def expected(lines):
 
 
 def written(path):
-    """The tokens that the first eraser wrote, its own lines aside, and what it imports: of Rattle's prelude, and else."""
+    """Returns the tokens that the first eraser wrote, without the lines that it added, and its imports:
+    from Rattle's prelude, and all others."""
     prelude, kept = [], []
     for line in lines_of(path)[1:]:
         found = re.match(r"use rattle::\{?([\w, ]+)\}?;$", line)
@@ -168,7 +171,7 @@ def written(path):
 
 
 def compare(source, plain):
-    """Compares a crate. The answer is how many files, tokens and differences there are."""
+    """Compares a crate. Returns the numbers of files, tokens and differences."""
     found = {}
     modules(source, "main" if os.path.exists(os.path.join(source, "main.rt")) else "lib", found)
     want = {os.path.relpath(path, source) + ".rs": expected(lines) for path, lines in found.items()}

@@ -1,10 +1,10 @@
 #!/usr/bin/env python3
-"""Tries the eraser on edits of the sources that are made to mislead it.
+"""Checks that the eraser rejects edits of the sources that try to mislead it.
 
     hostile_edits.py PROJECT
 
-There is one edit for each rule of the eraser that protects what was proved. Each has to be refused with the
-reason that is given here. The status is 1 if one is not, or if its text is no longer found."""
+There is one edit for each rule of the eraser that protects a proved property. Each must be rejected for
+the given reason. The exit status is 1 if one is not, or if its text is not found."""
 import os
 import sys
 import tempfile
@@ -15,7 +15,7 @@ import mutants
 RANGE, CONSTRAINT = "vm_ranges/src/range.rt", "vm_ranges/src/constraint.rt"
 CLAUSE, BODY = "ensures { result ≡ address_count self.now }", "        1 + (self.end - self.start)"
 IMPL, IMPORT = "impl RangeInclusive {", "use std::cmp::Ordering;"
-# What the edit is, its file, a text there, what takes its place, and a part of the reason.
+# A description of the edit, its file, the old text, the new text, and a part of the reason.
 EDITS = [
     ("a string that closes a clause", RANGE, CLAUSE, 'ensures { result ≡ f "}" }', "in a clause"),
     ("a statement between clauses", RANGE, CLAUSE, f"{CLAUSE}\n        let x = 1;", "clauses without a body"),
@@ -44,7 +44,7 @@ EDITS = [
 
 
 def outcome(project, scratch, edit):
-    """What the eraser says to an edit."""
+    """Returns the error of the eraser for an edit."""
     mutants.apply(mutants.Mutant(edit[0], [edit[1:4]], {}), project, scratch)
     try:
         erase.Project(scratch)
@@ -62,8 +62,8 @@ def main():
             found = outcome(sys.argv[1], os.path.join(folder, "project"), edit)
             if edit[4] not in found:
                 wrong += 1
-                print(f"{edit[0]}: {found}, and not: {edit[4]}")
-    print(f"{len(EDITS) - wrong} of {len(EDITS)} hostile edits are refused")
+                print(f"{edit[0]}: {found}, instead of: {edit[4]}")
+    print(f"{len(EDITS) - wrong} of {len(EDITS)} hostile edits are rejected")
     sys.exit(wrong > 0)
 
 

@@ -1,5 +1,5 @@
-"""Plants bodies in a copy of a project. The lists are tests/test_mutants, whose head has their form, and
-tests/count_rule_mutants."""
+"""Reads mutants, and applies them to a copy of a project. The lists are tests/test_mutants, whose head
+describes their form, and tests/count_rule_mutants."""
 import os
 import shutil
 import sys
@@ -7,13 +7,13 @@ from collections import namedtuple
 
 import erase
 
-# The edits are (file, old, new) each. The rest has the other keys: why the body is refused, for one.
+# An edit is (file, old, new). The rest has the other keys, for example the reason for rejecting the mutant.
 Mutant = namedtuple("Mutant", "name edits rest")
 NOTHING = Mutant("nothing", [], {})
 
 
 def read(path):
-    """The bodies of a list. Empty lines stand between them."""
+    """Returns the mutants of a list. Empty lines separate them."""
     with open(path, encoding="utf-8") as file:
         entries = file.read().split("\n\n")
     found = [[line for line in entry.split("\n") if line and not line.startswith("#")] for entry in entries]
@@ -34,7 +34,7 @@ def read_entry(pairs):
         else:
             rest[key] = value
     if not name or not edits:
-        sys.exit(f"not a whole entry: {pairs}")
+        sys.exit(f"incomplete entry: {pairs}")
     return Mutant(name, edits, rest)
 
 
@@ -45,7 +45,8 @@ def copy_workspace(project, folder):
 
 
 def apply(mutant, project, copy):
-    """Copies the sources of a project, and applies a mutant to the copy. Each old text has to stand there once."""
+    """Copies the sources of a project, and applies a mutant to the copy. Each old text must occur exactly
+    once."""
     shutil.rmtree(copy, ignore_errors=True)
     for name in os.listdir(os.path.join(project, "crates")):
         source = os.path.join("crates", name, "src")
@@ -57,5 +58,5 @@ def apply(mutant, project, copy):
         with open(path, encoding="utf-8") as source:
             text = source.read()
         if text.count(old) != 1:
-            sys.exit(f"{mutant.name}: {file} has {text.count(old)} times, and not once: {old}")
+            sys.exit(f"{mutant.name}: {file} has {text.count(old)} times instead of once: {old}")
         erase.write(path, text.replace(old, new))

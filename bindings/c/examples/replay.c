@@ -1,7 +1,7 @@
 /*
- * Answers lines of calls, as the replay program of this repository does: README
- * has the language. The status is 0 at the end of the input, 1 where a read
- * failed, and 2 where a write failed.
+ * Reads one call per line and prints one result per line, as the replay program
+ * of this repository does. docs/REPLAY.md has the language. The exit status is
+ * 0 at the end of the input, 1 if a read fails, and 2 if a write fails.
  */
 #include <divsharun.h>
 
@@ -11,14 +11,14 @@
 
 enum { MOST_BYTES = 120, MOST_NUMBERS = 4, MOST_DIGITS = 20 };
 
-/* What the lines so far have made; null where there is none yet. */
+/* The objects that the lines so far have created, or null. */
 struct session {
     vm_address_allocator *space;
     vm_id_allocator *ids;
     vm_device_manager *manager;
 };
 
-/* Bytes that no zero ends. */
+/* Bytes without a terminating zero. */
 struct text {
     const char *bytes;
     size_t length;
@@ -89,7 +89,7 @@ static void tell_id(vm_status status, uint32_t id, const vm_refusal *refusal) {
         refuse(status, refusal);
 }
 
-/* ---- The calls, one for each kind of line ---- */
+/* ---- The calls, one per kind of line ---- */
 
 static void make_space(struct session *session, const uint64_t *number) {
     vm_address_allocator *space;
@@ -210,7 +210,7 @@ static void release_device(struct session *session, const uint64_t *number) {
 
 /* ---- The lines ---- */
 
-/* What has to be there before a line is a call. */
+/* The object that a call needs. */
 enum object { NOTHING, SPACE, IDS, MANAGER };
 
 static const struct kind {
@@ -218,7 +218,7 @@ static const struct kind {
     void (*call)(struct session *session, const uint64_t *number);
     enum object on;
     size_t numbers;
-    /* So many numbers at the front are ids, of 32 bits. */
+    /* The number of leading numbers that are 32-bit ids. */
     size_t ids;
 } kinds[] = {
     {"space", make_space, NOTHING, 2, 0},
@@ -235,7 +235,7 @@ static const struct kind {
     {"undevice", release_device, MANAGER, 1, 1},
 };
 
-/* Takes the first word of a line, and the one space behind it. */
+/* Removes the first word of a line, with the space after it. */
 static struct text take_word(struct text *line) {
     struct text word = *line;
     const char *space = memchr(line->bytes, ' ', line->length);
@@ -257,7 +257,7 @@ static const struct kind *kind_of(struct text word) {
     return NULL;
 }
 
-/* Reads a number of up to `most`; a word that is none is refused. */
+/* Reads a number of at most `most`. Returns false for any other word. */
 static bool read_number(struct text word, uint64_t most, uint64_t *number) {
     uint64_t value = 0;
     size_t i;
@@ -275,7 +275,7 @@ static bool read_number(struct text word, uint64_t most, uint64_t *number) {
     return true;
 }
 
-/* Reads what stands behind the word of a line; anything else than its numbers is refused. */
+/* Reads the numbers after the word of a line. Returns false for anything else. */
 static bool read_numbers(const struct kind *kind, struct text rest, bool is_last,
                          uint64_t *number) {
     size_t i;
@@ -293,7 +293,7 @@ static bool read_numbers(const struct kind *kind, struct text rest, bool is_last
     return is_last;
 }
 
-/* What is missing for a call, in words. */
+/* Returns the name of the object that a call needs and that does not exist, or NULL. */
 static const char *missing(const struct session *session, enum object on) {
     if (on == SPACE && session->space == NULL)
         return "space";
@@ -317,7 +317,7 @@ static void answer(struct session *session, struct text line) {
         kind->call(session, number);
 }
 
-/* Answers a line of so many bytes, of which the first are there. */
+/* Makes the call of a line of `length` bytes. `bytes` has at most the first MOST_BYTES of them. */
 static void answer_line(struct session *session, const char *bytes, size_t length) {
     struct text line;
 

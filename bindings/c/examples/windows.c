@@ -1,14 +1,11 @@
-/*
- * The windows and interrupts of a small machine: devices are plugged in and out,
- * and the machine is saved and restored.
- */
+/* Plugs and unplugs the devices of a small machine, and saves and restores its windows. */
 #include <divsharun.h>
 
 #include <inttypes.h>
 #include <stdio.h>
 #include <stdlib.h>
 
-/* Ends the program where a call is refused that should not be. */
+/* Ends the program if a call fails. */
 static void check(vm_status status, const char *what) {
     if (status != VM_OK) {
         fprintf(stderr, "%s: %s\n", what, vm_status_text(status));
@@ -21,7 +18,7 @@ static int print_window(void *context, vm_range window) {
     return 0;
 }
 
-/* A saved copy of the allocator, as after a migration. */
+/* Returns a saved and restored copy of the allocator, as after a migration. */
 static vm_address_allocator *restored(const vm_address_allocator *mmio) {
     vm_address_allocator *copy;
     char *text;
@@ -42,7 +39,7 @@ static void plug_devices(void) {
     check(vm_device_reserve_first(bus, 0x2000, 0x2000, &network, NULL), "the network");
     printf("network: interrupt %" PRIu32 ", window at %#" PRIx64 "\n", network.id,
            network.range.start);
-    check(vm_device_release(bus, disk.id, NULL), "plugging the disk out");
+    check(vm_device_release(bus, disk.id, NULL), "unplugging the disk");
     vm_device_manager_destroy(bus);
 }
 
@@ -58,12 +55,12 @@ int main(void) {
 
     status = vm_range_allocate_exact(mmio, 0x4000, 1, bar.start, &bar, &refusal);
     if (status == VM_INVALID_STATE_TRANSITION)
-        printf("held already, up to %#" PRIx64 "\n", refusal.range.end);
+        printf("already allocated, up to %#" PRIx64 "\n", refusal.range.end);
 
     copy = restored(mmio);
     vm_address_allocator_destroy(mmio);
     check(vm_range_visit(copy, print_window, "window"), "the windows");
-    check(vm_range_free(copy, bar, NULL), "giving the bar back");
+    check(vm_range_free(copy, bar, NULL), "freeing the bar");
     vm_address_allocator_destroy(copy);
 
     plug_devices();

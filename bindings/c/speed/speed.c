@@ -1,7 +1,7 @@
 /*
- * Prints the time of a call through C and of the same call through Rust: rounds of
- * both in turn, in one process. The fastest round of each counts, since other work
- * on the machine only adds to it.
+ * Prints the time of a call through C and of the same call through Rust. Rounds
+ * of both alternate in one process. The fastest round of each counts, because
+ * other work on the machine only adds time.
  */
 #define _POSIX_C_SOURCE 200809L
 #include <divsharun.h>
@@ -27,7 +27,7 @@ static uint64_t freed[COUNT];
 
 static void check(bool holds) {
     if (!holds) {
-        fputs("speed: a call is refused, or answers something else\n", stderr);
+        fputs("speed: a call fails, or returns a wrong result\n", stderr);
         exit(1);
     }
 }
@@ -103,11 +103,11 @@ static void compare(const char *name, uint64_t (*c)(void), uint64_t (*rust)(void
         through_rust = lesser(through_rust, nanoseconds(rust, sum));
         through_c = lesser(through_c, nanoseconds(c, sum));
     }
-    printf("%s: %.1f ns a call through C, %.1f through Rust, %.1f more\n", name, through_c / calls,
-           through_rust / calls, (through_c - through_rust) / calls);
+    printf("%s: %.1f ns per call through C, %.1f through Rust, %.1f more\n", name,
+           through_c / calls, through_rust / calls, (through_c - through_rust) / calls);
 }
 
-/* Starts that are apart, in an order that looks random. */
+/* Shuffles starts that are not adjacent. */
 static void draw(uint64_t *starts, uint64_t seed) {
     size_t i;
 

@@ -1,11 +1,11 @@
-//! The two rounds of `speed.c`, by the calls of the Rust crate alone.
+//! The two rounds of `speed.c` as direct calls of the Rust crate.
 
 use rattle::Global;
 use std::hint::black_box;
 use std::slice;
 use vm_allocator::{AddressAllocator, AllocPolicy, RangeInclusive, Result};
 
-/// What is asked for, as C has it.
+/// A request, as C has it.
 #[repr(C)]
 pub struct Request {
     size: u64,
@@ -13,16 +13,17 @@ pub struct Request {
     start: u64,
 }
 
-/// Holds each request at its start and gives all back in the other order; the sum of what was held.
+/// Allocates each request at its start and frees all in the other order. Returns the sum of the
+/// last addresses.
 ///
 /// # Safety
 ///
-/// Both pointers are to so many of them.
+/// Both pointers point to `count` elements.
 #[unsafe(no_mangle)]
 pub unsafe extern "C" fn rust_exact(held: *const Request, freed: *const u64, count: usize) -> u64 {
-    // SAFETY: as the caller promises.
+    // SAFETY: the caller's contract.
     let held = unsafe { slice::from_raw_parts(held, count) };
-    // SAFETY: as the caller promises.
+    // SAFETY: the caller's contract.
     let freed = unsafe { slice::from_raw_parts(freed, count) };
     exact(held, freed).expect("each start is clear, and then held")
 }
@@ -41,14 +42,14 @@ fn exact(held: &[Request], freed: &[u64]) -> Result<u64> {
     Ok(sum)
 }
 
-/// Holds each request at its least place; the sum of what was held.
+/// Allocates each request at its lowest range. Returns the sum of the last addresses.
 ///
 /// # Safety
 ///
-/// The pointer is to so many of them.
+/// The pointer points to `count` elements.
 #[unsafe(no_mangle)]
 pub unsafe extern "C" fn rust_first(held: *const Request, count: usize) -> u64 {
-    // SAFETY: as the caller promises.
+    // SAFETY: the caller's contract.
     first(unsafe { slice::from_raw_parts(held, count) }).expect("the space is large enough")
 }
 

@@ -1,4 +1,4 @@
-//! Devices: an id and a range each, both or neither.
+//! The device manager: an id and a range for each device.
 
 use crate::handle::{create, with_mut, with_mut_unit, with_ref, Handle};
 use crate::texts::{read, save};
@@ -8,10 +8,10 @@ use std::ffi::c_char;
 use vm_allocator::{AllocPolicy, Error};
 use vm_devices::{DeviceManager, DeviceSlot};
 
-/// A device manager of C's.
+/// A device manager behind a C pointer.
 pub type vm_device_manager = Handle<DeviceManager>;
 
-/// What a device holds.
+/// The resources of a device.
 #[repr(C)]
 pub struct vm_device {
     range: vm_range,
@@ -44,10 +44,10 @@ pub extern "C" fn vm_device_manager_new(
 
 /// # Safety
 ///
-/// The manager is null or from a call that makes one, and nothing uses it any more.
+/// The manager is null or from a call that creates one, and is not used after this call.
 #[unsafe(no_mangle)]
 pub unsafe extern "C" fn vm_device_manager_destroy(manager: *mut vm_device_manager) -> vm_status {
-    // SAFETY: as the caller promises.
+    // SAFETY: the caller's contract.
     status_of(unsafe { Handle::destroy(manager) }, None)
 }
 
@@ -112,7 +112,7 @@ pub extern "C" fn vm_device_release(
     status_of(released, refusal)
 }
 
-/// An id without a device is refused as by `vm_device_release`.
+/// Returns `VM_NEVER_ALLOCATED` for an id without a device, like `vm_device_release`.
 #[unsafe(no_mangle)]
 pub extern "C" fn vm_device_slot(
     manager: Option<&vm_device_manager>,
@@ -139,14 +139,14 @@ pub extern "C" fn vm_device_manager_save(
 
 /// # Safety
 ///
-/// The text is null, or `length` bytes are there to be read.
+/// The text is null or points to `length` readable bytes.
 #[unsafe(no_mangle)]
 pub unsafe extern "C" fn vm_device_manager_read(
     text: *const c_char,
     length: usize,
     manager: Out<*mut vm_device_manager>,
 ) -> vm_status {
-    // SAFETY: as the caller promises.
+    // SAFETY: the caller's contract.
     let read = unsafe { read(text, length, manager, DeviceManager::from_value) };
     status_of(read, None)
 }

@@ -1,27 +1,31 @@
-//! What C holds a pointer to.
+//! The objects that C has pointers to.
 
 use crate::{CallError, Out};
 use std::cell::UnsafeCell;
 use std::sync::atomic::{AtomicUsize, Ordering};
 use vm_allocator::Result as Answer;
 
-/// An object of C's.
+/// An object behind a C pointer.
 pub struct Handle<T> {
     object: UnsafeCell<T>,
-    // How many calls go through the object and call C meanwhile.
+    // The number of visits that are running on the object.
     visits: AtomicUsize,
 }
 
-/// What C gave a pointer to.
+/// Returns the referent of a pointer, or `Null` if it is null.
 pub(crate) fn non_null<T>(pointer: Option<T>) -> Result<T, CallError> {
     pointer.ok_or(CallError::Null)
 }
 
 impl<T> Handle<T> {
-    /// Moves an object to where C can hold it.
+    /// Moves an object to the heap, and returns a pointer for C.
+    ///
+    /// # Errors
+    ///
+    /// - `OutOfMemory` if the allocation fails.
     pub(crate) fn new(object: T) -> Result<*mut Handle<T>, CallError> {
         let mut one = Vec::new();
-        // In contrast to a box, room in a vector may be refused.
+        // A vector reports a failed allocation, and a box does not.
         one.try_reserve_exact(1)
             .map_err(|_| CallError::OutOfMemory)?;
         one.push(Handle {
@@ -31,36 +35,42 @@ impl<T> Handle<T> {
         Ok(Box::into_raw(one.into_boxed_slice()).cast())
     }
 
-    /// Takes back what `new` gave, and drops the object.
+    /// Drops an object.
+    ///
+    /// # Errors
+    ///
+    /// - `Null` if the pointer is null.
+    /// - `Busy` if the object is being visited.
     ///
     /// # Safety
     ///
-    /// The pointer is null or from `new`, and nothing uses it any more.
+    /// The pointer is null or from `new`, and is not used after this call.
     pub(crate) unsafe fn destroy(pointer: *mut Handle<T>) -> Result<(), CallError> {
-        // SAFETY: it is null, or what `new` made is still there.
+        // SAFETY: it is null or points to a handle that `new` made.
         let handle = non_null(unsafe { pointer.as_ref() })?;
         handle.check_not_visited()?;
-        // SAFETY: `new` made it as a box of one handle, and it is dropped this once.
+        // SAFETY: `new` made it as a box of one handle, and it is dropped only here.
         drop(unsafe { Box::from_raw(pointer) });
         Ok(())
     }
 
-    /// The object, to be looked at.
+    /// Returns the object for reading.
     pub(crate) fn get(&self) -> &T {
-        // SAFETY: a call that changes the object runs beside no other, by the header's rule on threads
-        // and, where it comes from within a visit, by `changed`.
+        // SAFETY: no call changes the object meanwhile. The header forbids such a call on another
+        // thread, and `get_mut` returns an error during a visit.
         unsafe { &*self.object.get() }
     }
 
-    /// The object, to be changed, unless that call comes from within a visit.
+    /// Returns the object for writing, or `Busy` if it is being visited.
     #[allow(clippy::mut_from_ref)]
     fn get_mut(&self) -> Result<&mut T, CallError> {
         self.check_not_visited()?;
-        // SAFETY: no visit looks at the object, and by the header's rule on threads no other call does.
+        // SAFETY: no visit reads the object, and the header forbids other calls on it at the same
+        // time.
         Ok(unsafe { &mut *self.object.get() })
     }
 
-    /// Lets C be called with what is in the object, which can't be changed meanwhile.
+    /// Calls `visit` with the object. It cannot be changed meanwhile.
     pub(crate) fn while_visiting(&self, visit: impl FnOnce(&T)) {
         self.visits.fetch_add(1, Ordering::Relaxed);
         visit(self.get());
@@ -75,7 +85,7 @@ impl<T> Handle<T> {
     }
 }
 
-/// Gives C a new object.
+/// Creates an object, and writes its pointer to `out`.
 pub(crate) fn create<T>(
     out: Out<*mut Handle<T>>,
     object: impl FnOnce() -> Answer<T>,
@@ -85,7 +95,7 @@ pub(crate) fn create<T>(
     Ok(())
 }
 
-/// Answers a question on an object.
+/// Writes the result of a query to `out`.
 #[inline(always)]
 pub(crate) fn with_ref<T, A>(
     handle: Option<&Handle<T>>,
@@ -97,7 +107,7 @@ pub(crate) fn with_ref<T, A>(
     Ok(())
 }
 
-/// Takes something from an object.
+/// Changes an object, and writes the result to `out`.
 #[inline(always)]
 pub(crate) fn with_mut<T, A>(
     handle: Option<&Handle<T>>,
@@ -109,7 +119,7 @@ pub(crate) fn with_mut<T, A>(
     Ok(())
 }
 
-/// Gives something back to an object.
+/// Changes an object without a result.
 #[inline(always)]
 pub(crate) fn with_mut_unit<T>(
     handle: Option<&Handle<T>>,

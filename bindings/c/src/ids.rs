@@ -1,4 +1,4 @@
-//! Ids.
+//! The id allocator.
 
 use crate::handle::{create, with_mut, with_mut_unit, with_ref, Handle};
 use crate::texts::{read, save};
@@ -7,7 +7,7 @@ use rattle::Global;
 use std::ffi::c_char;
 use vm_allocator::IdAllocator;
 
-/// An id allocator of C's.
+/// An id allocator behind a C pointer.
 pub type vm_id_allocator = Handle<IdAllocator>;
 
 #[unsafe(no_mangle)]
@@ -23,10 +23,10 @@ pub extern "C" fn vm_id_allocator_new(
 
 /// # Safety
 ///
-/// The allocator is null or from a call that makes one, and nothing uses it any more.
+/// The allocator is null or from a call that creates one, and is not used after this call.
 #[unsafe(no_mangle)]
 pub unsafe extern "C" fn vm_id_allocator_destroy(allocator: *mut vm_id_allocator) -> vm_status {
-    // SAFETY: as the caller promises.
+    // SAFETY: the caller's contract.
     status_of(unsafe { Handle::destroy(allocator) }, None)
 }
 
@@ -82,14 +82,14 @@ pub extern "C" fn vm_id_allocator_save(
 
 /// # Safety
 ///
-/// The text is null, or `length` bytes are there to be read.
+/// The text is null or points to `length` readable bytes.
 #[unsafe(no_mangle)]
 pub unsafe extern "C" fn vm_id_allocator_read(
     text: *const c_char,
     length: usize,
     allocator: Out<*mut vm_id_allocator>,
 ) -> vm_status {
-    // SAFETY: as the caller promises.
+    // SAFETY: the caller's contract.
     let read = unsafe { read(text, length, allocator, IdAllocator::from_value) };
     status_of(read, None)
 }

@@ -1,11 +1,12 @@
-//! The proved allocators for C. `divsharun.h` says what each call does, and what it asks of its caller;
-//! what is said there is not said again here.
+//! The proved allocators for C.
 //!
-//! A pointer of C's is an `Option` of a reference: none where it is null, and else, as the header asks,
-//! one to what the call that made it gave. What a call answers is written at its end, and so not at all
-//! where it is refused.
+//! `divsharun.h` documents the calls and what they require of their caller.
+//!
+//! A pointer argument is an `Option` of a reference, which is `None` if the pointer is null.
+//! Otherwise it is valid, as the header requires. A call writes its result last, so an error leaves
+//! it unchanged.
 #![deny(unsafe_op_in_unsafe_fn, clippy::undocumented_unsafe_blocks)]
-// The types are called as they are in the header.
+// Types have the names of the header.
 #![allow(non_camel_case_types)]
 
 mod devices;
@@ -22,7 +23,7 @@ use status::{status_of, vm_refusal, vm_status, CallError};
 use std::mem::MaybeUninit;
 use vm_allocator::RangeInclusive;
 
-/// Where an answer goes.
+/// The destination of a result.
 type Out<'a, T> = Option<&'a mut MaybeUninit<T>>;
 
 /// The addresses from `start` to `end`, both included.

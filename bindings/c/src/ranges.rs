@@ -1,4 +1,4 @@
-//! Ranges of addresses.
+//! The address allocator.
 
 use crate::handle::{create, non_null, with_mut, with_mut_unit, with_ref, Handle};
 use crate::texts::{read, save};
@@ -7,10 +7,10 @@ use rattle::Global;
 use std::ffi::{c_char, c_int, c_void};
 use vm_allocator::{AddressAllocator, AllocPolicy};
 
-/// An address allocator of C's.
+/// An address allocator behind a C pointer.
 pub type vm_address_allocator = Handle<AddressAllocator>;
 
-/// What C is called by for each held range. Where it throws in place of returning, the process ends.
+/// The visitor that C passes for allocated ranges. If it unwinds, the process ends.
 pub type vm_range_visitor = extern "C-unwind" fn(context: *mut c_void, range: vm_range) -> c_int;
 
 #[unsafe(no_mangle)]
@@ -25,12 +25,12 @@ pub extern "C" fn vm_address_allocator_new(
 
 /// # Safety
 ///
-/// The allocator is null or from a call that makes one, and nothing uses it any more.
+/// The allocator is null or from a call that creates one, and is not used after this call.
 #[unsafe(no_mangle)]
 pub unsafe extern "C" fn vm_address_allocator_destroy(
     allocator: *mut vm_address_allocator,
 ) -> vm_status {
-    // SAFETY: as the caller promises.
+    // SAFETY: the caller's contract.
     status_of(unsafe { Handle::destroy(allocator) }, None)
 }
 
@@ -169,21 +169,21 @@ pub extern "C" fn vm_address_allocator_save(
 
 /// # Safety
 ///
-/// The text is null, or `length` bytes are there to be read.
+/// The text is null or points to `length` readable bytes.
 #[unsafe(no_mangle)]
 pub unsafe extern "C" fn vm_address_allocator_read(
     text: *const c_char,
     length: usize,
     allocator: Out<*mut vm_address_allocator>,
 ) -> vm_status {
-    // SAFETY: as the caller promises.
+    // SAFETY: the caller's contract.
     let read = unsafe { read(text, length, allocator, AddressAllocator::from_value) };
     status_of(read, None)
 }
 
 /// # Safety
 ///
-/// The text is null, or `length` bytes are there to be read.
+/// The text is null or points to `length` readable bytes.
 #[unsafe(no_mangle)]
 pub unsafe extern "C" fn vm_address_allocator_read_repaired(
     text: *const c_char,
@@ -191,7 +191,7 @@ pub unsafe extern "C" fn vm_address_allocator_read_repaired(
     allocator: Out<*mut vm_address_allocator>,
 ) -> vm_status {
     let from_value = AddressAllocator::from_value_repaired;
-    // SAFETY: as the caller promises.
+    // SAFETY: the caller's contract.
     let read = unsafe { read(text, length, allocator, from_value) };
     status_of(read, None)
 }

@@ -1,11 +1,11 @@
-//! Why a call is refused, as C is told.
+//! The errors of calls, as statuses and details.
 
 use crate::{vm_range, Out};
 use rattle::TextError;
 use std::ffi::{c_char, CStr};
 use vm_allocator::{Error, ValueError};
 
-/// What a call returns.
+/// The result of a call.
 #[repr(C)]
 #[derive(Clone, Copy)]
 #[allow(missing_docs)]
@@ -32,7 +32,7 @@ pub enum vm_status {
 
 use vm_status::*;
 
-/// The words for each status, at its number.
+/// The text of each status, at the index of its number.
 const TEXTS: [&CStr; 18] = [
     c"The call succeeded.",
     c"Management operations on desired resource resulted in overflow.",
@@ -43,18 +43,18 @@ const TEXTS: [&CStr; 18] = [
     c"The range is not valid.",
     c"Alignment value is invalid.",
     c"Addresses are overlapping.",
-    c"The range is held already.",
+    c"The range is already allocated.",
     c"The address is not aligned.",
     c"Management operations on desired resource resulted in underflow.",
     c"The size is not valid.",
     c"There is not enough memory.",
     c"A pointer is null.",
-    c"The object is being visited, and can't be changed meanwhile.",
-    c"The text is no JSON.",
-    c"The value states no valid object.",
+    c"The object is being visited and cannot be changed.",
+    c"The text is not JSON.",
+    c"The value does not encode a valid object.",
 ];
 
-/// The numbers of a refusal.
+/// The details of an error.
 #[repr(C)]
 #[derive(Default)]
 pub struct vm_refusal {
@@ -64,7 +64,7 @@ pub struct vm_refusal {
     id: u32,
 }
 
-/// Why a call is refused.
+/// The error of a call.
 pub(crate) enum CallError {
     Null,
     Busy,
@@ -75,8 +75,7 @@ pub(crate) enum CallError {
 }
 
 impl From<Error> for CallError {
-    // Out of the way of the calls that succeed: they would move the error about before they look
-    // whether there is one.
+    // It is not inlined, because successful calls would move the error before they check for one.
     #[cold]
     #[inline(never)]
     fn from(error: Error) -> Self {
@@ -114,7 +113,7 @@ impl CallError {
         }
     }
 
-    /// What stands in the refusal beside its status.
+    /// Returns the details of the error.
     fn numbers(&self) -> vm_refusal {
         let none = vm_refusal::default();
         match self {
@@ -165,7 +164,7 @@ fn numbers_of_error(error: &Error) -> vm_refusal {
     numbers
 }
 
-/// What a call returns; a refusal tells its numbers where somebody asked for them.
+/// Returns the status of a result. If it is an error, also writes its details to `refusal`.
 #[inline(always)]
 pub(crate) fn status_of(answer: Result<(), CallError>, refusal: Out<vm_refusal>) -> vm_status {
     match answer {
@@ -182,13 +181,11 @@ fn report(refused: &CallError, refusal: Out<vm_refusal>) -> vm_status {
     refused.status()
 }
 
-/// The number is C's, and may be that of no status.
+/// The number is from C, so it can be one that is not a status.
 #[unsafe(no_mangle)]
 pub extern "C" fn vm_status_text(status: u32) -> *const c_char {
     let text = usize::try_from(status).ok().and_then(|at| TEXTS.get(at));
-    text.copied()
-        .unwrap_or(c"There is no such status.")
-        .as_ptr()
+    text.copied().unwrap_or(c"Unknown status.").as_ptr()
 }
 
 #[unsafe(no_mangle)]

@@ -1,4 +1,4 @@
-//! Objects as JSON texts, on their way out and in.
+//! Saving objects as JSON, and reading them.
 
 use crate::handle::{non_null, Handle};
 use crate::{vm_status, CallError, Out};
@@ -8,7 +8,7 @@ use std::fmt::{self, Write};
 use std::{slice, str};
 use vm_allocator::ValueError;
 
-/// Gives C the text that states an object.
+/// Writes the text that encodes an object, and its length.
 pub(crate) fn save<T>(
     handle: Option<&Handle<T>>,
     text: Out<*mut c_char>,
@@ -26,7 +26,7 @@ pub(crate) fn save<T>(
     Ok(())
 }
 
-/// A text whose growth may be refused.
+/// A text buffer that reports a failed allocation.
 struct TextBuffer(Vec<u8>);
 
 impl Write for TextBuffer {
@@ -37,8 +37,9 @@ impl Write for TextBuffer {
     }
 }
 
-/// Returns the same bytes in a block of just their size: `CString` would shrink a larger one, and the
-/// process would end if there were no memory for that.
+/// Copies the bytes to an allocation of exactly their size.
+///
+/// `CString` would shrink a larger one, and the process would end if that allocation failed.
 fn to_boxed_slice(bytes: &[u8]) -> Result<Vec<u8>, CallError> {
     let mut copy = Vec::new();
     copy.try_reserve_exact(bytes.len())
@@ -47,11 +48,17 @@ fn to_boxed_slice(bytes: &[u8]) -> Result<Vec<u8>, CallError> {
     Ok(copy)
 }
 
-/// The value in a text of C's.
+/// Parses the value of a text.
+///
+/// # Errors
+///
+/// - `Null` if the text is null.
+/// - `NotJson` if the text is not JSON.
+/// - `OutOfMemory` if an allocation fails.
 ///
 /// # Safety
 ///
-/// The text is null, or `length` bytes are there to be read.
+/// The text is null or points to `length` readable bytes.
 unsafe fn parse_value(text: *const c_char, length: usize) -> Result<Value, CallError> {
     if text.is_null() {
         return Err(CallError::Null);
@@ -59,17 +66,17 @@ unsafe fn parse_value(text: *const c_char, length: usize) -> Result<Value, CallE
     if isize::try_from(length).is_err() {
         return Err(CallError::NotJson);
     }
-    // SAFETY: so many bytes are there, and they are no more than an object may have.
+    // SAFETY: `length` bytes are readable, and `length` is at most `isize::MAX`.
     let bytes = unsafe { slice::from_raw_parts(text.cast::<u8>(), length) };
     let text = str::from_utf8(bytes).map_err(|_| CallError::NotJson)?;
     Ok(Value::from_str(Global, text)?)
 }
 
-/// Makes the object that a text states.
+/// Creates the object that a text encodes, and writes its pointer to `out`.
 ///
 /// # Safety
 ///
-/// The text is null, or `length` bytes are there to be read.
+/// The text is null or points to `length` readable bytes.
 pub(crate) unsafe fn read<T>(
     text: *const c_char,
     length: usize,
@@ -77,7 +84,7 @@ pub(crate) unsafe fn read<T>(
     from_value: fn(Global, &Value) -> Result<T, ValueError>,
 ) -> Result<(), CallError> {
     let out = non_null(out)?;
-    // SAFETY: as the caller promises.
+    // SAFETY: the caller's contract.
     let value = unsafe { parse_value(text, length) }?;
     out.write(Handle::new(from_value(Global, &value)?)?);
     Ok(())
@@ -85,13 +92,14 @@ pub(crate) unsafe fn read<T>(
 
 /// # Safety
 ///
-/// The text is null or from a call that saves, unchanged, and nothing uses it any more.
+/// The text is null, or from a call that saves an object and unchanged. It is not used after this
+/// call.
 #[unsafe(no_mangle)]
 pub unsafe extern "C" fn vm_text_destroy(text: *mut c_char) -> vm_status {
     if text.is_null() {
         return vm_status::VM_NULL;
     }
-    // SAFETY: `save` gave it as a `CString`, and it is dropped this once.
+    // SAFETY: `save` made it as a `CString`, and it is dropped only here.
     drop(unsafe { CString::from_raw(text) });
     vm_status::VM_OK
 }

@@ -1,4 +1,4 @@
-//! Another Rust library in the same program. It catches a panic of its own.
+//! Another Rust library in the same program. It catches its own panic.
 
 use std::panic;
 

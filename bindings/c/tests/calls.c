@@ -1,6 +1,6 @@
 /*
- * Every call and every status that a call returns, out of memory aside. A refusal
- * has to leave what is answered as it was, and the object too.
+ * Checks every call and every status that it returns, except VM_OUT_OF_MEMORY.
+ * An error must leave the results and the object unchanged.
  */
 #include "check.h"
 
@@ -8,18 +8,18 @@
 
 enum { STATUSES = VM_NOT_A_STATE + 1 };
 
-/* A byte of what a call may not write. */
+/* The value of a byte that a call must not write. */
 enum { UNTOUCHED = 0xa5 };
 
-/* More than 99, and more than a byte can count. */
+/* More than a byte can count. */
 enum { MANY = 300 };
 
 static bool seen[STATUSES];
 
-/* The numbers of the last refused call. */
+/* The details of the last error. */
 static vm_refusal refusal;
 
-/* Keeps that a status was returned. */
+/* Records that a status was returned. */
 static vm_status noted(vm_status status) {
     CHECK((int)status >= 0 && (int)status < STATUSES);
     seen[status] = true;
@@ -36,20 +36,20 @@ static bool is_untouched(const void *bytes, size_t length) {
     return true;
 }
 
-/* Whether a refused call wrote all its numbers: these, and 0 for the others. */
+/* Returns whether a call wrote all details: these, and 0 for the others. */
 static bool are_told(uint64_t start, uint64_t end, uint32_t id) {
     return is_range(refusal.range, start, end) && is_range(refusal.other, 0, 0) &&
            refusal.size == 0 && refusal.id == id;
 }
 
-/* A call has to return this status. Its refusal goes to `refusal`. */
+/* Checks that a call returns this status. Its details go to `refusal`. */
 #define RETURNS(expected, call)                                                                    \
     do {                                                                                           \
         memset(&refusal, UNTOUCHED, sizeof refusal);                                               \
         CHECK(noted(call) == (expected));                                                          \
     } while (0)
 
-/* The same of a call that would write to `answer`, and must not. */
+/* Checks the same for a call that must not write its result, `answer`. */
 #define REFUSED(expected, type, call)                                                              \
     do {                                                                                           \
         type answer;                                                                               \
@@ -133,7 +133,7 @@ static void allocate_ranges(void) {
     CHECK(vm_address_allocator_destroy(space) == VM_OK);
 }
 
-/* Every number has more than 32 bits. */
+/* Uses numbers of more than 32 bits. */
 static void allocate_large_ranges(void) {
     vm_address_allocator *space;
     vm_range first, last, exact;
@@ -160,7 +160,7 @@ static void allocate_large_ranges(void) {
     CHECK(vm_address_allocator_destroy(space) == VM_OK);
 }
 
-/* More of them than a byte can count. */
+/* Allocates more ranges than a byte can count. */
 static void allocate_many_ranges(void) {
     vm_address_allocator *space;
     vm_range range;
@@ -182,7 +182,7 @@ struct visit {
     uint64_t last;
 };
 
-/* Of a visit nothing may be changed, and everything asked. */
+/* Checks that queries work during a visit, and that changes return VM_BUSY. */
 static int visit_range(void *context, vm_range range) {
     struct visit *visit = (struct visit *)context;
     vm_range other;
@@ -204,7 +204,7 @@ static int visit_range(void *context, vm_range range) {
     return range.start == visit->last;
 }
 
-/* A visit within a visit: the space is at rest only when both are over. */
+/* Visits during a visit. The allocator stays busy until both visits end. */
 static int visit_twice(void *context, vm_range range) {
     struct visit *visit = (struct visit *)context;
     struct visit within = {NULL, 0, UINT64_MAX};
@@ -233,7 +233,7 @@ static void visit_ranges(void) {
     CHECK(vm_address_allocator_destroy(visit.space) == VM_OK);
 }
 
-/* Visits within visits, more than a byte can count. */
+/* Nests more visits than a byte can count. */
 static int visit_deeper(void *context, vm_range range) {
     struct visit *visit = (struct visit *)context;
 
@@ -243,7 +243,7 @@ static int visit_deeper(void *context, vm_range range) {
     return 1;
 }
 
-/* How a visitor ends its visit, and the calls of it. */
+/* The number that a visitor returns, and the number of its calls. */
 struct end {
     int number;
     int calls;
@@ -257,7 +257,7 @@ static int end_visit(void *context, vm_range range) {
     return end->number;
 }
 
-/* Any number but 0 ends a visit. */
+/* Checks that any number but 0 ends a visit. */
 static void end_visits(const vm_address_allocator *space) {
     static const int numbers[] = {1, -1, 256, 65536, INT_MAX, INT_MIN};
     size_t i;
@@ -476,7 +476,7 @@ static void save_devices(void) {
     CHECK(vm_text_destroy(text) == VM_OK);
 }
 
-/* No object is as long as these say, and nothing may be read behind the text. */
+/* Checks lengths that no object can have. The library must not read past the text. */
 static void give_great_lengths(void) {
     static const size_t lengths[] = {SIZE_MAX, SIZE_MAX / 2 + 1};
     vm_address_allocator *space;
@@ -612,21 +612,21 @@ static const struct text {
     {VM_INVALID_RANGE, "The range is not valid."},
     {VM_INVALID_ALIGNMENT, "Alignment value is invalid."},
     {VM_OVERLAP, "Addresses are overlapping."},
-    {VM_INVALID_STATE_TRANSITION, "The range is held already."},
+    {VM_INVALID_STATE_TRANSITION, "The range is already allocated."},
     {VM_UNALIGNED_ADDRESS, "The address is not aligned."},
     {VM_UNDERFLOW, "Management operations on desired resource resulted in underflow."},
     {VM_INVALID_SIZE, "The size is not valid."},
     {VM_OUT_OF_MEMORY, "There is not enough memory."},
     {VM_NULL, "A pointer is null."},
-    {VM_BUSY, "The object is being visited, and can't be changed meanwhile."},
-    {VM_NOT_JSON, "The text is no JSON."},
-    {VM_NOT_A_STATE, "The value states no valid object."},
-    /* Numbers of no status. */
-    {(vm_status)STATUSES, "There is no such status."},
-    {(vm_status)99, "There is no such status."},
-    {(vm_status)256, "There is no such status."},
-    {(vm_status)65536, "There is no such status."},
-    {VM_STATUS_WIDTH_, "There is no such status."},
+    {VM_BUSY, "The object is being visited and cannot be changed."},
+    {VM_NOT_JSON, "The text is not JSON."},
+    {VM_NOT_A_STATE, "The value does not encode a valid object."},
+    /* Numbers that are not a status. */
+    {(vm_status)STATUSES, "Unknown status."},
+    {(vm_status)99, "Unknown status."},
+    {(vm_status)256, "Unknown status."},
+    {(vm_status)65536, "Unknown status."},
+    {VM_STATUS_WIDTH_, "Unknown status."},
 };
 
 static void say_words(void) {
@@ -671,6 +671,6 @@ int main(void) {
     check_version();
     for (status = 0; status < STATUSES; status++)
         CHECK(seen[status] || status == VM_OVERLAP || status == VM_OUT_OF_MEMORY);
-    puts("calls: every call, and every status that they return");
+    puts("calls: every call and every status checked");
     return 0;
 }

@@ -1,4 +1,4 @@
-/* What the tests share. */
+/* Helpers of the tests. */
 #ifndef CHECK_H
 #define CHECK_H
 
@@ -8,7 +8,7 @@
 #include <stdlib.h>
 #include <string.h>
 
-/* Ends the program where something does not hold. */
+/* Ends the program if a condition is false. */
 #define CHECK(holds)                                                                               \
     do {                                                                                           \
         if (!(holds)) {                                                                            \
@@ -29,7 +29,7 @@ static inline bool is_range(vm_range range, uint64_t start, uint64_t end) {
     return range.start == start && range.end == end;
 }
 
-/* The text of what a type saves, for who gives it back. */
+/* Defines a function that returns the saved text of an object. The caller frees it. */
 #define SAVED(name, type)                                                                          \
     static inline char *name(const type *object, size_t *length) {                                 \
         char *text;                                                                                \

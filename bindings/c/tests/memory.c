@@ -1,10 +1,10 @@
 /*
- * Refuses the requests for memory of each call, one after the other: the call has
- * to return VM_OUT_OF_MEMORY, to give back what it got, and to change nothing.
- * The calls that the header excepts have to end the process. It also measures the
- * memory that reading a text takes.
+ * Fails each allocation of each call in turn. The call must return
+ * VM_OUT_OF_MEMORY, free what it has allocated, and change nothing. The calls
+ * that the header lists as exceptions must end the process. It also measures
+ * the memory that reading a text allocates.
  *
- * The requests come here by the linker's --wrap.
+ * The linker option --wrap directs all allocations to this file.
  */
 #define _POSIX_C_SOURCE 200809L
 #include "check.h"
@@ -15,13 +15,13 @@
 #include <sys/wait.h>
 #include <unistd.h>
 
-/* Requests up to the one that is refused; 0 refuses none. */
+/* The number of allocations up to the one that fails, or 0 if none fails. */
 static unsigned long until_refused;
-/* Blocks that were given and not given back, the bytes of them, and the most bytes so far. */
+/* The number of blocks that are allocated, their bytes, and the maximum of the bytes. */
 static long blocks;
 static size_t bytes, most_bytes;
 
-/* The bytes of a block, with the word that the malloc of glibc adds to each. */
+/* Returns the bytes of a block, with the word that glibc's malloc adds. */
 static size_t size_of(void *block) {
     return block == NULL ? 0 : malloc_usable_size(block) + sizeof(size_t);
 }
@@ -61,7 +61,7 @@ void *__wrap_realloc(void *old, size_t size) {
     size_t before = size_of(old);
     void *block = is_refused() ? NULL : __real_realloc(old, size);
 
-    /* Both blocks are there while the bytes are moved. */
+    /* Both blocks are allocated while the bytes are copied. */
     count_given(block);
     if (block != NULL) {
         blocks -= old != NULL;
@@ -84,7 +84,7 @@ void __wrap_free(void *old) {
     __real_free(old);
 }
 
-/* What the calls are made on, and the texts that state it. */
+/* The objects of the calls, and their saved texts. */
 static vm_address_allocator *space;
 static vm_id_allocator *ids;
 static vm_device_manager *manager;
@@ -139,7 +139,7 @@ static void check_unchanged(void) {
     check_same(saved_devices(manager, &length), manager_text);
 }
 
-/* ---- The calls that answer. Each gives back what it took where it succeeds. ---- */
+/* ---- The calls that return an error. Each frees what it allocates. ---- */
 
 static vm_status destroyed_space(vm_status status, vm_address_allocator *made) {
     if (status == VM_OK)
@@ -198,7 +198,7 @@ static vm_status allocate_last(void) {
     return freed(status, range);
 }
 
-/* A split on both sides. */
+/* Allocates a range with free addresses on both sides. */
 static vm_status allocate_exact(void) {
     vm_range range = {0, 0};
     vm_status status = vm_range_allocate_exact(space, 3, 1, 500, &range, NULL);
@@ -247,7 +247,7 @@ static vm_status read_space_repaired(void) {
 static const struct call {
     const char *name;
     vm_status (*call)(void);
-    /* So many requests it makes at least. */
+    /* The minimum number of its allocations. */
     unsigned long requests;
 } calls[] = {
     {"new space", new_space, 2},
@@ -263,7 +263,7 @@ static const struct call {
     {"repair a space", read_space_repaired, 40},
 };
 
-/* Refuses the requests of a call in turn, until one run of it meets no refusal. */
+/* Fails each allocation of a call in turn, until a run has no failed allocation. */
 static void refuse_in_turn(const struct call *call) {
     unsigned long number;
 
@@ -283,7 +283,7 @@ static void refuse_in_turn(const struct call *call) {
     until_refused = 0;
     drop_texts();
     if (number <= call->requests)
-        fprintf(stderr, "%s: %lu requests\n", call->name, number - 1);
+        fprintf(stderr, "%s: %lu allocations\n", call->name, number - 1);
     CHECK(number > call->requests);
 }
 
@@ -307,7 +307,7 @@ static void reserve_device(void) {
     vm_device_reserve_first(manager, 100, 1, &device, NULL);
 }
 
-/* Has a device on the manager, with no request refused meanwhile. */
+/* Reserves a device without a failed allocation. */
 static void plug_in(void) {
     unsigned long number = until_refused;
     vm_device device;
@@ -336,7 +336,7 @@ static void read_manager(void) {
     vm_text_destroy(text);
 }
 
-/* Refuses the requests of a call in turn, each in a process of its own, until one ends it. */
+/* Fails each allocation of a call in turn, each in a separate process, until one ends it. */
 static void refuse_until_it_ends(void (*call)(void)) {
     unsigned long number;
 
@@ -356,20 +356,20 @@ static void refuse_until_it_ends(void (*call)(void)) {
             return;
         CHECK(WIFEXITED(ended) && WEXITSTATUS(ended) == 0);
     }
-    CHECK(!"a refused request ends the process");
+    CHECK(!"a failed allocation ends the process");
 }
 
-/* ---- What reading takes ---- */
+/* ---- The memory for reading ---- */
 
 /*
- * The header says that reading a text takes less memory than so many times its
- * length. A level of brackets has two bytes and requests 128. With the word that
- * glibc adds and the rounding that makes 144, or 160 if the block was cut from one
- * whose rest would be too small.
+ * The limit of the header: reading a text allocates less than this number times
+ * its length. A level of brackets has two bytes and allocates 128. With the
+ * word that glibc adds, and its rounding, it allocates 144, or 160 if the rest
+ * of a block would be too small.
  */
 enum { TIMES = 80 };
 
-/* The values that take the most memory for their length, one within the other. */
+/* The values that allocate the most memory for their length. */
 static const struct nesting {
     const char *open, *inmost, *close;
 } nestings[] = {
@@ -377,7 +377,7 @@ static const struct nesting {
     {"{\"\":", "0", "}"}, {"{\"a\":", "\"a\"", "}"},
 };
 
-/* Reads an array of `count` nestings, and returns the bytes it takes for each byte of the text. */
+/* Reads an array of `count` nested values. Returns the allocated bytes per byte of the text. */
 static double read_nested(const struct nesting *nesting, int depth, int count) {
     static char text[1 << 16];
     vm_address_allocator *made;
@@ -413,7 +413,7 @@ static void measure_reading(void) {
 
                 most = times > most ? times : most;
             }
-    printf("memory: reading takes up to %.2f times the length of a text\n", most);
+    printf("memory: reading allocates up to %.2f times the length of a text\n", most);
 }
 
 int main(void) {
@@ -431,6 +431,6 @@ int main(void) {
     tear_down();
     measure_reading();
     CHECK(blocks == before);
-    puts("memory: each request of each call refused");
+    puts("memory: each allocation of each call failed in turn");
     return 0;
 }

@@ -1,12 +1,13 @@
 #!/usr/bin/env python3
-"""Gives texts to the readers of the library for C, and looks at what they answer.
+"""Checks the readers of the C library on random texts.
 
     random_texts.py [--texts N] [--seed N] PROGRAM ..
 
-PROGRAM is read.c, with what it is started by before it. The texts state objects, in any order of fields and with any blanks, or are such texts
-with random damage, or stand in a list below. What is JSON is Python's to say, and what a value states is
-said again here; what is saved of an object that was read has to be the value, with repairs the same
-held ranges. It prints the seed, and ends with status 1 at the first text that is answered otherwise."""
+PROGRAM is the command that runs read.c. A text encodes an object, with fields in any order and any
+blanks, or has random damage, or is in a list below. Python decides whether a text is JSON, and this file
+decides independently which object it encodes. The saved text of an object that was read must have the
+same value, or the same allocated ranges for a repaired object. The seed is printed. The exit status is 1
+at the first text with a wrong result."""
 import argparse
 import json
 import random
@@ -29,14 +30,14 @@ WELL_FORMED = [b"0", b"-0", b"1.5e-3", b"null", b" true ", b"\"\\ud83d\\ude00\\/
 
 
 class NoNumber(Exception):
-    """A word that Python takes for a number, and JSON does not."""
+    """Raised for a word that is a number in Python and not in JSON."""
 
 
 class Object(list):
     """The fields of an object: pairs of a name and a value."""
 
     def named(self, *names):
-        """The values of just these fields, or none."""
+        """Returns the values of exactly these fields, or None."""
         found = dict(self)
         return [found[name] for name in names] if len(self) == len(names) == len(found) and set(found) == set(names) else None
 
@@ -67,7 +68,7 @@ def is_whole(value, most=MAX):
 
 
 def parsed(text):
-    """The value of a text, in a list, or none where it is no JSON."""
+    """Returns a list with the value of a text, or None if the text is not JSON."""
     try:
         value = json.loads(text.decode("utf-8"), object_pairs_hook=Object, parse_int=whole_number, parse_float=other_number,
                            parse_constant=refuse)
@@ -85,7 +86,7 @@ def range_in(value):
 
 
 def blocks_in(value, levels, is_strict):
-    """The blocks of a tree, in order, and its height; none where it is no tree."""
+    """Returns the blocks of a tree in order and its height, or None if it is not valid."""
     if value is None:
         return [], 0
     fields = value.named("key", "node_state", "left", "right", "height") if isinstance(value, Object) and levels else None
@@ -100,7 +101,7 @@ def blocks_in(value, levels, is_strict):
 
 
 def space_of(value, is_strict=True):
-    """The space and the held ranges that a value states, or none."""
+    """Returns the space and the allocated ranges that a value encodes, or None."""
     fields = value.named("address_space", "interval_tree") if isinstance(value, Object) else None
     root = fields[1].named("root") if fields and isinstance(fields[1], Object) else None
     space = range_in(fields[0]) if root else None
@@ -120,7 +121,7 @@ def space_of(value, is_strict=True):
 
 
 def ids_of(value):
-    """The range of ids and the held ones that a value states, or none."""
+    """Returns the range of ids and the allocated ids that a value encodes, or None."""
     fields = value.named("range_base", "next_id", "range_end", "freed_ids") if isinstance(value, Object) else None
     if not fields or not is_whole(fields[0], LAST_ID) or not is_whole(fields[2], LAST_ID):
         return None
@@ -139,7 +140,7 @@ def ids_of(value):
 
 
 def devices_of(value):
-    """What a value states of a manager, or none."""
+    """Returns the manager that a value encodes, or None."""
     fields = value.named("version", "id_allocator", "mmio_allocator", "slots") if isinstance(value, Object) else None
     if not fields or not is_whole(fields[0]) or fields[0] != 1 or not isinstance(fields[3], list) or isinstance(fields[3], Object):
         return None
@@ -164,7 +165,7 @@ def stated(reader, value):
 
 
 class Texts:
-    """Random texts."""
+    """A generator of random texts."""
 
     def __init__(self, choices):
         self.choices = choices
@@ -173,7 +174,7 @@ class Texts:
         return {"start": start, "end": end}
 
     def blocks(self, held):
-        """Blocks in order that begin at some place, with so many held among them."""
+        """Returns blocks in order from a random start, with this number of allocated ones."""
         place = self.choices.choice([0, 1, 4096, MAX - 10**6])
         blocks = []
         for _ in range(held):
@@ -217,7 +218,7 @@ class Texts:
         return {"version": 1, "id_allocator": ids, "mmio_allocator": self.space(blocks), "slots": slots}
 
     def faulty_space(self):
-        """A space of which nodes are missing, and heights are wrong."""
+        """Returns a space with missing nodes and wrong heights."""
         blocks = self.blocks(self.choices.randrange(9))
         space = self.space(blocks)
         root, height = self.tree([block for block in blocks if self.choices.random() < 0.8])
@@ -234,7 +235,7 @@ class Texts:
         return self.ids(self.choices.randrange(9)) if reader == "i" else self.devices()
 
     def shuffled(self, value):
-        """The same value, with its fields in another order."""
+        """Returns the same value with its fields in random order."""
         if isinstance(value, list):
             return [self.shuffled(item) for item in value]
         if not isinstance(value, dict):
@@ -267,7 +268,7 @@ class Texts:
         return self.damaged(text)
 
     def with_other_number(self, text):
-        """The text with one of its numbers replaced, so that it is still JSON."""
+        """Replaces one number of a text. The text is still JSON."""
         digits = [place for place, byte in enumerate(text) if chr(byte).isdigit() and not chr(text[place - 1]).isalnum()]
         first = self.choices.choice(digits)
         second = first
@@ -279,15 +280,15 @@ class Texts:
 
 
 def fault(reader, text, answer):
-    """What is wrong with an answer to a text, or none."""
+    """Returns a description of a wrong result for a text, or None."""
     status, saved = answer.split(b" ", 1)
     value = parsed(text)
     state = stated(reader, value[0]) if value else None
     expected = NOT_JSON if value is None else NOT_A_STATE if state is None else OK
     if int(status) != expected:
-        return f"status {int(status)} in place of {expected}"
+        return f"status {int(status)} instead of {expected}"
     if expected == OK and stated("s" if reader == "r" else reader, parsed(saved)[0]) != state:
-        return f"another object is read, of which {saved!r} is saved"
+        return f"another object is read, and saved as {saved!r}"
     return None
 
 
@@ -307,16 +308,16 @@ def main():
     done = subprocess.run(options.program, input=data, stdout=subprocess.PIPE, check=True)
     answers = done.stdout.splitlines()
     if len(answers) != len(asked):
-        sys.exit(f"{len(answers)} answers to {len(asked)} texts")
+        sys.exit(f"{len(answers)} results for {len(asked)} texts")
     counts = {OK: 0, NOT_JSON: 0, NOT_A_STATE: 0}
     for (reader, text), answer in zip(asked, answers):
         wrong = fault(reader, text, answer)
         if wrong:
             sys.exit(f"reader {reader}, {text!r}: {wrong}")
         counts[int(answer.split(b" ", 1)[0])] += 1
-    print(f"{counts[OK]} texts read, {counts[NOT_A_STATE]} that state nothing, {counts[NOT_JSON]} that are no JSON")
+    print(f"{counts[OK]} valid texts, {counts[NOT_A_STATE]} that encode no object, {counts[NOT_JSON]} that are not JSON")
     if min(counts.values()) < len(asked) // 20:
-        sys.exit("too few of one kind")
+        sys.exit("too few texts of one kind")
 
 
 if __name__ == "__main__":

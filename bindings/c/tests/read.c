@@ -1,7 +1,7 @@
 /*
- * Reads texts, for random_texts.py: each is a line with the reader and the number
- * of bytes, and then these. Answers each by a line: the status and, where an
- * object was read, what is saved of it.
+ * Reads texts for random_texts.py. The input is a line with the reader and the
+ * number of bytes, and then these bytes. The output is a line with the status
+ * and, if an object was read, its saved text.
  */
 #include "check.h"
 
@@ -59,7 +59,7 @@ int main(void) {
     unsigned long length;
 
     while (scanf("%c%lu", &reader, &length) == 2 && getchar() == '\n') {
-        /* Just so many bytes, so that reading past them is noticed. */
+        /* Allocates exactly the bytes of the text, so that reading past them is noticed. */
         char *text = (char *)malloc(length == 0 ? 1 : length);
 
         CHECK(text != NULL && fread(text, 1, length, stdin) == length);

@@ -1,7 +1,7 @@
 /*
- * Threads, each with its own objects; objects that are handed on; one that all
- * look at together, and one that all visit; and calls that go deep on a small
- * stack.
+ * Uses objects from several threads: each thread its own, an object passed from
+ * thread to thread, and one that all threads query and visit at the same time.
+ * It also makes the deepest calls on a small stack.
  */
 #define _POSIX_C_SOURCE 200809L
 #include "check.h"
@@ -24,9 +24,9 @@ static void join_all(pthread_t *threads, size_t count) {
         CHECK(pthread_join(threads[i], NULL) == 0);
 }
 
-/* ---- Each its own ---- */
+/* ---- A separate object for each thread ---- */
 
-/* Holds and gives back; the answers are those of a space that nobody else uses. */
+/* Allocates and frees, and checks that the results are those of a single thread. */
 static void fill_and_empty(vm_address_allocator *space, uint64_t base) {
     vm_range range;
     uint64_t i;
@@ -94,7 +94,7 @@ static void use_own_objects(void) {
     join_all(threads, THREADS);
 }
 
-/* ---- Handed on ---- */
+/* ---- An object passed from thread to thread ---- */
 
 static void *make_one(void *context) {
     vm_range range;
@@ -123,7 +123,7 @@ static void hand_on(void) {
     join_all(&thread, 1);
 }
 
-/* ---- Looked at together ---- */
+/* ---- Queries at the same time ---- */
 
 static int count_range(void *context, vm_range range) {
     *(uint64_t *)context += range.end - range.start + 1;
@@ -163,7 +163,7 @@ static void look_together(void) {
     CHECK(vm_address_allocator_destroy(space) == VM_OK);
 }
 
-/* ---- Visited together ---- */
+/* ---- Visits at the same time ---- */
 
 static void *visit_often(void *context) {
     const vm_address_allocator *space = (const vm_address_allocator *)context;
@@ -177,7 +177,7 @@ static void *visit_often(void *context) {
     return NULL;
 }
 
-/* If one of the visits were not counted, the space would be busy after them. */
+/* If a visit were not counted, the space would be busy after them. */
 static void visit_together(void) {
     pthread_t threads[THREADS];
     vm_address_allocator *space;
@@ -195,13 +195,13 @@ static void visit_together(void) {
 
 /* ---- On a small stack ---- */
 
-/* Adds to the end of a text. */
+/* Appends to a text. */
 static void add(char **end, const char *piece) {
     strcpy(*end, piece);
     *end += strlen(piece);
 }
 
-/* The text of so many nodes, each the right child of the one before. */
+/* Writes the text of a chain of nodes, each the right child of the one before. */
 static char *chain_of_nodes(int levels) {
     char *text = (char *)malloc(200 * (size_t)levels), *end = text;
     int i;
@@ -264,6 +264,6 @@ int main(void) {
     look_together();
     visit_together();
     run_on_small_stack();
-    puts("threads: each with its own objects, objects handed on, one looked at and one visited");
+    puts("threads: separate, passed on, queried and visited objects checked");
     return 0;
 }

@@ -1,4 +1,4 @@
-/* Visitors that do not return: the process has to end by abort(). */
+/* Checks that a visitor that does not return ends the process with abort(). */
 #include "check.h"
 
 #include <csignal>
@@ -35,7 +35,7 @@ static void *visit(void *context) {
     return nullptr;
 }
 
-/* Visits in a thread, and exits if that is survived. */
+/* Visits in a thread, and exits if the visit returns. */
 static void visit_in_child(vm_range_visitor *visitor) {
     pthread_t thread;
 

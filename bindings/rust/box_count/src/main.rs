@@ -1,23 +1,26 @@
-//! Holds the nodes that a call counts against the boxes that it follows. Each step from a node to a
-//! child goes through a box, and the boxes count themselves, so that no walk can hide from this, under
-//! whatever name. Of every call of long runs, on small spaces and on one with 100,000 held ranges:
-//! what a counted call follows is bounded by its count, and a plain call follows as much. `holds` goes
-//! one way down, and what walks over all blocks does so once.
+//! Compares the number of nodes that a call returns with the number of boxes that it follows.
+//!
+//! Each step from a node to a child goes through a box that counts itself, so no walk can avoid the
+//! count. The calls run on small spaces and on one with 100,000 allocated ranges:
+//!
+//! - A counted call follows at most a multiple of its count.
+//! - A plain call follows as many boxes, up to [`LOOKS`].
+//! - `holds` walks one path, and walks over all blocks visit each once.
 #![forbid(unsafe_code)]
 
 use rattle::{boxes_followed, Global};
 use std::hint::black_box;
 use vm_allocator::{AddressAllocator, AllocPolicy, RangeInclusive, Result};
 
-/// So many boxes follows a counted call at most: for each node that it counts, and besides.
+/// The maximum number of boxes that a call follows: per node that it counts, and in addition.
 #[derive(Clone, Copy)]
 struct Bound {
     of_a_node: u64,
     besides: u64,
 }
 
-/// A refused release only goes down, and a refused request looks at both children of each node; what
-/// changes the tree takes its nodes out of their boxes, turns them and puts them back.
+/// A free that fails only descends. An allocation that fails reads both children of each node. A
+/// change takes nodes out of their boxes, rotates them and puts them back.
 const REFUSED_RELEASE: Bound = Bound {
     of_a_node: 1,
     besides: 2,
@@ -30,9 +33,10 @@ const CHANGE: Bound = Bound {
     of_a_node: 12,
     besides: 12,
 };
-/// A plain call looks so often at the root besides.
+/// The maximum number of additional boxes that a plain call follows, to read the root.
 const LOOKS: u64 = 2;
-/// So many boxes follows a walk at most: for each node of its way, or of the trees that it goes through.
+/// The maximum number of boxes that a walk follows: per node of its path or of its trees, and in
+/// addition.
 const WALK: Bound = Bound {
     of_a_node: 3,
     besides: 3,
@@ -45,7 +49,7 @@ impl Bound {
     }
 }
 
-/// Numbers that look random, the same at every run.
+/// Pseudo-random numbers, the same in every run.
 struct Draws(u64);
 
 impl Draws {
@@ -58,14 +62,14 @@ impl Draws {
     }
 }
 
-/// What a call asks for.
+/// A call with its arguments.
 #[derive(Clone, Copy, Debug)]
 enum Call {
     Allocate(u64, u64, AllocPolicy),
     Free(RangeInclusive),
 }
 
-/// What a run has seen.
+/// The totals of a run.
 #[derive(Debug, Default)]
 struct Seen {
     calls: u64,
@@ -75,7 +79,7 @@ struct Seen {
     most_for_a_node: u64,
 }
 
-/// Two allocators with one history: one by the counted calls, one by the plain ones.
+/// Two allocators with the same history: one by counted calls, one by plain calls.
 struct Pair {
     counted: AddressAllocator,
     plain: AddressAllocator,
@@ -83,7 +87,7 @@ struct Pair {
     seen: Seen,
 }
 
-/// The boxes that are followed by a piece of work, and what it answers.
+/// Returns the result of some work, and the number of boxes that it follows.
 fn boxes<T>(work: impl FnOnce() -> T) -> (T, u64) {
     let before = boxes_followed();
     let answer = work();
@@ -101,7 +105,7 @@ impl Pair {
         }
     }
 
-    /// Makes a call on both, and holds what they follow against the count.
+    /// Makes a call on both allocators, and checks their boxes against the count.
     fn call(&mut self, call: Call) {
         let (counted, plain) = (&mut self.counted, &mut self.plain);
         let ((answer, nodes), followed) = boxes(|| match call {
@@ -157,7 +161,7 @@ impl Pair {
         }
     }
 
-    /// A call of any kind, on a space of so many addresses.
+    /// Returns a random call on a space of this size.
     fn any(&mut self, draws: &mut Draws, size: u64) -> Call {
         let (length, alignment) = (1 + draws.below(4), 1 << draws.below(5));
         let place = draws.below(size);
@@ -175,7 +179,7 @@ impl Pair {
         }
     }
 
-    /// Holds what walks follow against the height and the number of nodes.
+    /// Checks the boxes that walks follow against the height and the number of nodes.
     fn walks(&self) {
         let space = &self.counted;
         let nodes_of_both = 2 * (2 * self.held.len() as u64 + 1);
@@ -215,12 +219,12 @@ impl Pair {
             most_for_a_node,
         } = self.seen;
         let held = self.held.len();
-        println!("{name}: {calls} calls, {refused} refused, {held} held at the end: {boxes} boxes followed, {nodes} nodes counted");
-        println!("{name}: at most {most_for_a_node} boxes for each node and one more, in one call");
+        println!("{name}: {calls} calls, {refused} errors, {held} ranges at the end: {boxes} boxes followed, {nodes} nodes counted");
+        println!("{name}: at most {most_for_a_node} boxes per counted node plus one, in one call");
     }
 }
 
-/// Random calls on a small space.
+/// Makes random calls on a small space.
 fn small(size: u64, calls: u64) {
     let (mut pair, mut draws) = (Pair::new(size), Draws(size));
     for number in 0..calls {
@@ -233,7 +237,7 @@ fn small(size: u64, calls: u64) {
     pair.tell(&format!("{size} addresses"));
 }
 
-/// Many ranges of mixed sizes with gaps between them, and then random calls.
+/// Allocates many ranges of mixed sizes with gaps between them, and then makes random calls.
 fn large() {
     let size = 16 * MANY;
     let (mut pair, mut draws) = (Pair::new(size), Draws(1));

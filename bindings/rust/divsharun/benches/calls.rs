@@ -1,5 +1,5 @@
-//! Nanoseconds a call, with 10^3 to 10^5 ranges or ids held: `cargo bench`. Without `--bench`, as
-//! `cargo test` starts it, it makes one short round to show that it works.
+//! Prints nanoseconds per call for 10^3 to 10^5 allocated ranges or ids, by `cargo bench`. Without
+//! `--bench`, as in `cargo test`, it runs one short round.
 
 mod workload;
 
@@ -13,7 +13,10 @@ fn main() {
         true => (&[1_000], 1),
         false => (&[1_000, 10_000, 100_000], 21),
     };
-    let heads: Vec<String> = counts.iter().map(|count| format!("{count} held")).collect();
+    let heads: Vec<String> = counts
+        .iter()
+        .map(|count| format!("{count} ranges"))
+        .collect();
     println!("| call | {} |", heads.join(" | "));
     println!("|---{}|", "|---".repeat(counts.len()));
     let devices: Vec<Devices> = counts.iter().map(|count| Devices::new(*count)).collect();

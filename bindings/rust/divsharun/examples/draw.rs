@@ -1,7 +1,8 @@
-//! Draws a space of addresses as SVG, to scale. It reads lines of the replay language from standard
-//! input, does what `space`, `first`, `last`, `exact` and `free` say, passes over the other lines,
-//! and writes the picture to standard output: held ranges, gaps, the multiples of the alignment
-//! that was asked for last, and the place that it got.
+//! Draws an address space as SVG, to scale.
+//!
+//! It reads lines of the replay language from standard input, makes the calls of `space`, `first`,
+//! `last`, `exact` and `free`, and ignores other lines. Its output shows the allocated ranges, the
+//! gaps, the range of the last request, and the multiples of that request's alignment.
 //!
 //!     cargo run --example draw < divsharun/examples/space.txt > space.svg
 
@@ -15,10 +16,10 @@ const TOP: f64 = 64.0;
 const HEIGHT: f64 = 48.0;
 const BOTTOM: f64 = TOP + HEIGHT;
 
-/// More multiples of an alignment than this can't be told apart.
+/// The maximum number of ticks that can be told apart.
 const MOST_TICKS: u64 = 256;
 
-/// The colours of a bright page, and those of a dark one.
+/// The colours of a light page and of a dark page.
 const STYLE: &str = "\
   text { font: 13px system-ui, sans-serif; fill: #1f2328; }
   .size { font-size: 11px; text-anchor: middle; }
@@ -33,7 +34,7 @@ const STYLE: &str = "\
   }
 ";
 
-/// The filling of gaps that are long enough in vain.
+/// The pattern of gaps that are long enough but misaligned.
 const STRIPES: &str = r#"<defs>
 <pattern id="stripes" width="6" height="6" patternUnits="userSpaceOnUse"
   patternTransform="rotate(45)"><line class="stripe" y2="6" stroke-width="3"/></pattern>
@@ -41,7 +42,7 @@ const STRIPES: &str = r#"<defs>
 
 const NAMESPACE: &str = "http://www.w3.org/2000/svg";
 
-/// What was asked for last, and what it got.
+/// The last request, and its range.
 struct Placed {
     line: String,
     size: u64,
@@ -49,7 +50,7 @@ struct Placed {
     range: RangeInclusive,
 }
 
-/// A space, as the lines read so far made it.
+/// The space after the lines so far.
 #[derive(Default)]
 struct Picture {
     space: Option<AddressAllocator>,
@@ -57,7 +58,7 @@ struct Picture {
 }
 
 impl Picture {
-    /// Does what a line says. A line that is refused or that says something else changes nothing.
+    /// Makes the call of a line. Other lines and errors change nothing.
     fn play(&mut self, line: &str) {
         let mut words = line.split(' ');
         let name = words.next().unwrap_or_default();
@@ -105,20 +106,20 @@ impl Picture {
     }
 }
 
-/// A picture of a space: its parts are written one after the other.
+/// A picture of a space. Its parts are written in turn.
 struct Drawing<'a> {
     space: &'a AddressAllocator,
     placed: Option<&'a Placed>,
 }
 
 impl Drawing<'_> {
-    /// Where an address stands in the picture.
+    /// Returns the horizontal position of an address.
     fn across(&self, address: u64) -> f64 {
         let (base, end) = (self.space.base(), self.space.end());
         LEFT + WIDTH * (address - base) as f64 / ((end - base) as f64 + 1.0)
     }
 
-    /// How a block is drawn.
+    /// Returns the CSS class of a block.
     fn class(&self, block: &Block) -> &'static str {
         let is_placed = |placed: &&Placed| placed.range == block.range;
         let is_vain = |placed: &&Placed| is_misaligned(&block.range, placed);
@@ -151,17 +152,17 @@ impl Drawing<'_> {
         Ok(())
     }
 
-    /// How many addresses the space has.
+    /// Returns the number of addresses of the space.
     fn width(&self) -> f64 {
         (self.space.end() - self.space.base()) as f64 + 1.0
     }
 
-    /// Whether the multiples of an alignment can be told apart.
+    /// Returns whether the multiples of an alignment can be told apart.
     fn has_ticks(&self, alignment: u64) -> bool {
         (self.space.end() - self.space.base()) / alignment <= MOST_TICKS
     }
 
-    /// The multiples of the alignment that was asked for last.
+    /// Writes the multiples of the alignment of the last request.
     fn write_alignments(&self, f: &mut fmt::Formatter<'_>, alignment: u64) -> fmt::Result {
         let (base, end) = (self.space.base(), self.space.end());
         if !self.has_ticks(alignment) {
@@ -179,7 +180,7 @@ impl Drawing<'_> {
         Ok(())
     }
 
-    /// An arrow to the place of the last request, and what it asked for.
+    /// Writes an arrow to the range of the last request, and its line.
     fn write_place(&self, f: &mut fmt::Formatter<'_>, placed: &Placed) -> fmt::Result {
         let (start, end) = (placed.range.start(), placed.range.end());
         let middle = (self.across(start) + self.across(end)) / 2.0;
@@ -198,7 +199,7 @@ impl Drawing<'_> {
         )
     }
 
-    /// The ends of the space, and what the ticks and the fillings mean.
+    /// Writes the ends of the space, and the meaning of ticks and colours.
     fn write_legend(&self, f: &mut fmt::Formatter<'_>) -> fmt::Result {
         let (low, right) = (BOTTOM + 24.0, LEFT + WIDTH);
         let (base, end) = (self.space.base(), self.space.end());
@@ -232,7 +233,7 @@ impl Drawing<'_> {
     }
 }
 
-/// A row of fillings with what they mean.
+/// Writes a row of colours with their meanings.
 fn write_keys(f: &mut fmt::Formatter<'_>, keys: &[(&str, &str)]) -> fmt::Result {
     let (mut left, high) = (LEFT, BOTTOM + 42.0);
     for (class, meaning) in keys {
@@ -247,7 +248,7 @@ fn write_keys(f: &mut fmt::Formatter<'_>, keys: &[(&str, &str)]) -> fmt::Result 
     Ok(())
 }
 
-/// Whether a gap is long enough for a request, and has no place for it all the same.
+/// Returns whether a gap is long enough for a request but misaligned.
 fn is_misaligned(gap: &RangeInclusive, request: &Placed) -> bool {
     let place = gap.start().checked_next_multiple_of(request.alignment);
     let last = place.and_then(|start| start.checked_add(request.size - 1));
@@ -275,7 +276,7 @@ impl Display for Drawing<'_> {
     }
 }
 
-/// A number of addresses, as one reads it.
+/// A number of addresses with its unit.
 struct Size(u64);
 
 impl Display for Size {

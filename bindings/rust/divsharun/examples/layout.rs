@@ -1,4 +1,4 @@
-//! Writes the address space of a machine as /proc/iomem has it, with the names of its devices.
+//! Prints the address space of a machine like `/proc/iomem`, with the names of its devices.
 
 use divsharun::{AddressAllocator, AllocPolicy, Result};
 

@@ -1,7 +1,8 @@
-//! What a virtual machine monitor keeps for its devices: a window below 4 GiB and one above it,
-//! interrupts, and slots for memory. Devices are plugged in and out, by two threads at once too,
-//! and the whole is saved and restored. It compiles unchanged with `vm-allocator` 0.1.4 in the
-//! place of this library, and prints the same.
+//! The resources of a virtual machine monitor: a window below 4 GiB and one above it, interrupts,
+//! and slots for memory.
+//!
+//! Two threads plug and unplug devices at the same time, and everything is saved and restored. It
+//! compiles unchanged with `vm-allocator` 0.1.4, and prints the same.
 
 use std::sync::{Arc, Mutex, PoisonError};
 use std::thread;
@@ -11,14 +12,14 @@ const PAGE: u64 = 0x1000;
 const MIB: u64 = 1 << 20;
 const GIB: u64 = 1 << 30;
 
-/// Where a bar may stand.
+/// The window of a bar.
 #[derive(Clone, Copy, Debug)]
 enum Window {
     Below4Gib,
     Above4Gib,
 }
 
-/// A bar of so many addresses, a power of two.
+/// A bar. Its size is a power of two.
 type BarRequest = (Window, u64);
 
 #[derive(Debug, Default)]
@@ -58,7 +59,7 @@ impl Resources {
         }
     }
 
-    /// Plugs a device in: it gets all of its bars and interrupts, or none.
+    /// Plugs in a device. It gets all of its bars and interrupts, or none.
     fn plug(&mut self, bars: &[BarRequest], interrupts: usize) -> Result<PciDevice> {
         let mut device = PciDevice::default();
         match self.take(&mut device, bars, interrupts) {
@@ -70,7 +71,7 @@ impl Resources {
         }
     }
 
-    /// Gives a device what it asks for, up to the first refusal.
+    /// Allocates the bars and interrupts of a device, up to the first error.
     fn take(
         &mut self,
         device: &mut PciDevice,
@@ -90,7 +91,7 @@ impl Resources {
         Ok(())
     }
 
-    /// Takes back what a device has.
+    /// Frees everything that a device has.
     fn unplug(&mut self, device: &PciDevice) -> Result<()> {
         for (window, bar) in &device.bars {
             self.window(*window).free(bar)?;
@@ -101,7 +102,7 @@ impl Resources {
         Ok(())
     }
 
-    /// Plugs memory in, at an address that the guest was told.
+    /// Plugs in memory, at an address that the guest knows.
     fn plug_memory(&mut self, start: u64, size: u64) -> Result<MemoryModule> {
         let policy = AllocPolicy::ExactMatch(start);
         let range = self.above_4_gib.allocate(size, 128 * MIB, policy)?;
@@ -115,19 +116,19 @@ impl Resources {
     }
 }
 
-/// The resources as the threads of the monitor share them.
+/// The resources, shared by the threads of the monitor.
 #[derive(Clone)]
 struct Shared(Arc<Mutex<Resources>>);
 
 impl Shared {
     /// Does something with the resources, one thread at a time.
     fn with<T>(&self, action: impl FnOnce(&mut Resources) -> Result<T>) -> Result<T> {
-        // A thread that panicked left them as they were before its call or after it.
+        // A thread that panicked left them as they were before or after its call.
         action(&mut self.0.lock().unwrap_or_else(PoisonError::into_inner))
     }
 }
 
-/// What is kept while the machine does not run.
+/// The saved state of a stopped machine.
 #[cfg(feature = "serde")]
 type Snapshot = String;
 #[cfg(not(feature = "serde"))]
@@ -167,7 +168,7 @@ fn restore(snapshot: Snapshot) -> Resources {
     snapshot
 }
 
-/// Plugs a graphics card in and out and in again, and one that does not fit.
+/// Plugs in a graphics card, unplugs it and plugs it in again, and tries one that does not fit.
 fn plug_cards(shared: &Shared) -> Result<PciDevice> {
     let bars = [
         (Window::Below4Gib, 16 * MIB),
@@ -178,7 +179,7 @@ fn plug_cards(shared: &Shared) -> Result<PciDevice> {
     let card = shared.with(|resources| resources.plug(&bars, 4))?;
     println!("plugged in: {card:x?}");
 
-    // Its last bar does not fit, so that it gets none.
+    // The last bar does not fit, so the card gets none.
     let too_large = [
         (Window::Below4Gib, MIB),
         (Window::Above4Gib, GIB),
@@ -199,11 +200,11 @@ fn plug_cards(shared: &Shared) -> Result<PciDevice> {
         .iter()
         .map(|bar| bar.1)
         .eq(card.bars.iter().map(|bar| bar.1)));
-    println!("plugged in again, at the same places");
+    println!("plugged in again, with the same ranges");
     Ok(again)
 }
 
-/// Two threads plug sixteen network devices in each, while the other does.
+/// Plugs in sixteen network devices from each of two threads.
 fn plug_by_two_threads(shared: &Shared) -> Result<Vec<PciDevice>> {
     let workers = [0, 1].map(|_| {
         let shared = shared.clone();
@@ -220,7 +221,7 @@ fn plug_by_two_threads(shared: &Shared) -> Result<Vec<PciDevice>> {
     Ok(devices)
 }
 
-/// Whether no two of the devices share an address or an interrupt.
+/// Returns whether the devices share no address and no interrupt.
 fn are_apart(devices: &[PciDevice]) -> bool {
     let mut ranges: Vec<_> = devices.iter().flat_map(|device| &device.bars).collect();
     ranges.sort_by_key(|bar| bar.1);
@@ -254,7 +255,7 @@ fn main() -> Result<()> {
     }
     restored.above_4_gib.free(&memory.range)?;
     restored.memory_slots.free_id(memory.slot)?;
-    // Nothing is held any more, so that a device may have a whole window.
+    // Everything is free now, so a device can have a whole window.
     let whole = restored.plug(
         &[
             (Window::Above4Gib, 64 * GIB),

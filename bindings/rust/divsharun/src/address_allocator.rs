@@ -4,12 +4,14 @@ use core::fmt;
 use core::iter::FusedIterator;
 use rattle::Global;
 
-/// Gives out the ranges of one space of addresses. Two ranges held at one time share no address,
-/// each lies in the space, and none contains `u64::MAX`.
+/// Allocates ranges of addresses from one space.
 ///
-/// Two allocators are equal exactly where their spaces and their held ranges are, whatever calls
-/// led to them. They are ordered by space, and then by their blocks, which are the held ranges and
-/// the gaps: by the first that differ, by start, end and state.
+/// Allocated ranges never overlap, each is inside the space, and none contains `u64::MAX`. A range
+/// has both of its ends. Sizes and alignments are numbers of addresses.
+///
+/// Two allocators are equal if and only if they have the same space and the same allocated ranges.
+/// The calls that led to them do not matter. They are ordered by space, and then by their blocks,
+/// which are the allocated ranges and the gaps. Blocks are compared by start, end and state.
 ///
 /// # Example
 ///
@@ -31,43 +33,51 @@ use rattle::Global;
 pub struct AddressAllocator(pub(crate) proved::AddressAllocator);
 
 impl AddressAllocator {
-    /// The allocator of the `size` addresses from `base` on, with none held.
-    ///
-    /// # Errors
-    ///
-    /// In this order: `Underflow` for a size of 0; `Overflow` for an end past `u64::MAX`.
-    pub fn new(base: u64, size: u64) -> Result<Self> {
-        or_abort(proved::AddressAllocator::new(Global, base, size)).map(AddressAllocator)
-    }
-
-    /// Does what [`new`](Self::new) does, and answers where there is no memory.
-    ///
-    /// # Errors
-    ///
-    /// `Refused(Underflow)` and `Refused(Overflow)` where `new` answers so; `OutOfMemory` where a
-    /// request for memory was refused.
-    pub fn try_new(base: u64, size: u64) -> core::result::Result<Self, TryError> {
-        or_try_error(proved::AddressAllocator::new(Global, base, size)).map(AddressAllocator)
-    }
-
-    /// Holds the `size` addresses at the place that the policy chooses, a multiple of `alignment`
-    /// from which on they are clear.
+    /// Creates an allocator for the `size` addresses starting at `base`. All of them are free.
     ///
     /// # Errors
     ///
     /// In this order:
-    /// - `InvalidSize(0)` for a size of 0;
-    /// - `InvalidAlignment` where the alignment is no power of two;
-    /// - for `ExactMatch`: `UnalignedAddress` where the start is no multiple of the alignment;
-    ///   `Overflow` where it is `u64::MAX`; `ResourceNotAvailable` where it is outside the space;
-    ///   `Overflow` where the range would pass `u64::MAX`; `InvalidStateTransition`, with the range
-    ///   and `Allocated`, where exactly this range is held;
-    /// - `ResourceNotAvailable` where there is no place;
-    /// - `Overflow` where the range at the place would end at `u64::MAX`, also where there is
-    ///   another place; and where the place leaves a part of its gap over in a tree of height 48 or
-    ///   more, which takes more than 6 * 10^9 held ranges.
+    /// - `Underflow` if `size` is 0.
+    /// - `Overflow` if the last address would be past `u64::MAX`.
+    pub fn new(base: u64, size: u64) -> Result<Self> {
+        or_abort(proved::AddressAllocator::new(Global, base, size)).map(AddressAllocator)
+    }
+
+    /// Creates an allocator like [`new`](Self::new), but returns an error if an allocation fails.
     ///
-    /// A refusal changes nothing.
+    /// # Errors
+    ///
+    /// In this order:
+    /// - `Refused(Underflow)` if `size` is 0.
+    /// - `Refused(Overflow)` if the last address would be past `u64::MAX`.
+    /// - `OutOfMemory` if the allocation of the node fails.
+    pub fn try_new(base: u64, size: u64) -> core::result::Result<Self, TryError> {
+        or_try_error(proved::AddressAllocator::new(Global, base, size)).map(AddressAllocator)
+    }
+
+    /// Allocates `size` free addresses that start at a multiple of `alignment`, and returns their
+    /// range.
+    ///
+    /// `FirstMatch` chooses the lowest such range and `LastMatch` the highest. `ExactMatch(start)`
+    /// chooses the range at `start`.
+    ///
+    /// # Errors
+    ///
+    /// An error changes nothing. In this order:
+    /// - `InvalidSize(0)` if `size` is 0.
+    /// - `InvalidAlignment` if `alignment` is not a power of two.
+    /// - For `ExactMatch(start)`:
+    ///   - `UnalignedAddress` if `start` is not a multiple of `alignment`.
+    ///   - `Overflow` if `start` is `u64::MAX`.
+    ///   - `ResourceNotAvailable` if `start` is outside the space.
+    ///   - `Overflow` if the range would end past `u64::MAX`.
+    ///   - `InvalidStateTransition`, with the range and `Allocated`, if exactly this range is
+    ///     already allocated.
+    /// - `ResourceNotAvailable` if there is no such range.
+    /// - `Overflow` if the chosen range ends at `u64::MAX`, even if another range is free.
+    /// - `Overflow` if the range fills only a part of its gap and the height of the tree is 48 or
+    ///   more. This takes more than 6 * 10^9 ranges.
     pub fn allocate(
         &mut self,
         size: u64,
@@ -77,14 +87,16 @@ impl AddressAllocator {
         or_abort(self.0.allocate(Global, size, alignment, policy)).map(RangeInclusive)
     }
 
-    /// Does what [`allocate`](Self::allocate) does, and answers where there is no memory.
+    /// Allocates a range like [`allocate`](Self::allocate), but returns an error if an allocation
+    /// fails.
     ///
     /// # Errors
     ///
-    /// `Refused` with `InvalidSize`, `InvalidAlignment`, `UnalignedAddress`, `Overflow`,
-    /// `ResourceNotAvailable` or `InvalidStateTransition` where `allocate` answers so;
-    /// `OutOfMemory` where a request for memory was refused, which can only be where the place
-    /// leaves a part of its gap over. A refusal changes nothing.
+    /// An error changes nothing. In this order:
+    /// - `Refused` with `InvalidSize`, `InvalidAlignment`, `UnalignedAddress`, `Overflow`,
+    ///   `ResourceNotAvailable` or `InvalidStateTransition`, if `allocate` returns that error.
+    /// - `OutOfMemory` if the allocation of a node fails. A range that fills its gap does not
+    ///   allocate.
     pub fn try_allocate(
         &mut self,
         size: u64,
@@ -94,16 +106,18 @@ impl AddressAllocator {
         or_try_error(self.0.allocate(Global, size, alignment, policy)).map(RangeInclusive)
     }
 
-    /// Does what [`allocate`](Self::allocate) does, and answers besides how many nodes of the tree
-    /// it entered. With the [height](Self::height) h before, these are at most 8h + 8 for
-    /// `ExactMatch`. `FirstMatch` and `LastMatch` enter at most h(v + 1) + 8h + 8, where v gaps are
-    /// long enough and hold no place all the same; at alignment 1 there are none such. The same
-    /// holds of w in the place of v, where w gaps have a multiple of the alignment and hold no
-    /// place.
+    /// Allocates a range like [`allocate`](Self::allocate), and also returns the number of tree
+    /// nodes that the call entered.
+    ///
+    /// Let h be the [`height`](Self::height) before the call. The count is at most 8h + 8 for
+    /// `ExactMatch`, and at most h(v + 1) + 8h + 8 for `FirstMatch` and `LastMatch`. Here v is the
+    /// lesser of two numbers:
+    /// - the gaps that are long enough but misaligned (0 if `alignment` is 1);
+    /// - the gaps that have a multiple of `alignment` but are too short after it.
     ///
     /// # Errors
     ///
-    /// Those of `allocate`, in the same cases: `InvalidSize`, `InvalidAlignment`,
+    /// Those of [`allocate`](Self::allocate), in the same order: `InvalidSize`, `InvalidAlignment`,
     /// `UnalignedAddress`, `Overflow`, `ResourceNotAvailable` and `InvalidStateTransition`.
     pub fn allocate_counted(
         &mut self,
@@ -115,70 +129,78 @@ impl AddressAllocator {
         (or_abort(answer).map(RangeInclusive), count)
     }
 
-    /// Gives a held range back. It takes no memory.
+    /// Frees an allocated range. It does not allocate.
     ///
     /// # Errors
     ///
-    /// `ResourceNotAvailable` for any other range, a part of a held one and a clear one among them.
-    /// A refusal changes nothing.
+    /// - `ResourceNotAvailable` if exactly this range is not allocated. A part of an allocated
+    ///   range cannot be freed.
+    ///
+    /// An error changes nothing.
     pub fn free(&mut self, key: &RangeInclusive) -> Result<()> {
         or_abort(self.0.free(&key.0))
     }
 
-    /// Does what [`free`](Self::free) does, and answers besides how many nodes of the tree it
-    /// entered: at most 8h + 8 with the [height](Self::height) h before.
+    /// Frees a range like [`free`](Self::free), and also returns the number of tree nodes that the
+    /// call entered. The count is at most 8h + 8, where h is the [`height`](Self::height) before
+    /// the call.
     ///
     /// # Errors
     ///
-    /// `ResourceNotAvailable` for any range that is not held, as `free` answers.
+    /// - `ResourceNotAvailable` if exactly this range is not allocated.
     pub fn free_counted(&mut self, key: &RangeInclusive) -> (Result<()>, u64) {
         let (answer, count) = self.0.free_counted(&key.0);
         (or_abort(answer), count)
     }
 
-    /// The first address of the space.
+    /// Returns the first address of the space.
     pub fn base(&self) -> u64 {
         self.0.base()
     }
 
-    /// The last address of the space.
+    /// Returns the last address of the space.
     pub fn end(&self) -> u64 {
         self.0.end()
     }
 
-    /// The held ranges, from the lowest to the highest. It takes no memory.
+    /// Returns an iterator over the allocated ranges in ascending order. It does not allocate.
     pub fn held_ranges(&self) -> HeldRanges<'_> {
         HeldRanges(self.0.held_ranges())
     }
 
-    /// Whether exactly this range is held: a part of a held range is not, and a clear one neither.
-    /// It goes one way down the tree and takes no memory.
+    /// Returns whether exactly this range is allocated. A part of an allocated range is not.
+    ///
+    /// It walks one path of the tree and does not allocate.
     pub fn holds(&self, key: &RangeInclusive) -> bool {
         self.0.holds(&key.0)
     }
 
-    /// How many ranges are held. It walks the whole tree and takes no memory.
+    /// Returns the number of allocated ranges.
+    ///
+    /// It walks the whole tree and does not allocate.
     pub fn held_count(&self) -> u64 {
         self.0.held_count()
     }
 
-    /// How many nodes the longest way down the tree has. The tree is balanced: with k held ranges
-    /// its height h has F(h + 2) at most 2k + 2, where F is the sequence 1, 1, 2, 3, 5 of
-    /// Fibonacci, and is 49 at most.
+    /// Returns the height of the tree: the number of nodes on its longest path, at most 49.
+    ///
+    /// The tree is balanced. With k allocated ranges its height h satisfies F(h + 2) <= 2k + 2,
+    /// where F is the Fibonacci sequence 1, 1, 2, 3, 5.
     pub fn height(&self) -> u64 {
         self.0.height()
     }
 
-    /// The space to look at: its held ranges and the gaps among them, as /proc/iomem writes them.
+    /// Returns a view of the allocated ranges and the gaps between them, which prints them like
+    /// `/proc/iomem`.
     pub fn layout(&self) -> Layout<'_> {
         Layout::of(self)
     }
 
-    /// A copy, and an answer where there is no memory for it.
+    /// Returns a copy, or an error if an allocation fails.
     ///
     /// # Errors
     ///
-    /// `OutOfMemory` where a request for memory was refused; what was taken is given back then.
+    /// - `OutOfMemory` if the allocation of a node fails. The nodes copied so far are freed.
     pub fn try_clone(&self) -> core::result::Result<Self, TryError> {
         or_try_error(self.0.try_clone(Global)).map(AddressAllocator)
     }
@@ -196,7 +218,9 @@ impl fmt::Debug for AddressAllocator {
     }
 }
 
-/// The held ranges of an [`AddressAllocator`], from the lowest to the highest.
+/// An iterator over the allocated ranges of an [`AddressAllocator`], in ascending order.
+///
+/// It is created by [`held_ranges`](AddressAllocator::held_ranges).
 ///
 /// # Example
 ///

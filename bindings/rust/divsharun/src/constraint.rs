@@ -2,8 +2,8 @@ use crate::error::or_abort;
 use crate::Result;
 use core::fmt;
 
-/// What [`allocate`](crate::AddressAllocator::allocate) does where a request has several places;
-/// `FirstMatch` is the default.
+/// The range that [`allocate`](crate::AddressAllocator::allocate) chooses if several fit. The
+/// default is `FirstMatch`.
 ///
 /// # Example
 ///
@@ -18,11 +18,13 @@ use core::fmt;
 /// ```
 pub use proved::AllocPolicy;
 
-/// An alignment for requests that need no particular one.
+/// The alignment for requests that need no particular one.
 pub const DEFAULT_CONSTRAINT_ALIGN: u64 = proved::DEFAULT_CONSTRAINT_ALIGN;
 
-/// A request for addresses that makes sense: at least one address, an alignment that is a power of
-/// two, and, where a start is named, one that the alignment divides.
+/// A valid request for addresses.
+///
+/// Its size is not 0, its alignment is a power of two, and the start of an `ExactMatch` is a
+/// multiple of the alignment.
 ///
 /// # Example
 ///
@@ -41,23 +43,24 @@ pub const DEFAULT_CONSTRAINT_ALIGN: u64 = proved::DEFAULT_CONSTRAINT_ALIGN;
 pub struct Constraint(proved::Constraint);
 
 impl Constraint {
-    /// The request for `size` addresses from a multiple of `align` on.
+    /// Creates a request for `size` addresses that start at a multiple of `align`.
     ///
     /// # Errors
     ///
-    /// In this order: `InvalidSize(0)` for a size of 0; `InvalidAlignment` where the alignment is
-    /// no power of two; `UnalignedAddress` for an `ExactMatch` of a start that is no multiple of
-    /// the alignment.
+    /// In this order:
+    /// - `InvalidSize(0)` if `size` is 0.
+    /// - `InvalidAlignment` if `align` is not a power of two.
+    /// - `UnalignedAddress` if `policy` is `ExactMatch` and its start is not a multiple of `align`.
     pub fn new(size: u64, align: u64, policy: AllocPolicy) -> Result<Self> {
         or_abort(proved::Constraint::new(size, align, policy)).map(Constraint)
     }
 
-    /// What has to divide the first address.
+    /// Returns the alignment of the first address.
     pub fn align(self) -> u64 {
         self.0.align()
     }
 
-    /// How many addresses are asked for.
+    /// Returns the number of requested addresses.
     pub fn size(self) -> u64 {
         self.0.size()
     }

@@ -3,7 +3,7 @@ use crate::{AllocPolicy, RangeInclusive, Result};
 use core::fmt;
 use rattle::Global;
 
-/// What a device holds: an id, and a range of addresses.
+/// The resources of a device: an id and a range of addresses.
 ///
 /// # Example
 ///
@@ -23,11 +23,14 @@ pub struct DeviceSlot {
     pub range: RangeInclusive,
 }
 
-/// Gives each device an id and a range of addresses, both or neither. No two devices share an id or
-/// an address.
+/// Allocates an id and a range of addresses for each device. If it cannot have both, it gets
+/// neither.
 ///
-/// The ids given back and the table of the devices are a set and a map of Rust's, whose want of
-/// memory ends the process: these calls have no form that answers it.
+/// Two devices never share an id or an address.
+///
+/// Freed ids are stored in a [`BTreeSet`](alloc::collections::BTreeSet) and devices in a
+/// [`BTreeMap`](alloc::collections::BTreeMap). If one of their allocations fails, the process ends,
+/// so there are no `try_` variants.
 ///
 /// # Example
 ///
@@ -48,13 +51,15 @@ pub struct DeviceSlot {
 pub struct DeviceManager(pub(crate) proved_devices::DeviceManager);
 
 impl DeviceManager {
-    /// A manager without devices, for the ids from `id_lo` to `id_hi`, both included, and for the
-    /// `size` addresses from `base` on.
+    /// Creates a manager without devices, for the ids from `id_lo` to `id_hi`, both included, and
+    /// the `size` addresses starting at `base`.
     ///
     /// # Errors
     ///
-    /// In this order: `InvalidRange(id_lo, id_hi)` where the last id is below the first;
-    /// `Underflow` for a size of 0; `Overflow` for an end past `u64::MAX`.
+    /// In this order:
+    /// - `InvalidRange(id_lo, id_hi)` if `id_hi` is less than `id_lo`.
+    /// - `Underflow` if `size` is 0.
+    /// - `Overflow` if the last address would be past `u64::MAX`.
     pub fn new(id_lo: u32, id_hi: u32, base: u64, size: u64) -> Result<Self> {
         or_abort(proved_devices::DeviceManager::new(
             Global, id_lo, id_hi, base, size,
@@ -62,17 +67,18 @@ impl DeviceManager {
         .map(DeviceManager)
     }
 
-    /// Gives a new device the least id that is not held, and the `size` addresses at the place that
-    /// the policy chooses, a multiple of `align`.
+    /// Allocates the lowest free id and a range of `size` addresses for a new device. `policy` and
+    /// `align` choose the range as in
+    /// [`AddressAllocator::allocate`](crate::AddressAllocator::allocate).
     ///
     /// # Errors
     ///
-    /// Where all ids are held, `Overflow` or `ResourceNotAvailable`, as
-    /// [`IdAllocator::allocate_id`](crate::IdAllocator::allocate_id) answers; then `InvalidSize`,
-    /// `InvalidAlignment`, `UnalignedAddress`, `Overflow`, `ResourceNotAvailable` or
-    /// `InvalidStateTransition`, as
-    /// [`AddressAllocator::allocate`](crate::AddressAllocator::allocate) answers. A refusal leaves
-    /// ids, ranges and devices as they were.
+    /// An error leaves ids, ranges and devices unchanged. In this order:
+    /// - `Overflow` or `ResourceNotAvailable` if all ids are allocated, as of
+    ///   [`IdAllocator::allocate_id`](crate::IdAllocator::allocate_id).
+    /// - `InvalidSize`, `InvalidAlignment`, `UnalignedAddress`, `Overflow`, `ResourceNotAvailable`
+    ///   or `InvalidStateTransition`, as of
+    ///   [`AddressAllocator::allocate`](crate::AddressAllocator::allocate).
     pub fn reserve(&mut self, size: u64, align: u64, policy: AllocPolicy) -> Result<DeviceSlot> {
         let slot = or_abort(self.0.reserve(Global, size, align, policy))?;
         Ok(DeviceSlot {
@@ -81,16 +87,17 @@ impl DeviceManager {
         })
     }
 
-    /// Gives back the id and the range of a device.
+    /// Releases a device: frees its id and its range.
     ///
     /// # Errors
     ///
-    /// `NeverAllocated(id)` where no device has the id.
+    /// - `NeverAllocated(id)` if no device has this id. Nothing changes then.
     pub fn release(&mut self, id: u32) -> Result<()> {
         or_abort(self.0.release(id))
     }
 
-    /// The range of the device with this id, where there is one. It takes no memory.
+    /// Returns the range of the device with this id, or `None` if there is no such device. It does
+    /// not allocate.
     pub fn slot(&self, id: u32) -> Option<RangeInclusive> {
         self.0.slot(id).map(RangeInclusive)
     }

@@ -1,7 +1,7 @@
 use crate::{AddressAllocator, NodeState, RangeInclusive};
 use core::fmt;
 
-/// Why a call is refused. A refused call changes nothing.
+/// The error of a call. A call that returns an error changes nothing.
 ///
 /// # Example
 ///
@@ -18,29 +18,31 @@ use core::fmt;
 /// ```
 #[derive(Copy, Clone, PartialEq, Eq, PartialOrd, Ord, Debug)]
 pub enum Error {
-    /// A range would end past or at `u64::MAX`, or all ids up to `u32::MAX` are held.
+    /// A range would end at or past `u64::MAX`, or all ids of a range up to `u32::MAX` are
+    /// allocated.
     Overflow,
-    /// The id to release is outside the range of the allocator.
+    /// The id to free is outside the range of the allocator.
     OutOfRange(u32),
-    /// The id to release was handed out and is not held any more.
+    /// The id to free was allocated and is already freed.
     AlreadyReleased(u32),
-    /// The id to release was never handed out.
+    /// The id to free was never allocated.
     NeverAllocated(u32),
-    /// There is no place for the request, the range to release is not held, or all ids are held.
+    /// No free range fits the request, the range to free is not allocated, or all ids are
+    /// allocated.
     ResourceNotAvailable,
-    /// The start is past the end, or the two are those of all addresses.
+    /// The start is past the end, or the range has all 2^64 addresses.
     InvalidRange(u64, u64),
-    /// The alignment is no power of two.
+    /// The alignment is not a power of two.
     InvalidAlignment,
-    /// The first range shares an address with the second. No public call answers it.
+    /// The first range shares an address with the second. No public call returns it.
     Overlap(RangeInclusive, RangeInclusive),
-    /// The range asked for by its start is held already.
+    /// The range requested by `ExactMatch` is already allocated.
     InvalidStateTransition(RangeInclusive, NodeState),
-    /// The start asked for is no multiple of the alignment.
+    /// The start of `ExactMatch` is not a multiple of the alignment.
     UnalignedAddress,
-    /// A space of no address is asked for.
+    /// The size of a space is 0.
     Underflow,
-    /// A range of this size, 0, is asked for.
+    /// The size of a requested range is 0.
     InvalidSize(u64),
 }
 
@@ -86,7 +88,7 @@ impl fmt::Display for Error {
 
 impl core::error::Error for Error {}
 
-/// What a call answers: a value, or why it is refused.
+/// The result of a call: a value or an [`Error`].
 ///
 /// # Example
 ///
@@ -102,9 +104,7 @@ impl core::error::Error for Error {}
 /// ```
 pub type Result<T> = core::result::Result<T, Error>;
 
-/// Why a call by a name that begins with `try_` is refused: as the call without `try_` would be, or
-/// because a request for memory was refused, where that one ends the process. Either way nothing is
-/// changed.
+/// The error of a call with the prefix `try_`. A call that returns an error changes nothing.
 ///
 /// # Example
 ///
@@ -122,9 +122,9 @@ pub type Result<T> = core::result::Result<T, Error>;
 /// ```
 #[derive(Copy, Clone, PartialEq, Eq, PartialOrd, Ord, Debug)]
 pub enum TryError {
-    /// The call without `try_` would be refused so.
+    /// The error that the call without `try_` would return.
     Refused(Error),
-    /// A request for memory was refused. It comes after every other refusal.
+    /// An allocation failed. This error comes after every other one.
     OutOfMemory,
 }
 
@@ -145,7 +145,7 @@ impl From<Error> for TryError {
     }
 }
 
-/// The answer of the proved code, out of memory among its refusals.
+/// Converts a result of the proved code. Its `OutOfMemory` becomes [`TryError::OutOfMemory`].
 pub(crate) fn or_try_error<T>(answer: proved::Result<T>) -> core::result::Result<T, TryError> {
     use proved::Error as Proved;
 
@@ -170,7 +170,7 @@ pub(crate) fn or_try_error<T>(answer: proved::Result<T>) -> core::result::Result
     })
 }
 
-/// The answer of the proved code; where a request for memory was refused, the process ends.
+/// Converts a result of the proved code. Ends the process if an allocation failed.
 pub(crate) fn or_abort<T>(answer: proved::Result<T>) -> Result<T> {
     or_try_error(answer).map_err(|error| match error {
         TryError::Refused(error) => error,
@@ -178,8 +178,10 @@ pub(crate) fn or_abort<T>(answer: proved::Result<T>) -> Result<T> {
     })
 }
 
-/// Ends the process, as Rust's collections do. The proved code does not tell how much it asked for,
-/// so that the size which the message names says nothing.
+/// Ends the process, as Rust's collections do.
+///
+/// The proved code does not report the size of the failed allocation, so the size in the message
+/// has no meaning.
 pub(crate) fn out_of_memory() -> ! {
     alloc::alloc::handle_alloc_error(core::alloc::Layout::new::<AddressAllocator>())
 }
@@ -192,7 +194,7 @@ mod tests {
     use proved::allocation_engine::NodeState::Allocated;
     use proved::Error as Proved;
 
-    /// Also of `Overlap`, which no public call returns.
+    /// Checks all errors, including `Overlap`, which no public call returns.
     #[test]
     fn errors_keep_their_names_fields_and_texts() {
         let [first, second] = [1, 2].map(|start| proved::RangeInclusive::new(start, 7).unwrap());

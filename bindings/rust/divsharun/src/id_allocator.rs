@@ -3,10 +3,10 @@ use crate::Result;
 use core::fmt;
 use rattle::Global;
 
-/// Gives out the ids of a range, each to one holder at a time.
+/// Allocates ids from a range, the lowest free id first.
 ///
-/// The ids that were given back are kept in a set of Rust's, whose want of memory ends the process:
-/// [`free_id`](Self::free_id) and `clone` have no form that answers it.
+/// Freed ids are stored in a [`BTreeSet`](alloc::collections::BTreeSet). If one of its allocations
+/// fails, the process ends, so [`free_id`](Self::free_id) and `clone` have no `try_` variants.
 ///
 /// # Example
 ///
@@ -26,52 +26,57 @@ use rattle::Global;
 pub struct IdAllocator(pub(crate) proved::IdAllocator);
 
 impl IdAllocator {
-    /// An allocator of the ids from `range_base` to `range_end`, both included, none of them handed
-    /// out yet. It takes no memory.
+    /// Creates an allocator for the ids from `range_base` to `range_end`, both included. All of
+    /// them are free. It does not allocate memory.
     ///
     /// # Errors
     ///
-    /// `InvalidRange(range_base, range_end)` where the end is below the base.
+    /// - `InvalidRange(range_base, range_end)` if `range_end` is less than `range_base`.
     pub fn new(range_base: u32, range_end: u32) -> Result<Self> {
         or_abort(proved::IdAllocator::new(Global, range_base, range_end)).map(IdAllocator)
     }
 
-    /// Takes the least id of the range that is not held. It takes no memory.
+    /// Allocates the lowest free id. It does not allocate memory.
     ///
     /// # Errors
     ///
-    /// Where all ids are held: `Overflow` in a range up to `u32::MAX`, and else
-    /// `ResourceNotAvailable`.
+    /// If all ids are allocated:
+    /// - `Overflow` if the last id is `u32::MAX`.
+    /// - `ResourceNotAvailable` otherwise.
     pub fn allocate_id(&mut self) -> Result<u32> {
         or_abort(self.0.allocate_id())
     }
 
-    /// What [`allocate_id`](Self::allocate_id) would answer; nothing is taken.
+    /// Returns the id or the error that [`allocate_id`](Self::allocate_id) would return, without a
+    /// change.
     ///
     /// # Errors
     ///
-    /// `Overflow` or `ResourceNotAvailable` where all ids are held, as `allocate_id` answers.
+    /// If all ids are allocated:
+    /// - `Overflow` if the last id is `u32::MAX`.
+    /// - `ResourceNotAvailable` otherwise.
     pub fn peek_id(&self) -> Result<u32> {
         or_abort(self.0.peek_id())
     }
 
-    /// Whether the id is held. No id outside the range is.
+    /// Returns whether the id is allocated. An id outside the range is not.
     pub fn is_allocated(&self, id: u32) -> bool {
         self.0.is_allocated(id)
     }
 
-    /// Gives back an id that is held, and answers it.
+    /// Frees an allocated id and returns it.
     ///
     /// # Errors
     ///
-    /// In this order: `OutOfRange(id)` where the id is outside the range; `NeverAllocated(id)`
-    /// where it was never handed out; `AlreadyReleased(id)` where it is not held any more. A
-    /// refusal changes nothing.
+    /// An error changes nothing. In this order:
+    /// - `OutOfRange(id)` if the id is outside the range.
+    /// - `NeverAllocated(id)` if the id was never allocated.
+    /// - `AlreadyReleased(id)` if the id is already freed.
     pub fn free_id(&mut self, id: u32) -> Result<u32> {
         or_abort(self.0.free_id(id))
     }
 
-    /// How many ids are held. It takes no memory, and looks at none of them.
+    /// Returns the number of allocated ids in constant time. It does not allocate memory.
     pub fn held_count(&self) -> u64 {
         self.0.held_count()
     }

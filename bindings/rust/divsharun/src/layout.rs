@@ -3,8 +3,10 @@ use alloc::collections::BTreeMap;
 use core::fmt;
 use core::iter::{FusedIterator, Peekable};
 
-/// The space of an [`AddressAllocator`] to look at. Its `Display` writes a line for each held range
-/// and each gap, as /proc/iomem does, or, where the space ends below 2^16, as /proc/ioports does.
+/// A view of the space of an [`AddressAllocator`], created by [`layout`](AddressAllocator::layout).
+///
+/// Its `Display` writes a line for each allocated range and each gap, like `/proc/iomem`. If the
+/// space ends below 2^16, it writes addresses of four digits, like `/proc/ioports`.
 ///
 /// # Example
 ///
@@ -29,7 +31,7 @@ pub struct Layout<'a> {
 }
 
 impl<'a> Layout<'a> {
-    /// The layout of an allocator, without names.
+    /// Creates the layout of an allocator, without names.
     pub(crate) fn of(allocator: &'a AddressAllocator) -> Self {
         Layout {
             allocator,
@@ -37,14 +39,14 @@ impl<'a> Layout<'a> {
         }
     }
 
-    /// The layout with names for held ranges. A name for any other range is not shown.
+    /// Adds names for allocated ranges. A name for any other range is not shown.
     #[must_use]
     pub fn named(mut self, names: impl IntoIterator<Item = (RangeInclusive, &'a str)>) -> Self {
         self.names.extend(names);
         self
     }
 
-    /// The held ranges and the gaps, from the start of the space to its end.
+    /// Returns an iterator over the allocated ranges and the gaps, in ascending order.
     pub fn blocks(&self) -> Blocks<'_> {
         Blocks {
             next: Some(self.allocator.base()),
@@ -54,7 +56,7 @@ impl<'a> Layout<'a> {
         }
     }
 
-    /// How many digits an address has at least.
+    /// Returns the minimum number of digits of an address.
     fn digits(&self) -> usize {
         if self.allocator.end() < 1 << 16 {
             4
@@ -78,7 +80,7 @@ impl fmt::Display for Layout<'_> {
     }
 }
 
-/// A held range or a gap. Its `Display` writes its name, or else `held` or `gap`.
+/// An allocated range or a gap. Its `Display` writes its name, or `held` or `gap` if it has none.
 ///
 /// # Example
 ///
@@ -96,9 +98,9 @@ impl fmt::Display for Layout<'_> {
 pub struct Block<'a> {
     /// The addresses of the block.
     pub range: RangeInclusive,
-    /// Whether it is held.
+    /// Whether the block is allocated.
     pub state: NodeState,
-    /// The name that was given for it, where it is held.
+    /// The name of an allocated range, if [`named`](Layout::named) added one.
     pub name: Option<&'a str>,
 }
 
@@ -112,7 +114,7 @@ impl fmt::Display for Block<'_> {
     }
 }
 
-/// The blocks of a [`Layout`], from the lowest to the highest.
+/// An iterator over the blocks of a [`Layout`], in ascending order.
 ///
 /// # Example
 ///
@@ -128,7 +130,7 @@ impl fmt::Display for Block<'_> {
 /// ```
 #[derive(Debug)]
 pub struct Blocks<'a> {
-    // Where the next block starts; none behind the last one.
+    // The start of the next block, or `None` after the last one.
     next: Option<u64>,
     end: u64,
     held: Peekable<HeldRanges<'a>>,
@@ -136,7 +138,7 @@ pub struct Blocks<'a> {
 }
 
 impl<'a> Blocks<'a> {
-    /// The held range that starts at `start`, or the gap from there up to the next one.
+    /// Returns the allocated range that starts at `start`, or the gap from there to the next one.
     fn block_from(&mut self, start: u64) -> Option<Block<'a>> {
         if let Some(range) = self.held.next_if(|range| range.start() == start) {
             return Some(Block {
@@ -146,7 +148,7 @@ impl<'a> Blocks<'a> {
             });
         }
         let end = self.held.peek().map_or(self.end, |range| range.start() - 1);
-        // A space never has all addresses, so that its blocks are ranges.
+        // A space never has all 2^64 addresses, so each of its blocks is a range.
         let range = RangeInclusive::new(start, end).ok()?;
         Some(Block {
             range,

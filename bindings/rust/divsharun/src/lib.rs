@@ -1,7 +1,13 @@
-//! Gives out ranges of addresses and ids to the devices of a virtual machine: MMIO and PIO windows,
-//! PCI bars, interrupts, memory slots. The calls are those of the crate `vm-allocator` 0.1.4, and
-//! each is answered by code that is proved to give the answer: two held ranges never share an
-//! address, a bar is aligned as it was asked, and what is given back can be had again.
+//! Allocators of address ranges and ids for the devices of a virtual machine: MMIO and PIO windows,
+//! PCI bars, interrupts and memory slots.
+//!
+//! The API is that of the crate `vm-allocator` 0.1.4. The code below it is proved: allocated ranges
+//! never overlap, each is aligned as requested, and a freed range can be allocated again.
+//!
+//! - [`AddressAllocator`] allocates ranges of 64-bit addresses from one space.
+//! - [`IdAllocator`] allocates 32-bit ids from a range, the lowest free id first.
+//! - [`DeviceManager`] gives each device an id and a range. If it cannot have both, it gets
+//!   neither.
 //!
 //! ```rust
 //! use divsharun::{AddressAllocator, AllocPolicy, IdAllocator, Result};
@@ -18,9 +24,9 @@
 //! # Ok::<(), divsharun::Error>(())
 //! ```
 //!
-//! # To change over from `vm-allocator`
+//! # Switching from `vm-allocator`
 //!
-//! One line of Cargo.toml changes, and no line of Rust:
+//! Change one line of Cargo.toml. No line of Rust changes:
 //!
 //! ```toml
 //! vm-allocator = { package = "divsharun", git = "REPOSITORY" }
@@ -28,32 +34,36 @@
 //!
 //! `REPOSITORY` is the URL of the repository.
 //!
-//! The answers differ where that crate has faults; docs/DIFFERENCES.md of the repository lists
-//! them. Beside its calls there are [`IdAllocator::peek_id`], [`IdAllocator::held_count`], and of
-//! an [`AddressAllocator`] [`held_ranges`](AddressAllocator::held_ranges),
-//! [`holds`](AddressAllocator::holds), [`held_count`](AddressAllocator::held_count),
-//! [`height`](AddressAllocator::height), [`layout`](AddressAllocator::layout),
-//! [`allocate_counted`](AddressAllocator::allocate_counted) and
-//! [`free_counted`](AddressAllocator::free_counted), and [`DeviceManager`], which gives a device an
-//! id and a range, both or neither.
+//! Results differ where that crate has bugs. `docs/DIFFERENCES.md` in the repository lists each
+//! difference. These items are new:
 //!
-//! # Where there is no memory
+//! - [`DeviceManager`];
+//! - of an [`IdAllocator`]: [`peek_id`](IdAllocator::peek_id) and
+//!   [`held_count`](IdAllocator::held_count);
+//! - of an [`AddressAllocator`]: [`held_ranges`](AddressAllocator::held_ranges),
+//!   [`holds`](AddressAllocator::holds), [`held_count`](AddressAllocator::held_count),
+//!   [`height`](AddressAllocator::height), [`layout`](AddressAllocator::layout),
+//!   [`allocate_counted`](AddressAllocator::allocate_counted),
+//!   [`free_counted`](AddressAllocator::free_counted) and the `try_` variants.
 //!
-//! A call ends the process, as calls of Rust's collections do. Who has to go on instead finds the
-//! same call with `try_` before its name, as of `Vec::try_reserve`: [`AddressAllocator::try_new`],
+//! # Out of memory
+//!
+//! If an allocation fails, the process ends, as with Rust's collections. To handle the error
+//! instead, use the `try_` variants: [`AddressAllocator::try_new`],
 //! [`try_allocate`](AddressAllocator::try_allocate) and [`try_clone`](AddressAllocator::try_clone).
-//! They stand on the same type, so that a monitor may use both kinds on one allocator, and answer a
-//! [`TryError`]; [`Error`] stays as it was. A refusal for memory changes nothing. There is no such
-//! call where a set or a map of Rust's asks for the memory, since these can't answer that there is
-//! none: it is so for [`IdAllocator::free_id`] and a clone of an [`IdAllocator`], which keeps a set
-//! of the ids that were given back, and for all of [`DeviceManager`], which has a map of its
-//! devices besides. What gives a range back, takes an id, compares, or asks what is held takes no
-//! memory.
+//! They return a [`TryError`] and change nothing on an error. Both kinds can be called on the same
+//! allocator.
+//!
+//! [`IdAllocator`] and [`DeviceManager`] have no `try_` variants. They store freed ids in a
+//! [`BTreeSet`](alloc::collections::BTreeSet) and devices in a
+//! [`BTreeMap`](alloc::collections::BTreeMap), which cannot report a failed allocation.
+//!
+//! Freeing a range, allocating an id, comparisons and queries do not allocate.
 //!
 //! # Threads
 //!
-//! All types are `Send` and `Sync`. A call that changes something takes `&mut self`, so that
-//! threads share an allocator behind a lock:
+//! All types are `Send` and `Sync`. Calls that change an allocator take `&mut self`, so threads
+//! share it behind a lock:
 //!
 //! ```rust
 //! use divsharun::{AddressAllocator, AllocPolicy, RangeInclusive, Result};
@@ -79,35 +89,42 @@
 //!
 //! # What is proved
 //!
-//! The answers of the calls, for every input, of the sources in Rattle from which the code below
-//! this library is written by cutting their contracts out. README of this library says which checks
-//! carry that over, and what is trusted: the library itself among it, which turns one type into the
-//! other.
+//! The result of each call is proved for every input, for the sources in Rattle. The code below
+//! this crate is generated from these sources by removing their contracts. The README of this crate
+//! lists the checks that compare both, and what is trusted. This crate itself is trusted: it
+//! converts between its types and the generated ones.
 //!
 //! # Features
 //!
-//! Without features there is no dependency outside this repository, and Rust's `std` is not needed.
+//! Without features, the crate has no dependency outside this repository, and it does not need
+//! `std`.
 //!
-//! `serde` saves [`RangeInclusive`], [`NodeState`], [`AddressAllocator`] and [`IdAllocator`] with
-//! the fields of the derives of `vm-allocator`, in the same order. In every format either library
-//! reads what the other wrote. The bytes of an address allocator can differ, because the same calls
-//! can lead to trees of different shapes. A [`DeviceManager`] is saved too: its version, both
-//! allocators, and its devices by rising ids.
+//! - `serde` implements `Serialize` and `Deserialize` for [`RangeInclusive`], [`NodeState`],
+//!   [`AddressAllocator`], [`IdAllocator`] and [`DeviceManager`].
+//! - `std` does nothing. It exists for manifests that name it.
 //!
-//! What is read goes through readers that are proved to accept a value if and only if it is valid;
-//! any other value is an error of the format. An address allocator is valid also if a fault of the
-//! Rust crate left gaps between the nodes, free neighbours or no tree at all. These conditions are
-//! checked:
-//! - The fields are those that are written, and each number fits its type.
-//! - The keys of the nodes, in order, rise, share no address and lie in the space.
+//! # Saved values
+//!
+//! With `serde`, the first four types have the fields of `vm-allocator` in the same order, so
+//! either crate reads what the other wrote, in every format. The bytes of an address allocator can
+//! differ, because the same calls can lead to trees of different shapes. A [`DeviceManager`] is
+//! saved as its version, both allocators, and its devices in ascending order of ids.
+//!
+//! A value is accepted if and only if it is valid. Any other value is an error of the format. An
+//! address allocator is valid under these conditions:
+//!
+//! - The fields are those that this crate writes, and each number fits its type.
+//! - The keys of the nodes, in order, ascend, share no address and are inside the space.
 //! - At most 6,293,134,512 keys are allocated, and none of these ends at `u64::MAX`.
 //!
-//! The height of a node can be any `u64`, and the balance of the tree is not checked: the allocated
-//! keys become the allocated ranges of a new tree. The space of a [`DeviceManager`] is read more
-//! strictly: the heights have to be right, and the tree balanced, without gaps and free neighbours.
+//! The height of a node can be any `u64`, and the tree can be unbalanced, empty, or have gaps and
+//! free neighbours, because bugs of `vm-allocator` led to these trees. The allocated keys become
+//! the allocated ranges of a new tree. The space of a [`DeviceManager`] is read more strictly:
+//! heights must be correct, and the tree must be balanced, without gaps and free neighbours.
 //!
-//! Nodes that are nested more than 50 deep are refused before they are read, and so are lists of
-//! more than 2^20 ids that were given back or devices. Such lists are not written either.
+//! Two limits apply before a value is checked. Nodes that are nested more than 50 deep are an
+//! error, and so is a list of more than 2^20 freed ids or devices. Writing a longer list is an
+//! error too.
 //!
 //! ```rust
 //! # #[cfg(feature = "serde")]
@@ -126,8 +143,6 @@
 //! # #[cfg(not(feature = "serde"))]
 //! # fn main() {}
 //! ```
-//!
-//! `std` says nothing, and is there for manifests that name it.
 #![no_std]
 #![forbid(unsafe_code)]
 #![deny(missing_docs)]
@@ -154,7 +169,7 @@ pub use layout::{Block, Blocks, Layout};
 pub use node_state::NodeState;
 pub use range::RangeInclusive;
 
-/// Every type may be shared among the threads of a monitor.
+/// Checks that every public type is `Send` and `Sync`.
 const _: () = {
     const fn is_shared_and_sent<T: Send + Sync>() {}
     is_shared_and_sent::<AddressAllocator>();
@@ -173,7 +188,7 @@ const _: () = {
     is_shared_and_sent::<TryError>();
 };
 
-/// The example of README, so that it is tried.
+/// Runs the examples of the README as doctests.
 #[cfg(doctest)]
 #[doc = include_str!("../../README.md")]
 mod readme {}

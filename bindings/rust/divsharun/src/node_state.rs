@@ -1,4 +1,4 @@
-/// Whether a block of a space is held. `Free` is less.
+/// Whether a block of a space is free or allocated. `Free` is less than `Allocated`.
 ///
 /// # Example
 ///
@@ -15,21 +15,21 @@
 /// ```
 #[derive(Clone, Copy, Debug, PartialEq, Eq, PartialOrd, Ord)]
 pub enum NodeState {
-    /// No one holds the block.
+    /// The block is free.
     Free,
-    /// Some one holds the block.
+    /// The block is allocated.
     Allocated,
 }
 
 impl NodeState {
-    /// The state that the proved code answers.
+    /// Converts a state of the proved code.
     pub(crate) fn of(state: proved::allocation_engine::NodeState) -> NodeState {
         match state {
             proved::allocation_engine::NodeState::Free => NodeState::Free,
             proved::allocation_engine::NodeState::Allocated => NodeState::Allocated,
         }
     }
-    /// The state as the proved code has it.
+    /// Converts to a state of the proved code.
     #[cfg(feature = "serde")]
     pub(crate) fn proved(self) -> proved::allocation_engine::NodeState {
         match self {

@@ -2,9 +2,10 @@ use crate::error::or_abort;
 use crate::Result;
 use core::fmt;
 
-/// A closed range of addresses: its start, its end and all between them. It is never empty and
-/// never all of the 2^64 addresses, so its length fits a `u64`. Ranges are ordered by start, then
-/// by end.
+/// A closed range of addresses, which includes its start and its end.
+///
+/// It is never empty and never has all 2^64 addresses, so its length fits a `u64`. Ranges are
+/// ordered by start, then by end.
 ///
 /// # Example
 ///
@@ -21,40 +22,40 @@ use core::fmt;
 #[derive(Copy, Clone, PartialEq, Eq, PartialOrd, Ord, Hash)]
 pub struct RangeInclusive(pub(crate) proved::RangeInclusive);
 
-// No range is empty, so there is nothing to ask for.
+// No range is empty, so `is_empty` would always be false.
 #[allow(clippy::len_without_is_empty)]
 impl RangeInclusive {
-    /// The range from `start` to `end`, both included.
+    /// Creates the range from `start` to `end`, both included.
     ///
     /// # Errors
     ///
-    /// `InvalidRange(start, end)` where the start is past the end, or where they are 0 and
-    /// `u64::MAX`.
+    /// - `InvalidRange(start, end)` if `start` is past `end`, or if the range would have all 2^64
+    ///   addresses.
     pub fn new(start: u64, end: u64) -> Result<Self> {
         or_abort(proved::RangeInclusive::new(start, end)).map(RangeInclusive)
     }
 
-    /// How many addresses the range has.
+    /// Returns the number of addresses in the range.
     pub fn len(&self) -> u64 {
         self.0.len()
     }
 
-    /// Whether some address lies in both ranges.
+    /// Returns whether both ranges share an address.
     pub fn overlaps(&self, other: &RangeInclusive) -> bool {
         self.0.overlaps(&other.0)
     }
 
-    /// Whether every address of `other` lies in the range.
+    /// Returns whether every address of `other` is in the range.
     pub fn contains(&self, other: &RangeInclusive) -> bool {
         self.0.contains(&other.0)
     }
 
-    /// The first address.
+    /// Returns the first address.
     pub fn start(&self) -> u64 {
         self.0.start()
     }
 
-    /// The last address.
+    /// Returns the last address.
     pub fn end(&self) -> u64 {
         self.0.end()
     }

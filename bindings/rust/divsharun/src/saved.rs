@@ -1,7 +1,10 @@
-//! The feature `serde`: ranges, states and allocators are saved with the names and the fields of
-//! the derives of the Rust crate, in their order. The shape of a tree is the port's own. What is
-//! read becomes a value that the proved readers judge; before that, only what they have no say in is
-//! refused: nodes that are nested deeper than any tree, and lists that are longer than any of use.
+//! The feature `serde`.
+//!
+//! Ranges, states and allocators have the names and fields that the derives of `vm-allocator`
+//! write, in the same order. The shape of a tree is this crate's own.
+//!
+//! Serde reads a value, and the proved readers decide whether it is valid. Two limits apply
+//! earlier: nodes cannot be nested deeper than any tree, and lists have a maximum length.
 
 mod form;
 mod reading;
@@ -18,7 +21,7 @@ use serde::de::{DeserializeSeed, Error as _};
 use serde::{Deserialize, Deserializer, Serialize, Serializer};
 use writing::Writing;
 
-/// Writes the value of an object.
+/// Serializes the value of an object.
 fn write<S: Serializer>(
     form: &'static Form,
     value: proved::Result<Value>,
@@ -28,7 +31,7 @@ fn write<S: Serializer>(
     Writing::new(form, &value).serialize(to)
 }
 
-/// Reads a value, and the object that it states.
+/// Deserializes a value, and returns the object that it encodes.
 fn read<'de, D: Deserializer<'de>, T>(
     form: &'static Form,
     object: fn(Global, &Value) -> Result<T, proved::ValueError>,
@@ -41,7 +44,8 @@ fn read<'de, D: Deserializer<'de>, T>(
     })
 }
 
-/// `Serialize` and `Deserialize` of a type that is its proved one, by a form and a reader.
+/// Implements `Serialize` and `Deserialize` for a wrapper of a proved type, from a form and a
+/// reader.
 macro_rules! saved {
     ($name:ident, $form:expr, $reader:path) => {
         impl Serialize for $name {

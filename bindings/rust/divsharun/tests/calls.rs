@@ -1,5 +1,5 @@
-//! The calls of the library: against a plain model of a small space, each of those that the Rust
-//! crate has not, and the texts that the library writes.
+//! Compares calls with a plain model of a small space, and checks the calls that `vm-allocator`
+//! does not have and the texts that the library writes.
 
 mod draw;
 
@@ -12,7 +12,7 @@ use draw::Draw;
 const WIDTH: usize = 48;
 const BASE: u64 = 1000;
 
-/// A space, cell by cell: the start of the range that holds it.
+/// A space, cell by cell: the start of the range that contains the cell.
 struct Model([Option<u64>; WIDTH]);
 
 impl Model {
@@ -22,7 +22,7 @@ impl Model {
         cells.is_some_and(|cells| cells.iter().all(Option::is_none))
     }
 
-    /// The start of the place for a request.
+    /// Returns the start of the range for a request.
     fn place(&self, size: u64, align: u64, policy: AllocPolicy) -> Option<u64> {
         let starts = BASE..BASE + WIDTH as u64;
         let mut places = starts.filter(|start| start % align == 0 && self.is_clear(*start, size));
@@ -139,7 +139,7 @@ fn a_layout_has_every_address_once() {
     assert_eq!(layout.blocks().count(), 4);
 }
 
-/// Field names and values, as derives write them.
+/// The names and values of fields, as derives write them.
 #[test]
 fn debug_texts_show_the_fields() {
     let mut space = AddressAllocator::new(16, 4).unwrap();
@@ -175,8 +175,7 @@ fn debug_texts_show_the_fields() {
     assert!(NodeState::Free < NodeState::Allocated);
 }
 
-/// A space by its base and size, allocated ranges by start and size, each with a name, and the
-/// layout of both.
+/// A space by its base and size, allocated ranges by start, size and name, and the expected layout.
 type Written = (
     u64,
     u64,
@@ -184,7 +183,8 @@ type Written = (
     &'static str,
 );
 
-/// At least four digits if the last address is below 2^16, else at least eight.
+/// Checks that addresses have at least four digits if the last one is below 2^16, and at least
+/// eight otherwise.
 const LAYOUTS: [Written; 7] = [
     (0, 0x100, &[], "0000-00ff : gap"),
     (0xff00, 0x100, &[], "ff00-ffff : gap"),
@@ -229,7 +229,7 @@ fn a_layout_is_written_as_the_kernel_does() {
             .blocks()
             .filter(|block| block.state == NodeState::Free);
         others.extend(gaps.map(|gap| (gap.range, "none")));
-        // Only a range that is allocated as it is has a name, and a second list adds names.
+        // Only exactly an allocated range has a name. A second list adds names.
         let layout = space.layout().named(names).named(others);
         assert_eq!(layout.to_string(), text);
     }

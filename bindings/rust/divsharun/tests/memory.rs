@@ -1,6 +1,7 @@
-//! The requests for memory that each call makes. If one is refused, a call with `try_` returns
-//! `OutOfMemory` and changes nothing, and any other ends the process: for that, the program starts
-//! itself again.
+//! The allocations of each call.
+//!
+//! If an allocation fails, a `try_` call returns `OutOfMemory` and changes nothing, and any other
+//! call ends the process. The program starts itself again to observe that.
 
 #[path = "../../rattle/tests/refusing/mod.rs"]
 mod refusing;
@@ -17,15 +18,15 @@ use AllocPolicy::{ExactMatch, FirstMatch, LastMatch};
 /// The variable with the number of the call that ends the process.
 const ENDING: &str = "DIVSHARUN_TEST_OF_MEMORY";
 
-/// What `abort` ends a process with.
+/// The signal of a process that `abort` ended.
 const ABORTED: i32 = 6;
 
 type Tried = Result<(), TryError>;
 type TriedCall = fn(&mut AddressAllocator) -> Tried;
 type EndedCall = fn(&mut AddressAllocator);
 
-/// Calls that return an error, each with the number of its requests on [`two_held`]: one for a
-/// space, one for each part of a gap that is left over, one for each block of a copy.
+/// Calls that return an error, each with the number of its allocations on [`two_held`]: one for a
+/// space, one for each free part of a gap that remains, one for each block of a copy.
 const TRIED: [(u64, TriedCall); 8] = [
     (1, |_| AddressAllocator::try_new(0, 64).map(drop)),
     (5, |space| space.try_clone().map(drop)),
@@ -39,8 +40,8 @@ const TRIED: [(u64, TriedCall); 8] = [
     (0, |space| refused(space.try_allocate(0, 1, FirstMatch))),
 ];
 
-/// Calls that end the process, each with the number of its requests on [`two_held`]. A set or a
-/// map of Rust's has one block for a few ids or devices.
+/// Calls that end the process, each with the number of its allocations on [`two_held`]. A set or a
+/// map of the Rust standard library allocates one block for a few ids or devices.
 const ENDED: [(u64, EndedCall); 8] = [
     (1, |_| assert!(AddressAllocator::new(0, 64).is_ok())),
     (5, |space| drop(space.clone())),
@@ -65,10 +66,10 @@ fn main() {
     refuse_each_request();
     no_request_is_made();
     processes_are_ended();
-    println!("each request is counted, and refused");
+    println!("each allocation is counted, and failed in turn");
 }
 
-/// The space of [0, 63] with [16, 23] and [40, 47] allocated, in five blocks.
+/// Returns the space [0, 63] with [16, 23] and [40, 47] allocated. It has five blocks.
 fn two_held() -> AddressAllocator {
     let mut space = AddressAllocator::new(0, 64).expect("a space");
     for start in [16, 40] {
@@ -78,7 +79,7 @@ fn two_held() -> AddressAllocator {
     space
 }
 
-/// The call returned an error that has nothing to do with memory.
+/// Checks that the call returned an error other than `OutOfMemory`.
 fn refused(answer: Result<RangeInclusive, TryError>) -> Tried {
     match answer {
         Err(TryError::Refused(_)) => Ok(()),
@@ -92,8 +93,8 @@ fn one_free_id() -> IdAllocator {
     ids
 }
 
-/// One request for the space, one for the part that is left over, one for the map and one for the
-/// set of free ids.
+/// Makes four allocations: for the space, for the rest of its gap, for the map, and for the set of
+/// freed ids.
 fn reserve_and_release() {
     let mut devices = DeviceManager::new(0, 0, 0, 64).expect("a manager");
     assert!(devices.reserve(1, 1, FirstMatch).is_ok());
@@ -128,7 +129,7 @@ fn refuse_each_request() {
     }
 }
 
-/// The calls that need no memory, each of which would fail without its first request.
+/// Makes the calls that do not allocate, each of which would fail at its first allocation.
 fn no_request_is_made() {
     let (mut space, other) = (two_held(), two_held());
     let held = [16, 40].map(|start| RangeInclusive::new(start, start + 7).expect("a range"));

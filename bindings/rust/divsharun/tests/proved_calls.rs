@@ -1,4 +1,4 @@
-//! Each call returns what the proved call returns for the same arguments, of all magnitudes.
+//! Checks that each call returns the result of the proved call, for arguments of all magnitudes.
 
 mod draw;
 
@@ -12,14 +12,14 @@ use std::fmt::Debug;
 /// Numbers at both ends and between.
 const NUMBERS: [u64; 6] = [0, 1, 2, 16, u64::MAX - 1, u64::MAX];
 
-/// All pairs of these numbers.
+/// Returns all pairs of these numbers.
 fn pairs() -> impl Iterator<Item = (u64, u64)> {
     NUMBERS
         .into_iter()
         .flat_map(|one| NUMBERS.map(|two| (one, two)))
 }
 
-/// Both have the same debug text.
+/// Checks that both have the same debug text.
 fn same(library: impl Debug, proved: impl Debug) {
     assert_eq!(format!("{library:?}"), format!("{proved:?}"));
 }
@@ -72,11 +72,11 @@ fn requests() {
     }
 }
 
-/// How many addresses a space has in which calls are drawn.
+/// The size of a space for random calls.
 const WIDTH: u64 = 1 << 12;
 
-/// Three spaces, for the plain, the counted and the `try_` calls, and the proved one: all have the
-/// same history.
+/// Three spaces, for the plain, the counted and the `try_` calls, and the proved space. All have
+/// the same history.
 struct Spaces {
     plain: AddressAllocator,
     counted: AddressAllocator,

@@ -1,5 +1,5 @@
-//! The feature `serde`: the layout of what is saved, in JSON and in a format without names, and
-//! what is read and refused. It runs in the folder `with_serde` beside the library's.
+//! The feature `serde`: the format of saved objects, in JSON and in a format without names, and the
+//! values that are accepted or rejected. The folder `with_serde` runs it.
 #![cfg(feature = "serde")]
 
 mod packed;
@@ -18,7 +18,7 @@ const FRESH: &str = concat!(
 );
 const IDS: &str = r#"{"range_base":5,"next_id":12,"range_end":23,"freed_ids":[6,9]}"#;
 
-/// Ids from 5 to 23, seven taken, 6 and 9 given back.
+/// Ids from 5 to 23, of which seven were allocated and 6 and 9 freed.
 fn seven_ids() -> IdAllocator {
     let mut ids = IdAllocator::new(5, 23).unwrap();
     for id in 5..12 {
@@ -29,7 +29,7 @@ fn seven_ids() -> IdAllocator {
     ids
 }
 
-/// A space from 4096 on in which every third of `count` windows was given back.
+/// Returns a space at 4096 in which every third of `count` windows is freed.
 fn windows(count: u64) -> AddressAllocator {
     let mut space = AddressAllocator::new(4096, 1 << 20).unwrap();
     let held: Vec<RangeInclusive> = (0..count)
@@ -53,12 +53,12 @@ fn is_read<T: DeserializeOwned>(text: &str) -> bool {
     serde_json::from_str::<T>(text).is_ok()
 }
 
-/// A space of `[16, 19]` whose tree has this root.
+/// Returns a space of `[16, 19]` whose tree has this root.
 fn space_over(root: &str) -> String {
     format!(r#"{{"address_space":{{"start":16,"end":19}},"interval_tree":{{"root":{root}}}}}"#)
 }
 
-/// A node in JSON.
+/// Returns a node in JSON.
 fn node(key: (u64, u64), state: &str, right: &str) -> String {
     let (start, end) = key;
     let head = format!(r#""key":{{"start":{start},"end":{end}}},"node_state":"{state}""#);
@@ -111,7 +111,7 @@ fn bytes_have_the_fields_in_order() {
     assert_eq!(packed::to_bytes(&seven_ids()).unwrap(), expected);
 }
 
-/// Some formats write the names of types, or check them.
+/// Checks the names of types, which some formats write or compare.
 #[test]
 fn structures_have_the_names_of_the_derives() {
     let space = [
@@ -138,7 +138,7 @@ fn structures_have_the_names_of_the_derives() {
     assert_eq!(read, names);
 }
 
-/// The range of a map with these keys.
+/// Returns the range of a map with these keys.
 fn range_by<'a, K>(entries: &[(K, u64)]) -> Result<RangeInclusive, Error>
 where
     K: IntoDeserializer<'a, Error> + Copy,
@@ -208,7 +208,7 @@ fn written_values_are_read() {
     assert_eq!((all.held_count(), all.is_allocated(u32::MAX)), (1 << 32, true));
 }
 
-/// A manager with two devices, of which the second one was unplugged.
+/// Returns a manager with two devices, of which the second was unplugged.
 fn manager() -> DeviceManager {
     let mut devices = DeviceManager::new(0, 1, 4096, 4096).unwrap();
     for size in [2048, 1024] {
@@ -257,15 +257,15 @@ fn states_after_upstream_faults_are_repaired() {
     // Free neighbours were not joined.
     let second = node((18, 19), "Free", "null");
     assert_eq!(read(&node((16, 17), "Free", &second)).unwrap(), fresh);
-    // Heights and balance are not looked at.
+    // Heights and balance are not checked.
     let wrong_height = FRESH.replace(r#""height":1"#, r#""height":7"#);
     assert_eq!(serde_json::from_str::<AddressAllocator>(&wrong_height).unwrap(), fresh);
-    // What was given back is missing.
+    // The freed nodes are missing.
     let held = read(&node((17, 17), "Allocated", "null")).unwrap();
     assert!(held
         .held_ranges()
         .eq([RangeInclusive::new(17, 17).unwrap()]));
-    // A key outside the space, and keys that overlap, stand for nothing.
+    // Keys that overlap or are outside the space are not valid.
     assert!(read(&node((16, 20), "Allocated", "null")).is_err());
     let second = node((18, 19), "Allocated", "null");
     assert!(read(&node((16, 18), "Free", &second)).is_err());
@@ -314,7 +314,7 @@ fn other_fields_are_refused() {
     ));
 }
 
-/// A chain of so many nodes, each the right child of the one before.
+/// Returns a chain of nodes, each the right child of the one before.
 fn chain(length: u64) -> String {
     let text = (0..length).rev().fold("null".to_string(), |right, at| {
         node((at, at), "Allocated", &right)
@@ -329,7 +329,7 @@ fn fifty_levels_are_read_and_no_more() {
     assert!(!is_read::<AddressAllocator>(&chain(51)));
 }
 
-/// The bytes, and how many of them were asked for.
+/// An iterator over bytes that counts the bytes read.
 fn counted<'a>(
     bytes: impl Iterator<Item = u8> + 'a,
     asked: &'a Cell<u64>,
@@ -349,7 +349,8 @@ fn nesting_without_end_is_refused_early() {
     assert!(asked.get() < 51 * 21 + 17);
 }
 
-/// The bytes of an id allocator that says it has so many ids given back, and of these ids.
+/// Returns the bytes of an id allocator that announces a number of freed ids and then has these
+/// ids.
 fn ids_freed(count: u64, ids: impl Iterator<Item = u32>) -> impl Iterator<Item = u8> {
     let mut head = [0u32.to_le_bytes().as_slice(), &[1], &[255; 4], &[255; 4]].concat();
     head.extend(count.to_le_bytes());
@@ -377,7 +378,7 @@ fn long_lists_are_refused_early() {
 
 #[test]
 fn long_lists_of_devices_are_refused_early() {
-    // Without its list of one device, which is the last field.
+    // The list of devices is the last field, and is removed here.
     let mut head = packed::to_bytes(&manager()).unwrap();
     head.truncate(head.len() - 8 - 20);
     head.extend(100_000_000u64.to_le_bytes());

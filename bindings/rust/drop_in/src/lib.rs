@@ -1,1 +1,1 @@
-//! Compiles what is written for `vm-allocator` 0.1.4 with divsharun in its place.
+//! Compiles code for `vm-allocator` 0.1.4 with divsharun.

@@ -1,5 +1,5 @@
-//! Each public item of `vm-allocator` 0.1.4 with its signature and its traits: this compiles with
-//! either library, and so says that whoever calls one can call the other.
+//! Uses each public item of `vm-allocator` 0.1.4 with its signature and its traits. It compiles
+//! with both libraries, so callers of one can call the other.
 
 use std::cmp::Ord;
 use std::error::Error as StdError;
@@ -108,7 +108,7 @@ fn errors() {
     assert!(errors.iter().all(is_one_of_twelve));
 }
 
-/// There is no other variant.
+/// Checks that there is no other variant.
 fn is_one_of_twelve(error: &Error) -> bool {
     match error {
         Error::Overflow | Error::Underflow | Error::ResourceNotAvailable => true,

@@ -2,12 +2,14 @@ use crate::{AllocFailed, Global};
 use core::fmt;
 use core::ops::{Deref, DerefMut};
 
-/// A box whose making may be refused. It is made as a vector of one, since that can be refused in
-/// Rust without unsafe, and the vector is turned into a boxed array, which moves nothing.
+/// A box that reports a failed allocation.
+///
+/// It is created as a vector of one element, because a vector can report a failed allocation
+/// without unsafe code. Converting the vector to a boxed array moves nothing.
 pub struct Box<T>(alloc::boxed::Box<[T; 1]>);
 
 impl<T> Box<T> {
-    /// A box with the value in it; the value comes back where there is no memory.
+    /// Allocates a box with the value in it, or returns the value if the allocation fails.
     pub fn new(_alloc: Global, value: T) -> Result<Self, AllocFailed<T>> {
         let mut one = alloc::vec::Vec::new();
         if one.try_reserve_exact(1).is_err() {
@@ -20,7 +22,7 @@ impl<T> Box<T> {
         }
     }
 
-    /// The value in the box.
+    /// Returns the value in the box.
     pub fn into_inner(boxed: Self) -> T {
         follow();
         let [value] = *boxed.0;
@@ -66,7 +68,8 @@ std::thread_local! {
     static FOLLOWED: core::cell::Cell<u64> = const { core::cell::Cell::new(0) };
 }
 
-/// How many boxes the thread has followed so far: each step from a box to what is in it counts.
+/// Returns the number of boxes that the thread has followed. Each step from a box to its value
+/// counts.
 #[cfg(feature = "count_boxes")]
 pub fn boxes_followed() -> u64 {
     FOLLOWED.with(core::cell::Cell::get)

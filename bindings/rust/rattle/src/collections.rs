@@ -2,17 +2,17 @@ use crate::{AllocError, AllocFailed, Global};
 use alloc::collections::{btree_map, btree_set};
 use core::fmt;
 
-/// A set in order. Where there is no memory for it, the process ends.
+/// An ordered set. It ends the process if an allocation fails.
 #[derive(PartialEq, Eq)]
 pub struct BTreeSet<T>(alloc::collections::BTreeSet<T>);
 
 impl<T: Ord> BTreeSet<T> {
-    /// A set of nothing, which takes no memory.
+    /// Creates an empty set. It does not allocate.
     pub fn new(_alloc: Global) -> Self {
         BTreeSet(alloc::collections::BTreeSet::new())
     }
 
-    /// A set of the same values.
+    /// Returns a copy of the set.
     #[allow(clippy::should_implement_trait)]
     pub fn clone(&self) -> Result<Self, AllocError>
     where
@@ -21,37 +21,37 @@ impl<T: Ord> BTreeSet<T> {
         Ok(BTreeSet(self.0.clone()))
     }
 
-    /// Adds a value, and says whether it is new.
+    /// Inserts a value, and returns whether it is new.
     pub fn insert(&mut self, value: T) -> Result<bool, AllocFailed<T>> {
         Ok(self.0.insert(value))
     }
 
-    /// Takes the least value out.
+    /// Removes and returns the lowest value.
     pub fn pop_first(&mut self) -> Option<T> {
         self.0.pop_first()
     }
 
-    /// The least value.
+    /// Returns the lowest value.
     pub fn first(&self) -> Option<&T> {
         self.0.first()
     }
 
-    /// Whether the value is in the set.
+    /// Returns whether the set has the value.
     pub fn contains(&self, value: &T) -> bool {
         self.0.contains(value)
     }
 
-    /// How many values there are.
+    /// Returns the number of values.
     pub fn len(&self) -> usize {
         self.0.len()
     }
 
-    /// Whether there is no value.
+    /// Returns whether the set is empty.
     pub fn is_empty(&self) -> bool {
         self.0.is_empty()
     }
 
-    /// The values, from the least on.
+    /// Returns an iterator over the values in ascending order.
     pub fn iter(&self) -> btree_set::Iter<'_, T> {
         self.0.iter()
     }
@@ -63,17 +63,17 @@ impl<T: fmt::Debug> fmt::Debug for BTreeSet<T> {
     }
 }
 
-/// A map in order. Where there is no memory for it, the process ends.
+/// An ordered map. It ends the process if an allocation fails.
 #[derive(PartialEq, Eq)]
 pub struct BTreeMap<K, V>(alloc::collections::BTreeMap<K, V>);
 
 impl<K: Ord, V> BTreeMap<K, V> {
-    /// A map of nothing, which takes no memory.
+    /// Creates an empty map. It does not allocate.
     pub fn new(_alloc: Global) -> Self {
         BTreeMap(alloc::collections::BTreeMap::new())
     }
 
-    /// A map of the same entries.
+    /// Returns a copy of the map.
     #[allow(clippy::should_implement_trait)]
     pub fn clone(&self) -> Result<Self, AllocError>
     where
@@ -83,32 +83,32 @@ impl<K: Ord, V> BTreeMap<K, V> {
         Ok(BTreeMap(self.0.clone()))
     }
 
-    /// Maps the key to the value, and answers what it was mapped to before.
+    /// Inserts an entry, and returns the previous value of the key.
     pub fn insert(&mut self, key: K, value: V) -> Result<Option<V>, AllocFailed<(K, V)>> {
         Ok(self.0.insert(key, value))
     }
 
-    /// Takes a key out, and answers what it was mapped to.
+    /// Removes a key, and returns its value.
     pub fn remove(&mut self, key: &K) -> Option<V> {
         self.0.remove(key)
     }
 
-    /// What the key is mapped to.
+    /// Returns the value of the key.
     pub fn get(&self, key: &K) -> Option<&V> {
         self.0.get(key)
     }
 
-    /// How many keys there are.
+    /// Returns the number of keys.
     pub fn len(&self) -> usize {
         self.0.len()
     }
 
-    /// Whether there is no key.
+    /// Returns whether the map is empty.
     pub fn is_empty(&self) -> bool {
         self.0.is_empty()
     }
 
-    /// The entries, from the least key on.
+    /// Returns an iterator over the entries in ascending order of keys.
     pub fn iter(&self) -> btree_map::Iter<'_, K, V> {
         self.0.iter()
     }

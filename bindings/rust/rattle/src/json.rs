@@ -1,19 +1,19 @@
-//! Reads a value from JSON, as RFC 8259 has it. A name that stands twice in an object is read twice.
+//! A reader of JSON after RFC 8259. It keeps duplicate names of an object.
 use crate::value::add_to;
 use crate::{AllocError, AllocFailed, Field, Global, Number, Value, Vec};
 use alloc::string::String;
 use core::fmt;
 use core::str::FromStr;
 
-/// Deeper than that no text is read.
+/// The maximum nesting of a text.
 const MOST_NESTED: u32 = 128;
 
-/// Why a text is not read.
+/// The error of reading a text.
 #[derive(Clone, Copy, Debug, PartialEq, Eq)]
 pub enum TextError {
-    /// The text is no JSON, is nested too deep, or has a number that no float is close to.
+    /// The text is not JSON, is nested too deep, or has a number that no float is close to.
     NotJson,
-    /// A request for memory was refused.
+    /// An allocation failed.
     OutOfMemory,
 }
 
@@ -22,7 +22,7 @@ use TextError::NotJson;
 impl fmt::Display for TextError {
     fn fmt(&self, f: &mut fmt::Formatter<'_>) -> fmt::Result {
         match self {
-            NotJson => f.write_str("the text is no JSON"),
+            NotJson => f.write_str("the text is not JSON"),
             TextError::OutOfMemory => AllocError.fmt(f),
         }
     }
@@ -43,7 +43,7 @@ impl<T> From<AllocFailed<T>> for TextError {
 }
 
 impl Value {
-    /// The value that a text states.
+    /// Parses the value of a text.
     pub fn from_str(_alloc: Global, text: &str) -> Result<Value, TextError> {
         let mut reader = Reader { rest: text };
         let value = reader.value(MOST_NESTED)?;
@@ -55,7 +55,7 @@ impl Value {
     }
 }
 
-/// What is left of a text.
+/// The rest of a text.
 struct Reader<'a> {
     rest: &'a str,
 }
@@ -65,7 +65,7 @@ impl Reader<'_> {
         self.rest = self.rest.trim_start_matches([' ', '\t', '\n', '\r']);
     }
 
-    /// Takes a mark, where it stands next.
+    /// Removes a mark if it is next, and returns whether it was.
     fn skip_if(&mut self, mark: &str) -> bool {
         self.skip_whitespace();
         match self.rest.strip_prefix(mark) {
@@ -75,7 +75,7 @@ impl Reader<'_> {
         true
     }
 
-    /// Takes a mark, which has to stand next.
+    /// Removes a mark, which must be next.
     fn expect(&mut self, mark: &str) -> Result<(), TextError> {
         match self.skip_if(mark) {
             true => Ok(()),
@@ -141,7 +141,7 @@ impl Reader<'_> {
         Ok(Value::Array(items))
     }
 
-    /// A text up to its end, behind its first quote.
+    /// Parses a string after its opening quote.
     fn text(&mut self) -> Result<String, TextError> {
         let mut text = String::new();
         loop {
@@ -164,7 +164,7 @@ impl Reader<'_> {
         Ok(letter)
     }
 
-    /// The letter that an escape stands for, behind its backslash.
+    /// Parses an escape after its backslash, and returns its character.
     fn escape(&mut self) -> Result<char, TextError> {
         match self.next_char()? {
             same @ ('"' | '\\' | '/') => Ok(same),
@@ -178,7 +178,7 @@ impl Reader<'_> {
         }
     }
 
-    /// The letter of one unit of UTF-16, or of two where the first is the front of a pair.
+    /// Parses a character of one UTF-16 unit, or of two if the first is a high surrogate.
     fn unicode_escape(&mut self) -> Result<char, TextError> {
         let first = self.utf16_unit()?;
         let second = match first {
@@ -195,7 +195,7 @@ impl Reader<'_> {
         }
     }
 
-    /// The number of four hexadecimal digits.
+    /// Parses the number of four hexadecimal digits.
     fn utf16_unit(&mut self) -> Result<u16, TextError> {
         let (digits, rest) = self.rest.split_at_checked(4).ok_or(NotJson)?;
         if !digits.bytes().all(|digit| digit.is_ascii_hexdigit()) {
@@ -219,7 +219,7 @@ impl Reader<'_> {
     }
 }
 
-/// What stands behind the number that a text begins with.
+/// Returns the rest after the number at the start of a text.
 fn skip_number(text: &str) -> Option<&str> {
     let unsigned = text.strip_prefix('-').unwrap_or(text);
     let mut rest = match unsigned.strip_prefix('0') {
@@ -235,7 +235,7 @@ fn skip_number(text: &str) -> Option<&str> {
     Some(rest)
 }
 
-/// What stands behind the digits that a text begins with, of which there is one at least.
+/// Returns the rest after the digits at the start of a text. There must be at least one.
 fn skip_digits(text: &str) -> Option<&str> {
     let rest = text.trim_start_matches(|letter: char| letter.is_ascii_digit());
     (rest.len() < text.len()).then_some(rest)

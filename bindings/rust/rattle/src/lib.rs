@@ -1,6 +1,7 @@
-//! What stands for the names of Rattle's library that Rust has not, or has otherwise. Where a call of
-//! Rattle's answers that memory was refused, boxes, vectors and values here do so too; a set and a map
-//! end the process then, as everywhere in Rust.
+//! Replacements for the items of Rattle's library that Rust does not have or defines differently.
+//!
+//! Boxes, vectors and values report a failed allocation, as in Rattle. Sets and maps end the
+//! process, as in Rust.
 #![no_std]
 #![forbid(unsafe_code)]
 #![deny(missing_docs)]
@@ -34,23 +35,23 @@ pub use vec::Vec;
 
 use core::fmt;
 
-/// The allocator. It is Rust's global one, and the value says nothing.
+/// The allocator. It stands for Rust's global allocator, and has no state.
 #[derive(Clone, Copy, Debug)]
 pub struct Global;
 
-/// A request for memory was refused.
+/// An allocation failed.
 #[derive(Clone, Copy, Debug, PartialEq, Eq)]
 pub struct AllocError;
 
 impl fmt::Display for AllocError {
     fn fmt(&self, f: &mut fmt::Formatter<'_>) -> fmt::Result {
-        f.write_str("a request for memory was refused")
+        f.write_str("an allocation failed")
     }
 }
 
 impl core::error::Error for AllocError {}
 
-/// A request for memory was refused; the value that it was for comes back.
+/// An allocation failed. The error returns the value that it was for.
 #[derive(Debug)]
 pub struct AllocFailed<T>(pub T);
 

@@ -1,29 +1,29 @@
-//! What `main` is given.
+//! The environment of `main`.
 use crate::Global;
 use std::fs::File;
 use std::os::fd::{AsFd, BorrowedFd};
 
-/// What a program is started with.
+/// The allocator and the standard streams of a program.
 pub struct HostRuntime;
 
 impl HostRuntime {
-    /// The allocator.
+    /// Returns the allocator.
     pub fn alloc(&self) -> Global {
         Global
     }
 
-    /// The standard input, with no buffer of its own.
+    /// Returns the standard input, unbuffered.
     pub fn stdin(&self) -> File {
         stream(std::io::stdin().as_fd())
     }
 
-    /// The standard output, with no buffer of its own.
+    /// Returns the standard output, unbuffered.
     pub fn stdout(&self) -> File {
         stream(std::io::stdout().as_fd())
     }
 }
 
-/// The stream as a file. Without one there is nothing that the program could do.
+/// Returns the stream as a file. Without one the program cannot do anything.
 fn stream(at: BorrowedFd<'_>) -> File {
     match at.try_clone_to_owned() {
         Ok(at) => at.into(),

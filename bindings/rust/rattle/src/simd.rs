@@ -1,18 +1,18 @@
-//! A vector of bytes, since `std::simd` is not stable.
+//! A vector of bytes, because `std::simd` is not stable.
 #![allow(non_camel_case_types)]
 
 /// Sixteen bytes.
 #[derive(Clone, Copy)]
 pub struct u8x16(u128);
 
-/// Which of sixteen lanes hold: the top bit of each says it.
+/// A mask of sixteen lanes. A lane is set if its top bit is.
 #[derive(Clone, Copy)]
 pub struct Mask(u128);
 
 const LOW_BITS: u128 = u128::from_ne_bytes([0x7F; 16]);
 
 impl u8x16 {
-    /// The first sixteen bytes of the slice.
+    /// Returns the first sixteen bytes of the slice.
     #[inline(always)]
     pub fn from_slice(bytes: &[u8]) -> u8x16 {
         let mut lanes = [0; 16];
@@ -20,13 +20,13 @@ impl u8x16 {
         u8x16(u128::from_le_bytes(lanes))
     }
 
-    /// The byte in every lane.
+    /// Returns a vector with the byte in every lane.
     #[inline(always)]
     pub fn splat(byte: u8) -> u8x16 {
         u8x16(u128::from_ne_bytes([byte; 16]))
     }
 
-    /// The lanes in which both have the same byte.
+    /// Returns the mask of the lanes in which both vectors have the same byte.
     #[inline(always)]
     pub fn simd_eq(self, other: u8x16) -> Mask {
         let apart = self.0 ^ other.0;
@@ -35,14 +35,14 @@ impl u8x16 {
 }
 
 impl Mask {
-    /// Bit i says whether lane i holds.
+    /// Returns the number whose bit i is set if lane i is.
     #[inline(always)]
     pub fn to_bitmask(self) -> u64 {
         top_bits(self.0 as u64) | top_bits((self.0 >> 64) as u64) << 8
     }
 }
 
-/// The top bits of eight bytes, of which no other bit is set: the product gathers them in one byte.
+/// Gathers the top bits of eight bytes in one byte, by a product. The other bits must be 0.
 #[inline(always)]
 fn top_bits(word: u64) -> u64 {
     (word >> 7).wrapping_mul(0x0102_0408_1020_4080) >> 56
@@ -52,7 +52,7 @@ fn top_bits(word: u64) -> u64 {
 mod tests {
     use super::*;
 
-    /// The mask of sixteen bytes that are compared with one byte, bit by bit.
+    /// Returns the expected mask, computed lane by lane.
     fn mask_by_lane(bytes: &[u8; 16], byte: u8) -> u64 {
         let lanes = bytes.iter().enumerate();
         lanes
@@ -61,7 +61,7 @@ mod tests {
             .sum()
     }
 
-    /// Each byte meets each byte in each lane, beside different and beside equal ones.
+    /// Compares each byte with each byte in each lane, next to different and to equal bytes.
     #[test]
     fn each_byte_is_compared_with_each() {
         for first in 0..=u8::MAX {

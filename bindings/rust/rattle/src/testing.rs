@@ -1,4 +1,4 @@
-//! What tests call besides: all of it stands in scope there, as in Rattle's prelude.
+//! Further items that tests use. They are in scope in every test, as in Rattle's prelude.
 use crate::{Number, Value};
 use core::fmt;
 use core::ops::{Deref, Index};
@@ -7,7 +7,7 @@ use core::ops::{Deref, Index};
 pub use crate::{__assert as assert, __assert_eq as assert_eq};
 pub use crate::{AllocError, Box, Global, HostRuntime, Vec};
 
-/// A test that returns this fails by any error.
+/// The error of a test. It converts from any error.
 pub struct Fail(alloc::string::String);
 
 impl<E: core::error::Error> From<E> for Fail {
@@ -22,14 +22,14 @@ impl fmt::Debug for Fail {
     }
 }
 
-/// Says that a failed assertion ends the test.
+/// A type whose failed assertion ends the test.
 pub trait Abort {}
 
 impl Abort for HostRuntime {}
 
-/// Gives the allocator.
+/// A type that returns the allocator.
 pub trait AllocGlobal {
-    /// The allocator.
+    /// Returns the allocator.
     fn alloc(&self) -> Global;
 }
 
@@ -39,9 +39,9 @@ impl AllocGlobal for HostRuntime {
     }
 }
 
-/// Gives the variables of the environment.
+/// A type that returns the variables of the environment.
 pub trait Env {
-    /// Writes the text of a variable into the room, and answers its length.
+    /// Writes the text of a variable to the buffer, and returns its length.
     fn var(&self, name: &str, room: &mut [u8]) -> Result<usize, AllocError>;
 }
 
@@ -55,8 +55,8 @@ impl Env for HostRuntime {
 }
 
 impl<T> Vec<T> {
-    /// A vector of nothing with room for so many values. Tests mark a place by such a request, which no
-    /// compiler may leave out.
+    /// Creates an empty vector with this capacity. Tests mark a point by this allocation, so a
+    /// compiler must not remove it.
     pub fn with_capacity(_alloc: Global, room: usize) -> Result<Self, AllocError> {
         let mut list = alloc::vec::Vec::new();
         list.try_reserve_exact(room).map_err(|_| AllocError)?;
@@ -64,36 +64,36 @@ impl<T> Vec<T> {
     }
 }
 
-/// A text whose growth may be refused.
+/// A string that reports a failed allocation.
 #[derive(Debug)]
 pub struct String(alloc::string::String);
 
 impl String {
-    /// The empty text, which takes no memory.
+    /// Creates an empty string. It does not allocate.
     pub fn new(_alloc: Global) -> String {
         String(alloc::string::String::new())
     }
 
-    /// The empty text, with room for so many bytes.
+    /// Creates an empty string with a capacity in bytes.
     pub fn with_capacity(_alloc: Global, room: usize) -> Result<String, AllocError> {
         let mut text = alloc::string::String::new();
         text.try_reserve_exact(room).map_err(|_| AllocError)?;
         Ok(String(text))
     }
 
-    /// Adds a letter.
+    /// Appends a character.
     pub fn push(&mut self, letter: char) -> Result<(), AllocError> {
         self.0.push(letter);
         Ok(())
     }
 
-    /// Adds a text.
+    /// Appends a text.
     pub fn push_str(&mut self, text: &str) -> Result<(), AllocError> {
         self.0.push_str(text);
         Ok(())
     }
 
-    /// The text.
+    /// Returns the text.
     pub fn as_str(&self) -> &str {
         &self.0
     }
@@ -113,9 +113,9 @@ impl fmt::Display for String {
     }
 }
 
-/// Writes a value as a text.
+/// A value that can be written as a text.
 pub trait ToString {
-    /// The text of the value.
+    /// Returns the text of the value.
     fn to_string(&self, alloc: Global) -> Result<String, AllocError>;
 }
 
@@ -125,7 +125,7 @@ impl<T: fmt::Display> ToString for T {
     }
 }
 
-/// A number that stands in the text of a test, where its type says nothing else.
+/// Returns a number of a test whose type cannot be inferred.
 impl From<i32> for Value {
     fn from(number: i32) -> Value {
         Value::Number(match u64::try_from(number) {
@@ -136,7 +136,7 @@ impl From<i32> for Value {
 }
 
 impl Value {
-    /// What stands behind a path of fields and places in lists, each of them behind a `/`.
+    /// Returns the value at a path of field names and list indices, each after a `/`.
     pub fn pointer_mut(&mut self, path: &str) -> Option<&mut Value> {
         let mut steps = path.split('/');
         match steps.next() {
@@ -155,7 +155,7 @@ impl Value {
     }
 }
 
-/// What stands in a field; a field that is not there is `null`.
+/// Returns the value of a field, or `null` if the field is absent.
 impl Index<&str> for Value {
     type Output = Value;
 

@@ -3,7 +3,7 @@ use alloc::string::String;
 use core::fmt;
 use core::slice::{Iter, IterMut};
 
-/// A value as JSON has them.
+/// A JSON value.
 #[derive(Debug, PartialEq)]
 pub enum Value {
     /// `null`
@@ -12,54 +12,55 @@ pub enum Value {
     Bool(bool),
     /// A number.
     Number(Number),
-    /// A text.
+    /// A string.
     String(String),
     /// A list.
     Array(Vec<Value>),
-    /// Fields by their names.
+    /// The fields of an object.
     Object(Fields),
 }
 
-/// A field of an object: its name, and what stands in it.
+/// A field of an object: its name and its value.
 pub type Field = (String, Value);
 
-/// The fields of an object, by their names in order. It is a list, whose growth may be refused, where
-/// one of Rust's maps ends the process. A name that stands twice in a text stands twice in it, so that
-/// who counts the fields notices.
+/// The fields of an object, in ascending order of names.
+///
+/// It is a list, because a list can report a failed allocation and a map cannot. It keeps duplicate
+/// names, so that a count of the fields shows them.
 #[derive(Debug, PartialEq)]
 pub struct Fields(alloc::vec::Vec<Field>);
 
 impl Fields {
-    /// What stands in the field of this name.
+    /// Returns the value of the field with this name.
     pub fn get(&self, name: &str) -> Option<&Value> {
         self.iter()
             .find(|field| field.0 == name)
             .map(|field| &field.1)
     }
 
-    /// How many fields there are.
+    /// Returns the number of fields.
     pub fn len(&self) -> usize {
         self.0.len()
     }
 
-    /// Whether there is no field.
+    /// Returns whether there are no fields.
     pub fn is_empty(&self) -> bool {
         self.0.is_empty()
     }
 
-    /// The fields, by their names in order.
+    /// Returns an iterator over the fields in ascending order of names.
     pub fn iter(&self) -> Iter<'_, Field> {
         self.0.iter()
     }
 
-    /// The same, to be changed.
+    /// Returns a mutable iterator over the fields in ascending order of names.
     pub fn iter_mut(&mut self) -> IterMut<'_, Field> {
         self.0.iter_mut()
     }
 }
 
 impl From<alloc::vec::Vec<Field>> for Fields {
-    /// It takes no memory.
+    /// Sorts the fields. It does not allocate.
     fn from(mut fields: alloc::vec::Vec<Field>) -> Fields {
         fields.sort_unstable_by(|one, other| one.0.cmp(&other.0));
         Fields(fields)
@@ -67,8 +68,8 @@ impl From<alloc::vec::Vec<Field>> for Fields {
 }
 
 impl FromIterator<Field> for Fields {
-    /// Where there is no memory, the process ends: the crates that are written from proved ones have
-    /// other ways.
+    /// Collects the fields. It ends the process if an allocation fails, so the generated crates do
+    /// not use it.
     fn from_iter<I: IntoIterator<Item = Field>>(fields: I) -> Fields {
         Fields::from(fields.into_iter().collect::<alloc::vec::Vec<Field>>())
     }
@@ -77,19 +78,19 @@ impl FromIterator<Field> for Fields {
 /// A number of a value.
 #[derive(Clone, Copy, Debug, PartialEq)]
 pub enum Number {
-    /// A whole number of 64 bits.
+    /// A 64-bit whole number.
     Whole(u64),
     /// Any other number.
     Other(f64),
 }
 
 impl Value {
-    /// A text as a value.
+    /// Returns a string as a value.
     pub fn try_from_str(_alloc: Global, text: &str) -> Result<Value, AllocError> {
         copy_of(text).map(Value::String)
     }
 
-    /// The object of these fields, each of which there was memory for.
+    /// Returns the object with these fields, or the error of the first one whose allocation failed.
     #[doc(hidden)]
     pub fn object<const N: usize>(
         fields: [(&str, Result<Value, AllocError>); N],
@@ -102,12 +103,12 @@ impl Value {
         Ok(Value::Object(list.into()))
     }
 
-    /// Whether the value is `null`.
+    /// Returns whether the value is `null`.
     pub fn is_null(&self) -> bool {
         matches!(self, Value::Null)
     }
 
-    /// The whole number that the value is.
+    /// Returns the value as a whole number.
     pub fn as_u64(&self) -> Option<u64> {
         match self {
             Value::Number(Number::Whole(number)) => Some(*number),
@@ -115,7 +116,7 @@ impl Value {
         }
     }
 
-    /// The text that the value is.
+    /// Returns the value as a string.
     pub fn as_str(&self) -> Option<&str> {
         match self {
             Value::String(text) => Some(text),
@@ -123,7 +124,7 @@ impl Value {
         }
     }
 
-    /// The list that the value is.
+    /// Returns the value as a list.
     pub fn as_array(&self) -> Option<&Vec<Value>> {
         match self {
             Value::Array(items) => Some(items),
@@ -131,7 +132,7 @@ impl Value {
         }
     }
 
-    /// The fields that the value has.
+    /// Returns the fields of the value.
     pub fn as_object(&self) -> Option<&Fields> {
         match self {
             Value::Object(fields) => Some(fields),
@@ -139,25 +140,25 @@ impl Value {
         }
     }
 
-    /// What stands in a field.
+    /// Returns the value of a field.
     pub fn get(&self, name: &str) -> Option<&Value> {
         self.as_object()?.get(name)
     }
 
-    /// The value; `null` is left.
+    /// Returns the value, and leaves `null`.
     pub fn take(&mut self) -> Value {
         core::mem::replace(self, Value::Null)
     }
 }
 
-/// A copy of a text.
+/// Returns a copy of a string.
 fn copy_of(text: &str) -> Result<String, AllocError> {
     let mut copy = String::new();
     add_to(&mut copy, text)?;
     Ok(copy)
 }
 
-/// Adds a piece at the end of a text.
+/// Appends a piece to a string.
 pub(crate) fn add_to(text: &mut String, piece: &str) -> Result<(), AllocError> {
     text.try_reserve(piece.len()).map_err(|_| AllocError)?;
     text.push_str(piece);
@@ -177,7 +178,8 @@ impl From<u32> for Value {
 }
 
 impl From<&str> for Value {
-    /// Where there is no memory, the process ends. Only tests call it.
+    /// Returns a string as a value. It ends the process if an allocation fails, and only tests call
+    /// it.
     fn from(text: &str) -> Value {
         Value::String(text.into())
     }
@@ -195,7 +197,7 @@ impl From<Fields> for Value {
     }
 }
 
-/// As JSON, without blanks.
+/// Writes JSON without blanks.
 impl fmt::Display for Value {
     fn fmt(&self, f: &mut fmt::Formatter<'_>) -> fmt::Result {
         match self {
@@ -233,7 +235,7 @@ fn write_listed<T>(
     write!(f, "{close}")
 }
 
-/// Writes a text in quotes, as JSON has it.
+/// Writes a string as JSON.
 fn write_text(text: &str, f: &mut fmt::Formatter<'_>) -> fmt::Result {
     f.write_str("\"")?;
     for letter in text.chars() {
@@ -246,8 +248,10 @@ fn write_text(text: &str, f: &mut fmt::Formatter<'_>) -> fmt::Result {
     f.write_str("\"")
 }
 
-/// `json!(in alloc; {"name": value, ..})` is an object of these fields, whose values are moved in, and
-/// `json!(in alloc; [value, ..])` a list.
+/// Creates an object or a list.
+///
+/// `json!(in alloc; {"name": value, ..})` moves the values into the fields of an object. `json!(in
+/// alloc; [value, ..])` is a list.
 #[macro_export]
 macro_rules! json {
     (in $alloc:expr; {$($fields:tt)*}) => {{

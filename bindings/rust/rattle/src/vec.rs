@@ -2,17 +2,17 @@ use crate::{AllocFailed, Global};
 use core::fmt;
 use core::ops::{Deref, DerefMut};
 
-/// A vector whose growth may be refused.
+/// A vector that reports a failed allocation.
 #[derive(PartialEq, Eq)]
 pub struct Vec<T>(alloc::vec::Vec<T>);
 
 impl<T> Vec<T> {
-    /// A vector of nothing, which takes no memory.
+    /// Creates an empty vector. It does not allocate.
     pub fn new(_alloc: Global) -> Self {
         Vec(alloc::vec::Vec::new())
     }
 
-    /// Adds a value at the end; it comes back where there is no memory.
+    /// Appends a value, or returns it if the allocation fails.
     pub fn push(&mut self, value: T) -> Result<(), AllocFailed<T>> {
         if self.0.try_reserve(1).is_err() {
             return Err(AllocFailed(value));
@@ -21,7 +21,7 @@ impl<T> Vec<T> {
         Ok(())
     }
 
-    /// The values.
+    /// Returns the values.
     pub fn as_slice(&self) -> &[T] {
         &self.0
     }

@@ -1,9 +1,9 @@
-//! The reader of JSON, by the grammar of RFC 8259.
+//! Checks the reader of JSON against the grammar of RFC 8259.
 #![cfg(feature = "json")]
 
 use rattle::{Global, TextError, Value};
 
-/// Texts, and what is written of their values.
+/// Texts, and the output of their values.
 const READ: [(&str, &str); 14] = [
     (" \t\r\nnull\n", "null"),
     ("[true ,false]", "[true,false]"),

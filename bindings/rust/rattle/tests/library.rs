@@ -1,4 +1,4 @@
-//! Sets and maps do what Rust's do, and values are what JSON says.
+//! Compares sets and maps with those of Rust, and values with JSON.
 
 use rattle::{json, BTreeMap, BTreeSet, Global, Number, Value, Vec};
 use std::collections;
@@ -46,7 +46,7 @@ fn list(items: [u64; 2]) -> Vec<Value> {
     list
 }
 
-/// Values with their texts in JSON: a value is what its name says, and nothing else.
+/// Values with their texts in JSON, and the kind of each.
 #[test]
 fn values() {
     let object = json!(in Global; {"b": {"d": null, "c": 2u32}, "a": 1u64});

@@ -1,13 +1,13 @@
-//! Refused memory: a box, a vector or a value returns an error, gives its argument back and keeps
-//! no block.
+//! Failed allocations: a box, a vector or a value returns an error and its argument, and frees
+//! every block.
 
 mod refusing;
 
 use rattle::{json, AllocError, AllocFailed, Box, Global, Value, Vec};
 use refusing::{blocks, refusing};
 
-/// Makes a call with each of its requests refused in turn; each time it fails and keeps no block.
-/// Then it succeeds.
+/// Makes a call with each of its allocations failing in turn. It must return an error and free
+/// every block. Then it must succeed.
 fn refuse_each<T>(requests: u64, call: impl Fn() -> Result<T, AllocError>) -> T {
     for number in 1..=requests {
         let before = blocks();
@@ -17,7 +17,7 @@ fn refuse_each<T>(requests: u64, call: impl Fn() -> Result<T, AllocError>) -> T 
     }
     let (result, made) = refusing(0, &call);
     assert_eq!(made, requests);
-    result.expect("no request is refused")
+    result.expect("no allocation fails")
 }
 
 #[test]
@@ -30,7 +30,7 @@ fn boxes() {
     ];
     assert!(texts
         .iter()
-        .all(|text| text.as_deref() == Some("a request for memory was refused")));
+        .all(|text| text.as_deref() == Some("an allocation failed")));
     let before = blocks();
     let mut boxed = refuse_each(1, || Ok(Box::new(Global, 7)?));
     *boxed += 1;
@@ -60,7 +60,7 @@ fn vectors() {
 fn values() {
     let text = refuse_each(1, || Value::try_from_str(Global, "five"));
     assert_eq!(text.as_str(), Some("five"));
-    // One request each for the list of fields, for both names and for the inner list of fields.
+    // One allocation each for the list of fields, for both names and for the inner list of fields.
     let object = refuse_each(
         5,
         || json!(in Global; {"one": 1u64, "two": {"three": null}}),

@@ -1,1 +1,1 @@
-//! Runs the tests of the feature `serde`, and the examples that have more to show with it.
+//! Runs the tests of the feature `serde`, and the examples that use it.

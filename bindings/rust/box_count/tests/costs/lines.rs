@@ -1,4 +1,4 @@
-//! A line of the replay language requests memory as often as its call, and follows no more boxes.
+//! A line of the replay language allocates as often as its call, and follows no more boxes.
 use crate::meter::{cost, difference, spent, Cost};
 use crate::objects::{Setting, SETTINGS};
 use rattle::Global;
@@ -8,7 +8,7 @@ use vm_allocator::{AddressAllocator, IdAllocator, RangeInclusive};
 use vm_devices::DeviceManager;
 use vm_lines::run;
 
-/// A reader that returns one line at a time. It notes what was spent before each read.
+/// A reader that returns one line at a time. It notes the cost so far before each read.
 struct Lines<'a> {
     rows: std::slice::Iter<'a, (&'a str, &'a str)>,
     notes: Vec<Cost>,
@@ -26,7 +26,7 @@ impl Read for Lines<'_> {
     }
 }
 
-/// What the lines so far have made, by direct calls.
+/// The objects that the lines so far have created, by direct calls.
 #[derive(Default)]
 struct Made {
     space: Option<AddressAllocator>,
@@ -76,7 +76,7 @@ impl Made {
     }
 }
 
-/// Returns lines of each kind, each with the beginning of its answer.
+/// Returns lines of each kind, each with the beginning of its result.
 fn lines(s: Setting) -> String {
     let (base, size, lo, hi) = (s.base, s.size, s.first_id, s.last_id());
     let (end, inside, next, max) = (base + 3, base + 23, lo + 1, u64::MAX);

@@ -1,4 +1,4 @@
-//! What calls cost: requests for memory, boxes followed, and processor time. No contract limits these.
+//! The cost of calls: allocations, boxes followed, and processor time. No contract limits these.
 mod lines;
 mod managers;
 mod meter;

@@ -1,5 +1,5 @@
-//! A call of a manager costs at most what its parts cost: the calls of its space and of its ids, and the
-//! same operations on a map of Rust's standard library.
+//! A call of a manager costs at most as much as its parts: the calls of its space and of its ids,
+//! and the operations on a map of the Rust standard library.
 use crate::meter::{at_most, cost};
 use crate::objects::{with_part, Setting, SETTINGS};
 use crate::requests::{allocations, list, map, object, DEVICE};
@@ -10,7 +10,7 @@ use vm_allocator::Error::NeverAllocated;
 use vm_allocator::{AddressAllocator, IdAllocator, RangeInclusive};
 use vm_devices::{DeviceManager, DeviceSlot};
 
-/// A manager, and parts that get the same calls, so that the trees are the same.
+/// A manager, and separate parts that get the same calls, so their trees are the same.
 struct Pair {
     manager: DeviceManager,
     first_id: u32,
@@ -51,7 +51,7 @@ impl Pair {
         assert_eq!(device, Ok(DeviceSlot { id, range }));
     }
 
-    /// Releases a device, and once more.
+    /// Releases a device twice. The second call fails.
     fn release(&mut self, id: u32) {
         let range = at_most(&id, &[], || self.manager.slot(id)).unwrap();
         let freed = cost(|| self.space.free(&range).unwrap()).1;
@@ -93,7 +93,7 @@ fn calls() {
     }
 }
 
-/// The parts of a value are read in turn: ids, space, table, and the starts of its ranges.
+/// Checks each part of a value in turn: ids, space, table, and the starts of its ranges.
 #[test]
 fn saved() {
     for s in SETTINGS {

@@ -1,26 +1,26 @@
-//! Measures what work costs its thread.
+//! Measures the cost of work in its thread.
 use rattle::boxes_followed;
 use std::alloc::{GlobalAlloc, Layout, System};
 use std::cell::Cell;
 use std::fmt::Debug;
 use std::ptr::null_mut;
 
-/// A number of requests for memory, and a number of boxes followed. A vector that grows makes a request.
+/// A number of allocations, and a number of boxes followed. Growing a vector is an allocation.
 pub type Cost = [u64; 2];
 
 thread_local! {
     static REQUESTS: Cell<u64> = const { Cell::new(0) };
-    /// The number of the next request that fails, counted from 1. It is 0 if no request fails.
+    /// The number of the next allocation that fails, starting at 1, or 0 if none fails.
     static FAILING: Cell<u64> = const { Cell::new(0) };
 }
 
-/// The allocator of the system, with the requests of each thread counted.
+/// The system allocator, which counts the allocations of each thread.
 struct Counting;
 
 #[global_allocator]
 static ALLOCATOR: Counting = Counting;
 
-// SAFETY: `System` allocates and frees every block. A null pointer reports a failed request.
+// SAFETY: `System` allocates and frees every block. A null pointer reports a failed allocation.
 unsafe impl GlobalAlloc for Counting {
     unsafe fn alloc(&self, layout: Layout) -> *mut u8 {
         REQUESTS.set(REQUESTS.get() + 1);
@@ -37,7 +37,7 @@ unsafe impl GlobalAlloc for Counting {
     }
 }
 
-/// Returns what the thread has spent so far.
+/// Returns the cost of the thread so far.
 pub fn spent() -> Cost {
     [REQUESTS.get(), boxes_followed()]
 }
@@ -53,7 +53,7 @@ pub fn difference(after: Cost, before: Cost) -> Cost {
     [after[0] - before[0], after[1] - before[1]]
 }
 
-/// Does work with the request of this number refused.
+/// Does work in which the allocation of this number fails.
 pub fn with_failing<T>(number: u64, work: impl FnOnce() -> T) -> T {
     FAILING.set(number);
     let result = work();
@@ -80,7 +80,7 @@ pub fn processor_time() -> u64 {
         fn clock_gettime(clock: i32, time: *mut [i64; 2]) -> i32;
     }
     let mut time = [0; 2];
-    // SAFETY: a `timespec` of Linux with 64 bits is two `i64`.
+    // SAFETY: a `timespec` of 64-bit Linux is two `i64`.
     let status = unsafe { clock_gettime(CLOCK_THREAD_CPUTIME_ID, &mut time) };
     assert_eq!(status, 0);
     (time[0] * 1_000_000_000 + time[1]) as u64

@@ -1,11 +1,11 @@
-//! The objects that are measured.
+//! The measured objects.
 use rattle::{Global, Value};
 use std::collections::BTreeSet;
 use vm_allocator::AllocPolicy::{ExactMatch, FirstMatch};
 use vm_allocator::{AddressAllocator, IdAllocator, RangeInclusive};
 use vm_devices::DeviceManager;
 
-/// Where objects have their `held` allocated ranges, ids or devices.
+/// The layout of objects with `held` allocated ranges, ids or devices.
 #[derive(Clone, Copy, Debug)]
 pub struct Setting {
     pub held: u64,
@@ -63,7 +63,7 @@ impl Setting {
         (0..self.held as u32).map(move |number| self.first_id + 2 * number)
     }
 
-    /// Returns the ids that are freed. They alternate with those that stay allocated.
+    /// Returns the freed ids, which alternate with allocated ones.
     pub fn freed_ids(self) -> impl Iterator<Item = u32> {
         self.held_ids().map(|id| id + 1)
     }
@@ -97,7 +97,7 @@ pub fn range(start: u64, end: u64) -> RangeInclusive {
     RangeInclusive::new(start, end).unwrap()
 }
 
-/// Does work on a value of which one part is replaced.
+/// Does work on a value with one part replaced.
 pub fn with_part<T>(
     value: &mut Value,
     path: &str,

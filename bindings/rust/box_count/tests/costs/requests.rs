@@ -1,7 +1,8 @@
-//! How often each call requests memory, as a function of the nodes, ids and devices. The numbers follow
-//! from what has to be allocated: a block for each node of a tree, and one for each list of fields, each
-//! name and each text of a value. Sets, maps and lists are those of Rust's standard library, so their
-//! part is what the same operations on them request.
+//! The number of allocations of each call, as a function of the nodes, ids and devices.
+//!
+//! The expected numbers follow from the data: one block for each node of a tree, and one for each
+//! list of fields, each name and each string of a value. Sets, maps and lists are those of the Rust
+//! standard library, so they count as the same operations on these do.
 use crate::meter::{at_most, cost, with_failing};
 use crate::objects::{last_node, range, with_part, Setting, SETTINGS};
 use rattle::{AllocError, Global, Value};
@@ -24,22 +25,23 @@ const NODE: u64 = object(5) + RANGE + STATE;
 const SPACE_WITHOUT_NODES: u64 = object(2) + RANGE + object(1);
 pub const DEVICE: u64 = object(2) + RANGE;
 
-/// Returns the requests of a vector that gets its items one by one.
+/// Returns the number of allocations of a vector whose items are pushed one by one.
 pub fn list(items: u64) -> u64 {
     let mut list = Vec::new();
     let push_all = || (0..items).for_each(|_| list.push(Value::Null));
     cost(push_all).1[0]
 }
 
-/// Returns the requests of a map, or of a set, that gets its keys one by one.
+/// Returns the number of allocations of a map or a set whose keys are inserted one by one.
 pub fn map<K: Ord>(keys: impl Iterator<Item = K>) -> u64 {
     let mut map = BTreeMap::new();
     let insert_all = || keys.for_each(|key| assert!(map.insert(key, ()).is_none()));
     cost(insert_all).1[0]
 }
 
-/// Checks that a call succeeds with exactly this number of requests, or returns this error without any.
-/// If its first or its last request fails, it returns `OutOfMemory` after at most as many requests.
+/// Checks that a call succeeds with exactly this number of allocations, or returns this error
+/// without any. If its first or its last allocation fails, it must return `OutOfMemory` after at
+/// most this number.
 fn expect<T, E>(name: &dyn Debug, want: &Result<u64, E>, mut call: impl FnMut() -> Result<T, E>)
 where
     E: From<AllocError> + PartialEq + Debug,
@@ -79,7 +81,7 @@ fn new_spaces() {
     }
 }
 
-/// A split allocates a node for each part of its gap that is left.
+/// A split allocates a node for each free part of its gap that remains.
 pub fn allocations(s: Setting) -> [(u64, u64, AllocPolicy, Result<u64, Error>); 21] {
     let (base, last) = (s.base, s.key().end());
     let is_high = last == u64::MAX;

@@ -1,5 +1,5 @@
-//! No call takes the square of its time: an object of eight times the size takes at most three times what
-//! linear growth gives.
+//! No call takes quadratic time. An object of eight times the size takes at most three times the
+//! time of linear growth.
 use crate::meter::processor_time;
 use crate::objects::{last_node, low};
 use rattle::{Global, Value};
@@ -12,9 +12,11 @@ const SMALL: u64 = 2_000;
 const GROWTH: u64 = 8;
 const ROUNDS: usize = 3;
 
-/// Checks the growth of work on the objects that `make` returns for a number of ranges, ids or devices.
-/// There are as many small objects as the large one is larger, so both take the same memory. One round
-/// within the limit is enough, since other processes only add time.
+/// Checks the growth of work on the objects that `make` returns for a number of ranges, ids or
+/// devices.
+///
+/// The number of small objects makes both sides use the same memory. One round within the limit is
+/// enough, because other processes only add time.
 fn expect_linear<T, U>(name: &str, make: impl Fn(u64) -> T, work: impl Fn(&T) -> U) {
     let small: Vec<T> = (0..GROWTH).map(|_| make(SMALL)).collect();
     let large = make(GROWTH * SMALL);

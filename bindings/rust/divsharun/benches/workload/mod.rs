@@ -1,12 +1,13 @@
-//! What is measured of a library that gives out ranges and ids: the time of a call while many
-//! ranges or ids are held. The same calls are made of each library, and their answers are kept, so
-//! that two can be held against each other.
+//! Measures a library that allocates ranges and ids: the time of a call while many are allocated.
+//!
+//! Every library gets the same calls. Their results are kept, so that two libraries can be
+//! compared.
 
 use std::fmt;
 use std::hint::black_box;
 use std::time::Instant;
 
-/// Where a range is asked for.
+/// The policy of a request.
 #[derive(Clone, Copy, Debug)]
 pub enum Place {
     First,
@@ -14,10 +15,10 @@ pub enum Place {
     Exact(u64),
 }
 
-/// What a call answers: the ends of a range, or the text of an error.
+/// The result of a call: the ends of a range, or the text of an error.
 pub type Answer = Result<(u64, u64), String>;
 
-/// A library that is measured.
+/// A measured library.
 pub trait Library {
     type Space: Clone;
     type Ids: Clone;
@@ -30,7 +31,7 @@ pub trait Library {
     fn free_id(ids: &mut Self::Ids, id: u32) -> Answer;
 }
 
-/// A library by the name of its crate, which has the names of `vm-allocator`.
+/// Implements [`Library`] for a crate with the names of `vm-allocator`.
 macro_rules! library {
     ($name:ident, $library:ident) => {
         pub struct $name;
@@ -90,7 +91,7 @@ macro_rules! library {
 }
 pub(crate) use library;
 
-/// Numbers that look as if they came by chance, the same ones for the same seed.
+/// Pseudo-random numbers from a seed.
 pub struct Draw(u64);
 
 impl Draw {
@@ -98,7 +99,7 @@ impl Draw {
         Draw(seed.wrapping_mul(0x9e37_79b9_7f4a_7c15) | 1)
     }
 
-    /// A number below `bound`.
+    /// Returns a number less than `bound`.
     pub fn below(&mut self, bound: u64) -> u64 {
         self.0 ^= self.0 << 13;
         self.0 ^= self.0 >> 7;
@@ -106,7 +107,7 @@ impl Draw {
         (self.0 >> 11) % bound
     }
 
-    /// The same items in another order.
+    /// Shuffles the items.
     pub fn shuffle<T>(&mut self, items: &mut [T]) {
         for last in (1..items.len()).rev() {
             items.swap(last, self.below(last as u64 + 1) as usize);
@@ -114,7 +115,7 @@ impl Draw {
     }
 }
 
-/// A call that is measured.
+/// A measured call.
 #[derive(Clone, Copy, Debug, PartialEq, Eq)]
 pub enum Call {
     Exact,
@@ -149,28 +150,28 @@ impl fmt::Display for Call {
     }
 }
 
-/// What was measured of a call.
+/// The measurement of a call.
 pub struct Measured {
-    /// The middle one of the times of a call, in nanoseconds.
+    /// The median time of a call, in nanoseconds.
     pub nanoseconds: f64,
-    /// The answers of all rounds.
+    /// The results of all rounds.
     pub answers: Vec<Answer>,
 }
 
 /// Devices of 4 KiB to 32 KiB, each at the next multiple of its size, in a space that ends with the
-/// last one.
+/// last device.
 pub struct Devices {
     end: u64,
     ranges: Vec<(u64, u64)>,
-    // Those that are given back and asked for again, each time in another order.
+    // The devices that are freed and allocated again, in another order each time.
     moved: Vec<(u64, u64)>,
 }
 
-/// The first address of the space of devices.
+/// The first address of the space.
 const BASE: u64 = 1 << 40;
 
 impl Devices {
-    /// So many devices, of which the tenth part moves, at most a thousand.
+    /// Creates this number of devices. A tenth of them moves, at most a thousand.
     pub fn new(count: u64) -> Self {
         let mut draw = Draw::from_seed(count);
         let mut next = BASE;
@@ -191,7 +192,7 @@ impl Devices {
         }
     }
 
-    /// The space with all devices in it.
+    /// Returns the space with all devices in it.
     fn full<L: Library>(&self) -> L::Space {
         let mut space = L::space(BASE, self.end - BASE);
         for range in &self.ranges {
@@ -201,7 +202,7 @@ impl Devices {
         space
     }
 
-    /// The time of a call, in so many rounds.
+    /// Measures a call in this number of rounds.
     pub fn measure<L: Library>(&self, call: Call, rounds: u64) -> Measured {
         match call {
             Call::AllocateId | Call::FreeId => self.measure_ids::<L>(call, rounds),
@@ -221,7 +222,7 @@ impl Devices {
                 L::free(&mut space, *range)
             });
             draw.shuffle(&mut moved);
-            // The largest first, so that each has a place.
+            // The largest first, so that each one fits.
             moved.sort_by_key(|range| u64::MAX - size_of(range));
             timing.of(call != Call::Free, &moved, |range| {
                 let place = match call {
@@ -261,7 +262,7 @@ fn size_of(range: &(u64, u64)) -> u64 {
     range.1 - range.0 + 1
 }
 
-/// The times of the rounds, and the answers.
+/// The times of the rounds, and the results.
 #[derive(Default)]
 struct Timing {
     rounds: Vec<f64>,
@@ -269,7 +270,7 @@ struct Timing {
 }
 
 impl Timing {
-    /// Makes a call for each item, and keeps the time where it is asked for.
+    /// Makes a call for each item. Keeps the time if this call is the measured one.
     fn of<T>(&mut self, is_asked: bool, items: &[T], mut call: impl FnMut(&T) -> Answer) {
         self.answers.reserve(items.len());
         let start = Instant::now();

@@ -1,12 +1,12 @@
-//! Which difference of docs/DIFFERENCES.md it is, where the answers to a call differ or what is
-//! left behind it does.
+//! Finds the number in docs/DIFFERENCES.md of a difference between two results, or between the
+//! blocks that they leave.
 
 use crate::workload::{Answer, Place};
 use divsharun::{AddressAllocator, Block, Error, NodeState, RangeInclusive};
 use std::collections::BTreeMap;
 use std::fmt;
 
-/// A call on a space of addresses.
+/// A call on an address space.
 #[derive(Clone, Copy, Debug)]
 pub enum Request {
     Allocate {
@@ -17,7 +17,7 @@ pub enum Request {
     Free(u64, u64),
 }
 
-/// What was compared, and what differed.
+/// The number of comparisons, and the differences found.
 #[derive(Default)]
 pub struct Tally {
     pub calls: u64,
@@ -55,7 +55,7 @@ impl fmt::Display for Tally {
     }
 }
 
-/// The block of an address of the space.
+/// Returns the block of an address.
 fn block_of(space: &AddressAllocator, address: u64) -> Option<(RangeInclusive, NodeState)> {
     let holds_address =
         |block: &Block| block.range.start() <= address && address <= block.range.end();
@@ -67,8 +67,8 @@ fn block_of(space: &AddressAllocator, address: u64) -> Option<(RangeInclusive, N
     block
 }
 
-/// The number of the difference between the answers of the Rust crate and of the port to a call on
-/// a space that was as `before`.
+/// Returns the number of the difference between the results of `vm-allocator` and of divsharun for
+/// a call. `before` is the space before the call.
 pub fn number_of(
     before: &AddressAllocator,
     request: &Request,
@@ -147,7 +147,7 @@ fn free(
     }
 }
 
-/// Whether a gap of one address is next to a range.
+/// Returns whether a gap of one address is next to a range.
 fn has_small_neighbour(space: &AddressAllocator, range: RangeInclusive) -> bool {
     let is_small_gap = |address: Option<u64>| {
         let block = address.and_then(|address| block_of(space, address));

@@ -1,20 +1,21 @@
-//! Histories of calls that are drawn, made of both libraries at once. Where the two differ, the
-//! Rust crate's allocator is read anew from what the port saves, so that each difference stands
-//! alone.
+//! Makes random histories of calls on both libraries.
+//!
+//! After a difference, the allocator of `vm-allocator` is read from the one that divsharun saves,
+//! so that each difference is independent.
 
 use crate::difference::{number_of, Request, Tally};
 use crate::saved::{compare_saved, held_and_clear, reread, value_of};
 use crate::workload::{Answer, Draw, Library, Place};
 use crate::{Port, Rust};
 
-/// How many calls a history has.
+/// The number of calls in a history.
 const CALLS: u64 = 200;
 
 /// Both libraries with the same space.
 struct Spaces {
     rust: vm_allocator::AddressAllocator,
     port: divsharun::AddressAllocator,
-    // What the Rust crate may still hold after one of its faults is not in here.
+    // Without ranges that `vm-allocator` wrongly keeps after one of its bugs.
     held: Vec<(u64, u64)>,
 }
 
@@ -27,7 +28,7 @@ impl Spaces {
         }
     }
 
-    /// Makes a call of both, and compares the answers and the blocks.
+    /// Makes a call on both, and compares the results and the blocks.
     fn call(&mut self, request: &Request, tally: &mut Tally) {
         let before = self.port.clone();
         let (rust, port) = match *request {
@@ -59,7 +60,7 @@ impl Spaces {
         self.rust = reread(&self.port);
     }
 
-    /// Keeps which ranges are held.
+    /// Updates the list of allocated ranges.
     fn note(&mut self, request: &Request, answer: &Answer) {
         match (request, answer) {
             (Request::Allocate { .. }, Ok(range)) => self.held.push(*range),
@@ -69,7 +70,7 @@ impl Spaces {
     }
 }
 
-/// A space: small ones at either end of all addresses and between, and large ones.
+/// Returns a random space: small at either end of the addresses or between, or large.
 fn draw_space(draw: &mut Draw) -> (u64, u64) {
     let size = 1 + draw.below(96);
     match draw.below(8) {
@@ -83,7 +84,7 @@ fn draw_space(draw: &mut Draw) -> (u64, u64) {
     }
 }
 
-/// A call: most of them make sense, and some do not.
+/// Returns a random call. Most calls are valid.
 fn draw_request(draw: &mut Draw, spaces: &Spaces) -> Request {
     let base = spaces.port.base();
     let width = (spaces.port.end() - base).min(96) + 1;
@@ -115,7 +116,7 @@ fn draw_request(draw: &mut Draw, spaces: &Spaces) -> Request {
     }
 }
 
-/// A release: of a held range, of a part of it, or of a gap.
+/// Returns a call that frees an allocated range, a part of one, or a gap.
 fn draw_release(draw: &mut Draw, spaces: &Spaces, near: u64) -> Request {
     let blocks = || spaces.port.layout();
     if draw.below(16) == 0 {
@@ -136,7 +137,7 @@ fn draw_release(draw: &mut Draw, spaces: &Spaces, near: u64) -> Request {
     }
 }
 
-/// One history of calls on a space.
+/// Makes one history of calls on a space.
 pub fn compare_addresses(seed: u64, tally: &mut Tally) {
     let mut draw = Draw::from_seed(seed);
     let (base, size) = draw_space(&mut draw);
@@ -149,8 +150,8 @@ pub fn compare_addresses(seed: u64, tally: &mut Tally) {
     compare_order(&spaces, tally);
 }
 
-/// Compares the spaces with those of the same held ranges that other calls led to, and with those
-/// that lack the first of them.
+/// Compares the spaces with spaces that got the same ranges by other calls, and with spaces that
+/// lack the first range.
 fn compare_order(spaces: &Spaces, tally: &mut Tally) {
     let mut other = Port::space(spaces.port.base(), size_of(&spaces.port));
     for range in spaces.port.held_ranges() {
@@ -164,12 +165,13 @@ fn compare_order(spaces: &Spaces, tally: &mut Tally) {
     }
 }
 
-/// How many addresses a space has.
+/// Returns the number of addresses of a space.
 fn size_of(space: &divsharun::AddressAllocator) -> u64 {
     space.end() - space.base() + 1
 }
 
-/// Trees of another shape are ordered otherwise, and equal blocks in them are not.
+/// Compares the order of spaces. `vm-allocator` compares the shapes of trees, so the same blocks
+/// can differ there.
 fn compare_pair(spaces: &Spaces, other: &divsharun::AddressAllocator, tally: &mut Tally) {
     let rust_other = reread(other);
     let rust = spaces.rust.cmp(&rust_other);
@@ -184,7 +186,7 @@ fn compare_pair(spaces: &Spaces, other: &divsharun::AddressAllocator, tally: &mu
     }
 }
 
-/// One history of calls on ids.
+/// Makes one history of calls on ids.
 pub fn compare_ids(seed: u64, tally: &mut Tally) {
     let mut draw = Draw::from_seed(seed ^ u64::MAX);
     let count = draw.below(24) as u32;

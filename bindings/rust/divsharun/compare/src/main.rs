@@ -1,10 +1,10 @@
-//! Makes the same calls of divsharun and of `vm-allocator` 0.1.4, holds each answer against the
-//! other, and measures both.
+//! Makes the same calls with divsharun and with `vm-allocator` 0.1.4, compares the results, and
+//! measures both.
 //!
 //!     cargo run --release [-- [SEED] [HISTORIES]]
 //!
-//! Where the two differ, the number of the difference in docs/DIFFERENCES.md is counted; a
-//! difference that has no number there is written out, and the status is 1.
+//! It counts each difference by its number in docs/DIFFERENCES.md. A difference without a number is
+//! printed, and the exit status is 1.
 
 mod difference;
 mod histories;
@@ -22,7 +22,7 @@ use workload::{library, Call, Devices};
 library!(Port, divsharun);
 library!(Rust, vm_allocator);
 
-/// How often a call is measured.
+/// The number of rounds of a measurement.
 const ROUNDS: u64 = 11;
 
 fn main() -> ExitCode {
@@ -31,7 +31,7 @@ fn main() -> ExitCode {
         .map(|word| word.parse().expect("a number"));
     let seed: u64 = arguments.next().unwrap_or_else(seed_of_the_clock);
     let histories: u64 = arguments.next().unwrap_or(4000);
-    println!("seed {seed}, {histories} histories of addresses and as many of ids");
+    println!("seed {seed}, {histories} histories of addresses and of ids each");
     let mut tally = Tally::default();
     for history in 0..histories {
         histories::compare_addresses(seed.wrapping_add(history), &mut tally);
@@ -51,10 +51,10 @@ fn seed_of_the_clock() -> u64 {
     now.map_or(1, |time| time.as_nanos() as u64)
 }
 
-/// Measures both on the same calls, and compares the answers: nanoseconds a call of divsharun, and
-/// how many times as long `vm-allocator` takes.
+/// Measures both libraries and compares their results. Prints nanoseconds per call of divsharun,
+/// and the time of `vm-allocator` as a multiple.
 fn measure(tally: &mut Tally) {
-    println!("| call | 1000 held | 10000 held | 100000 held |\n|---|---|---|---|");
+    println!("| call | 1,000 ranges | 10,000 ranges | 100,000 ranges |\n|---|---|---|---|");
     let devices = [1_000, 10_000, 100_000].map(Devices::new);
     for call in Call::ALL {
         let cells: Vec<String> = devices

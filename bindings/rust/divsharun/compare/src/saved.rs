@@ -1,4 +1,4 @@
-//! What one library saves, read by the other.
+//! Checks that each library reads what the other saves.
 
 use crate::difference::Tally;
 use crate::packed;
@@ -7,17 +7,17 @@ use serde::Serialize;
 use serde_json::Value;
 use std::fmt::Debug;
 
-/// The value of a space or of ids.
+/// Returns the value of a space or of ids.
 pub fn value_of<T: Serialize>(object: &T) -> Value {
     serde_json::to_value(object).expect("it is written")
 }
 
-/// The object of the Rust crate that is what the port saves.
+/// Returns the object of `vm-allocator` that divsharun's saved object encodes.
 pub fn reread(port: &divsharun::AddressAllocator) -> vm_allocator::AddressAllocator {
     serde_json::from_value(value_of(port)).expect("the Rust crate reads what the port writes")
 }
 
-/// The blocks of a space in order, whatever its tree looks like.
+/// Returns the blocks of a space in order, for any shape of its tree.
 pub fn held_and_clear<T: Serialize>(space: &T) -> Vec<Value> {
     let mut blocks = Vec::new();
     add_blocks(&value_of(space)["interval_tree"]["root"], &mut blocks);
@@ -33,7 +33,7 @@ fn add_blocks(node: &Value, blocks: &mut Vec<Value>) {
     add_blocks(&node["right"], blocks);
 }
 
-/// Each reads what the other saves, in JSON and in bytes, to what the other has.
+/// Checks that each library reads what the other saves, in JSON and in bytes, as the same object.
 pub fn compare_saved<R, P>(rust: &R, port: &P, tally: &mut Tally)
 where
     R: Serialize + DeserializeOwned + Debug,
@@ -60,7 +60,7 @@ where
     }
 }
 
-/// What a saved object states: the blocks of a space, or all of ids.
+/// Returns the content of a saved object: the blocks of a space, or all fields of ids.
 fn state_of<T: Serialize>(object: &T) -> Vec<Value> {
     let value = value_of(object);
     match value.get("address_space") {
@@ -69,7 +69,7 @@ fn state_of<T: Serialize>(object: &T) -> Vec<Value> {
     }
 }
 
-/// Texts that state no object, and which the Rust crate reads all the same.
+/// Texts that are not valid, but that `vm-allocator` reads.
 const DAMAGED: [&str; 4] = [
     r#"{"range_base":5,"next_id":7,"range_end":23,"freed_ids":[],"colour":1}"#,
     r#"{"range_base":5,"range_end":23,"freed_ids":[]}"#,
@@ -77,7 +77,7 @@ const DAMAGED: [&str; 4] = [
     r#"{"range_base":23,"next_id":23,"range_end":5,"freed_ids":[]}"#,
 ];
 
-/// What states no object is read by the Rust crate, and refused by the port.
+/// Checks that `vm-allocator` reads each text of [`DAMAGED`] and that divsharun returns an error.
 pub fn compare_damaged(tally: &mut Tally) {
     for text in DAMAGED {
         let rust: Result<vm_allocator::IdAllocator, _> = serde_json::from_str(text);

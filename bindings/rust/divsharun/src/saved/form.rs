@@ -1,23 +1,25 @@
-//! How saved objects look: the names and the fields of the Rust crate's types, in its order, and
-//! those of the device manager, which that crate has not.
+//! The forms of saved objects.
+//!
+//! The names, the fields and their order are those of `vm-allocator`. Only the device manager is
+//! new.
 
-/// What stands in a place of a saved object.
+/// The form of a value in a saved object.
 pub(super) enum Form {
-    /// A number of 64 bits.
+    /// A 64-bit number.
     Address,
-    /// A number of 32 bits.
+    /// A 32-bit number.
     Id,
-    /// A number of 32 bits, or none.
+    /// A 32-bit number, or none.
     OptionalId,
-    /// A list of numbers of 32 bits, which rise.
+    /// A list of 32-bit numbers in ascending order.
     RisingIds,
-    /// A list of [`SLOT`]s, whose ids rise.
+    /// A list of [`SLOT`]s in ascending order of ids.
     RisingSlots,
-    /// A name of [`STATES`].
+    /// One of the names in [`STATES`].
     State,
     /// A node with its children, or none.
     OptionalNode,
-    /// Fields.
+    /// A structure of named fields.
     Structure(Structure),
 }
 
@@ -29,24 +31,23 @@ pub(super) struct Structure {
 }
 
 impl Structure {
-    /// The names of the fields with their forms, in order.
+    /// Returns the names of the fields with their forms, in order.
     pub(super) fn fields(&self) -> impl Iterator<Item = (&'static str, &'static Form)> {
         self.names.iter().copied().zip(self.forms.iter().copied())
     }
 }
 
-/// The states of a node, in the order of their declaration, which some formats write in their
-/// place.
+/// The states of a node in the order of their declaration. Some formats write the index of a name.
 pub(super) const STATES: &[&str] = &["Free", "Allocated"];
 
 /// The name of the type of states.
 pub(super) const STATE: &str = "NodeState";
 
-/// No node of a saved tree is nested deeper: no tree of the Rust crate is higher.
+/// The maximum nesting of nodes in a saved tree. Trees of `vm-allocator` are never higher.
 pub(super) const MOST_NESTED: u32 = 50;
 
-/// No list that is read or written is longer. It is the number of ids of 20 bits, which is more
-/// than a monitor has of any kind.
+/// The maximum length of a list that is read or written: the number of 20-bit ids, more than a
+/// monitor uses.
 pub(super) const MAX_LIST_LEN: usize = 1 << 20;
 
 pub(super) static RANGE: Form = Form::Structure(Structure {

@@ -1,4 +1,4 @@
-//! A value, read as its form says.
+//! Deserializes a value of a given form.
 
 use super::form::{Form, Structure, MAX_LIST_LEN, MOST_NESTED, NODE, SLOT, STATE, STATES};
 use alloc::vec::Vec;
@@ -10,11 +10,11 @@ use serde::de::{
 };
 use serde::{Deserialize, Deserializer};
 
-/// A value to be read.
+/// The form of a value to read.
 #[derive(Clone, Copy)]
 pub(super) struct Reading {
     form: &'static Form,
-    // So many levels of nodes may follow.
+    // The number of node levels that can still follow.
     levels: u32,
 }
 
@@ -26,7 +26,7 @@ impl Reading {
         }
     }
 
-    /// A part of what is read.
+    /// Returns the reading of a part of this value.
     fn part(self, form: &'static Form) -> Self {
         Reading { form, ..self }
     }
@@ -57,7 +57,7 @@ impl<'de> DeserializeSeed<'de> for Reading {
     }
 }
 
-/// A node with its children, or none.
+/// Reads a node with its children, or none.
 struct OptionalNode(Reading);
 
 impl<'de> Visitor<'de> for OptionalNode {
@@ -87,7 +87,7 @@ impl<'de> Visitor<'de> for OptionalNode {
     }
 }
 
-/// The fields of a structure: by their names, or all of them in order.
+/// Reads the fields of a structure, either by name or all of them in order.
 struct FieldsOf {
     structure: &'static Structure,
     reading: Reading,
@@ -121,12 +121,12 @@ impl<'de> Visitor<'de> for FieldsOf {
             let value = from.next_value_seed(self.reading.part(form))?;
             fields.push((name.into(), value));
         }
-        // A field that is missing is the proved reader's to refuse.
+        // The proved reader rejects a missing field.
         Ok(Value::from(Fields::from(fields)))
     }
 }
 
-/// One of these names, as its place: of a field or of a state.
+/// Reads the name of a field or of a state as its index.
 #[derive(Clone, Copy)]
 struct Name(&'static [&'static str]);
 
@@ -162,7 +162,7 @@ impl<'de> Visitor<'de> for Name {
     }
 }
 
-/// The state of a node.
+/// Reads the state of a node.
 struct State;
 
 impl<'de> Visitor<'de> for State {
@@ -179,15 +179,17 @@ impl<'de> Visitor<'de> for State {
     }
 }
 
-/// A list of items whose ids rise. It is read into as little memory as it can be, and no further
-/// than to the first item that makes it one of no use.
+/// Reads a list of items with ascending ids.
+///
+/// It stores the items in their smallest form, and stops at the first one that makes the list
+/// invalid, so untrusted input costs little memory.
 struct RisingList<T>(PhantomData<T>);
 
 impl<'de, T: Item> Visitor<'de> for RisingList<T> {
     type Value = Value;
 
     fn expecting(&self, f: &mut fmt::Formatter<'_>) -> fmt::Result {
-        write!(f, "a list of at most {MAX_LIST_LEN} ids that rise")
+        write!(f, "a list of at most {MAX_LIST_LEN} ascending ids")
     }
 
     fn visit_seq<A: SeqAccess<'de>>(self, mut from: A) -> Result<Value, A::Error> {
@@ -206,11 +208,11 @@ impl<'de, T: Item> Visitor<'de> for RisingList<T> {
     }
 }
 
-/// An item of a [`RisingList`], as small as it can be.
+/// An item of a [`RisingList`] in its smallest form.
 trait Item: Sized {
     const FORM: &'static Form;
 
-    /// The item that a value of this form is.
+    /// Converts a value of this form to an item.
     fn decode(value: &Value) -> Option<Self>;
     fn id(&self) -> u32;
     fn value(&self) -> Value;
@@ -261,7 +263,7 @@ impl Item for Slot {
     }
 }
 
-/// The object of these fields.
+/// Returns the object with these fields.
 fn object<const N: usize>(fields: [(&str, Value); N]) -> Value {
     let fields = fields.into_iter().map(|(name, value)| (name.into(), value));
     Value::from(fields.collect::<Fields>())

@@ -1,5 +1,7 @@
-//! What serde writes is the proved value. Then it is damaged, and read in two ways: by serde, and by
-//! the proved reader alone. Both read the same ones.
+//! Compares serde with the proved readers.
+//!
+//! Serde must write the proved value. Damaged values are read by serde and by the proved reader,
+//! which must accept the same ones.
 
 use super::form::Form;
 use super::reading::Reading;
@@ -13,10 +15,10 @@ use serde::de::{DeserializeOwned, DeserializeSeed, Visitor};
 use serde::{Deserializer, Serialize};
 use serde_json::{json, Value};
 
-/// How many values of each kind are damaged.
+/// The number of values that are damaged per kind.
 const ROUNDS: u32 = 20_000;
 
-/// Numbers that look as if they came by chance.
+/// A generator of pseudo-random numbers.
 struct Draw(u64);
 
 impl Draw {
@@ -28,7 +30,7 @@ impl Draw {
     }
 }
 
-/// A value as the proved readers take it.
+/// Converts a JSON value to a value of the proved readers.
 fn to_proved_value(value: &Value) -> rattle::Value {
     match value {
         Value::Null => rattle::Value::Null,
@@ -51,7 +53,7 @@ fn to_proved_value(value: &Value) -> rattle::Value {
     }
 }
 
-/// Puts something else in a place of a value: the place is drawn on the way down to it.
+/// Replaces a random part of a value, chosen on a random path from its root.
 fn damage(value: &mut Value, draw: &mut Draw) {
     let count = match value {
         Value::Array(items) => items.len(),
@@ -79,7 +81,7 @@ fn damage(value: &mut Value, draw: &mut Draw) {
     }
 }
 
-/// Something else in the place of a value.
+/// Returns a replacement for a value.
 fn other(value: &Value, draw: &mut Draw) -> Value {
     match (value.as_u64(), draw.below(10)) {
         (Some(number), 0..=4) => json!(number.wrapping_add(draw.below(3)).wrapping_sub(1)),
@@ -92,7 +94,7 @@ fn other(value: &Value, draw: &mut Draw) -> Value {
     }
 }
 
-/// Damages the value of an object up to twice, and reads it in both ways.
+/// Damages the value of an object up to twice, and reads it with both readers.
 fn read_damaged<T, P>(
     object: &T,
     written: proved::Result<rattle::Value>,
@@ -114,7 +116,8 @@ where
     by_serde.is_some()
 }
 
-/// Runs the rounds of a kind, of which some have to be read and some refused.
+/// Runs the rounds of one kind. At least a fifth of the values must be accepted, and a fifth
+/// rejected.
 fn damage_each(mut round: impl FnMut(&mut Draw) -> bool) {
     let mut draw = Draw(88_172_645_463_325_252);
     let read = (0..ROUNDS).filter(|_| round(&mut draw)).count() as u32;
@@ -184,7 +187,8 @@ fn device_managers_are_read_as_the_proved_reader_does() {
     });
 }
 
-/// A format that has a unit where nothing is, as serde's own content of untagged enums.
+/// A format that encodes an absent value as a unit, as serde does for the content of untagged
+/// enums.
 struct Unit;
 
 impl<'de> Deserializer<'de> for Unit {

@@ -1,11 +1,11 @@
-//! A value, written as its form says.
+//! Serializes a value of a given form.
 
 use super::form::{Form, Structure, MAX_LIST_LEN, NODE, SLOT, STATE, STATES};
 use rattle::Value;
 use serde::ser::{Error, SerializeStruct};
 use serde::{Serialize, Serializer};
 
-/// A value to be written.
+/// A value to write, with its form.
 pub(super) struct Writing<'a> {
     form: &'static Form,
     value: &'a Value,
@@ -16,37 +16,35 @@ impl<'a> Writing<'a> {
         Writing { form, value }
     }
 
-    /// The number of 64 bits that the value is.
+    /// Returns the value as a 64-bit number.
     fn address<E: Error>(&self) -> Result<u64, E> {
-        self.value.as_u64().ok_or_else(|| E::custom("no number"))
+        self.value.as_u64().ok_or_else(|| E::custom("not a number"))
     }
 
-    /// The number of 32 bits that the value is.
+    /// Returns the value as a 32-bit number.
     fn id<E: Error>(&self) -> Result<u32, E> {
         u32::try_from(self.address::<E>()?).map_err(E::custom)
     }
 
-    /// Writes a list of items that look so.
+    /// Writes a list of items of one form.
     fn write_list<S: Serializer>(&self, item: &'static Form, to: S) -> Result<S::Ok, S::Error> {
         let list = self.value.as_array();
-        let list = list.ok_or_else(|| S::Error::custom("no list"))?;
+        let list = list.ok_or_else(|| S::Error::custom("not a list"))?;
         if list.len() > MAX_LIST_LEN {
-            return Err(S::Error::custom(
-                "the list is longer than those that are read",
-            ));
+            return Err(S::Error::custom("the list is too long to be read"));
         }
         to.collect_seq(list.iter().map(|value| Writing::new(item, value)))
     }
 
-    /// Writes a state, by its name or its place.
+    /// Writes a state by its name or its index.
     fn write_state<S: Serializer>(&self, to: S) -> Result<S::Ok, S::Error> {
         let state = self.value.as_str();
         let place = STATES.iter().position(|name| state == Some(name));
-        let place = place.ok_or_else(|| S::Error::custom("no state"))?;
+        let place = place.ok_or_else(|| S::Error::custom("not a state"))?;
         to.serialize_unit_variant(STATE, place as u32, STATES[place])
     }
 
-    /// Writes fields, in the order of the structure.
+    /// Writes fields in the order of the structure.
     fn write_fields<S: Serializer>(
         &self,
         structure: &'static Structure,
@@ -57,7 +55,7 @@ impl<'a> Writing<'a> {
             let value = self
                 .value
                 .get(name)
-                .ok_or_else(|| S::Error::custom("no field"))?;
+                .ok_or_else(|| S::Error::custom("missing field"))?;
             fields.serialize_field(name, &Writing::new(form, value))?;
         }
         fields.end()

@@ -1,6 +1,8 @@
-//! A format without names, as bincode is one: numbers in little endian, the length of a list and
-//! the place of a variant before it, one byte for whether there is something. Bytes are read from
-//! an iterator, so that they need not exist before they are asked for.
+//! A format without names, like bincode.
+//!
+//! Numbers are little endian. A list starts with its length, a variant is its index, and an option
+//! starts with one byte. The reader takes bytes from an iterator, so they do not have to exist
+//! before.
 #![allow(dead_code)]
 
 use serde::de::{DeserializeSeed, EnumAccess, IntoDeserializer, SeqAccess, VariantAccess, Visitor};
@@ -13,8 +15,8 @@ thread_local! {
     static NAMES: RefCell<Vec<&'static str>> = const { RefCell::new(Vec::new()) };
 }
 
-/// Runs a call. Returns the names of the structures and states that it wrote or read, in order, each
-/// before those of its parts.
+/// Runs a call. Returns the names of the structures and states that it wrote or read, in order. A
+/// name comes before those of its parts.
 pub fn names_in<T>(call: impl FnOnce() -> T) -> Vec<&'static str> {
     NAMES.take();
     call();
@@ -25,21 +27,21 @@ fn note(name: &'static str) {
     NAMES.with_borrow_mut(|names| names.push(name));
 }
 
-/// The bytes of an object.
+/// Returns the bytes of an object.
 pub fn to_bytes<T: Serialize>(object: &T) -> Result<Vec<u8>, Failure> {
     let mut bytes = Vec::new();
     object.serialize(Packer(&mut bytes))?;
     Ok(bytes)
 }
 
-/// The object that the next bytes say.
+/// Returns the object that the next bytes encode.
 pub fn from_bytes<'de, T: Deserialize<'de>>(
     bytes: impl IntoIterator<Item = u8>,
 ) -> Result<T, Failure> {
     T::deserialize(&mut Unpacker(bytes.into_iter()))
 }
 
-/// Why something is not written or read.
+/// The error of writing or reading.
 #[derive(Debug)]
 pub struct Failure(pub String);
 
@@ -72,7 +74,7 @@ impl Packer<'_> {
     }
 }
 
-/// The methods of a serializer for what no saved object has.
+/// The serializer methods that no saved object needs.
 macro_rules! not_packed {
     ($($method:ident($($kind:ty),*) -> $answer:ty;)*) => {$(
         fn $method(self $(, _: $kind)*) -> Result<$answer, Failure> {
@@ -211,7 +213,7 @@ impl ser::SerializeTuple for Packer<'_> {
     }
 }
 
-/// The fields of a structure, and how many are left of those that were announced.
+/// The fields of a structure, and the number of announced fields that remain.
 struct PackedFields<'a> {
     to: &'a mut Vec<u8>,
     left: usize,
@@ -323,7 +325,7 @@ impl<'de, I: Iterator<Item = u8>> Deserializer<'de> for &mut Unpacker<I> {
     }
 }
 
-/// The items of a list that are left.
+/// The remaining items of a list.
 struct Items<'a, I> {
     from: &'a mut Unpacker<I>,
     left: u64,
@@ -348,7 +350,7 @@ impl<'de, I: Iterator<Item = u8>> SeqAccess<'de> for Items<'_, I> {
     }
 }
 
-/// The place of a variant without content.
+/// The index of a variant without content.
 struct Place(u32);
 
 impl<'de> EnumAccess<'de> for Place {

@@ -1,5 +1,7 @@
-//! `#[derive(Error)]` for an enum of errors: each variant says its text by `#[error("..")]`, with its
-//! fields as `{0}`, `{1}` and so on. `Display` writes the text. No other form is accepted.
+//! `#[derive(Error)]` for an enum of errors.
+//!
+//! Each variant has the attribute `#[error("..")]` with its text, in which `{0}`, `{1}` and so on
+//! are its fields. `Display` writes the text. No other form is accepted.
 #![forbid(unsafe_code)]
 
 use proc_macro::{Delimiter, Group, TokenStream, TokenTree};
@@ -7,14 +9,14 @@ use std::iter::Peekable;
 
 type Tokens = Peekable<proc_macro::token_stream::IntoIter>;
 
-/// A variant: its name, how many fields it has, and the literal of its text.
+/// A variant: its name, the number of its fields, and the literal of its text.
 struct Variant {
     name: String,
     fields: usize,
     text: String,
 }
 
-/// Writes `Display` and `core::error::Error` for an enum of errors.
+/// Implements `Display` and `core::error::Error` for an enum of errors.
 #[proc_macro_derive(Error, attributes(error))]
 pub fn derive_error(input: TokenStream) -> TokenStream {
     match implementations(input) {
@@ -90,7 +92,7 @@ fn variants(body: Group) -> Result<Vec<Variant>, String> {
     Ok(found)
 }
 
-/// The literal of `#[error("..")]` among the attributes of a variant.
+/// Returns the literal of `#[error("..")]` from the attributes of a variant.
 fn text_of(tokens: &mut Tokens) -> Result<Option<String>, String> {
     let mut text = None;
     while matches!(tokens.peek(), Some(TokenTree::Punct(hash)) if hash.as_char() == '#') {
@@ -106,7 +108,7 @@ fn text_of(tokens: &mut Tokens) -> Result<Option<String>, String> {
     Ok(text)
 }
 
-/// The one literal in parentheses.
+/// Returns the only literal in parentheses.
 fn literal_in(group: TokenTree) -> Option<String> {
     let TokenTree::Group(group) = group else {
         return None;
@@ -118,7 +120,7 @@ fn literal_in(group: TokenTree) -> Option<String> {
     }
 }
 
-/// How many fields stand in the parentheses behind the name of a variant.
+/// Returns the number of fields in the parentheses after the name of a variant.
 fn fields_of(tokens: &mut Tokens) -> usize {
     let Some(TokenTree::Group(fields)) = tokens.peek() else {
         return 0;

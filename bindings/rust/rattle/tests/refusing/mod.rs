@@ -1,4 +1,4 @@
-//! A global allocator that counts the requests of a thread and can refuse one of them.
+//! A global allocator that counts the allocations of a thread and can fail one of them.
 
 use std::alloc::{GlobalAlloc, Layout, System};
 use std::cell::Cell;
@@ -10,14 +10,14 @@ thread_local! {
     static BLOCKS: Cell<i64> = const { Cell::new(0) };
 }
 
-/// The allocator of the system, except for the request that a test refuses.
+/// The system allocator, except for the allocation that a test fails.
 pub struct Refusing;
 
 #[global_allocator]
 static ALLOCATOR: Refusing = Refusing;
 
-/// Makes a call with its request of this number refused, counted from 1; 0 refuses none. Returns
-/// the result of the call and the number of its requests.
+/// Makes a call in which the allocation of this number fails. Numbers start at 1, and 0 fails none.
+/// Returns the result of the call and the number of its allocations.
 pub fn refusing<T>(number: u64, call: impl FnOnce() -> T) -> (T, u64) {
     REQUESTS.set(0);
     REFUSED.set(number);
@@ -31,7 +31,7 @@ pub fn blocks() -> i64 {
     BLOCKS.get()
 }
 
-/// Counts a request, and returns whether it is the refused one.
+/// Counts an allocation, and returns whether it must fail.
 fn is_refused() -> bool {
     REQUESTS.set(REQUESTS.get() + 1);
     REQUESTS.get() == REFUSED.get()
@@ -43,8 +43,8 @@ fn count_block(block: *mut u8, change: i64) {
     }
 }
 
-// SAFETY: each call is passed on to the allocator of the system, or refused with a null pointer,
-// which leaves the old block as it is.
+// SAFETY: each call is passed on to the system allocator, or fails with a null pointer, which
+// leaves the old block unchanged.
 unsafe impl GlobalAlloc for Refusing {
     unsafe fn alloc(&self, layout: Layout) -> *mut u8 {
         if is_refused() {
