@@ -65,7 +65,7 @@ NUMBERS = {"u8", "u16", "u32", "u64", "u128", "usize"}
 ASSOCIATED = {
     "BTreeMap::new", "BTreeSet::new", "Box::into_inner", "Box::new", "ExitCode::from", "Ord::cmp",
     "Ordering::Equal", "Ordering::Greater", "Ordering::Less", "Value::Null", "Value::as_u64", "Value::from",
-    "Value::try_from_str", "Vec::new", "u128::from", "u32::MAX", "u32::from", "u32::try_from", "u64::MAX",
+    "Value::try_from_str", "Vec::new", "Vec::with_capacity", "u128::from", "u32::MAX", "u32::from", "u32::try_from", "u64::MAX",
     "u64::from", "u8x16::from_slice", "u8x16::splat",
 }
 # Methods of types of other crates. Each was compared with the method of Rust.
@@ -73,7 +73,7 @@ METHODS = {
     "alloc", "and_then", "as_array", "as_object", "as_slice", "as_str", "as_u64", "checked_add", "checked_mul",
     "clone", "cmp", "contains", "copied", "copy_from_slice", "first", "first_chunk", "flush", "get", "ilog2", "insert",
     "into", "is_ascii_digit", "is_empty", "is_none", "is_null", "is_power_of_two", "is_some", "iter", "len", "max",
-    "min", "next", "ok", "ok_or", "pop_first", "push", "read", "remove", "saturating_add", "simd_eq", "stdin",
+    "min", "next", "ok", "ok_or", "pop", "pop_first", "push", "read", "remove", "saturating_add", "simd_eq", "split_first", "stdin",
     "stdout", "take", "to_bitmask", "trailing_zeros", "unwrap", "write_all",
 }
 MACROS = {"json", "unreachable"}

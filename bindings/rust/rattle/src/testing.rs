@@ -54,16 +54,6 @@ impl Env for HostRuntime {
     }
 }
 
-impl<T> Vec<T> {
-    /// Creates an empty vector with this capacity. Tests mark a point by this allocation, so a
-    /// compiler must not remove it.
-    pub fn with_capacity(_alloc: Global, room: usize) -> Result<Self, AllocError> {
-        let mut list = alloc::vec::Vec::new();
-        list.try_reserve_exact(room).map_err(|_| AllocError)?;
-        Ok(core::hint::black_box(list).into())
-    }
-}
-
 /// A string that reports a failed allocation.
 #[derive(Debug)]
 pub struct String(alloc::string::String);

@@ -1,4 +1,4 @@
-use crate::{AllocFailed, Global};
+use crate::{AllocError, AllocFailed, Global};
 use core::fmt;
 use core::ops::{Deref, DerefMut};
 
@@ -12,6 +12,14 @@ impl<T> Vec<T> {
         Vec(alloc::vec::Vec::new())
     }
 
+    /// Creates an empty vector with this capacity. Tests mark a point by this allocation, so a
+    /// compiler must not remove it.
+    pub fn with_capacity(_alloc: Global, capacity: usize) -> Result<Self, AllocError> {
+        let mut list = alloc::vec::Vec::new();
+        list.try_reserve_exact(capacity).map_err(|_| AllocError)?;
+        Ok(Vec(core::hint::black_box(list)))
+    }
+
     /// Appends a value, or returns it if the allocation fails.
     pub fn push(&mut self, value: T) -> Result<(), AllocFailed<T>> {
         if self.0.try_reserve(1).is_err() {
@@ -19,6 +27,11 @@ impl<T> Vec<T> {
         }
         self.0.push(value);
         Ok(())
+    }
+
+    /// Removes the last value and returns it, or `None` if there is none.
+    pub fn pop(&mut self) -> Option<T> {
+        self.0.pop()
     }
 
     /// Returns the values.

@@ -1,19 +1,24 @@
-//! Several requests at once, all or none.
-ghost use Rattle.std.specs.Prelude.{◌≡◌, ◌⊎◌, List, MatchResult};
+//! Several allocations in one call: all or none.
+ghost use Rattle.std.specs.Prelude.{◌≡◌, List, MatchResult};
 ghost use Rattle.vm_ranges.specs.Request.{Request};
 ghost use Rattle.vm_engine.specs.Address.{AddressState, IsAddressState};
 ghost use Rattle.vm_allocator.specs.Allocator.{state_of};
-ghost use Rattle.vm_allocator.specs.Several.{AllocatesEach, RefusesOne};
+ghost use Rattle.vm_allocator.specs.Several.{AllocatesEach, FailsAll};
 
 use super::AddressAllocator;
 use std::alloc::Global;
-use vm_ranges::{Constraint, Error, RangeInclusive, Result};
+use vm_ranges::{Constraint, RangeInclusive, Result};
 
 impl AddressAllocator {
-    /// The ranges of the requests in their order, each where `allocate` places it on what the ones before
-    /// it leave; all or none. Memory for the list is asked for first: `OutOfMemory`. If a request is
-    /// refused, its error is returned, and the ranges before it are given back, which needs no memory and
-    /// succeeds: the space and the held ranges are those from before.
+    /// Allocates a range for each request, in their order, and returns the ranges. Each range is where
+    /// [`allocate`](Self::allocate) places it after the requests before it.
+    ///
+    /// # Errors
+    ///
+    /// An error changes nothing: the ranges that were allocated so far are freed again. The height of
+    /// the tree can differ afterwards.
+    /// - `OutOfMemory` if the allocation of the list fails. This is checked first.
+    /// - The error of the first request that fails.
     pub fn allocate_all(
         &mut self,
         alloc: Global,
@@ -21,8 +26,7 @@ impl AddressAllocator {
     ) -> Result<Vec<RangeInclusive>>
         ensures answer { MatchResult result
             (λ ranges. AllocatesEach (state_of self.old) requests.now ranges.items (state_of self.new))
-            (λ error. (state_of self.new ≡ state_of self.old)
-            × ((error ≡ Error.OutOfMemory) ⊎ RefusesOne (state_of self.old) requests.now error)) }
+            (λ error. FailsAll (state_of self.old) requests.now error (state_of self.new)) }
         ensures state { IsAddressState (state_of self.new) }
     {
         self.recall_invariant();
@@ -36,7 +40,7 @@ impl AddressAllocator {
                     };
                 }
                 Err(error) => {
-                    self.take_back(&mut ranges);
+                    self.free_all(&mut ranges);
                     return Err(error);
                 }
             }
@@ -44,9 +48,9 @@ impl AddressAllocator {
         Ok(ranges)
     }
 
-    /// Gives ranges back, the last one first: where requests got them one after the other, the state is
-    /// the one from before.
-    fn take_back(&mut self, ranges: &mut Vec<RangeInclusive>)
+    /// Frees ranges that were allocated one after the other, the last one first. This leads back to
+    /// the state before their allocation.
+    fn free_all(&mut self, ranges: &mut Vec<RangeInclusive>)
         ensures undone { (before : AddressState) (requests : List Request) → IsAddressState before
             → AllocatesEach before requests ranges.old.items (state_of self.old)
             → state_of self.new ≡ before }

@@ -1,10 +1,14 @@
 // Written by bindings/erase from crates/vm_allocator/src/address_allocator.rt: do not edit.
 
-//! Ranges of one space. The space stands beside the tree, which tells it too, so that `base` and
-//! `end` are one read each; that the two agree is the invariant. Its fields are open inside the crate,
-//! for `saved`, and whoever puts them together proves the invariant. The plain calls are the counted
-//! ones without the count. That some calls always succeed follows from their answers, and is a clause
-//! of its own all the same: a monitor relies on it.
+//! An allocator of address ranges.
+//!
+//! The allocator stores its space next to the tree of blocks, so that `base` and `end` are one load
+//! each. The invariant states that the two agree. The fields are `pub(crate)` because `saved`
+//! builds allocators from values.
+//!
+//! `allocate` and `free` call the counted versions and drop the count. Some clauses follow from
+//! `answer`, and are there because callers rely on them: for example that some calls always
+//! succeed.
 
 use rattle::Global;
 use vm_engine::IntervalTree;
@@ -12,9 +16,12 @@ use vm_ranges::{AllocPolicy, Constraint, Error, RangeInclusive, Result};
 
 mod comparing;
 mod held_ranges;
+mod several;
 
-/// Gives out the ranges of one space of addresses. Two ranges held at one time share no address,
-/// each lies in the space, and none contains `u64::MAX`.
+/// Allocates ranges of addresses from one space.
+///
+/// Allocated ranges never overlap, each lies in the space, and none contains `u64::MAX`. A range
+/// includes both of its ends. Sizes and alignments are numbers of addresses.
 #[derive(Debug)]
 pub struct AddressAllocator {
     pub(crate) address_space: RangeInclusive,
@@ -22,14 +29,18 @@ pub struct AddressAllocator {
 }
 
 impl AddressAllocator {
-    /// The allocator of the `size` addresses from `base` on, with none held. In this order: a size
-    /// of 0 is `Underflow`, an end past `u64::MAX` is `Overflow`, and `OutOfMemory` comes last.
+    /// Creates an allocator for the `size` addresses starting at `base`. All of them are free.
+    ///
+    /// It allocates one node.
+    ///
+    /// # Errors
+    ///
+    /// In this order:
+    /// - `Underflow` if `size` is 0.
+    /// - `Overflow` if the last address would be past `u64::MAX`.
+    /// - `OutOfMemory` if the allocation of the node fails.
     pub fn new(alloc: Global, base: u64, size: u64) -> Result<Self> {
-        if size == 0 {
-            return Err(Error::Underflow);
-        }
-        let end = base.checked_add(size - 1).ok_or(Error::Overflow)?;
-        let address_space = RangeInclusive::new(base, end)?;
+        let address_space = space_from(base, size)?;
         let interval_tree = IntervalTree::new(alloc, address_space)?;
         Ok(AddressAllocator {
             address_space,
@@ -37,8 +48,37 @@ impl AddressAllocator {
         })
     }
 
-    /// A copy, whose tree has the same nodes. `OutOfMemory` where there is no memory for one of them;
-    /// the others are given back then.
+    /// Creates an allocator of the `size` addresses that start at `base`, with these ranges allocated.
+    /// They must be in increasing order.
+    ///
+    /// Its tree is as low as possible. It takes time linear in the number of ranges.
+    ///
+    /// # Errors
+    ///
+    /// In this order:
+    /// - `Underflow` if `size` is 0.
+    /// - `Overflow` if the space would end past `u64::MAX`.
+    /// - For the first range that cannot be allocated:
+    ///   - `ResourceNotAvailable` if it does not start after the end of the range before it.
+    ///   - `Overflow` if it starts at `u64::MAX`.
+    ///   - `ResourceNotAvailable` if it is outside the space.
+    ///   - `Overflow` if it ends at `u64::MAX`.
+    /// - `Overflow` if the ranges and the gaps together are 2^49 or more.
+    /// - `OutOfMemory` if the allocation of a node fails.
+    pub fn with_held(alloc: Global, base: u64, size: u64, held: &[RangeInclusive]) -> Result<Self> {
+        let address_space = space_from(base, size)?;
+        let interval_tree = IntervalTree::with_held(alloc, address_space, held)?;
+        Ok(AddressAllocator {
+            address_space,
+            interval_tree,
+        })
+    }
+
+    /// Returns a copy. Its tree has the same nodes, so both allocators have the same height.
+    ///
+    /// # Errors
+    ///
+    /// - `OutOfMemory` if the allocation of a node fails. The nodes copied so far are freed.
     pub fn try_clone(&self, alloc: Global) -> Result<Self> {
         Ok(AddressAllocator {
             address_space: self.address_space,
@@ -46,15 +86,33 @@ impl AddressAllocator {
         })
     }
 
-    /// Holds the `size` addresses at the place that the policy chooses, a multiple of `alignment`
-    /// from which on they are clear. In this order: size 0 is `InvalidSize(0)`; an alignment that is
-    /// no power of two is `InvalidAlignment`; for `ExactMatch` a start that is no multiple of the
-    /// alignment is `UnalignedAddress`, `u64::MAX` is `Overflow`, a start outside the space is
-    /// `ResourceNotAvailable`, a range that passes `u64::MAX` is `Overflow`, and a range that is held
-    /// as it is is `InvalidStateTransition`; no place at all is `ResourceNotAvailable`; a range that
-    /// ends at `u64::MAX` is `Overflow`, also where there is another place. Only where the place
-    /// leaves a part of its gap over come `Overflow` for a tree of height 48 or more, which
-    /// takes more than 6 * 10^9 held ranges, and `OutOfMemory`. A refusal changes nothing.
+    /// Allocates `size` free addresses that start at a multiple of `alignment`, and returns their
+    /// range.
+    ///
+    /// `FirstMatch` chooses the lowest such range and `LastMatch` the highest. `ExactMatch(start)`
+    /// chooses the range that starts at `start`.
+    ///
+    /// A gap is a run of free addresses with no free address next to it. A range that fills its gap
+    /// is allocated without memory, and always succeeds if it ends below `u64::MAX`. A range that
+    /// leaves a part of its gap free splits the gap, which allocates one or two nodes.
+    ///
+    /// # Errors
+    ///
+    /// An error changes nothing. In this order:
+    /// - `InvalidSize(0)` if `size` is 0.
+    /// - `InvalidAlignment` if `alignment` is not a power of two.
+    /// - For `ExactMatch(start)`:
+    ///   - `UnalignedAddress` if `start` is not a multiple of `alignment`.
+    ///   - `Overflow` if `start` is `u64::MAX`.
+    ///   - `ResourceNotAvailable` if `start` is outside the space.
+    ///   - `Overflow` if the range would end past `u64::MAX`.
+    ///   - `InvalidStateTransition` if exactly this range is already allocated.
+    /// - `ResourceNotAvailable` if there is no such range.
+    /// - `Overflow` if the chosen range ends at `u64::MAX`, even if another range is free.
+    /// - Only if the range splits its gap:
+    ///   - `Overflow` if the height of the tree is 48 or more. This takes more than 6 * 10^9
+    ///     allocated ranges.
+    ///   - `OutOfMemory` if the allocation of a node fails.
     #[allow(clippy::let_and_return)]
     pub fn allocate(
         &mut self,
@@ -67,14 +125,26 @@ impl AddressAllocator {
         answer
     }
 
-    /// Does what `allocate` does, and answers besides how many nodes of the tree it entered. With the
-    /// height h and k held ranges before, these are at most 8h + 8 for `ExactMatch` and at most
-    /// 2k + 1 + 8h + 8 for the other policies, and none where the request makes no sense; a success
-    /// enters one at least, and one that leaves a part of its gap over h / 2 at least. Where v gaps
-    /// are long enough and have no place all the same, the other policies enter at most
-    /// h(v + 1) + 8h + 8, and at most hv where they answer `ResourceNotAvailable`; at alignment 1 no
-    /// gap is such. The same holds of w in the place of v, where w gaps have a multiple of the
-    /// alignment and no place: these are no more than the multiples in the space.
+    /// Allocates like [`allocate`](Self::allocate), and also returns the number of tree nodes that
+    /// the call entered.
+    ///
+    /// Let h be the [`height`](Self::height) and k the number of allocated ranges before the call.
+    /// The count is
+    /// - at most 8h + 8 for `ExactMatch`.
+    /// - at most 2k + 1 + 8h + 8 for `FirstMatch` and `LastMatch`.
+    /// - at least 1 for a success, and at least h / 2 for a success that splits its gap.
+    /// - 0 for `InvalidSize`, `InvalidAlignment` and `UnalignedAddress`.
+    ///
+    /// A search enters a subtree only if one of its gaps is long enough and one has a multiple of
+    /// `alignment`. So `FirstMatch` and `LastMatch` enter at most h(v + 1) + 8h + 8 nodes, and at
+    /// most hv if they return `ResourceNotAvailable`. Here v is the lesser of two numbers:
+    /// - The gaps that are long enough but misaligned. This number is 0 if `alignment` is 1.
+    /// - The gaps that have a multiple of `alignment` but are too short after it. There are at most
+    ///   as many as multiples of `alignment` in the space.
+    ///
+    /// # Errors
+    ///
+    /// Those of [`allocate`](Self::allocate), in the same order.
     pub fn allocate_counted(
         &mut self,
         alloc: Global,
@@ -88,32 +158,61 @@ impl AddressAllocator {
         }
     }
 
-    /// Gives a held range back. Any other range is `ResourceNotAvailable`, a part of a held one and
-    /// a clear one among them. Takes no memory, and a refusal changes nothing.
+    /// Frees an allocated range.
+    ///
+    /// It does not allocate, and always succeeds for an allocated range.
+    ///
+    /// # Errors
+    ///
+    /// An error changes nothing.
+    /// - `ResourceNotAvailable` if exactly this range is not allocated. A part of an allocated
+    ///   range cannot be freed.
     pub fn free(&mut self, key: &RangeInclusive) -> Result<()> {
         self.free_counted(key).0
     }
 
-    /// Does what `free` does, and answers besides how many nodes of the tree it entered: with the
-    /// height h before at most 8h + 8, and always one at least.
+    /// Frees like [`free`](Self::free), and also returns the number of tree nodes that the call
+    /// entered.
+    ///
+    /// The count is at least 1, and at most 8h + 8 if h is the [`height`](Self::height) before the
+    /// call.
+    ///
+    /// # Errors
+    ///
+    /// Those of [`free`](Self::free).
     pub fn free_counted(&mut self, key: &RangeInclusive) -> (Result<()>, u64) {
         self.interval_tree.free_counted(key)
     }
 
-    /// The height of the tree, which is balanced: with k held ranges its
-    /// height h has F(h + 2) at most 2k + 2, where F is the sequence 1, 1, 2, 3, 5 of Fibonacci, and is
-    /// 49 at most.
+    /// Returns the height of the tree: the number of nodes on its longest path, at most 49.
+    ///
+    /// The tree is balanced. With k allocated ranges its height h satisfies F(h + 2) <= 2k + 2,
+    /// where F is the Fibonacci sequence 1, 1, 2, 3, 5.
     pub fn height(&self) -> u64 {
         self.interval_tree.height()
     }
 
-    /// The first address of the space.
+    /// Returns the first address of the space.
     pub fn base(&self) -> u64 {
         self.address_space.start()
     }
 
-    /// The last address of the space.
+    // Proof: makes the invariant of the state available to the caller. It does nothing when it
+    // runs.
+
+    /// Returns the last address of the space.
     pub fn end(&self) -> u64 {
         self.address_space.end()
     }
+}
+
+/// Returns the range of the `size` addresses that start at `base`.
+///
+/// Its errors are `Underflow` for size 0, and `Overflow` if the range would end past `u64::MAX`.
+fn space_from(base: u64, size: u64) -> Result<RangeInclusive> {
+    if size == 0 {
+        return Err(Error::Underflow);
+    }
+    let end = base.checked_add(size - 1).ok_or(Error::Overflow)?;
+    RangeInclusive::new(base, end)
 }

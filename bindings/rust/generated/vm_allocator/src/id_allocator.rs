@@ -1,24 +1,29 @@
 // Written by bindings/erase from crates/vm_allocator/src/id_allocator.rt: do not edit.
 
-//! Ids of one range: those handed out so far lie below the next one, and those given back stand in a
-//! set, the least first. Only giving back and cloning ask for memory.
+//! An allocator of ids from a range.
+//!
+//! The ids below the next id were allocated at some time. A set contains the ids that were freed
+//! since. Only freeing and cloning allocate memory.
 
-use rattle::BTreeSet;
 use rattle::Global;
+use rattle::BTreeSet;
 use vm_ranges::{Error, Result};
 
-/// Gives out the ids of a range, each to one holder at a time.
+/// Allocates ids from a range, the lowest free id first.
+///
+/// An id is never allocated twice at the same time.
 #[derive(Debug)]
 pub struct IdAllocator {
     pub(crate) range_base: u32,
-    // The least id that was never handed out; none where that would pass `u32::MAX`.
+    // The lowest id that was never allocated, or `None` if it would be past `u32::MAX`.
     pub(crate) next_id: Option<u32>,
     pub(crate) range_end: u32,
-    // The ids that were handed out and are not held any more.
+    // The ids that were allocated and are free now.
     pub(crate) freed_ids: BTreeSet<u32>,
 }
 
-/// The next id, where it is one of the range up to `range_end`.
+/// Returns the next id. Returns `Overflow` if there is none, and `ResourceNotAvailable` if it is
+/// past `range_end`.
 fn next_in_range(next_id: Option<u32>, range_end: u32) -> Result<u32> {
     match next_id {
         None => Err(Error::Overflow),
@@ -27,7 +32,8 @@ fn next_in_range(next_id: Option<u32>, range_end: u32) -> Result<u32> {
     }
 }
 
-/// The bound of the ids handed out: no id from there on was.
+/// Returns the bound of the ids: an id of the range was allocated at some time if and only if it is
+/// below the bound.
 pub(crate) fn bound_of(next: Option<u32>, end: u32) -> u64 {
     match next {
         None => u64::from(end) + 1,
@@ -36,9 +42,14 @@ pub(crate) fn bound_of(next: Option<u32>, end: u32) -> u64 {
 }
 
 impl IdAllocator {
-    /// An allocator of the ids from `range_base` to `range_end`, both included, none of them handed
-    /// out yet. `InvalidRange(range_base, range_end)` where the end is below the base. It takes no
-    /// memory.
+    /// Creates an allocator for the ids from `range_base` to `range_end`, both included. All of
+    /// them are free.
+    ///
+    /// It does not allocate memory.
+    ///
+    /// # Errors
+    ///
+    /// - `InvalidRange(range_base, range_end)` if `range_end` is below `range_base`.
     pub fn new(alloc: Global, range_base: u32, range_end: u32) -> Result<Self> {
         if range_end < range_base {
             return Err(Error::InvalidRange(range_base.into(), range_end.into()));
@@ -51,10 +62,15 @@ impl IdAllocator {
         })
     }
 
-    /// A copy: the same range, held ids and ids ever handed out. `OutOfMemory` where there is no memory
-    /// for it. The ids given back ask the allocator that they came with: their own `clone` promises the
-    /// same set, where a new one would promise the same members.
+    /// Returns a copy. It has the same range, the same allocated ids and the same ids that were
+    /// allocated at some time.
+    ///
+    /// # Errors
+    ///
+    /// - `OutOfMemory` if an allocation of memory fails.
     pub fn try_clone(&self, _alloc: Global) -> Result<Self> {
+        // The set is cloned with its own allocator, because the contract of `clone` promises an
+        // equal set. A new set would only have equal members.
         let freed_ids = self.freed_ids.clone()?;
         Ok(IdAllocator {
             range_base: self.range_base,
@@ -64,8 +80,15 @@ impl IdAllocator {
         })
     }
 
-    /// Takes the least id of the range that is not held. Where all are held, `Overflow` in a range up
-    /// to `u32::MAX`, and else `ResourceNotAvailable`. It takes no memory.
+    /// Allocates the lowest free id of the range, and returns it.
+    ///
+    /// It does not allocate memory, and always succeeds if an id is free.
+    ///
+    /// # Errors
+    ///
+    /// An error changes nothing.
+    /// - `Overflow` if all ids are allocated and the range ends at `u32::MAX`.
+    /// - `ResourceNotAvailable` if all ids are allocated and the range ends below `u32::MAX`.
     pub fn allocate_id(&mut self) -> Result<u32> {
         if let Some(id) = self.freed_ids.pop_first() {
             return Ok(id);
@@ -75,7 +98,12 @@ impl IdAllocator {
         Ok(id)
     }
 
-    /// What `allocate_id` would answer, its refusals included; nothing is taken.
+    /// Returns the id that [`allocate_id`](Self::allocate_id) would allocate, and does not allocate
+    /// it.
+    ///
+    /// # Errors
+    ///
+    /// Those of [`allocate_id`](Self::allocate_id).
     pub fn peek_id(&self) -> Result<u32> {
         match self.freed_ids.first() {
             Some(id) => Ok(*id),
@@ -83,21 +111,28 @@ impl IdAllocator {
         }
     }
 
-    /// Whether the id is held. No id outside the range is.
+    /// Returns whether the id is allocated. Returns `false` for an id outside the range.
     pub fn is_allocated(&self, id: u32) -> bool {
         self.was_allocated(id) && !self.freed_ids.contains(&id)
     }
 
-    /// How many ids are held. It takes no memory, and looks at none of them.
+    /// Returns the number of allocated ids.
+    ///
+    /// It does not visit the ids, and does not allocate memory.
     pub fn held_count(&self) -> u64 {
         let ever_allocated = bound_of(self.next_id, self.range_end) - u64::from(self.range_base);
         ever_allocated - self.freed_ids.len() as u64
     }
 
-    /// Gives back an id that is held, and answers it. In this order: `OutOfRange(id)` where it is
-    /// outside the range, `NeverAllocated(id)` where it was never handed out, `AlreadyReleased(id)`
-    /// where it is not held any more, and `OutOfMemory` where a request for memory was refused. A
-    /// refusal changes nothing.
+    /// Frees an allocated id, and returns it.
+    ///
+    /// # Errors
+    ///
+    /// An error changes nothing. In this order:
+    /// - `OutOfRange(id)` if the id is outside the range.
+    /// - `NeverAllocated(id)` if the id was never allocated.
+    /// - `AlreadyReleased(id)` if the id was freed and was not allocated since.
+    /// - `OutOfMemory` if an allocation of memory fails.
     pub fn free_id(&mut self, id: u32) -> Result<u32> {
         if !self.id_in_range(id) {
             return Err(Error::OutOfRange(id));
@@ -105,7 +140,7 @@ impl IdAllocator {
         if !self.was_allocated(id) {
             return Err(Error::NeverAllocated(id));
         }
-        // Only an id that is not in the set yet asks for memory.
+        // The set allocates memory only for an id that it does not contain yet.
         if self.freed_ids.insert(id)? {
             Ok(id)
         } else {
@@ -113,12 +148,12 @@ impl IdAllocator {
         }
     }
 
-    /// Whether the id is one of the range.
+    /// Returns whether the id is in the range.
     fn id_in_range(&self, id: u32) -> bool {
         self.range_base <= id && id <= self.range_end
     }
 
-    /// Whether the id was handed out at some time.
+    /// Returns whether the id was allocated at some time.
     fn was_allocated(&self, id: u32) -> bool {
         match self.next_id {
             Some(next_id) => self.range_base <= id && id < next_id,

@@ -1,6 +1,9 @@
 // Written by bindings/erase from crates/vm_allocator/src/lib.rt: do not edit.
 
-//! Gives out ranges of addresses and ids.
+//! Allocators of address ranges and of ids.
+//!
+//! - [`AddressAllocator`] allocates ranges of 64-bit addresses from one space.
+//! - [`IdAllocator`] allocates 32-bit ids from a range, the lowest free id first.
 
 #![forbid(unsafe_code)]
 #![no_std]
@@ -14,5 +17,5 @@ pub use address_allocator::AddressAllocator;
 pub use id_allocator::IdAllocator;
 pub use vm_engine::HeldRanges;
 pub use vm_ranges::{
-    AllocPolicy, Constraint, Error, RangeInclusive, Result, ValueError, DEFAULT_CONSTRAINT_ALIGN,
+    AllocPolicy, Constraint, DEFAULT_CONSTRAINT_ALIGN, Error, RangeInclusive, Result, ValueError,
 };

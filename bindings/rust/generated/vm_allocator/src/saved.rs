@@ -1,7 +1,6 @@
 // Written by bindings/erase from crates/vm_allocator/src/saved.rt: do not edit.
 
-//! Saved values of both allocators as they are written, and those of address allocators as the Rust
-//! crate wrote them.
+//! Saved values of both allocators, and of the address allocators that the Rust crate saved.
 mod allocator;
 mod ids;
 mod repaired;

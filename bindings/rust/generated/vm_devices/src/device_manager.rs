@@ -1,17 +1,20 @@
 // Written by bindings/erase from crates/vm_devices/src/device_manager.rt: do not edit.
 
-//! The manager of devices. Ids, ranges and the table that pairs them change together or not at all:
-//! what may be refused comes first, and what follows it is always done.
+//! The manager of devices.
+//!
+//! Ids, ranges and the table of devices change together or not at all. Calls that can fail are
+//! first. The calls after them, and the call that undoes an allocation, always succeed.
 
 use crate::device_slot::DeviceSlot;
-use rattle::BTreeMap;
 use rattle::Global;
+use rattle::BTreeMap;
 use vm_allocator::{AddressAllocator, AllocPolicy, Error, IdAllocator, RangeInclusive, Result};
 
 mod saved;
 
-/// Gives each device an id and a range of addresses, both or neither. No two devices share an id or
-/// an address.
+/// Reserves an id and a range of addresses for each device, both or neither.
+///
+/// No two devices share an id or an address.
 #[derive(Debug)]
 pub struct DeviceManager {
     id_allocator: IdAllocator,
@@ -21,10 +24,16 @@ pub struct DeviceManager {
 }
 
 impl DeviceManager {
-    /// A manager without devices, for the ids from `id_lo` to `id_hi`, both included, and for the
-    /// `size` addresses from `base` on. In this order: `InvalidRange(id_lo, id_hi)` where the last id
-    /// is below the first, `Underflow` for a size of 0, `Overflow` for an end past `u64::MAX`, and
-    /// `OutOfMemory`.
+    /// Creates a manager without devices. It has the ids from `id_lo` to `id_hi`, both included,
+    /// and the `size` addresses starting at `base`.
+    ///
+    /// # Errors
+    ///
+    /// In this order:
+    /// - `InvalidRange(id_lo, id_hi)` if `id_hi` is below `id_lo`.
+    /// - `Underflow` if `size` is 0.
+    /// - `Overflow` if the last address would be past `u64::MAX`.
+    /// - `OutOfMemory` if an allocation fails.
     pub fn new(alloc: Global, id_lo: u32, id_hi: u32, base: u64, size: u64) -> Result<Self> {
         let id_allocator = IdAllocator::new(alloc, id_lo, id_hi)?;
         let mmio_allocator = AddressAllocator::new(alloc, base, size)?;
@@ -35,10 +44,18 @@ impl DeviceManager {
         })
     }
 
-    /// Gives a new device the least id that is not held, and the `size` addresses at the place that
-    /// the policy chooses, a multiple of `align`. In this order: `Overflow` or `ResourceNotAvailable`
-    /// where all ids are held, as `IdAllocator::allocate_id` says; what `AddressAllocator::allocate`
-    /// refuses; and `OutOfMemory`. A refusal leaves ids, ranges and devices as they were.
+    /// Reserves the lowest free id and `size` free addresses for a new device, and returns both.
+    ///
+    /// The addresses start at a multiple of `align`, and `policy` chooses them as in
+    /// `AddressAllocator::allocate`.
+    ///
+    /// # Errors
+    ///
+    /// An error leaves ids, ranges and devices unchanged. In this order:
+    /// - `Overflow` if all ids are allocated and their range ends at `u32::MAX`.
+    /// - `ResourceNotAvailable` if all ids are allocated and their range ends below `u32::MAX`.
+    /// - The errors of `AddressAllocator::allocate`, in the order of its documentation.
+    /// - `OutOfMemory` if an allocation for the table of devices fails.
     pub fn reserve(
         &mut self,
         alloc: Global,
@@ -49,29 +66,36 @@ impl DeviceManager {
         let id = self.id_allocator.peek_id()?;
         let range = self.mmio_allocator.allocate(alloc, size, align, policy)?;
         if let Err(refused) = self.slots.insert(id, range) {
-            // A held range is always freed.
+            // Freeing an allocated range always succeeds.
             let _ = self.mmio_allocator.free(&range);
             return Err(refused.into());
         }
-        // The id that was foretold.
+        // `peek_id` returned this id, so this succeeds.
         let _ = self.id_allocator.allocate_id();
         Ok(DeviceSlot { id, range })
     }
 
-    /// Gives back the id and the range of a device. `NeverAllocated(id)` where no device has the id,
-    /// and then `OutOfMemory`. A refusal leaves ids, ranges and devices as they were.
+    /// Releases a device: frees its id and its range.
+    ///
+    /// # Errors
+    ///
+    /// An error leaves ids, ranges and devices unchanged. In this order:
+    /// - `NeverAllocated(id)` if no device has the id.
+    /// - `OutOfMemory` if an allocation of memory fails.
     pub fn release(&mut self, id: u32) -> Result<()> {
         let Some(range) = self.slot(id) else {
             return Err(Error::NeverAllocated(id));
         };
-        // This alone may be refused, for memory, so it comes first.
+        // Only this call can fail (out of memory), so it is first.
         self.id_allocator.free_id(id)?;
         let _ = self.mmio_allocator.free(&range);
         self.slots.remove(&id);
         Ok(())
     }
 
-    /// The range of the device with this id, where there is one. It takes no memory.
+    /// Returns the range of the device with this id, or `None` if no device has it.
+    ///
+    /// It does not allocate.
     pub fn slot(&self, id: u32) -> Option<RangeInclusive> {
         self.slots.get(&id).copied()
     }

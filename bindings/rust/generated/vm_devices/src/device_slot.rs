@@ -1,9 +1,9 @@
 // Written by bindings/erase from crates/vm_devices/src/device_slot.rt: do not edit.
 
-//! What a device is known by.
+//! The id and the range of a device.
 use vm_allocator::RangeInclusive;
 
-/// What a device holds: an id, and a range of addresses.
+/// The id and the range of addresses of a device.
 #[derive(Clone, Copy, Debug, PartialEq, Eq)]
 pub struct DeviceSlot {
     pub id: u32,

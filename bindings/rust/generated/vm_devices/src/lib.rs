@@ -1,6 +1,6 @@
 // Written by bindings/erase from crates/vm_devices/src/lib.rt: do not edit.
 
-//! Devices of a virtual machine: each has an id and a range of addresses, both or neither.
+//! Devices of a virtual machine. Each has an id and a range of addresses, both or neither.
 
 #![forbid(unsafe_code)]
 #![no_std]

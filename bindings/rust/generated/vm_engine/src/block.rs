@@ -1,12 +1,13 @@
 // Written by bindings/erase from crates/vm_engine/src/block.rt: do not edit.
 
-//! A block of a space.
+//! A block of an address space: a range with its state.
 
 use core::cmp::Ordering;
 use vm_ranges::{NodeState, RangeInclusive};
 
-/// A range of addresses, and whether it is held. Blocks are ordered by start, then by end, then by
-/// state.
+/// A range of addresses with its state, allocated or free.
+///
+/// Blocks are ordered by start, then by end, then by state.
 #[derive(Clone, Copy, Debug, PartialEq, Eq)]
 pub(crate) struct Block {
     pub(crate) key: RangeInclusive,
@@ -14,7 +15,7 @@ pub(crate) struct Block {
 }
 
 impl Ord for Block {
-    /// By start, then by end, then by state.
+    /// Compares by start, then by end, then by state.
     fn cmp(&self, other: &Block) -> Ordering {
         match self.key.cmp(&other.key) {
             Ordering::Equal => self.state.cmp(&other.state),
@@ -24,7 +25,7 @@ impl Ord for Block {
 }
 
 impl PartialOrd for Block {
-    /// As `cmp` compares.
+    /// Compares like `cmp`.
     fn partial_cmp(&self, other: &Block) -> Option<Ordering> {
         Some(self.cmp(other))
     }

@@ -1,56 +1,71 @@
 // Written by bindings/erase from crates/vm_engine/src/interval_tree.rt: do not edit.
 
-//! The blocks of a space in a balanced tree: which place a request gets (`placement`), how the range
-//! there is held (`holding`), how a held one is given back (`release`), which are held
-//! (`held_ranges`), and how two trees compare (`comparing`).
+//! The blocks of an address space in a balanced tree.
 //!
-//! A counted call is a counter at 0, what takes the counter (`allocate_inner`, `release`), and the counter; a
-//! plain call is the counted one without the count. So that the counter has room, as a tree of height
-//! 49 has fewer than 2^49 nodes, is shown once, and no caller has a condition.
+//! - `placement` chooses the range of a request.
+//! - `allocation` allocates the chosen range.
+//! - `deallocation` frees an allocated range.
+//! - `held_ranges` iterates over the allocated ranges.
+//! - `comparing` compares two trees.
+//! - `counted` has the calls that count the nodes that they enter.
+//!
+//! A counted call passes a counter at 0 to `allocate_inner` or `free_inner`, and returns the final
+//! count. A plain call makes the counted call and drops the count. A tree of height 49 has fewer
+//! than 2^49 nodes, so a counter that starts at 0 never overflows. This is proved once, so callers
+//! have no condition on it.
 
-use crate::node::walks::copying::copy;
-use crate::node::walks::Walk;
-use crate::node::{Child, InnerNode};
-use crate::Steps;
 use rattle::Box;
+use crate::Steps;
+use crate::node::walks::Walk;
+use crate::node::walks::copying::copy;
+use crate::node::{Child, InnerNode};
 use rattle::Global;
 use vm_ranges::{Constraint, NodeState, RangeInclusive, Result};
 
 mod allocation;
+mod building;
 mod comparing;
 pub(crate) mod counted;
 mod deallocation;
 pub(crate) mod held_ranges;
 pub(crate) mod placement;
 
-/// The blocks of a space of addresses, in a balanced tree.
+/// The blocks of an address space, in a balanced tree.
 #[derive(Debug)]
 pub struct IntervalTree {
     pub(crate) root: Child,
 }
 
 impl IntervalTree {
-    /// The tree of the space `key`, with nothing held. `OutOfMemory` where there is no memory for its
-    /// one node.
+    /// Creates the tree of the space `key`. The whole space is free.
+    ///
+    /// It allocates one node.
+    ///
+    /// # Errors
+    ///
+    /// - `OutOfMemory` if the allocation of the node fails.
     pub fn new(alloc: Global, key: RangeInclusive) -> Result<Self> {
         let node = Box::new(alloc, InnerNode::new(key, NodeState::Free))?;
         Ok(IntervalTree { root: Some(node) })
     }
 
-    /// A copy, node for node. `OutOfMemory` where there is no memory for one of them; the others are
-    /// given back then.
+    /// Returns a copy with the same nodes.
+    ///
+    /// # Errors
+    ///
+    /// - `OutOfMemory` if the allocation of a node fails. The nodes copied so far are freed.
     pub fn try_clone(&self, alloc: Global) -> Result<Self> {
         Ok(IntervalTree {
             root: Some(copy(self.root(), alloc)?),
         })
     }
 
-    /// The walk over the blocks.
+    /// Returns an iterator over the blocks, from the lowest to the highest.
     fn walk(&self) -> Walk<'_> {
         Walk::new(&self.root)
     }
 
-    /// The root, which is always there.
+    /// Returns the root. A tree is never empty.
     pub(crate) fn root(&self) -> &InnerNode {
         let Some(root) = &self.root else {
             unreachable!()
@@ -58,12 +73,14 @@ impl IntervalTree {
         root
     }
 
-    /// The height of the tree.
+    /// Returns the height of the tree: the number of nodes on its longest path. It is at most 49.
     pub fn height(&self) -> u64 {
         self.root().height()
     }
 
-    /// `allocate`, which adds the nodes that it enters to a counter at 0.
+    // Proof: makes the invariant of the tree available to the caller. It does nothing when it runs.
+
+    /// Allocates like `allocate`, and adds the number of entered nodes to a counter at 0.
     fn allocate_inner(
         &mut self,
         alloc: Global,
@@ -74,18 +91,42 @@ impl IntervalTree {
         self.allocate_chosen(alloc, choice, count)
     }
 
-    /// Holds the range at the place that the policy chooses. In this order: where there is no such
-    /// place `ResourceNotAvailable`, or for `ExactMatch` the first of its faults; `Overflow` where the
-    /// range ends at `u64::MAX`; and where a part of its gap is left, `Overflow` for a tree of height
-    /// 48 or more, and `OutOfMemory`. A refusal changes nothing.
+    /// Allocates `size` free addresses that start at a multiple of the constraint's alignment, and
+    /// returns their range.
+    ///
+    /// `FirstMatch` chooses the lowest range that fits and `LastMatch` the highest.
+    /// `ExactMatch(start)` chooses the range at `start`.
+    ///
+    /// A range that fills its free block is allocated without memory. Any other range splits its
+    /// free block, which allocates one or two nodes.
+    ///
+    /// # Errors
+    ///
+    /// An error changes nothing. In this order:
+    /// - For `ExactMatch(start)`:
+    ///   - `Overflow` if `start` is `u64::MAX`.
+    ///   - `ResourceNotAvailable` if `start` is outside the space.
+    ///   - `Overflow` if the range would end past `u64::MAX`.
+    ///   - `InvalidStateTransition` if exactly this range is already allocated.
+    /// - `ResourceNotAvailable` if there is no free range that fits.
+    /// - `Overflow` if the chosen range ends at `u64::MAX`.
+    /// - Only if the range splits its free block:
+    ///   - `Overflow` if the height of the tree is 48 or more.
+    ///   - `OutOfMemory` if the allocation of a node fails.
     #[allow(clippy::let_and_return)]
     pub fn allocate(&mut self, alloc: Global, constraint: Constraint) -> Result<RangeInclusive> {
         let answer = self.allocate_counted(alloc, constraint).0;
         answer
     }
 
-    /// Gives a held range back, and joins its addresses with the clear ones on both sides. Any other
-    /// range is `ResourceNotAvailable`. It takes no memory, and a refusal changes nothing.
+    /// Frees an allocated range, and joins it with the free blocks on both sides.
+    ///
+    /// It does not allocate.
+    ///
+    /// # Errors
+    ///
+    /// An error changes nothing.
+    /// - `ResourceNotAvailable` if exactly this range is not allocated.
     pub fn free(&mut self, key: &RangeInclusive) -> Result<()> {
         self.free_counted(key).0
     }

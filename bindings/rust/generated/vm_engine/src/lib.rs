@@ -1,6 +1,13 @@
 // Written by bindings/erase from crates/vm_engine/src/lib.rt: do not edit.
 
-//! The balanced tree that holds the blocks of a space.
+//! A balanced tree of the blocks of an address space.
+//!
+//! A block is a range of addresses that is allocated as a whole, or free as a whole. The blocks of
+//! a tree cover the whole space, and two neighbours are never both free.
+//!
+//! - [`IntervalTree`] allocates and frees ranges.
+//! - [`HeldRanges`] iterates over the allocated ranges.
+//! - [`decode_node`] reads the fields of a saved node.
 
 #![forbid(unsafe_code)]
 #![no_std]
@@ -11,7 +18,7 @@ mod node;
 mod ordering;
 mod saved;
 
+pub use interval_tree::IntervalTree;
 use interval_tree::counted::Steps;
 pub use interval_tree::held_ranges::HeldRanges;
-pub use interval_tree::IntervalTree;
-pub use saved::node::{decode_node, SavedNode};
+pub use saved::node::{SavedNode, decode_node};

@@ -1,17 +1,20 @@
 // Written by bindings/erase from crates/vm_engine/src/node.rt: do not edit.
 
-//! An AVL tree of blocks. Each function in here that calls itself counts the nodes that it enters:
-//! `count` rises by one for each, in `enter` alone. A node is seen as a tree without pointers, so
-//! that its blocks, its height and its balance are functions of that value, and 'unchanged' is an
-//! equation.
+//! An AVL tree of blocks.
+//!
+//! Each recursive function in this module that takes a counter counts the nodes that it enters,
+//! with one call of `enter` for each node.
+//!
+//! The model of a node is a tree without pointers (`Shape`). The blocks, the height and the balance
+//! of a tree are functions of that value, so "unchanged" is an equation.
 
 use rattle::Box;
 mod balance;
+pub(crate) mod delete;
 mod find;
 mod link;
 pub(crate) mod neighbours;
 pub(crate) mod places;
-pub(crate) mod remove;
 pub(crate) mod rewrite;
 pub(crate) mod split;
 mod summary;
@@ -23,10 +26,14 @@ use self::summary::free_summary_of;
 use rattle::{AllocError, Global};
 use vm_ranges::{NodeState, RangeInclusive};
 
-/// A node of the tree, with the tree below it: keys in order without an address in common, the
-/// heights of its children at most one apart, its own height kept, the length of the longest free block
-/// of its tree, 0 where it has none, and how many of the 64 alignments have a multiple in a free block
-/// of its tree. That is a byte beside the state, so that a node has 72.
+/// A node with its subtree.
+///
+/// - The keys of the subtree are in order and do not overlap.
+/// - The heights of both children differ by at most one.
+/// - `height` is the height of the subtree.
+/// - `max_free` is the length of the longest free block in the subtree, or 0 if there is none.
+/// - `alignments` is the number of the 64 alignments that have a multiple in a free block of the
+///   subtree. It is one byte next to the state, so a node has 72 bytes.
 #[derive(Debug)]
 pub(crate) struct InnerNode {
     key: RangeInclusive,
@@ -38,14 +45,14 @@ pub(crate) struct InnerNode {
     max_free: u64,
 }
 
-/// No tree is higher.
+/// The height of the highest tree.
 pub(crate) const MAX_HEIGHT: u64 = 49;
 
-/// A place for a child.
+/// A link to a child, or `None` if the child is absent.
 pub(crate) type Child = Option<Box<InnerNode>>;
 
 impl InnerNode {
-    /// A node without children.
+    /// Creates a node without children.
     pub(crate) fn new(key: RangeInclusive, node_state: NodeState) -> InnerNode {
         let own = free_summary_of(&key, node_state);
         InnerNode {
@@ -59,8 +66,10 @@ impl InnerNode {
         }
     }
 
-    /// A node over children whose heights are at most one apart, and between whose keys its own lies,
-    /// with what it keeps computed over them. `OutOfMemory` where there is no memory for it.
+    /// Allocates a node with these children, and computes its cached summary.
+    ///
+    /// The heights of the children differ by at most one, and the key lies between their keys. It
+    /// returns an error if the allocation fails.
     pub(crate) fn with_children(
         alloc: Global,
         left: Child,
@@ -72,23 +81,25 @@ impl InnerNode {
         Ok(fork(left, middle, right))
     }
 
-    /// The key of this node.
+    /// Returns the key of this node.
     pub(crate) fn key(&self) -> RangeInclusive {
         self.key
     }
 
-    /// The state of this node.
+    /// Returns the state of this node.
     pub(crate) fn state(&self) -> NodeState {
         self.node_state
     }
 
-    /// The height of the tree from here on.
+    /// Returns the height of the subtree.
     pub(crate) fn height(&self) -> u64 {
         self.height
     }
 }
 
-/// The height of a child, 0 where it is absent.
+// Proof: makes the invariant of the subtree available to the caller. It does nothing when it runs.
+
+/// Returns the height of a child, or 0 if the child is absent.
 #[inline(always)]
 pub(crate) fn height(child: &Child) -> u64 {
     match child {

@@ -1,7 +1,8 @@
 // Written by bindings/erase from crates/vm_engine/src/saved.rt: do not edit.
 
-//! Saved trees. A value may come from a stranger, and no request for memory comes before the last of it
-//! has been looked at.
+//! Saved trees.
+//!
+//! A value can be untrusted input, so the whole value is checked before the first allocation.
 mod check;
 pub(crate) mod node;
 mod tree;

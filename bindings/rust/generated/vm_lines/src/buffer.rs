@@ -1,15 +1,16 @@
 // Written by bindings/erase from crates/vm_lines/src/buffer.rt: do not edit.
 
-//! Where answers wait to be written. A number is printed by pairs of digits from a table, and copied
-//! as twenty bytes whatever its length, two moves and no call: with the reading of numbers this took
-//! half of the instructions off that the text of a line costs.
+//! A buffer for the output.
+//!
+//! A number is written by pairs of digits from a table. It is then copied as twenty bytes whatever
+//! its length, because a fixed length is two moves and no call.
 
 use crate::number::MAX_DIGITS;
 
-/// How many bytes a buffer has room for.
+/// The capacity of a buffer in bytes.
 pub(crate) const CAPACITY: usize = 4096;
 
-/// Room for the digits of a number, and for as many bytes behind them.
+/// The length of the array for the digits of a number, with the same number of bytes after them.
 const DIGITS_LEN: usize = 40;
 
 /// The two digits of each number below a hundred.
@@ -20,14 +21,14 @@ static PAIRS: [u8; 200] = *b"\
     6061626364656667686970717273747576777879\
     8081828384858687888990919293949596979899";
 
-/// Text that waits to be written, in an array of its own.
+/// Text that is not written yet, in a fixed array.
 pub(crate) struct Buffer {
     bytes: [u8; CAPACITY],
     length: usize,
 }
 
 impl Buffer {
-    /// A buffer in which nothing waits.
+    /// Creates an empty buffer.
     pub(crate) fn new() -> Buffer {
         Buffer {
             bytes: [0; CAPACITY],
@@ -35,45 +36,46 @@ impl Buffer {
         }
     }
 
-    /// How many bytes wait.
+    /// Returns the number of bytes in the buffer.
     pub(crate) fn len(&self) -> usize {
         self.length
     }
 
-    /// What waits.
+    /// Returns the text in the buffer.
     pub(crate) fn as_slice(&self) -> &[u8] {
         &self.bytes[..self.length]
     }
 
-    /// Lets go of what waits.
+    /// Removes all text.
     pub(crate) fn clear(&mut self) {
         self.length = 0;
     }
 
-    /// Adds one byte.
+    /// Appends one byte.
     pub(crate) fn push(&mut self, byte: u8) {
         self.bytes[self.length] = byte;
         self.length += 1;
     }
 
-    /// Adds a text.
+    /// Appends a text.
     pub(crate) fn extend_from_slice(&mut self, text: &[u8]) {
         let end = self.length + text.len();
         self.bytes[self.length..end].copy_from_slice(text);
         self.length = end;
     }
 
-    /// Adds a number, in decimal.
+    /// Appends a number in decimal.
     pub(crate) fn push_number(&mut self, number: u64) {
         let mut digits = [0u8; DIGITS_LEN];
         let start = write_digits(number, &mut digits);
-        // The same length for each number makes this two moves. What is too much is taken back.
+        // A fixed length makes this two moves. The bytes after the number are removed again.
         self.extend_from_slice(&digits[start..start + MAX_DIGITS]);
         self.length -= start;
     }
 }
 
-/// Writes the digits of a number before place `MAX_DIGITS`, and tells where they start.
+/// Writes the digits of a number so that they end before index `MAX_DIGITS`, and returns the index
+/// of the first digit.
 fn write_digits(number: u64, digits: &mut [u8; DIGITS_LEN]) -> usize {
     let mut start = MAX_DIGITS;
     let mut rest = number;
@@ -90,7 +92,7 @@ fn write_digits(number: u64, digits: &mut [u8; DIGITS_LEN]) -> usize {
     start - 1
 }
 
-/// Writes two digits right before the place where the others start.
+/// Writes two digits that end before index `start`.
 #[inline(always)]
 fn write_two_digits(digits: &mut [u8; DIGITS_LEN], start: usize, pair: u8) {
     let place = pair as usize * 2;

@@ -1,50 +1,74 @@
 // Written by bindings/erase from crates/vm_lines/src/command.rt: do not edit.
 
-//! What a line asks for: each first word is of a space, of ids or of devices.
+//! Parses lines into commands: for the space, for the ids and for the devices.
 
 use crate::words::{ids_and_numbers, one_id, strip_prefix, three_numbers, two_ids, two_numbers};
 
-/// A longer line is not in the language.
+/// The maximum length of a line in bytes.
 pub(crate) const MAX_LINE_LEN: usize = 120;
 
-/// What a line asks for.
+/// The command of a line.
 #[derive(Clone, Copy)]
 pub(crate) enum Command {
-    /// An allocator for the space of `size` addresses from `base` on.
-    Space { base: u64, size: u64 },
-    /// The first place for `size` addresses at a multiple of `alignment`.
-    First { size: u64, alignment: u64 },
-    /// The last place for `size` addresses at a multiple of `alignment`.
-    Last { size: u64, alignment: u64 },
-    /// The place of the `size` addresses from `start` on, a multiple of `alignment`.
+    /// Creates an allocator for the `size` addresses starting at `base`.
+    Space {
+        base: u64,
+        size: u64,
+    },
+    /// Allocates the lowest `size` free addresses that start at a multiple of `alignment`.
+    First {
+        size: u64,
+        alignment: u64,
+    },
+    /// Allocates the highest `size` free addresses that start at a multiple of `alignment`.
+    Last {
+        size: u64,
+        alignment: u64,
+    },
+    /// Allocates the `size` addresses starting at `start`, a multiple of `alignment`.
     Exact {
         size: u64,
         alignment: u64,
         start: u64,
     },
-    /// The release of the range from `start` to `end`.
-    Free { start: u64, end: u64 },
-    /// An allocator for the ids from `range_base` to `range_end`.
-    Ids { range_base: u32, range_end: u32 },
-    /// The least id that is not held.
+    /// Frees the range from `start` to `end`.
+    Free {
+        start: u64,
+        end: u64,
+    },
+    /// Creates an allocator for the ids from `range_base` to `range_end`.
+    Ids {
+        range_base: u32,
+        range_end: u32,
+    },
+    /// Allocates the lowest free id.
     Id,
-    /// The release of an id.
-    Unid { id: u32 },
-    /// Whether an id is held.
-    Has { id: u32 },
-    /// A manager of devices, for the ids from `id_lo` to `id_hi` and the `size` addresses from
-    /// `base` on.
+    /// Frees an id.
+    Unid {
+        id: u32,
+    },
+    /// Checks whether an id is allocated.
+    Has {
+        id: u32,
+    },
+    /// Creates a manager of devices for the ids from `id_lo` to `id_hi` and the `size` addresses
+    /// starting at `base`.
     Manager {
         id_lo: u32,
         id_hi: u32,
         base: u64,
         size: u64,
     },
-    /// A device: the least id that is not held, and the first place for `size` addresses at a
+    /// Reserves a device: the lowest free id, and the lowest `size` free addresses that start at a
     /// multiple of `alignment`.
-    Device { size: u64, alignment: u64 },
-    /// The release of the device with this id.
-    Undevice { id: u32 },
+    Device {
+        size: u64,
+        alignment: u64,
+    },
+    /// Releases the device with this id.
+    Undevice {
+        id: u32,
+    },
     /// The line is not in the language.
     Malformed,
 }
@@ -61,8 +85,7 @@ pub(crate) fn parse(line: &[u8]) -> Command {
     }
 }
 
-/// What the words of a line ask for, of a space, and else of ids or of devices: once the first word is
-/// known nothing else is tried.
+/// Parses the words of a line. After the first word is known, no other command is tried.
 #[inline(always)]
 fn parse_words(line: &[u8]) -> Option<Command> {
     if let Some(rest) = strip_prefix(b"space ", line) {
@@ -92,7 +115,7 @@ fn parse_words(line: &[u8]) -> Option<Command> {
     parse_ids_command(line)
 }
 
-/// What a line asks of ids, and else of devices.
+/// Parses a command for the ids or for the devices.
 fn parse_ids_command(line: &[u8]) -> Option<Command> {
     if let Some(rest) = strip_prefix(b"ids ", line) {
         let (range_base, range_end) = two_ids(rest)?;
@@ -115,7 +138,7 @@ fn parse_ids_command(line: &[u8]) -> Option<Command> {
     parse_devices_command(line)
 }
 
-/// What a line asks of devices.
+/// Parses a command for the devices.
 fn parse_devices_command(line: &[u8]) -> Option<Command> {
     if let Some(rest) = strip_prefix(b"device ", line) {
         let (size, alignment) = two_numbers(rest)?;

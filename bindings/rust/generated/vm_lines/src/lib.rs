@@ -1,6 +1,6 @@
 // Written by bindings/erase from crates/vm_lines/src/lib.rt: do not edit.
 
-//! The replay language: each line asks an allocator or a manager of devices for something, and gets one
+//! The replay language: each line is a call of an allocator or of a manager of devices, and has one
 //! line of output.
 
 #![forbid(unsafe_code)]
@@ -15,4 +15,4 @@ mod reply;
 mod session;
 mod words;
 
-pub use replay::{run, RunError};
+pub use replay::{RunError, run};

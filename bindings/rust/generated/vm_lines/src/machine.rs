@@ -1,14 +1,14 @@
 // Written by bindings/erase from crates/vm_lines/src/machine.rt: do not edit.
 
-//! What a line does to what the lines so far have made: a space, ids, devices.
+//! The space, the ids and the devices of a session, and the effect of each command on them.
 
 use crate::command::Command;
-use crate::reply::{device_reply, done_reply, id_reply, range_reply, Reply};
+use crate::reply::{Reply, device_reply, done_reply, id_reply, range_reply};
 use rattle::Global;
 use vm_allocator::{AddressAllocator, AllocPolicy, IdAllocator, RangeInclusive, Result};
 use vm_devices::DeviceManager;
 
-/// What the lines so far have made.
+/// The space, the ids and the devices that the lines so far have created.
 pub(crate) struct Machine {
     space: Option<AddressAllocator>,
     ids: Option<IdAllocator>,
@@ -16,7 +16,7 @@ pub(crate) struct Machine {
 }
 
 impl Machine {
-    /// Nothing is made yet.
+    /// Creates a machine without space, ids and devices.
     pub(crate) fn new() -> Machine {
         Machine {
             space: None,
@@ -60,12 +60,12 @@ impl Machine {
         }
     }
 
-    /// Makes a space, which takes the place of the old one. A refused one does not.
+    /// Creates a space, which replaces the old one. An error keeps the old one.
     fn make_space(&mut self, alloc: Global, base: u64, size: u64) -> Reply {
         replace_if_ok(AddressAllocator::new(alloc, base, size), &mut self.space)
     }
 
-    /// Holds the `size` addresses at the place that the policy chooses.
+    /// Allocates `size` addresses by a policy.
     fn allocate(&mut self, alloc: Global, size: u64, alignment: u64, policy: AllocPolicy) -> Reply {
         let Some(space) = &mut self.space else {
             return Reply::NoSpace;
@@ -73,7 +73,7 @@ impl Machine {
         range_reply(space.allocate(alloc, size, alignment, policy))
     }
 
-    /// Gives a range back.
+    /// Frees a range.
     fn free(&mut self, start: u64, end: u64) -> Reply {
         let Some(space) = &mut self.space else {
             return Reply::NoSpace;
@@ -81,7 +81,7 @@ impl Machine {
         done_reply(free_range(space, start, end))
     }
 
-    /// Makes ids, which take the place of the old ones. Refused ones do not.
+    /// Creates ids, which replace the old ones. An error keeps the old ones.
     fn make_ids(&mut self, alloc: Global, range_base: u32, range_end: u32) -> Reply {
         replace_if_ok(
             IdAllocator::new(alloc, range_base, range_end),
@@ -89,7 +89,7 @@ impl Machine {
         )
     }
 
-    /// Holds the least id that is not held.
+    /// Allocates the lowest free id.
     fn allocate_id(&mut self) -> Reply {
         let Some(ids) = &mut self.ids else {
             return Reply::NoIds;
@@ -97,7 +97,7 @@ impl Machine {
         id_reply(ids.allocate_id())
     }
 
-    /// Gives an id back.
+    /// Frees an id.
     fn free_id(&mut self, id: u32) -> Reply {
         let Some(ids) = &mut self.ids else {
             return Reply::NoIds;
@@ -105,7 +105,7 @@ impl Machine {
         id_reply(ids.free_id(id))
     }
 
-    /// Tells whether an id is held.
+    /// Checks whether an id is allocated.
     fn has_id(&self, id: u32) -> Reply {
         let Some(ids) = &self.ids else {
             return Reply::NoIds;
@@ -113,20 +113,13 @@ impl Machine {
         Reply::Held(ids.is_allocated(id))
     }
 
-    /// Makes a manager, which takes the place of the old one. A refused one does not.
-    fn make_manager(
-        &mut self,
-        alloc: Global,
-        id_lo: u32,
-        id_hi: u32,
-        base: u64,
-        size: u64,
-    ) -> Reply {
+    /// Creates a manager, which replaces the old one. An error keeps the old one.
+    fn make_manager(&mut self, alloc: Global, id_lo: u32, id_hi: u32, base: u64, size: u64) -> Reply {
         let made = DeviceManager::new(alloc, id_lo, id_hi, base, size);
         replace_if_ok(made, &mut self.devices)
     }
 
-    /// Holds the least id that is not held, and `size` addresses at the first place, for one device.
+    /// Reserves a device with the lowest free id and the lowest free addresses.
     fn reserve(&mut self, alloc: Global, size: u64, alignment: u64) -> Reply {
         let Some(devices) = &mut self.devices else {
             return Reply::NoManager;
@@ -134,7 +127,7 @@ impl Machine {
         device_reply(devices.reserve(alloc, size, alignment, AllocPolicy::FirstMatch))
     }
 
-    /// Gives back the id and the range of a device.
+    /// Releases a device.
     fn release_device(&mut self, id: u32) -> Reply {
         let Some(devices) = &mut self.devices else {
             return Reply::NoManager;
@@ -143,7 +136,7 @@ impl Machine {
     }
 }
 
-/// Keeps what was made, in the place of what was there. What was refused leaves that.
+/// Replaces a part by the new one. An error keeps the old one.
 #[inline(always)]
 fn replace_if_ok<T>(made: Result<T>, part: &mut Option<T>) -> Reply {
     match made {
@@ -155,7 +148,8 @@ fn replace_if_ok<T>(made: Result<T>, part: &mut Option<T>) -> Reply {
     }
 }
 
-/// Gives back the range from `start` to `end`. `InvalidRange(start, end)` where that is none.
+/// Frees the range from `start` to `end`. Returns `InvalidRange(start, end)` if there is no range
+/// with these ends.
 fn free_range(space: &mut AddressAllocator, start: u64, end: u64) -> Result<()> {
     let range = RangeInclusive::new(start, end)?;
     space.free(&range)

@@ -1,14 +1,14 @@
 // Written by bindings/erase from crates/vm_lines/src/newline.rt: do not edit.
 
-//! The search for the end of a line, sixteen bytes at once: a byte at a time cost fourteen
-//! instructions for each byte.
+//! Finds the end of a line. It compares sixteen bytes at the same time, which needs fewer
+//! instructions than one byte at a time.
 
 use rattle::simd::*;
 
-/// How many bytes are compared at a time.
+/// The number of bytes that are compared at the same time.
 const LANES: usize = 16;
 
-/// Where the first newline stands.
+/// Returns the index of the first newline, or `None` if there is no newline.
 pub(crate) fn newline_at(text: &[u8]) -> Option<usize> {
     let mut start = 0;
     while text.len() - start >= LANES {

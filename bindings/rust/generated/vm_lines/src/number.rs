@@ -1,20 +1,23 @@
 // Written by bindings/erase from crates/vm_lines/src/number.rt: do not edit.
 
-//! The number at the beginning of a text, up to the first byte that is no digit. Nineteen digits fit
-//! 64 bits whichever they are, so the twentieth alone is added with a check.
+//! Reads the number at the beginning of a text, up to the first byte that is not a digit.
+//!
+//! Every number of nineteen digits fits into 64 bits, so only the twentieth digit is added with a
+//! check.
 
-/// No number of the language has more digits, and none of 64 bits needs more.
+/// The maximum number of digits of a number. Every number of 64 bits fits.
 pub(crate) const MAX_DIGITS: usize = 20;
 
-/// So many digits say a number of 64 bits, whichever they are.
+/// The number of decimal digits that always fit into a `u64`.
 const SAFE_DIGITS: usize = 19;
 
-/// So many bytes are looked at together, where there are as many.
+/// The number of bytes that are checked together, if the text is long enough.
 const CHUNK: usize = 8;
 
 const BASE: u64 = 10;
 
-/// The number that the digits at the beginning of a text say, and how many digits they are.
+/// Returns the number at the beginning of a text and the number of its digits. Returns `None` if
+/// there is no digit, if there are too many, or if the number does not fit.
 #[inline(always)]
 pub(crate) fn leading_number(text: &[u8]) -> Option<(u64, usize)> {
     let (value, count) = leading_value(text);
@@ -27,8 +30,8 @@ pub(crate) fn leading_number(text: &[u8]) -> Option<(u64, usize)> {
     Some((value, count))
 }
 
-/// The value of the digits at the beginning of a text, of the first `SAFE_DIGITS` if they are more, and
-/// how many digits that are.
+/// Returns the value of the digits at the beginning of a text, and their number. It stops after
+/// `SAFE_DIGITS` digits.
 #[inline(always)]
 fn leading_value(text: &[u8]) -> (u64, usize) {
     let (mut value, mut count) = chunk_value(text);
@@ -40,7 +43,8 @@ fn leading_value(text: &[u8]) -> (u64, usize) {
     (value, count)
 }
 
-/// The value of the first `CHUNK` bytes of a text, where all are digits, and how many digits that is.
+/// Returns the value of the first `CHUNK` bytes of a text and their number, or zeros if not all of
+/// them are digits.
 #[inline(always)]
 fn chunk_value(text: &[u8]) -> (u64, usize) {
     match text.first_chunk() {
@@ -49,7 +53,8 @@ fn chunk_value(text: &[u8]) -> (u64, usize) {
     }
 }
 
-/// Whether all of these bytes are digits. It looks at each, so that they can be compared together.
+/// Returns whether all bytes are digits. It checks every byte, so that they can be compared
+/// together.
 #[inline(always)]
 #[allow(clippy::needless_range_loop)]
 fn are_digits(prefix: &[u8; CHUNK]) -> bool {
@@ -60,7 +65,7 @@ fn are_digits(prefix: &[u8; CHUNK]) -> bool {
     all
 }
 
-/// The value of these digits.
+/// Returns the value of the digits.
 #[inline(always)]
 #[allow(clippy::needless_range_loop)]
 fn digits_value(digits: &[u8; CHUNK]) -> u64 {
@@ -71,7 +76,8 @@ fn digits_value(digits: &[u8; CHUNK]) -> u64 {
     value
 }
 
-/// The number of a text whose first `SAFE_DIGITS` digits have this value, if it has one more or none.
+/// Returns the number of a text whose first `SAFE_DIGITS` digits have this value. Returns `None` if
+/// it has more than one digit after them, or if the number does not fit.
 #[inline(always)]
 fn with_last_digit(value: u64, text: &[u8]) -> Option<(u64, usize)> {
     let (last, more) = leading_value(&text[SAFE_DIGITS..]);

@@ -1,9 +1,10 @@
 // Written by bindings/erase from crates/vm_lines/src/replay.rt: do not edit.
 
-//! Answers an input: reads pieces of it, cuts them into lines, and drains the buffer. Its two facts
-//! have names (`AnswersInput`, `AnswersEndedLines`) and are stated for readers and writers that tell
-//! their bytes; they follow from what also holds where nothing is known of the bytes, so that no twin
-//! of `run` is needed.
+//! Runs the replay language: reads pieces of the input, splits them into lines, and writes the
+//! replies through a buffer.
+//!
+//! The two facts in the contract of `run` (`AnswersInput`, `AnswersEndedLines`) are about readers
+//! and writers whose bytes are known.
 
 use crate::buffer::{Buffer, CAPACITY};
 use crate::newline::newline_at;
@@ -12,34 +13,37 @@ use crate::session::Session;
 use rattle::Global;
 use std::io::{Read, Write};
 
-/// The most bytes that are read at a time.
+/// The maximum number of bytes of one read.
 const READ_SIZE: usize = 4096;
 
-/// Why a run ended before the end of its input.
+/// The reason why a run ended before the end of its input.
 #[derive(Clone, Copy, Debug, PartialEq, Eq)]
 pub enum RunError {
     /// A read failed, or `u64::MAX` reads did not reach the end.
     Read,
-    /// A write failed, or the flush at the end.
+    /// A write failed, or the flush at the end failed.
     Write,
 }
 
-/// Answers each line of the input by one line. It takes no memory beside that of the calls that the
-/// lines ask for. `Read` where a read failed or read number `u64::MAX` did not reach the end: then
-/// the lines that a newline ended are answered, and nothing was flushed. `Write` where a write or
-/// the last flush failed: then nothing is said of what was written.
-pub fn run<R: Read, W: Write>(
-    alloc: Global,
-    reader: &mut R,
-    writer: &mut W,
-) -> Result<(), RunError> {
+/// Executes each line of the input, and writes one line of output for each.
+///
+/// Only the calls of the lines allocate.
+///
+/// # Errors
+///
+/// - `Read` if a read fails, or if `u64::MAX` reads do not reach the end. The output for the lines
+///   that end with a newline is written, and nothing is flushed.
+/// - `Write` if a write or the last flush fails. It is then not known which output was written.
+pub fn run<R: Read, W: Write>(alloc: Global, reader: &mut R, writer: &mut W) -> Result<(), RunError> {
     let mut session = Session::new();
     let mut output = Buffer::new();
     answer_pieces(alloc, reader, writer, &mut session, &mut output)
 }
 
-/// Takes piece after piece of the input, from its start. What it is lent `run` drops: with both in one
-/// function the prover took 34 seconds over the ways out of the loop, and takes 4.
+/// Reads the input piece by piece, and writes the output for its lines.
+///
+/// Proof: `run` owns the session and the buffer, and this function borrows them. One function for
+/// both is slow to prove.
 fn answer_pieces<R: Read, W: Write>(
     alloc: Global,
     reader: &mut R,
@@ -62,7 +66,7 @@ fn answer_pieces<R: Read, W: Write>(
     Err(RunError::Read)
 }
 
-/// Takes a piece of the input.
+/// Executes the lines that end in a piece of the input, and keeps the bytes after them.
 fn feed<W: Write>(
     alloc: Global,
     session: &mut Session,
@@ -80,7 +84,7 @@ fn feed<W: Write>(
     Ok(())
 }
 
-/// Takes the end of the input.
+/// Executes the last line at the end of the input, and flushes the writer.
 fn answer_end<W: Write>(
     alloc: Global,
     session: &mut Session,
@@ -95,7 +99,7 @@ fn answer_end<W: Write>(
     }
 }
 
-/// Answers the line that no newline ended, if there is one.
+/// Executes the last line if no newline ended it.
 fn answer_last_line<W: Write>(
     alloc: Global,
     session: &mut Session,
@@ -110,7 +114,7 @@ fn answer_last_line<W: Write>(
     Ok(())
 }
 
-/// Makes room for one answer with its newline.
+/// Makes room in the buffer for one reply and its newline.
 fn make_room<W: Write>(output: &mut Buffer, writer: &mut W) -> Result<(), RunError> {
     if output.len() >= CAPACITY - MAX_REPLY_LEN {
         flush_buffer(output, writer)?;
@@ -118,7 +122,7 @@ fn make_room<W: Write>(output: &mut Buffer, writer: &mut W) -> Result<(), RunErr
     Ok(())
 }
 
-/// Writes what waits.
+/// Writes the text in the buffer.
 fn flush_buffer<W: Write>(output: &mut Buffer, writer: &mut W) -> Result<(), RunError> {
     match writer.write_all(output.as_slice()) {
         Ok(()) => {

@@ -1,39 +1,40 @@
 // Written by bindings/erase from crates/vm_lines/src/reply.rt: do not edit.
 
-//! How an answer reads.
+//! Replies to lines, and their text.
 
 use crate::buffer::Buffer;
 use vm_allocator::{Error, RangeInclusive, Result};
 use vm_devices::DeviceSlot;
 
-/// The most bytes that a reply takes, the newline behind it aside: those of an invalid range.
+/// The maximum length of a reply in bytes, without its newline: the length of the error for an
+/// invalid range.
 pub(crate) const MAX_REPLY_LEN: usize = 61;
 
-/// How a line is answered.
+/// The reply to a line.
 pub(crate) enum Reply {
-    /// The call succeeded, and there is no more to tell.
+    /// The call succeeded and returned nothing.
     Done,
-    /// This range is held from now on.
+    /// The range was allocated.
     Given(RangeInclusive),
-    /// This id was taken or given back.
+    /// The id was allocated or freed.
     Id(u32),
-    /// Whether the id is held.
+    /// Whether the id is allocated.
     Held(bool),
-    /// This device is there from now on.
+    /// The device was reserved.
     Device(DeviceSlot),
-    /// The call was refused.
+    /// The call returned an error.
     Failed(Error),
-    /// The line needs a space, and none has been made.
+    /// The line needs a space, and there is none.
     NoSpace,
-    /// The line needs ids, and none have been made.
+    /// The line needs ids, and there are none.
     NoIds,
-    /// The line needs a manager, and none has been made.
+    /// The line needs a manager, and there is none.
     NoManager,
     /// The line is not in the language, or it is too long.
     NotInLanguage,
 }
 
-/// The reply to a call that gives nothing which is told.
+/// Returns the reply to a call that returns nothing.
 #[inline(always)]
 pub(crate) fn done_reply(answer: Result<()>) -> Reply {
     match answer {
@@ -42,7 +43,7 @@ pub(crate) fn done_reply(answer: Result<()>) -> Reply {
     }
 }
 
-/// The reply to a call that gives a range.
+/// Returns the reply to a call that returns a range.
 #[inline(always)]
 pub(crate) fn range_reply(answer: Result<RangeInclusive>) -> Reply {
     match answer {
@@ -51,7 +52,7 @@ pub(crate) fn range_reply(answer: Result<RangeInclusive>) -> Reply {
     }
 }
 
-/// The reply to a call that gives an id.
+/// Returns the reply to a call that returns an id.
 #[inline(always)]
 pub(crate) fn id_reply(answer: Result<u32>) -> Reply {
     match answer {
@@ -60,7 +61,7 @@ pub(crate) fn id_reply(answer: Result<u32>) -> Reply {
     }
 }
 
-/// The reply to a call that gives a device.
+/// Returns the reply to a call that returns a device.
 #[inline(always)]
 pub(crate) fn device_reply(answer: Result<DeviceSlot>) -> Reply {
     match answer {
@@ -69,7 +70,7 @@ pub(crate) fn device_reply(answer: Result<DeviceSlot>) -> Reply {
     }
 }
 
-/// Writes how a reply reads.
+/// Writes the text of a reply.
 pub(crate) fn write_reply(output: &mut Buffer, reply: Reply) {
     match reply {
         Reply::Done => output.extend_from_slice(b"done"),
@@ -86,7 +87,7 @@ pub(crate) fn write_reply(output: &mut Buffer, reply: Reply) {
     }
 }
 
-/// Writes how a device reads.
+/// Writes the text of a device.
 fn write_device(output: &mut Buffer, slot: DeviceSlot) {
     output.extend_from_slice(b"device ");
     output.push_number(slot.id.into());
@@ -94,7 +95,7 @@ fn write_device(output: &mut Buffer, slot: DeviceSlot) {
     push_pair(output, slot.range.start(), slot.range.end());
 }
 
-/// Writes how a refusal reads.
+/// Writes the text of an error.
 fn write_error(output: &mut Buffer, error: Error) {
     match error {
         Error::Overflow => output.extend_from_slice(b"error overflow"),
@@ -105,9 +106,12 @@ fn write_error(output: &mut Buffer, error: Error) {
         Error::InvalidRange(start, end) => write_pair(output, b"error invalid-range ", start, end),
         Error::InvalidAlignment => output.extend_from_slice(b"error invalid-alignment"),
         Error::Overlap(_, _) => output.extend_from_slice(b"error overlap"),
-        Error::InvalidStateTransition(slot, _) => {
-            write_pair(output, b"error state ", slot.start(), slot.end())
-        }
+        Error::InvalidStateTransition(slot, _) => write_pair(
+            output,
+            b"error state ",
+            slot.start(),
+            slot.end(),
+        ),
         Error::UnalignedAddress => output.extend_from_slice(b"error unaligned"),
         Error::Underflow => output.extend_from_slice(b"error underflow"),
         Error::InvalidSize(size) => write_number(output, b"error invalid-size ", size),
@@ -115,14 +119,14 @@ fn write_error(output: &mut Buffer, error: Error) {
     }
 }
 
-/// Writes a text and a number behind it.
+/// Writes a text, followed by a number.
 #[inline(always)]
 fn write_number(output: &mut Buffer, text: &[u8], number: u64) {
     output.extend_from_slice(text);
     output.push_number(number);
 }
 
-/// Writes a text and two numbers behind it.
+/// Writes a text, followed by two numbers.
 #[inline(always)]
 fn write_pair(output: &mut Buffer, text: &[u8], first: u64, second: u64) {
     output.extend_from_slice(text);

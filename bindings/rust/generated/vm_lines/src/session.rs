@@ -1,15 +1,17 @@
 // Written by bindings/erase from crates/vm_lines/src/session.rt: do not edit.
 
-//! What ended lines have made, and the line that has begun. A line is read where it lies in its
-//! piece; only one that began in an earlier piece is kept.
+//! A session: the machine, and the line that has begun.
+//!
+//! A line is parsed in its piece of the input without a copy. It is copied only if it began in an
+//! earlier piece.
 
 use crate::buffer::Buffer;
-use crate::command::{parse, Command, MAX_LINE_LEN};
+use crate::command::{Command, MAX_LINE_LEN, parse};
 use crate::machine::Machine;
 use crate::reply::write_reply;
 use rattle::Global;
 
-/// What the lines so far have made, and the line that has begun.
+/// The machine of the lines so far, and the line that has begun.
 pub(crate) struct Session {
     machine: Machine,
     line: [u8; MAX_LINE_LEN],
@@ -18,7 +20,7 @@ pub(crate) struct Session {
 }
 
 impl Session {
-    /// Before the first byte of the input.
+    /// Creates the session before the first byte of the input.
     pub(crate) fn new() -> Session {
         Session {
             machine: Machine::new(),
@@ -28,7 +30,7 @@ impl Session {
         }
     }
 
-    /// Ends the line that has begun, of which these are the last bytes, and writes the answer to it.
+    /// Ends the line that has begun with its last bytes, executes it, and writes its reply.
     pub(crate) fn end_line(&mut self, alloc: Global, last: &[u8], output: &mut Buffer) {
         let command = self.take_line(last);
         let reply = self.machine.answer(alloc, command);
@@ -36,7 +38,7 @@ impl Session {
         output.push(b'\n');
     }
 
-    /// Tells what the line asks of which these are the last bytes. After that no line has begun.
+    /// Returns the command of the line that ends with these bytes. No line has begun after that.
     fn take_line(&mut self, last: &[u8]) -> Command {
         if !self.has_begun() {
             return parse(last);
@@ -45,7 +47,7 @@ impl Session {
         self.take_appended()
     }
 
-    /// Tells what the line asks of which all bytes are kept. After that no line has begun.
+    /// Returns the command of the line that was copied. No line has begun after that.
     #[cold]
     fn take_appended(&mut self) -> Command {
         let asked = if self.is_too_long {
@@ -58,7 +60,7 @@ impl Session {
         asked
     }
 
-    /// Takes more bytes of the line that has begun.
+    /// Appends more bytes to the line that has begun.
     pub(crate) fn append(&mut self, bytes: &[u8]) {
         if self.is_too_long || bytes.len() > MAX_LINE_LEN - self.filled {
             self.is_too_long = true;
@@ -69,7 +71,7 @@ impl Session {
         self.filled = end;
     }
 
-    /// Whether some of a line has come.
+    /// Returns whether a line has begun.
     pub(crate) fn has_begun(&self) -> bool {
         self.is_too_long || self.filled > 0
     }

@@ -1,16 +1,15 @@
 // Written by bindings/erase from crates/vm_lines/src/words.rt: do not edit.
 
-//! The words of a line: whether it begins with a name, and the numbers and ids behind that. The four
-//! numbers of `manager` are read as three are, and two of them then taken as ids.
+//! The words of a line: its name, and the numbers and ids after it.
+//!
+//! The four numbers of `manager` are read as one and three numbers, and the first two are converted
+//! to ids.
 
 use crate::number::leading_number;
 
-/// What stands behind the beginning of a text, where the text begins so.
+/// Returns the text after a prefix, or `None` if the text does not begin with it.
 #[inline(always)]
-pub(crate) fn strip_prefix<'a, const N: usize>(
-    prefix: &[u8; N],
-    text: &'a [u8],
-) -> Option<&'a [u8]> {
+pub(crate) fn strip_prefix<'a, const N: usize>(prefix: &[u8; N], text: &'a [u8]) -> Option<&'a [u8]> {
     if text.len() < N {
         return None;
     }
@@ -22,7 +21,7 @@ pub(crate) fn strip_prefix<'a, const N: usize>(
     Some(&text[N..])
 }
 
-/// The number that the first word of a text says, and what stands after the space behind it.
+/// Returns the number in the first word of a text, and the text after the space that follows it.
 #[inline(always)]
 fn first_number(text: &[u8]) -> Option<(u64, Option<&[u8]>)> {
     let (number, count) = leading_number(text)?;
@@ -35,7 +34,7 @@ fn first_number(text: &[u8]) -> Option<(u64, Option<&[u8]>)> {
     Some((number, Some(&text[count + 1..])))
 }
 
-/// The number that the word of a text says, where it is one.
+/// Returns the number of a text of one word.
 #[inline(always)]
 fn one_number(text: &[u8]) -> Option<u64> {
     let (number, rest) = first_number(text)?;
@@ -45,13 +44,13 @@ fn one_number(text: &[u8]) -> Option<u64> {
     Some(number)
 }
 
-/// The numbers that the words of a text say, where they are two.
+/// Returns the numbers of a text of two words.
 pub(crate) fn two_numbers(text: &[u8]) -> Option<(u64, u64)> {
     let (first, rest) = first_number(text)?;
     Some((first, one_number(rest?)?))
 }
 
-/// The numbers that the words of a text say, where they are three.
+/// Returns the numbers of a text of three words.
 #[inline(always)]
 pub(crate) fn three_numbers(text: &[u8]) -> Option<(u64, u64, u64)> {
     let (first, rest) = first_number(text)?;
@@ -59,18 +58,18 @@ pub(crate) fn three_numbers(text: &[u8]) -> Option<(u64, u64, u64)> {
     Some((first, second, third))
 }
 
-/// The id that the word of a text says, where it is one.
+/// Returns the id of a text of one word.
 pub(crate) fn one_id(text: &[u8]) -> Option<u32> {
     u32::try_from(one_number(text)?).ok()
 }
 
-/// The ids that the words of a text say, where they are two.
+/// Returns the ids of a text of two words.
 pub(crate) fn two_ids(text: &[u8]) -> Option<(u32, u32)> {
     let (first, second) = two_numbers(text)?;
     Some((u32::try_from(first).ok()?, u32::try_from(second).ok()?))
 }
 
-/// The two ids and the two numbers that the words of a text say, where they are four.
+/// Returns the two ids and the two numbers of a text of four words.
 pub(crate) fn ids_and_numbers(text: &[u8]) -> Option<((u32, u32), (u64, u64))> {
     let (first, rest) = first_number(text)?;
     let (second, third, fourth) = three_numbers(rest?)?;

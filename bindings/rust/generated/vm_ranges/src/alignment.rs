@@ -1,11 +1,14 @@
 // Written by bindings/erase from crates/vm_ranges/src/alignment.rt: do not edit.
 
-//! How addresses are aligned.
+//! Rounding of addresses to multiples of an alignment.
 
 use crate::error::{Error, Result};
 
-/// The greatest multiple of the alignment that is the address or less. `InvalidAlignment` where the
-/// alignment is no power of two.
+/// Returns the highest multiple of `alignment` that is at most `address`.
+///
+/// # Errors
+///
+/// - `InvalidAlignment` if `alignment` is not a power of two.
 pub fn align_down(address: u64, alignment: u64) -> Result<u64> {
     if !alignment.is_power_of_two() {
         return Err(Error::InvalidAlignment);
@@ -13,9 +16,14 @@ pub fn align_down(address: u64, alignment: u64) -> Result<u64> {
     Ok(address & !(alignment - 1))
 }
 
-/// The least multiple of the alignment that is the address or more. In this order: an alignment of 0
-/// is `InvalidAlignment`, an address + alignment - 1 past `u64::MAX` is `Overflow`, and an alignment
-/// that is no power of two is `InvalidAlignment`.
+/// Returns the lowest multiple of `alignment` that is at least `address`.
+///
+/// # Errors
+///
+/// In this order:
+/// - `InvalidAlignment` if `alignment` is 0.
+/// - `Overflow` if `address + alignment - 1` is past `u64::MAX`.
+/// - `InvalidAlignment` if `alignment` is not a power of two.
 pub fn align_up(address: u64, alignment: u64) -> Result<u64> {
     if alignment == 0 {
         return Err(Error::InvalidAlignment);

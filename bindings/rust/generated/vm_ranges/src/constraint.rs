@@ -1,26 +1,29 @@
 // Written by bindings/erase from crates/vm_ranges/src/constraint.rt: do not edit.
 
-//! Requests. That a request makes sense is the invariant of `Constraint`, so what takes one needs no
-//! condition.
+//! Requests for a range of addresses.
+//!
+//! The invariant of `Constraint` is that the request is valid, so functions that take a
+//! `Constraint` need no condition.
 
 use crate::error::{Error, Result};
 
-/// An alignment for requests that need no particular one.
+/// The alignment for requests that need no particular alignment.
 pub const DEFAULT_CONSTRAINT_ALIGN: u64 = 4;
 
-/// Which of the places for a request is taken.
+/// The policy that chooses a free range for a request.
 #[derive(Clone, Copy, Debug, Default, PartialEq, Eq)]
 pub enum AllocPolicy {
-    /// First fit: the least.
+    /// Chooses the lowest range.
     #[default]
     FirstMatch,
-    /// Last fit: the greatest.
+    /// Chooses the highest range.
     LastMatch,
-    /// The one with this start.
+    /// Chooses the range with this start.
     ExactMatch(u64),
 }
 
-/// Whether the alignment divides the start, where the policy names one.
+/// Returns whether the start of `ExactMatch` is a multiple of the alignment. Returns `true` for the
+/// other policies.
 fn is_start_aligned(align: u64, policy: AllocPolicy) -> bool {
     match policy {
         AllocPolicy::ExactMatch(start) => start & (align - 1) == 0,
@@ -29,8 +32,10 @@ fn is_start_aligned(align: u64, policy: AllocPolicy) -> bool {
     }
 }
 
-/// A request for addresses that makes sense: at least one address, an alignment that is a power of
-/// two, and, where a start is named, one that the alignment divides.
+/// A valid request for a range of addresses.
+///
+/// Its size is at least 1, its alignment is a power of two, and the start of `ExactMatch` is a
+/// multiple of the alignment.
 #[derive(Clone, Copy, Debug, PartialEq, Eq)]
 pub struct Constraint {
     size: u64,
@@ -39,9 +44,14 @@ pub struct Constraint {
 }
 
 impl Constraint {
-    /// The request for `size` addresses from a multiple of `align` on. In this order: size 0 is
-    /// `InvalidSize(0)`, an alignment that is no power of two `InvalidAlignment`, and an
-    /// `ExactMatch` of a start that is no multiple of the alignment `UnalignedAddress`.
+    /// Creates a request for `size` addresses that start at a multiple of `align`.
+    ///
+    /// # Errors
+    ///
+    /// In this order:
+    /// - `InvalidSize(0)` if `size` is 0.
+    /// - `InvalidAlignment` if `align` is not a power of two.
+    /// - `UnalignedAddress` if the start of `ExactMatch` is not a multiple of `align`.
     pub fn new(size: u64, align: u64, policy: AllocPolicy) -> Result<Self> {
         if size == 0 {
             return Err(Error::InvalidSize(0));
@@ -59,17 +69,17 @@ impl Constraint {
         })
     }
 
-    /// What has to divide the first address.
+    /// Returns the alignment: the first address of the range is a multiple of it.
     pub fn align(self) -> u64 {
         self.align
     }
 
-    /// How many addresses are asked for.
+    /// Returns the number of requested addresses.
     pub fn size(self) -> u64 {
         self.size
     }
 
-    /// Which of the places is taken.
+    /// Returns the policy that chooses the range.
     pub fn policy(self) -> AllocPolicy {
         self.policy
     }

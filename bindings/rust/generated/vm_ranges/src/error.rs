@@ -1,53 +1,56 @@
 // Written by bindings/erase from crates/vm_ranges/src/error.rt: do not edit.
 
-//! Why calls are refused, with the texts of the Rust crate.
+//! The errors of calls, with the texts of the Rust crate.
 
 use crate::range::RangeInclusive;
 use crate::state::NodeState;
-use rattle::Error;
 use rattle::{AllocError, AllocFailed};
+use rattle::Error;
 
-/// Why a call is refused. A refused call changes nothing. Errors are ordered by variant, then by
-/// fields.
+/// The error of a call. A call that returns an error changes nothing.
+///
+/// Errors are ordered by variant, then by fields.
 #[derive(Clone, Debug, PartialEq, Eq, PartialOrd, Ord, Error)]
 pub enum Error {
-    /// A range would end past or at `u64::MAX`, or all ids up to `u32::MAX` are held.
+    /// A range would end at or past `u64::MAX`, all ids up to `u32::MAX` are allocated, or the tree
+    /// is too high for a split.
     #[error("Management operations on desired resource resulted in overflow.")]
     Overflow,
-    /// The id to release is outside the range of the allocator.
+    /// The id to free is outside the range of the allocator.
     #[error("Specified id: {0} is not in the range.")]
     OutOfRange(u32),
-    /// The id to release was handed out and is not held any more.
+    /// The id to free was freed and was not allocated since.
     #[error("Specified id: {0} is already released.")]
     AlreadyReleased(u32),
-    /// The id to release was never handed out.
+    /// The id to free was never allocated, or no device has the id to release.
     #[error("Specified id: {0} was never allocated, can't release it.")]
     NeverAllocated(u32),
-    /// There is no place for the request, the range to release is not held, or all ids are held.
+    /// No range is free for the request, the range to free is not allocated, or all ids are
+    /// allocated.
     #[error("The requested resource is not available.")]
     ResourceNotAvailable,
-    /// The start is past the end, or the two are those of all addresses.
+    /// The start is past the end, or the range would contain all 2^64 addresses.
     #[error("The range specified: {0}-{1} is not valid.")]
     InvalidRange(u64, u64),
-    /// The alignment is no power of two.
+    /// The alignment is not a power of two.
     #[error("Alignment value is invalid.")]
     InvalidAlignment,
-    /// The first range shares an address with the second, which stands in a tree already.
+    /// The first range overlaps the second, which is already in a tree.
     #[error("Addresses are overlapping.{0:?} intersects with existing {1:?}")]
     Overlap(RangeInclusive, RangeInclusive),
-    /// The range asked for by its start is held already.
+    /// Exactly the requested range is already allocated.
     #[error("Invalid state transition for node {0:?} from {1:?} to NodeState::Free")]
     InvalidStateTransition(RangeInclusive, NodeState),
-    /// The start asked for is no multiple of the alignment.
+    /// The requested start is not a multiple of the alignment.
     #[error("The address is not aligned.")]
     UnalignedAddress,
-    /// A space of no address is asked for.
+    /// A space without addresses is requested.
     #[error("Management operations on desired resource resulted in underflow.")]
     Underflow,
-    /// A range of this size, 0, is asked for.
+    /// The requested size is 0.
     #[error("The specified size: {0} is not valid.")]
     InvalidSize(u64),
-    /// A request for memory was refused.
+    /// An allocation of memory failed.
     #[error("There is not enough memory.")]
     OutOfMemory,
 }
@@ -64,5 +67,5 @@ impl<T> From<AllocFailed<T>> for Error {
     }
 }
 
-/// What a call answers: a value, or why it is refused.
+/// The result of a call: a value or an [`Error`].
 pub type Result<T> = core::result::Result<T, Error>;

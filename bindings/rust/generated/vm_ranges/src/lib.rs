@@ -1,7 +1,7 @@
 // Written by bindings/erase from crates/vm_ranges/src/lib.rt: do not edit.
 
-//! Ranges of addresses, the states of blocks, what is asked of an allocator and why it is refused, and
-//! the saved forms of ranges and states.
+//! Ranges of addresses, alignment, requests, errors, states of blocks, and the saved values of
+//! ranges and states.
 
 #![forbid(unsafe_code)]
 #![no_std]
@@ -17,9 +17,9 @@ pub use alignment::{align_down, align_up};
 pub use constraint::{AllocPolicy, Constraint, DEFAULT_CONSTRAINT_ALIGN};
 pub use error::{Error, Result};
 pub use range::RangeInclusive;
+pub use saved::ValueError;
 pub use saved::fields::{has_fields, list_in};
 pub use saved::numbers::{number_in, u32_from, u32_in};
 pub use saved::range::range_in;
 pub use saved::state::state_in;
-pub use saved::ValueError;
 pub use state::NodeState;

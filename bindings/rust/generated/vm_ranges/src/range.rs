@@ -1,14 +1,16 @@
 // Written by bindings/erase from crates/vm_ranges/src/range.rt: do not edit.
 
-//! Ranges of addresses. Their order is written by hand and not derived, so that the contract of `cmp`
-//! names it: by start, then by end.
+//! Closed ranges of addresses.
+//!
+//! Their order is written by hand, so that the contract of `cmp` names it: by start, then by end.
 
 use crate::error::{Error, Result};
 use core::cmp::Ordering;
 
-/// A closed range of addresses: its start, its end and all between them. It is never empty and
-/// never all of the 2^64 addresses, so its length fits a `u64`. Ranges are ordered by start, then
-/// by end.
+/// A closed range of addresses: its start, its end and all addresses between them.
+///
+/// A range is never empty and never contains all 2^64 addresses, so its length fits into a `u64`.
+/// Ranges are ordered by start, then by end.
 #[derive(Clone, Copy, Debug, PartialEq, Eq, Hash)]
 pub struct RangeInclusive {
     start: u64,
@@ -16,8 +18,12 @@ pub struct RangeInclusive {
 }
 
 impl RangeInclusive {
-    /// The range from `start` to `end`. `InvalidRange(start, end)` where the start is past the
-    /// end, or where they are 0 and `u64::MAX`.
+    /// Creates the range from `start` to `end`, both included.
+    ///
+    /// # Errors
+    ///
+    /// - `InvalidRange(start, end)` if `start` is past `end`, or if the range would contain all
+    ///   2^64 addresses.
     pub fn new(start: u64, end: u64) -> Result<Self> {
         if start > end || (start == 0 && end == u64::MAX) {
             return Err(Error::InvalidRange(start, end));
@@ -25,35 +31,35 @@ impl RangeInclusive {
         Ok(RangeInclusive { start, end })
     }
 
-    /// How many addresses the range has.
+    /// Returns the number of addresses in the range.
     #[allow(clippy::len_without_is_empty)]
     pub fn len(&self) -> u64 {
         1 + (self.end - self.start)
     }
 
-    /// Whether some address lies in both ranges.
+    /// Returns whether an address is in both ranges.
     pub fn overlaps(&self, other: &RangeInclusive) -> bool {
         other.start <= self.end && self.start <= other.end
     }
 
-    /// Whether every address of `other` lies in the range.
+    /// Returns whether every address of `other` is in this range.
     pub fn contains(&self, other: &RangeInclusive) -> bool {
         other.start >= self.start && other.end <= self.end
     }
 
-    /// The first address.
+    /// Returns the first address.
     pub fn start(&self) -> u64 {
         self.start
     }
 
-    /// The last address.
+    /// Returns the last address.
     pub fn end(&self) -> u64 {
         self.end
     }
 }
 
 impl Ord for RangeInclusive {
-    /// By start, then by end. It stops at the first difference.
+    /// Compares by start, then by end. It stops at the first difference.
     fn cmp(&self, other: &RangeInclusive) -> Ordering {
         if self.start < other.start {
             return Ordering::Less;
@@ -66,7 +72,7 @@ impl Ord for RangeInclusive {
 }
 
 impl PartialOrd for RangeInclusive {
-    /// By start, then by end.
+    /// Compares like `cmp`.
     fn partial_cmp(&self, other: &RangeInclusive) -> Option<Ordering> {
         Some(self.cmp(other))
     }

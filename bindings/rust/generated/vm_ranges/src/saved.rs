@@ -1,24 +1,25 @@
 // Written by bindings/erase from crates/vm_ranges/src/saved.rt: do not edit.
 
-//! Saved values: what is written of ranges and states as a `Value`, and read again. A value may
-//! come from a stranger. It is read only where it states an object: it has exactly the fields that it
-//! should, and all that has to hold of them holds. The order of the fields says nothing.
+//! Saved values of ranges and states, and functions that read the fields of a value.
+//!
+//! A value can be untrusted input. It is accepted if and only if it encodes an object: it has
+//! exactly the fields of the object, and they are valid. The order of the fields does not matter.
 
 pub(crate) mod fields;
 pub(crate) mod numbers;
 pub(crate) mod range;
 pub(crate) mod state;
 
-use rattle::Error;
 use rattle::{AllocError, AllocFailed};
+use rattle::Error;
 
-/// Why a saved value is not read.
+/// The error of reading a saved value.
 #[derive(Debug, PartialEq, Eq, Error)]
 pub enum ValueError {
-    /// The value states no object of the type.
+    /// The value does not encode an object of the type.
     #[error("The value states no valid object.")]
     NotAState,
-    /// The value states an object, and a request for memory was refused.
+    /// An allocation of memory failed.
     #[error("There is not enough memory.")]
     OutOfMemory,
 }

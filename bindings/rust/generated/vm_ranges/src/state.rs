@@ -1,12 +1,12 @@
 // Written by bindings/erase from crates/vm_ranges/src/state.rt: do not edit.
 
-//! Whether a block of a space is held.
+//! The state of a block of a space: free or allocated.
 
-/// Whether a block is held. `Free` is less.
+/// The state of a block of a space. `Free` is less than `Allocated`.
 #[derive(Clone, Copy, Debug, PartialEq, Eq, PartialOrd, Ord)]
 pub enum NodeState {
-    /// No one holds the block.
+    /// The addresses of the block are free.
     Free,
-    /// Someone holds the block.
+    /// The block is an allocated range.
     Allocated,
 }

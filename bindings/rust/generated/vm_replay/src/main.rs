@@ -1,15 +1,15 @@
 // Written by bindings/erase from crates/vm_replay/src/main.rt: do not edit.
 
-//! Replays lines of calls: each line of the standard input asks an allocator or a manager of devices
-//! for something, and is answered by one line of the standard output.
+//! Replays calls. Each line of the standard input is a call of an allocator or of a manager of
+//! devices, and has one line in the standard output.
 
 #![forbid(unsafe_code)]
 
 use rattle::HostRuntime;
 use std::process::ExitCode;
-use vm_lines::{run, RunError};
+use vm_lines::{RunError, run};
 
-/// The status that the program ends with.
+/// Returns the exit status of the program.
 fn status(outcome: Result<(), RunError>) -> u8 {
     match outcome {
         Ok(()) => 0,

@@ -1,32 +1,38 @@
 // Written by bindings/erase from crates/vm_allocator/src/address_allocator/comparing.rt: do not edit.
 
-//! Equality and order of allocators: by their states, whatever the shapes of their trees. Both stand
-//! here and for trees too, since each is a trait's implementation with a clause of its own.
+//! Equality and order of allocators.
+//!
+//! Both compare states, so the shapes of the trees do not matter. `IntervalTree` implements the
+//! same traits with its own contracts.
 
 use super::AddressAllocator;
 use core::cmp::Ordering;
 
 impl PartialEq for AddressAllocator {
-    /// Whether the spaces and the held ranges are the same. It takes no memory and stops at the first
-    /// difference.
+    /// Returns whether both allocators have the same space and the same allocated ranges.
+    ///
+    /// It stops at the first difference and does not allocate.
     fn eq(&self, other: &AddressAllocator) -> bool {
         self.address_space == other.address_space && self.interval_tree == other.interval_tree
     }
 }
 
-impl Eq for AddressAllocator {}
+impl Eq for AddressAllocator {
+}
 
 impl PartialOrd for AddressAllocator {
-    /// As `cmp` compares.
+    /// Compares like `cmp`.
     fn partial_cmp(&self, other: &AddressAllocator) -> Option<Ordering> {
         Some(self.cmp(other))
     }
 }
 
 impl Ord for AddressAllocator {
-    /// By the space, then by the first blocks that differ: by start, then by end, then by state, where
-    /// clear is less. An allocator whose blocks are a beginning of the other's is less. It takes no
-    /// memory and stops at the first difference.
+    /// Compares the spaces, then the first blocks that differ.
+    ///
+    /// Blocks are compared by start, then by end, then by state, where `Free` is less than
+    /// `Allocated`. If the blocks of one allocator are a prefix of the blocks of the other, it is
+    /// less. It stops at the first difference and does not allocate.
     fn cmp(&self, other: &AddressAllocator) -> Ordering {
         match self.address_space.cmp(&other.address_space) {
             Ordering::Equal => self.interval_tree.cmp(&other.interval_tree),

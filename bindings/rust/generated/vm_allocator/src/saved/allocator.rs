@@ -1,25 +1,36 @@
 // Written by bindings/erase from crates/vm_allocator/src/saved/allocator.rt: do not edit.
 
-//! The saved form of an address allocator.
+//! The saved value of an address allocator.
 
 use crate::address_allocator::AddressAllocator;
-use rattle::{json, Value};
+use rattle::{Value, json};
 use rattle::{AllocError, Global};
 use vm_engine::IntervalTree;
-use vm_ranges::{has_fields, range_in, RangeInclusive, Result, ValueError};
+use vm_ranges::{RangeInclusive, Result, ValueError, has_fields, range_in};
 
 impl AddressAllocator {
-    /// The value that states the allocator: its space, and its tree node for node. `OutOfMemory` where
-    /// there is no memory for it.
+    /// Encodes the allocator as a value: its space, and its tree node by node.
+    ///
+    /// # Errors
+    ///
+    /// - `OutOfMemory` if an allocation fails.
     pub fn to_value(&self, alloc: Global) -> Result<Value> {
         let root = self.interval_tree.to_root_value(alloc)?;
         let space = self.address_space.to_value(alloc)?;
         Ok(allocator_object(alloc, space, root)?)
     }
 
-    /// The allocator that a value states: its space and held ranges, in a tree of the same nodes.
-    /// `NotAState` where the value states none, and else `OutOfMemory` where there is no memory for the
-    /// tree. To find out which takes no memory and goes down at most 50 levels of the value.
+    /// Decodes an allocator from a value: its space and its allocated ranges, in a tree with the
+    /// same nodes.
+    ///
+    /// The value can be untrusted input. All of it is checked before anything is allocated, and the
+    /// check descends at most 50 levels.
+    ///
+    /// # Errors
+    ///
+    /// In this order:
+    /// - `NotAState` if the value does not encode an allocator.
+    /// - `OutOfMemory` if an allocation fails.
     pub fn from_value(alloc: Global, value: &Value) -> core::result::Result<Self, ValueError> {
         let Some(parts) = decode_parts(value) else {
             return Err(ValueError::NotAState);
@@ -32,7 +43,7 @@ impl AddressAllocator {
     }
 }
 
-/// The object of an allocator's fields.
+/// Builds the object with the fields of an allocator.
 fn allocator_object(
     alloc: Global,
     space: Value,
@@ -41,14 +52,15 @@ fn allocator_object(
     json!(in alloc; {"address_space": space, "interval_tree": {"root": root}})
 }
 
-/// The space that an allocator's value states, and the root of its tree.
+/// The space in an allocator's value, and the value of the root of its tree.
 #[derive(Clone, Copy)]
 pub(super) struct SavedAllocator<'a> {
     pub(super) space: RangeInclusive,
     pub(super) root: &'a Value,
 }
 
-/// The fields of an allocator's value, where it has these and no others.
+/// Decodes the fields of an allocator's value. Returns `None` if it has other fields or its space
+/// is invalid. The root is not checked.
 pub(super) fn decode_parts(value: &Value) -> Option<SavedAllocator<'_>> {
     if !has_fields(value, 2) {
         return None;
@@ -58,7 +70,7 @@ pub(super) fn decode_parts(value: &Value) -> Option<SavedAllocator<'_>> {
     Some(SavedAllocator { space, root })
 }
 
-/// The root of a tree's value.
+/// Returns the root in a tree's value, or `None` if it has other fields.
 fn decode_root(tree: &Value) -> Option<&Value> {
     if !has_fields(tree, 1) {
         return None;

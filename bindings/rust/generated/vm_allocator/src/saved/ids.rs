@@ -1,32 +1,36 @@
 // Written by bindings/erase from crates/vm_allocator/src/saved/ids.rt: do not edit.
 
-//! The saved form of an id allocator.
+//! The saved value of an id allocator.
 
-use crate::id_allocator::{bound_of, IdAllocator};
-use rattle::BTreeSet;
 use rattle::Vec;
-use rattle::{json, Value};
+use crate::id_allocator::{IdAllocator, bound_of};
+use rattle::{Value, json};
 use rattle::{AllocError, Global};
-use vm_ranges::{has_fields, list_in, u32_from, u32_in, Result, ValueError};
+use rattle::BTreeSet;
+use vm_ranges::{Result, ValueError, has_fields, list_in, u32_from, u32_in};
 
 impl IdAllocator {
-    /// The value that states the allocator: its range, the next id and the ids given back.
-    /// `OutOfMemory` where there is no memory for it.
+    /// Encodes the allocator as a value: its range, the next id and the freed ids.
+    ///
+    /// # Errors
+    ///
+    /// - `OutOfMemory` if an allocation of memory fails.
     pub fn to_value(&self, alloc: Global) -> Result<Value> {
         let next = encode_next(self.next_id);
         let freed = encode_ids(alloc, &self.freed_ids)?;
-        Ok(ids_object(
-            alloc,
-            self.range_base,
-            next,
-            self.range_end,
-            freed,
-        )?)
+        Ok(ids_object(alloc, self.range_base, next, self.range_end, freed)?)
     }
 
-    /// The allocator that a value states: its range, the ids ever handed out and those held.
-    /// `NotAState` where the value states none, and else `OutOfMemory` where there is no memory for the
-    /// ids given back. To find out which takes no memory.
+    /// Decodes an allocator from a value: its range, the ids that were allocated at some time, and
+    /// the ids that are allocated now.
+    ///
+    /// The value can be untrusted input. All of it is checked before memory is allocated.
+    ///
+    /// # Errors
+    ///
+    /// In this order:
+    /// - `NotAState` if the value does not encode an allocator.
+    /// - `OutOfMemory` if an allocation of memory fails.
     pub fn from_value(alloc: Global, value: &Value) -> core::result::Result<Self, ValueError> {
         let Some(ids) = check_ids(value) else {
             return Err(ValueError::NotAState);
@@ -42,7 +46,7 @@ impl IdAllocator {
     }
 }
 
-/// The value of a next id.
+/// Encodes the next id as a number, or as null if there is none.
 fn encode_next(next: Option<u32>) -> Value {
     match next {
         None => Value::Null,
@@ -50,7 +54,7 @@ fn encode_next(next: Option<u32>) -> Value {
     }
 }
 
-/// The list of ids given back.
+/// Encodes the freed ids as a list, in increasing order.
 fn encode_ids(alloc: Global, ids: &BTreeSet<u32>) -> core::result::Result<Value, AllocError> {
     let mut list = Vec::new(alloc);
     for id in ids.iter() {
@@ -59,7 +63,7 @@ fn encode_ids(alloc: Global, ids: &BTreeSet<u32>) -> core::result::Result<Value,
     Ok(Value::from(list))
 }
 
-/// The object of an id allocator's fields.
+/// Builds the object with the fields of an id allocator.
 fn ids_object(
     alloc: Global,
     base: u32,
@@ -67,11 +71,11 @@ fn ids_object(
     end: u32,
     freed: Value,
 ) -> core::result::Result<Value, AllocError> {
-    // The numbers come last: so a refusal has less to drop.
+    // The numbers are last: if an allocation for them fails, only the object has to be dropped.
     json!(in alloc; {"next_id": next, "freed_ids": freed, "range_base": base, "range_end": end})
 }
 
-/// The fields of an id allocator's value; all of them are checked.
+/// The decoded fields of an id allocator's value. All of them are checked.
 struct CheckedIds<'a> {
     base: u32,
     next: Option<u32>,
@@ -79,7 +83,7 @@ struct CheckedIds<'a> {
     freed: &'a Vec<Value>,
 }
 
-/// What the fields of a value say, where it states an id allocator.
+/// Decodes and checks the fields of a value. Returns `None` if it does not encode an id allocator.
 fn check_ids(value: &Value) -> Option<CheckedIds<'_>> {
     if !has_fields(value, 4) {
         return None;
@@ -102,7 +106,8 @@ fn check_ids(value: &Value) -> Option<CheckedIds<'_>> {
     None
 }
 
-/// The next id that a value states.
+/// Decodes a next id. Returns `Some(None)` for null, and `None` if the value is not a 32-bit
+/// number.
 fn decode_next(value: &Value) -> Option<Option<u32>> {
     if value.is_null() {
         return Some(None);
@@ -110,12 +115,12 @@ fn decode_next(value: &Value) -> Option<Option<u32>> {
     Some(Some(u32_from(value.as_u64()?)?))
 }
 
-/// The next id in a field.
+/// Decodes the next id in the field `name`.
 fn next_in(value: &Value, name: &str) -> Option<Option<u32>> {
     decode_next(value.get(name)?)
 }
 
-/// Whether this may be the next id of a range.
+/// Returns whether `next` can be the next id of the range from `base` to `end`.
 fn is_next(next: Option<u32>, base: u32, end: u32) -> bool {
     match next {
         None => end == u32::MAX,
@@ -123,7 +128,8 @@ fn is_next(next: Option<u32>, base: u32, end: u32) -> bool {
     }
 }
 
-/// Whether the items are whole numbers that rise from `lowest` on and stay below `bound`.
+/// Returns whether the items are whole numbers in strictly increasing order, at least `lowest` and
+/// below `bound`.
 fn are_increasing(list: &[Value], lowest: u64, bound: u64) -> bool {
     let mut next = lowest;
     for item in list {
@@ -138,7 +144,8 @@ fn are_increasing(list: &[Value], lowest: u64, bound: u64) -> bool {
     true
 }
 
-/// The set of the numbers, which rise from `lowest` on and stay below `bound`.
+/// Collects the numbers into a set. They are in strictly increasing order, at least `lowest` and
+/// below `bound`.
 #[allow(unused_assignments, unused_variables)]
 fn collect_ids(
     alloc: Global,

@@ -1,30 +1,47 @@
 // Written by bindings/erase from crates/vm_allocator/src/saved/repaired.rt: do not edit.
 
-//! Address allocators read with repairs, from what the Rust crate vm-allocator 0.1.4 saves, its faults
-//! among it: a check of the whole value without memory, and the holding of its keys.
+//! Reads the address allocators that the Rust crate vm-allocator 0.1.4 saved, and repairs the
+//! effects of its bugs.
+//!
+//! A first pass checks the whole value and does not allocate. A second pass allocates its keys.
 
-use super::allocator::{decode_parts, SavedAllocator};
+use super::allocator::{SavedAllocator, decode_parts};
 use crate::address_allocator::AddressAllocator;
-use rattle::Global;
 use rattle::Value;
+use rattle::Global;
 use vm_engine::decode_node;
 use vm_ranges::{AllocPolicy, NodeState, RangeInclusive, Result, ValueError};
 
-/// No node is nested deeper, since no tree of the Rust crate is higher.
+/// The maximum nesting of nodes. No tree of the Rust crate is higher.
 const MAX_NESTING_REPAIRED: u64 = 50;
 
-/// How many keys may be held: with no more, no split is refused for depth.
+/// The maximum number of allocated keys. Up to this number, the height never makes a split fail.
 const MAX_HELD: u64 = 6_293_134_512;
 
 impl AddressAllocator {
-    /// The allocator that a value of the Rust crate stands for, also after one of its faults: its space,
-    /// with the keys held that are `Allocated`, and all else clear. It may have no nodes, gaps between
-    /// keys, free neighbours, no balance and any heights; every value that `from_value` reads with at
-    /// most 6,293,134,512 held ranges is read to an equal allocator. `NotAState` where the fields are
-    /// not those of an allocator, where nodes are nested more than 50 deep, where keys do not rise,
-    /// overlap or leave the space, where a held one ends at `u64::MAX`, and where more are held than
-    /// that; else `OutOfMemory` where there is no memory for the tree. To find out which takes no memory
-    /// and goes down at most 51 levels of the value.
+    /// Decodes an allocator from a value that the Rust crate saved, and repairs the effects of its
+    /// bugs.
+    ///
+    /// The keys that are `Allocated` are the allocated ranges, and all other addresses of the space
+    /// are free. The tree can have no nodes, gaps between keys, free neighbours, no balance and any
+    /// heights.
+    ///
+    /// A value that [`from_value`](Self::from_value) reads is read to an equal allocator, if at
+    /// most 6,293,134,512 ranges are allocated.
+    ///
+    /// The value can be untrusted input. All of it is checked before anything is allocated, and the
+    /// check descends at most 51 levels.
+    ///
+    /// # Errors
+    ///
+    /// In this order:
+    /// - `NotAState` if one of these is true:
+    ///   - The fields are not those of an allocator and of its nodes.
+    ///   - Nodes are nested more than 50 deep.
+    ///   - The keys are not in increasing order, overlap, or are not in the space.
+    ///   - An allocated key ends at `u64::MAX`.
+    ///   - More than 6,293,134,512 keys are allocated.
+    /// - `OutOfMemory` if the allocation of a node fails.
     pub fn from_value_repaired(
         alloc: Global,
         value: &Value,
@@ -43,7 +60,7 @@ impl AddressAllocator {
     }
 }
 
-/// The keys met so far: they end below `next`, and `held` of them are held.
+/// A cursor after the keys visited so far: they end below `next`, and `held` of them are allocated.
 #[derive(Clone, Copy)]
 struct KeyCursor {
     next: u128,
@@ -51,7 +68,8 @@ struct KeyCursor {
 }
 
 impl KeyCursor {
-    /// The row with one more block, where it may stand behind the others in a space up to `end`.
+    /// Returns the cursor after one more block, or `None` if the block cannot follow in a space
+    /// that ends at `end`.
     fn advance_key(self, end: u64, key: &RangeInclusive, state: NodeState) -> Option<KeyCursor> {
         let last = key.end();
         if u128::from(key.start()) < self.next || last > end {
@@ -71,8 +89,10 @@ impl KeyCursor {
     }
 }
 
-/// The row with the blocks of the nodes of a value, in order. None where it is no tree of nodes, has
-/// them nested deeper than `depth`, or has a block that may not stand where it does.
+/// Returns the cursor after the blocks of all nodes of a value, in order.
+///
+/// Returns `None` if the value is not a tree of nodes, if its nodes are nested deeper than `depth`,
+/// or if a block cannot follow the block before it.
 #[allow(clippy::question_mark)]
 fn check_keys(value: &Value, end: u64, depth: u64, cursor: KeyCursor) -> Option<KeyCursor> {
     if value.is_null() {
@@ -89,7 +109,8 @@ fn check_keys(value: &Value, end: u64, depth: u64, cursor: KeyCursor) -> Option<
     check_keys(node.right, end, depth - 1, middle)
 }
 
-/// The space that a value states, and the root of its tree; both are checked.
+/// Decodes the space of a value and the root of its tree, and checks both. Returns `None` if the
+/// value does not encode an allocator.
 #[allow(clippy::question_mark)]
 fn check_repaired(value: &Value) -> Option<SavedAllocator<'_>> {
     let Some(parts) = decode_parts(value) else {
@@ -103,8 +124,8 @@ fn check_repaired(value: &Value) -> Option<SavedAllocator<'_>> {
     Some(parts)
 }
 
-/// Holds the keys of the nodes of a checked value that are held there, in order, above what is held
-/// already. `OutOfMemory` where there is no memory for a split.
+/// Allocates the allocated keys of a checked value, in order. They are above all ranges that are
+/// allocated before. Returns `OutOfMemory` if the allocation of a node fails.
 #[allow(clippy::only_used_in_recursion)]
 fn hold_keys(
     value: &Value,
@@ -120,8 +141,8 @@ fn hold_keys(
     hold_keys(node.right, depth - 1, alloc, allocator)
 }
 
-/// Holds the key, where it is a held one, above what is held already. `OutOfMemory` where there is no
-/// memory for a split.
+/// Allocates the key if its state is `Allocated`. It is above all ranges that are allocated before.
+/// Returns `OutOfMemory` if the allocation of a node fails.
 fn hold_key(
     key: &RangeInclusive,
     state: NodeState,

@@ -1,7 +1,6 @@
 // Written by bindings/erase from crates/vm_devices/src/device_manager/saved.rt: do not edit.
 
-//! The saved form of a manager: its version, both allocators, and the list of its devices. A value may
-//! come from a stranger; it is read only where all of this fits together.
+//! The saved value of a manager: its version, both allocators, and the list of its devices.
 
 use rattle::Vec;
 mod pairing;
@@ -10,17 +9,21 @@ mod slots;
 use self::pairing::read_devices;
 use self::slots::encode_slots;
 use super::DeviceManager;
-use rattle::{json, Value};
+use rattle::{Value, json};
 use rattle::{AllocError, Global};
 use vm_allocator::{AddressAllocator, IdAllocator, Result, ValueError};
 use vm_ranges::{has_fields, list_in, number_in};
 
-/// The version of the saved form.
+/// The version of the saved value.
 const VERSION: u64 = 1;
 
 impl DeviceManager {
-    /// The value that states the manager: its version, its ids, its space and its devices, by rising
-    /// ids. `OutOfMemory` where there is no memory for it.
+    /// Encodes the manager as a value: its version, its ids, its space and its devices, by
+    /// increasing ids.
+    ///
+    /// # Errors
+    ///
+    /// - `OutOfMemory` if an allocation fails.
     pub fn to_value(&self, alloc: Global) -> Result<Value> {
         let ids = self.id_allocator.to_value(alloc)?;
         let space = self.mmio_allocator.to_value(alloc)?;
@@ -28,10 +31,21 @@ impl DeviceManager {
         Ok(manager_object(alloc, ids, space, slots)?)
     }
 
-    /// The manager that a value states: its ids, its space and its devices. `NotAState` where the value
-    /// states none: the version is another, a part states nothing, ids do not rise, a device has an id
-    /// or a range that is not held, or a held one has no device. Its parts are read in turn, so
-    /// `OutOfMemory` may come for any value.
+    /// Decodes a manager from a value: its ids, its space and its devices.
+    ///
+    /// The value can be untrusted input. Its parts are read one after the other, so `OutOfMemory`
+    /// is possible for every value.
+    ///
+    /// # Errors
+    ///
+    /// - `NotAState` if one of these is true:
+    ///   - The fields or the version are not those of a manager.
+    ///   - A part of the value is not valid.
+    ///   - The ids of the devices are not in increasing order.
+    ///   - The id or the range of a device is not allocated.
+    ///   - An allocated id or range has no device.
+    ///   - Two devices have the same range.
+    /// - `OutOfMemory` if an allocation fails.
     pub fn from_value(alloc: Global, value: &Value) -> core::result::Result<Self, ValueError> {
         let Some(fields) = decode_fields(value) else {
             return Err(ValueError::NotAState);
@@ -47,25 +61,25 @@ impl DeviceManager {
     }
 }
 
-/// The object of a manager's fields.
+/// Builds the object with the fields of a manager.
 fn manager_object(
     alloc: Global,
     ids: Value,
     space: Value,
     slots: Value,
 ) -> core::result::Result<Value, AllocError> {
-    // The version comes last: so a refusal has less to drop.
+    // The version is last: if an allocation for it fails, only the object has to be dropped.
     json!(in alloc; {"id_allocator": ids, "mmio_allocator": space, "slots": slots, "version": VERSION})
 }
 
-/// What stands in the fields of a manager's value.
+/// The values of the fields of a manager's value.
 struct Fields<'a> {
     ids: &'a Value,
     space: &'a Value,
     slots: &'a Vec<Value>,
 }
 
-/// What stands in the fields of a value, where they are those of a manager, of this version.
+/// Returns the fields of a value, or `None` if they are not those of a manager of this version.
 fn decode_fields(value: &Value) -> Option<Fields<'_>> {
     if !has_fields(value, 4) || number_in(value, "version")? != VERSION {
         return None;

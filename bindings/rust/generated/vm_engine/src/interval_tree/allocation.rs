@@ -1,24 +1,29 @@
 // Written by bindings/erase from crates/vm_engine/src/interval_tree/allocation.rt: do not edit.
 
-//! How a range is held: what fills its free block is marked in place, and what does not is split
-//! from it, with all memory asked for before the first change.
+//! Allocates a chosen range.
+//!
+//! A range that fills its free block only changes the state of the block. Any other range splits
+//! the block. All memory for a split is allocated before the first change, so an error changes
+//! nothing.
 
+use rattle::Box;
 use super::IntervalTree;
+use crate::Steps;
 use crate::node::rewrite::rewrite_at;
-use crate::node::split::{split_at, Choice, Rest, Split};
+use crate::node::split::{Choice, Rest, Split, split_at};
 use crate::node::{Child, InnerNode};
 use crate::ordering::valid_range;
-use crate::Steps;
-use rattle::Box;
 use rattle::Global;
 use vm_ranges::{Error, NodeState, RangeInclusive, Result};
 
-/// The height from which on no split is made, so that two more nodes never make a tree too high.
+/// Trees of this height or more are not split, so a split never makes a tree higher than 49.
 const SPLIT_HEIGHT_LIMIT: u64 = 48;
 
 impl IntervalTree {
-    /// Holds a range within a free block. Where a part of the block is left, a tree that is too high
-    /// is `Overflow`, and then comes `OutOfMemory`: all memory is asked for before the first change.
+    /// Allocates a range within a free block.
+    ///
+    /// If the range does not fill the block, it returns `Overflow` for a tree of height 48 or more,
+    /// and `OutOfMemory` if the allocation of a leaf fails.
     pub(super) fn allocate_chosen(
         &mut self,
         alloc: Global,
@@ -39,26 +44,27 @@ impl IntervalTree {
             return Err(Error::Overflow);
         }
         let rest = rest_of(alloc, &choice)?;
-        let mut cut = Split { choice, rest };
-        split_at(&mut self.root, &mut cut, count);
+        let mut split = Split { choice, rest };
+        split_at(&mut self.root, &mut split, count);
         Ok(choice.range)
     }
 }
 
-/// Whether a part of the free block is left beside the range.
+/// Returns `true` if the range does not fill its free block.
 fn needs_split(choice: &Choice) -> bool {
     choice.key.start() < choice.range.start() || choice.range.end() < choice.key.end()
 }
 
-/// What is left of the free block on both sides of the range. `OutOfMemory` where there is no memory
-/// for a leaf.
+/// Allocates the leaves for the parts of the free block before and after the range.
+///
+/// It returns `OutOfMemory` if the allocation of a leaf fails.
 fn rest_of(alloc: Global, choice: &Choice) -> Result<Rest> {
     let before = leaf_before(alloc, choice)?;
     let after = leaf_after(alloc, choice)?;
     Ok(Rest { before, after })
 }
 
-/// A leaf for what is left of the free block before the range.
+/// Allocates a leaf for the part of the free block before the range, if that part is not empty.
 fn leaf_before(alloc: Global, choice: &Choice) -> Result<Child> {
     if choice.key.start() >= choice.range.start() {
         return Ok(None);
@@ -67,7 +73,7 @@ fn leaf_before(alloc: Global, choice: &Choice) -> Result<Child> {
     free_leaf(alloc, key)
 }
 
-/// A leaf for what is left of the free block after the range.
+/// Allocates a leaf for the part of the free block after the range, if that part is not empty.
 fn leaf_after(alloc: Global, choice: &Choice) -> Result<Child> {
     if choice.range.end() >= choice.key.end() {
         return Ok(None);
@@ -76,7 +82,7 @@ fn leaf_after(alloc: Global, choice: &Choice) -> Result<Child> {
     free_leaf(alloc, key)
 }
 
-/// A leaf with a free block.
+/// Allocates a leaf with a free block.
 fn free_leaf(alloc: Global, key: RangeInclusive) -> Result<Child> {
     let leaf = Box::new(alloc, InnerNode::new(key, NodeState::Free))?;
     Ok(Some(leaf))

@@ -1,15 +1,16 @@
 // Written by bindings/erase from crates/vm_engine/src/interval_tree/counted.rt: do not edit.
 
-//! The counted calls, and the counter of the nodes that they enter. Outside this file nobody makes a
-//! counter, raises one, reads or copies it, since its field can be named here alone: who is handed
-//! a counter can count a node by it and hand it on, and nothing else.
+//! The counted calls, and the counter of the nodes that they enter.
+//!
+//! The field of the counter is private to this file, so only this file can create, read, raise or
+//! copy one. Code that receives a counter can only count a node, or pass the counter on.
 
 use super::IntervalTree;
 use crate::node::InnerNode;
 use rattle::Global;
 use vm_ranges::{Constraint, RangeInclusive, Result};
 
-/// How many nodes a call has entered.
+/// The number of nodes that a call has entered.
 pub(crate) struct Steps {
     entered: u64,
 }
@@ -24,7 +25,12 @@ impl InnerNode {
 }
 
 impl IntervalTree {
-    /// `allocate`, and how many nodes it entered.
+    /// Allocates like [`allocate`](Self::allocate), and also returns the number of nodes that it
+    /// entered.
+    ///
+    /// # Errors
+    ///
+    /// Those of [`allocate`](Self::allocate), in the same order.
     pub fn allocate_counted(
         &mut self,
         alloc: Global,
@@ -35,7 +41,11 @@ impl IntervalTree {
         (answer, count.entered)
     }
 
-    /// `free`, and how many nodes it entered.
+    /// Frees like [`free`](Self::free), and also returns the number of nodes that it entered.
+    ///
+    /// # Errors
+    ///
+    /// - `ResourceNotAvailable` if exactly this range is not allocated.
     pub fn free_counted(&mut self, key: &RangeInclusive) -> (Result<()>, u64) {
         let mut count = Steps { entered: 0 };
         let answer = self.free_inner(key, &mut count);

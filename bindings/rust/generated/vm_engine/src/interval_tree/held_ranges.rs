@@ -1,16 +1,18 @@
 // Written by bindings/erase from crates/vm_engine/src/interval_tree/held_ranges.rt: do not edit.
 
-//! The held ranges: one after the other, whether a range is one, and how many there are. Their number
-//! is counted anew for each question: one that is kept would have to be brought up to date in every
-//! change.
+//! Queries about the allocated ranges.
+//!
+//! Their number is not stored, because each change would have to update it. `held_count` counts
+//! them.
 
 use super::IntervalTree;
-use crate::node::walks::held::{count_held, has_held};
 use crate::node::walks::Walk;
+use crate::node::walks::held::{count_held, has_held};
 use vm_ranges::{NodeState, RangeInclusive};
 
-/// The held ranges of a space, from the lowest to the highest: it is seen as those that are
-/// left. It takes no memory.
+/// An iterator over the allocated ranges, from the lowest to the highest. It does not allocate.
+///
+/// Its model is the list of the ranges that it has not returned yet.
 pub struct HeldRanges<'a> {
     walk: Walk<'a>,
 }
@@ -18,7 +20,7 @@ pub struct HeldRanges<'a> {
 impl<'a> Iterator for HeldRanges<'a> {
     type Item = RangeInclusive;
 
-    /// The next held range.
+    /// Returns the next allocated range.
     #[allow(clippy::while_let_on_iterator)]
     fn next(&mut self) -> Option<RangeInclusive> {
         while let Some(block) = self.walk.next() {
@@ -31,18 +33,21 @@ impl<'a> Iterator for HeldRanges<'a> {
 }
 
 impl IntervalTree {
-    /// The held ranges, from the lowest to the highest. It takes no memory.
+    /// Returns an iterator over the allocated ranges, from the lowest to the highest. It does not
+    /// allocate.
     pub fn held_ranges(&self) -> HeldRanges<'_> {
         HeldRanges { walk: self.walk() }
     }
 
-    /// Whether exactly this range is held: a part of a held range is not, and a clear one neither. It
-    /// goes one way down the tree and takes no memory.
+    /// Returns `true` if exactly this range is allocated.
+    ///
+    /// It returns `false` for a part of an allocated range and for a free range. It follows one
+    /// path from the root and does not allocate.
     pub fn holds(&self, key: &RangeInclusive) -> bool {
         has_held(&self.root, key)
     }
 
-    /// How many ranges are held. It walks the whole tree and takes no memory.
+    /// Returns the number of allocated ranges. It visits every node and does not allocate.
     pub fn held_count(&self) -> u64 {
         count_held(&self.root)
     }

@@ -1,17 +1,17 @@
 // Written by bindings/erase from crates/vm_engine/src/interval_tree/placement.rt: do not edit.
 
-//! Where a request is placed: the least, the greatest or the named place, and the free block that
-//! has it.
+//! Chooses the range of a request, and finds the free block that contains it.
 
 use super::IntervalTree;
-use crate::node::places::{first_place, last_place, Place};
+use crate::Steps;
+use crate::node::places::{Place, first_place, last_place};
 use crate::node::split::Choice;
 use crate::ordering::valid_range;
-use crate::Steps;
 use vm_ranges::{AllocPolicy, Constraint, Error, NodeState, RangeInclusive, Result};
 
 impl IntervalTree {
-    /// The range to hold for a request, and the free block that has it, or the refusal.
+    /// Returns the range that the policy of a request chooses, with its free block, or the error of
+    /// the request.
     pub(super) fn choose_place(&self, constraint: Constraint, count: &mut Steps) -> Result<Choice> {
         let (size, align) = (constraint.size(), constraint.align());
         match constraint.policy() {
@@ -27,9 +27,13 @@ impl IntervalTree {
         }
     }
 
-    /// The named start, where it is a place. In this order: `Overflow` for `u64::MAX`,
-    /// `ResourceNotAvailable` for a start outside the space, `Overflow` for a range that passes
-    /// `u64::MAX`, and then what the block with the start says.
+    /// Returns the range at the start that an `ExactMatch` request names, if it is free.
+    ///
+    /// The errors are, in this order:
+    /// - `Overflow` if `start` is `u64::MAX`.
+    /// - `ResourceNotAvailable` if `start` is outside the space.
+    /// - `Overflow` if the range would end past `u64::MAX`.
+    /// - The error of `exact_choice`.
     fn exact_place(&self, constraint: Constraint, start: u64, count: &mut Steps) -> Result<Choice> {
         if start == u64::MAX {
             return Err(Error::Overflow);
@@ -46,8 +50,10 @@ impl IntervalTree {
     }
 }
 
-/// The `size` addresses from the place on that a search found. `ResourceNotAvailable` where it found
-/// none, and `Overflow` where they end at `u64::MAX`.
+/// Returns the `size` addresses that start at the place that a search found.
+///
+/// It returns `ResourceNotAvailable` if the search found no place, and `Overflow` if the range ends
+/// at `u64::MAX`.
 fn choice_at(found: Option<Place>, size: u64) -> Result<Choice> {
     let Some(place) = found else {
         return Err(Error::ResourceNotAvailable);
@@ -62,9 +68,15 @@ fn choice_at(found: Option<Place>, size: u64) -> Result<Choice> {
     })
 }
 
-/// What the block with a start says to a request from there to `last`. A held block of exactly this
-/// range is `InvalidStateTransition`, any other and a free one that is too short
-/// `ResourceNotAvailable`, and a range that ends at `u64::MAX` is `Overflow`.
+/// Returns the range from `start` to `last`, if it is free. The block contains `start`.
+///
+/// The errors are, in this order:
+/// - For an allocated block:
+///   - `InvalidStateTransition` if its range is exactly this range.
+///   - `ResourceNotAvailable` otherwise.
+/// - For a free block:
+///   - `ResourceNotAvailable` if it ends before `last`.
+///   - `Overflow` if `last` is `u64::MAX`.
 fn exact_choice(key: RangeInclusive, state: NodeState, start: u64, last: u64) -> Result<Choice> {
     match state {
         NodeState::Allocated => {

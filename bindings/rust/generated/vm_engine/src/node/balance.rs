@@ -1,31 +1,33 @@
 // Written by bindings/erase from crates/vm_engine/src/node/balance.rt: do not edit.
 
-//! Rotations to the left and to the right, and `update`, the one tail of each change of a child.
-//! Nothing here calls itself, and nothing takes memory.
+//! Rotations, and the update of a node after one of its children has changed. Nothing here is
+//! recursive or allocates.
 //!
-//! `update` takes the fields of a node one by one, since a node may not be handed on whole while what
-//! it keeps is stale, and a record of what is kept would make a node larger. It returns what became
-//! of it (`Updated`) instead of rotating, since the caller still has it open: once it is closed,
-//! `rebalance` does the rest, and one lemma says what both make of it (`rebalanced`). It stands in line:
-//! never inlined it costs 5 to 10 % of the instructions of every input, since the fields then go as
-//! addresses; the rotation alone as a cold function makes no difference. A rotation changes nodes in
-//! place: to take them apart and put them together again reads better, and costs 1.5 to 3 %.
+//! `update` takes the fields of a node one by one, because a node whose cached summary is stale
+//! violates the invariant and cannot be passed whole. For the same reason it does not rotate: it
+//! returns an `Updated`, and the caller calls `rebalance` when the node is whole again. `update` is
+//! always inlined, because otherwise the fields are passed by address at every level.
+//!
+//! Rotations change nodes in place. This is faster than taking the nodes apart and building them
+//! again.
 
-use super::summary::{free_summary_of, refresh_free, summary_of, summary_over, Change};
-use super::{height, Child, InnerNode};
 use rattle::Box;
+use super::summary::{Change, free_summary_of, refresh_free, summary_of, summary_over};
+use super::{Child, InnerNode, height};
 use vm_ranges::{NodeState, RangeInclusive};
 
-/// What becomes of a node once one of its children has changed.
+/// The effect of a changed child on its parent.
 pub(super) enum Updated {
-    /// Its children are close in height; this changed of what it keeps.
+    /// The heights of the children differ by at most one. The summary of the parent changed like
+    /// this.
     Balanced(Change),
-    /// Its children differ by two, and are taken out of it: the left one and the right one.
+    /// The heights of the children differ by two. Both children, left and right, were taken out of
+    /// the parent.
     Unbalanced(Child, Child),
 }
 
 impl Updated {
-    /// Balances the node at a place where it leans; says what changed there.
+    /// Rebalances the node at a link if it is unbalanced. Returns the change of its summary.
     #[inline(always)]
     pub(super) fn rebalance(self, at: &mut Child) -> Change {
         match self {
@@ -35,7 +37,7 @@ impl Updated {
     }
 }
 
-/// Brings what a node keeps up to date, or takes its children out where they are to be balanced.
+/// Updates the cached summary of a node, or takes its children out if the node is unbalanced.
 #[inline(always)]
 pub(super) fn update(
     left: &mut Child,
@@ -66,7 +68,7 @@ pub(super) fn update(
 }
 
 impl InnerNode {
-    /// Takes the children out of the node, the left one and the right one.
+    /// Takes both children out of the node and returns them, left and right.
     #[inline(always)]
     pub(super) fn take_children(&mut self) -> (Child, Child) {
         let sides = (self.left.take(), self.right.take());
@@ -78,7 +80,7 @@ impl InnerNode {
     }
 }
 
-/// A node with these sides, whose heights differ by at most one.
+/// Returns a node with these children, whose heights differ by at most one.
 pub(super) fn fork(left: Child, mut middle: Box<InnerNode>, right: Child) -> Box<InnerNode> {
     let open = &mut *middle;
     open.left = left;
@@ -90,7 +92,8 @@ pub(super) fn fork(left: Child, mut middle: Box<InnerNode>, right: Child) -> Box
     middle
 }
 
-/// Rotates to the right: a left side two levels higher goes to the top.
+/// Rotates right. The left child, which is two levels higher than the right one, becomes the root
+/// of the subtree.
 fn rotate_right(mut left: Box<InnerNode>, middle: Box<InnerNode>, right: Child) -> Box<InnerNode> {
     let top = &mut *left;
     let inner = top.right.take();
@@ -102,8 +105,8 @@ fn rotate_right(mut left: Box<InnerNode>, middle: Box<InnerNode>, right: Child) 
     left
 }
 
-/// Rotates to the left, and then to the right: the right side of a left side two levels higher goes
-/// to the top.
+/// Rotates left at the left child, which is two levels higher, and then right. The right child of
+/// the left child becomes the root of the subtree.
 fn rotate_left_right(
     mut left: Box<InnerNode>,
     middle: Box<InnerNode>,
@@ -129,7 +132,8 @@ fn rotate_left_right(
     inner
 }
 
-/// Rotates to the left: a right side two levels higher goes to the top.
+/// Rotates left. The right child, which is two levels higher than the left one, becomes the root of
+/// the subtree.
 fn rotate_left(left: Child, middle: Box<InnerNode>, mut right: Box<InnerNode>) -> Box<InnerNode> {
     let top = &mut *right;
     let inner = top.left.take();
@@ -141,8 +145,8 @@ fn rotate_left(left: Child, middle: Box<InnerNode>, mut right: Box<InnerNode>) -
     right
 }
 
-/// Rotates to the right, and then to the left: the left side of a right side two levels higher goes
-/// to the top.
+/// Rotates right at the right child, which is two levels higher, and then left. The left child of
+/// the right child becomes the root of the subtree.
 fn rotate_right_left(
     left: Child,
     middle: Box<InnerNode>,
@@ -168,7 +172,8 @@ fn rotate_right_left(
     inner
 }
 
-/// A node with these sides, whose heights differ by at most two.
+/// Returns a balanced subtree of these children and this node. The heights of the children differ
+/// by at most two.
 pub(super) fn balance(left: Child, middle: Box<InnerNode>, right: Child) -> Box<InnerNode> {
     let left_height = height(&left);
     let right_height = height(&right);
@@ -189,8 +194,10 @@ pub(super) fn balance(left: Child, middle: Box<InnerNode>, right: Child) -> Box<
     fork(left, middle, right)
 }
 
-/// Puts a node with these sides, whose heights differ by at most two, in the place of one without
-/// children. The height there may be another one, which it tells.
+/// Replaces the leaf at a link by a balanced subtree of that leaf and these children, whose heights
+/// differ by at most two.
+///
+/// It returns `Change::Height`, because the height at the link can change.
 fn balance_at(at: &mut Child, left: Child, right: Child) -> Change {
     let Some(middle) = at.take() else {
         unreachable!()

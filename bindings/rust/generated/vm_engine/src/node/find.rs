@@ -1,14 +1,14 @@
 // Written by bindings/erase from crates/vm_engine/src/node/find.rt: do not edit.
 
-//! The block of an address.
+//! The search for the block that contains a range.
 
 use super::InnerNode;
-use crate::ordering::ends_before;
 use crate::Steps;
+use crate::ordering::ends_before;
 use vm_ranges::RangeInclusive;
 
 impl InnerNode {
-    /// The node whose key contains this one.
+    /// Returns the node whose key contains this range, or `None` if there is no such node.
     pub(crate) fn search_superset(
         &self,
         key: &RangeInclusive,
@@ -21,7 +21,7 @@ impl InnerNode {
         }
         if ends_before(&self.key, key) {
             let Some(right) = &self.right else {
-                return None;
+                return None
             };
             return right.search_superset(key, count);
         }

@@ -1,15 +1,16 @@
 // Written by bindings/erase from crates/vm_engine/src/node/link.rt: do not edit.
 
-//! A leaf added to a tree, on one way down and back up.
+//! Adds a leaf to a tree, in one descent.
 
+use rattle::Box;
 use super::balance::update;
 use super::summary::Change;
 use super::{Child, InnerNode};
-use crate::ordering::starts_before;
 use crate::Steps;
-use rattle::Box;
+use crate::ordering::starts_before;
 
-/// Adds a leaf at a place, below the node there if there is one; says what changed there.
+/// Adds a leaf to the subtree at a link, and rebalances the path. Returns the change of the
+/// subtree's summary.
 pub(super) fn link_at(at: &mut Child, leaf: Box<InnerNode>, count: &mut Steps) -> Change {
     let key = leaf.key();
     let Some(tree) = at else {

@@ -1,33 +1,34 @@
 // Written by bindings/erase from crates/vm_engine/src/node/neighbours.rt: do not edit.
 
-//! The search for a held block and the free ones beside it, in one descent. It writes the nodes that
-//! it passes into a pair which its caller holds, and returns only whether it found the block, so that
-//! it is a loop once compiled: a quarter of the instructions of a search that carried both free
-//! ranges back up.
+//! The search for an allocated block and its free neighbours, in one descent.
+//!
+//! The search writes the nodes that it passes into a pair of its caller, and returns only whether
+//! it found the block. So the recursive call is the last step, and compiles to a loop.
 
 use super::{Child, InnerNode};
-use crate::ordering::compare;
 use crate::Steps;
+use crate::ordering::compare;
 use core::cmp::Ordering;
 use vm_ranges::{NodeState, RangeInclusive};
 
-/// The free blocks right beside a held one.
+/// The free neighbours of an allocated block.
 #[derive(Clone, Copy)]
 pub(crate) struct Neighbours {
-    /// The one that ends right before it.
+    /// The free block that ends right before it, if there is one.
     pub(crate) before: Option<RangeInclusive>,
-    /// The one that starts right after it.
+    /// The free block that starts right after it, if there is one.
     pub(crate) after: Option<RangeInclusive>,
 }
 
-/// The nodes with the blocks right beside one, where there are such.
+/// The nodes of the blocks right before and right after a block, if they exist.
 #[derive(Clone, Copy)]
 struct NeighbourNodes<'a> {
     before: Option<&'a InnerNode>,
     after: Option<&'a InnerNode>,
 }
 
-/// The key of a node whose block is free, if there is such a node.
+/// Returns the key of a node if its block is free. Returns `None` if the block is allocated or
+/// there is no node.
 fn free_key(node: Option<&InnerNode>) -> Option<RangeInclusive> {
     let node = node?;
     match node.node_state {
@@ -36,7 +37,7 @@ fn free_key(node: Option<&InnerNode>) -> Option<RangeInclusive> {
     }
 }
 
-/// The node with the last block below a side, and `before` where the side is absent.
+/// Returns the node with the highest block of a child, or `before` if the child is absent.
 fn last_below<'a>(
     child: &'a Child,
     before: Option<&'a InnerNode>,
@@ -48,7 +49,7 @@ fn last_below<'a>(
     }
 }
 
-/// The node with the first block below a side, and `after` where the side is absent.
+/// Returns the node with the lowest block of a child, or `after` if the child is absent.
 fn first_below<'a>(
     child: &'a Child,
     after: Option<&'a InnerNode>,
@@ -61,7 +62,7 @@ fn first_below<'a>(
 }
 
 impl InnerNode {
-    /// The node with the last block.
+    /// Returns the node with the highest block.
     fn last_node(&self, count: &mut Steps) -> &InnerNode {
         self.enter(count);
         match &self.right {
@@ -70,7 +71,7 @@ impl InnerNode {
         }
     }
 
-    /// The node with the first block.
+    /// Returns the node with the lowest block.
     fn first_node(&self, count: &mut Steps) -> &InnerNode {
         self.enter(count);
         match &self.left {
@@ -79,8 +80,10 @@ impl InnerNode {
         }
     }
 
-    /// Whether a held block has this key. `beside` comes with the nodes right before and right after
-    /// the whole tree, and has then those beside the block.
+    /// Returns `true` if the subtree has an allocated block with this key.
+    ///
+    /// Before the call, `beside` has the nodes right before and right after the whole subtree.
+    /// After it, `beside` has the neighbours of the block, if there is one.
     fn find_held<'a>(
         &'a self,
         key: &RangeInclusive,
@@ -96,7 +99,7 @@ impl InnerNode {
             }
             Ordering::Less => {
                 let Some(right) = &self.right else {
-                    return false;
+                    return false
                 };
                 beside.before = Some(self);
                 right.find_held(key, beside, count)
@@ -105,7 +108,8 @@ impl InnerNode {
         }
     }
 
-    /// Whether this node's block is held. `beside` has then the nodes beside it.
+    /// Returns `true` if the block of this node is allocated, and then writes its neighbours to
+    /// `beside`.
     fn find_neighbours_here<'a>(
         &'a self,
         beside: &mut NeighbourNodes<'a>,
@@ -121,7 +125,9 @@ impl InnerNode {
         }
     }
 
-    /// The free blocks beside the held block with this key, if there is one.
+    /// Returns the free neighbours of the allocated block with this key.
+    ///
+    /// It returns `None` if there is no such block.
     pub(crate) fn neighbours(&self, key: &RangeInclusive, count: &mut Steps) -> Option<Neighbours> {
         let mut beside = NeighbourNodes {
             before: None,

@@ -1,27 +1,28 @@
 // Written by bindings/erase from crates/vm_engine/src/node/places.rt: do not edit.
 
-//! The searches for the place of a request: first fit and last fit, two functions, since one with a
-//! side as its argument would look at it at each node, and its proof would be by cases on it
-//! throughout. They write what they find into an `Option` that their caller holds: a returned place
-//! is 32 bytes that are copied at each level, 12 % of the instructions of `first`. Each looks whether
-//! a child is there, and has room (`may_fit`), before it calls: a recursion over optional children took
-//! 40 to 80 % more time. None calls what begins the search, since whatever comes back to itself has
-//! to count a node.
+//! The searches for the lowest and for the highest place of a request.
+//!
+//! They are two functions, because a common one would branch on the direction at every node. They
+//! write the place into an `Option` of their caller, because returning it would copy 32 bytes at
+//! every level. Before a call enters a child, `may_fit` checks that the child exists and that its
+//! summary fits the request.
 
 use super::{Child, InnerNode};
 use crate::Steps;
-use vm_ranges::{align_down, align_up, NodeState, RangeInclusive};
+use vm_ranges::{NodeState, RangeInclusive, align_down, align_up};
 
-/// A start in a free block.
+/// An address in a free block at which a request can start.
 #[derive(Clone, Copy, Debug)]
 pub(crate) struct Place {
     /// The free block.
     pub(crate) key: RangeInclusive,
-    /// An address of it.
+    /// An address of the block.
     pub(crate) start: u64,
 }
 
-/// The least multiple of the alignment from which a block has room for `size` clear addresses.
+/// Returns the lowest multiple of `alignment` at which `size` addresses fit into the block.
+///
+/// It returns `None` if there is no such multiple, or if the block is allocated.
 fn lowest_fit(key: &RangeInclusive, state: NodeState, size: u64, alignment: u64) -> Option<u64> {
     if state == NodeState::Allocated {
         return None;
@@ -37,7 +38,9 @@ fn lowest_fit(key: &RangeInclusive, state: NodeState, size: u64, alignment: u64)
     }
 }
 
-/// The greatest multiple of the alignment from which a block has room for `size` clear addresses.
+/// Returns the highest multiple of `alignment` at which `size` addresses fit into the block.
+///
+/// It returns `None` if there is no such multiple, or if the block is allocated.
 fn highest_fit(key: &RangeInclusive, state: NodeState, size: u64, alignment: u64) -> Option<u64> {
     let (start, end) = (key.start(), key.end());
     if state == NodeState::Allocated || end - start < size - 1 {
@@ -46,15 +49,13 @@ fn highest_fit(key: &RangeInclusive, state: NodeState, size: u64, alignment: u64
     let Ok(place) = align_down(end - (size - 1), alignment) else {
         return None;
     };
-    if start <= place {
-        Some(place)
-    } else {
-        None
-    }
+    if start <= place { Some(place) } else { None }
 }
 
-/// The tree, if one of its free blocks is long enough for `size` addresses, and a multiple of the
-/// alignment lies in one of them.
+/// Returns the root of the subtree if a request may fit into it.
+///
+/// This is true if one of its free blocks has at least `size` addresses, and one of them has a
+/// multiple of `alignment`. These can be different blocks.
 #[inline(always)]
 fn may_fit(tree: &Child, size: u64, alignment: u64) -> Option<&InnerNode> {
     let Some(node) = tree else { return None };
@@ -66,7 +67,7 @@ fn may_fit(tree: &Child, size: u64, alignment: u64) -> Option<&InnerNode> {
     }
 }
 
-/// The least place among the blocks of a tree: the first block with a fit, and its least fit.
+/// Returns the lowest place for a request in a tree, or `None` if there is no place.
 pub(crate) fn first_place(
     tree: &Child,
     size: u64,
@@ -80,7 +81,7 @@ pub(crate) fn first_place(
     found
 }
 
-/// The greatest place among the blocks of a tree: the last block with a fit, and its greatest fit.
+/// Returns the highest place for a request in a tree, or `None` if there is no place.
 pub(crate) fn last_place(
     tree: &Child,
     size: u64,
@@ -95,7 +96,7 @@ pub(crate) fn last_place(
 }
 
 impl InnerNode {
-    /// Writes the least place from this node on, if there is one.
+    /// Writes the lowest place in the subtree to `found`, if there is a place.
     fn first_place(&self, size: u64, alignment: u64, found: &mut Option<Place>, count: &mut Steps) {
         self.enter(count);
         if let Some(left) = may_fit(&self.left, size, alignment) {
@@ -116,7 +117,7 @@ impl InnerNode {
         }
     }
 
-    /// Writes the greatest place from this node on, if there is one.
+    /// Writes the highest place in the subtree to `found`, if there is a place.
     fn last_place(&self, size: u64, alignment: u64, found: &mut Option<Place>, count: &mut Steps) {
         self.enter(count);
         if let Some(right) = may_fit(&self.right, size, alignment) {

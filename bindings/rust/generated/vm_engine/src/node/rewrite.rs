@@ -1,17 +1,17 @@
 // Written by bindings/erase from crates/vm_engine/src/node/rewrite.rt: do not edit.
 
-//! A block changed in place.
+//! Changes the key and the state of a block in place.
 
-use super::summary::{free_summary_of, refresh_free, summary_of, Change};
+use super::summary::{Change, free_summary_of, refresh_free, summary_of};
 use super::{Child, InnerNode};
-use crate::ordering::compare;
 use crate::Steps;
+use crate::ordering::compare;
 use core::cmp::Ordering;
 use vm_ranges::{NodeState, RangeInclusive};
 
 impl InnerNode {
-    /// Gives this node another key, which keeps its place in the order, and another state. Returns what
-    /// changed of what is kept here.
+    /// Changes the key and the state of this node. The new key keeps its position in the order.
+    /// Returns the change of the node's summary.
     pub(super) fn rewrite_here(&mut self, key: RangeInclusive, node_state: NodeState) -> Change {
         self.key = key;
         self.node_state = node_state;
@@ -25,8 +25,10 @@ impl InnerNode {
     }
 }
 
-/// Gives the node with key `old` below the node at a place another key, which keeps its place in the
-/// order, and another state. Returns what changed of what is kept there. It takes no memory.
+/// Changes the key and the state of the node with key `old` in the subtree at a link. The new key
+/// keeps its position in the order.
+///
+/// It returns the change of the subtree's summary, and does not allocate.
 pub(crate) fn rewrite_at(
     at: &mut Child,
     old: &RangeInclusive,

@@ -1,38 +1,40 @@
 // Written by bindings/erase from crates/vm_engine/src/node/split.rt: do not edit.
 
-//! A range taken from a free block, in one descent: at the node of the block key and state are
-//! written in place, what is left of it is linked below that node's sides, and on the way back up
-//! each node is balanced once. Both leaves may go in before that, since the sides then differ by two
-//! at most. One record goes down (`Cut`): four arguments, 80 bytes at each level, cost 4 % of the
-//! instructions of `first`. What is done once is no part of the descent (`split_here`, never
-//! inlined), which takes 2 % off. Heights are looked at on the way back up only where one may have
-//! changed, which takes 3 % off.
+//! Splits a free block, in one descent.
+//!
+//! At the node of the block, its key and state are changed in place. The parts of the block before
+//! and after the range are linked below the children of that node. Each child then has at most one
+//! more level, so each node on the path is balanced once, after both parts are linked.
+//!
+//! Each level passes one record (`Split`) by reference, instead of four arguments. `split_here` is
+//! never inlined, so that each level saves fewer registers. The heights are updated only if one may
+//! have changed.
 
 use super::balance::update;
 use super::link::link_at;
-use super::summary::{free_summary_of, refresh_free, summary_of, Change};
+use super::summary::{Change, free_summary_of, refresh_free, summary_of};
 use super::{Child, InnerNode};
-use crate::ordering::compare;
 use crate::Steps;
+use crate::ordering::compare;
 use core::cmp::Ordering;
 use vm_ranges::{NodeState, RangeInclusive};
 
-/// What is left of a free block before and after a range, a leaf each.
+/// The parts of a free block before and after a range. Each is a leaf, or absent if it is empty.
 pub(crate) struct Rest {
-    /// What ends right before the range.
+    /// The part that ends right before the range.
     pub(crate) before: Child,
-    /// What starts right after it.
+    /// The part that starts right after the range.
     pub(crate) after: Child,
 }
 
-/// Links a leaf, if there is one, below a side.
+/// Links a leaf below a child, if there is a leaf.
 fn link_if_some(child: &mut Child, leaf: Child, count: &mut Steps) {
     if let Some(leaf) = leaf {
         link_at(child, leaf, count);
     }
 }
 
-/// A range to hold, and the free block that it is taken from.
+/// A range to allocate, and the free block that contains it.
 #[derive(Clone, Copy)]
 pub(crate) struct Choice {
     /// The free block.
@@ -41,25 +43,24 @@ pub(crate) struct Choice {
     pub(crate) range: RangeInclusive,
 }
 
-/// A split: the range and its free block, and what is left of the block, which is handed on where it
-/// hangs.
+/// A split: the range with its free block, and the leaves that are not linked yet.
 pub(crate) struct Split {
-    /// The range, and the free block that it is taken from.
+    /// The range, and the free block that contains it.
     pub(crate) choice: Choice,
-    /// What is left of the block.
+    /// The parts of the block before and after the range.
     pub(crate) rest: Rest,
 }
 
-/// Gives the topmost node a range, which is held, and links what is left beside it; says what
-/// changed there.
+/// Gives the root of the subtree at a link the range, marks it as allocated, and links the leaves.
+/// Returns the change of the subtree's summary.
 #[inline(never)]
-fn split_here(at: &mut Child, cut: &mut Split, count: &mut Steps) -> Change {
+fn split_here(at: &mut Child, split: &mut Split, count: &mut Steps) -> Change {
     let Some(tree) = at else { unreachable!() };
     let tree: &mut InnerNode = tree;
-    tree.key = cut.choice.range;
+    tree.key = split.choice.range;
     tree.node_state = NodeState::Allocated;
-    link_if_some(&mut tree.left, cut.rest.before.take(), count);
-    link_if_some(&mut tree.right, cut.rest.after.take(), count);
+    link_if_some(&mut tree.left, split.rest.before.take(), count);
+    link_if_some(&mut tree.right, split.rest.after.take(), count);
     let updated = update(
         &mut tree.left,
         &mut tree.right,
@@ -72,16 +73,16 @@ fn split_here(at: &mut Child, cut: &mut Split, count: &mut Steps) -> Change {
     updated.rebalance(at)
 }
 
-/// Gives the node with a key below the node at a place a range, which is held, and links what is
-/// left beside it; says what changed there.
-pub(crate) fn split_at(at: &mut Child, cut: &mut Split, count: &mut Steps) -> Change {
+/// Splits the free block of `split` in the subtree at a link, and rebalances the path. Returns the
+/// change of the subtree's summary.
+pub(crate) fn split_at(at: &mut Child, split: &mut Split, count: &mut Steps) -> Change {
     let Some(tree) = at else { unreachable!() };
     let tree: &mut InnerNode = tree;
     tree.enter(count);
-    let change = match compare(&tree.key, &cut.choice.key) {
-        Ordering::Equal => return split_here(at, cut, count),
-        Ordering::Greater => split_at(&mut tree.left, cut, count),
-        Ordering::Less => split_at(&mut tree.right, cut, count),
+    let change = match compare(&tree.key, &split.choice.key) {
+        Ordering::Equal => return split_here(at, split, count),
+        Ordering::Greater => split_at(&mut tree.left, split, count),
+        Ordering::Less => split_at(&mut tree.right, split, count),
     };
     match change {
         Change::Nothing => Change::Nothing,

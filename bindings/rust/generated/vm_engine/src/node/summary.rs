@@ -1,50 +1,49 @@
 // Written by bindings/erase from crates/vm_engine/src/node/summary.rt: do not edit.
 
-//! What a node keeps of its tree, brought up to date from its children and its own block: the height,
-//! the length of the longest free block, and how many of the 64 alignments have a multiple in a free
-//! one. A multiple of a power of two is one of each lesser power, so the count says which alignments
-//! these are. A search enters no tree without room for its size and alignment. All that a child keeps
-//! is read at once (`summary_of`), and the own block looked at last: each read with its own look whether
-//! the child is there cost 4 % of the instructions of `exact`. The count is a byte beside the state,
-//! so that a node has 72 bytes, and takes a logarithm; the word that it is the logarithm of would
-//! make them 80. At 10^4 ranges (callgrind, against the version before) the count takes 0.7 % of the
-//! instructions of `exact`, 3.8 % of `first` and 8.1 % of `devices`, and `mixed` has a 25th of the
-//! time.
+//! The cached summary of a subtree, which each node stores.
+//!
+//! The summary has the height, the length of the longest free block, and the number of alignments
+//! that have a multiple in a free block. It is computed from the summaries of both children and the
+//! node's own block. A search uses it to skip subtrees into which the request cannot fit.
+//!
+//! An alignment is one of the 64 powers of two. A multiple of a power of two is also a multiple of
+//! each smaller one, so the number of alignments determines which alignments they are. It is stored
+//! as one byte next to the state, so a node has 72 bytes.
 
 use super::Child;
 use vm_ranges::{NodeState, RangeInclusive};
 
-/// What the free blocks of a tree, or one block alone, have room for.
+/// The free part of a summary, of a subtree or of one block.
 #[derive(Clone, Copy, Debug)]
 pub(super) struct FreeSummary {
-    /// The length of the longest free block, 0 where there is none.
+    /// The length of the longest free block in addresses, or 0 if there is none.
     pub(super) max_free: u64,
-    /// How many of the 64 alignments have a multiple in a free block.
+    /// The number of the 64 alignments that have a multiple in a free block.
     pub(super) alignments: u8,
 }
 
-/// What changed of what a node keeps. A removal looks at the height wherever anything changed: to spare
-/// that, as a split does, makes `exact` up to 3 % dearer (docs/DECISIONS.md).
+/// The parts of a node's summary that a change below it has changed.
 #[derive(Clone, Copy, Debug)]
 pub(crate) enum Change {
-    /// Nothing.
+    /// The summary is the same, so no node above changes either.
     Nothing,
-    /// What its tree has room for, and not the height.
+    /// The free part may have changed. The height is the same.
     FreeOnly,
-    /// Anything, the height among it.
+    /// Any part may have changed, including the height.
     Height,
 }
 
-/// What a child keeps.
+/// The summary of a subtree.
 #[derive(Clone, Copy, Debug)]
 pub(super) struct Summary {
-    /// The height of its tree.
+    /// The height, or 0 if the subtree is empty.
     pub(super) height: u64,
-    /// What the free blocks of its tree have room for.
+    /// The free part.
     pub(super) free: FreeSummary,
 }
 
-/// What a block has room for: its clear addresses are all of a free one, none of a held one.
+/// Returns the free summary of one block: that of its range if it is free, and zeros if it is
+/// allocated.
 #[inline(always)]
 pub(super) fn free_summary_of(key: &RangeInclusive, node_state: NodeState) -> FreeSummary {
     match node_state {
@@ -59,8 +58,10 @@ pub(super) fn free_summary_of(key: &RangeInclusive, node_state: NodeState) -> Fr
     }
 }
 
-/// How many of the 64 alignments have a multiple in a range: the greatest is that of the highest bit
-/// in which its last address and the one before its first differ.
+/// Returns the number of the 64 alignments that have a multiple in a range.
+///
+/// The largest such alignment is the highest bit in which the last address differs from the address
+/// before the first.
 #[inline(always)]
 fn alignment_count(key: &RangeInclusive) -> u8 {
     let start = key.start();
@@ -70,7 +71,10 @@ fn alignment_count(key: &RangeInclusive) -> u8 {
     ((start - 1) ^ key.end()).ilog2() as u8 + 1
 }
 
-/// What a child keeps, all 0 where it is absent.
+/// Returns the summary of a child, or zeros if the child is absent.
+///
+/// It loads all fields behind one check, because a check for each field costs time in every
+/// descent.
 #[inline(always)]
 pub(super) fn summary_of(child: &Child) -> Summary {
     match child {
@@ -91,7 +95,7 @@ pub(super) fn summary_of(child: &Child) -> Summary {
     }
 }
 
-/// What a node keeps over these children, with its own block.
+/// Returns the summary of a node with these children and this block.
 #[inline(always)]
 pub(super) fn summary_over(
     left: &Child,
@@ -119,8 +123,8 @@ pub(super) fn summary_over(
     }
 }
 
-/// Brings up to date what a node keeps of its tree's room, from that of its sides and of its own block.
-/// Returns what changed.
+/// Updates the cached free summary of a node from those of its children and its own block. Returns
+/// the change.
 #[inline(always)]
 pub(super) fn refresh_free(
     left: FreeSummary,
@@ -139,7 +143,9 @@ pub(super) fn refresh_free(
     Change::FreeOnly
 }
 
-/// Raises what a node keeps of its tree's room to that of a block which becomes free below.
+/// Raises the cached free summary of a node to include a block that becomes free below it.
+///
+/// It compares before it writes, because most nodes on a path do not change.
 #[inline(always)]
 pub(super) fn raise_free(max_free: &mut u64, alignments: &mut u8, freed: &FreeSummary) {
     if *max_free < freed.max_free {

@@ -1,10 +1,10 @@
 // Written by bindings/erase from crates/vm_engine/src/node/walks.rt: do not edit.
 
-//! Walks over the blocks of a tree, and recursions over nodes, that no counted function calls. A
-//! `Walk` has the nodes of its way down in an array of 49, so it takes no memory, and two of them
-//! side by side end at the first difference of two trees, whatever their shapes. What has to hang in
-//! its parent is a recursion: `copying`, and `encoding`, which stands here as it reads the fields of
-//! nodes.
+//! Iteration over the blocks of a tree, and recursive functions that do not count nodes.
+//!
+//! A `Walk` stores its path in an array of 49 links, so it does not allocate. Two walks side by
+//! side find the first difference of two trees of different shapes. `copying`, `encoding` and
+//! `held` are recursive. `encoding` is in this folder because it reads the fields of nodes.
 
 pub(crate) mod comparing;
 pub(crate) mod copying;
@@ -14,11 +14,11 @@ pub(crate) mod held;
 use super::{Child, InnerNode};
 use crate::block::Block;
 
-/// The height of the highest tree.
+/// The height of the highest tree, and so the length of the longest path.
 const MAX_PATH: usize = 49;
 
-/// Puts the nodes on the way from the root of a tree to its least block before those from `at` on;
-/// says where the last of them lies.
+/// Writes the path from the root of `tree` to its lowest block into `path`, in front of index `at`.
+/// Returns the index of the last node written.
 fn descend<'a>(path: &mut [&'a Child; MAX_PATH], mut at: usize, mut tree: &'a Child) -> usize {
     while let Some(node) = tree {
         let node: &InnerNode = node;
@@ -30,15 +30,17 @@ fn descend<'a>(path: &mut [&'a Child; MAX_PATH], mut at: usize, mut tree: &'a Ch
     at
 }
 
-/// A walk over the blocks of a tree, in order: it is seen as the blocks that are left. `path` has
-/// from `from` on the nodes that are left on the way down to the next one, the next one first.
+/// An iterator over the blocks of a tree, from the lowest to the highest.
+///
+/// `path[from..]` has the nodes on the current path whose blocks were not returned yet, the next
+/// one first. The model is the list of all blocks that were not returned yet.
 pub(crate) struct Walk<'a> {
     path: [&'a Child; MAX_PATH],
     from: usize,
 }
 
 impl<'a> Walk<'a> {
-    /// The walk over all blocks of a tree.
+    /// Creates an iterator over all blocks of a tree.
     pub(crate) fn new(tree: &'a Child) -> Walk<'a> {
         let mut path = [tree; MAX_PATH];
         let from = descend(&mut path, MAX_PATH, tree);
@@ -49,7 +51,7 @@ impl<'a> Walk<'a> {
 impl<'a> Iterator for Walk<'a> {
     type Item = Block;
 
-    /// The next block.
+    /// Returns the next block.
     fn next(&mut self) -> Option<Block> {
         let from = self.from;
         let path = &self.path[..];

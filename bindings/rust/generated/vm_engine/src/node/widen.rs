@@ -1,23 +1,21 @@
 // Written by bindings/erase from crates/vm_engine/src/node/widen.rt: do not edit.
 
-//! A held block made free and wider, in one way down: what the nodes on the way keep of their trees'
-//! room can only rise, to what the new range has room for. So nothing is left to be done on the way
-//! back, and the recursion is a loop once compiled. What a node keeps is compared before it is
-//! written (`raise_free`), which costs less than to write the greater of the two each time.
+//! Makes an allocated block free and gives it a wider range, in one descent.
 //!
-//! Instructions a line at 10^4 ranges as plain Rust with a way back, with one descent for a whole
-//! release, and so: `exact` 2001, 2087, 1891, `devices` 1775, 1742, 1620, `mixed` 2206, 2247, 2105.
-//! One descent enters fewer nodes and has a way back wherever blocks are joined.
+//! The free summaries on the path can only rise, to include the new range. So each is updated
+//! before the child is entered, nothing is left to do after it, and the recursion compiles to a
+//! loop.
 
-use super::summary::{free_summary_of, raise_free, FreeSummary};
+use super::summary::{FreeSummary, free_summary_of, raise_free};
 use super::{Child, InnerNode};
-use crate::ordering::compare;
 use crate::Steps;
+use crate::ordering::compare;
 use core::cmp::Ordering;
 use vm_ranges::{NodeState, RangeInclusive};
 
-/// Makes the held block of a key free and gives it a range, which keeps its place in the order, below
-/// the node at a place. `room` is what the range has room for once it is free.
+/// Makes the allocated block with key `held` free and gives it `range`, in the subtree at a link.
+///
+/// The new range keeps its position in the order. `free` is the free summary of the new range.
 fn widen_at(
     at: &mut Child,
     held: &RangeInclusive,
@@ -39,8 +37,10 @@ fn widen_at(
     }
 }
 
-/// Makes the held block of a key free and gives it a range, which keeps its place in the order. It
-/// takes no memory.
+/// Makes the allocated block with key `held` free and gives it `range`, which keeps its position in
+/// the order.
+///
+/// It does not allocate.
 pub(crate) fn widen(
     root: &mut Child,
     held: &RangeInclusive,

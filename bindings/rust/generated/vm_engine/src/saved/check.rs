@@ -1,15 +1,16 @@
 // Written by bindings/erase from crates/vm_engine/src/saved/check.rt: do not edit.
 
-//! The check of a saved tree, which takes no memory: block by block and node by node, to the first thing
-//! that is wrong.
+//! Checks a saved tree, block by block and node by node, up to the first fault. It does not
+//! allocate.
 
 use super::node::decode_node;
 use crate::node::MAX_HEIGHT;
 use rattle::Value;
 use vm_ranges::{NodeState, RangeInclusive};
 
-/// Whether a value has a tree with blocks from the start to the end of the space. It takes no memory and
-/// goes down at most 50 levels of the value.
+/// Returns `true` if a value encodes a tree whose blocks cover the space exactly.
+///
+/// It does not allocate, and descends at most 50 levels of the value.
 pub(super) fn is_tree_of(space: &RangeInclusive, value: &Value) -> bool {
     let before = Cursor {
         next: space.start().into(),
@@ -21,17 +22,17 @@ pub(super) fn is_tree_of(space: &RangeInclusive, value: &Value) -> bool {
     found.cursor.next == u128::from(space.end()) + 1
 }
 
-/// Where the blocks met so far end.
+/// The position after the blocks that were checked so far.
 #[derive(Clone, Copy)]
 struct Cursor {
-    /// Where the next block has to start.
+    /// The address at which the next block must start.
     next: u128,
     /// The state of the last block.
     before: NodeState,
 }
 
 impl Cursor {
-    /// The front behind one more block, where it may stand there.
+    /// Returns the cursor after one more block, or `None` if the block cannot follow here.
     fn advance(self, key: &RangeInclusive, state: NodeState) -> Option<Cursor> {
         let is_free = state == NodeState::Free;
         let second_free = self.before == NodeState::Free && is_free;
@@ -46,18 +47,22 @@ impl Cursor {
     }
 }
 
-/// What the check of a tree finds.
+/// The result of a check of a subtree.
 #[derive(Clone, Copy)]
 struct CheckedTree {
-    /// The height of the tree.
+    /// The height of the subtree.
     height: u64,
-    /// The front behind its blocks.
+    /// The cursor after its blocks.
     cursor: Cursor,
 }
 
-/// The height of the tree that a value has, and the front behind its blocks. None where it is no tree,
-/// has nodes nested deeper than `depth`, a wrong height, no balance, or a block that may not stand
-/// where it does.
+/// Checks the subtree that a value encodes. Returns its height and the cursor after its blocks.
+///
+/// It returns `None` in these cases:
+/// - The value does not encode a tree.
+/// - Nodes are nested deeper than `depth`.
+/// - A height is wrong, or a node is unbalanced.
+/// - A block cannot follow the block before it.
 #[allow(clippy::question_mark)]
 fn check_subtree(value: &Value, depth: u64, cursor: Cursor) -> Option<CheckedTree> {
     if value.is_null() {
@@ -81,7 +86,8 @@ fn check_subtree(value: &Value, depth: u64, cursor: Cursor) -> Option<CheckedTre
     })
 }
 
-/// Whether a node has this height over children of heights that are close.
+/// Returns `true` if the heights of both children differ by at most one, and `height` is correct
+/// for their parent.
 fn is_correct_height(left: u64, right: u64, height: u64) -> bool {
     left <= right + 1 && right <= left + 1 && height == left.max(right) + 1
 }

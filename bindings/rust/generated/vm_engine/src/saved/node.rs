@@ -1,11 +1,11 @@
 // Written by bindings/erase from crates/vm_engine/src/saved/node.rt: do not edit.
 
-//! The fields of a node's value, read and written: their names stand here alone. Reading takes no
-//! memory.
+//! Reads and writes the fields of a node's value. The names of the fields are only in this file.
+//! Reading does not allocate.
 
-use rattle::{json, Value};
+use rattle::{Value, json};
 use rattle::{AllocError, Global};
-use vm_ranges::{has_fields, number_in, range_in, state_in, NodeState, RangeInclusive, Result};
+use vm_ranges::{NodeState, RangeInclusive, Result, has_fields, number_in, range_in, state_in};
 
 const KEY: &str = "key";
 
@@ -17,22 +17,25 @@ const RIGHT: &str = "right";
 
 const HEIGHT: &str = "height";
 
-/// What stands in the fields of a node's value.
+/// The fields of a node's value.
 #[derive(Clone, Copy)]
 pub struct SavedNode<'a> {
     /// The range of the block.
     pub key: RangeInclusive,
-    /// Whether the block is held.
+    /// The state of the block.
     pub state: NodeState,
-    /// The height that the value states.
+    /// The height that the value has for the subtree.
     pub height: u64,
-    /// What stands for the left child.
+    /// The value of the left child.
     pub left: &'a Value,
-    /// What stands for the right child.
+    /// The value of the right child.
     pub right: &'a Value,
 }
 
-/// The fields of a node's value, where it has these and no others.
+/// Returns the fields of a node's value. Returns `None` if the value does not have exactly these
+/// fields, or if the key, the state or the height is not valid.
+///
+/// It does not allocate, and does not check the values of the children.
 pub fn decode_node(value: &Value) -> Option<SavedNode<'_>> {
     if !has_fields(value, 5) {
         return None;
@@ -46,7 +49,9 @@ pub fn decode_node(value: &Value) -> Option<SavedNode<'_>> {
     })
 }
 
-/// The value of a node over the values of its children. `OutOfMemory` where there is no memory for it.
+/// Returns the value of a node with the values of its children.
+///
+/// It returns `OutOfMemory` if an allocation fails.
 #[inline(always)]
 pub(crate) fn encode_node(
     mut left: Value,
@@ -58,13 +63,13 @@ pub(crate) fn encode_node(
 ) -> Result<Value> {
     let mut key = key.to_value(alloc)?;
     let mut state = node_state.to_value(alloc)?;
-    Ok(node_object(
-        alloc, &mut key, &mut state, &mut left, &mut right, height,
-    )?)
+    Ok(node_object(alloc, &mut key, &mut state, &mut left, &mut right, height)?)
 }
 
-/// The object of a node's fields. It takes their values from where they stand: so a refusal has none of
-/// them to give back, and less is to be proved.
+/// Returns the object of a node's fields.
+///
+/// It takes the values out of the references. So if it fails, the caller still has them and frees
+/// them, and less needs a proof.
 fn node_object(
     alloc: Global,
     key: &mut Value,

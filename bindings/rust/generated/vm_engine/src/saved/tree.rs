@@ -1,25 +1,35 @@
 // Written by bindings/erase from crates/vm_engine/src/saved/tree.rt: do not edit.
 
-//! The saved form of a tree: what is checked already is built.
+//! Encodes a tree as a value, and decodes it. A value is checked completely before nodes are built.
 
+use crate::IntervalTree;
 use crate::node::walks::encoding::encode;
 use crate::node::{Child, InnerNode, MAX_HEIGHT};
 use crate::saved::check::is_tree_of;
 use crate::saved::node::decode_node;
-use crate::IntervalTree;
 use rattle::Value;
 use rattle::{AllocError, Global};
 use vm_ranges::{RangeInclusive, Result, ValueError};
 
 impl IntervalTree {
-    /// The value that states the tree, node for node. `OutOfMemory` where there is no memory for it.
+    /// Returns the value that encodes the tree, with one object for each node.
+    ///
+    /// # Errors
+    ///
+    /// - `OutOfMemory` if an allocation fails.
     pub fn to_root_value(&self, alloc: Global) -> Result<Value> {
         encode(&self.root, alloc)
     }
 
-    /// The tree of the space that a value states, of the same nodes. `NotAState` where it states none,
-    /// and else `OutOfMemory` where there is no memory for the tree. To find out which takes no memory
-    /// and goes down at most 50 levels of the value.
+    /// Returns the tree of the space that a value encodes, with the same nodes.
+    ///
+    /// The check of the value does not allocate, and descends at most 50 levels of the value.
+    ///
+    /// # Errors
+    ///
+    /// In this order:
+    /// - `NotAState` if the value does not encode a tree of this space.
+    /// - `OutOfMemory` if the allocation of a node fails.
     pub fn from_root_value(
         alloc: Global,
         space: &RangeInclusive,
@@ -33,8 +43,9 @@ impl IntervalTree {
     }
 }
 
-/// The tree that a checked value has, node for node. `OutOfMemory` where there is no memory for one of
-/// them; those that were made are given back then.
+/// Builds the tree that a checked value encodes, with the same nodes.
+///
+/// It returns an error if the allocation of a node fails. The nodes built so far are freed.
 #[allow(clippy::only_used_in_recursion)]
 fn build(value: &Value, depth: u64, alloc: Global) -> core::result::Result<Child, AllocError> {
     let Some(node) = decode_node(value) else {

@@ -1,12 +1,13 @@
 // Written by bindings/erase from crates/vm_ranges/src/saved/fields.rt: do not edit.
 
-//! The fields of an object: how many there are, and a list in one of them. That there are just so many
-//! tells, with what is found in each, that there is no other; their order says nothing.
+//! The fields of an object: their number, and a list in one of them.
+//!
+//! If the number is right and each expected field is found, there are no other fields.
 
-use rattle::Value;
 use rattle::Vec;
+use rattle::Value;
 
-/// Whether the value is an object with that many fields.
+/// Returns whether the value is an object with exactly `count` fields.
 pub fn has_fields(value: &Value, count: usize) -> bool {
     match value.as_object() {
         Some(fields) => fields.len() == count,
@@ -14,7 +15,7 @@ pub fn has_fields(value: &Value, count: usize) -> bool {
     }
 }
 
-/// The list in a field.
+/// Returns the list in the field `name`, or `None` if there is no list.
 pub fn list_in<'v>(value: &'v Value, name: &str) -> Option<&'v Vec<Value>> {
     value.get(name)?.as_array()
 }

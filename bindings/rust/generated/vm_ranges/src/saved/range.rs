@@ -1,28 +1,35 @@
 // Written by bindings/erase from crates/vm_ranges/src/saved/range.rt: do not edit.
 
-//! The saved form of a range.
+//! The saved value of a range.
 
 use crate::error::Result;
 use crate::range::RangeInclusive;
+use crate::saved::ValueError;
 use crate::saved::fields::has_fields;
 use crate::saved::numbers::number_in;
-use crate::saved::ValueError;
+use rattle::{Value, json};
 use rattle::Global;
-use rattle::{json, Value};
 
 impl RangeInclusive {
-    /// The value that states the range: an object of `start` and `end`. `OutOfMemory` where there is no
-    /// memory for it.
+    /// Encodes the range as a value: an object with the fields `start` and `end`.
+    ///
+    /// # Errors
+    ///
+    /// - `OutOfMemory` if an allocation of memory fails.
     pub fn to_value(&self, alloc: Global) -> Result<Value> {
         Ok(json!(in alloc; {"start": self.start(), "end": self.end()})?)
     }
 
-    /// The range that a value states. `NotAState` where it states none. It takes no memory.
+    /// Decodes a range from a value. It does not allocate.
+    ///
+    /// # Errors
+    ///
+    /// - `NotAState` if the value does not encode a range.
     pub fn from_value(_alloc: Global, value: &Value) -> core::result::Result<Self, ValueError> {
         RangeInclusive::decode(value).ok_or(ValueError::NotAState)
     }
 
-    /// The range that a value states.
+    /// Decodes a range. Returns `None` if the value does not encode a range.
     fn decode(value: &Value) -> Option<RangeInclusive> {
         if !has_fields(value, 2) {
             return None;
@@ -33,7 +40,7 @@ impl RangeInclusive {
     }
 }
 
-/// The range in a field.
+/// Decodes the range in the field `name`. Returns `None` if there is no range.
 pub fn range_in(value: &Value, name: &str) -> Option<RangeInclusive> {
     RangeInclusive::decode(value.get(name)?)
 }

@@ -1,16 +1,19 @@
 // Written by bindings/erase from crates/vm_ranges/src/saved/state.rt: do not edit.
 
-//! The saved form of a state.
+//! The saved value of a state.
 
 use super::ValueError;
 use crate::error::Result;
 use crate::state::NodeState;
-use rattle::Global;
 use rattle::Value;
+use rattle::Global;
 
 impl NodeState {
-    /// The value that states the state: the text `Free` or the text `Allocated`. `OutOfMemory` where
-    /// there is no memory for it.
+    /// Encodes the state as a value: the text `Free` or the text `Allocated`.
+    ///
+    /// # Errors
+    ///
+    /// - `OutOfMemory` if an allocation of memory fails.
     pub fn to_value(&self, alloc: Global) -> Result<Value> {
         let name = match self {
             NodeState::Free => "Free",
@@ -19,12 +22,16 @@ impl NodeState {
         Ok(Value::try_from_str(alloc, name)?)
     }
 
-    /// The state that a value states. `NotAState` where it states none. It takes no memory.
+    /// Decodes a state from a value. It does not allocate.
+    ///
+    /// # Errors
+    ///
+    /// - `NotAState` if the value does not encode a state.
     pub fn from_value(_alloc: Global, value: &Value) -> core::result::Result<Self, ValueError> {
         NodeState::decode(value).ok_or(ValueError::NotAState)
     }
 
-    /// The state that a value states.
+    /// Decodes a state. Returns `None` if the value does not encode a state.
     fn decode(value: &Value) -> Option<NodeState> {
         match value.as_str() {
             Some("Free") => Some(NodeState::Free),
@@ -34,7 +41,7 @@ impl NodeState {
     }
 }
 
-/// The state in a field.
+/// Decodes the state in the field `name`. Returns `None` if there is no state.
 pub fn state_in(value: &Value, name: &str) -> Option<NodeState> {
     NodeState::decode(value.get(name)?)
 }

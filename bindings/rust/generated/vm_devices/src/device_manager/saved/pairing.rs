@@ -1,6 +1,7 @@
 // Written by bindings/erase from crates/vm_devices/src/device_manager/saved/pairing.rt: do not edit.
 
-//! The devices that a list states, where they pair the held ids with the held ranges.
+//! Reads the devices of a list, and checks that they pair the allocated ids with the allocated
+//! ranges.
 
 use super::slots::read_slots;
 use rattle::Value;
@@ -8,14 +9,15 @@ use rattle::{AllocError, Global};
 use rattle::{BTreeMap, BTreeSet};
 use vm_allocator::{AddressAllocator, IdAllocator, RangeInclusive, ValueError};
 
-/// The table of the devices that a list states, where they pair the held ids with the held ranges.
+/// Reads the table of the devices of a list. Returns `NotAState` if they do not pair the allocated
+/// ids with the allocated ranges.
 pub(super) fn read_devices(
     alloc: Global,
     ids: &IdAllocator,
     space: &AddressAllocator,
     list: &[Value],
 ) -> core::result::Result<BTreeMap<u32, RangeInclusive>, ValueError> {
-    // A stranger's list is counted before it costs memory.
+    // The list can be untrusted input, so it is counted before memory is allocated for it.
     if !counts_match(ids, space, list) {
         return Err(ValueError::NotAState);
     }
@@ -26,13 +28,14 @@ pub(super) fn read_devices(
     Ok(slots)
 }
 
-/// Whether the items are as many as the held ids and as the held ranges.
+/// Returns whether the number of items is the number of allocated ids and of allocated ranges.
 fn counts_match(ids: &IdAllocator, space: &AddressAllocator, items: &[Value]) -> bool {
     let count = items.len() as u64;
     ids.held_count() == count && space.held_count() == count
 }
 
-/// Whether the id and the range of each device are held, and no two have one start.
+/// Returns whether the id and the range of each device are allocated, and no two ranges have the
+/// same start.
 fn are_held_and_distinct(
     alloc: Global,
     ids: &IdAllocator,

@@ -2,15 +2,15 @@
 
 //! The list of devices in a manager's value.
 
-use crate::device_slot::DeviceSlot;
-use rattle::BTreeMap;
 use rattle::Vec;
-use rattle::{json, Value};
+use crate::device_slot::DeviceSlot;
+use rattle::{Value, json};
 use rattle::{AllocError, Global};
+use rattle::BTreeMap;
 use vm_allocator::{RangeInclusive, Result, ValueError};
 use vm_ranges::{has_fields, range_in, u32_in};
 
-/// The list of devices, by rising ids.
+/// Encodes the devices as a list, by increasing ids.
 pub(super) fn encode_slots(alloc: Global, slots: &BTreeMap<u32, RangeInclusive>) -> Result<Value> {
     let mut list = Vec::new(alloc);
     for (id, range) in slots.iter() {
@@ -20,18 +20,19 @@ pub(super) fn encode_slots(alloc: Global, slots: &BTreeMap<u32, RangeInclusive>)
     Ok(Value::from(list))
 }
 
-/// The value of one device.
+/// Encodes one device.
 fn encode_slot(alloc: Global, id: u32, range: &RangeInclusive) -> Result<Value> {
     let range = range.to_value(alloc)?;
     Ok(slot_object(alloc, id, range)?)
 }
 
-/// The object of a device's fields.
+/// Builds the object with the fields of a device.
 fn slot_object(alloc: Global, id: u32, range: Value) -> core::result::Result<Value, AllocError> {
     json!(in alloc; {"id": id, "mmio_range": range})
 }
 
-/// The table of the devices that a list states, where their ids rise.
+/// Reads the table of the devices of a list. Returns `NotAState` if an item is not a device, or if
+/// the ids are not in strictly increasing order.
 pub(super) fn read_slots(
     alloc: Global,
     list: &[Value],
@@ -51,7 +52,7 @@ pub(super) fn read_slots(
     Ok(slots)
 }
 
-/// The device that a value states.
+/// Decodes a device. Returns `None` if the value is not a device.
 fn decode_slot(value: &Value) -> Option<DeviceSlot> {
     if !has_fields(value, 2) {
         return None;

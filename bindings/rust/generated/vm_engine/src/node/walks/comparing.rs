@@ -1,12 +1,12 @@
 // Written by bindings/erase from crates/vm_engine/src/node/walks/comparing.rt: do not edit.
 
-//! How two trees compare, by their blocks and not by their shape.
+//! Comparisons of two trees by their blocks. The shape of a tree does not matter.
 
 use super::Walk;
 use crate::node::Child;
 use core::cmp::Ordering;
 
-/// Whether two trees have the same blocks. It stops at the first difference.
+/// Returns `true` if two trees have the same blocks. It stops at the first difference.
 #[allow(clippy::while_let_on_iterator)]
 pub(crate) fn same_blocks(a: &Child, b: &Child) -> bool {
     let (mut left, mut right) = (Walk::new(a), Walk::new(b));
@@ -21,8 +21,8 @@ pub(crate) fn same_blocks(a: &Child, b: &Child) -> bool {
     right.next().is_none()
 }
 
-/// How the blocks of two trees compare: the first two that differ decide, and else the one with fewer
-/// is less.
+/// Compares two trees by the first blocks that differ. If the blocks of one tree are a prefix of
+/// the other's, the tree with fewer blocks is less.
 #[allow(clippy::while_let_on_iterator)]
 pub(crate) fn compare_blocks(a: &Child, b: &Child) -> Ordering {
     let (mut left, mut right) = (Walk::new(a), Walk::new(b));

@@ -1,14 +1,15 @@
 // Written by bindings/erase from crates/vm_engine/src/node/walks/copying.rt: do not edit.
 
-//! Copies of trees.
+//! Copies trees.
 
-use crate::node::InnerNode;
 use rattle::Box;
+use crate::node::InnerNode;
 use rattle::Global;
 use vm_ranges::Result;
 
-/// A copy of a tree, node for node, with what each node keeps. `OutOfMemory` where there is no memory
-/// for one of them; those that were made are given back then.
+/// Returns a copy of a tree with the same nodes and the same cached summaries.
+///
+/// It returns `OutOfMemory` if the allocation of a node fails. The nodes copied so far are freed.
 pub(crate) fn copy(tree: &InnerNode, alloc: Global) -> Result<Box<InnerNode>> {
     let left = match &tree.left {
         None => None,

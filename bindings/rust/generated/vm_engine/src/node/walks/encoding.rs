@@ -1,15 +1,16 @@
 // Written by bindings/erase from crates/vm_engine/src/node/walks/encoding.rt: do not edit.
 
-//! The saved form of trees.
+//! Encodes trees as values.
 
 use crate::node::{Child, InnerNode};
 use crate::saved::node::encode_node;
-use rattle::Global;
 use rattle::Value;
+use rattle::Global;
 use vm_ranges::Result;
 
-/// The value that has a tree, node for node: null where there is none. `OutOfMemory` where there is no
-/// memory for it.
+/// Returns the value of a tree: an object for each node, and null for an absent child.
+///
+/// It returns `OutOfMemory` if an allocation fails.
 pub(crate) fn encode(tree: &Child, alloc: Global) -> Result<Value> {
     let Some(node) = tree else {
         return Ok(Value::Null);

@@ -1,15 +1,16 @@
 // Written by bindings/erase from crates/vm_engine/src/node/walks/held.rt: do not edit.
 
-//! What is held in a tree: whether a range is, by one way down, and how many are. No count is
-//! promised of either, so neither takes the counter: one more place that makes one would weaken the
-//! rule on it.
+//! Queries about the allocated blocks of a tree.
+//!
+//! No contract promises the number of nodes that they enter, so they do not take a counter.
 
 use crate::node::{Child, InnerNode};
 use crate::ordering::compare;
 use core::cmp::Ordering;
 use vm_ranges::{NodeState, RangeInclusive};
 
-/// Whether a held block has this key, by one way down.
+/// Returns `true` if the tree has an allocated block with this key. It follows one path from the
+/// root.
 pub(crate) fn has_held(tree: &Child, key: &RangeInclusive) -> bool {
     let Some(node) = tree else { return false };
     let node: &InnerNode = node;
@@ -20,7 +21,7 @@ pub(crate) fn has_held(tree: &Child, key: &RangeInclusive) -> bool {
     }
 }
 
-/// How many blocks are held.
+/// Returns the number of allocated blocks.
 pub(crate) fn count_held(tree: &Child) -> u64 {
     let Some(node) = tree else { return 0 };
     let node: &InnerNode = node;

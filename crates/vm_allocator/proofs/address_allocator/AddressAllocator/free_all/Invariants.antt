@@ -3,7 +3,7 @@ use Rattle.vm_ranges.specs.Request.{Request}
 use Rattle.vm_engine.specs.Address.{AddressState, IsAddressState}
 use Rattle.vm_allocator.specs.Allocator.{state_of}
 use Rattle.vm_allocator.specs.Several.{AllocatesEach}
-use Rattle.vm_allocator.proofs.address_allocator.AddressAllocator.take_back.Given as goal
+use Rattle.vm_allocator.proofs.address_allocator.AddressAllocator.free_all.Given as goal
 
 -- where requests got the ranges, some got those that are left
 abbrev pub invariant-loop-range : goal.invariant-loop-range

@@ -3,7 +3,7 @@ use Rattle.vm_ranges.specs.Range.{Range}
 use Rattle.vm_allocator.specs.Allocator.{state_of}
 use Rattle.vm_allocator.specs.Several.{AllocatesEach}
 use Rattle.vm_allocator.proofs.Answers.Several.{last_undone, none_given}
-use Rattle.vm_allocator.proofs.address_allocator.AddressAllocator.take_back.Goals as goal
+use Rattle.vm_allocator.proofs.address_allocator.AddressAllocator.free_all.Goals as goal
 
 pub loop-range-init : goal.loop-range-init
 loop-range-init c = record { left = λ before requests i e. (requests, e); state = c.recall_invariant.ensures }

@@ -1,20 +1,21 @@
-// Written by bindings/erase from crates/vm_engine/src/node/remove.rt: do not edit.
+// Written by bindings/erase from crates/vm_engine/src/node/delete.rt: do not edit.
 
-//! A block removed from a tree. What removes the node itself is no part of the descent to it
-//! (`delete_root`, never inlined): together they would save twice as many registers at each level, 4
-//! % of the instructions of `exact`.
+//! Removes a block from a tree.
+//!
+//! `delete_root` is a function that is never inlined, because otherwise each level of the descent
+//! would save its registers too.
 
+use rattle::Box;
 use super::balance::{balance, update};
 use super::summary::Change;
 use super::{Child, InnerNode};
-use crate::ordering::compare;
 use crate::Steps;
+use crate::ordering::compare;
 use core::cmp::Ordering;
-use rattle::Box;
 use vm_ranges::RangeInclusive;
 
-/// Takes the node with the least key out from below the node at a place; says what changed
-/// there.
+/// Takes the node with the lowest key out of the subtree at a link, and rebalances the path.
+/// Returns that node and the change of the subtree's summary.
 fn take_first_at(at: &mut Child, count: &mut Steps) -> (Box<InnerNode>, Change) {
     let Some(tree) = at else { unreachable!() };
     let tree: &mut InnerNode = tree;
@@ -43,8 +44,10 @@ fn take_first_at(at: &mut Child, count: &mut Steps) -> (Box<InnerNode>, Change) 
     (lowest, updated.rebalance(at))
 }
 
-/// What is left of a tree without its root, from the root's children: the other child where one is
-/// absent, and else both below the least node of the right one.
+/// Joins the two children of a removed node, and returns the subtree.
+///
+/// If one child is absent, this is the other child. Otherwise the lowest node of the right child
+/// becomes the root, and the subtree is balanced.
 pub(super) fn join(left: Child, mut right: Child, count: &mut Steps) -> Child {
     if right.is_none() {
         return left;
@@ -57,8 +60,10 @@ pub(super) fn join(left: Child, mut right: Child, count: &mut Steps) -> Child {
 }
 
 impl InnerNode {
-    /// The tree without its root's key: its child where it has one alone, none where it has none,
-    /// and else both children below the least node of the right one. It takes no memory.
+    /// Removes the root of a subtree, and returns the rest, or `None` if the root was its only
+    /// node.
+    ///
+    /// It does not allocate.
     #[inline(never)]
     #[allow(clippy::let_and_return)]
     pub(crate) fn delete_root(tree: Box<InnerNode>, count: &mut Steps) -> Option<Box<InnerNode>> {
@@ -68,11 +73,11 @@ impl InnerNode {
     }
 }
 
-/// Removes the node with a key from below the node at a place, if there is one; says what
-/// changed there.
+/// Removes the node with this key from the subtree at a link, if there is one, and rebalances the
+/// path. Returns the change of the subtree's summary.
 pub(crate) fn delete_at(at: &mut Child, key: &RangeInclusive, count: &mut Steps) -> Change {
     let Some(tree) = at else {
-        return Change::Nothing;
+        return Change::Nothing
     };
     let tree: &mut InnerNode = tree;
     tree.enter(count);

@@ -1,0 +1,50 @@
+// Written by bindings/erase from crates/vm_allocator/src/address_allocator/several.rt: do not edit.
+
+//! Several allocations in one call: all or none.
+
+use rattle::Vec;
+use super::AddressAllocator;
+use rattle::Global;
+use vm_ranges::{Constraint, RangeInclusive, Result};
+
+impl AddressAllocator {
+    /// Allocates a range for each request, in their order, and returns the ranges. Each range is where
+    /// [`allocate`](Self::allocate) places it after the requests before it.
+    ///
+    /// # Errors
+    ///
+    /// An error changes nothing: the ranges that were allocated so far are freed again. The height of
+    /// the tree can differ afterwards.
+    /// - `OutOfMemory` if the allocation of the list fails. This is checked first.
+    /// - The error of the first request that fails.
+    pub fn allocate_all(
+        &mut self,
+        alloc: Global,
+        requests: &[Constraint],
+    ) -> Result<Vec<RangeInclusive>> {
+        let mut ranges = Vec::with_capacity(alloc, requests.len())?;
+        for request in requests {
+            let answer = self.allocate(alloc, request.size(), request.align(), request.policy());
+            match answer {
+                Ok(range) => {
+                    let Ok(()) = ranges.push(range) else {
+                        unreachable!()
+                    };
+                }
+                Err(error) => {
+                    self.free_all(&mut ranges);
+                    return Err(error);
+                }
+            }
+        }
+        Ok(ranges)
+    }
+
+    /// Frees ranges that were allocated one after the other, the last one first. This leads back to
+    /// the state before their allocation.
+    fn free_all(&mut self, ranges: &mut Vec<RangeInclusive>) {
+        while let Some(range) = ranges.pop() {
+            let _ = self.free(&range);
+        }
+    }
+}
