@@ -49,7 +49,7 @@ pub record Holds (parts : List (List ℕ)) (text : List ℕ) (session : Session)
   pub ended : List (List ℕ)
   pub begun : List ℕ
   pub parts_are : parts ≡ ended ++ begun ∷ []
-  pub replaced_if_ok : session.line ≡ within_max_len begun
+  pub line : session.line ≡ within_max_len begun
   pub answered : AreAnswered start ended text session.machine
 
 -- The same for the parts of the text that was read.
@@ -58,19 +58,19 @@ At read text session = Holds (parts_of read) text session
 
 -- The session before the first byte.
 pub at_start : At [] [] (record { machine = start; line = Some [] })
-at_start = record { ended = []; begun = []; parts_are = refl; replaced_if_ok = refl; answered = (refl, refl) }
+at_start = record { ended = []; begun = []; parts_are = refl; line = refl; answered = (refl, refl) }
 
 -- One more line ends.
 holds_line : (parts : List (List ℕ)) (part text added : List ℕ) (old new : Session) (h : Holds parts text old)
     → EndsLine (with_more old part) added new
     → Holds ((h.ended ++ (h.begun ++ part) ∷ []) ++ [] ∷ []) (text ++ added) new
 holds_line parts part text added old new h f =
-    let asks = ap (λ l. pending_command (line_after l part)) h.replaced_if_ok ∙ ap pending_command (append_more h.begun part) ∙ pending_of_line (h.begun ++ part) in
+    let asks = ap (λ l. pending_command (line_after l part)) h.line ∙ ap pending_command (append_more h.begun part) ∙ pending_of_line (h.begun ++ part) in
     record {
       ended = h.ended ++ (h.begun ++ part) ∷ [];
       begun = [];
       parts_are = refl;
-      replaced_if_ok = f.2;
+      line = f.2;
       answered = subst (λ t. AreAnswered start (h.ended ++ (h.begun ++ part) ∷ []) (text ++ t) new.machine) (sym f.3) (answered_push start old.machine new.machine h.ended (h.begun ++ part) text f.0 h.answered (subst (λ q. Does old.machine q f.0 new.machine) asks f.1));
     }
 
@@ -83,7 +83,7 @@ holds_parts (last ∷ []) parts text added old new some h f =
       ended = h.ended;
       begun = h.begun ++ last;
       parts_are = ap (λ ps. glued ps (last ∷ [])) h.parts_are ∙ glued_is h.ended h.begun last [];
-      replaced_if_ok = ap (λ (s : Session). s.line) f.1 ∙ ap (λ l. line_after l last) h.replaced_if_ok ∙ append_more h.begun last;
+      line = ap (λ (s : Session). s.line) f.1 ∙ ap (λ l. line_after l last) h.line ∙ append_more h.begun last;
       answered = rw (f.0, append-nil, ap (λ (s : Session). s.machine) f.1) h.answered;
     }
 holds_parts (part ∷ next ∷ others) parts text added old new some h f =
@@ -129,7 +129,7 @@ at_end : (read text added : List ℕ) (session : Session) (b : Bool) (a : At rea
     → MayAnswer (a.ended ++ (if length a.begun == 0 then [] else a.begun ∷ [])) (text ++ added)
 at_end read text added session true a e f =
     let some : (length a.begun == 0) ≡ false = grind (arith, nat_tests) in
-    let asks = ap (λ l. pending_command (line_after l [])) a.replaced_if_ok ∙ ap pending_command (append_more a.begun []) ∙ pending_of_line (a.begun ++ []) ∙ ap command_of (append-nil a.begun) in
+    let asks = ap (λ l. pending_command (line_after l [])) a.line ∙ ap pending_command (append_more a.begun []) ∙ pending_of_line (a.begun ++ []) ∙ ap command_of (append-nil a.begun) in
     rw some (f.0.machine, subst (λ t. AreAnswered start (a.ended ++ a.begun ∷ []) (text ++ t) f.0.machine) (sym f.1.3) (answered_push start session.machine f.0.machine a.ended a.begun text f.1.0 a.answered (subst (λ q. Does session.machine q f.1.0 f.0.machine) asks f.1.1)))
 at_end read text added session false a e f =
     let none : (length a.begun == 0) ≡ true = grind (arith, nat_tests) in
@@ -140,7 +140,7 @@ pub at_finish : (read text added : List ℕ) (session : Session) → At read tex
     → MayAnswer (lines_of read) (text ++ added)
 at_finish read text added session a f =
     subst (λ ls. MayAnswer ls (text ++ added)) (sym (ap lines_among a.parts_are ∙ lines_are a.ended a.begun))
-    (at_end read text added session (nat_lt 0 (length a.begun)) a refl (subst (λ b. MatchBool b ((new : Session) × EndsLine (with_more session []) added new) (added ≡ [])) (ap has_begun a.replaced_if_ok ∙ begun_of_line a.begun) f))
+    (at_end read text added session (nat_lt 0 (length a.begun)) a refl (subst (λ b. MatchBool b ((new : Session) × EndsLine (with_more session []) added new) (added ≡ [])) (ap has_begun a.line ∙ begun_of_line a.begun) f))
 
 -- If a line has begun, it ends at the end of the input.
 pub answers_last_some : (old new : Session) (text : List ℕ) → has_begun old.line ≡ true → EndsLine (with_more old []) text new → AnswersLastLine old text

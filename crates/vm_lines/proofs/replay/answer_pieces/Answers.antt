@@ -52,6 +52,6 @@ returns-clause-read g c _ =
     let remaining = g.R.Read.remaining in
     let i = c.loop.invariant in
     answers_ended (remaining c.args.reader.now) _ (contents c.args.writer.now) (contents c.flush_buffer.new.writer) i.0 i.1
-    (elim c.loop-test.branch [ else-loop-test w ↦ rw w.reader-is i.2 | then-loop-test+in-Err w ↦ rw w.reader-is (Consumes-replaced_if_ok (remaining c.args.reader.now) (remaining c.loop.reader) (remaining w.read.new.self) i.0 i.2 w.in-Err.ensures.bytes) ])
+    (elim c.loop-test.branch [ else-loop-test w ↦ rw w.reader-is i.2 | then-loop-test+in-Err w ↦ rw w.reader-is (Consumes-kept (remaining c.args.reader.now) (remaining c.loop.reader) (remaining w.read.new.self) i.0 i.2 w.in-Err.ensures.bytes) ])
     (at_fault i.0 i.1 c.loop.session i.4)
     (moves_drain (contents c.args.writer.now) (contents c.loop.writer) (contents c.flush_buffer.new.writer) [] c.loop.output i.1 i.3 c.in_ok-flush_buffer.ensures.sent)

@@ -22,7 +22,7 @@ pub returns-clause-ok : goal.returns-clause-ok
 returns-clause-ok g c =
     let l = c.loop-end in
     let i = l.invariant in
-    let replaced_if_ok : c.append.new.self ≡ with_more l.session l.rest.now = search rules in
+    let appended : c.append.new.self ≡ with_more l.session l.rest.now = search rules in
     let none = feeds_none l.rest.now l.session (sym c.in_default.ensures) in
-    let fed = i.1 [] c.append.new.self (rw replaced_if_ok none) in
+    let fed = i.1 [] c.append.new.self (rw appended none) in
     (i.0, rw append-nil at fed, i.2)
