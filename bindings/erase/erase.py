@@ -103,9 +103,10 @@ ALLOWED = {
         "vm_allocator/src/address_allocator.rt allocate", "vm_engine/src/interval_tree.rt allocate",
         "vm_engine/src/node/delete.rt delete_root"),
     "clippy::needless_range_loop": ("vm_lines/src/number.rt are_digits", "vm_lines/src/number.rt digits_value"),
-    "clippy::only_used_in_recursion": ("vm_allocator/src/saved/repaired.rt hold_keys", "vm_engine/src/saved/tree.rt build"),
+    "clippy::only_used_in_recursion": (
+        "vm_engine/src/saved/repaired.rt collect_keys", "vm_engine/src/saved/tree.rt build"),
     "clippy::question_mark": (
-        "vm_allocator/src/saved/repaired.rt check_keys", "vm_allocator/src/saved/repaired.rt check_repaired",
+        "vm_engine/src/saved/repaired.rt check_keys",
         "vm_engine/src/saved/check.rt check_subtree"),
     "clippy::while_let_on_iterator": (
         "vm_engine/src/interval_tree/held_ranges.rt next", "vm_engine/src/node/walks/comparing.rt compare_blocks",

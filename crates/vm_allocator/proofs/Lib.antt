@@ -3,5 +3,4 @@ pub mod Decisions
 pub mod Answers
 pub mod Histories
 pub mod Reading
-pub mod Repairing
 pub mod Callers

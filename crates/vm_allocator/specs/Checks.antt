@@ -1,3 +1,2 @@
-pub mod RepairChecks
 pub mod AllocatorChecks
 pub mod IdChecks

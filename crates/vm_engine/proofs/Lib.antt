@@ -10,3 +10,4 @@ pub mod Walking
 pub mod Comparing
 pub mod Reading
 pub mod Making
+pub mod Repairing

@@ -1,1 +1,2 @@
 pub mod TreeValues
+pub mod KeyValues

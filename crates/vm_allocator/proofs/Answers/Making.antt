@@ -1,14 +1,14 @@
 -- The results of creating an allocator, and the state of a new one.
-use Rattle.std.proofs.Common.{List, length, Result, Option, Some, None, MatchOption, ◌⊎◌, ⊎_elim, subst, ◌≡◌, ℕ, ◌+◌, ◌-◌, ◌<◌, ◌≤◌, [], ◌∷◌, refl, ap, ◌∙◌, arith, inl, inr, Ok, Err}
+use Rattle.std.proofs.Common.{List, Result, ⊎_elim, subst, ◌≡◌, ℕ, ◌+◌, ◌-◌, ◌<◌, ◌≤◌, [], ◌∷◌, refl, ap, ◌∙◌, arith, inl, inr, Ok, Err}
 use Rattle.vm_ranges.specs.Range.{Range, MAX, span}
 use Rattle.vm_engine.specs.Answer.{Makes}
-use Rattle.vm_ranges.specs.Cases.{IfElse}
 use Rattle.vm_engine.specs.Address.{AddressState}
 use Rattle.vm_ranges.specs.declared.error.Error.{Error}
 use Rattle.vm_engine.specs.Tree.Shape.{Shape, blocks}
 use Rattle.vm_engine.specs.Tree.SpaceTree.{space_of, tree_state}
-use Rattle.vm_engine.specs.Held.{BySpace, MakesSpace, MakesHeld, MakesWithHeld, first_fault, TOO_MANY_BLOCKS}
-use Rattle.vm_engine.specs.Tree.Blocks.{blocks_of, blocks_state, TilesSpace, IsTiling}
+use Rattle.vm_engine.proofs.Making.HeldTrees.{held_made}
+use Rattle.vm_engine.specs.Held.{BySpace, MakesSpace, MakesHeld, MakesWithHeld}
+use Rattle.vm_engine.specs.Tree.Blocks.{blocks_state, TilesSpace, IsTiling}
 use Rattle.vm_ranges.specs.declared.error.Error.TheVariants.{Overflow, Underflow, OutOfMemory}
 use Rattle.vm_ranges.specs.declared.state.NodeState.TheVariants.{Free}
 
@@ -75,17 +75,6 @@ without_space base size held e s =
     (λ l. inl (l.0, cc (l.1)))
     (λ r. ⊎_elim (λ l. inr (r.0, inl (l.0, cc (l.1)))) (λ k. absurd (cc (k.1))) r.1)
     s
-
--- The allocator that is made has the state.
-made_is : (o : Option Error) (many : Type 0) (answer : Result AddressState Error) (state made : AddressState) → MatchOption o (IfElse many (answer ≡ Err Overflow) ((answer ≡ Ok state) ⊎ (answer ≡ Err OutOfMemory))) (λ fault. answer ≡ Err fault) → answer ≡ Ok made → made ≡ state
-made_is None many answer state made h e = ⊎_elim (λ l. absurd (cc (l.1, e))) (λ r. ⊎_elim (λ k. cc (k, e)) (λ k. absurd (cc (k, e))) r.1) h
-made_is (Some f) many answer state made h e = absurd (cc (h, e))
-
-pub held_made : (space : Range) (held : List Range) (made : AddressState) → MakesHeld space held (Ok made) → made ≡ record { space = space; held = held }
-unfolding MakesHeld
-held_made space held made m =
-    let state : AddressState = record { space = space; held = held } in
-    made_is (first_fault space.start space.end held) (TOO_MANY_BLOCKS ≤ length (blocks_of state)) (Ok made) state made m refl
 
 -- The space of a tree is the one that it was made for.
 pub space_of_made : (space : Range) (held : List Range) (s : Shape) → MakesHeld space held (Ok (tree_state s)) → space_of (blocks s) ≡ space

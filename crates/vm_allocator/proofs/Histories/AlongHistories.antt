@@ -11,7 +11,7 @@ use Rattle.vm_ranges.specs.declared.error.Error.{Error}
 use Rattle.vm_engine.proofs.Blocks.PlainWords.{IsHeld, contains_held, held_contains}
 use Rattle.vm_engine.proofs.Answers.Outcomes.{IsRefused}
 use Rattle.vm_allocator.proofs.Reading.ReadAllocators.{encoded_state}
-use Rattle.vm_allocator.proofs.Repairing.RepairedReading.{repaired_state}
+use Rattle.vm_allocator.proofs.Reading.ReadRepaired.{repaired_state}
 use Rattle.vm_ranges.proofs.CloneAnswers.{cloning_keeps}
 use Rattle.vm_engine.proofs.Answers.Once.{allocates_once, frees_once}
 use Rattle.vm_engine.proofs.Blocks.HeldSets.{same_ranges_held}

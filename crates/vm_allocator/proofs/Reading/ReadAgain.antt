@@ -12,7 +12,7 @@ use Rattle.vm_ranges.proofs.ReadRanges.{one_range}
 use Rattle.vm_ranges.proofs.ReadStates.{one_state}
 use Rattle.vm_allocator.proofs.Reading.ReadAllocators.{one_allocator}
 use Rattle.vm_allocator.proofs.Ids.ReadIdStates.{one_encoded}
-use Rattle.vm_allocator.proofs.Repairing.RepairedReading.{one_repaired, strict_repaired}
+use Rattle.vm_allocator.proofs.Reading.ReadRepaired.{one_repaired, strict_repaired}
 
 pub one_range_encoded : EncodesAtMostOne EncodesRange
 one_range_encoded = one_range

@@ -1,5 +1,5 @@
 -- The tree that is built of the blocks of a space with some ranges held.
-use Rattle.std.proofs.Common.{◌≡◌, ℕ, ◌+◌, ◌^◌, ◌≤◌, ◌<◌, List, [], ◌∷◌, ◌++◌, length, Some, None, Ok, Err, refl, sym, ap, ◌∙◌, arith, subst, ⊎_elim, inl, inr}
+use Rattle.std.proofs.Common.{◌≡◌, ℕ, ◌+◌, ◌^◌, ◌≤◌, ◌<◌, List, [], ◌∷◌, ◌++◌, length, Some, None, Option, MatchOption, ◌⊎◌, Result, Ok, Err, refl, sym, ap, ◌∙◌, arith, subst, ⊎_elim, inl, inr}
 use Rattle.std.proofs.lemmas.Bool.{cases_lt}
 use Rattle.std.proofs.lemmas.List.{append-nil}
 use Rattle.vm_ranges.specs.Range.{Range, IsRange}
@@ -8,7 +8,8 @@ use Rattle.vm_engine.specs.Address.{AddressState, AreInOrder, IsAddressState}
 use Rattle.vm_engine.specs.Tree.Blocks.{blocks_between, blocks_of, held_of, AreBelowMax, IsTiling, TilesSpace}
 use Rattle.vm_engine.specs.Tree.Shape.{Shape, blocks, height_of}
 use Rattle.vm_engine.specs.Tree.SpaceTree.{tree_state, IsSpaceTree}
-use Rattle.vm_engine.specs.Held.{first_fault, MakesHeld}
+use Rattle.vm_ranges.specs.Cases.{IfElse}
+use Rattle.vm_engine.specs.Held.{first_fault, MakesHeld, TOO_MANY_BLOCKS}
 use Rattle.vm_engine.specs.Engine.Building.{IsBuilt}
 use Rattle.vm_ranges.specs.declared.error.Error.{Error}
 use Rattle.vm_ranges.specs.declared.error.Error.TheVariants.{Overflow, OutOfMemory}
@@ -83,5 +84,16 @@ makes_high space held n f c l = rw f (inl (omega arith, refl))
 pub makes_memory : (space : Range) (held : List Range) (n : ℕ) → first_fault space.start space.end held ≡ None → n ≡ length (blocks_between space.start held space.end) → n < 2 ^ 49 → MakesHeld space held (Err OutOfMemory)
 unfolding MakesHeld blocks_of
 makes_memory space held n f c l = rw f (inr (λ h. omega (arith, h), inr refl))
+
+-- The state that is made is the one that was asked for.
+made_is : (o : Option Error) (many : Type 0) (answer : Result AddressState Error) (state made : AddressState) → MatchOption o (IfElse many (answer ≡ Err Overflow) ((answer ≡ Ok state) ⊎ (answer ≡ Err OutOfMemory))) (λ fault. answer ≡ Err fault) → answer ≡ Ok made → made ≡ state
+made_is None many answer state made h e = ⊎_elim (λ l. absurd (cc (l.1, e))) (λ r. ⊎_elim (λ k. cc (k, e)) (λ k. absurd (cc (k, e))) r.1) h
+made_is (Some f) many answer state made h e = absurd (cc (h, e))
+
+pub held_made : (space : Range) (held : List Range) (made : AddressState) → MakesHeld space held (Ok made) → made ≡ record { space = space; held = held }
+unfolding MakesHeld
+held_made space held made m =
+    let state : AddressState = record { space = space; held = held } in
+    made_is (first_fault space.start space.end held) (TOO_MANY_BLOCKS ≤ length (blocks_of state)) (Ok made) state made m refl
 
 pub ruleset makings = (built_tree, built_is_state, makes_tree, makes_fault, makes_high, makes_memory)

@@ -1,12 +1,11 @@
 -- The blocks that a tree is built of, from the lowest on.
-use Rattle.std.specs.Prelude.{◌≡◌, ℕ, ◌+◌, ◌*◌, ◌^◌, ◌<◌, ◌≤◌, List, ◌++◌, length, Some, None, Result, Ok, Err, MatchResult}
+use Rattle.std.specs.Prelude.{◌≡◌, ℕ, ◌+◌, ◌*◌, ◌^◌, ◌<◌, ◌≤◌, List, ◌++◌, length, Some, None, Result, MatchResult}
 use Rattle.vm_ranges.specs.Range.{Range, MAX}
 use Rattle.vm_engine.specs.Tree.Block.{Block}
-use Rattle.vm_engine.specs.Address.{AddressState, AreInOrder}
+use Rattle.vm_engine.specs.Address.{AreInOrder}
 use Rattle.vm_engine.specs.Held.{first_fault}
 use Rattle.vm_engine.specs.Tree.Blocks.{blocks_between}
 use Rattle.vm_engine.specs.Tree.Shape.{Shape, blocks, height_of, node_count, IsBalanced}
-use Rattle.vm_engine.specs.Tree.SpaceTree.{tree_state}
 use Rattle.vm_ranges.specs.declared.error.Error.{Error}
 use Rattle.vm_engine.specs.declared.interval_tree.building.Row.{Row}
 
@@ -39,8 +38,3 @@ CountsBlocks space held answer =
     × AreInOrder space.start held space.end
     × (n ≡ length (blocks_between space.start held space.end)))
     (λ error. first_fault space.start space.end held ≡ Some error)
-
--- the state of the tree that is made, or why none is
-abbrev pub made_tree : Result Shape Error → Result AddressState Error
-made_tree (Ok tree) = Ok (tree_state tree)
-made_tree (Err error) = Err error

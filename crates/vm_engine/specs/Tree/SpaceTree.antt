@@ -1,5 +1,5 @@
 -- Trees of the blocks of a space.
-use Rattle.std.specs.Prelude.{◌≡◌, ℕ, ◌≤◌, List, [], ◌∷◌, Result, MatchResult}
+use Rattle.std.specs.Prelude.{◌≡◌, ℕ, ◌≤◌, List, [], ◌∷◌, Result, Ok, Err, MatchResult}
 use Rattle.vm_ranges.specs.Range.{Range, IsRange}
 use Rattle.vm_engine.specs.Tree.Block.{Block}
 use Rattle.vm_engine.specs.Address.{AddressState}
@@ -32,3 +32,8 @@ pub record IsSpaceTree (s : Shape) : Type 0 where
 abbrev pub MakesTree : Range → Result Shape Error → Type 0
 MakesTree space answer =
     MatchResult answer (λ tree. tree_state tree ≡ record { space = space; held = [] }) (λ error. error ≡ OutOfMemory)
+
+-- The state of a tree that is returned, or the error.
+abbrev pub made_tree : {E : Type 0} → Result Shape E → Result AddressState E
+made_tree (Ok tree) = Ok (tree_state tree)
+made_tree (Err error) = Err error

@@ -2,10 +2,10 @@
 //! then the blocks are built into a tree in one pass, from the middle.
 ghost use Rattle.std.specs.Prelude.{◌≡◌, ◌≢◌, ◌≤◌, ◌∷◌, [], Some, None, length, IfOk, IfErr, MatchResult};
 ghost use Rattle.vm_engine.specs.Address.{IsAddressState};
-ghost use Rattle.vm_engine.specs.Tree.SpaceTree.{tree_state};
+ghost use Rattle.vm_engine.specs.Tree.SpaceTree.{tree_state, made_tree};
 ghost use Rattle.vm_engine.specs.Held.{MakesHeld, range_fault};
 ghost use Rattle.vm_engine.specs.Engine.NodeFields.{side};
-ghost use Rattle.vm_engine.specs.Engine.Building.{remaining_blocks, IsRow, IsBuilt, CountsBlocks, made_tree};
+ghost use Rattle.vm_engine.specs.Engine.Building.{remaining_blocks, IsRow, IsBuilt, CountsBlocks};
 
 use super::IntervalTree;
 use crate::block::Block;

@@ -3,4 +3,3 @@
 //! Saved values of both allocators, and of the address allocators that the Rust crate saved.
 mod allocator;
 mod ids;
-mod repaired;

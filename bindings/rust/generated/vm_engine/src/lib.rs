@@ -7,7 +7,6 @@
 //!
 //! - [`IntervalTree`] allocates and frees ranges.
 //! - [`HeldRanges`] iterates over the allocated ranges.
-//! - [`decode_node`] reads the fields of a saved node.
 
 #![forbid(unsafe_code)]
 #![no_std]
@@ -21,4 +20,3 @@ mod saved;
 pub use interval_tree::IntervalTree;
 use interval_tree::counted::Steps;
 pub use interval_tree::held_ranges::HeldRanges;
-pub use saved::node::{SavedNode, decode_node};

@@ -5,4 +5,5 @@
 //! A value can be untrusted input, so the whole value is checked before the first allocation.
 mod check;
 pub(crate) mod node;
+mod repaired;
 mod tree;

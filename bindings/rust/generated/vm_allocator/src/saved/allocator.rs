@@ -41,6 +41,47 @@ impl AddressAllocator {
             interval_tree,
         })
     }
+
+    /// Decodes an allocator from a value that the Rust crate saved, and repairs the effects of its
+    /// bugs.
+    ///
+    /// The keys that are `Allocated` are the allocated ranges, and all other addresses of the space
+    /// are free. The tree can have no nodes, gaps between keys, free neighbours, no balance and any
+    /// heights.
+    ///
+    /// A value that [`from_value`](Self::from_value) reads is read to an equal allocator, if at
+    /// most 6,293,134,512 ranges are allocated.
+    ///
+    /// The value can be untrusted input. All of it is checked before anything is allocated, and the
+    /// check descends at most 51 levels.
+    ///
+    /// # Errors
+    ///
+    /// In this order:
+    /// - `NotAState` if one of these is true:
+    ///   - The fields are not those of an allocator and of its nodes.
+    ///   - Nodes are nested more than 50 deep.
+    ///   - The keys are not in increasing order, overlap, or are not in the space.
+    ///   - An allocated key ends at `u64::MAX`.
+    ///   - More than 6,293,134,512 keys are allocated.
+    /// - `OutOfMemory` if the allocation of a node fails.
+    pub fn from_value_repaired(
+        alloc: Global,
+        value: &Value,
+    ) -> core::result::Result<Self, ValueError> {
+        let Some(parts) = decode_parts(value) else {
+            return Err(ValueError::NotAState);
+        };
+        let interval_tree = IntervalTree::from_root_value_repaired(
+            alloc,
+            &parts.space,
+            parts.root,
+        )?;
+        Ok(AddressAllocator {
+            address_space: parts.space,
+            interval_tree,
+        })
+    }
 }
 
 /// Builds the object with the fields of an allocator.

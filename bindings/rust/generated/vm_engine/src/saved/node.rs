@@ -19,24 +19,24 @@ const HEIGHT: &str = "height";
 
 /// The fields of a node's value.
 #[derive(Clone, Copy)]
-pub struct SavedNode<'a> {
+pub(crate) struct SavedNode<'a> {
     /// The range of the block.
-    pub key: RangeInclusive,
+    pub(crate) key: RangeInclusive,
     /// The state of the block.
-    pub state: NodeState,
+    pub(crate) state: NodeState,
     /// The height that the value has for the subtree.
-    pub height: u64,
+    pub(crate) height: u64,
     /// The value of the left child.
-    pub left: &'a Value,
+    pub(crate) left: &'a Value,
     /// The value of the right child.
-    pub right: &'a Value,
+    pub(crate) right: &'a Value,
 }
 
 /// Returns the fields of a node's value. Returns `None` if the value does not have exactly these
 /// fields, or if the key, the state or the height is not valid.
 ///
 /// It does not allocate, and does not check the values of the children.
-pub fn decode_node(value: &Value) -> Option<SavedNode<'_>> {
+pub(crate) fn decode_node(value: &Value) -> Option<SavedNode<'_>> {
     if !has_fields(value, 5) {
         return None;
     }

@@ -1,27 +1,21 @@
-use Rattle.std.proofs.Common.{sym}
+use Rattle.std.proofs.Common.{◌≡◌, rules, Err, sym}
 use Rattle.serde_json.specs.View.{view}
-use Rattle.vm_allocator.specs.Allocator.{state_of}
-use Rattle.vm_allocator.proofs.Repairing.RepairedReading.{none_encoded, some_encoded, can_add, added_encoded, repaired_state}
+use Rattle.vm_engine.specs.Tree.SpaceTree.{tree_state}
+use Rattle.vm_allocator.proofs.Reading.ReadRepaired.{none_repaired, repaired_by, not_repaired}
 use Rattle.vm_allocator.proofs.address_allocator.AddressAllocator.from_value_repaired.Goals as goal
 
 pub returns-in_default-clause-answer : goal.returns-in_default-clause-answer
-returns-in_default-clause-answer c = none_encoded (view c.args.value.now) (sym c.in_default.ensures)
+returns-in_default-clause-answer c = none_repaired (view c.args.value.now) (sym c.in_default.ensures)
 
-pub returns-in_default-new-clause-answer : goal.returns-in_default-new-clause-answer
-returns-in_default-new-clause-answer c = some_encoded (view c.args.value.now) _ _ (sym c.in-Some.ensures)
+pub returns-in_err-interval_tree-clause-answer : goal.returns-in_err-interval_tree-clause-answer
+returns-in_err-interval_tree-clause-answer c =
+    let e = c.in_err-interval_tree.field-0.0 in
+    let is : c.from_residual.result ≡ Err e = search rules in
+    rw is (not_repaired (view c.args.value.now) c.in-Some.parts.space (view c.in-Some.parts.root.now) e (sym c.in-Some.ensures) c.in_err-interval_tree.ensures.answer)
 
-pub hold_keys-requires : goal.hold_keys-requires
-hold_keys-requires c =
-    let made = rw (c.start.ensures.value, c.len.ensures) at c.in-Ok.ensures.answer in
-    can_add (view c.args.value.now) c.in-Some.checked.space (view c.in-Some.checked.root.now) (sym c.in-Some.ensures) (state_of c.in-Ok.allocator) made
-
-pub returns-in_default-hold_keys-clause-answer : goal.returns-in_default-hold_keys-clause-answer
-returns-in_default-hold_keys-clause-answer c = some_encoded (view c.args.value.now) _ _ (sym c.in-Some.ensures)
+pub invariant_of-result : goal.invariant_of-result
+invariant_of-result c = c.in_ok-interval_tree.ensures.answer.is_space
 
 pub returns-clause-answer : goal.returns-clause-answer
 returns-clause-answer c =
-    let made = rw (c.start.ensures.value, c.len.ensures) at c.in-Ok.ensures.answer in
-    added_encoded (view c.args.value.now) c.in-Some.checked.space (view c.in-Some.checked.root.now) (sym c.in-Some.ensures) (state_of c.in-Ok.allocator) made (state_of c.hold_keys.new.allocator) c.in-Ok-hold_keys.ensures.held
-
-pub returns-clause-state : goal.returns-clause-state
-returns-clause-state c = repaired_state (view c.args.value.now) (state_of c.hold_keys.new.allocator) (returns-clause-answer c)
+    repaired_by (view c.args.value.now) c.in-Some.parts.space (view c.in-Some.parts.root.now) (tree_state c.in_ok-interval_tree.interval_tree) (sym c.in-Some.ensures) c.in_ok-interval_tree.ensures.answer

@@ -1,7 +1,7 @@
 use Rattle.std.proofs.Common.{arith}
 use Rattle.std.proofs.lemmas.Grind.{common_steps}
-use Rattle.vm_allocator.specs.Checks.RepairChecks.{checked_keys}
-use Rattle.vm_allocator.proofs.saved.repaired.+check_keys.Goals as goal
+use Rattle.vm_engine.specs.Checks.KeyChecks.{checked_keys}
+use Rattle.vm_engine.proofs.saved.repaired.+check_keys.Goals as goal
 
 -- Proof: the steps are named, because the search for them is slow.
 pub returns-then-is_null : goal.returns-then-is_null

@@ -8,10 +8,10 @@ use Rattle.vm_engine.specs.Answer.{SPLIT_LIMIT_MIN_HELD}
 use Rattle.vm_engine.specs.Tree.Block.{Block, is_free}
 use Rattle.vm_engine.specs.Tree.Blocks.{range_if_held, held_of, AreKeysIn, AreBelowMax}
 use Rattle.vm_engine.specs.Checks.NodeChecks.{try_fold_blocks}
-use Rattle.vm_allocator.specs.Checks.RepairChecks.{may_follow, advance_key}
+use Rattle.vm_engine.specs.Checks.KeyChecks.{may_follow, advance_key}
 use Rattle.vm_ranges.specs.declared.state.NodeState.{NodeState}
 use Rattle.vm_ranges.specs.declared.state.NodeState.TheVariants.{Free, Allocated}
-use Rattle.vm_allocator.specs.declared.saved.repaired.KeyCursor.{KeyCursor}
+use Rattle.vm_engine.specs.declared.saved.repaired.KeyCursor.{KeyCursor}
 use Rattle.vm_engine.proofs.Reading.Cursors.{AreKeys}
 
 -- The number of held blocks with one more block.

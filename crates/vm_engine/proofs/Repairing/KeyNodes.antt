@@ -6,8 +6,8 @@ use Rattle.vm_ranges.proofs.Steps.{and_then_some, if_some}
 use Rattle.vm_engine.specs.Tree.Shape.{Shape, Tip, Fork, blocks, height_of}
 use Rattle.vm_engine.specs.Checks.NodeChecks.{NodeData, decoded_node, try_fold_blocks}
 use Rattle.vm_engine.specs.Values.TreeValues.{HasNodes}
-use Rattle.vm_allocator.specs.Checks.RepairChecks.{advance_key, checked_node_keys, checked_keys}
-use Rattle.vm_allocator.specs.declared.saved.repaired.KeyCursor.{KeyCursor}
+use Rattle.vm_engine.specs.Checks.KeyChecks.{advance_key, checked_node_keys, checked_keys}
+use Rattle.vm_engine.specs.declared.saved.repaired.KeyCursor.{KeyCursor}
 use Rattle.vm_engine.proofs.Reading.Cursors.{after_three, cut_in_three}
 use Rattle.vm_engine.proofs.Reading.ReadNodes.{over_sides, fork_is}
 use Rattle.vm_ranges.proofs.Nulls.{null_of, not_null}

@@ -1,0 +1,83 @@
+-- A value that is read with repairs: its fields encode the space and the held ranges of one state.
+use Rattle.std.proofs.Common.{◌≡◌, ◌≤◌, length, Some, None, Err, codes, sym, ap, ◌∙◌, subst}
+use Rattle.std.proofs.lemmas.Option.{same_Some}
+use Rattle.serde_json.specs.Data.{Data}
+use Rattle.vm_ranges.proofs.FieldSteps.{field_map}
+use Rattle.vm_ranges.specs.Range.{Range, IsRange}
+use Rattle.vm_ranges.specs.Saving.{Reads}
+use Rattle.vm_ranges.specs.declared.saved.ValueError.{ValueError}
+use Rattle.vm_ranges.specs.declared.saved.ValueError.TheVariants.{NotAState, OutOfMemory}
+use Rattle.vm_engine.specs.Address.{AddressState, IsAddressState}
+use Rattle.vm_engine.specs.Answer.{SPLIT_LIMIT_MIN_HELD}
+use Rattle.vm_engine.specs.Tree.Blocks.{held_of}
+use Rattle.vm_engine.specs.Tree.Shape.{blocks}
+use Rattle.vm_engine.specs.Values.TreeValues.{EncodesSpaceTree}
+use Rattle.vm_engine.specs.Values.KeyValues.{EncodesKeys}
+use Rattle.vm_engine.proofs.Repairing.RepairedTrees.{state_with, one_keys, keys_state, strict_keys}
+use Rattle.vm_allocator.specs.Allocator.{SpaceInTree}
+use Rattle.vm_allocator.specs.Values.AllocatorValues.{EncodesTree, EncodesAllocator, EncodesAddresses}
+use Rattle.vm_allocator.specs.Values.RepairedValues.{EncodesRepaired}
+use Rattle.vm_allocator.specs.Checks.AllocatorChecks.{decoded_parts}
+use Rattle.vm_allocator.proofs.Reading.AllocatorParts.{HasParts, parts_encoded, parts_are, one_root}
+use Rattle.vm_allocator.proofs.Reading.ReadAllocators.{encoded_ends}
+
+abbrev RootIs : AddressState → Data → Type 0
+RootIs state v = EncodesKeys v state.space state
+
+fields_of : (d : Data) (state : AddressState) → EncodesRepaired d state → HasParts d state.space (RootIs state)
+fields_of d state p = record { two_fields = p.two_fields; address_space = p.address_space; interval_tree = p.interval_tree }
+
+root_of : (d : Data) (state : AddressState) → EncodesRepaired d state → (root : Data) × (decoded_parts d ≡ Some (state.space, root)) × EncodesKeys root state.space state × IsRange state.space.start state.space.end
+root_of d state p = parts_are d state.space (RootIs state) (fields_of d state p)
+
+-- A value encodes at most one state.
+pub one_repaired : (d : Data) (a b : AddressState) → EncodesRepaired d a → EncodesRepaired d b → a ≡ b
+one_repaired d a b p q =
+    let one = one_root d a.space b.space (RootIs a) (RootIs b) (fields_of d a p) (fields_of d b q) in
+    one_keys one.0 b.space a b (subst (λ (s : Range). EncodesKeys one.0 s a) one.1 one.2) one.3
+
+-- The state that a value encodes is valid.
+pub repaired_state : (d : Data) (state : AddressState) → EncodesRepaired d state → IsAddressState state
+repaired_state d state p = let r = root_of d state p in keys_state r.0 state r.3 r.2
+
+-- A value that is read without repairs is read with repairs to the same state, if the height never makes a split fail.
+strict_tree : (d : Data) (a : SpaceInTree) → length (held_of (blocks a.tree)) ≤ SPLIT_LIMIT_MIN_HELD → EncodesTree d (λ v. EncodesSpaceTree v a.space a.tree) → EncodesTree d (λ v. EncodesKeys v a.space (state_with a.space (held_of (blocks a.tree))))
+strict_tree d a few t = record {
+  one_field = t.one_field;
+  root = field_map (codes "root") d (λ v. EncodesSpaceTree v a.space a.tree) (λ v. EncodesKeys v a.space (state_with a.space (held_of (blocks a.tree)))) (λ v p. strict_keys v a.space a.tree p few) t.root;
+}
+
+strict_with : (d : Data) (a : SpaceInTree) → EncodesAllocator d a → length (held_of (blocks a.tree)) ≤ SPLIT_LIMIT_MIN_HELD → EncodesRepaired d (state_with a.space (held_of (blocks a.tree)))
+strict_with d a p few = record {
+  two_fields = p.two_fields;
+  address_space = p.address_space;
+  interval_tree = field_map (codes "interval_tree") d (λ v. EncodesTree v (λ r. EncodesSpaceTree r a.space a.tree)) (λ v. EncodesTree v (λ r. EncodesKeys r a.space (state_with a.space (held_of (blocks a.tree))))) (λ v. strict_tree v a few) p.interval_tree;
+}
+
+pub strict_repaired : (d : Data) (state : AddressState) → EncodesAddresses d state → length state.held ≤ SPLIT_LIMIT_MIN_HELD → EncodesRepaired d state
+strict_repaired d state p few =
+    let a = p.allocator in
+    let same : state_with a.space (held_of (blocks a.tree)) ≡ state = ap (λ (r : Range). state_with r (held_of (blocks a.tree))) (sym (encoded_ends d a p.encoded)) ∙ p.is in
+    subst (EncodesRepaired d) same (strict_with d a p.encoded (subst (λ (v : AddressState). length v.held ≤ SPLIT_LIMIT_MIN_HELD) (sym same) few))
+
+-- The facts that the contracts of the code need.
+
+pub none_repaired : (d : Data) → decoded_parts d ≡ None → ((state : AddressState) × EncodesRepaired d state) → ⊥
+none_repaired d e p = let r = root_of d p.0 p.1 in absurd (let f = r.1 in cc)
+
+pub repaired_by : (d : Data) (space : Range) (root : Data) (state : AddressState) → decoded_parts d ≡ Some (space, root) → EncodesKeys root space state → EncodesRepaired d state
+repaired_by d space root state e k =
+    let own : EncodesKeys root state.space state = subst (λ (s : Range). EncodesKeys root s state) (sym k.is_space) k in
+    let all = parts_encoded d state.space root (RootIs state) (e ∙ ap (λ (s : Range). Some (s, root)) (sym k.is_space)) own in
+    record { two_fields = all.two_fields; address_space = all.address_space; interval_tree = all.interval_tree }
+
+no_keys_read : (d : Data) (space : Range) (root : Data) → decoded_parts d ≡ Some (space, root) → (((state : AddressState) × EncodesKeys root space state) → ⊥) → ((state : AddressState) × EncodesRepaired d state) → ⊥
+no_keys_read d space root e none p =
+    let r = root_of d p.0 p.1 in
+    let same : (p.0.space, r.0) ≡ (space, root) = same_Some (p.0.space, r.0) (space, root) (sym r.1 ∙ e) in
+    none (p.0, subst (λ (x : Range × Data). EncodesKeys x.1 x.0 p.0) same r.2)
+
+-- The error of reading the tree is the error of reading the allocator.
+pub not_repaired : (d : Data) (space : Range) (root : Data) (error : ValueError) → decoded_parts d ≡ Some (space, root) → Reads (EncodesKeys root space) (Err error) → Reads (EncodesRepaired d) (Err error)
+not_repaired d space root NotAState e r = no_keys_read d space root e r
+not_repaired d space root OutOfMemory e r = (r.0, repaired_by d space root r.0 e r.1)

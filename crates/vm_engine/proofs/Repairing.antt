@@ -1,0 +1,4 @@
+pub mod KeyCursors
+pub mod KeyNodes
+pub mod CollectedKeys
+pub mod RepairedTrees

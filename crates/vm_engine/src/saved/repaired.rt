@@ -1,0 +1,151 @@
+//! Reads the trees that the Rust crate vm-allocator 0.1.4 saved, and repairs the effects of its bugs.
+//!
+//! A first pass checks the whole value and does not allocate. A second pass collects the allocated
+//! keys, and a new tree is built of them.
+ghost use Rattle.std.specs.Prelude.{◌≡◌, ◌++◌, IfOk, OnOk};
+ghost use Rattle.serde_json.specs.View.{view};
+ghost use Rattle.vm_engine.specs.Address.{IsAddressState};
+ghost use Rattle.vm_engine.specs.Tree.Blocks.{range_if_held};
+ghost use Rattle.vm_engine.specs.Tree.SpaceTree.{tree_state, made_tree};
+ghost use Rattle.vm_ranges.specs.Saving.{Reads};
+ghost use Rattle.vm_engine.specs.Values.KeyValues.{EncodesKeys};
+ghost use Rattle.vm_engine.specs.Checks.KeyChecks.{advance_key, checked_keys, HasNodesWithin, CollectsKeys};
+
+use super::node::decode_node;
+use crate::IntervalTree;
+use crate::ordering::recall_invariant;
+use serde_json::Value;
+use std::alloc::{AllocError, Global};
+use vm_ranges::{NodeState, RangeInclusive, ValueError};
+
+/// The maximum nesting of nodes. No tree of the Rust crate is higher.
+const MAX_NESTING_REPAIRED: u64 = 50;
+
+/// The maximum number of allocated keys. Up to this number, the height never makes a split fail.
+const MAX_HELD: u64 = 6_293_134_512;
+
+impl IntervalTree {
+    /// Returns a tree of the space in which the allocated keys of a value are allocated.
+    ///
+    /// The tree in the value can have no nodes, gaps between keys, free neighbours, no balance and
+    /// any heights. All of the value is checked before anything is allocated, and the check descends
+    /// at most 51 levels.
+    ///
+    /// # Errors
+    ///
+    /// In this order:
+    /// - `NotAState` if one of these is true:
+    ///   - The fields are not those of nodes.
+    ///   - Nodes are nested more than 50 deep.
+    ///   - The keys are not in increasing order, overlap, or are not in the space.
+    ///   - An allocated key ends at `u64::MAX`.
+    ///   - More than 6,293,134,512 keys are allocated.
+    /// - `OutOfMemory` if an allocation fails.
+    pub fn from_root_value_repaired(
+        alloc: Global,
+        space: &RangeInclusive,
+        value: &Value,
+    ) -> std::result::Result<Self, ValueError>
+        ensures answer { Reads (EncodesKeys (view value.now) space.now) (made_tree result) }
+        ensures state { IfOk result (λ tree. IsAddressState (tree_state tree)) }
+    {
+        let before = KeyCursor {
+            next: space.start().into(),
+            held: 0,
+        };
+        let Some(last) = check_keys(value, space.end(), MAX_NESTING_REPAIRED, before) else {
+            return Err(ValueError::NotAState);
+        };
+        let mut held = Vec::with_capacity(alloc, last.held as usize)?;
+        collect_keys(value, MAX_NESTING_REPAIRED, &mut held)?;
+        let Ok(tree) = IntervalTree::with_held(alloc, *space, &held) else {
+            return Err(ValueError::OutOfMemory);
+        };
+        Ok(tree)
+    }
+}
+
+/// A cursor after the keys visited so far: they end below `next`, and `held` of them are allocated.
+#[derive(Clone, Copy)]
+struct KeyCursor {
+    next: u128,
+    held: u64,
+}
+
+impl KeyCursor {
+    /// Returns the cursor after one more block, or `None` if the block cannot follow in a space
+    /// that ends at `end`.
+    fn advance_key(self, end: u64, key: &RangeInclusive, state: NodeState) -> Option<KeyCursor>
+        ensures { result ≡ advance_key end self (record { key = key.now; state = state }) }
+    {
+        let last = key.end();
+        if u128::from(key.start()) < self.next || last > end {
+            return None;
+        }
+        let next = u128::from(last) + 1;
+        if state == NodeState::Free {
+            return Some(KeyCursor { next, ..self });
+        }
+        if last == u64::MAX || self.held >= MAX_HELD {
+            return None;
+        }
+        Some(KeyCursor {
+            next,
+            held: self.held + 1,
+        })
+    }
+}
+
+/// Returns the cursor after the blocks of all nodes of a value, in order.
+///
+/// Returns `None` if the value is not a tree of nodes, if its nodes are nested deeper than `depth`,
+/// or if a block cannot follow the block before it.
+#[tactic(auto, unfolding(crate::specs::Checks::KeyChecks::checked_keys))]
+fn check_keys(value: &Value, end: u64, depth: u64, cursor: KeyCursor) -> Option<KeyCursor>
+    ensures { result ≡ checked_keys end depth (view value.now) cursor }
+{
+    if value.is_null() {
+        return Some(cursor);
+    }
+    if depth == 0 {
+        return None;
+    }
+    let Some(node) = decode_node(value) else {
+        return None;
+    };
+    let left = check_keys(node.left, end, depth - 1, cursor)?;
+    let middle = left.advance_key(end, &node.key, node.state)?;
+    check_keys(node.right, end, depth - 1, middle)
+}
+
+/// Appends the allocated keys of a checked value to a list, in order.
+fn collect_keys(
+    value: &Value,
+    depth: u64,
+    held: &mut Vec<RangeInclusive>,
+) -> std::result::Result<(), AllocError>
+    requires { HasNodesWithin depth (view value.now) }
+    ensures { OnOk result (CollectsKeys (view value.now) held.old.items held.new.items) }
+{
+    let Some(node) = decode_node(value) else {
+        return Ok(());
+    };
+    collect_keys(node.left, depth - 1, held)?;
+    push_if_held(&node.key, node.state, held)?;
+    collect_keys(node.right, depth - 1, held)
+}
+
+/// Appends a key to a list if its state is `Allocated`.
+fn push_if_held(
+    key: &RangeInclusive,
+    state: NodeState,
+    held: &mut Vec<RangeInclusive>,
+) -> std::result::Result<(), AllocError>
+    ensures { OnOk result (held.new.items ≡ held.old.items ++ range_if_held state key.now) }
+{
+    if state == NodeState::Free {
+        return Ok(());
+    }
+    held.push(*key)?;
+    Ok(())
+}
