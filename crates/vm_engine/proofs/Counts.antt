@@ -12,3 +12,4 @@ pub mod Granting
 pub mod FreeCounts
 pub mod Balanced
 pub mod Allocating
+pub mod SimpleBounds

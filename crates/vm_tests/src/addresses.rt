@@ -392,10 +392,11 @@ fn is_low(space: &AddressAllocator, held: u64) -> bool {
     fibonacci(space.height().saturating_add(2)) <= held.saturating_mul(2).saturating_add(2)
 }
 
-/// Returns the maximum number of nodes that freeing enters in a tree of a height.
-fn max_on_paths(height: u64) -> u64 {
-    height.saturating_mul(8).saturating_add(8)
-}
+/// The maximum number of nodes that freeing enters, in heights of the tree.
+const FREE_BOUND: u64 = 5;
+
+/// The maximum number of nodes that an allocation enters after its search, in heights of the tree.
+const SPLIT_BOUND: u64 = 2;
 
 /// Returns the result of a call and the number of entered nodes. The call is repeated if memory ran
 /// out.
@@ -428,7 +429,7 @@ fn expect_counted(
 fn take_first_counted(rt: &(impl Abort + AllocGlobal), space: &mut AddressAllocator, held: u64) {
     let blocks = held.saturating_mul(2).saturating_add(1);
     let height = space.height();
-    let most = blocks.saturating_add(max_on_paths(height));
+    let most = blocks.saturating_add(height.saturating_mul(SPLIT_BOUND));
     let fewest = if held < 2046 {
         height / 2 + height % 2
     } else {
@@ -445,7 +446,7 @@ fn take_first_counted(rt: &(impl Abort + AllocGlobal), space: &mut AddressAlloca
 
 /// Frees a single address, after which `held` ranges are allocated.
 fn free_counted_range(rt: &impl Abort, space: &mut AddressAllocator, address: u64, held: u64) {
-    let most = max_on_paths(space.height());
+    let most = space.height().saturating_mul(FREE_BOUND);
     let found = free_all(space, address, address, Counted);
     let call = Free(address, address);
     expect_counted(rt, call, &found, Range(address, address), (1, most));
@@ -469,7 +470,7 @@ fn balanced_and_counted(rt: HostRuntime) {
 /// Checks searches in the space from 0 to 2046, in which the odd addresses are free. A search for
 /// two addresses visits no gap. A search for one finds it and visits no block before it.
 fn every_second_is_clear(rt: &(impl Abort + AllocGlobal), space: &mut AddressAllocator) {
-    let most = 9u64.saturating_mul(space.height()).saturating_add(8);
+    let most = space.height().saturating_mul(SPLIT_BOUND + 1);
     let rows = [
         (First(2, 1), NotAvailable, 0),
         (Last(2, 1), NotAvailable, 0),

@@ -109,8 +109,8 @@ impl AddressAllocator {
     /// Allocates a range like [`allocate`](Self::allocate), and also returns the number of tree
     /// nodes that the call entered.
     ///
-    /// Let h be the [`height`](Self::height) before the call. The count is at most 8h + 8 for
-    /// `ExactMatch`, and at most h(v + 1) + 8h + 8 for `FirstMatch` and `LastMatch`. Here v is the
+    /// Let h be the [`height`](Self::height) before the call. The count is at most 3h for
+    /// `ExactMatch`, and at most h(v + 1) + 2h for `FirstMatch` and `LastMatch`. Here v is the
     /// lesser of two numbers:
     /// - the gaps that are long enough but misaligned (0 if `alignment` is 1);
     /// - the gaps that have a multiple of `alignment` but are too short after it.
@@ -142,8 +142,8 @@ impl AddressAllocator {
     }
 
     /// Frees a range like [`free`](Self::free), and also returns the number of tree nodes that the
-    /// call entered. The count is at most 8h + 8, where h is the [`height`](Self::height) before
-    /// the call.
+    /// call entered. The count is at most 5h, where h is the [`height`](Self::height) before the
+    /// call.
     ///
     /// # Errors
     ///

@@ -26,15 +26,17 @@ pub record IsBalancedTreeOf (state : AddressState) (s : Shape) : Type 0 where
   pub low : fibonacci (height_of s + 2) ≤ 2 * length state.held + 2
   pub height : height_of s ≤ MAX_HEIGHT
 
--- The maximum number of nodes that the descents of one call enter in a tree of height h, apart from a search of gaps.
+-- The maximum number of nodes that an allocation enters in a tree of height h after the search: the path to the block,
+-- and the paths to the two leaves that a split links below it.
 abbrev pub max_on_paths : ℕ → ℕ
-max_on_paths h = 8 * h + 8
+max_on_paths h = 2 * h
 
--- The maximum number of nodes that a request enters with k held ranges. FirstMatch and LastMatch can enter all nodes.
+-- The maximum number of nodes that a request enters with k held ranges. FirstMatch and LastMatch can enter all nodes in
+-- their search, and ExactMatch enters those of one path.
 abbrev pub max_entered : AllocPolicy → ℕ → ℕ → ℕ
 max_entered FirstMatch h k = 2 * k + 1 + max_on_paths h
 max_entered LastMatch h k = 2 * k + 1 + max_on_paths h
-max_entered (ExactMatch t) h k = max_on_paths h
+max_entered (ExactMatch t) h k = h + max_on_paths h
 
 -- The bounds on the nodes that a request enters in a tree of height h. A success enters at least 1. A split enters at
 -- least h / 2, because each path from the root to an absent child has at least h / 2 nodes.
@@ -87,9 +89,10 @@ pub record EntersToFree (s : Shape) (key : Range) (answer : Result (Unit {0}) Er
   pub given : OnOk answer ((lower : Option Range) × (upper : Option Range) × HasHeld (blocks s) key lower upper ×
       IsJoinCount s key lower upper (before + nodes_around key s) after)
 
--- The bounds on the nodes that `free` enters in a tree of height h. The root is always entered.
+-- The bounds on the nodes that `free` enters in a tree of height h. The root is always entered. The
+-- search for the block and its neighbours enters at most 2h nodes, and each deletion and the widening enter at most h.
 pub record IsFreeCount (h count : ℕ) : Type 0 where
-  pub most : count ≤ max_on_paths h
+  pub most : count ≤ 5 * h
   pub some : 1 ≤ count
 
 -- Trees of this height or more are not split.

@@ -13,6 +13,7 @@ ghost use Rattle.vm_engine.specs.Laws.AddressLaws.{
   TooShortIsExact,
   TooShortAreFew,
 };
+ghost use Rattle.vm_engine.specs.Laws.CountLaws.{EntersFew};
 
 /// States that an allocation has one result and one next state, except that a split may fail.
 ///
@@ -67,4 +68,11 @@ fn counts_find_all()
 fn too_short_gaps_are_exact()
     ensures exact { TooShortIsExact }
     ensures few { TooShortAreFew }
+{}
+
+/// States that a call enters at most 8h + 8 nodes in a tree of height h, apart from its search of
+/// gaps.
+#[tactic(auto, using(crate::proofs::Counts::SimpleBounds::simple_bounds))]
+fn calls_enter_few()
+    ensures { EntersFew }
 {}

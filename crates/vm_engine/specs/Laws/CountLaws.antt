@@ -1,0 +1,16 @@
+-- The bounds on the nodes that calls enter, in one simple form.
+use Rattle.std.specs.Prelude.{ℕ, ◌+◌, ◌*◌, ◌≤◌, Result}
+use Rattle.vm_ranges.specs.Range.{Range}
+use Rattle.vm_ranges.specs.declared.error.Error.{Error}
+use Rattle.vm_ranges.specs.declared.constraint.AllocPolicy.TheVariants.{FirstMatch, LastMatch, ExactMatch}
+use Rattle.vm_engine.specs.Counts.Steps.{max_entered, IsFreeCount}
+use Rattle.vm_engine.specs.Counts.GapSearch.{IsGapSearchCount}
+
+-- A call enters at most 8h + 8 nodes in a tree of height h, apart from its search of gaps.
+pub record EntersFew : Type 0 where
+  pub free : (h count : ℕ) → IsFreeCount h count → count ≤ 8 * h + 8
+  pub exact : (h k t : ℕ) → max_entered (ExactMatch t) h k ≤ 8 * h + 8
+  pub first : (h k : ℕ) → max_entered FirstMatch h k ≤ 2 * k + 1 + (8 * h + 8)
+  pub last : (h k : ℕ) → max_entered LastMatch h k ≤ 2 * k + 1 + (8 * h + 8)
+  pub gaps : (h v : ℕ) (answer : Result Range Error) (count : ℕ) →
+      IsGapSearchCount h v answer count → count ≤ h * (v + 1) + (8 * h + 8)
