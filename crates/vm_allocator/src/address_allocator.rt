@@ -174,7 +174,8 @@ impl AddressAllocator {
             → IsOk result }
 
         // The limit on the height is checked before memory is allocated.
-        ensures depth { SplitsIfLow (height_of self.old.tree) (state_of self.old) result }
+        ensures depth { SplitsIfLow (height_of self.old.tree) (state_of self.old)
+            (request_for size alignment policy) result }
         ensures state { IsAddressState (state_of self.new) }
 
         // Each result under its exact condition.
@@ -222,7 +223,8 @@ impl AddressAllocator {
             → IsOk result.0 }
 
         // The limit on the height is checked before memory is allocated.
-        ensures depth { SplitsIfLow (height_of self.old.tree) (state_of self.old) result.0 }
+        ensures depth { SplitsIfLow (height_of self.old.tree) (state_of self.old)
+            (request_for size alignment policy) result.0 }
         ensures count { EntersToAllocate self.old.tree (request_for size alignment policy) result.0 result.1 }
         ensures steps { IsAllocationCount (height_of self.old.tree) (state_of self.old)
             (request_for size alignment policy) result.0 result.1 }

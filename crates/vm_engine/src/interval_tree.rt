@@ -140,7 +140,7 @@ impl IntervalTree {
         requires { count.old ≡ 0 }
         ensures answer { Grants (tree_state self.old) constraint result (tree_state self.new) }
         ensures unchanged { OnErr result (self.new ≡ self.old) }
-        ensures depth { SplitsIfLow (height_of self.old) (tree_state self.old) result }
+        ensures depth { SplitsIfLow (height_of self.old) (tree_state self.old) constraint result }
         ensures count { Enters self.old constraint result 0 count.new }
         ensures space { IsSpaceTree self.old }
         ensures tree { IsTree self.old }
@@ -177,7 +177,7 @@ impl IntervalTree {
         ensures answer { Grants (tree_state self.old) constraint result (tree_state self.new) }
         ensures unchanged { OnErr result (self.new ≡ self.old) }
         ensures state { IsAddressState (tree_state self.new) }
-        ensures depth { SplitsIfLow (height_of self.old) (tree_state self.old) result }
+        ensures depth { SplitsIfLow (height_of self.old) (tree_state self.old) constraint result }
     {
         let answer = self.allocate_counted(alloc, constraint).0;
         self.recall_invariant();

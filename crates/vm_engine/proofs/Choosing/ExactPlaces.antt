@@ -1,10 +1,11 @@
 -- From the block that contains the start of an ExactMatch request to its result.
-use Rattle.std.proofs.Common.{◌≡◌, ℕ, ◌+◌, ◌-◌, ◌%◌, ◌<◌, ◌≤◌, ◌∷◌, ◌++◌, Some, None, refl, sym, ap, ◌∙◌, arith, inl, inr, ⊎_elim, subst, Result, Ok, Err}
+use Rattle.std.proofs.Common.{◌≡◌, ℕ, ◌+◌, ◌-◌, ◌%◌, ◌<◌, ◌≤◌, ◌∷◌, ◌++◌, Some, None, refl, sym, ap, ◌∙◌, arith, inl, inr, ⊎_elim, subst, Result, Ok, Err, IfErr}
 use Rattle.vm_ranges.specs.Range.{Range, MAX, span, at_address}
 use Rattle.vm_engine.specs.Tree.Block.{Block, free_block}
 use Rattle.vm_engine.specs.Address.{AddressState}
-use Rattle.vm_ranges.specs.Request.{Request, IsRequest, IsStartAligned}
-use Rattle.vm_engine.specs.Answer.{AllocatesAt, Grants}
+use Rattle.vm_ranges.specs.Request.{Request, request_for, IsRequest, IsStartAligned}
+use Rattle.vm_engine.specs.Answer.{IsChosen, AllocatesAt, Grants}
+use Rattle.vm_engine.specs.Counts.Steps.{NoneEndsBelowMax}
 use Rattle.vm_engine.specs.Tree.BlockList.{find_superset}
 use Rattle.vm_engine.specs.Tree.Shape.{Shape, blocks}
 use Rattle.vm_engine.specs.Engine.Choosing.{AllocatingGrants, Chooses, ExactChoice}
@@ -134,4 +135,17 @@ chooses_exact request t last k key s b st answer h r p m e f ek es q o x =
     let d : t % request.align ≡ 0 = aligned_if request.align t request.policy p r.start in
     known_start request t s answer p (chooses_in request.size request.align t last s b st answer (within request.size t k s b h r.some m e f) es d q o (subst (λ (v : Range). ExactChoice v st t last answer) ek x))
 
-pub ruleset exact_choices = (at_max, chooses_exact)
+-- The error Overflow of a range that would not end below MAX.
+exact_ends : (n a t s : ℕ) (state : AddressState) → 0 < n → MAX ≤ t + (n - 1) → IsChosen (request_for n a (ExactMatch t)) state s → MAX ≤ s + n - 1
+unfolding IsChosen
+exact_ends n a t s state z m c = omega (arith, c.0)
+
+pub exact_past : (request : Request) (t : ℕ) (state : AddressState) → IsRequest request → request.policy ≡ ExactMatch t → MAX ≤ t + (request.size - 1) → NoneEndsBelowMax state request
+unfolding NoneEndsBelowMax
+exact_past request t state r p m = λ s c. exact_ends request.size request.align t s state r.some m (subst (λ (v : Request). IsChosen v state s) (sym (with_policy request (ExactMatch t) p)) c)
+
+pub exact_choice_past : (request : Request) (t last : ℕ) (state : AddressState) (answer : Result Choice Error) → IsRequest request → request.policy ≡ ExactMatch t → last ≡ t + (request.size - 1) → IfErr answer (λ e. e ≡ Overflow → last ≡ MAX) → IfErr answer (λ e. e ≡ Overflow → NoneEndsBelowMax state request)
+exact_choice_past request t last state (Ok c) r p l h = tt
+exact_choice_past request t last state (Err e) r p l h = λ o. exact_past request t state r p (omega (arith, h o))
+
+pub ruleset exact_choices = (at_max, chooses_exact, exact_past, exact_choice_past)

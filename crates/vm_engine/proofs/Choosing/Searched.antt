@@ -1,5 +1,5 @@
 -- From the first or the last fit of a tree to the result of a request.
-use Rattle.std.proofs.Common.{Option, Some, None, IfSome, ◌≡◌, ℕ, ◌+◌, ◌-◌, ◌<◌, List, ◌∷◌, ◌++◌, refl, sym, arith, inl, inr, ◌⊎◌, ⊎_elim, subst, Result, Ok, Err}
+use Rattle.std.proofs.Common.{Option, Some, None, IfSome, ◌≡◌, ℕ, ◌+◌, ◌-◌, ◌<◌, List, ◌∷◌, ◌++◌, refl, sym, arith, inl, inr, ◌⊎◌, ⊎_elim, subst, Result, Ok, Err, IfErr, ap}
 use Rattle.std.specs.List.{All}
 use Rattle.vm_ranges.specs.Range.{Range, MAX, span}
 use Rattle.vm_engine.specs.Tree.Block.{Block, free_block}
@@ -19,6 +19,8 @@ use Rattle.vm_ranges.specs.declared.constraint.AllocPolicy.TheVariants.{FirstMat
 use Rattle.vm_engine.specs.declared.node.places.Place.{Place}
 use Rattle.vm_engine.specs.declared.node.split.Choice.{Choice}
 use Rattle.vm_engine.proofs.Answers.Requests.{with_policy}
+use Rattle.vm_engine.proofs.Answers.Once.{chosen_once}
+use Rattle.vm_engine.specs.Counts.Steps.{NoneEndsBelowMax}
 use Rattle.vm_engine.proofs.Counts.NodeCountCases.{search_first, search_last}
 use Rattle.vm_engine.proofs.Choosing.Places.{lowest_place, highest_place, no_place}
 use Rattle.vm_engine.proofs.Splitting.TakenRanges.{as_blocks}
@@ -153,7 +155,32 @@ pub last_chooses : (request : Request) (s : Shape) (found : Option Place) (answe
 last_chooses request s None answer t r p f h = subst (Chooses s request) (sym h) (none_last request s t r p f)
 last_chooses request s (Some place) answer t r p f h = chooses_last request s place answer t r p f h
 
-pub ruleset choices = (first_room, first_chooses, last_room, last_chooses, search_first, search_last)
+-- ---- The error Overflow of a search
+found_over : (request : Request) (s : Shape) (place : Place) (answer : Result Choice Error) → IsFound request s place → ChoosesBelowMax place.key place.start request.size answer → answer ≡ Err Overflow → NoneEndsBelowMax (tree_state s) request
+unfolding ChoosesBelowMax NoneEndsBelowMax
+found_over request s place answer f h o =
+    ⊎_elim
+    (λ k t c. let e = chosen_once request t place.start (tree_state s) c f.chosen in omega (arith, k.0))
+    (λ k. absurd (cc (k.1, o)))
+    h
+
+first_over_is : (request : Request) (s : Shape) (found : Option Place) (answer : Result Choice Error) → IsSpaceTree s → IsRequest request → request.policy ≡ FirstMatch → FindsFirst request.size request.align (blocks s) found → ChoosesAt found request.size answer → answer ≡ Err Overflow → NoneEndsBelowMax (tree_state s) request
+first_over_is request s None answer t r p f h o = absurd (cc (h, o))
+first_over_is request s (Some place) answer t r p f h o = found_over request s place answer (first_found request s place p t r f) h o
+
+last_over_is : (request : Request) (s : Shape) (found : Option Place) (answer : Result Choice Error) → IsSpaceTree s → IsRequest request → request.policy ≡ LastMatch → FindsLast request.size request.align (blocks s) found → ChoosesAt found request.size answer → answer ≡ Err Overflow → NoneEndsBelowMax (tree_state s) request
+last_over_is request s None answer t r p f h o = absurd (cc (h, o))
+last_over_is request s (Some place) answer t r p f h o = found_over request s place answer (last_found request s place p t r f) h o
+
+pub first_over : (request : Request) (s : Shape) (found : Option Place) (answer : Result Choice Error) → IsSpaceTree s → IsRequest request → request.policy ≡ FirstMatch → FindsFirst request.size request.align (blocks s) found → ChoosesAt found request.size answer → IfErr answer (λ e. e ≡ Overflow → NoneEndsBelowMax (tree_state s) request)
+first_over request s found (Ok c) t r p f h = tt
+first_over request s found (Err e) t r p f h = λ o. first_over_is request s found (Err e) t r p f h (ap (λ (v : Error). Err v) o)
+
+pub last_over : (request : Request) (s : Shape) (found : Option Place) (answer : Result Choice Error) → IsSpaceTree s → IsRequest request → request.policy ≡ LastMatch → FindsLast request.size request.align (blocks s) found → ChoosesAt found request.size answer → IfErr answer (λ e. e ≡ Overflow → NoneEndsBelowMax (tree_state s) request)
+last_over request s found (Ok c) t r p f h = tt
+last_over request s found (Err e) t r p f h = λ o. last_over_is request s found (Err e) t r p f h (ap (λ (v : Error). Err v) o)
+
+pub ruleset choices = (first_room, first_chooses, first_over, last_room, last_chooses, last_over, search_first, search_last)
 
 -- ---- From the choice to the result
 pub chooses_refused : (s : Shape) (request : Request) (e : Error) → Chooses s request (Err e) → Grants (tree_state s) request (Err e) (tree_state s)

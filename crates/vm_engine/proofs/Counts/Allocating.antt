@@ -1,11 +1,12 @@
 -- The number of nodes that `allocate` enters, for valid and for invalid requests.
-use Rattle.std.proofs.Common.{◌≡◌, ℕ, refl, subst, arith, inl, inr, Result, Ok, Err}
+use Rattle.std.proofs.Common.{◌≡◌, ◌≢◌, ℕ, refl, subst, arith, inl, inr, Result, Ok, Err}
 use Rattle.vm_ranges.specs.Range.{Range}
 use Rattle.vm_engine.specs.Address.{AddressState}
 use Rattle.vm_ranges.specs.Request.{Request, IsRequest, ByConstraint, MakesConstraint}
 use Rattle.vm_engine.specs.Tree.Shape.{Shape}
 use Rattle.vm_engine.specs.Counts.Steps.{IsGrantCount, IsAllocationCount, Enters, EntersToAllocate, SplitsIfLow}
 use Rattle.vm_ranges.specs.declared.error.Error.{Error}
+use Rattle.vm_ranges.specs.declared.error.Error.TheVariants.{OutOfMemory}
 use Rattle.vm_engine.proofs.Answers.Filling.{no_constraint_fault}
 
 -- ---- Requests that can be invalid
@@ -41,11 +42,22 @@ valid_entered s request k answer c m n =
     }
 
 -- Making a constraint never runs out of memory.
-pub invalid_low : (h : ℕ) (old : AddressState) (request : Request) (e : Error) → MakesConstraint request (Err e) → SplitsIfLow h old (Err e)
+constraint_memory : (request : Request) (e : Error) → MakesConstraint request (Err e) → e ≢ OutOfMemory
 unfolding MakesConstraint ByConstraint
-invalid_low h old request e (inl z) = record { split = tt; memory = λ m. absurd (cc (m, z.1)) }
-invalid_low h old request e (inr (some, inl z)) = record { split = tt; memory = λ m. absurd (cc (m, z.1)) }
-invalid_low h old request e (inr (some, inr (aligned, inl z))) = record { split = tt; memory = λ m. absurd (cc (m, z.1)) }
-invalid_low h old request e (inr (some, inr (aligned, inr (start, made)))) = absurd (cc (made))
+constraint_memory request e (inl z) o = absurd (cc (o, z.1))
+constraint_memory request e (inr (some, inl z)) o = absurd (cc (o, z.1))
+constraint_memory request e (inr (some, inr (aligned, inl z))) o = absurd (cc (o, z.1))
+constraint_memory request e (inr (some, inr (aligned, inr (start, made)))) o = absurd (cc (made))
 
-pub ruleset allocations = (invalid_count, grant_count, invalid_entered, valid_entered)
+-- It fails only for an invalid request.
+pub invalid_low : (h : ℕ) (old : AddressState) (request : Request) (e : Error) → MakesConstraint request (Err e) → SplitsIfLow h old request (Err e)
+invalid_low h old request e m = record {
+  split = tt;
+  memory = λ o. absurd (constraint_memory request e m (cc (o)));
+  high = λ r o. absurd (no_constraint_fault request e m r);
+}
+
+pub valid_low : (h : ℕ) (old : AddressState) (request k : Request) (answer : Result Range Error) → MakesConstraint request (Ok k) → SplitsIfLow h old k answer → SplitsIfLow h old request answer
+valid_low h old request k answer m s = subst (λ (v : Request). SplitsIfLow h old v answer) (constraint_made request k m).0 s
+
+pub ruleset allocations = (invalid_count, grant_count, invalid_entered, valid_entered, valid_low)

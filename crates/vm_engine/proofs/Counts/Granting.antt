@@ -11,9 +11,9 @@ use Rattle.vm_engine.specs.Tree.Shape.{Shape, Tip, Fork, blocks, height_of, node
 use Rattle.vm_engine.specs.Counts.NodeCounts.{nodes_across, nodes_by_policy, nodes_of_search, nodes_to_split, nodes_to_allocate, nodes_if_allocated}
 use Rattle.vm_engine.specs.Engine.Choosing.{max_searched, IsChoice}
 use Rattle.vm_engine.specs.Tree.SpaceTree.{space_of, tree_state, IsSpaceTree}
-use Rattle.vm_engine.specs.Counts.Steps.{max_entered, IsGrantCount, IsHeldIn, Enters, SplitsIfLow, SPLIT_HEIGHT_LIMIT}
+use Rattle.vm_engine.specs.Counts.Steps.{max_entered, IsGrantCount, IsHeldIn, Enters, SplitsIfLow, NoneEndsBelowMax, SPLIT_HEIGHT_LIMIT}
 use Rattle.vm_ranges.specs.declared.error.Error.{Error}
-use Rattle.vm_ranges.specs.declared.error.Error.TheVariants.{OutOfMemory}
+use Rattle.vm_ranges.specs.declared.error.Error.TheVariants.{OutOfMemory, Overflow}
 use Rattle.vm_ranges.specs.declared.constraint.AllocPolicy.{AllocPolicy}
 use Rattle.vm_ranges.specs.declared.constraint.AllocPolicy.TheVariants.{FirstMatch, LastMatch, ExactMatch}
 use Rattle.vm_engine.specs.declared.node.split.Choice.{Choice}
@@ -51,8 +51,12 @@ of_splits : (P : Type 0) (s : Shape) (choice : Choice) (answer : Result Range Er
 of_splits P s choice (Err e) new h i t f = tt
 of_splits P s choice (Ok r) new h i t f = λ left. f (given_part s choice r new h i t left)
 
-pub split_low : (s : Shape) (choice : Choice) (answer : Result Range Error) (new : AddressState) → IsSpaceTree s → IsChoice (blocks s) choice → AllocatesAt (tree_state s) choice.range answer new → (NeedsSplit choice.key choice.range → OnOk answer (height_of s < SPLIT_HEIGHT_LIMIT)) → (answer ≡ Err OutOfMemory → height_of s < SPLIT_HEIGHT_LIMIT) → SplitsIfLow (height_of s) (tree_state s) answer
-split_low s choice answer new h i t low memory = record { split = of_splits (height_of s < SPLIT_HEIGHT_LIMIT) s choice answer new h i t low; memory = memory }
+pub split_low : (s : Shape) (request : Request) (choice : Choice) (answer : Result Range Error) (new : AddressState) → IsSpaceTree s → IsChoice (blocks s) choice → AllocatesAt (tree_state s) choice.range answer new → (NeedsSplit choice.key choice.range → OnOk answer (height_of s < SPLIT_HEIGHT_LIMIT)) → (answer ≡ Err OutOfMemory → height_of s < SPLIT_HEIGHT_LIMIT) → (answer ≡ Err Overflow → SPLIT_HEIGHT_LIMIT ≤ height_of s) → SplitsIfLow (height_of s) (tree_state s) request answer
+split_low s request choice answer new h i t low memory high = record { split = of_splits (height_of s < SPLIT_HEIGHT_LIMIT) s choice answer new h i t low; memory = memory; high = λ r o. inl (high o) }
+
+-- The error of a search is not OutOfMemory, and is Overflow only if no chosen place ends below MAX.
+pub refused_low : (h : ℕ) (old : AddressState) (request : Request) (e : Error) → e ≢ OutOfMemory → (e ≡ Overflow → NoneEndsBelowMax old request) → SplitsIfLow h old request (Err e)
+refused_low h old request e n over = record { split = tt; memory = λ m. absurd (n (cc m)); high = λ r o. inr (over (cc (o))) }
 
 -- ---- The exact number of nodes that a request enters
 search_at_most : (request : Request) (s : Shape) → nodes_of_search request s ≤ max_searched request.policy s

@@ -1,8 +1,9 @@
 -- The number of nodes that a call enters in a balanced tree.
-use Rattle.std.specs.Prelude.{◌≡◌, ℕ, ◌+◌, ◌-◌, ◌*◌, ◌^◌, ◌<◌, ◌≤◌, List, ◌∷◌, ◌++◌, Option, None, Result, IfOk, IsOk, OnOk, OnErr, Err, length}
-use Rattle.vm_ranges.specs.Range.{Range}
+use Rattle.std.specs.Prelude.{◌≡◌, ℕ, ◌+◌, ◌-◌, ◌*◌, ◌^◌, ◌<◌, ◌≤◌, ◌⊎◌, List, ◌∷◌, ◌++◌, Option, None, Result, IfOk, IsOk, OnOk, OnErr, Err, length}
+use Rattle.vm_ranges.specs.Range.{Range, MAX}
 use Rattle.vm_engine.specs.Tree.Block.{Block, free_block}
 use Rattle.vm_engine.specs.Address.{AddressState, SplitsGap}
+use Rattle.vm_engine.specs.Answer.{IsChosen}
 use Rattle.vm_engine.specs.Tree.Blocks.{IsBlocksOf}
 use Rattle.vm_ranges.specs.Request.{Request, IsRequest, MakesConstraint}
 use Rattle.vm_engine.specs.Tree.Shape.{Shape, MAX_HEIGHT, blocks, height_of, node_count, IsBalanced}
@@ -11,7 +12,7 @@ use Rattle.vm_engine.specs.Tree.FreeBeside.{HasHeld, without_if_some}
 use Rattle.vm_engine.specs.Counts.NodeCounts.{nodes_of_search, nodes_to_allocate, nodes_to, nodes_around, nodes_to_delete_if_some}
 use Rattle.vm_engine.specs.Counts.Fibonacci.{fibonacci}
 use Rattle.vm_ranges.specs.declared.error.Error.{Error}
-use Rattle.vm_ranges.specs.declared.error.Error.TheVariants.{OutOfMemory}
+use Rattle.vm_ranges.specs.declared.error.Error.TheVariants.{OutOfMemory, Overflow}
 use Rattle.vm_ranges.specs.declared.constraint.AllocPolicy.{AllocPolicy}
 use Rattle.vm_ranges.specs.declared.constraint.AllocPolicy.TheVariants.{FirstMatch, LastMatch, ExactMatch}
 
@@ -99,7 +100,13 @@ pub record IsFreeCount (h count : ℕ) : Type 0 where
 abbrev pub SPLIT_HEIGHT_LIMIT : ℕ
 SPLIT_HEIGHT_LIMIT = MAX_HEIGHT - 1
 
--- A split succeeds, or runs out of memory, only if the tree is lower than SPLIT_HEIGHT_LIMIT.
-pub record SplitsIfLow (h : ℕ) (old : AddressState) (answer : Result Range Error) : Type 0 where
+-- No chosen place of the request ends below MAX.
+unfoldable pub NoneEndsBelowMax : AddressState → Request → Type 0
+NoneEndsBelowMax old request = (s : ℕ) → IsChosen request old s → MAX ≤ s + request.size - 1
+
+-- A split succeeds, or runs out of memory, only if the tree is lower than SPLIT_HEIGHT_LIMIT. A valid request whose chosen
+-- place ends below MAX has the error Overflow only if the tree is not lower.
+pub record SplitsIfLow (h : ℕ) (old : AddressState) (request : Request) (answer : Result Range Error) : Type 0 where
   pub split : IfOk answer (λ r. SplitsGap old r → h < SPLIT_HEIGHT_LIMIT)
   pub memory : answer ≡ Err OutOfMemory → h < SPLIT_HEIGHT_LIMIT
+  pub high : IsRequest request → answer ≡ Err Overflow → (SPLIT_HEIGHT_LIMIT ≤ h) ⊎ NoneEndsBelowMax old request

@@ -48,6 +48,7 @@ impl IntervalTree {
         ensures unchanged { OnErr result (self.new ≡ self.old) }
         ensures low { NeedsSplit choice.key choice.range → OnOk result (height_of self.old < SPLIT_HEIGHT_LIMIT) }
         ensures memory { result ≡ Err Error.OutOfMemory → height_of self.old < SPLIT_HEIGHT_LIMIT }
+        ensures high { result ≡ Err Error.Overflow → SPLIT_HEIGHT_LIMIT ≤ height_of self.old }
         ensures count { count.new ≡ count.old + nodes_if_allocated choice.key result self.old }
     {
         if !needs_split(&choice) {

@@ -77,7 +77,7 @@ impl IntervalTree {
     ) -> (Result<RangeInclusive>, u64)
         ensures answer { Grants (tree_state self.old) constraint result.0 (tree_state self.new) }
         ensures unchanged { OnErr result.0 (self.new ≡ self.old) }
-        ensures depth { SplitsIfLow (height_of self.old) (tree_state self.old) result.0 }
+        ensures depth { SplitsIfLow (height_of self.old) (tree_state self.old) constraint result.0 }
         ensures count { Enters self.old constraint result.0 0 result.1 }
         ensures steps { IsGrantCount (height_of self.old) (tree_state self.old) constraint result.0 result.1 }
         ensures search { SearchesGaps (height_of self.old) (tree_state self.old) constraint result.0 result.1 }

@@ -6,6 +6,8 @@ ghost use Rattle.vm_engine.specs.Tree.BlockEdits.{HasLength};
 ghost use Rattle.vm_engine.specs.Tree.Shape.{height_of, node_count};
 ghost use Rattle.vm_engine.specs.Engine.Choosing.{Chooses, ChoosesAt, ExactChoice};
 ghost use Rattle.vm_engine.specs.Counts.NodeCounts.{nodes_of_search};
+ghost use Rattle.vm_engine.specs.Counts.Steps.{NoneEndsBelowMax};
+ghost use Rattle.vm_engine.specs.Tree.SpaceTree.{tree_state};
 ghost use Rattle.vm_ranges.specs.declared.constraint.AllocPolicy.TheVariants.{ExactMatch};
 
 use super::IntervalTree;
@@ -22,6 +24,8 @@ impl IntervalTree {
     pub(super) fn choose_place(&self, constraint: Constraint, count: &mut Steps) -> Result<Choice>
         requires { count.old + node_count self.now + height_of self.now ≤ MAX }
         ensures answer { Chooses self.now constraint result }
+        ensures over { IfErr result (λ error.
+            error ≡ Error.Overflow → NoneEndsBelowMax (tree_state self.now) constraint) }
         ensures no_memory { IfErr result (λ error. error ≢ Error.OutOfMemory) }
         ensures count { count.new ≡ count.old + nodes_of_search constraint self.now }
     {
@@ -52,6 +56,8 @@ impl IntervalTree {
         requires policy { constraint.policy ≡ ExactMatch start }
         requires count_fits { count.old + height_of self.now ≤ MAX }
         ensures answer { Chooses self.now constraint result }
+        ensures over { IfErr result (λ error.
+            error ≡ Error.Overflow → NoneEndsBelowMax (tree_state self.now) constraint) }
         ensures no_memory { IfErr result (λ error. error ≢ Error.OutOfMemory) }
         ensures count { count.new ≡ count.old + nodes_of_search constraint self.now }
     {
@@ -109,6 +115,7 @@ fn exact_choice(key: RangeInclusive, state: NodeState, start: u64, last: u64) ->
     requires ordered { start ≤ last }
     requires below { start < MAX }
     ensures answer { ExactChoice key state start last result }
+    ensures over { IfErr result (λ error. error ≡ Error.Overflow → last ≡ MAX) }
     ensures no_memory { IfErr result (λ error. error ≢ Error.OutOfMemory) }
 {
     match state {
