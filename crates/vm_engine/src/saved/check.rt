@@ -2,6 +2,7 @@
 //! allocate.
 ghost use Rattle.std.specs.Prelude.{◌≡◌, ◌≤◌, ◌+◌, ◌<◌, ◌^◌, IfSome, is_some};
 ghost use Rattle.serde_json.specs.View.{view};
+ghost use Rattle.vm_engine.specs.Tree.Shape.{MAX_HEIGHT};
 ghost use Rattle.vm_engine.specs.Checks.NodeChecks.{advance, is_correct_height, checked_subtree, checked_tree_of};
 
 use super::node::decode_node;
@@ -70,6 +71,7 @@ struct CheckedTree {
 /// - A block cannot follow the block before it.
 #[tactic(auto, unfolding(crate::specs::Checks::NodeChecks::checked_subtree))]
 fn check_subtree(value: &Value, depth: u64, cursor: Cursor) -> Option<CheckedTree>
+    requires { depth ≤ MAX_HEIGHT }
     ensures found { result ≡ checked_subtree depth (view value.now) cursor }
     ensures not_deeper { IfSome result (λ found. found.height ≤ depth) }
 {

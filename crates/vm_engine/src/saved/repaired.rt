@@ -2,13 +2,13 @@
 //!
 //! A first pass checks the whole value and does not allocate. A second pass collects the allocated
 //! keys, and a new tree is built of them.
-ghost use Rattle.std.specs.Prelude.{◌≡◌, ◌++◌, IfOk, OnOk};
+ghost use Rattle.std.specs.Prelude.{◌≡◌, ◌≤◌, ◌++◌, IfOk, OnOk};
 ghost use Rattle.serde_json.specs.View.{view};
 ghost use Rattle.vm_engine.specs.Address.{IsAddressState};
 ghost use Rattle.vm_engine.specs.Tree.Blocks.{range_if_held};
 ghost use Rattle.vm_engine.specs.Tree.SpaceTree.{tree_state, made_tree};
 ghost use Rattle.vm_ranges.specs.Saving.{Reads};
-ghost use Rattle.vm_engine.specs.Values.KeyValues.{EncodesKeys};
+ghost use Rattle.vm_engine.specs.Values.KeyValues.{MAX_NESTING_REPAIRED, EncodesKeys};
 ghost use Rattle.vm_engine.specs.Checks.KeyChecks.{advance_key, checked_keys, HasNodesWithin, CollectsKeys};
 
 use super::node::decode_node;
@@ -102,6 +102,7 @@ impl KeyCursor {
 /// or if a block cannot follow the block before it.
 #[tactic(auto, unfolding(crate::specs::Checks::KeyChecks::checked_keys))]
 fn check_keys(value: &Value, end: u64, depth: u64, cursor: KeyCursor) -> Option<KeyCursor>
+    requires { depth ≤ MAX_NESTING_REPAIRED }
     ensures { result ≡ checked_keys end depth (view value.now) cursor }
 {
     if value.is_null() {
