@@ -1,3 +1,3 @@
-pub mod Rows
+pub mod BlockCursors
 pub mod Built
 pub mod HeldTrees

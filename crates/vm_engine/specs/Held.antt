@@ -1,4 +1,4 @@
--- What making a space with some ranges held answers.
+-- The results of creating a space with some ranges held.
 use Rattle.std.specs.Prelude.{◌≡◌, ℕ, ◌+◌, ◌-◌, ◌^◌, ◌<◌, ◌≤◌, ◌⊎◌, nat_lt, nat_eq, if◌then◌else◌, List, [], ◌∷◌, length, Option, Some, None, MatchOption, Result, Ok, Err}
 use Rattle.vm_ranges.specs.Cases.{IfElse}
 use Rattle.vm_ranges.specs.Range.{Range, MAX, span}
@@ -7,8 +7,8 @@ use Rattle.vm_engine.specs.Tree.Blocks.{blocks_of}
 use Rattle.vm_ranges.specs.declared.error.Error.{Error}
 use Rattle.vm_ranges.specs.declared.error.Error.TheVariants.{Overflow, ResourceNotAvailable, Underflow, OutOfMemory}
 
--- why a range cannot be held from lo on in a space that ends at hi, by the first that applies: it starts below lo; it
--- starts at MAX; it ends past the space; it ends at MAX
+-- The error of a range that must start at lo or later in a space that ends at hi, or None if it can be held. The first of
+-- these is true: it starts below lo, starts at MAX, ends past the space, or ends at MAX.
 abbrev pub range_fault : ℕ → ℕ → Range → Option Error
 range_fault lo hi r =
     if nat_lt r.start lo then Some ResourceNotAvailable
@@ -17,20 +17,21 @@ range_fault lo hi r =
     else if nat_eq r.end MAX then Some Overflow
     else None
 
+-- The first of two optional errors.
 abbrev or_else : Option Error → Option Error → Option Error
 or_else None e = e
 or_else (Some e) f = Some e
 
--- why the first of some ranges that cannot be held behind the ones before it cannot
+-- The error of the first range that cannot be held after the ranges before it, or None.
 abbrev pub first_fault : ℕ → ℕ → List Range → Option Error
 first_fault lo hi [] = None
 first_fault lo hi (r ∷ rs) = or_else (range_fault lo hi r) (first_fault (r.end + 1) hi rs)
 
--- the tree of a state is too high where it has so many blocks
+-- A tree of this many blocks or more is too high.
 abbrev pub TOO_MANY_BLOCKS : ℕ
 TOO_MANY_BLOCKS = 2 ^ 49
 
--- the answer to making the state in which these ranges are held
+-- The result of creating the state with these ranges held.
 unfoldable pub MakesHeld : Range → List Range → Result AddressState Error → Type 0
 MakesHeld space held answer =
     let state : AddressState = record { space = space; held = held } in
@@ -40,16 +41,16 @@ MakesHeld space held answer =
     ((answer ≡ Ok state) ⊎ (answer ≡ Err OutOfMemory)))
     (λ fault. answer ≡ Err fault)
 
--- what follows for the size addresses from base on, where they are a space, and the error where they are none
+-- `makes` is true for the space of `size` addresses that starts at `base`, or `refused` for the error if there is none.
 unfoldable pub BySpace : ℕ → ℕ → (Error → Type 0) → (Range → Type 0) → Type 0
 BySpace base size refused makes =
     IfElse (size ≡ 0) (refused Underflow) (
     IfElse (MAX < base + size - 1) (refused Overflow) (makes (span base size)))
 
--- the space of size addresses from base on, or why there is none
+-- The space of `size` addresses that starts at `base`, or the error.
 abbrev pub MakesSpace : ℕ → ℕ → Result Range Error → Type 0
 MakesSpace base size answer = BySpace base size (λ e. answer ≡ Err e) (λ space. answer ≡ Ok space)
 
--- the answer to making an allocator of size addresses from base on in which these ranges are held
+-- The result of creating an allocator of `size` addresses that starts at `base`, with these ranges held.
 abbrev pub MakesWithHeld : ℕ → ℕ → List Range → Result AddressState Error → Type 0
 MakesWithHeld base size held answer = BySpace base size (λ e. answer ≡ Err e) (λ space. MakesHeld space held answer)

@@ -1,4 +1,4 @@
--- A range that cannot be held behind others is refused by `ExactMatch` with the same error.
+-- If a range cannot be held after others, `ExactMatch` has the same error for it.
 use Rattle.std.proofs.Common.{◌≡◌, ℕ, ◌≤◌, ◌<◌, List, true, false, cond, eqb, ltb, eq-eqb, Some, None, refl, arith, subst, ⊎_elim}
 use Rattle.std.specs.List.{Contains}
 use Rattle.std.proofs.lemmas.Bool.{ltb-true, ltb-false, eqb-true}

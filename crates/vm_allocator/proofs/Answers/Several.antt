@@ -1,4 +1,4 @@
--- Several requests, one after the other, and their ranges given back in the opposite order.
+-- Several requests, and the frees of their ranges in the opposite order.
 use Rattle.std.proofs.Common.{◌≡◌, ℕ, ◌+◌, ◌<◌, List, [], ◌∷◌, ◌++◌, length, take, drop, get_or, refl, sym, ap, ◌∙◌, subst, zero, suc, arith, inl, inr, Result, Ok, Err}
 use Rattle.std.proofs.Math.Seq.{drop-cons, drop-length}
 use Rattle.std.proofs.lemmas.List.{take-append-drop, append-nil}
@@ -22,7 +22,7 @@ one_refused [] (y ∷ rs) old mid q more e s a = absurd s
 one_refused (x ∷ qs) [] old mid q more e s a = absurd s
 one_refused (x ∷ qs) (y ∷ rs) old mid q more e s a = inr (y, s.0, s.1, one_refused qs rs s.0 mid q more e s.2 a)
 
--- without the last range, as if it had not been asked for
+-- After the last range is freed, the state is the one before its request.
 pub last_undone : (rs : List Range) (qs : List Request) (old mid new : AddressState) (r : Range) (answer : Result (Unit {0}) Error) → IsAddressState old → AllocatesEach old qs (rs ++ r ∷ []) mid → Frees mid r answer new → (ps : List Request) × AllocatesEach old ps rs new
 last_undone [] [] old mid new r answer i e f = absurd e
 last_undone [] (q ∷ []) old mid new r answer i e f =
@@ -38,7 +38,7 @@ pub none_given : (qs : List Request) (old new : AddressState) → AllocatesEach 
 none_given [] old new e = e
 none_given (q ∷ qs) old new e = absurd e
 
--- ---- the first requests of a list
+-- ---- The first requests of a list
 take_more : {A : Type 0} (xs : List A) (i : ℕ) (x : A) → i < length xs → x ≡ get_or xs i x → take (suc i) xs ≡ take i xs ++ x ∷ []
 take_more [] i x l e = absurd (omega arith)
 take_more (y ∷ xs) zero x l e = ap (λ v. v ∷ []) (sym e)

@@ -1,23 +1,23 @@
--- A node over two trees that are built of the blocks before and behind its own.
+-- A node over two trees that are built of the blocks before and after its own.
 use Rattle.std.proofs.Common.{◌≢◌, length, ◌≡◌, ℕ, zero, suc, ◌+◌, ◌^◌, ◌/◌, ◌-◌, ◌≤◌, ◌<◌, max, List, [], ◌∷◌, ◌++◌, sym, ap, ◌∙◌, arith, subst, ⊎_elim, append_assoc, length-append}
 use Rattle.std.proofs.lemmas.Bool.{cases_lt}
 use Rattle.std.proofs.Math.Nat.{pow-suc}
 use Rattle.vm_engine.specs.Tree.Block.{Block}
 use Rattle.vm_engine.specs.Tree.BlockList.{IsOrderedFrom}
 use Rattle.vm_engine.specs.Tree.Shape.{Shape, Fork, blocks, height_of, IsBalanced, IsTree}
-use Rattle.vm_engine.specs.Engine.Building.{IsLeastHeight, IsBuilt}
+use Rattle.vm_engine.specs.Engine.Building.{IsLowestHeight, IsBuilt}
 use Rattle.vm_engine.proofs.Nodes.MinNodes.{power_grows, node_count-blocks}
 use Rattle.vm_engine.proofs.Blocks.BlockOrder.{ordered_weaken, ordered_below}
 
--- the heights of two halves differ by one at most
-pub not_above : (a b g h : ℕ) → a ≤ b → IsLeastHeight a g → IsLeastHeight b h → g ≤ h
+-- The heights of two halves differ by at most one.
+pub not_above : (a b g h : ℕ) → a ≤ b → IsLowestHeight a g → IsLowestHeight b h → g ≤ h
 not_above a b g h l p q =
     ⊎_elim
     (λ (c : h < g). let e = pow-suc 2 h in let f = power_grows (suc h) g (omega arith) in let x = p.1 in let y = q.0 in absurd (omega arith))
     (λ (c : g ≤ h). c)
     (cases_lt h g)
 
-pub at_most_one : (a b g h : ℕ) → a ≤ b + 1 → IsLeastHeight a g → IsLeastHeight b h → g ≤ h + 1
+pub at_most_one : (a b g h : ℕ) → a ≤ b + 1 → IsLowestHeight a g → IsLowestHeight b h → g ≤ h + 1
 at_most_one a b g h l p q =
     ⊎_elim
     (λ (c : h + 1 < g).
@@ -27,8 +27,8 @@ at_most_one a b g h l p q =
     (λ (c : g ≤ h + 1). c)
     (cases_lt (h + 1) g)
 
--- and a node over them is one higher
-pub height_above : (n a g : ℕ) → a + a ≤ n → n ≤ a + a + 1 → 0 < n → IsLeastHeight a g → IsLeastHeight n (suc g)
+-- A node over them is one higher.
+pub height_above : (n a g : ℕ) → a + a ≤ n → n ≤ a + a + 1 → 0 < n → IsLowestHeight a g → IsLowestHeight n (suc g)
 height_above n a zero l m z p = let x = p.1 in let e = pow-suc 2 0 in (omega arith, omega arith)
 height_above n a (suc g) l m z p = let e = pow-suc 2 g in let f = pow-suc 2 (suc g) in let x = p.0 in let y = p.1 in (omega arith, omega arith)
 
@@ -36,7 +36,7 @@ above_own : (k : ℕ) → k + 1 ≤ 2 ^ k
 above_own zero = omega arith
 above_own (suc k) = let e = pow-suc 2 k in let f = above_own k in omega arith
 
--- so many blocks are left
+-- The number of blocks that are left.
 pub left_over : (m : ℕ) (old new : List Block) (l : Shape) → IsBuilt m old l new → length old ≡ m + length new
 left_over m old new l b = let c = node_count-blocks l in let n = b.nodes in let e : length old ≡ length (blocks l ++ new) = ap length b.cut in omega (arith, length-append (blocks l) new)
 
@@ -67,7 +67,7 @@ module _ (n : ℕ) (old xs ys new : List Block) (l r : Shape) (b : Block) (some 
         cut = node_cut;
         nodes = omega (arith, left.nodes, right.nodes);
         balanced = node_balanced;
-        height = subst (IsLeastHeight n) same h;
+        height = subst (IsLowestHeight n) same h;
       }
 
   pub node_tree : (lo : ℕ) → IsOrderedFrom lo old → IsTree (Fork l b r)

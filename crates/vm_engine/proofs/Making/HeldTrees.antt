@@ -1,4 +1,4 @@
--- The tree that is built of the blocks of a space with some ranges held.
+-- The tree of the blocks of a space with some ranges held.
 use Rattle.std.proofs.Common.{◌≡◌, ℕ, ◌+◌, ◌^◌, ◌≤◌, ◌<◌, List, [], ◌∷◌, ◌++◌, length, Some, None, Option, MatchOption, ◌⊎◌, Result, Ok, Err, refl, sym, ap, ◌∙◌, arith, subst, ⊎_elim, inl, inr}
 use Rattle.std.proofs.lemmas.Bool.{cases_lt}
 use Rattle.std.proofs.lemmas.List.{append-nil}
@@ -16,7 +16,7 @@ use Rattle.vm_ranges.specs.declared.error.Error.TheVariants.{Overflow, OutOfMemo
 use Rattle.vm_engine.proofs.Comparing.Tilings.{held_of-blocks_of}
 use Rattle.vm_engine.proofs.Nodes.MinNodes.{power_grows}
 use Rattle.vm_engine.proofs.Nodes.Spaces.{space_tiled, space_tree}
-use Rattle.vm_engine.proofs.Making.Rows.{between_tiles}
+use Rattle.vm_engine.proofs.Making.BlockCursors.{between_tiles}
 use Rattle.vm_engine.proofs.Making.Built.{left_over}
 
 below_max : (lo hi : ℕ) (rs : List Range) → AreInOrder lo rs hi → AreBelowMax rs

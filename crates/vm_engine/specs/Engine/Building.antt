@@ -1,4 +1,4 @@
--- The blocks that a tree is built of, from the lowest on.
+-- The blocks that a tree is built of, in order.
 use Rattle.std.specs.Prelude.{◌≡◌, ℕ, ◌+◌, ◌*◌, ◌^◌, ◌<◌, ◌≤◌, List, ◌++◌, length, Some, None, Result, MatchResult}
 use Rattle.vm_ranges.specs.Range.{Range, MAX}
 use Rattle.vm_engine.specs.Tree.Block.{Block}
@@ -7,30 +7,30 @@ use Rattle.vm_engine.specs.Held.{first_fault}
 use Rattle.vm_engine.specs.Tree.Blocks.{blocks_between}
 use Rattle.vm_engine.specs.Tree.Shape.{Shape, blocks, height_of, node_count, IsBalanced}
 use Rattle.vm_ranges.specs.declared.error.Error.{Error}
-use Rattle.vm_engine.specs.declared.interval_tree.building.Row.{Row}
+use Rattle.vm_engine.specs.declared.interval_tree.building.BlockCursor.{BlockCursor}
 
--- the blocks of a row: its gaps and its held ranges
-abbrev pub remaining_blocks : Row → List Block
-remaining_blocks row = blocks_between row.next row.held.now row.end
+-- The blocks that are not built yet: the gaps and the held ranges.
+abbrev pub remaining_blocks : BlockCursor → List Block
+remaining_blocks cursor = blocks_between cursor.next cursor.held.now cursor.end
 
--- the held ranges of a row stand in order, and it is within a space
-pub record IsRow (row : Row) : Type 0 where
-  pub in_order : AreInOrder row.next row.held.now row.end
-  pub within : row.next ≤ row.end + 1
-  pub not_all : row.next ≡ 0 → row.end < MAX
+-- The held ranges of the cursor are in order, and the cursor is in a space.
+pub record IsBlockCursor (cursor : BlockCursor) : Type 0 where
+  pub in_order : AreInOrder cursor.next cursor.held.now cursor.end
+  pub within : cursor.next ≤ cursor.end + 1
+  pub not_all : cursor.next ≡ 0 → cursor.end < MAX
 
--- the height h of a tree of n nodes that is filled from the middle: that of the lowest one
-abbrev pub IsLeastHeight : ℕ → ℕ → Type 0
-IsLeastHeight n h = (n + 1 ≤ 2 ^ h) × (2 ^ h ≤ 2 * n + 1)
+-- No tree of n nodes is lower than h, and a tree that is filled from the middle has this height.
+abbrev pub IsLowestHeight : ℕ → ℕ → Type 0
+IsLowestHeight n h = (n + 1 ≤ 2 ^ h) × (2 ^ h ≤ 2 * n + 1)
 
--- a tree of the first n of some blocks, as low as can be, with the others left
+-- A tree of the first n blocks, as low as possible, and the list of the other blocks.
 pub record IsBuilt (n : ℕ) (old : List Block) (tree : Shape) (new : List Block) : Type 0 where
   pub cut : old ≡ blocks tree ++ new
   pub nodes : node_count tree ≡ n
   pub balanced : IsBalanced tree
-  pub height : IsLeastHeight n (height_of tree)
+  pub height : IsLowestHeight n (height_of tree)
 
--- the blocks of a space with these ranges held are so many, or the first fault of the ranges is this one
+-- The number of blocks of the space with these ranges held, or the error of the first range that cannot be held.
 abbrev pub CountsBlocks : Range → List Range → Result ℕ Error → Type 0
 CountsBlocks space held answer =
     MatchResult answer

@@ -5,7 +5,7 @@ use Rattle.vm_allocator.specs.Allocator.{state_of}
 use Rattle.vm_allocator.specs.Several.{AllocatesEach}
 use Rattle.vm_allocator.proofs.address_allocator.AddressAllocator.allocate_all.Given as goal
 
--- the requests so far got the ranges so far, and there is room for the others
+-- The requests so far got the ranges so far, and the list has capacity for the others.
 abbrev pub invariant-loop-request : goal.invariant-loop-request
 invariant-loop-request l = record {
   each : AllocatesEach (state_of l.initial.self) (take l.request-index l.requests) l.ranges.items (state_of l.self);

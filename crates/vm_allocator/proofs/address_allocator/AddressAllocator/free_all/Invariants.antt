@@ -5,7 +5,7 @@ use Rattle.vm_allocator.specs.Allocator.{state_of}
 use Rattle.vm_allocator.specs.Several.{AllocatesEach}
 use Rattle.vm_allocator.proofs.address_allocator.AddressAllocator.free_all.Given as goal
 
--- where requests got the ranges, some got those that are left
+-- If requests got the ranges, some of them got the ranges that are left.
 abbrev pub invariant-loop-range : goal.invariant-loop-range
 invariant-loop-range l = record {
   left : (before : AddressState) (requests : List Request) → IsAddressState before → AllocatesEach before requests l.initial.ranges.items (state_of l.initial.self) → (ps : List Request) × AllocatesEach before ps l.ranges.items (state_of l.self);

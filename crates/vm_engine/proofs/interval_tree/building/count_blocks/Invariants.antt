@@ -4,7 +4,7 @@ use Rattle.vm_engine.specs.Tree.Blocks.{blocks_between}
 use Rattle.vm_engine.specs.Held.{first_fault}
 use Rattle.vm_engine.proofs.interval_tree.building.count_blocks.Given as goal
 
--- the ranges so far can be held, and have so many blocks with the gaps before them
+-- The ranges so far can be held, and this is the number of their blocks and of the gaps before them.
 abbrev pub invariant-loop-range : goal.invariant-loop-range
 invariant-loop-range l = record {
   fault : first_fault l.fn.space.start l.end l.held ≡ first_fault l.next l.end (drop l.range-index l.held);

@@ -1,4 +1,4 @@
--- The first of the blocks of a row, and the row behind it.
+-- The first block of a cursor, and the cursor after it.
 use Rattle.std.proofs.Common.{◌≡◌, ◌≢◌, ℕ, ◌+◌, ◌-◌, ◌≤◌, ◌<◌, List, [], ◌∷◌, ◌++◌, refl, sym, ap, ◌∙◌, arith, ⊎_elim}
 use Rattle.std.proofs.lemmas.Bool.{cases_lt, lt-ltb, le-ltb}
 use Rattle.vm_ranges.specs.Range.{Range}
@@ -15,7 +15,7 @@ no_gap lo next h = rw (le-ltb lo next h) refl
 pub gap : (lo next : ℕ) → lo < next → gap_before lo next ≡ free_block (record { start = lo; end = next - 1 }) ∷ []
 gap lo next h = rw (lt-ltb lo next h) refl
 
--- where a block is left, the row has an address
+-- If a block is left, the cursor has an address.
 pub some_address : (lo hi : ℕ) (rs : List Range) → lo ≤ hi + 1 → AreInOrder lo rs hi → blocks_between lo rs hi ≢ [] → lo ≤ hi
 some_address lo hi [] l s n = ⊎_elim (λ (c : hi < lo). absurd (n (no_gap lo (hi + 1) (omega arith)))) (λ (c : lo ≤ hi). c) (cases_lt hi lo)
 some_address lo hi (r ∷ rs) l s n = omega (arith, s.0, s.1, s.2)
@@ -35,7 +35,7 @@ held_first lo hi r rs l = ap (λ (v : List Block). v ++ held_block r ∷ blocks_
 
 pub ruleset firsts = (some_address, last_gap, gap_first, held_first)
 
--- ---- the blocks follow one another
+-- ---- The blocks are in order
 pub between_tiles : (lo hi : ℕ) (rs : List Range) → lo ≤ hi + 1 → AreInOrder lo rs hi → Tiles Allocated lo (blocks_between lo rs hi) hi
 between_tiles lo hi [] l s =
     ⊎_elim
