@@ -98,7 +98,6 @@ FOR_TESTS = {"vm_engine/src/node.rt search_tree", "vm_ranges/src/state.rt is_fre
 # Lints that a function may violate, because its proof needs its form or a statement for the proof is
 # removed.
 ALLOWED = {
-    "unused_assignments, unused_variables": ("vm_allocator/src/saved/ids.rt collect_ids",),
     "clippy::let_and_return": (
         "vm_allocator/src/address_allocator.rt allocate", "vm_engine/src/interval_tree.rt allocate",
         "vm_engine/src/node/delete.rt delete_root"),

@@ -190,12 +190,10 @@ fn collect_ids(
     requires rise { IsSome (increasing lowest bound (items_view list.now)) }
     ensures { IfOk result (λ ids. increasing lowest bound (items_view list.now) ≡ Some ids.keys) }
 {
-    let mut next = lowest;
     let mut ids = BTreeSet::new(alloc);
     for item in list {
         let id = item.as_u64().unwrap();
         ids.insert(id as u32)?;
-        next = id + 1;
     }
     Ok(ids)
 }

@@ -146,19 +146,16 @@ fn are_increasing(list: &[Value], lowest: u64, bound: u64) -> bool {
 
 /// Collects the numbers into a set. They are in strictly increasing order, at least `lowest` and
 /// below `bound`.
-#[allow(unused_assignments, unused_variables)]
 fn collect_ids(
     alloc: Global,
     list: &[Value],
     lowest: u64,
     bound: u64,
 ) -> core::result::Result<BTreeSet<u32>, AllocError> {
-    let mut next = lowest;
     let mut ids = BTreeSet::new(alloc);
     for item in list {
         let id = item.as_u64().unwrap();
         ids.insert(id as u32)?;
-        next = id + 1;
     }
     Ok(ids)
 }

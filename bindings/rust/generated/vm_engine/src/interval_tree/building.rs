@@ -1,7 +1,9 @@
 // Written by bindings/erase from crates/vm_engine/src/interval_tree/building.rt: do not edit.
 
-//! The tree of a space in which some ranges are held: they are looked at one by one without memory, and
-//! then the blocks are built into a tree in one pass, from the middle.
+//! Builds the tree of a space in which some ranges are allocated.
+//!
+//! A first pass checks and counts without allocating. A second pass builds the blocks into a tree
+//! from the middle, so no rotation is needed.
 
 use super::IntervalTree;
 use crate::block::Block;
@@ -10,37 +12,46 @@ use crate::ordering::valid_range;
 use rattle::Global;
 use vm_ranges::{Error, NodeState, RangeInclusive, Result};
 
-/// From so many blocks on a tree of them is too high.
+/// A tree of this many blocks or more is too high.
 const TOO_MANY_BLOCKS: u64 = 1 << 49;
 
 impl IntervalTree {
-    /// The tree of the space `key` with these ranges held, as low as can be. In this order: for the first
-    /// range that cannot be held, `ResourceNotAvailable` where it does not start behind the end of the one
-    /// before it, `Overflow` where it starts at `u64::MAX`, `ResourceNotAvailable` where it does not lie in the
-    /// space, and `Overflow` where it ends at `u64::MAX`; `Overflow` where there are so many blocks
-    /// that a tree of them is higher than 49; and `OutOfMemory`.
+    /// Creates the tree of the space `key` with these ranges allocated. They must be in increasing
+    /// order. The tree is as low as possible.
+    ///
+    /// # Errors
+    ///
+    /// In this order:
+    /// - For the first range that cannot be allocated:
+    ///   - `ResourceNotAvailable` if it does not start after the end of the range before it.
+    ///   - `Overflow` if it starts at `u64::MAX`.
+    ///   - `ResourceNotAvailable` if it is outside the space.
+    ///   - `Overflow` if it ends at `u64::MAX`.
+    /// - `Overflow` if the ranges and the gaps together are 2^49 or more.
+    /// - `OutOfMemory` if the allocation of a node fails.
     pub fn with_held(alloc: Global, key: RangeInclusive, held: &[RangeInclusive]) -> Result<Self> {
         let count = count_blocks(&key, held)?;
         if count >= TOO_MANY_BLOCKS {
             return Err(Error::Overflow);
         }
-        let mut row = Row {
+        let mut cursor = BlockCursor {
             next: key.start().into(),
             held,
             end: key.end(),
         };
-        let root = build(alloc, count, &mut row)?;
+        let root = build(alloc, count, &mut cursor)?;
         Ok(IntervalTree { root })
     }
 }
 
-/// How many blocks the space has with these ranges held, or why the first that cannot be held cannot.
+/// Returns the number of blocks of the space with these ranges allocated, or the error of the first
+/// range that cannot be allocated.
 fn count_blocks(space: &RangeInclusive, held: &[RangeInclusive]) -> Result<u64> {
     let end = space.end();
     let mut next = space.start();
     let mut count = 0;
     for range in held {
-        check_behind(next, end, range)?;
+        check_next(next, end, range)?;
         if next < range.start() {
             count += 1;
         }
@@ -53,8 +64,9 @@ fn count_blocks(space: &RangeInclusive, held: &[RangeInclusive]) -> Result<u64> 
     Ok(count)
 }
 
-/// Whether a range can be held from `next` on in a space that ends at `end`.
-fn check_behind(next: u64, end: u64, range: &RangeInclusive) -> Result<()> {
+/// Checks that a range can be allocated if it must start at `next` or later, in a space that ends at
+/// `end`.
+fn check_next(next: u64, end: u64, range: &RangeInclusive) -> Result<()> {
     if range.start() < next {
         return Err(Error::ResourceNotAvailable);
     }
@@ -70,15 +82,16 @@ fn check_behind(next: u64, end: u64, range: &RangeInclusive) -> Result<()> {
     Ok(())
 }
 
-/// The blocks that are not built yet: the gaps and the held ranges from `next` to `end`.
-struct Row<'a> {
+/// A cursor at the blocks that are not built yet: the gaps and the allocated ranges from `next` to
+/// `end`.
+struct BlockCursor<'a> {
     next: u128,
     held: &'a [RangeInclusive],
     end: u64,
 }
 
-impl Row<'_> {
-    /// Takes the first of the blocks.
+impl BlockCursor<'_> {
+    /// Returns the next block, and advances.
     fn take_first(&mut self) -> Block {
         let start = self.next as u64;
         let Some((range, others)) = self.held.split_first() else {
@@ -104,15 +117,16 @@ impl Row<'_> {
     }
 }
 
-/// A tree of the next `count` blocks, as low as can be. `OutOfMemory` where there is no memory for one
-/// of its nodes; the others are given back then.
-fn build(alloc: Global, count: u64, row: &mut Row<'_>) -> Result<Child> {
+/// Builds a tree of the next `count` blocks. It is as low as possible.
+///
+/// It returns `OutOfMemory` if the allocation of a node fails. The nodes built so far are freed.
+fn build(alloc: Global, count: u64, cursor: &mut BlockCursor<'_>) -> Result<Child> {
     if count == 0 {
         return Ok(None);
     }
-    let left = build(alloc, count / 2, row)?;
-    let block = row.take_first();
-    let right = build(alloc, (count - 1) / 2, row)?;
+    let left = build(alloc, count / 2, cursor)?;
+    let block = cursor.take_first();
+    let right = build(alloc, (count - 1) / 2, cursor)?;
     let node = InnerNode::with_children(alloc, left, block.key, block.state, right)?;
     Ok(Some(node))
 }
