@@ -48,8 +48,7 @@ impl IdAllocator {
         let Some(ids) = check_ids(value) else {
             return Err(ValueError::NotAState);
         };
-        let bound = bound_of(ids.next, ids.end);
-        let freed_ids = collect_ids(alloc, ids.freed, ids.base.into(), bound)?;
+        let freed_ids = collect_ids(alloc, &ids)?;
         Ok(IdAllocator {
             range_base: ids.base,
             next_id: ids.next,
@@ -178,18 +177,18 @@ fn are_increasing(list: &[Value], lowest: u64, bound: u64) -> bool
     true
 }
 
-/// Collects the numbers into a set. They are in strictly increasing order, at least `lowest` and
-/// below `bound`.
+/// Collects the freed ids of a checked value into a set.
 fn collect_ids(
     alloc: Global,
-    list: &[Value],
-    lowest: u64,
-    bound: u64,
+    checked: &CheckedIds<'_>,
 ) -> std::result::Result<BTreeSet<u32>, AllocError>
-    requires bound_fits { bound ≤ 2 ^ 32 }
-    requires rise { IsSome (increasing lowest bound (items_view list.now)) }
-    ensures { IfOk result (λ ids. increasing lowest bound (items_view list.now) ≡ Some ids.keys) }
+    requires bound_fits { bound_of checked.now.next checked.now.end ≤ 2 ^ 32 }
+    requires rise { IsSome (increasing checked.now.base (bound_of checked.now.next checked.now.end)
+        (items_view checked.now.freed.now.items)) }
+    ensures { IfOk result (λ ids. increasing checked.now.base (bound_of checked.now.next checked.now.end)
+        (items_view checked.now.freed.now.items) ≡ Some ids.keys) }
 {
+    let list: &[Value] = checked.freed;
     let mut ids = BTreeSet::new(alloc);
     for item in list {
         let id = item.as_u64().unwrap();

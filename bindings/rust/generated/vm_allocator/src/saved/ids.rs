@@ -35,8 +35,7 @@ impl IdAllocator {
         let Some(ids) = check_ids(value) else {
             return Err(ValueError::NotAState);
         };
-        let bound = bound_of(ids.next, ids.end);
-        let freed_ids = collect_ids(alloc, ids.freed, ids.base.into(), bound)?;
+        let freed_ids = collect_ids(alloc, &ids)?;
         Ok(IdAllocator {
             range_base: ids.base,
             next_id: ids.next,
@@ -144,14 +143,12 @@ fn are_increasing(list: &[Value], lowest: u64, bound: u64) -> bool {
     true
 }
 
-/// Collects the numbers into a set. They are in strictly increasing order, at least `lowest` and
-/// below `bound`.
+/// Collects the freed ids of a checked value into a set.
 fn collect_ids(
     alloc: Global,
-    list: &[Value],
-    lowest: u64,
-    bound: u64,
+    checked: &CheckedIds<'_>,
 ) -> core::result::Result<BTreeSet<u32>, AllocError> {
+    let list: &[Value] = checked.freed;
     let mut ids = BTreeSet::new(alloc);
     for item in list {
         let id = item.as_u64().unwrap();

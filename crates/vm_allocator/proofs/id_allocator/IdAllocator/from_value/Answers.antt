@@ -14,15 +14,12 @@ returns-in_err-freed_ids-clause-answer c =
 
 pub invariant_of-result : goal.invariant_of-result
 invariant_of-result c =
-    let r = rw (c.bound_of-bound.ensures, c.into.ensures, c.deref.ensures.value) at c.in_ok-freed_ids.ensures in
-    built_ids (view c.args.value.now) (c.in-Some.ids.base, c.in-Some.ids.next, c.in-Some.ids.end, items_view c.in-Some.ids.freed.now.items) c.in_ok-freed_ids.freed_ids (sym c.in-Some.ensures) r
+    built_ids (view c.args.value.now) (c.in-Some.ids.base, c.in-Some.ids.next, c.in-Some.ids.end, items_view c.in-Some.ids.freed.now.items) c.in_ok-freed_ids.freed_ids (sym c.in-Some.ensures) c.in_ok-freed_ids.ensures
 
 pub returns-clause-answer : goal.returns-clause-answer
 returns-clause-answer c =
-    let r = rw (c.bound_of-bound.ensures, c.into.ensures, c.deref.ensures.value) at c.in_ok-freed_ids.ensures in
-    built_states (view c.args.value.now) (c.in-Some.ids.base, c.in-Some.ids.next, c.in-Some.ids.end, items_view c.in-Some.ids.freed.now.items) c.in_ok-freed_ids.freed_ids (sym c.in-Some.ensures) r
+    built_states (view c.args.value.now) (c.in-Some.ids.base, c.in-Some.ids.next, c.in-Some.ids.end, items_view c.in-Some.ids.freed.now.items) c.in_ok-freed_ids.freed_ids (sym c.in-Some.ensures) c.in_ok-freed_ids.ensures
 
 pub returns-clause-state : goal.returns-clause-state
 returns-clause-state c =
-    let r = rw (c.bound_of-bound.ensures, c.into.ensures, c.deref.ensures.value) at c.in_ok-freed_ids.ensures in
-    encoded_state (view c.args.value.now) _ (built_states (view c.args.value.now) (c.in-Some.ids.base, c.in-Some.ids.next, c.in-Some.ids.end, items_view c.in-Some.ids.freed.now.items) c.in_ok-freed_ids.freed_ids (sym c.in-Some.ensures) r)
+    encoded_state (view c.args.value.now) _ (built_states (view c.args.value.now) (c.in-Some.ids.base, c.in-Some.ids.next, c.in-Some.ids.end, items_view c.in-Some.ids.freed.now.items) c.in_ok-freed_ids.freed_ids (sym c.in-Some.ensures) c.in_ok-freed_ids.ensures)

@@ -1,5 +1,6 @@
 use Rattle.std.proofs.Common.{◌≡◌, ℕ, option_map, drop, ◌++◌, IsSome}
 use Rattle.serde_json.specs.View.{items_view}
+use Rattle.vm_allocator.specs.Ids.{bound_of}
 use Rattle.vm_allocator.specs.Checks.IdChecks.{increasing}
 use Rattle.vm_allocator.proofs.Ids.IncreasingNumbers.{AreBelow}
 use Rattle.vm_allocator.proofs.saved.ids.collect_ids.Given as goal
@@ -8,7 +9,7 @@ use Rattle.vm_allocator.proofs.saved.ids.collect_ids.Given as goal
 abbrev pub invariant-loop-item : goal.invariant-loop-item
 invariant-loop-item l = record {
   next : ℕ;
-  so_far : increasing l.fn.lowest l.bound (items_view l.list) ≡ option_map (λ ns. l.ids.keys ++ ns) (increasing next l.bound (items_view (drop l.item-index l.list)));
+  so_far : increasing l.checked.base (bound_of l.checked.next l.checked.end) (items_view l.list) ≡ option_map (λ ns. l.ids.keys ++ ns) (increasing next (bound_of l.checked.next l.checked.end) (items_view (drop l.item-index l.list)));
   below : AreBelow next l.ids.keys;
-  rest : IsSome (increasing next l.bound (items_view (drop l.item-index l.list)));
+  rest : IsSome (increasing next (bound_of l.checked.next l.checked.end) (items_view (drop l.item-index l.list)));
 }
