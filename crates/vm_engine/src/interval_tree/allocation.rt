@@ -23,7 +23,7 @@ use crate::Steps;
 use crate::node::rewrite::rewrite_at;
 use crate::node::split::{Choice, Rest, Split, split_at};
 use crate::node::{Child, InnerNode};
-use crate::ordering::{recall_invariant, valid_range};
+use crate::ordering::valid_range;
 use std::alloc::Global;
 use vm_ranges::{Error, NodeState, RangeInclusive, Result};
 
@@ -97,7 +97,6 @@ fn leaf_before(alloc: Global, choice: &Choice) -> Result<Child>
     ensures leaf { IfOk result (λ leaf. IfSome leaf (λ n. IsLeaf n.value)) }
     ensures error { IfErr result (λ error. error ≡ Error.OutOfMemory) }
 {
-    recall_invariant(&choice.key);
     if choice.key.start() >= choice.range.start() {
         return Ok(None);
     }
@@ -112,7 +111,6 @@ fn leaf_after(alloc: Global, choice: &Choice) -> Result<Child>
     ensures leaf { IfOk result (λ leaf. IfSome leaf (λ n. IsLeaf n.value)) }
     ensures error { IfErr result (λ error. error ≡ Error.OutOfMemory) }
 {
-    recall_invariant(&choice.key);
     if choice.range.end() >= choice.key.end() {
         return Ok(None);
     }

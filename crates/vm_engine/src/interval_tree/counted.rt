@@ -69,7 +69,7 @@ impl IntervalTree {
     /// # Errors
     ///
     /// Those of [`allocate`](Self::allocate), in the same order.
-    #[tactic(auto, using(crate::proofs::Counts::Granting::grantings, crate::proofs::Counts::GapBounds::of_trees))]
+    #[tactic(auto, using(crate::proofs::Counts::Granting::grantings, crate::proofs::Counts::GapBounds::of_trees, crate::proofs::Nodes::Spaces::states, crate::proofs::Answers::AddressAnswers::granted))]
     pub fn allocate_counted(
         &mut self,
         alloc: Global,
@@ -83,6 +83,7 @@ impl IntervalTree {
         ensures search { SearchesGaps (height_of self.old) (tree_state self.old) constraint result.0 result.1 }
         ensures search_aligned { SearchesAligned (height_of self.old) (tree_state self.old)
             constraint result.0 result.1 }
+        ensures state { IsAddressState (tree_state self.new) }
     {
         let mut count = Steps { entered: 0 };
         let answer = self.allocate_inner(alloc, constraint, &mut count);

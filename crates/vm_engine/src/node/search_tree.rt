@@ -11,10 +11,10 @@ ghost use Rattle.vm_engine.specs.Engine.NodeAnswer.{first_overlap, Inserts, Find
 ghost use Rattle.vm_engine.specs.Counts.NodeCounts.{nodes_down, nodes_to, nodes_across, nodes_to_delete};
 ghost use Rattle.vm_engine.specs.Engine.NodeFields.{side};
 
+use super::InnerNode;
 use super::delete::delete_at;
 use super::link::link_at;
 use super::summary::{Change, free_summary_of, refresh_free, summary_of};
-use super::{InnerNode, recall_invariant};
 use crate::Steps;
 use crate::ordering::{compare, ends_before};
 use std::alloc::Global;
@@ -86,13 +86,11 @@ impl InnerNode {
         requires { count.old + height_of tree.value ≤ MAX }
         ensures blocks { blocks (side result) ≡ replace_block key.now [] (blocks tree.value) }
         ensures unchanged { find_key key.now (blocks tree.value) ≡ None → side result ≡ tree.value }
-        ensures none { IsNone result ↔ (side result ≡ Tip) }
         ensures shrinks { Shrinks tree.value (side result) Change.Height }
         ensures count { count.new ≡ count.old + nodes_to_delete key.now tree.value }
     {
         let mut at = Some(tree);
         delete_at(&mut at, key, count);
-        recall_invariant(&at);
         at
     }
 

@@ -11,7 +11,7 @@ ghost use Rattle.std.specs.Prelude.{◌≡◌, ◌+◌, ◌*◌, ◌<◌, ◌≤
 ghost use Rattle.vm_ranges.specs.Range.{MAX};
 ghost use Rattle.vm_engine.specs.Tree.BlockList.{insert_all, AreClearOf};
 ghost use Rattle.vm_engine.specs.Engine.SplitBlocks.{with_split, AreLeaves, CanSplit};
-ghost use Rattle.vm_engine.specs.Tree.Shape.{MAX_HEIGHT, blocks, height_of, root_block};
+ghost use Rattle.vm_engine.specs.Tree.Shape.{MAX_HEIGHT, blocks, height_of, root_block, IsTree};
 ghost use Rattle.vm_engine.specs.Engine.Changes.{IsLeaf, Grows};
 ghost use Rattle.vm_engine.specs.Counts.NodeCounts.{nodes_to_link, nodes_to_link_both, nodes_to_split};
 ghost use Rattle.vm_engine.specs.Engine.NodeFields.{side};
@@ -19,7 +19,7 @@ ghost use Rattle.vm_engine.specs.Engine.NodeFields.{side};
 use super::balance::update;
 use super::link::link_at;
 use super::summary::{Change, free_summary_of, refresh_free, summary_of};
-use super::{Child, InnerNode, recall_invariant};
+use super::{Child, InnerNode};
 use crate::Steps;
 use crate::ordering::compare;
 use std::cmp::Ordering;
@@ -38,6 +38,7 @@ pub(crate) struct Rest {
 #[tactic(auto, using(crate::proofs::Splitting::SplitTrees::leaves))]
 fn link_if_some(child: &mut Child, leaf: Child, count: &mut Steps)
     requires leaf { IfSome leaf (λ n. IsLeaf n.value) }
+    requires tree { IsTree (side child.old) }
     requires clear { AreClearOf (blocks (side leaf)) (blocks (side child.old)) }
     requires height { height_of (side child.old) < MAX_HEIGHT }
     requires count_fits { count.old + height_of (side child.old) ≤ MAX }
@@ -45,7 +46,6 @@ fn link_if_some(child: &mut Child, leaf: Child, count: &mut Steps)
     ensures grows { Grows (side child.old) (side child.new) Change.Height }
     ensures count { count.new ≡ count.old + nodes_to_link (side leaf) (side child.old) }
 {
-    recall_invariant(child);
     if let Some(leaf) = leaf {
         link_at(child, leaf, count);
     }
@@ -87,7 +87,6 @@ fn split_here(at: &mut Child, split: &mut Split, count: &mut Steps) -> Change
 {
     let Some(tree) = at else { unreachable!() };
     let tree: &mut InnerNode = tree;
-    let _ = &tree.height;
     tree.key = split.choice.range;
     tree.node_state = NodeState::Allocated;
     link_if_some(&mut tree.left, split.rest.before.take(), count);
