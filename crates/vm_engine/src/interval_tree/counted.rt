@@ -2,7 +2,7 @@
 //!
 //! The field of the counter is private to this file, so only this file can create, read, raise or
 //! copy one. Code that receives a counter can only count a node, or pass the counter on.
-ghost use Rattle.std.specs.Prelude.{◌≡◌, ◌+◌, ◌<◌, ◌≤◌, OnErr};
+ghost use Rattle.std.specs.Prelude.{◌≡◌, ◌+◌, ◌<◌, OnErr};
 ghost use Rattle.vm_ranges.specs.Range.{MAX};
 ghost use Rattle.vm_engine.specs.Address.{IsAddressState};
 ghost use Rattle.vm_engine.specs.Answer.{Grants, Frees};
@@ -52,12 +52,9 @@ impl InnerNode {
     /// Counts this node as entered.
     #[inline(always)]
     pub(crate) fn enter(&self, count: &mut Steps)
-        requires { count.old + height_of self.now ≤ MAX }
-        ensures count { count.new ≡ count.old + 1 }
-        ensures high { 0 < height_of self.now }
-        ensures tree { IsTree self.now }
+        requires { count.old < MAX }
+        ensures { count.new ≡ count.old + 1 }
     {
-        let _ = self.height();
         count.entered += 1;
     }
 }

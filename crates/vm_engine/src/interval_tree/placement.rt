@@ -53,7 +53,7 @@ impl IntervalTree {
     #[tactic(auto, using(crate::proofs::Choosing::ExactPlaces::exact_choices, crate::proofs::Counts::NodeCountBounds::exact_nodes))]
     fn exact_place(&self, constraint: Constraint, start: u64, count: &mut Steps) -> Result<Choice>
         requires policy { constraint.policy ≡ ExactMatch start }
-        requires count_fits { count.old + height_of self.now ≤ MAX }
+        requires count_fits { count.old + height_of self.now < MAX }
         ensures answer { Chooses self.now constraint result }
         ensures no_memory { IfErr result (λ error. error ≢ Error.OutOfMemory) }
         ensures count { count.new ≡ count.old + nodes_of_search constraint self.now }

@@ -4,7 +4,7 @@
 //! write the place into an `Option` of their caller, because returning it would copy 32 bytes at
 //! every level. Before a call enters a child, `may_fit` checks that the child exists and that its
 //! summary fits the request.
-ghost use Rattle.std.specs.Prelude.{◌≡◌, ◌+◌, ◌<◌, ◌≤◌, true, false, None, IfSome, MatchOption};
+ghost use Rattle.std.specs.Prelude.{◌≡◌, ◌+◌, ◌<◌, true, false, None, IfSome, MatchOption};
 ghost use Rattle.vm_ranges.specs.Range.{MAX};
 ghost use Rattle.vm_ranges.specs.Alignment.{IsAlignment};
 ghost use Rattle.vm_engine.specs.Tree.Fit.{FindsLowestFit, FindsHighestFit};
@@ -100,7 +100,7 @@ pub(crate) fn first_place(
 ) -> Option<Place>
     requires sized { 0 < size }
     requires aligned { IsAlignment alignment }
-    requires count_fits { count.old + node_count (side tree.now) ≤ MAX }
+    requires count_fits { count.old + node_count (side tree.now) < MAX }
     ensures place { FindsFirst size alignment (blocks (side tree.now)) result }
     ensures tree { IfSome result (λ _. IsTree (side tree.now)) }
     ensures count { count.new ≡ count.old + nodes_of_first size alignment (side tree.now) }
@@ -122,7 +122,7 @@ pub(crate) fn last_place(
 ) -> Option<Place>
     requires sized { 0 < size }
     requires aligned { IsAlignment alignment }
-    requires count_fits { count.old + node_count (side tree.now) ≤ MAX }
+    requires count_fits { count.old + node_count (side tree.now) < MAX }
     ensures place { FindsLast size alignment (blocks (side tree.now)) result }
     ensures tree { IfSome result (λ _. IsTree (side tree.now)) }
     ensures count { count.new ≡ count.old + nodes_of_last size alignment (side tree.now) }
@@ -142,7 +142,7 @@ impl InnerNode {
         requires aligned { IsAlignment alignment }
         requires may_fit { may_fit_in size alignment self.now ≡ true }
         requires none_yet { found.old ≡ None }
-        requires count_fits { count.old + node_count self.now ≤ MAX }
+        requires count_fits { count.old + node_count self.now < MAX }
         ensures place { FindsFirst size alignment (blocks self.now) found.new }
         ensures count { count.new ≡ count.old + nodes_of_first size alignment self.now }
         ensures tree { IsTree self.now }
@@ -173,7 +173,7 @@ impl InnerNode {
         requires aligned { IsAlignment alignment }
         requires may_fit { may_fit_in size alignment self.now ≡ true }
         requires none_yet { found.old ≡ None }
-        requires count_fits { count.old + node_count self.now ≤ MAX }
+        requires count_fits { count.old + node_count self.now < MAX }
         ensures place { FindsLast size alignment (blocks self.now) found.new }
         ensures count { count.new ≡ count.old + nodes_of_last size alignment self.now }
         ensures tree { IsTree self.now }

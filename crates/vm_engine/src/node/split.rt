@@ -41,7 +41,7 @@ fn link_if_some(child: &mut Child, leaf: Child, count: &mut Steps)
     requires tree { IsTree (side child.old) }
     requires clear { AreClearOf (blocks (side leaf)) (blocks (side child.old)) }
     requires height { height_of (side child.old) < MAX_HEIGHT }
-    requires count_fits { count.old + height_of (side child.old) ≤ MAX }
+    requires count_fits { count.old + height_of (side child.old) < MAX }
     ensures blocks { blocks (side child.new) ≡ insert_all (blocks (side leaf)) (blocks (side child.old)) }
     ensures grows { Grows (side child.old) (side child.new) Change.Height }
     ensures count { count.new ≡ count.old + nodes_to_link (side leaf) (side child.old) }
@@ -78,7 +78,7 @@ fn split_here(at: &mut Child, split: &mut Split, count: &mut Steps) -> Change
     requires leaves { AreLeaves split.old.rest }
     requires can_be_split { CanSplit (blocks (side at.old)) (root_block (side at.old)).key split.old.choice.range split.old.rest }
     requires height { height_of (side at.old) < MAX_HEIGHT }
-    requires count_fits { count.old + 2 * height_of (side at.old) ≤ MAX + 1 }
+    requires count_fits { count.old + 2 * height_of (side at.old) ≤ MAX }
     ensures blocks { blocks (side at.new)
         ≡ with_split (root_block (side at.old)).key split.old.choice.range split.old.rest (blocks (side at.old)) }
     ensures grows { Grows (side at.old) (side at.new) result }
@@ -110,7 +110,7 @@ pub(crate) fn split_at(at: &mut Child, split: &mut Split, count: &mut Steps) -> 
     requires leaves { AreLeaves split.old.rest }
     requires can_be_split { CanSplit (blocks (side at.old)) split.old.choice.key split.old.choice.range split.old.rest }
     requires height { height_of (side at.old) < MAX_HEIGHT }
-    requires count_fits { count.old + 2 * height_of (side at.old) ≤ MAX }
+    requires count_fits { count.old + 2 * height_of (side at.old) < MAX }
     ensures blocks { blocks (side at.new)
         ≡ with_split split.old.choice.key split.old.choice.range split.old.rest (blocks (side at.old)) }
     ensures grows { Grows (side at.old) (side at.new) result }
