@@ -11,7 +11,7 @@
 //! count. A plain call makes the counted call and drops the count. A tree of height 49 has fewer
 //! than 2^49 nodes, so a counter that starts at 0 never overflows. This is proved once, so callers
 //! have no condition on it.
-ghost use Rattle.std.specs.Prelude.{◌≡◌, OnErr, IfOk};
+ghost use Rattle.std.specs.Prelude.{◌≡◌, OnErr, OnOk, IfOk};
 ghost use Rattle.vm_engine.specs.Address.{IsAddressState};
 ghost use Rattle.vm_engine.specs.Answer.{Grants, Frees};
 ghost use Rattle.vm_ranges.specs.Cloning.{Clones};
@@ -24,7 +24,6 @@ use crate::Steps;
 use crate::node::walks::Walk;
 use crate::node::walks::copying::copy;
 use crate::node::{Child, InnerNode};
-use crate::ordering::recall_invariant;
 use std::alloc::Global;
 use std::marker::Model;
 use vm_ranges::{Constraint, NodeState, RangeInclusive, Result};
@@ -73,7 +72,6 @@ impl IntervalTree {
         ensures answer { MakesTree key result }
         ensures state { IfOk result (λ tree. IsAddressState (tree_state tree)) }
     {
-        recall_invariant(&key);
         let node = Box::new(alloc, InnerNode::new(key, NodeState::Free))?;
         Ok(IntervalTree { root: Some(node) })
     }
@@ -120,15 +118,6 @@ impl IntervalTree {
         self.root().height()
     }
 
-    // Proof: makes the invariant of the tree available to the caller. It does nothing when it runs.
-    #[inline(always)]
-    pub(crate) fn recall_invariant(&self)
-        ensures space { IsSpaceTree self.now }
-        ensures tree { IsTree self.now }
-    {
-        let _ = self.height();
-    }
-
     /// Allocates like `allocate`, and adds the number of entered nodes to a counter at 0.
     #[tactic(auto, using(crate::proofs::Choosing::Searched::granting, crate::proofs::Counts::Granting::grantings))]
     fn allocate_inner(
@@ -143,9 +132,8 @@ impl IntervalTree {
         ensures depth { SplitsIfLow (height_of self.old) (tree_state self.old) constraint result }
         ensures count { Enters self.old constraint result 0 count.new }
         ensures space { IsSpaceTree self.old }
-        ensures tree { IsTree self.old }
+        ensures tree { OnOk result (IsTree self.old) }
     {
-        self.recall_invariant();
         let choice = self.choose_place(constraint, count)?;
         self.allocate_chosen(alloc, choice, count)
     }
@@ -179,9 +167,7 @@ impl IntervalTree {
         ensures state { IsAddressState (tree_state self.new) }
         ensures depth { SplitsIfLow (height_of self.old) (tree_state self.old) constraint result }
     {
-        let answer = self.allocate_counted(alloc, constraint).0;
-        self.recall_invariant();
-        answer
+        self.allocate_counted(alloc, constraint).0
     }
 
     /// Frees an allocated range, and joins it with the free blocks on both sides.

@@ -141,15 +141,6 @@ impl InnerNode {
     }
 }
 
-// Proof: makes the invariant of the subtree available to the caller. It does nothing when it runs.
-#[inline(always)]
-fn recall_invariant(child: &Child)
-    ensures tree { IsTree (side child.now) }
-    ensures absent { IsNone child.now ↔ (side child.now ≡ Tip) }
-{
-    let _ = height(child);
-}
-
 /// Returns the height of a child, or 0 if the child is absent.
 #[inline(always)]
 pub(crate) fn height(child: &Child) -> u64

@@ -48,11 +48,3 @@ pub(super) fn valid_range(start: u64, end: u64) -> RangeInclusive
     };
     range
 }
-
-// Proof: makes the invariant of a range available to the caller. It does nothing when it runs.
-#[inline(always)]
-pub(crate) fn recall_invariant(range: &RangeInclusive)
-    ensures { IsRange range.now.start range.now.end }
-{
-    let _ = range.end();
-}

@@ -3,13 +3,13 @@ use Rattle.std.proofs.Common.{◌≡◌, ◌≢◌, ℕ, ◌+◌, ◌-◌, ◌<�
 use Rattle.std.specs.List.{Contains}
 use Rattle.vm_ranges.specs.Range.{Range, MAX, Overlaps, span}
 use Rattle.vm_engine.specs.Address.{AddressState, IsPlace, IsAddressState, holding, releasing, with_range, without_range}
-use Rattle.vm_ranges.specs.Request.{Request}
-use Rattle.vm_engine.specs.Answer.{AllocatesAt, Allocates, Frees, Makes}
+use Rattle.vm_ranges.specs.Request.{Request, IsRequest}
+use Rattle.vm_engine.specs.Answer.{AllocatesAt, Allocates, Grants, Frees, Makes}
 use Rattle.vm_engine.specs.Laws.AddressLaws.{HeldAreDisjoint, StateIsPreserved, AddsRange, AllocatingAddsRange, FreeingRemovesRange, FreeingUndoes}
 use Rattle.vm_ranges.specs.declared.error.Error.{Error}
 use Rattle.vm_ranges.specs.declared.error.Error.TheVariants.{Overflow, OutOfMemory}
 use Rattle.vm_engine.proofs.Blocks.PlainWords.{IsHeld, contains_held, held_contains, none_holds}
-use Rattle.vm_engine.proofs.Answers.Outcomes.{IsRefused, allocates_outcome}
+use Rattle.vm_engine.proofs.Answers.Outcomes.{IsRefused, IsTaken, allocates_outcome, grants_outcome}
 use Rattle.vm_ranges.proofs.RangeCalls.{covers}
 use Rattle.vm_engine.proofs.Answers.Once.{chosen_place}
 use Rattle.vm_engine.proofs.Blocks.HeldChanges.{Misses, in_order_with, held_with, held_now, still_held_with, in_order_without, without_with, held_without, not_held_without, others_held}
@@ -25,18 +25,17 @@ pub record IsAllocation (old : AddressState) (request : Request) (answer : Resul
   pub given : answer ≡ Ok (span from request.size)
   pub left : new ≡ holding (span from request.size) old
 
-pub outcome : (request : Request) (old new : AddressState) (answer : Result Range Error) → Allocates old request answer new → IsRefused old answer new ⊎ IsAllocation old request answer new
+taken_outcome : (request : Request) (old new : AddressState) (answer : Result Range Error) → 0 < request.size → IsTaken request old answer new → IsRefused old answer new ⊎ IsAllocation old request answer new
 unfolding AllocatesAt
-outcome request old new answer h =
+taken_outcome request old new answer some t =
     ⊎_elim
-    (λ l. inl l)
-    (λ k.
-    let t = k.1 in
-    ⊎_elim
-    (λ g. inr (record { from = t.0; some = k.0.some; place = chosen_place request t.0 old t.1; not_max = t.2; given = g.0; left = g.1 }))
+    (λ g. inr (record { from = t.0; some = some; place = chosen_place request t.0 old t.1; not_max = t.2; given = g.0; left = g.1 }))
     (λ x. ⊎_elim (λ m. inl (OutOfMemory, m, x.1)) (λ d. inl (Overflow, d.1, x.1)) x.2)
-    t.3)
-    (allocates_outcome old new answer request h)
+    t.3
+
+pub outcome : (request : Request) (old new : AddressState) (answer : Result Range Error) → Allocates old request answer new → IsRefused old answer new ⊎ IsAllocation old request answer new
+outcome request old new answer h =
+    ⊎_elim (λ l. inl l) (λ k. taken_outcome request old new answer k.0.some k.1) (allocates_outcome old new answer request h)
 
 -- A success is an allocation.
 gets : (request : Request) (old new : AddressState) (r : Range) → Allocates old request (Ok r) new → IsAllocation old request (Ok r) new
@@ -71,6 +70,19 @@ allocated_state old new request answer i h =
     (λ (l : IsRefused old answer new). subst IsAddressState (sym l.2) i)
     (λ (g : IsAllocation old request answer new). given_state old new request answer g i)
     (outcome request old new answer h)
+
+pub granted_state : (old new : AddressState) (request : Request) (answer : Result Range Error) → IsRequest request → IsAddressState old → Grants old request answer new → IsAddressState new
+granted_state old new request answer r i h =
+    ⊎_elim
+    (λ (l : IsRefused old answer new). subst IsAddressState (sym l.2) i)
+    (λ (t : IsTaken request old answer new).
+    ⊎_elim
+    (λ (l : IsRefused old answer new). subst IsAddressState (sym l.2) i)
+    (λ (g : IsAllocation old request answer new). given_state old new request answer g i)
+    (taken_outcome request old new answer r.some t))
+    (grants_outcome old new answer request h)
+
+pub ruleset granted = (granted_state)
 
 released_state : (old : AddressState) (r : Range) → IsAddressState old → IsAddressState (releasing r old)
 released_state old r i = record { space = i.space; in_order = in_order_without old.space.start old.space.end r old.held i.in_order }

@@ -117,7 +117,7 @@ left_over k r (inr l) = inr (rw (lt-ltb r.end k.end l) (λ e. absurd (cc e)))
 held_part : (s : Shape) (r : Range) (path : ℕ) → IsSpaceTree s → SplitsGap (tree_state s) r → (i : IsHeldIn s r path) → NeedsSplit i.key r
 held_part s r path h left i = needs_split (space_of (blocks s)) (blocks s) i.lower i.upper (free_block i.key) r h.tiling.tiles i.cut refl i.within left
 
-pub grant_of : (s : Shape) (request : Request) (answer : Result Range Error) (c : ℕ) → IsSpaceTree s → IsTree s → Enters s request answer 0 c → IsGrantCount (height_of s) (tree_state s) request answer c
+pub grant_of : (s : Shape) (request : Request) (answer : Result Range Error) (c : ℕ) → IsSpaceTree s → OnOk answer (IsTree s) → Enters s request answer 0 c → IsGrantCount (height_of s) (tree_state s) request answer c
 grant_of s request (Err e) c h t n = record {
   most = searched request.policy s c h (omega (arith, n.refused, search_at_most request s));
   success = λ k. absurd (cc);

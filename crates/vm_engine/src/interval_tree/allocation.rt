@@ -3,7 +3,7 @@
 //! A range that fills its free block only changes the state of the block. Any other range splits
 //! the block. All memory for a split is allocated before the first change, so an error changes
 //! nothing.
-ghost use Rattle.std.specs.Prelude.{◌≡◌, ◌+◌, ◌*◌, ◌<◌, ◌≤◌, Err, IfOk, IfErr, IfSome, OnErr, OnOk};
+ghost use Rattle.std.specs.Prelude.{◌≡◌, ◌+◌, ◌*◌, ◌<◌, Err, IfOk, IfErr, IfSome, OnErr, OnOk};
 ghost use Rattle.vm_ranges.specs.Range.{MAX};
 ghost use Rattle.vm_engine.specs.Answer.{AllocatesAt};
 ghost use Rattle.vm_engine.specs.Tree.Block.{free_block};
@@ -23,7 +23,7 @@ use crate::Steps;
 use crate::node::rewrite::rewrite_at;
 use crate::node::split::{Choice, Rest, Split, split_at};
 use crate::node::{Child, InnerNode};
-use crate::ordering::{recall_invariant, valid_range};
+use crate::ordering::valid_range;
 use std::alloc::Global;
 use vm_ranges::{Error, NodeState, RangeInclusive, Result};
 
@@ -43,7 +43,7 @@ impl IntervalTree {
         count: &mut Steps,
     ) -> Result<RangeInclusive>
         requires choice { IsChoice (blocks self.old) choice }
-        requires count_fits { count.old + 2 * height_of self.old ≤ MAX }
+        requires count_fits { count.old + 2 * height_of self.old < MAX }
         ensures answer { AllocatesAt (tree_state self.old) choice.range result (tree_state self.new) }
         ensures unchanged { OnErr result (self.new ≡ self.old) }
         ensures low { NeedsSplit choice.key choice.range → OnOk result (height_of self.old < SPLIT_HEIGHT_LIMIT) }
@@ -98,7 +98,6 @@ fn leaf_before(alloc: Global, choice: &Choice) -> Result<Child>
     ensures leaf { IfOk result (λ leaf. IfSome leaf (λ n. IsLeaf n.value)) }
     ensures error { IfErr result (λ error. error ≡ Error.OutOfMemory) }
 {
-    recall_invariant(&choice.key);
     if choice.key.start() >= choice.range.start() {
         return Ok(None);
     }
@@ -113,7 +112,6 @@ fn leaf_after(alloc: Global, choice: &Choice) -> Result<Child>
     ensures leaf { IfOk result (λ leaf. IfSome leaf (λ n. IsLeaf n.value)) }
     ensures error { IfErr result (λ error. error ≡ Error.OutOfMemory) }
 {
-    recall_invariant(&choice.key);
     if choice.range.end() >= choice.key.end() {
         return Ok(None);
     }

@@ -12,7 +12,7 @@ ghost use Rattle.vm_engine.specs.Engine.Building.{remaining_blocks, IsBlockCurso
 use super::IntervalTree;
 use crate::block::Block;
 use crate::node::{Child, InnerNode};
-use crate::ordering::{recall_invariant, valid_range};
+use crate::ordering::valid_range;
 use std::alloc::Global;
 use vm_ranges::{Error, NodeState, RangeInclusive, Result};
 

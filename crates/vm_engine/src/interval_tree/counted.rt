@@ -2,7 +2,7 @@
 //!
 //! The field of the counter is private to this file, so only this file can create, read, raise or
 //! copy one. Code that receives a counter can only count a node, or pass the counter on.
-ghost use Rattle.std.specs.Prelude.{◌≡◌, ◌+◌, ◌<◌, ◌≤◌, OnErr};
+ghost use Rattle.std.specs.Prelude.{◌≡◌, ◌+◌, ◌<◌, OnErr};
 ghost use Rattle.vm_ranges.specs.Range.{MAX};
 ghost use Rattle.vm_engine.specs.Address.{IsAddressState};
 ghost use Rattle.vm_engine.specs.Answer.{Grants, Frees};
@@ -52,12 +52,9 @@ impl InnerNode {
     /// Counts this node as entered.
     #[inline(always)]
     pub(crate) fn enter(&self, count: &mut Steps)
-        requires { count.old + height_of self.now ≤ MAX }
-        ensures count { count.new ≡ count.old + 1 }
-        ensures high { 0 < height_of self.now }
-        ensures tree { IsTree self.now }
+        requires { count.old < MAX }
+        ensures { count.new ≡ count.old + 1 }
     {
-        let _ = self.height();
         count.entered += 1;
     }
 }
@@ -69,7 +66,7 @@ impl IntervalTree {
     /// # Errors
     ///
     /// Those of [`allocate`](Self::allocate), in the same order.
-    #[tactic(auto, using(crate::proofs::Counts::Granting::grantings, crate::proofs::Counts::GapBounds::of_trees))]
+    #[tactic(auto, using(crate::proofs::Counts::Granting::grantings, crate::proofs::Counts::GapBounds::of_trees, crate::proofs::Nodes::Spaces::states, crate::proofs::Answers::AddressAnswers::granted))]
     pub fn allocate_counted(
         &mut self,
         alloc: Global,
@@ -83,6 +80,7 @@ impl IntervalTree {
         ensures search { SearchesGaps (height_of self.old) (tree_state self.old) constraint result.0 result.1 }
         ensures search_aligned { SearchesAligned (height_of self.old) (tree_state self.old)
             constraint result.0 result.1 }
+        ensures state { IsAddressState (tree_state self.new) }
     {
         let mut count = Steps { entered: 0 };
         let answer = self.allocate_inner(alloc, constraint, &mut count);

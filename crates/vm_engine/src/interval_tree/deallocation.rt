@@ -4,7 +4,7 @@
 //! removes it. The last descent gives the block the joined range and makes it free. Separate
 //! descents keep the proof simple, because no case depends on which of the three nodes is above
 //! which.
-ghost use Rattle.std.specs.Prelude.{◌≡◌, ◌+◌, ◌*◌, ◌≤◌, None, OnErr};
+ghost use Rattle.std.specs.Prelude.{◌≡◌, ◌+◌, ◌*◌, ◌<◌, ◌≤◌, None, OnErr};
 ghost use Rattle.vm_ranges.specs.Range.{MAX, IsRange};
 ghost use Rattle.vm_engine.specs.Answer.{Frees};
 ghost use Rattle.vm_engine.specs.Tree.FreeBeside.{without_if_some};
@@ -47,7 +47,7 @@ impl IntervalTree {
 #[tactic(auto, using(crate::proofs::Releasing::JoinedBlocks::joins_free, crate::proofs::Counts::FreeCounts::deletions))]
 fn join_free(root: &mut Child, key: &RangeInclusive, beside: &Neighbours, count: &mut Steps)
     requires around { IsAround (blocks (side root.old)) key.now beside.now }
-    requires count_fits { count.old + 3 * height_of (side root.old) ≤ MAX }
+    requires count_fits { count.old + 3 * height_of (side root.old) < MAX }
     ensures blocks { blocks (side root.new) ≡ with_joined key.now beside.now (blocks (side root.old)) }
     ensures height { height_of (side root.new) ≤ height_of (side root.old) }
     ensures count { IsJoinCount (side root.old) key.now beside.now.before beside.now.after count.old count.new }
@@ -77,7 +77,7 @@ fn joined(key: &RangeInclusive, beside: &Neighbours) -> RangeInclusive
 /// Removes the node with this key, if there is a key.
 #[tactic(auto, using(crate::proofs::Counts::NodeCountBounds::deletion_bounds))]
 fn delete_if_some(root: &mut Child, key: &Option<RangeInclusive>, count: &mut Steps)
-    requires { count.old + height_of (side root.old) ≤ MAX }
+    requires { count.old + height_of (side root.old) < MAX }
     ensures blocks { blocks (side root.new) ≡ without_if_some key.now (blocks (side root.old)) }
     ensures height { height_of (side root.new) ≤ height_of (side root.old) }
     ensures same { key.now ≡ None → side root.new ≡ side root.old }

@@ -1,9 +1,10 @@
 //! Chooses the range of a request, and finds the free block that contains it.
-ghost use Rattle.std.specs.Prelude.{◌≡◌, ◌≢◌, ◌+◌, ◌<◌, ◌≤◌, IfErr, IfSome};
+ghost use Rattle.std.specs.Prelude.{◌≡◌, ◌≢◌, ◌+◌, ◌<◌, ◌≤◌, IfErr, OnOk, IfSome};
 ghost use Rattle.vm_ranges.specs.Range.{MAX};
 ghost use Rattle.vm_engine.specs.Tree.Block.{free_block};
 ghost use Rattle.vm_engine.specs.Tree.BlockEdits.{HasLength};
-ghost use Rattle.vm_engine.specs.Tree.Shape.{height_of, node_count};
+ghost use Rattle.vm_engine.specs.Tree.Shape.{height_of, IsTree};
+ghost use Rattle.vm_engine.specs.Tree.SpaceTree.{IsSpaceTree};
 ghost use Rattle.vm_engine.specs.Engine.Choosing.{Chooses, ChoosesAt, ExactChoice};
 ghost use Rattle.vm_engine.specs.Counts.NodeCounts.{nodes_of_search};
 ghost use Rattle.vm_engine.specs.Counts.Steps.{NoneEndsBelowMax};
@@ -14,7 +15,7 @@ use super::IntervalTree;
 use crate::Steps;
 use crate::node::places::{Place, first_place, last_place};
 use crate::node::split::Choice;
-use crate::ordering::{recall_invariant, valid_range};
+use crate::ordering::valid_range;
 use vm_ranges::{AllocPolicy, Constraint, Error, NodeState, RangeInclusive, Result};
 
 impl IntervalTree {
@@ -22,22 +23,24 @@ impl IntervalTree {
     /// the request.
     #[tactic(auto, using(crate::proofs::Choosing::Searched::choices))]
     pub(super) fn choose_place(&self, constraint: Constraint, count: &mut Steps) -> Result<Choice>
-        requires { count.old + node_count self.now + height_of self.now ≤ MAX }
+        requires { count.old ≡ 0 }
         ensures answer { Chooses self.now constraint result }
         ensures over { IfErr result (λ error.
             error ≡ Error.Overflow → NoneEndsBelowMax (tree_state self.now) constraint) }
         ensures no_memory { IfErr result (λ error. error ≢ Error.OutOfMemory) }
         ensures count { count.new ≡ count.old + nodes_of_search constraint self.now }
+        ensures space { IsSpaceTree self.now }
+        ensures tree { OnOk result (IsTree self.now) }
     {
-        self.recall_invariant();
+        let root = &self.root;
         let (size, align) = (constraint.size(), constraint.align());
         match constraint.policy() {
             AllocPolicy::FirstMatch => {
-                let found = first_place(&self.root, size, align, count);
+                let found = first_place(root, size, align, count);
                 choice_at(found, size)
             }
             AllocPolicy::LastMatch => {
-                let found = last_place(&self.root, size, align, count);
+                let found = last_place(root, size, align, count);
                 choice_at(found, size)
             }
             AllocPolicy::ExactMatch(start) => self.exact_place(constraint, start, count),
@@ -54,12 +57,13 @@ impl IntervalTree {
     #[tactic(auto, using(crate::proofs::Choosing::ExactPlaces::exact_choices, crate::proofs::Counts::NodeCountBounds::exact_nodes))]
     fn exact_place(&self, constraint: Constraint, start: u64, count: &mut Steps) -> Result<Choice>
         requires policy { constraint.policy ≡ ExactMatch start }
-        requires count_fits { count.old + height_of self.now ≤ MAX }
+        requires count_fits { count.old + height_of self.now < MAX }
         ensures answer { Chooses self.now constraint result }
         ensures over { IfErr result (λ error.
             error ≡ Error.Overflow → NoneEndsBelowMax (tree_state self.now) constraint) }
         ensures no_memory { IfErr result (λ error. error ≢ Error.OutOfMemory) }
         ensures count { count.new ≡ count.old + nodes_of_search constraint self.now }
+        ensures tree { OnOk result (IsTree self.now) }
     {
         if start == u64::MAX {
             return Err(Error::Overflow);
@@ -90,7 +94,6 @@ fn choice_at(found: Option<Place>, size: u64) -> Result<Choice>
     let Some(place) = found else {
         return Err(Error::ResourceNotAvailable);
     };
-    recall_invariant(&place.key);
     let last = place.start + (size - 1);
     if last == u64::MAX {
         return Err(Error::Overflow);

@@ -8,9 +8,9 @@
 //!
 //! Rotations change nodes in place. This is faster than taking the nodes apart and building them
 //! again.
-ghost use Rattle.std.specs.Prelude.{◌≡◌, ◌+◌, ◌<◌, ◌≤◌, ◌^◌, ◌++◌, ◌∷◌, max, IsSome};
+ghost use Rattle.std.specs.Prelude.{◌≡◌, ◌+◌, ◌<◌, ◌≤◌, ◌^◌, ◌++◌, ◌∷◌, ◌↔◌, max, IsNone, IsSome};
 ghost use Rattle.vm_engine.specs.Tree.BlockList.{IsOrderedFrom};
-ghost use Rattle.vm_engine.specs.Tree.Shape.{Fork, blocks, height_of, single, root_block, IsTree, DifferByAtMost};
+ghost use Rattle.vm_engine.specs.Tree.Shape.{Tip, Fork, blocks, height_of, single, root_block, IsTree, DifferByAtMost};
 ghost use Rattle.vm_engine.specs.Engine.Changes.{IsLeaf, IsLeftNotLower, IsRightNotLower, CanBalance, Balances};
 ghost use Rattle.vm_engine.specs.Engine.NodeFields.{side};
 ghost use Rattle.vm_engine.specs.Engine.NodeUpdate.{IsUpdated, CanRebalance, Rebalances};
@@ -245,7 +245,8 @@ fn rotate_right_left(
 pub(super) fn balance(left: Child, middle: Box<InnerNode>, right: Child) -> Box<InnerNode>
     requires leaf { IsLeaf middle.value }
     requires sides { CanBalance (side left) (root_block middle.value) (side right) }
-    ensures { Balances (side left) (root_block middle.value) (side right) result.value }
+    ensures balanced { Balances (side left) (root_block middle.value) (side right) result.value }
+    ensures left { IsNone left ↔ (side left ≡ Tip) }
 {
     let left_height = height(&left);
     let right_height = height(&right);

@@ -2,17 +2,17 @@
 //!
 //! `delete_root` is a function that is never inlined, because otherwise each level of the descent
 //! would save its registers too.
-ghost use Rattle.std.specs.Prelude.{◌≡◌, ◌+◌, ◌<◌, ◌≤◌, ◌^◌, ◌++◌, [], ◌∷◌, ◌↔◌, max, IsNone, IsSome};
+ghost use Rattle.std.specs.Prelude.{◌≡◌, ◌+◌, ◌<◌, ◌≤◌, ◌^◌, ◌++◌, [], ◌∷◌, max, IsSome};
 ghost use Rattle.vm_ranges.specs.Range.{MAX};
 ghost use Rattle.vm_engine.specs.Tree.BlockList.{IsOrderedFrom, replace_block};
-ghost use Rattle.vm_engine.specs.Tree.Shape.{Shape, Tip, Fork, blocks, height_of, root_block, DifferByAtMost};
+ghost use Rattle.vm_engine.specs.Tree.Shape.{Shape, Tip, Fork, blocks, height_of, root_block, DifferByAtMost, IsTree};
 ghost use Rattle.vm_engine.specs.Engine.Changes.{IsLeaf, Joins, Shrinks, LeavesIfAbsent};
 ghost use Rattle.vm_engine.specs.Counts.NodeCounts.{nodes_to_first, nodes_to_join, nodes_to_delete};
 ghost use Rattle.vm_engine.specs.Engine.NodeFields.{side};
 
 use super::balance::{balance, update};
 use super::summary::Change;
-use super::{Child, InnerNode, recall_invariant};
+use super::{Child, InnerNode};
 use crate::Steps;
 use crate::ordering::compare;
 use std::cmp::Ordering;
@@ -23,7 +23,7 @@ use vm_ranges::RangeInclusive;
 #[tactic(auto, using(crate::proofs::Blocks::Replacement::first_blocks, crate::proofs::Nodes::SideChange::takes, crate::proofs::Counts::NodeCountCases::nodes_to_first_cases))]
 fn take_first_at(at: &mut Child, count: &mut Steps) -> (Box<InnerNode>, Change)
     requires some { IsSome at.old }
-    requires count_fits { count.old + height_of (side at.old) ≤ MAX }
+    requires count_fits { count.old + height_of (side at.old) < MAX }
     ensures blocks { blocks (side at.old) ≡ root_block result.0.value ∷ blocks (side at.new) }
     ensures leaf { IsLeaf result.0.value }
     ensures shrinks { Shrinks (side at.old) (side at.new) result.1 }
@@ -34,7 +34,6 @@ fn take_first_at(at: &mut Child, count: &mut Steps) -> (Box<InnerNode>, Change)
     tree.enter(count);
     if tree.left.is_none() {
         let (_, right) = tree.take_children();
-        recall_invariant(&right);
         let Some(lowest) = at.take() else {
             unreachable!()
         };
@@ -63,15 +62,14 @@ fn take_first_at(at: &mut Child, count: &mut Steps) -> (Box<InnerNode>, Change)
 /// becomes the root, and the subtree is balanced.
 #[tactic(auto, using(crate::proofs::Blocks::Replacement::first_blocks, crate::proofs::Nodes::SideChange::takes, crate::proofs::Counts::NodeCountCases::nodes_to_join_cases))]
 pub(super) fn join(left: Child, mut right: Child, count: &mut Steps) -> Child
+    requires trees { IsTree (side left) × IsTree (side right) }
     requires ordered { IsOrderedFrom 0 (blocks (side left) ++ blocks (side right)) }
     requires close { DifferByAtMost 1 (height_of (side left)) (height_of (side right)) }
     requires height_fits { max (height_of (side left)) (height_of (side right)) + 1 < 2 ^ 64 }
-    requires count_fits { count.old + height_of (side right) ≤ MAX }
+    requires count_fits { count.old + height_of (side right) < MAX }
     ensures joins { Joins (side left) (side right) (side result) }
     ensures count { count.new ≡ count.old + nodes_to_join (side left) (side right) }
 {
-    recall_invariant(&left);
-    recall_invariant(&right);
     if right.is_none() {
         return left;
     }
@@ -90,18 +88,15 @@ impl InnerNode {
     #[tactic(auto, using(crate::proofs::Counts::NodeCountBounds::deletion_bounds, crate::proofs::Counts::NodeCountCases::nodes_to_delete_cases))]
     #[inline(never)]
     pub(crate) fn delete_root(tree: Box<InnerNode>, count: &mut Steps) -> Option<Box<InnerNode>>
-        requires { count.old + height_of tree.value ≤ MAX + 1 }
+        requires { count.old + height_of tree.value ≤ MAX }
         ensures blocks { blocks (side result) ≡ replace_block (root_block tree.value).key [] (blocks tree.value) }
-        ensures none { IsNone result ↔ (side result ≡ Tip) }
         ensures no_right { (left : Shape) → tree.value ≡ Fork left (root_block tree.value) Tip → side result ≡ left }
         ensures no_left { (right : Shape) → tree.value ≡ Fork Tip (root_block tree.value) right → side result ≡ right }
         ensures shrinks { Shrinks tree.value (side result) Change.Height }
         ensures count { count.new + 1 ≡ count.old + nodes_to_delete (root_block tree.value).key tree.value }
     {
         let InnerNode { left, right, .. } = Box::into_inner(tree);
-        let joined = join(left, right, count);
-        recall_invariant(&joined);
-        joined
+        join(left, right, count)
     }
 }
 
@@ -109,7 +104,7 @@ impl InnerNode {
 /// path. Returns the change of the subtree's summary.
 #[tactic(auto, using(crate::proofs::Nodes::SideChange::deletions, crate::proofs::Counts::NodeCountCases::nodes_to_delete_cases))]
 pub(crate) fn delete_at(at: &mut Child, key: &RangeInclusive, count: &mut Steps) -> Change
-    requires { count.old + height_of (side at.old) ≤ MAX }
+    requires { count.old + height_of (side at.old) < MAX }
     ensures blocks { blocks (side at.new) ≡ replace_block key.now [] (blocks (side at.old)) }
     ensures absent { LeavesIfAbsent key.now result (side at.old) (side at.new) }
     ensures shrinks { Shrinks (side at.old) (side at.new) result }

@@ -1,5 +1,5 @@
 //! Adds a leaf to a tree, in one descent.
-ghost use Rattle.std.specs.Prelude.{◌≡◌, ◌+◌, ◌<◌, ◌≤◌, IsSome};
+ghost use Rattle.std.specs.Prelude.{◌≡◌, ◌+◌, ◌<◌, IsSome};
 ghost use Rattle.vm_ranges.specs.Range.{MAX};
 ghost use Rattle.vm_engine.specs.Tree.BlockList.{IsClearOf, insert_block};
 ghost use Rattle.vm_engine.specs.Tree.Shape.{MAX_HEIGHT, blocks, height_of, root_block};
@@ -20,7 +20,7 @@ pub(super) fn link_at(at: &mut Child, leaf: Box<InnerNode>, count: &mut Steps) -
     requires leaf { IsLeaf leaf.value }
     requires clear { IsClearOf (root_block leaf.value).key (blocks (side at.old)) }
     requires height { height_of (side at.old) < MAX_HEIGHT }
-    requires count_fits { count.old + height_of (side at.old) ≤ MAX }
+    requires count_fits { count.old + height_of (side at.old) < MAX }
     ensures some { IsSome at.new }
     ensures blocks { blocks (side at.new) ≡ insert_block (root_block leaf.value) (blocks (side at.old)) }
     ensures grows { Grows (side at.old) (side at.new) result }

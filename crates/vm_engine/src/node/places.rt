@@ -4,12 +4,12 @@
 //! write the place into an `Option` of their caller, because returning it would copy 32 bytes at
 //! every level. Before a call enters a child, `may_fit` checks that the child exists and that its
 //! summary fits the request.
-ghost use Rattle.std.specs.Prelude.{◌≡◌, ◌+◌, ◌<◌, ◌≤◌, true, false, None, MatchOption};
+ghost use Rattle.std.specs.Prelude.{◌≡◌, ◌+◌, ◌<◌, true, false, None, IfSome, MatchOption};
 ghost use Rattle.vm_ranges.specs.Range.{MAX};
 ghost use Rattle.vm_ranges.specs.Alignment.{IsAlignment};
 ghost use Rattle.vm_engine.specs.Tree.Fit.{FindsLowestFit, FindsHighestFit};
 ghost use Rattle.vm_engine.specs.Engine.Place.{FindsFirst, FindsLast};
-ghost use Rattle.vm_engine.specs.Tree.Shape.{blocks, node_count};
+ghost use Rattle.vm_engine.specs.Tree.Shape.{blocks, node_count, IsTree};
 ghost use Rattle.vm_engine.specs.Counts.NodeCounts.{may_fit_in, nodes_of_first, nodes_of_last};
 ghost use Rattle.vm_engine.specs.Engine.NodeFields.{side};
 
@@ -100,8 +100,9 @@ pub(crate) fn first_place(
 ) -> Option<Place>
     requires sized { 0 < size }
     requires aligned { IsAlignment alignment }
-    requires count_fits { count.old + node_count (side tree.now) ≤ MAX }
+    requires count_fits { count.old + node_count (side tree.now) < MAX }
     ensures place { FindsFirst size alignment (blocks (side tree.now)) result }
+    ensures tree { IfSome result (λ _. IsTree (side tree.now)) }
     ensures count { count.new ≡ count.old + nodes_of_first size alignment (side tree.now) }
 {
     let mut found = None;
@@ -121,8 +122,9 @@ pub(crate) fn last_place(
 ) -> Option<Place>
     requires sized { 0 < size }
     requires aligned { IsAlignment alignment }
-    requires count_fits { count.old + node_count (side tree.now) ≤ MAX }
+    requires count_fits { count.old + node_count (side tree.now) < MAX }
     ensures place { FindsLast size alignment (blocks (side tree.now)) result }
+    ensures tree { IfSome result (λ _. IsTree (side tree.now)) }
     ensures count { count.new ≡ count.old + nodes_of_last size alignment (side tree.now) }
 {
     let mut found = None;
@@ -140,9 +142,10 @@ impl InnerNode {
         requires aligned { IsAlignment alignment }
         requires may_fit { may_fit_in size alignment self.now ≡ true }
         requires none_yet { found.old ≡ None }
-        requires count_fits { count.old + node_count self.now ≤ MAX }
+        requires count_fits { count.old + node_count self.now < MAX }
         ensures place { FindsFirst size alignment (blocks self.now) found.new }
         ensures count { count.new ≡ count.old + nodes_of_first size alignment self.now }
+        ensures tree { IsTree self.now }
     {
         self.enter(count);
         if let Some(left) = may_fit(&self.left, size, alignment) {
@@ -170,9 +173,10 @@ impl InnerNode {
         requires aligned { IsAlignment alignment }
         requires may_fit { may_fit_in size alignment self.now ≡ true }
         requires none_yet { found.old ≡ None }
-        requires count_fits { count.old + node_count self.now ≤ MAX }
+        requires count_fits { count.old + node_count self.now < MAX }
         ensures place { FindsLast size alignment (blocks self.now) found.new }
         ensures count { count.new ≡ count.old + nodes_of_last size alignment self.now }
+        ensures tree { IsTree self.now }
     {
         self.enter(count);
         if let Some(right) = may_fit(&self.right, size, alignment) {

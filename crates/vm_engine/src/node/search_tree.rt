@@ -1,20 +1,20 @@
 //! The usual calls of a search tree: searches, insertions, deletions and marks by key.
 //!
 //! The allocator makes none of these calls. They exist for the tests of the tree.
-ghost use Rattle.std.specs.Prelude.{◌≡◌, ◌+◌, ◌*◌, ◌<◌, ◌≤◌, [], ◌↔◌, None, IsNone, IfOk, IfErr, OnOk, OnErr};
+ghost use Rattle.std.specs.Prelude.{◌≡◌, ◌+◌, ◌*◌, ◌<◌, [], None, IfOk, IfErr, OnOk, OnErr};
 ghost use Rattle.std.specs.Option.{option_map};
 ghost use Rattle.vm_ranges.specs.Range.{MAX};
 ghost use Rattle.vm_engine.specs.Tree.BlockList.{IsClearOf, insert_block, replace_block, find_key};
-ghost use Rattle.vm_engine.specs.Tree.Shape.{MAX_HEIGHT, Tip, blocks, height_of, root_block, IsTree};
+ghost use Rattle.vm_engine.specs.Tree.Shape.{MAX_HEIGHT, blocks, height_of, root_block, IsTree};
 ghost use Rattle.vm_engine.specs.Engine.Changes.{IsLeaf, Grows, Shrinks};
 ghost use Rattle.vm_engine.specs.Engine.NodeAnswer.{first_overlap, Inserts, FindsOverlap, RefusesKey, Marks, MarksBlock};
 ghost use Rattle.vm_engine.specs.Counts.NodeCounts.{nodes_down, nodes_to, nodes_across, nodes_to_delete};
 ghost use Rattle.vm_engine.specs.Engine.NodeFields.{side};
 
+use super::InnerNode;
 use super::delete::delete_at;
 use super::link::link_at;
 use super::summary::{Change, free_summary_of, refresh_free, summary_of};
-use super::{InnerNode, recall_invariant};
 use crate::Steps;
 use crate::ordering::{compare, ends_before};
 use std::alloc::Global;
@@ -32,7 +32,7 @@ impl InnerNode {
         requires leaf { IsLeaf leaf.value }
         requires clear { IsClearOf (root_block leaf.value).key (blocks tree.value) }
         requires height { height_of tree.value < MAX_HEIGHT }
-        requires count_fits { count.old + height_of tree.value ≤ MAX }
+        requires count_fits { count.old + height_of tree.value < MAX }
         ensures blocks { blocks result.value ≡ insert_block (root_block leaf.value) (blocks tree.value) }
         ensures grows { Grows tree.value result.value Change.Height }
         ensures count { count.new ≡ count.old + nodes_down (root_block leaf.value).key tree.value }
@@ -57,7 +57,7 @@ impl InnerNode {
         count: &mut Steps,
     ) -> std::result::Result<Box<InnerNode>, (Error, Box<InnerNode>)>
         requires height { height_of tree.value < MAX_HEIGHT }
-        requires count_fits { count.old + 2 * height_of tree.value ≤ MAX }
+        requires count_fits { count.old + 2 * height_of tree.value < MAX }
         ensures inserted { IfOk result (λ t. Inserts tree.value key node_state t.value) }
         ensures refused { IfErr result (λ r. RefusesKey key tree.value r.0) }
         ensures unchanged { IfErr result (λ r. r.1.value ≡ tree.value) }
@@ -83,23 +83,21 @@ impl InnerNode {
         key: &RangeInclusive,
         count: &mut Steps,
     ) -> Option<Box<InnerNode>>
-        requires { count.old + height_of tree.value ≤ MAX }
+        requires { count.old + height_of tree.value < MAX }
         ensures blocks { blocks (side result) ≡ replace_block key.now [] (blocks tree.value) }
         ensures unchanged { find_key key.now (blocks tree.value) ≡ None → side result ≡ tree.value }
-        ensures none { IsNone result ↔ (side result ≡ Tip) }
         ensures shrinks { Shrinks tree.value (side result) Change.Height }
         ensures count { count.new ≡ count.old + nodes_to_delete key.now tree.value }
     {
         let mut at = Some(tree);
         delete_at(&mut at, key, count);
-        recall_invariant(&at);
         at
     }
 
     /// Returns the node with exactly this key, or `None` if there is no such node.
     #[tactic(auto, using(crate::proofs::Blocks::Replacement::findings, crate::proofs::Counts::NodeCountCases::nodes_to_cases))]
     pub(crate) fn search(&self, key: &RangeInclusive, count: &mut Steps) -> Option<&InnerNode>
-        requires { count.old + height_of self.now ≤ MAX }
+        requires { count.old + height_of self.now < MAX }
         ensures found { find_key key.now (blocks self.now) ≡ option_map (λ n. root_block n.now) result }
         ensures count { count.new ≡ count.old + nodes_to key.now self.now }
     {
@@ -122,7 +120,7 @@ impl InnerNode {
     /// Returns the first key on the path that overlaps `new`, or `None` if there is no such key.
     #[tactic(auto, using(crate::proofs::Nodes::FirstOverlaps::first_overlaps, crate::proofs::Counts::NodeCountCases::nodes_across_cases))]
     fn first_overlap(&self, new: &RangeInclusive, count: &mut Steps) -> Option<RangeInclusive>
-        requires { count.old + height_of self.now ≤ MAX }
+        requires { count.old + height_of self.now < MAX }
         ensures overlap { result ≡ first_overlap new.now self.now }
         ensures overlaps { FindsOverlap new.now result (blocks self.now) }
         ensures count { count.new ≡ count.old + nodes_across new.now self.now }
@@ -152,7 +150,7 @@ impl InnerNode {
         key: &RangeInclusive,
         count: &mut Steps,
     ) -> Result<()>
-        requires { count.old + height_of self.old ≤ MAX }
+        requires { count.old + height_of self.old < MAX }
         ensures marks { Marks (find_key key.now (blocks self.old)) key.now result self.old self.new }
         ensures height { height_of self.new ≡ height_of self.old }
         ensures tree { IsTree self.new }

@@ -11,7 +11,7 @@ ghost use Rattle.std.specs.Prelude.{◌≡◌, ◌+◌, ◌*◌, ◌<◌, ◌≤
 ghost use Rattle.vm_ranges.specs.Range.{MAX};
 ghost use Rattle.vm_engine.specs.Tree.BlockList.{insert_all, AreClearOf};
 ghost use Rattle.vm_engine.specs.Engine.SplitBlocks.{with_split, AreLeaves, CanSplit};
-ghost use Rattle.vm_engine.specs.Tree.Shape.{MAX_HEIGHT, blocks, height_of, root_block};
+ghost use Rattle.vm_engine.specs.Tree.Shape.{MAX_HEIGHT, blocks, height_of, root_block, IsTree};
 ghost use Rattle.vm_engine.specs.Engine.Changes.{IsLeaf, Grows};
 ghost use Rattle.vm_engine.specs.Counts.NodeCounts.{nodes_to_link, nodes_to_link_both, nodes_to_split};
 ghost use Rattle.vm_engine.specs.Engine.NodeFields.{side};
@@ -19,7 +19,7 @@ ghost use Rattle.vm_engine.specs.Engine.NodeFields.{side};
 use super::balance::update;
 use super::link::link_at;
 use super::summary::{Change, free_summary_of, refresh_free, summary_of};
-use super::{Child, InnerNode, recall_invariant};
+use super::{Child, InnerNode};
 use crate::Steps;
 use crate::ordering::compare;
 use std::cmp::Ordering;
@@ -38,14 +38,14 @@ pub(crate) struct Rest {
 #[tactic(auto, using(crate::proofs::Splitting::SplitTrees::leaves))]
 fn link_if_some(child: &mut Child, leaf: Child, count: &mut Steps)
     requires leaf { IfSome leaf (λ n. IsLeaf n.value) }
+    requires tree { IsTree (side child.old) }
     requires clear { AreClearOf (blocks (side leaf)) (blocks (side child.old)) }
     requires height { height_of (side child.old) < MAX_HEIGHT }
-    requires count_fits { count.old + height_of (side child.old) ≤ MAX }
+    requires count_fits { count.old + height_of (side child.old) < MAX }
     ensures blocks { blocks (side child.new) ≡ insert_all (blocks (side leaf)) (blocks (side child.old)) }
     ensures grows { Grows (side child.old) (side child.new) Change.Height }
     ensures count { count.new ≡ count.old + nodes_to_link (side leaf) (side child.old) }
 {
-    recall_invariant(child);
     if let Some(leaf) = leaf {
         link_at(child, leaf, count);
     }
@@ -78,7 +78,7 @@ fn split_here(at: &mut Child, split: &mut Split, count: &mut Steps) -> Change
     requires leaves { AreLeaves split.old.rest }
     requires can_be_split { CanSplit (blocks (side at.old)) (root_block (side at.old)).key split.old.choice.range split.old.rest }
     requires height { height_of (side at.old) < MAX_HEIGHT }
-    requires count_fits { count.old + 2 * height_of (side at.old) ≤ MAX + 1 }
+    requires count_fits { count.old + 2 * height_of (side at.old) ≤ MAX }
     ensures blocks { blocks (side at.new)
         ≡ with_split (root_block (side at.old)).key split.old.choice.range split.old.rest (blocks (side at.old)) }
     ensures grows { Grows (side at.old) (side at.new) result }
@@ -87,7 +87,6 @@ fn split_here(at: &mut Child, split: &mut Split, count: &mut Steps) -> Change
 {
     let Some(tree) = at else { unreachable!() };
     let tree: &mut InnerNode = tree;
-    let _ = &tree.height;
     tree.key = split.choice.range;
     tree.node_state = NodeState::Allocated;
     link_if_some(&mut tree.left, split.rest.before.take(), count);
@@ -111,7 +110,7 @@ pub(crate) fn split_at(at: &mut Child, split: &mut Split, count: &mut Steps) -> 
     requires leaves { AreLeaves split.old.rest }
     requires can_be_split { CanSplit (blocks (side at.old)) split.old.choice.key split.old.choice.range split.old.rest }
     requires height { height_of (side at.old) < MAX_HEIGHT }
-    requires count_fits { count.old + 2 * height_of (side at.old) ≤ MAX }
+    requires count_fits { count.old + 2 * height_of (side at.old) < MAX }
     ensures blocks { blocks (side at.new)
         ≡ with_split split.old.choice.key split.old.choice.range split.old.rest (blocks (side at.old)) }
     ensures grows { Grows (side at.old) (side at.new) result }

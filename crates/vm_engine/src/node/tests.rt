@@ -92,6 +92,7 @@ fn expect_overlap(rt: &impl Abort, alloc: Global, tree: Box<InnerNode>, key: Key
 /// Removes a key, and returns the tree. Other keys must be left.
 fn deleted(rt: &impl Abort, tree: Box<InnerNode>, key: Key) -> Box<InnerNode> {
     let height = tree.height();
+    assert!(rt; height <= 49);
     let mut count = Steps::start();
     let tree = InnerNode::delete(tree, &range(rt, key), &mut count).expect(
         rt,
@@ -104,7 +105,7 @@ fn deleted(rt: &impl Abort, tree: Box<InnerNode>, key: Key) -> Box<InnerNode> {
 
 /// Searches a key. Returns the state of its node and whether it is a leaf.
 fn found(rt: &impl Abort, tree: &InnerNode, key: Key) -> Option<(NodeState, bool)> {
-    let _ = tree.height();
+    assert!(rt; tree.height() <= 49);
     let node = tree.search(&range(rt, key), &mut Steps::start())?;
     Some((node.state(), node.height() == 1))
 }
@@ -122,7 +123,7 @@ fn expect_root(rt: &impl Abort, tree: &InnerNode, key: Key, height: u64, of: &im
 
 /// Returns the key of the tree that contains `key`.
 fn superset(rt: &impl Abort, tree: &InnerNode, key: Key) -> Option<Key> {
-    let _ = tree.height();
+    assert!(rt; tree.height() <= 49);
     let key = tree
         .search_superset(&range(rt, key), &mut Steps::start())?
         .key();
@@ -195,7 +196,7 @@ fn test_tree_insert_balanced(rt: HostRuntime) {
         (0x311, 0x33F),
     ];
     let tree = tree_of(&rt, rt.alloc(), first, &keys);
-    let _ = tree.height();
+    assert!(rt; tree.height() <= 49);
     let tree = InnerNode::delete_root(tree, &mut Steps::start()).expect(&rt, "four keys are left");
     assert!(rt; is_balanced(&tree));
     expect_eq(&rt, &found(&rt, &tree, first), &None, &first);
@@ -239,7 +240,7 @@ fn test_tree_insert_duplicate_negative(rt: HostRuntime) {
 fn test_tree_mark_as_allocated_invalid_transition(rt: HostRuntime) {
     let key = (0x100, 0x110);
     let mut tree = tree_of(&rt, rt.alloc(), key, &[]);
-    let _ = tree.height();
+    assert!(rt; tree.height() <= 49);
     let key = range(&rt, key);
     let error = Error::InvalidStateTransition(key, NodeState::Allocated);
     let result = tree.mark_as_allocated(&key, &mut Steps::start());
@@ -250,7 +251,7 @@ fn test_tree_mark_as_allocated_invalid_transition(rt: HostRuntime) {
 fn test_tree_mark_as_allocated_resource_not_available(rt: HostRuntime) {
     let mut tree = tree_of(&rt, rt.alloc(), (0x100, 0x110), &[]);
     for key in [(0x111, 0x112), (0x90, 0x92)] {
-        let _ = tree.height();
+        assert!(rt; tree.height() <= 49);
         let result = tree.mark_as_allocated(&range(&rt, key), &mut Steps::start());
         expect_eq(&rt, &result, &Err(Error::ResourceNotAvailable), &key);
     }
@@ -260,7 +261,7 @@ fn test_tree_mark_as_allocated_resource_not_available(rt: HostRuntime) {
 fn test_tree_mark_as_allocated(rt: HostRuntime) {
     let key = (0x200, 0x2FF);
     let mut tree = tree_of(&rt, rt.alloc(), (0x100, 0x110), &[key]);
-    let _ = tree.height();
+    assert!(rt; tree.height() <= 49);
     expect_leaf(&rt, &tree, key, NodeState::Free);
     let result = tree.mark_as_allocated(&range(&rt, key), &mut Steps::start());
     expect_eq(&rt, &result, &Ok(()), &key);

@@ -3,7 +3,7 @@
 //! The free summaries on the path can only rise, to include the new range. So each is updated
 //! before the child is entered, nothing is left to do after it, and the recursion compiles to a
 //! loop.
-ghost use Rattle.std.specs.Prelude.{◌≡◌, ◌+◌, ◌≤◌};
+ghost use Rattle.std.specs.Prelude.{◌≡◌, ◌+◌, ◌<◌};
 ghost use Rattle.vm_ranges.specs.Range.{MAX};
 ghost use Rattle.vm_engine.specs.Tree.Block.{free_length, free_block};
 ghost use Rattle.vm_engine.specs.Tree.Multiples.{free_alignments};
@@ -33,7 +33,7 @@ fn widen_at(
     requires can { CanWiden (blocks (side at.old)) held.now range.now }
     requires max_free { free.now.max_free ≡ free_length (free_block range.now) }
     requires alignments { free.now.alignments ≡ free_alignments (free_block range.now) }
-    requires count_fits { count.old + height_of (side at.old) ≤ MAX }
+    requires count_fits { count.old + height_of (side at.old) < MAX }
     ensures widened { Widens (side at.old) held.now range.now (side at.new) }
     ensures count { count.new ≡ count.old + nodes_to held.now (side at.old) }
 {
@@ -62,7 +62,7 @@ pub(crate) fn widen(
     count: &mut Steps,
 )
     requires can { CanWiden (blocks (side root.old)) held.now range.now }
-    requires count_fits { count.old + height_of (side root.old) ≤ MAX }
+    requires count_fits { count.old + height_of (side root.old) < MAX }
     ensures widened { Widens (side root.old) held.now range.now (side root.new) }
     ensures count { count.new ≡ count.old + nodes_to held.now (side root.old) }
 {

@@ -2,6 +2,7 @@
 //! allocate.
 ghost use Rattle.std.specs.Prelude.{◌≡◌, ◌≤◌, ◌+◌, ◌<◌, ◌^◌, IfSome, is_some};
 ghost use Rattle.serde_json.specs.View.{view};
+ghost use Rattle.vm_ranges.specs.Range.{IsRange};
 ghost use Rattle.vm_engine.specs.Tree.Shape.{MAX_HEIGHT};
 ghost use Rattle.vm_engine.specs.Checks.NodeChecks.{advance, is_correct_height, checked_subtree, checked_tree_of};
 
@@ -14,7 +15,8 @@ use vm_ranges::{NodeState, RangeInclusive};
 ///
 /// It does not allocate, and descends at most 50 levels of the value.
 pub(super) fn is_tree_of(space: &RangeInclusive, value: &Value) -> bool
-    ensures { result ≡ is_some (checked_tree_of space.now (view value.now)) }
+    ensures value { result ≡ is_some (checked_tree_of space.now (view value.now)) }
+    ensures space { IsRange space.now.start space.now.end }
 {
     let before = Cursor {
         next: space.start().into(),

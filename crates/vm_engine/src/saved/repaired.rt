@@ -13,7 +13,6 @@ ghost use Rattle.vm_engine.specs.Checks.KeyChecks.{advance_key, checked_keys, Ha
 
 use super::node::decode_node;
 use crate::IntervalTree;
-use crate::ordering::recall_invariant;
 use serde_json::Value;
 use std::alloc::{AllocError, Global};
 use vm_ranges::{NodeState, RangeInclusive, ValueError};

@@ -11,7 +11,6 @@ ghost use Rattle.vm_engine.specs.Checks.ValueParts.{HasShapeWithin};
 use crate::IntervalTree;
 use crate::node::walks::encoding::encode;
 use crate::node::{Child, InnerNode, MAX_HEIGHT};
-use crate::ordering::recall_invariant;
 use crate::saved::check::is_tree_of;
 use crate::saved::node::decode_node;
 use serde_json::Value;
@@ -47,7 +46,6 @@ impl IntervalTree {
     ) -> std::result::Result<Self, ValueError>
         ensures { Reads (EncodesSpaceTree (view value.now) space.now) result }
     {
-        recall_invariant(space);
         if !is_tree_of(space, value) {
             return Err(ValueError::NotAState);
         }

@@ -2,27 +2,20 @@
 ghost use Rattle.std.specs.Prelude.{◌≡◌, ◌↔◌, IsTrue};
 ghost use Rattle.vm_engine.specs.Engine.NodeFields.{side};
 
-use crate::node::{Child, recall_invariant};
+use crate::node::{Child, height};
 
 /// Returns `true` if two trees have the same nodes.
 pub(crate) fn same(a: &Child, b: &Child) -> bool
     ensures { IsTrue result ↔ (side a.now ≡ side b.now) }
 {
     match (a, b) {
-        (None, None) => true,
         (Some(a), Some(b)) => {
             a.key == b.key
                 && a.node_state == b.node_state
                 && same(&a.left, &b.left)
                 && same(&a.right, &b.right)
         }
-        (None, Some(_)) => {
-            recall_invariant(b);
-            false
-        }
-        (Some(_), None) => {
-            recall_invariant(a);
-            false
-        }
+        // Only an absent child has height 0.
+        _ => height(a) == height(b),
     }
 }

@@ -6,20 +6,20 @@ use Rattle.vm_engine.proofs.Reading.ReadSpaces.{none_encoded, has_shape, some_en
 use Rattle.vm_engine.proofs.interval_tree.IntervalTree.from_root_value.Goals as goal
 
 pub returns-then-not-is_tree_of : goal.returns-then-not-is_tree_of
-returns-then-not-is_tree_of c = none_encoded (view c.args.value.now) c.args.space.now (sym c.if-not-is_tree_of.ensures)
+returns-then-not-is_tree_of c = none_encoded (view c.args.value.now) c.args.space.now (sym c.if-not-is_tree_of.ensures.value)
 
 pub build-requires : goal.build-requires
-build-requires c = has_shape (view c.args.value.now) c.args.space.now c.recall_invariant.ensures (sym c.if-not-is_tree_of.ensures)
+build-requires c = has_shape (view c.args.value.now) c.args.space.now c.if-not-is_tree_of.ensures.space (sym c.if-not-is_tree_of.ensures.value)
 
 pub invariant_of-result : goal.invariant_of-result
 invariant_of-result c =
-    encoded_tree (view c.args.value.now) c.args.space.now (side c.in_ok-root.root) c.recall_invariant.ensures
-    (built_states (view c.args.value.now) c.args.space.now (side c.in_ok-root.root) c.recall_invariant.ensures (sym c.if-not-is_tree_of.ensures) c.in_ok-root.ensures)
+    encoded_tree (view c.args.value.now) c.args.space.now (side c.in_ok-root.root) c.if-not-is_tree_of.ensures.space
+    (built_states (view c.args.value.now) c.args.space.now (side c.in_ok-root.root) c.if-not-is_tree_of.ensures.space (sym c.if-not-is_tree_of.ensures.value) c.in_ok-root.ensures)
 
 pub returns : goal.returns
-returns c = built_states (view c.args.value.now) c.args.space.now (side c.in_ok-root.root) c.recall_invariant.ensures (sym c.if-not-is_tree_of.ensures) c.in_ok-root.ensures
+returns c = built_states (view c.args.value.now) c.args.space.now (side c.in_ok-root.root) c.if-not-is_tree_of.ensures.space (sym c.if-not-is_tree_of.ensures.value) c.in_ok-root.ensures
 
 pub returns-in_err-root : goal.returns-in_err-root
 returns-in_err-root c =
     let is : c.from_residual.result ≡ Err OutOfMemory = search rules in
-    rw is (some_encoded (view c.args.value.now) c.args.space.now c.recall_invariant.ensures (sym c.if-not-is_tree_of.ensures))
+    rw is (some_encoded (view c.args.value.now) c.args.space.now c.if-not-is_tree_of.ensures.space (sym c.if-not-is_tree_of.ensures.value))

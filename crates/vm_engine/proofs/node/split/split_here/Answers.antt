@@ -7,7 +7,14 @@ use Rattle.vm_ranges.specs.declared.state.NodeState.TheVariants.{Allocated}
 use Rattle.vm_engine.specs.Tree.Shape.{blocks}
 use Rattle.vm_engine.specs.Tree.Block.{held_block}
 use Rattle.vm_engine.specs.Engine.NodeFields.{side, shape_of}
+use Rattle.vm_engine.proofs.Nodes.SideChange.{left_tree, right_tree}
 use Rattle.vm_engine.proofs.node.split.split_here.Goals as goal
+
+pub link_if_some-requires-clause-tree : goal.link_if_some-requires-clause-tree
+link_if_some-requires-clause-tree c = left_tree (side c.tree.inside.left) _ (side c.tree.inside.right) c.tree.invariant.tree
+
+pub link_if_some-requires-2-clause-tree : goal.link_if_some-requires-2-clause-tree
+link_if_some-requires-2-clause-tree c = right_tree (side c.tree.inside.left) _ (side c.tree.inside.right) c.tree.invariant.tree
 
 pub link_if_some-requires-clause-clear : goal.link_if_some-requires-clause-clear
 link_if_some-requires-clause-clear c =
