@@ -3,7 +3,7 @@
 //! A range that fills its free block only changes the state of the block. Any other range splits
 //! the block. All memory for a split is allocated before the first change, so an error changes
 //! nothing.
-ghost use Rattle.std.specs.Prelude.{◌≡◌, ◌+◌, ◌*◌, ◌<◌, Err, IfOk, IfErr, IfSome, OnErr, OnOk};
+ghost use Rattle.std.specs.Prelude.{◌≡◌, ◌+◌, ◌*◌, ◌<◌, ◌≤◌, Err, IfOk, IfErr, IfSome, OnErr, OnOk};
 ghost use Rattle.vm_ranges.specs.Range.{MAX};
 ghost use Rattle.vm_engine.specs.Answer.{AllocatesAt};
 ghost use Rattle.vm_engine.specs.Tree.Block.{free_block};
