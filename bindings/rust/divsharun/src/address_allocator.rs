@@ -1,5 +1,6 @@
-use crate::error::{or_abort, or_try_error, out_of_memory};
-use crate::{AllocPolicy, Layout, RangeInclusive, Result, TryError};
+use crate::error::{or_abort, or_try_error, out_of_memory, unless_out_of_memory};
+use crate::{AllocPolicy, Constraint, Layout, RangeInclusive, Result, TryError};
+use alloc::vec::Vec;
 use core::fmt;
 use core::iter::FusedIterator;
 use rattle::Global;
@@ -56,6 +57,80 @@ impl AddressAllocator {
         or_try_error(proved::AddressAllocator::new(Global, base, size)).map(AddressAllocator)
     }
 
+    /// Creates an allocator for the `size` addresses starting at `base`, with these ranges
+    /// allocated. They must be in ascending order.
+    ///
+    /// The allocator is equal to one that allocated the ranges by `ExactMatch`. Its tree is as low
+    /// as possible. The time is linear in the number of ranges.
+    ///
+    /// # Errors
+    ///
+    /// In this order:
+    /// - `Underflow` if `size` is 0.
+    /// - `Overflow` if the last address would be past `u64::MAX`.
+    /// - For the first range that cannot be allocated:
+    ///   - `ResourceNotAvailable` if it does not start after the end of the range before it.
+    ///   - `Overflow` if it starts at `u64::MAX`.
+    ///   - `ResourceNotAvailable` if it is outside the space.
+    ///   - `Overflow` if it ends at `u64::MAX`.
+    /// - `Overflow` if there are 2^49 or more ranges and gaps.
+    ///
+    /// # Example
+    ///
+    /// ```rust
+    /// use divsharun::{AddressAllocator, AllocPolicy, Error, RangeInclusive};
+    ///
+    /// let [low, high] = [(0x1000, 0x1fff), (0x3000, 0x3fff)]
+    ///     .map(|(start, end)| RangeInclusive::new(start, end).expect("a range"));
+    /// let mut ports = AddressAllocator::with_held(0, 0x4000, &[low, high])?;
+    /// assert!(ports.held_ranges().eq([low, high]));
+    ///
+    /// assert_eq!(ports.allocate(0x1000, 1, AllocPolicy::LastMatch)?.start(), 0x2000);
+    /// assert_eq!(
+    ///     AddressAllocator::with_held(0, 0x4000, &[high, low]),
+    ///     Err(Error::ResourceNotAvailable)
+    /// );
+    /// # Ok::<(), Error>(())
+    /// ```
+    pub fn with_held(base: u64, size: u64, held: &[RangeInclusive]) -> Result<Self> {
+        unless_out_of_memory(Self::try_with_held(base, size, held))
+    }
+
+    /// Creates an allocator like [`with_held`](Self::with_held), but returns an error if an
+    /// allocation fails.
+    ///
+    /// # Errors
+    ///
+    /// In this order:
+    /// - `OutOfMemory` if the allocation of a copy of the list fails.
+    /// - `Refused` with `Underflow`, `Overflow` or `ResourceNotAvailable`, if `with_held` returns
+    ///   that error.
+    /// - `OutOfMemory` if the allocation of a node fails. The nodes built so far are freed.
+    ///
+    /// # Example
+    ///
+    /// ```rust
+    /// use divsharun::{AddressAllocator, Error, RangeInclusive, TryError};
+    ///
+    /// let held = [RangeInclusive::new(0x1000, 0x1fff)?];
+    /// assert_eq!(AddressAllocator::try_with_held(0, 0x4000, &held)?.held_count(), 1);
+    /// assert_eq!(
+    ///     AddressAllocator::try_with_held(0, 0x1800, &held),
+    ///     Err(TryError::Refused(Error::ResourceNotAvailable))
+    /// );
+    /// # Ok::<(), TryError>(())
+    /// ```
+    pub fn try_with_held(
+        base: u64,
+        size: u64,
+        held: &[RangeInclusive],
+    ) -> core::result::Result<Self, TryError> {
+        let mut ranges = list_for(held.len())?;
+        ranges.extend(held.iter().map(|range| range.0));
+        let answer = proved::AddressAllocator::with_held(Global, base, size, &ranges);
+        or_try_error(answer).map(AddressAllocator)
+    }
+
     /// Allocates `size` free addresses that start at a multiple of `alignment`, and returns their
     /// range.
     ///
@@ -104,6 +179,75 @@ impl AddressAllocator {
         policy: AllocPolicy,
     ) -> core::result::Result<RangeInclusive, TryError> {
         or_try_error(self.0.allocate(Global, size, alignment, policy)).map(RangeInclusive)
+    }
+
+    /// Allocates a range for each request, in their order, and returns the ranges. Each range is
+    /// where [`allocate`](Self::allocate) places it after the requests before it.
+    ///
+    /// # Errors
+    ///
+    /// - `Overflow`, `ResourceNotAvailable` or `InvalidStateTransition` if `allocate` returns that
+    ///   error for a request. The first request that fails decides.
+    ///
+    /// An error allocates no range. The [`height`](Self::height) can differ afterwards.
+    ///
+    /// # Example
+    ///
+    /// ```rust
+    /// use divsharun::{AddressAllocator, AllocPolicy, Constraint, Error};
+    ///
+    /// let mut mmio = AddressAllocator::new(0xd000_0000, 0x4000)?;
+    /// let registers = Constraint::new(0x1000, 0x1000, AllocPolicy::FirstMatch)?;
+    /// let buffer = Constraint::new(0x2000, 0x2000, AllocPolicy::LastMatch)?;
+    /// let bars = mmio.allocate_all(&[registers, buffer])?;
+    /// assert_eq!((bars[0].start(), bars[1].start()), (0xd000_0000, 0xd000_2000));
+    ///
+    /// // Only one of these two fits.
+    /// assert_eq!(mmio.allocate_all(&[registers, registers]), Err(Error::ResourceNotAvailable));
+    /// assert!(mmio.held_ranges().eq(bars));
+    /// # Ok::<(), Error>(())
+    /// ```
+    pub fn allocate_all(&mut self, requests: &[Constraint]) -> Result<Vec<RangeInclusive>> {
+        unless_out_of_memory(self.try_allocate_all(requests))
+    }
+
+    /// Allocates ranges like [`allocate_all`](Self::allocate_all), but returns an error if an
+    /// allocation fails.
+    ///
+    /// # Errors
+    ///
+    /// An error allocates no range. In this order:
+    /// - `OutOfMemory` if the allocation of a list fails.
+    /// - For the first request that fails:
+    ///   - `Refused` with `Overflow`, `ResourceNotAvailable` or `InvalidStateTransition`, if
+    ///     `allocate_all` returns that error.
+    ///   - `OutOfMemory` if the allocation of a node fails.
+    ///
+    /// # Example
+    ///
+    /// ```rust
+    /// use divsharun::{AddressAllocator, AllocPolicy, Constraint, Error, TryError};
+    ///
+    /// let mut space = AddressAllocator::try_new(0, 3)?;
+    /// let request = Constraint::new(2, 1, AllocPolicy::FirstMatch)?;
+    /// assert_eq!(
+    ///     space.try_allocate_all(&[request, request]),
+    ///     Err(TryError::Refused(Error::ResourceNotAvailable))
+    /// );
+    /// assert_eq!(space.try_allocate_all(&[request])?[0].end(), 1);
+    /// # Ok::<(), TryError>(())
+    /// ```
+    pub fn try_allocate_all(
+        &mut self,
+        requests: &[Constraint],
+    ) -> core::result::Result<Vec<RangeInclusive>, TryError> {
+        // Nothing can fail after the allocation of the ranges.
+        let mut ranges = list_for(requests.len())?;
+        let mut proved_requests = list_for(requests.len())?;
+        proved_requests.extend(requests.iter().map(|request| request.0));
+        let allocated = or_try_error(self.0.allocate_all(Global, &proved_requests))?;
+        ranges.extend(allocated.iter().map(|range| RangeInclusive(*range)));
+        Ok(ranges)
     }
 
     /// Allocates a range like [`allocate`](Self::allocate), and also returns the number of tree
@@ -204,6 +348,14 @@ impl AddressAllocator {
     pub fn try_clone(&self) -> core::result::Result<Self, TryError> {
         or_try_error(self.0.try_clone(Global)).map(AddressAllocator)
     }
+}
+
+/// Creates an empty list with memory for a number of values.
+fn list_for<T>(length: usize) -> core::result::Result<Vec<T>, TryError> {
+    let mut list = Vec::new();
+    list.try_reserve_exact(length)
+        .map_err(|_| TryError::OutOfMemory)?;
+    Ok(list)
 }
 
 impl Clone for AddressAllocator {

@@ -40,7 +40,7 @@ pub const DEFAULT_CONSTRAINT_ALIGN: u64 = proved::DEFAULT_CONSTRAINT_ALIGN;
 /// # Ok::<(), Error>(())
 /// ```
 #[derive(Copy, Clone, PartialEq, Eq)]
-pub struct Constraint(proved::Constraint);
+pub struct Constraint(pub(crate) proved::Constraint);
 
 impl Constraint {
     /// Creates a request for `size` addresses that start at a multiple of `align`.

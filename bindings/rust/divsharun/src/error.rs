@@ -124,7 +124,8 @@ pub type Result<T> = core::result::Result<T, Error>;
 pub enum TryError {
     /// The error that the call without `try_` would return.
     Refused(Error),
-    /// An allocation failed. This error comes after every other one.
+    /// An allocation failed. This error comes after every other one. In a call with a list, that of
+    /// a copy of the list comes first.
     OutOfMemory,
 }
 
@@ -172,7 +173,12 @@ pub(crate) fn or_try_error<T>(answer: proved::Result<T>) -> core::result::Result
 
 /// Converts a result of the proved code. Ends the process if an allocation failed.
 pub(crate) fn or_abort<T>(answer: proved::Result<T>) -> Result<T> {
-    or_try_error(answer).map_err(|error| match error {
+    unless_out_of_memory(or_try_error(answer))
+}
+
+/// Converts a result of a `try_` call. Ends the process if an allocation failed.
+pub(crate) fn unless_out_of_memory<T>(answer: core::result::Result<T, TryError>) -> Result<T> {
+    answer.map_err(|error| match error {
         TryError::Refused(error) => error,
         TryError::OutOfMemory => out_of_memory(),
     })

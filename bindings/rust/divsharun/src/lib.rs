@@ -40,9 +40,11 @@
 //! - [`DeviceManager`];
 //! - of an [`IdAllocator`]: [`peek_id`](IdAllocator::peek_id) and
 //!   [`held_count`](IdAllocator::held_count);
-//! - of an [`AddressAllocator`]: [`held_ranges`](AddressAllocator::held_ranges),
-//!   [`holds`](AddressAllocator::holds), [`held_count`](AddressAllocator::held_count),
-//!   [`height`](AddressAllocator::height), [`layout`](AddressAllocator::layout),
+//! - of an [`AddressAllocator`]: [`with_held`](AddressAllocator::with_held),
+//!   [`allocate_all`](AddressAllocator::allocate_all),
+//!   [`held_ranges`](AddressAllocator::held_ranges), [`holds`](AddressAllocator::holds),
+//!   [`held_count`](AddressAllocator::held_count), [`height`](AddressAllocator::height),
+//!   [`layout`](AddressAllocator::layout),
 //!   [`allocate_counted`](AddressAllocator::allocate_counted),
 //!   [`free_counted`](AddressAllocator::free_counted) and the `try_` variants.
 //!
@@ -50,9 +52,11 @@
 //!
 //! If an allocation fails, the process ends, as with Rust's collections. To handle the error
 //! instead, use the `try_` variants: [`AddressAllocator::try_new`],
-//! [`try_allocate`](AddressAllocator::try_allocate) and [`try_clone`](AddressAllocator::try_clone).
-//! They return a [`TryError`] and change nothing on an error. Both kinds can be called on the same
-//! allocator.
+//! [`try_with_held`](AddressAllocator::try_with_held),
+//! [`try_allocate`](AddressAllocator::try_allocate),
+//! [`try_allocate_all`](AddressAllocator::try_allocate_all) and
+//! [`try_clone`](AddressAllocator::try_clone). They return a [`TryError`] and change nothing on an
+//! error. Both kinds can be called on the same allocator.
 //!
 //! [`IdAllocator`] and [`DeviceManager`] have no `try_` variants. They store freed ids in a
 //! [`BTreeSet`](alloc::collections::BTreeSet) and devices in a

@@ -4,8 +4,8 @@
 mod draw;
 
 use divsharun::{
-    AddressAllocator, AllocPolicy, DeviceManager, DeviceSlot, Error, IdAllocator, NodeState,
-    RangeInclusive,
+    AddressAllocator, AllocPolicy, Constraint, DeviceManager, DeviceSlot, Error, IdAllocator,
+    NodeState, RangeInclusive, TryError,
 };
 use draw::Draw;
 
@@ -73,7 +73,84 @@ fn answers_are_those_of_a_plain_model() {
         assert_eq!(space.held_count(), held.len() as u64);
     }
     held.sort();
-    assert!(space.held_ranges().eq(held));
+    assert!(space.held_ranges().eq(held.iter().copied()));
+    let created = AddressAllocator::with_held(BASE, WIDTH as u64, &held);
+    assert_eq!(created, Ok(space));
+}
+
+/// Makes lists of random requests in one call. If the model has no place for one of them, nothing
+/// is allocated.
+#[test]
+fn requests_are_allocated_together_or_not_at_all() {
+    let mut draw = Draw(5);
+    let mut refused = 0;
+    for _ in 0..2_000 {
+        let mut model = Model([None; WIDTH]);
+        let mut space = AddressAllocator::new(BASE, WIDTH as u64).unwrap();
+        let (mut requests, mut ranges) = (Vec::new(), Some(Vec::new()));
+        for _ in 0..draw.below(16) {
+            let (size, align) = (1 + draw.below(6), 1 << draw.below(3));
+            let at = BASE + draw.below(WIDTH as u64);
+            let policy = match draw.below(8) {
+                0 => AllocPolicy::ExactMatch(at - at % align),
+                1 => AllocPolicy::LastMatch,
+                _ => AllocPolicy::FirstMatch,
+            };
+            requests.push(Constraint::new(size, align, policy).unwrap());
+            ranges = ranges.and_then(|mut ranges| {
+                let start = model.place(size, align, policy)?;
+                let range = RangeInclusive::new(start, start + size - 1).unwrap();
+                model.set(&range, Some(start));
+                ranges.push(range);
+                Some(ranges)
+            });
+        }
+        let answer = space.allocate_all(&requests);
+        assert_eq!(answer.as_ref().ok(), ranges.as_ref());
+        refused += u64::from(answer.is_err());
+        let mut held = ranges.unwrap_or_default();
+        held.sort();
+        assert!(space.held_ranges().eq(held));
+    }
+    assert!((200..1_800).contains(&refused), "{refused} lists fail");
+}
+
+/// Checks each error of `with_held` and `allocate_all` in both forms.
+#[test]
+fn errors_of_calls_with_lists() {
+    use Error::{InvalidStateTransition, Overflow, ResourceNotAvailable, Underflow};
+
+    let range = |start, end| RangeInclusive::new(start, end).unwrap();
+    let max = u64::MAX;
+    for (base, size, held, error) in [
+        (16, 0, [range(4, 5), range(max, max)], Underflow),
+        (max, 2, [range(4, 5), range(4, 5)], Overflow),
+        (16, 16, [range(20, 23), range(23, 24)], ResourceNotAvailable),
+        (16, 16, [range(31, 31), range(max, max)], Overflow),
+        (16, 16, [range(20, 23), range(24, 32)], ResourceNotAvailable),
+        (max - 15, 16, [range(max - 15, max), range(4, 5)], Overflow),
+    ] {
+        let answer = AddressAllocator::with_held(base, size, &held);
+        assert_eq!(answer, Err(error));
+        let answer = AddressAllocator::try_with_held(base, size, &held);
+        assert_eq!(answer, Err(TryError::Refused(error)));
+    }
+
+    let exact = |start| Constraint::new(8, 8, AllocPolicy::ExactMatch(start)).unwrap();
+    let held = [range(16, 23)];
+    let mut space = AddressAllocator::with_held(0, 64, &held).unwrap();
+    for (start, error) in [
+        (16, InvalidStateTransition(held[0], NodeState::Allocated)),
+        (64, ResourceNotAvailable),
+        (max - 7, ResourceNotAvailable),
+        (0, InvalidStateTransition(range(0, 7), NodeState::Allocated)),
+    ] {
+        let requests = [exact(0), exact(start), exact(8)];
+        assert_eq!(space.allocate_all(&requests), Err(error));
+        let answer = space.try_allocate_all(&requests);
+        assert_eq!(answer, Err(TryError::Refused(error)));
+        assert!(space.held_ranges().eq(held));
+    }
 }
 
 #[test]

@@ -7,10 +7,12 @@
 mod refusing;
 
 use divsharun::{
-    AddressAllocator, AllocPolicy, DeviceManager, Error, IdAllocator, RangeInclusive, TryError,
+    AddressAllocator, AllocPolicy, Constraint, DeviceManager, Error, IdAllocator, RangeInclusive,
+    TryError,
 };
 use refusing::{blocks, refusing};
 use std::env;
+use std::fmt::Debug;
 use std::os::unix::process::ExitStatusExt;
 use std::process::Command;
 use AllocPolicy::{ExactMatch, FirstMatch, LastMatch};
@@ -26,10 +28,25 @@ type TriedCall = fn(&mut AddressAllocator) -> Tried;
 type EndedCall = fn(&mut AddressAllocator);
 
 /// Calls that return an error, each with the number of its allocations on [`two_held`]: one for a
-/// space, one for each free part of a gap that remains, one for each block of a copy.
-const TRIED: [(u64, TriedCall); 8] = [
+/// space, one for each free part of a gap that remains, one for each block of a copy or of a space
+/// with ranges. A call with ranges copies the list, and one with requests makes three lists.
+const TRIED: [(u64, TriedCall); 14] = [
     (1, |_| AddressAllocator::try_new(0, 64).map(drop)),
     (5, |space| space.try_clone().map(drop)),
+    (1, |_| AddressAllocator::try_with_held(0, 64, &[]).map(drop)),
+    (1 + 5, |_| {
+        AddressAllocator::try_with_held(0, 64, &both()).map(drop)
+    }),
+    (1 + 4, |_| {
+        AddressAllocator::try_with_held(16, 48, &both()).map(drop)
+    }),
+    (3 + 3, |space| {
+        space.try_allocate_all(&three_requests()).map(drop)
+    }),
+    (0, |space| space.try_allocate_all(&[]).map(drop)),
+    (3 + 1, |space| {
+        refused(space.try_allocate_all(&[request(4, FirstMatch), request(64, FirstMatch)]))
+    }),
     (1, |space| space.try_allocate(4, 1, FirstMatch).map(drop)),
     (1, |space| space.try_allocate(4, 1, LastMatch).map(drop)),
     (2, |space| space.try_allocate(4, 1, ExactMatch(4)).map(drop)),
@@ -42,9 +59,15 @@ const TRIED: [(u64, TriedCall); 8] = [
 
 /// Calls that end the process, each with the number of its allocations on [`two_held`]. A set or a
 /// map of the Rust standard library allocates one block for a few ids or devices.
-const ENDED: [(u64, EndedCall); 8] = [
+const ENDED: [(u64, EndedCall); 10] = [
     (1, |_| assert!(AddressAllocator::new(0, 64).is_ok())),
     (5, |space| drop(space.clone())),
+    (1 + 5, |_| {
+        assert!(AddressAllocator::with_held(0, 64, &both()).is_ok())
+    }),
+    (3 + 3, |space| {
+        assert!(space.allocate_all(&three_requests()).is_ok())
+    }),
     (1, |space| assert!(space.allocate(4, 1, FirstMatch).is_ok())),
     (2, |space| {
         assert!(space.allocate_counted(4, 1, ExactMatch(4)).0.is_ok())
@@ -79,10 +102,29 @@ fn two_held() -> AddressAllocator {
     space
 }
 
-/// Checks that the call returned an error other than `OutOfMemory`.
-fn refused(answer: Result<RangeInclusive, TryError>) -> Tried {
+/// Returns the ranges of [`two_held`].
+fn both() -> [RangeInclusive; 2] {
+    [16, 40].map(|start| RangeInclusive::new(start, start + 7).expect("a range"))
+}
+
+fn request(size: u64, policy: AllocPolicy) -> Constraint {
+    Constraint::new(size, 1, policy).expect("a request")
+}
+
+/// Returns requests that split a gap at its start and another in the middle, and fill the third.
+fn three_requests() -> [Constraint; 3] {
+    [
+        request(4, FirstMatch),
+        request(4, ExactMatch(28)),
+        request(16, LastMatch),
+    ]
+}
+
+/// Checks that the call returned an error other than `OutOfMemory`, which is returned.
+fn refused<T: Debug>(answer: Result<T, TryError>) -> Tried {
     match answer {
         Err(TryError::Refused(_)) => Ok(()),
+        Err(TryError::OutOfMemory) => Err(TryError::OutOfMemory),
         other => panic!("{other:?}"),
     }
 }
@@ -132,12 +174,13 @@ fn refuse_each_request() {
 /// Makes the calls that do not allocate, each of which would fail at its first allocation.
 fn no_request_is_made() {
     let (mut space, other) = (two_held(), two_held());
-    let held = [16, 40].map(|start| RangeInclusive::new(start, start + 7).expect("a range"));
+    let held = both();
     let ((), requests) = refusing(1, || {
         assert!(space.held_ranges().eq(held) && space.holds(&held[0]) && space == other);
         assert_eq!((space.held_count(), space.base(), space.end()), (2, 0, 63));
         assert_eq!(space.layout().blocks().count(), 5);
         assert!(space.cmp(&other).is_eq() && space.height() > 1);
+        assert_eq!(space.allocate_all(&[]), Ok(Vec::new()));
         assert_eq!(space.free(&held[0]), Ok(()));
         assert_eq!(space.free_counted(&held[1]).0, Ok(()));
         assert_eq!(space.free(&held[1]), Err(Error::ResourceNotAvailable));

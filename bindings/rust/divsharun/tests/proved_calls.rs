@@ -112,6 +112,29 @@ impl Spaces {
         }
     }
 
+    /// Makes up to three requests in one call.
+    fn allocate_all(&mut self, draw: &mut Draw) {
+        let (mut requests, mut proved_requests) = (Vec::new(), Vec::new());
+        for _ in 0..draw.below(4) {
+            let (size, align) = (1 + draw.below(6), 1 << draw.below(12));
+            let at = self.proved.base() + draw.below(WIDTH);
+            let policy = match draw.below(4) {
+                0 | 1 => AllocPolicy::FirstMatch,
+                2 => AllocPolicy::LastMatch,
+                _ => AllocPolicy::ExactMatch(at - at % align),
+            };
+            requests.push(Constraint::new(size, align, policy).unwrap());
+            proved_requests.push(proved::Constraint::new(size, align, policy).unwrap());
+        }
+        let proved = self.proved.allocate_all(Global, &proved_requests);
+        same(self.plain.allocate_all(&requests), &proved);
+        same(self.counted.allocate_all(&requests), &proved);
+        match self.or_try_error.try_allocate_all(&requests) {
+            Err(TryError::Refused(error)) => same(Err::<(), _>(error), proved),
+            answer => same(answer, proved),
+        }
+    }
+
     /// Frees an allocated range, a part of one, or any address.
     fn free(&mut self, draw: &mut Draw) {
         let at = self.proved.base() + draw.below(WIDTH);
@@ -158,6 +181,12 @@ impl Spaces {
             (*space == before.0, space.cmp(&before.0)),
             (*proved == before.1, proved.cmp(&before.1)),
         );
+        let held: Vec<_> = space.held_ranges().collect();
+        let proved_held: Vec<_> = proved.held_ranges().collect();
+        same(
+            AddressAllocator::with_held(space.base(), WIDTH, &held),
+            proved::AddressAllocator::with_held(Global, proved.base(), WIDTH, &proved_held),
+        );
     }
 }
 
@@ -171,8 +200,10 @@ fn address_calls() {
             let before = (spaces.or_try_error.try_clone().unwrap(), proved);
             for _ in 0..draw.below(40) {
                 spaces.allocate(&mut draw);
-                if draw.below(3) == 0 {
-                    spaces.free(&mut draw);
+                match draw.below(6) {
+                    0 | 1 => spaces.free(&mut draw),
+                    2 => spaces.allocate_all(&mut draw),
+                    _ => {}
                 }
             }
             spaces.compare(&before);
@@ -188,6 +219,25 @@ fn spaces() {
         same(&space, proved::AddressAllocator::new(Global, base, size));
         let or_try_error = AddressAllocator::try_new(base, size);
         assert_eq!(or_try_error, space.map_err(TryError::Refused));
+    }
+}
+
+#[test]
+fn spaces_with_ranges() {
+    let ranges: Vec<_> = pairs()
+        .filter_map(|(start, end)| range(start, end))
+        .collect();
+    for (base, size) in pairs() {
+        for (one, proved_one) in &ranges {
+            for (two, proved_two) in &ranges {
+                let (held, proved_held) = ([*one, *two], [*proved_one, *proved_two]);
+                let space = AddressAllocator::with_held(base, size, &held);
+                let proved = proved::AddressAllocator::with_held(Global, base, size, &proved_held);
+                same(&space, proved);
+                let or_try_error = AddressAllocator::try_with_held(base, size, &held);
+                assert_eq!(or_try_error, space.map_err(TryError::Refused));
+            }
+        }
     }
 }
 

@@ -81,6 +81,101 @@ fn new_spaces() {
     }
 }
 
+/// A space with allocated ranges has one node for each block.
+#[test]
+fn spaces_with_ranges() {
+    for s in SETTINGS {
+        let (end, high) = (s.key().end(), s.key().end() == u64::MAX);
+        let held: Vec<_> = s.space().held_ranges().collect();
+        let (first, last) = (held[0], held[held.len() - 1]);
+        let in_a_row: Vec<_> = (0..s.held)
+            .map(|number| range(s.base + number, s.base + number))
+            .collect();
+        let with_last = |key| [&held[..held.len() - 1], &[key][..]].concat();
+        let outside = if high { s.base - 1 } else { end + 1 };
+        let filled = range(last.start(), end);
+        let rows = [
+            (held.clone(), Ok(s.nodes())),
+            (Vec::new(), Ok(1)),
+            (in_a_row, Ok(s.held + 1)),
+            (
+                with_last(filled),
+                if high {
+                    Err(Overflow)
+                } else {
+                    Ok(s.nodes() - 1)
+                },
+            ),
+            (with_last(first), Err(ResourceNotAvailable)),
+            (
+                with_last(range(outside, outside)),
+                Err(ResourceNotAvailable),
+            ),
+            (with_last(range(u64::MAX, u64::MAX)), Err(Overflow)),
+        ];
+        for (held, want) in rows {
+            expect(&(s, want.clone()), &want, || {
+                AddressAllocator::with_held(Global, s.base, s.size, &held)
+            });
+            expect(&(s, want.clone()), &want, || {
+                IntervalTree::with_held(Global, s.key(), &held)
+            });
+        }
+        for (base, size, error) in [(s.base, 0, Underflow), (u64::MAX, 2, Overflow)] {
+            expect(&(s, base, size), &Err(error), || {
+                AddressAllocator::with_held(Global, base, size, &held)
+            });
+        }
+    }
+}
+
+/// A call for several ranges allocates a list of them, and as much as the calls for each of them. A
+/// call that fails also made its list and the calls before the one that fails.
+#[test]
+fn several_allocations() {
+    for s in SETTINGS {
+        let split = |number| (1, 1, ExactMatch(s.base + 16 * number + 9));
+        let filling = |number| (12, 1, ExactMatch(s.base + 16 * number + 4));
+        let numbers = || 0..s.held - 1;
+        let splits: Vec<_> = numbers().map(split).collect();
+        let fillings: Vec<_> = numbers().map(filling).collect();
+        let mut failing = splits.clone();
+        failing.push((4, 1, ExactMatch(s.base)));
+        let is_held = InvalidStateTransition(range(s.base, s.base + 3), NodeState::Allocated);
+        let rows = [
+            (Vec::new(), 0, None),
+            (vec![(1, 1, FirstMatch)], 2, None),
+            (
+                vec![(2, 16, FirstMatch), (1, 1, FirstMatch)],
+                1 + 2 + 1,
+                None,
+            ),
+            (splits, 1 + 2 * (s.held - 1), None),
+            (fillings, 1, None),
+            (failing, 1 + 2 * (s.held - 1), Some(is_held)),
+            (vec![(s.size, 1, LastMatch)], 1, Some(ResourceNotAvailable)),
+        ];
+        for (requests, number, error) in rows {
+            let name = (s, requests.len(), error.clone());
+            let requests: Vec<_> = requests
+                .into_iter()
+                .map(|(size, align, policy)| Constraint::new(size, align, policy).unwrap())
+                .collect();
+            let mut space = s.space();
+            for failing in [1, number].into_iter().filter(|_| number > 0) {
+                let (result, [made, _]) =
+                    cost(|| with_failing(failing, || space.allocate_all(Global, &requests)));
+                assert_eq!(result.err(), Some(OutOfMemory), "{name:?}");
+                assert_eq!(made, failing, "{name:?}");
+                assert!(space == s.space(), "{name:?}");
+            }
+            let (result, [made, _]) = cost(|| space.allocate_all(Global, &requests));
+            assert_eq!(result.err(), error, "{name:?}");
+            assert_eq!(made, number, "{name:?}");
+        }
+    }
+}
+
 /// A split allocates a node for each free part of its gap that remains.
 pub fn allocations(s: Setting) -> [(u64, u64, AllocPolicy, Result<u64, Error>); 21] {
     let (base, last) = (s.base, s.key().end());
@@ -189,7 +284,8 @@ fn saved_ranges_and_states() {
     }
 }
 
-/// A reader allocates one node for each block, after it has checked the whole value.
+/// A reader allocates one node for each block, after it has checked the whole value. The reader with
+/// repairs also allocates a list of the allocated keys, if there are any.
 #[test]
 fn saved_spaces() {
     let read = |value: &Value| AddressAllocator::from_value(Global, value);
@@ -200,10 +296,10 @@ fn saved_spaces() {
         expect(&s, &Ok(written), || space.to_value(Global));
         let mut value = space.to_value(Global).unwrap();
         expect(&s, &Ok(n), || read(&value));
-        expect(&s, &Ok(n), || repair(&value));
+        expect(&s, &Ok(n + 1), || repair(&value));
         let last = last_node(&value);
         let rows = [
-            (format!("{last}/height"), Value::from(9), Ok(n)),
+            (format!("{last}/height"), Value::from(9), Ok(n + 1)),
             ("/interval_tree/root".into(), Value::Null, Ok(1)),
             (format!("{last}/height"), Value::Null, Err(NotAState)),
             (format!("{last}/key/start"), Value::from(0), Err(NotAState)),

@@ -4,7 +4,8 @@ use crate::meter::processor_time;
 use crate::objects::{last_node, low};
 use rattle::{Global, Value};
 use std::hint::black_box;
-use vm_allocator::{AddressAllocator, IdAllocator};
+use vm_allocator::AllocPolicy::{ExactMatch, FirstMatch};
+use vm_allocator::{AddressAllocator, Constraint, IdAllocator};
 use vm_devices::DeviceManager;
 use vm_lines::run;
 
@@ -69,6 +70,9 @@ fn spaces() {
     expect_linear("order", two, |(space, same)| space.cmp(same));
     expect_linear("count", two, |(space, _)| space.held_count());
     expect_linear("ranges", two, |(space, _)| space.held_ranges().count());
+    let lists = |held| -> Vec<_> { low(held).space().held_ranges().collect() };
+    let create = |held: &Vec<_>| AddressAllocator::with_held(Global, 0, 1 << 40, held).is_ok();
+    expect_linear("ranges given", lists, |held| assert!(create(held)));
     expect_linear("space written", two, |(space, _)| space.to_value(Global));
     expect_linear("space read", saved_space, |value| assert!(read(value)));
     expect_linear("space repaired", saved_space, |value| {
@@ -76,6 +80,33 @@ fn spaces() {
     });
     expect_linear("space refused", damaged, |value| assert!(!read(value)));
     expect_linear("no repair", damaged, |value| assert!(!repair(value)));
+}
+
+/// Allocates ranges in one call, by `FirstMatch` or by start, and fails at the last request.
+#[test]
+fn several_allocations() {
+    let requests = |held| -> (Vec<_>, u64) {
+        let exact = |number| Constraint::new(4, 1, ExactMatch(16 * number));
+        let first = |_| Constraint::new(4, 4, FirstMatch);
+        let requests = (0..held).map(exact).chain((0..held).map(first));
+        (
+            requests.map(|request| request.unwrap()).collect(),
+            16 * held,
+        )
+    };
+    let ask = |requests: &[Constraint], size| {
+        let mut space = AddressAllocator::new(Global, 0, size).unwrap();
+        space.allocate_all(Global, requests).is_ok()
+    };
+    expect_linear("allocated", requests, |(all, size)| {
+        assert!(ask(all, *size))
+    });
+    let too_many = |held| {
+        let (mut all, size) = requests(held);
+        all.push(Constraint::new(1, 1, ExactMatch(0)).unwrap());
+        (all, size)
+    };
+    expect_linear("undone", too_many, |(all, size)| assert!(!ask(all, *size)));
 }
 
 #[test]
