@@ -78,8 +78,6 @@ impl IntervalTree {
         self.root().height()
     }
 
-    // Proof: makes the invariant of the tree available to the caller. It does nothing when it runs.
-
     /// Allocates like `allocate`, and adds the number of entered nodes to a counter at 0.
     fn allocate_inner(
         &mut self,
@@ -115,8 +113,7 @@ impl IntervalTree {
     ///   - `OutOfMemory` if the allocation of a node fails.
     #[allow(clippy::let_and_return)]
     pub fn allocate(&mut self, alloc: Global, constraint: Constraint) -> Result<RangeInclusive> {
-        let answer = self.allocate_counted(alloc, constraint).0;
-        answer
+        self.allocate_counted(alloc, constraint).0
     }
 
     /// Frees an allocated range, and joins it with the free blocks on both sides.

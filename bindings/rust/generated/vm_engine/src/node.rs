@@ -97,8 +97,6 @@ impl InnerNode {
     }
 }
 
-// Proof: makes the invariant of the subtree available to the caller. It does nothing when it runs.
-
 /// Returns the height of a child, or 0 if the child is absent.
 #[inline(always)]
 pub(crate) fn height(child: &Child) -> u64 {

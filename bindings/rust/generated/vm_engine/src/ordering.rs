@@ -31,5 +31,3 @@ pub(super) fn valid_range(start: u64, end: u64) -> RangeInclusive {
     };
     range
 }
-
-// Proof: makes the invariant of a range available to the caller. It does nothing when it runs.

@@ -19,7 +19,6 @@ impl InnerNode {
     /// Counts this node as entered.
     #[inline(always)]
     pub(crate) fn enter(&self, count: &mut Steps) {
-        let _ = self.height();
         count.entered += 1;
     }
 }

@@ -13,14 +13,15 @@ impl IntervalTree {
     /// Returns the range that the policy of a request chooses, with its free block, or the error of
     /// the request.
     pub(super) fn choose_place(&self, constraint: Constraint, count: &mut Steps) -> Result<Choice> {
+        let root = &self.root;
         let (size, align) = (constraint.size(), constraint.align());
         match constraint.policy() {
             AllocPolicy::FirstMatch => {
-                let found = first_place(&self.root, size, align, count);
+                let found = first_place(root, size, align, count);
                 choice_at(found, size)
             }
             AllocPolicy::LastMatch => {
-                let found = last_place(&self.root, size, align, count);
+                let found = last_place(root, size, align, count);
                 choice_at(found, size)
             }
             AllocPolicy::ExactMatch(start) => self.exact_place(constraint, start, count),

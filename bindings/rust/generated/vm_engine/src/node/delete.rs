@@ -68,8 +68,7 @@ impl InnerNode {
     #[allow(clippy::let_and_return)]
     pub(crate) fn delete_root(tree: Box<InnerNode>, count: &mut Steps) -> Option<Box<InnerNode>> {
         let InnerNode { left, right, .. } = Box::into_inner(tree);
-        let joined = join(left, right, count);
-        joined
+        join(left, right, count)
     }
 }
 
