@@ -2,7 +2,7 @@
 ghost use Rattle.std.specs.Prelude.{◌≡◌, ◌↔◌, IsTrue};
 ghost use Rattle.vm_engine.specs.Engine.NodeFields.{side};
 
-use crate::node::{Child, height};
+use crate::node::Child;
 
 /// Returns `true` if two trees have the same nodes.
 pub(crate) fn same(a: &Child, b: &Child) -> bool
@@ -16,6 +16,7 @@ pub(crate) fn same(a: &Child, b: &Child) -> bool
                 && same(&a.right, &b.right)
         }
         // Only an absent child has height 0.
-        _ => height(a) == height(b),
+        (Some(node), None) | (None, Some(node)) => node.height() == 0,
+        (None, None) => true,
     }
 }
