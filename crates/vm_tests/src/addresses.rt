@@ -16,7 +16,9 @@ mod ends;
 mod held;
 mod long_run;
 mod requests;
+mod several;
 mod splits;
+mod with_held;
 mod without_memory;
 
 const MAX: u64 = u64::MAX;

@@ -60,6 +60,14 @@ pub(crate) fn expect_allocations(alloc: Global, number: usize) {
     let _ = Vec::<u8>::with_capacity(alloc, size);
 }
 
+/// Creates an empty list with memory for a number of items.
+pub(crate) fn list_for<T>(rt: &(impl Abort + AllocGlobal), number: usize) -> Vec<T> {
+    match Vec::with_capacity(rt.alloc(), number) {
+        Ok(list) => list,
+        Err(_) => Vec::with_capacity(rt.alloc(), number).expect(rt, FAILED_ONCE),
+    }
+}
+
 /// Creates the allocator of a space.
 pub(crate) fn made(rt: &(impl Abort + AllocGlobal), base: u64, size: u64) -> AddressAllocator {
     match AddressAllocator::new(rt.alloc(), base, size) {

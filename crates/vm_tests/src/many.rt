@@ -4,13 +4,13 @@
 //! test if a call takes quadratic time, or descends a deep value completely. tests/refused_memory
 //! skips these tests, and runs the deep ones on a small stack.
 use crate::fixtures::{
-    Reader, chain, cloned, expect_eq, expect_refused, expect_space, hold, items, made, parsed, put,
-    range, read, read_ids, read_repaired, saved, saved_ids,
+    Reader, chain, cloned, expect_eq, expect_refused, expect_space, hold, items, list_for, made,
+    parsed, put, range, read, read_ids, read_repaired, saved, saved_ids,
 };
 use serde_json::Value;
 use std::cmp::Ordering;
 use std::process::Abort;
-use vm_allocator::{AddressAllocator, AllocPolicy, IdAllocator};
+use vm_allocator::{AddressAllocator, AllocPolicy, Constraint, Error, IdAllocator};
 use vm_devices::DeviceManager;
 
 /// The number of allocated ranges, ids or devices.
@@ -18,6 +18,9 @@ const MANY: u64 = 100_000;
 
 /// The same number as an id.
 const MANY_IDS: u32 = 100_000;
+
+/// The number of ranges that an allocator is created with.
+const MILLION: u64 = 1_000_000;
 
 /// The nesting depth of a value.
 const DEPTH: u64 = 1_000_000;
@@ -93,6 +96,50 @@ fn ranges_looked_up(rt: HostRuntime) {
     }
     let (answer, _) = space.allocate_counted(rt.alloc(), 2 * MANY, 1, AllocPolicy::LastMatch);
     assert!(rt; answer.is_ok());
+}
+
+/// Creates an allocator with each even address of a space allocated.
+fn created_half_held(rt: &(impl Abort + AllocGlobal), number: u64) -> AddressAllocator {
+    let mut held = list_for(rt, 0);
+    for start in 0..number {
+        let pushed = held.push(range(rt, 2 * start, 2 * start));
+        assert!(rt; pushed.is_ok());
+    }
+    let space = AddressAllocator::with_held(rt.alloc(), 0, 2 * number, &held);
+    space.expect(rt, ENOUGH)
+}
+
+/// A tree of n blocks has the lowest height h with n < 2^h.
+#[test]
+fn ranges_created(rt: HostRuntime) {
+    let space = created_half_held(&rt, MANY);
+    expect_eq(&rt, &space.height(), &18, &"2^17 <= 200,000 < 2^18");
+    expect_equal(&rt, &space, &half_held(&rt, true));
+    let space = created_half_held(&rt, MILLION);
+    let numbers = (space.held_count(), space.height());
+    expect_eq(&rt, &numbers, &(MILLION, 21), &"2^20 <= 2,000,000 < 2^21");
+}
+
+/// Makes `MANY` requests for the first free address in one call, in a space of a number of addresses.
+fn allocate_many(rt: &(impl Abort + AllocGlobal), size: u64) -> (AddressAllocator, Option<Error>) {
+    let request = Constraint::new(1, 1, AllocPolicy::FirstMatch);
+    let request = request.expect(rt, "it is a request");
+    let mut requests = list_for(rt, 0);
+    for _ in 0..MANY {
+        assert!(rt; requests.push(request).is_ok());
+    }
+    let mut space = made(rt, 0, size);
+    let error = space.allocate_all(rt.alloc(), &requests).err();
+    (space, error)
+}
+
+#[test]
+fn ranges_allocated_together(rt: HostRuntime) {
+    let (space, error) = allocate_many(&rt, MANY);
+    assert!(rt; error.is_none() && space.held_count() == MANY);
+    let (space, error) = allocate_many(&rt, MANY - 1);
+    assert!(rt; error == Some(Error::ResourceNotAvailable));
+    assert!(rt; space == made(&rt, 0, MANY - 1));
 }
 
 /// Allocates a number of ids, and checks that they increase by `step` from 0.

@@ -1,0 +1,178 @@
+//! Tests of allocators that are created with allocated ranges.
+use super::*;
+use crate::fixtures::{
+    balance, count_allocations, expect_allocations, fail_from_here, hold, holds_exactly, list_for,
+    range,
+};
+
+/// A space by its base and its size, two ranges, and the error of creating it with these allocated.
+type Refused = (u64, u64, [(u64, u64); 2], Expected);
+
+/// The error is that of the space, or else that of the first range that cannot be allocated.
+const REFUSED: [Refused; 22] = [
+    // The space comes before the ranges.
+    (16, 0, [(4, 5), (MAX, MAX)], Underflow),
+    (MAX, 2, [(4, 5), (4, 5)], Overflow),
+    // A range that does not start after the end of the range before it, or before the space.
+    (16, 16, [(20, 23), (23, 24)], NotAvailable),
+    (16, 16, [(20, 23), (20, 23)], NotAvailable),
+    (16, 16, [(20, 23), (16, 17)], NotAvailable),
+    (16, 16, [(20, 23), (21, 22)], NotAvailable),
+    (16, 16, [(15, 16), (MAX, MAX)], NotAvailable),
+    (16, 16, [(15, 15), (MAX, MAX)], NotAvailable),
+    // This comes before the end of the range.
+    (MAX - 15, 16, [(LAST, LAST), (LAST, MAX)], NotAvailable),
+    // A range that starts at the highest address, in the space or outside it.
+    (16, 16, [(MAX, MAX), (4, 5)], Overflow),
+    (16, 16, [(31, 31), (MAX, MAX)], Overflow),
+    (MAX - 15, 16, [(MAX - 15, LAST), (MAX, MAX)], Overflow),
+    (MAX, 1, [(MAX, MAX), (4, 5)], Overflow),
+    // A range that is outside the space, or partly.
+    (16, 16, [(31, 32), (MAX, MAX)], NotAvailable),
+    (16, 16, [(20, 23), (32, 32)], NotAvailable),
+    (16, 16, [(24, 1000), (MAX, MAX)], NotAvailable),
+    // This comes before the highest address.
+    (16, 16, [(20, 23), (24, MAX)], NotAvailable),
+    (0, MAX, [(0, 0), (LAST, MAX)], NotAvailable),
+    // A range that ends at the highest address of the space.
+    (MAX - 15, 16, [(MAX - 15, MAX), (4, 5)], Overflow),
+    (MAX - 15, 16, [(MAX - 15, MAX - 2), (LAST, MAX)], Overflow),
+    (1, MAX, [(1, HALF), (HALF + 1, MAX)], Overflow),
+    (1, MAX, [(1, MAX), (1, 1)], Overflow),
+];
+
+/// Checks that each row has its error. tests/refused_memory makes every allocation fail, so an error
+/// needs no memory.
+#[test]
+fn refused_without_memory(rt: HostRuntime) {
+    fail_from_here(rt.alloc());
+    for row in &REFUSED {
+        let (base, size, [(start, end), (next, last)], want) = *row;
+        let held = [range(&rt, start, end), range(&rt, next, last)];
+        let answer = AddressAllocator::with_held(rt.alloc(), base, size, &held);
+        let error = answer.err();
+        expect_eq(&rt, &error, &want.answer().err(), &held);
+    }
+    let held = [range(&rt, 16, 17), range(&rt, 20, 31)];
+    let is_true = match AddressAllocator::with_held(rt.alloc(), 16, 16, &held) {
+        Ok(space) => holds_exactly(&space, &[(16, 17), (20, 31)]),
+        Err(error) => error == Error::OutOfMemory,
+    };
+    expect_true(&rt, is_true, &"two are held");
+}
+
+/// A space by its base and its size, its allocated ranges, the number of its blocks, which are the
+/// ranges and the gaps, and the height of its tree, which is as low as possible.
+type Created<'a> = (u64, u64, &'a [(u64, u64)], usize, u64);
+
+const CREATED: [Created<'static>; 15] = [
+    // Nothing is allocated.
+    (16, 16, &[], 1, 1),
+    (1, MAX, &[], 1, 1),
+    (MAX, 1, &[], 1, 1),
+    // All is allocated.
+    (16, 16, &[(16, 31)], 1, 1),
+    (0, MAX, &[(0, LAST)], 1, 1),
+    (16, 16, &[(16, 16), (17, 23), (24, 31)], 3, 2),
+    (0, 4, &[(0, 0), (1, 1), (2, 2), (3, 3)], 4, 3),
+    // Gaps are between the ranges, before the first and after the last.
+    (16, 16, &[(16, 20), (25, 31)], 3, 2),
+    (16, 16, &[(17, 18), (20, 20), (25, 30)], 7, 3),
+    (16, 16, &[(17, 18), (20, 20), (25, 31)], 6, 3),
+    (16, 16, &[(18, 19)], 3, 2),
+    // Ranges touch.
+    (
+        0,
+        64,
+        &[(8, 15), (16, 17), (18, 31), (40, 40), (41, 47)],
+        8,
+        4,
+    ),
+    // The space ends at the highest address.
+    (MAX - 15, 16, &[(MAX - 15, LAST)], 2, 2),
+    (MAX - 15, 16, &[(MAX - 7, MAX - 6), (LAST, LAST)], 5, 3),
+    (1, MAX, &[(1, 1), (HALF, HALF), (HALF + 1, LAST)], 5, 3),
+];
+
+/// Returns the ranges from one address to another.
+fn ranges(rt: &(impl Abort + AllocGlobal), ends: &[(u64, u64)]) -> Vec<RangeInclusive> {
+    let mut list = list_for(rt, ends.len());
+    for (start, end) in ends {
+        let pushed = list.push(range(rt, *start, *end));
+        assert!(rt; pushed.is_ok());
+    }
+    list
+}
+
+/// Creates the allocator of a row, with one allocation for each block.
+fn created(rt: &(impl Abort + AllocGlobal), row: &Created<'_>) -> AddressAllocator {
+    let (base, size, held, blocks, _) = *row;
+    let held = ranges(rt, held);
+    count_allocations(rt.alloc());
+    let mut answer = AddressAllocator::with_held(rt.alloc(), base, size, &held);
+    expect_allocations(rt.alloc(), blocks);
+    if let Err(Error::OutOfMemory) = answer {
+        answer = AddressAllocator::with_held(rt.alloc(), base, size, &held);
+    }
+    answer.expect(rt, "only memory is refused")
+}
+
+/// Returns the allocator of a row, by allocating its ranges one by one.
+fn one_by_one(rt: &(impl Abort + AllocGlobal), row: &Created<'_>) -> AddressAllocator {
+    let (base, size, held, _, _) = *row;
+    let mut space = made(rt, base, size);
+    for (start, end) in held {
+        hold(rt, &mut space, *start, range(rt, *start, *end).len());
+    }
+    space
+}
+
+/// Frees the ranges of a row, the first or the last one first. Checks that this leads back to the
+/// space without allocated ranges.
+fn free_each(rt: &(impl Abort + AllocGlobal), row: &Created<'_>, increases: bool) {
+    let (base, size, held, _, _) = *row;
+    let mut space = created(rt, row);
+    for number in 0..held.len() {
+        let from_end = held.len().saturating_sub(number).saturating_sub(1);
+        let number = if increases { number } else { from_end };
+        let (start, end) = *held.get(number).expect(rt, "it is a number of a range");
+        let answer = space.free(&range(rt, start, end));
+        expect_eq(rt, &answer, &Ok(()), &(start, end));
+    }
+    let is_new = space == made(rt, base, size) && space.height() == 1;
+    expect_true(rt, is_new, &"one clear block");
+}
+
+#[test]
+fn created_as_allocated(rt: HostRuntime) {
+    for row in &CREATED {
+        let space = created(&rt, row);
+        let other = one_by_one(&rt, row);
+        let (base, size, held, _, height) = *row;
+        let is_same = space == other && holds_exactly(&space, held);
+        expect_true(&rt, is_same, &held);
+        let ends = (space.base(), space.end());
+        expect_eq(&rt, &ends, &(base, base.saturating_add(size - 1)), &held);
+        expect_eq(&rt, &space.height(), &height, &held);
+        expect_true(&rt, space.height() <= other.height(), &held);
+        free_each(&rt, row, true);
+        free_each(&rt, row, false);
+    }
+}
+
+/// Creates an allocator with two ranges. Checks that it has both, or that memory ran out.
+fn create_or_refuse(rt: &(impl Abort + AllocGlobal)) {
+    let held = [range(rt, 18, 19), range(rt, 25, 30)];
+    let is_true = match AddressAllocator::with_held(rt.alloc(), 16, 16, &held) {
+        Ok(space) => holds_exactly(&space, &[(18, 19), (25, 30)]),
+        Err(error) => error == Error::OutOfMemory,
+    };
+    expect_true(rt, is_true, &"both or an error");
+}
+
+#[test]
+fn created_whole_or_not_at_all(rt: HostRuntime) {
+    balance(rt.alloc());
+    create_or_refuse(&rt);
+    balance(rt.alloc());
+}
