@@ -101,11 +101,13 @@ fn ranges_looked_up(rt: HostRuntime) {
 /// Creates an allocator with each even address of a space allocated.
 fn created_half_held(rt: &(impl Abort + AllocGlobal), number: u64) -> AddressAllocator {
     let mut held = list_for(rt, 0);
-    for start in 0..number {
-        let pushed = held.push(range(rt, 2 * start, 2 * start));
+    for index in 0..number {
+        let start = index.saturating_mul(2);
+        let pushed = held.push(range(rt, start, start));
         assert!(rt; pushed.is_ok());
     }
-    let space = AddressAllocator::with_held(rt.alloc(), 0, 2 * number, &held);
+    let size = number.saturating_mul(2);
+    let space = AddressAllocator::with_held(rt.alloc(), 0, size, &held);
     space.expect(rt, ENOUGH)
 }
 
