@@ -12,7 +12,6 @@ The eraser removes
 - clauses, `ghost` items, members and fields, `#[tactic(..)]` and `impl Model`;
 - `Drop` as a derive and as a bound;
 - laws, which are functions without arguments and result, and with an empty body;
-- the functions FOR_PROOFS with their calls, and `let _ = &..;`;
 - tests and FOR_TESTS;
 - imports, impls and modules that are unused or empty then.
 
@@ -91,16 +90,11 @@ CLAUSES = {"ensures", "requires"}
 
 # ---- Items that Rust does not need ----
 
-# Functions that change nothing and return nothing. They are called for their clauses.
-FOR_PROOFS = {"recall_invariant"}
 # Items that only tests use, by file.
 FOR_TESTS = {"vm_engine/src/node.rt search_tree", "vm_ranges/src/state.rt is_free"}
 # Lints that a function may violate, because its proof needs its form or a statement for the proof is
 # removed.
 ALLOWED = {
-    "clippy::let_and_return": (
-        "vm_allocator/src/address_allocator.rt allocate", "vm_engine/src/interval_tree.rt allocate",
-        "vm_engine/src/node/delete.rt delete_root"),
     "clippy::needless_range_loop": ("vm_lines/src/number.rt are_digits", "vm_lines/src/number.rt digits_value"),
     "clippy::only_used_in_recursion": (
         "vm_engine/src/saved/repaired.rt collect_keys", "vm_engine/src/saved/tree.rt build"),
@@ -486,10 +480,6 @@ class File(Tokens):
         if nothing and not (item.public or item.is_test or item.owner):
             return behind, False  # a law: only its clauses matter
         name = self.define(item.keyword + 1, self.crate.functions)
-        if name in FOR_PROOFS:
-            if any(token.text in ("mut", "->") for token in self.tokens[index:behind]):
-                self.fail(f"{name!r} returns something, or may change something", self.start_of(item.keyword))
-            return behind, False
         anyone = item.public or item.owner not in (None, "impl")
         if anyone and item.keyword in self.asking and not self.crate.is_program and not self.of_tests:
             self.fail(f"a 'requires' of {name!r}, which anyone may call", self.asking[item.keyword])
@@ -547,21 +537,8 @@ class File(Tokens):
                 index += 1
             elif token.text in ITEM_WORDS and token.text not in allowed and not self.of_tests:
                 self.fail(f"an item {token.text!r} in code", token.start)
-            elif token.text in FOR_PROOFS or self.at(index, "let", "_", "=", "&"):
-                index = self.statement_for_proofs(index)
             else:
                 index = self.path_of_names(index)
-
-    def statement_for_proofs(self, index):
-        """Removes `recall_invariant(&a.b);`, `self.recall_invariant();` or `let _ = &a.b;`. Returns the
-        index after it."""
-        first = index - 2 if self.at(index - 2, "self", ".") else index
-        behind, inner = self.next_of(index, ";") + 1, self.tokens[index + 1:self.next_of(index, ";")]
-        words = "".join(token.text if token.kind != "word" else "_" for token in inner)
-        if self.tokens[first - 1].text not in ("{", "}", ";") or not re.fullmatch(r"(_=)?&_(\._)*|\((&?_(\._)*)?\)", words):
-            self.fail(f"{self.tokens[index].text!r} of this form", self.start_of(index))
-        self.cut(first, behind)
-        return behind
 
     def path_of_names(self, first):
         """Checks the path at an index. Returns the index after it."""
@@ -638,7 +615,7 @@ class File(Tokens):
             gone[start:end] = b"x" * (end - start)
         named = {token.text for token in self.tokens if not gone[token.start]} | {"*"}
         if self.of_tests or "mod" in named:
-            named |= {self.tokens[leaf].text for _, _, leaves in self.imports for leaf in leaves} - FOR_PROOFS
+            named |= {self.tokens[leaf].text for _, _, leaves in self.imports for leaf in leaves}
         for first, end, leaves in self.imports:
             names = [self.tokens[leaf].text for leaf in leaves if self.tokens[leaf].text in named]
             if not names:

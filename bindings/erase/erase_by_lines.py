@@ -13,9 +13,9 @@ import sys
 
 TOKEN = re.compile(r"""r\#".*?"\#|b?"(?:[^"\\]|\\.)*"|b?'(?:[^'\\]|\\.)'|\w+|[^\w\s]""", re.DOTALL)
 CLAUSE = ("requires ", "ensures ", "ghost ")
-# Items that only proofs and tests use, and statements for proofs.
-UNUSED = re.compile(r"(pub(\(\w+\))? )?fn (recall_invariant|is_free)\b")
-UNUSED_LINE = re.compile(r"mod search_tree;$|((self\.)?recall_invariant\((&?[\w.]+)?\)|let _ = &[\w.]+);$")
+# Items that only tests use.
+UNUSED = re.compile(r"(pub(\(\w+\))? )?fn is_free\b")
+UNUSED_LINE = re.compile(r"mod search_tree;$")
 ALLOW = re.compile(r"\s*#\[allow\([\w:, ]+\)\]$")
 IMPORT = re.compile(r"^use ((?:\w+::)*)(\w+|\*|\{[^{}]*\});", re.MULTILINE)
 # Replacements, in this order.
@@ -152,7 +152,7 @@ def expected(lines):
     text, imports = without_imports(text)
     code = re.sub(r"//.*", "", text).replace("let rt = HostRuntime", "rt: HostRuntime")
     named = set(re.findall(r"\w+", code)) | {"*"}
-    imports = [path for path in imports if path.split("::")[-1] in named or "mod" in named and not path.endswith("::recall_invariant")]
+    imports = [path for path in imports if path.split("::")[-1] in named or "mod" in named]
     return tokens(text.split("\n")), [name for name in PRELUDE if name in named], imports
 
 

@@ -4,3 +4,4 @@ pub mod Answers
 pub mod Histories
 pub mod Reading
 pub mod Callers
+pub mod Trees

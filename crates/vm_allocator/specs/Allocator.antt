@@ -1,11 +1,11 @@
 -- The view of an address allocator in clauses, and its state.
-use Rattle.std.specs.Prelude.{Result, Ok, Err, refl}
+use Rattle.std.specs.Prelude.{◌≡◌, Result, Ok, Err, refl}
 use Rattle.std.specs.Coded.{Coded, code_by, coded×}
 use Rattle.vm_ranges.specs.Range.{Range, range_code}
-use Rattle.vm_engine.specs.Address.{AddressState}
-use Rattle.vm_engine.specs.Tree.Shape.{Shape}
+use Rattle.vm_engine.specs.Address.{AddressState, IsAddressState}
+use Rattle.vm_engine.specs.Tree.Shape.{Shape, blocks}
 use Rattle.vm_engine.specs.Tree.ShapeCode.{shape_code}
-use Rattle.vm_engine.specs.Tree.SpaceTree.{tree_state}
+use Rattle.vm_engine.specs.Tree.SpaceTree.{space_of, tree_state}
 
 -- The space of an allocator, and the shape of its tree of blocks.
 pub record SpaceInTree : Type 0 where
@@ -23,6 +23,11 @@ space_code =
 -- The state of an allocator: its space and its held ranges.
 abbrev pub state_of : SpaceInTree → AddressState
 state_of allocator = tree_state allocator.tree
+
+-- The tree is one of this space, and its state is valid.
+pub record IsTreeOf (space : Range) (tree : Shape) : Type 0 where
+  pub same_space : space_of (blocks tree) ≡ space
+  pub state : IsAddressState (tree_state tree)
 
 -- The result of creating or reading an allocator, with its state instead of the allocator.
 abbrev pub made_state : {E : Type 0} → Result SpaceInTree E → Result AddressState E

@@ -1,7 +1,7 @@
 //! An allocator of address ranges.
 //!
 //! The allocator stores its space next to the tree of blocks, so that `base` and `end` are one load
-//! each. The invariant states that the two agree. The fields are `pub(crate)` because `saved`
+//! each. The invariant states that the two agree and that the state is valid. The fields are `pub(crate)` because `saved`
 //! builds allocators from values.
 //!
 //! `allocate` and `free` call the counted versions and drop the count. Some clauses follow from
@@ -40,7 +40,7 @@ pub struct AddressAllocator {
 }
 
 impl Model for AddressAllocator {
-    ghost use Rattle.vm_allocator.specs.Allocator.{SpaceInTree, space_code};
+    ghost use Rattle.vm_allocator.specs.Allocator.{SpaceInTree, space_code, IsTreeOf};
 
     ghost Value = { SpaceInTree };
 
@@ -48,11 +48,7 @@ impl Model for AddressAllocator {
 
     ghost view = { λ a. record { space = a.address_space; tree = a.interval_tree } };
 
-    ghost use Rattle.std.specs.Prelude.{◌≡◌};
-    ghost use Rattle.vm_engine.specs.Tree.Shape.{blocks};
-    ghost use Rattle.vm_engine.specs.Tree.SpaceTree.{space_of};
-
-    ghost invariant = { λ a. space_of (blocks a.interval_tree) ≡ a.address_space };
+    ghost invariant = { λ a. IsTreeOf a.address_space a.interval_tree };
 }
 
 impl AddressAllocator {
@@ -66,7 +62,7 @@ impl AddressAllocator {
     /// - `Underflow` if `size` is 0.
     /// - `Overflow` if the last address would be past `u64::MAX`.
     /// - `OutOfMemory` if the allocation of the node fails.
-    #[tactic(auto, using(crate::proofs::Answers::Making::making, vm_engine::proofs::Nodes::Spaces::spaces))]
+    #[tactic(auto, using(crate::proofs::Answers::Making::making, crate::proofs::Trees::trees))]
     pub fn new(alloc: Global, base: u64, size: u64) -> Result<Self>
         ensures answer { Makes base size (made_state result) }
         ensures state { IfOk result (λ allocator. IsAddressState (state_of allocator)) }
@@ -96,7 +92,7 @@ impl AddressAllocator {
     ///   - `Overflow` if it ends at `u64::MAX`.
     /// - `Overflow` if the ranges and the gaps together are 2^49 or more.
     /// - `OutOfMemory` if the allocation of a node fails.
-    #[tactic(auto, using(crate::proofs::Answers::Making::making_held, vm_engine::proofs::Nodes::Spaces::spaces))]
+    #[tactic(auto, using(crate::proofs::Answers::Making::making_held, crate::proofs::Trees::trees))]
     pub fn with_held(alloc: Global, base: u64, size: u64, held: &[RangeInclusive]) -> Result<Self>
         ensures answer { MakesWithHeld base size held.now (made_state result) }
         ensures state { IfOk result (λ allocator. IsAddressState (state_of allocator)) }
@@ -181,9 +177,7 @@ impl AddressAllocator {
         // Each result under its exact condition.
         ensures answer { Allocates (state_of self.old) (request_for size alignment policy) result (state_of self.new) }
     {
-        let answer = self.allocate_counted(alloc, size, alignment, policy).0;
-        self.recall_invariant();
-        answer
+        self.allocate_counted(alloc, size, alignment, policy).0
     }
 
     /// Allocates like [`allocate`](Self::allocate), and also returns the number of tree nodes that
@@ -206,7 +200,7 @@ impl AddressAllocator {
     /// # Errors
     ///
     /// Those of [`allocate`](Self::allocate), in the same order.
-    #[tactic(auto, using(vm_engine::proofs::Counts::GapBounds::counted_allocations))]
+    #[tactic(auto, using(vm_engine::proofs::Counts::GapBounds::counted_allocations, crate::proofs::Trees::trees))]
     pub fn allocate_counted(
         &mut self,
         alloc: Global,
@@ -272,7 +266,7 @@ impl AddressAllocator {
     /// # Errors
     ///
     /// Those of [`free`](Self::free).
-    #[tactic(auto, using(vm_engine::proofs::Nodes::Spaces::spaces, vm_engine::proofs::Answers::Filling::succeeding))]
+    #[tactic(auto, using(crate::proofs::Trees::trees, vm_engine::proofs::Answers::Filling::succeeding))]
     pub fn free_counted(&mut self, key: &RangeInclusive) -> (Result<()>, u64)
         ensures answer { Frees (state_of self.old) key.now result.0 (state_of self.new) }
         ensures unchanged { OnErr result.0 (self.new ≡ self.old) }
@@ -302,18 +296,7 @@ impl AddressAllocator {
         ensures value { result ≡ (state_of self.now).space.start }
         ensures state { IsAddressState (state_of self.now) }
     {
-        self.recall_invariant();
         self.address_space.start()
-    }
-
-    // Proof: makes the invariant of the state available to the caller. It does nothing when it
-    // runs.
-    #[inline(always)]
-    #[tactic(auto, using(vm_engine::proofs::Blocks::BlockStates::is_state))]
-    fn recall_invariant(&self)
-        ensures { IsAddressState (state_of self.now) }
-    {
-        let _ = self.interval_tree.height();
     }
 
     /// Returns the last address of the space.

@@ -159,7 +159,7 @@ impl AddressAllocator {
         alignment: u64,
         policy: AllocPolicy,
     ) -> Result<RangeInclusive> {
-        or_abort(self.0.allocate(Global, size, alignment, policy)).map(RangeInclusive)
+        or_abort(self.0.allocate(Global, size, alignment, policy.proved())).map(RangeInclusive)
     }
 
     /// Allocates a range like [`allocate`](Self::allocate), but returns an error if an allocation
@@ -178,7 +178,41 @@ impl AddressAllocator {
         alignment: u64,
         policy: AllocPolicy,
     ) -> core::result::Result<RangeInclusive, TryError> {
-        or_try_error(self.0.allocate(Global, size, alignment, policy)).map(RangeInclusive)
+        or_try_error(self.0.allocate(Global, size, alignment, policy.proved())).map(RangeInclusive)
+    }
+
+    /// Allocates a range like [`allocate`](Self::allocate), for a request that was made before.
+    ///
+    /// # Errors
+    ///
+    /// Those of [`allocate`](Self::allocate) for a valid request: `Overflow`,
+    /// `ResourceNotAvailable` and `InvalidStateTransition`. An error changes nothing.
+    ///
+    /// # Example
+    ///
+    /// ```rust
+    /// use divsharun::{AddressAllocator, AllocPolicy, Constraint, Error};
+    ///
+    /// let mut mmio = AddressAllocator::new(0xd000_0000, 0x3000)?;
+    /// let registers = Constraint::new(0x1000, 0x1000, AllocPolicy::LastMatch)?;
+    /// assert_eq!(mmio.allocate_constraint(registers)?.start(), 0xd000_2000);
+    /// # Ok::<(), Error>(())
+    /// ```
+    pub fn allocate_constraint(&mut self, request: Constraint) -> Result<RangeInclusive> {
+        self.allocate(request.size(), request.align(), request.policy())
+    }
+
+    /// Allocates a range like [`allocate_constraint`](Self::allocate_constraint), but returns an
+    /// error if an allocation fails.
+    ///
+    /// # Errors
+    ///
+    /// Those of [`try_allocate`](Self::try_allocate) for a valid request. An error changes nothing.
+    pub fn try_allocate_constraint(
+        &mut self,
+        request: Constraint,
+    ) -> core::result::Result<RangeInclusive, TryError> {
+        self.try_allocate(request.size(), request.align(), request.policy())
     }
 
     /// Allocates a range for each request, in their order, and returns the ranges. Each range is
@@ -269,7 +303,9 @@ impl AddressAllocator {
         alignment: u64,
         policy: AllocPolicy,
     ) -> (Result<RangeInclusive>, u64) {
-        let (answer, count) = self.0.allocate_counted(Global, size, alignment, policy);
+        let (answer, count) = self
+            .0
+            .allocate_counted(Global, size, alignment, policy.proved());
         (or_abort(answer).map(RangeInclusive), count)
     }
 
@@ -298,16 +334,19 @@ impl AddressAllocator {
     }
 
     /// Returns the first address of the space.
+    #[must_use]
     pub fn base(&self) -> u64 {
         self.0.base()
     }
 
     /// Returns the last address of the space.
+    #[must_use]
     pub fn end(&self) -> u64 {
         self.0.end()
     }
 
     /// Returns an iterator over the allocated ranges in ascending order. It does not allocate.
+    #[must_use]
     pub fn held_ranges(&self) -> HeldRanges<'_> {
         HeldRanges(self.0.held_ranges())
     }
@@ -315,6 +354,7 @@ impl AddressAllocator {
     /// Returns whether exactly this range is allocated. A part of an allocated range is not.
     ///
     /// It walks one path of the tree and does not allocate.
+    #[must_use]
     pub fn holds(&self, key: &RangeInclusive) -> bool {
         self.0.holds(&key.0)
     }
@@ -322,6 +362,7 @@ impl AddressAllocator {
     /// Returns the number of allocated ranges.
     ///
     /// It walks the whole tree and does not allocate.
+    #[must_use]
     pub fn held_count(&self) -> u64 {
         self.0.held_count()
     }
@@ -330,12 +371,14 @@ impl AddressAllocator {
     ///
     /// The tree is balanced. With k allocated ranges its height h satisfies F(h + 2) <= 2k + 2,
     /// where F is the Fibonacci sequence 1, 1, 2, 3, 5.
+    #[must_use]
     pub fn height(&self) -> u64 {
         self.0.height()
     }
 
     /// Returns a view of the allocated ranges and the gaps between them, which prints them like
     /// `/proc/iomem`.
+    #[must_use]
     pub fn layout(&self) -> Layout<'_> {
         Layout::of(self)
     }
@@ -364,9 +407,33 @@ impl Clone for AddressAllocator {
     }
 }
 
+/// Writes the space, the number of allocated ranges and these ranges, and not the tree.
 impl fmt::Debug for AddressAllocator {
     fn fmt(&self, f: &mut fmt::Formatter<'_>) -> fmt::Result {
-        self.0.fmt(f)
+        ShortDebug(&self.0).fmt(f)
+    }
+}
+
+/// The `Debug` of an allocator of the proved code, without its tree.
+pub(crate) struct ShortDebug<'a>(pub(crate) &'a proved::AddressAllocator);
+
+impl fmt::Debug for ShortDebug<'_> {
+    fn fmt(&self, f: &mut fmt::Formatter<'_>) -> fmt::Result {
+        f.debug_struct("AddressAllocator")
+            .field("base", &self.0.base())
+            .field("end", &self.0.end())
+            .field("held_count", &self.0.held_count())
+            .field("held_ranges", &DebugRanges(self.0))
+            .finish()
+    }
+}
+
+/// The `Debug` of the allocated ranges of an allocator.
+struct DebugRanges<'a>(&'a proved::AddressAllocator);
+
+impl fmt::Debug for DebugRanges<'_> {
+    fn fmt(&self, f: &mut fmt::Formatter<'_>) -> fmt::Result {
+        f.debug_list().entries(self.0.held_ranges()).finish()
     }
 }
 

@@ -16,7 +16,38 @@ use core::fmt;
 /// assert_eq!(space.allocate(0x1000, 1, AllocPolicy::ExactMatch(0x2000))?.start(), 0x2000);
 /// # Ok::<(), divsharun::Error>(())
 /// ```
-pub use proved::AllocPolicy;
+#[derive(Clone, Copy, Debug, Default, PartialEq, Eq, Hash)]
+pub enum AllocPolicy {
+    /// Chooses the lowest range.
+    #[default]
+    FirstMatch,
+    /// Chooses the highest range.
+    LastMatch,
+    /// Chooses the range with this start.
+    ExactMatch(u64),
+}
+
+impl AllocPolicy {
+    /// Converts a policy of the proved code.
+    #[inline(always)]
+    fn of(policy: proved::AllocPolicy) -> AllocPolicy {
+        match policy {
+            proved::AllocPolicy::FirstMatch => AllocPolicy::FirstMatch,
+            proved::AllocPolicy::LastMatch => AllocPolicy::LastMatch,
+            proved::AllocPolicy::ExactMatch(start) => AllocPolicy::ExactMatch(start),
+        }
+    }
+
+    /// Converts to a policy of the proved code.
+    #[inline(always)]
+    pub(crate) fn proved(self) -> proved::AllocPolicy {
+        match self {
+            AllocPolicy::FirstMatch => proved::AllocPolicy::FirstMatch,
+            AllocPolicy::LastMatch => proved::AllocPolicy::LastMatch,
+            AllocPolicy::ExactMatch(start) => proved::AllocPolicy::ExactMatch(start),
+        }
+    }
+}
 
 /// The alignment for requests that need no particular one.
 pub const DEFAULT_CONSTRAINT_ALIGN: u64 = proved::DEFAULT_CONSTRAINT_ALIGN;
@@ -33,6 +64,7 @@ pub const DEFAULT_CONSTRAINT_ALIGN: u64 = proved::DEFAULT_CONSTRAINT_ALIGN;
 ///
 /// let request = Constraint::new(16, DEFAULT_CONSTRAINT_ALIGN, AllocPolicy::FirstMatch)?;
 /// assert_eq!((request.size(), request.align()), (16, 4));
+/// assert_eq!(request.policy(), AllocPolicy::FirstMatch);
 /// assert_eq!(
 ///     Constraint::new(16, 12, AllocPolicy::FirstMatch),
 ///     Err(Error::InvalidAlignment)
@@ -52,17 +84,25 @@ impl Constraint {
     /// - `InvalidAlignment` if `align` is not a power of two.
     /// - `UnalignedAddress` if `policy` is `ExactMatch` and its start is not a multiple of `align`.
     pub fn new(size: u64, align: u64, policy: AllocPolicy) -> Result<Self> {
-        or_abort(proved::Constraint::new(size, align, policy)).map(Constraint)
+        or_abort(proved::Constraint::new(size, align, policy.proved())).map(Constraint)
     }
 
     /// Returns the alignment of the first address.
+    #[must_use]
     pub fn align(self) -> u64 {
         self.0.align()
     }
 
     /// Returns the number of requested addresses.
+    #[must_use]
     pub fn size(self) -> u64 {
         self.0.size()
+    }
+
+    /// Returns the policy that chooses the range.
+    #[must_use]
+    pub fn policy(self) -> AllocPolicy {
+        AllocPolicy::of(self.0.policy())
     }
 }
 

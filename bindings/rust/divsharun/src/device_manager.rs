@@ -80,7 +80,7 @@ impl DeviceManager {
     ///   or `InvalidStateTransition`, as of
     ///   [`AddressAllocator::allocate`](crate::AddressAllocator::allocate).
     pub fn reserve(&mut self, size: u64, align: u64, policy: AllocPolicy) -> Result<DeviceSlot> {
-        let slot = or_abort(self.0.reserve(Global, size, align, policy))?;
+        let slot = or_abort(self.0.reserve(Global, size, align, policy.proved()))?;
         Ok(DeviceSlot {
             id: slot.id,
             range: RangeInclusive(slot.range),

@@ -16,7 +16,7 @@ use core::fmt;
 /// assert_eq!(Error::OutOfRange(7).to_string(), "Specified id: 7 is not in the range.");
 /// # Ok::<(), Error>(())
 /// ```
-#[derive(Copy, Clone, PartialEq, Eq, PartialOrd, Ord, Debug)]
+#[derive(Copy, Clone, PartialEq, Eq, PartialOrd, Ord, Hash, Debug)]
 pub enum Error {
     /// A range would end at or past `u64::MAX`, or all ids of a range up to `u32::MAX` are
     /// allocated.
@@ -120,7 +120,8 @@ pub type Result<T> = core::result::Result<T, Error>;
 /// assert_eq!(window(&mut space), Err(TryError::Refused(Error::ResourceNotAvailable)));
 /// # Ok::<(), TryError>(())
 /// ```
-#[derive(Copy, Clone, PartialEq, Eq, PartialOrd, Ord, Debug)]
+#[derive(Copy, Clone, PartialEq, Eq, PartialOrd, Ord, Hash, Debug)]
+#[non_exhaustive]
 pub enum TryError {
     /// The error that the call without `try_` would return.
     Refused(Error),

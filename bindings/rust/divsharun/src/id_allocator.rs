@@ -60,6 +60,7 @@ impl IdAllocator {
     }
 
     /// Returns whether the id is allocated. An id outside the range is not.
+    #[must_use]
     pub fn is_allocated(&self, id: u32) -> bool {
         self.0.is_allocated(id)
     }
@@ -77,6 +78,7 @@ impl IdAllocator {
     }
 
     /// Returns the number of allocated ids in constant time. It does not allocate memory.
+    #[must_use]
     pub fn held_count(&self) -> u64 {
         self.0.held_count()
     }

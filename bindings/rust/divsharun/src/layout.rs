@@ -47,6 +47,7 @@ impl<'a> Layout<'a> {
     }
 
     /// Returns an iterator over the allocated ranges and the gaps, in ascending order.
+    #[must_use]
     pub fn blocks(&self) -> Blocks<'_> {
         Blocks {
             next: Some(self.allocator.base()),

@@ -150,6 +150,7 @@
 #![no_std]
 #![forbid(unsafe_code)]
 #![deny(missing_docs)]
+#![warn(clippy::must_use_candidate)]
 
 extern crate alloc;
 
@@ -160,6 +161,8 @@ mod error;
 mod id_allocator;
 mod layout;
 mod node_state;
+#[cfg(test)]
+mod proved_calls;
 mod range;
 #[cfg(feature = "serde")]
 mod saved;

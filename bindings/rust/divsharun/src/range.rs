@@ -1,11 +1,14 @@
 use crate::error::or_abort;
-use crate::Result;
-use core::fmt;
+use crate::{Error, Result};
+use core::{fmt, ops};
 
 /// A closed range of addresses, which includes its start and its end.
 ///
 /// It is never empty and never has all 2^64 addresses, so its length fits a `u64`. Ranges are
 /// ordered by start, then by end.
+///
+/// `Display` writes both ends in hexadecimal, like `/proc/iomem`. `LowerHex` applies the flags of
+/// the format to each end.
 ///
 /// # Example
 ///
@@ -17,6 +20,10 @@ use core::fmt;
 ///
 /// let registers = RangeInclusive::new(0xd000_0100, 0xd000_01ff)?;
 /// assert!(window.contains(&registers) && registers.overlaps(&window));
+///
+/// assert_eq!(window.to_string(), "d0000000-d0000fff");
+/// assert_eq!(format!("{registers:#x}"), "0xd0000100-0xd00001ff");
+/// assert_eq!(RangeInclusive::try_from(0xd000_0000..=0xd000_0fff)?, window);
 /// # Ok::<(), divsharun::Error>(())
 /// ```
 #[derive(Copy, Clone, PartialEq, Eq, PartialOrd, Ord, Hash)]
@@ -36,26 +43,44 @@ impl RangeInclusive {
     }
 
     /// Returns the number of addresses in the range.
+    #[must_use]
     pub fn len(&self) -> u64 {
         self.0.len()
     }
 
     /// Returns whether both ranges share an address.
+    #[must_use]
     pub fn overlaps(&self, other: &RangeInclusive) -> bool {
         self.0.overlaps(&other.0)
     }
 
     /// Returns whether every address of `other` is in the range.
+    #[must_use]
     pub fn contains(&self, other: &RangeInclusive) -> bool {
         self.0.contains(&other.0)
     }
 
+    /// Returns whether the address is in the range.
+    #[must_use]
+    pub fn contains_address(&self, address: u64) -> bool {
+        self.start() <= address && address <= self.end()
+    }
+
+    /// Returns the addresses that are in both ranges, or `None` if there are none.
+    #[must_use]
+    pub fn intersection(&self, other: &RangeInclusive) -> Option<RangeInclusive> {
+        let start = self.start().max(other.start());
+        RangeInclusive::new(start, self.end().min(other.end())).ok()
+    }
+
     /// Returns the first address.
+    #[must_use]
     pub fn start(&self) -> u64 {
         self.0.start()
     }
 
     /// Returns the last address.
+    #[must_use]
     pub fn end(&self) -> u64 {
         self.0.end()
     }
@@ -64,5 +89,40 @@ impl RangeInclusive {
 impl fmt::Debug for RangeInclusive {
     fn fmt(&self, f: &mut fmt::Formatter<'_>) -> fmt::Result {
         self.0.fmt(f)
+    }
+}
+
+impl fmt::LowerHex for RangeInclusive {
+    fn fmt(&self, f: &mut fmt::Formatter<'_>) -> fmt::Result {
+        fmt::LowerHex::fmt(&self.start(), f)?;
+        f.write_str("-")?;
+        fmt::LowerHex::fmt(&self.end(), f)
+    }
+}
+
+impl fmt::Display for RangeInclusive {
+    fn fmt(&self, f: &mut fmt::Formatter<'_>) -> fmt::Result {
+        fmt::LowerHex::fmt(self, f)
+    }
+}
+
+impl From<RangeInclusive> for ops::RangeInclusive<u64> {
+    fn from(range: RangeInclusive) -> Self {
+        range.start()..=range.end()
+    }
+}
+
+/// # Errors
+///
+/// - `InvalidRange` with both ends, if the range is empty or has all 2^64 addresses.
+impl TryFrom<ops::RangeInclusive<u64>> for RangeInclusive {
+    type Error = Error;
+
+    fn try_from(range: ops::RangeInclusive<u64>) -> Result<Self> {
+        // An iterator that has returned its last address is empty, and its start can equal its end.
+        if range.is_empty() {
+            return Err(Error::InvalidRange(*range.start(), *range.end()));
+        }
+        RangeInclusive::new(*range.start(), *range.end())
     }
 }

@@ -216,20 +216,18 @@ fn a_layout_has_every_address_once() {
     assert_eq!(layout.blocks().count(), 4);
 }
 
-/// The names and values of fields, as derives write them.
+/// Checks the names and values of fields. An allocator shows its allocated ranges and not its tree.
 #[test]
 fn debug_texts_show_the_fields() {
     let mut space = AddressAllocator::new(16, 4).unwrap();
     let held = space.allocate(1, 1, AllocPolicy::LastMatch).unwrap();
-    let text = format!("{space:?}");
-    for piece in [
-        "AddressAllocator { address_space: RangeInclusive { start: 16, end: 19 }, interval_tree: \
-         IntervalTree { root: Some(InnerNode { key: RangeInclusive { start: 19, end: 19 }, \
-         node_state: Allocated, ",
-        "left: Some(InnerNode { key: RangeInclusive { start: 16, end: 18 }, node_state: Free, ",
-    ] {
-        assert!(text.contains(piece), "{text}");
-    }
+    let held_text = "RangeInclusive { start: 19, end: 19 }";
+    assert_eq!(
+        format!("{space:?}"),
+        format!(
+            "AddressAllocator {{ base: 16, end: 19, held_count: 1, held_ranges: [{held_text}] }}"
+        )
+    );
     let mut ids = IdAllocator::new(5, 23).unwrap();
     for id in [5, 6] {
         assert_eq!(ids.allocate_id(), Ok(id));
@@ -310,4 +308,85 @@ fn a_layout_is_written_as_the_kernel_does() {
         let layout = space.layout().named(names).named(others);
         assert_eq!(layout.to_string(), text);
     }
+}
+
+#[test]
+fn ranges_convert_and_are_written_in_hexadecimal() {
+    let range = RangeInclusive::new(0xd000_0000, 0xd000_0fff).unwrap();
+    assert_eq!(range.to_string(), "d0000000-d0000fff");
+    assert_eq!(format!("{range:x}"), "d0000000-d0000fff");
+    assert_eq!(format!("{range:#012x}"), "0x00d0000000-0x00d0000fff");
+    let ends = std::ops::RangeInclusive::from(range);
+    assert_eq!(ends, 0xd000_0000..=0xd000_0fff);
+    assert_eq!(RangeInclusive::try_from(ends), Ok(range));
+
+    let refused = |start, end| Err(Error::InvalidRange(start, end));
+    // Clippy finds this range empty, as it is.
+    #[allow(clippy::reversed_empty_ranges)]
+    let reversed = 5..=4;
+    assert_eq!(RangeInclusive::try_from(reversed), refused(5, 4));
+    assert_eq!(RangeInclusive::try_from(0..=u64::MAX), refused(0, u64::MAX));
+    let mut spent = 7..=7;
+    spent.next();
+    assert_eq!(RangeInclusive::try_from(spent), refused(7, 7));
+}
+
+#[test]
+fn ranges_meet_in_what_both_have() {
+    let ranges = || {
+        let starts = [0, 1, 2, 3, u64::MAX - 2, u64::MAX - 1, u64::MAX];
+        let pairs = starts
+            .into_iter()
+            .flat_map(move |start| starts.map(|end| (start, end)));
+        pairs.filter_map(|(start, end)| RangeInclusive::new(start, end).ok())
+    };
+    for (range, other) in ranges().flat_map(|range| ranges().map(move |other| (range, other))) {
+        let common = range.intersection(&other);
+        assert_eq!(common.is_some(), range.overlaps(&other));
+        for address in [
+            0,
+            1,
+            2,
+            3,
+            4,
+            u64::MAX - 3,
+            u64::MAX - 2,
+            u64::MAX - 1,
+            u64::MAX,
+        ] {
+            let in_range = std::ops::RangeInclusive::from(range).contains(&address);
+            assert_eq!(range.contains_address(address), in_range);
+            let in_both = in_range && other.contains_address(address);
+            assert_eq!(
+                common.is_some_and(|common| common.contains_address(address)),
+                in_both
+            );
+        }
+    }
+}
+
+#[test]
+fn a_request_is_allocated_as_its_numbers_are() {
+    let mut spaces = [0x100, 0x100].map(|size| AddressAllocator::new(0, size).unwrap());
+    for policy in [
+        AllocPolicy::LastMatch,
+        AllocPolicy::FirstMatch,
+        AllocPolicy::ExactMatch(0x40),
+    ] {
+        let request = Constraint::new(0x20, 0x20, policy).unwrap();
+        assert_eq!(
+            (request.size(), request.align(), request.policy()),
+            (0x20, 0x20, policy)
+        );
+        let [by_request, by_numbers] = &mut spaces;
+        let range = by_numbers.allocate(0x20, 0x20, policy);
+        assert_eq!(by_request.allocate_constraint(request), range);
+    }
+    assert_eq!(spaces[0], spaces[1]);
+    let request = Constraint::new(0x20, 0x20, AllocPolicy::ExactMatch(0x40)).unwrap();
+    let error = spaces[0].allocate_constraint(request).unwrap_err();
+    assert_eq!(
+        spaces[0].try_allocate_constraint(request),
+        Err(TryError::Refused(error))
+    );
 }

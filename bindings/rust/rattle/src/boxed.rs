@@ -23,6 +23,7 @@ impl<T> Box<T> {
     }
 
     /// Returns the value in the box.
+    #[must_use]
     pub fn into_inner(boxed: Self) -> T {
         follow();
         let [value] = *boxed.0;

@@ -8,6 +8,7 @@ pub struct BTreeSet<T>(alloc::collections::BTreeSet<T>);
 
 impl<T: Ord> BTreeSet<T> {
     /// Creates an empty set. It does not allocate.
+    #[must_use]
     pub fn new(_alloc: Global) -> Self {
         BTreeSet(alloc::collections::BTreeSet::new())
     }
@@ -32,6 +33,7 @@ impl<T: Ord> BTreeSet<T> {
     }
 
     /// Returns the lowest value.
+    #[must_use]
     pub fn first(&self) -> Option<&T> {
         self.0.first()
     }
@@ -42,11 +44,13 @@ impl<T: Ord> BTreeSet<T> {
     }
 
     /// Returns the number of values.
+    #[must_use]
     pub fn len(&self) -> usize {
         self.0.len()
     }
 
     /// Returns whether the set is empty.
+    #[must_use]
     pub fn is_empty(&self) -> bool {
         self.0.is_empty()
     }
@@ -69,6 +73,7 @@ pub struct BTreeMap<K, V>(alloc::collections::BTreeMap<K, V>);
 
 impl<K: Ord, V> BTreeMap<K, V> {
     /// Creates an empty map. It does not allocate.
+    #[must_use]
     pub fn new(_alloc: Global) -> Self {
         BTreeMap(alloc::collections::BTreeMap::new())
     }
@@ -99,11 +104,13 @@ impl<K: Ord, V> BTreeMap<K, V> {
     }
 
     /// Returns the number of keys.
+    #[must_use]
     pub fn len(&self) -> usize {
         self.0.len()
     }
 
     /// Returns whether the map is empty.
+    #[must_use]
     pub fn is_empty(&self) -> bool {
         self.0.is_empty()
     }

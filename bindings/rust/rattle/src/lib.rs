@@ -4,6 +4,7 @@
 //! process, as in Rust.
 #![no_std]
 #![forbid(unsafe_code)]
+#![warn(clippy::must_use_candidate)]
 #![deny(missing_docs)]
 extern crate alloc;
 #[cfg(any(feature = "program", feature = "count_boxes"))]

@@ -8,16 +8,19 @@ pub struct HostRuntime;
 
 impl HostRuntime {
     /// Returns the allocator.
+    #[must_use]
     pub fn alloc(&self) -> Global {
         Global
     }
 
     /// Returns the standard input, unbuffered.
+    #[must_use]
     pub fn stdin(&self) -> File {
         stream(std::io::stdin().as_fd())
     }
 
     /// Returns the standard output, unbuffered.
+    #[must_use]
     pub fn stdout(&self) -> File {
         stream(std::io::stdout().as_fd())
     }

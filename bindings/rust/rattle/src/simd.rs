@@ -14,6 +14,7 @@ const LOW_BITS: u128 = u128::from_ne_bytes([0x7F; 16]);
 impl u8x16 {
     /// Returns the first sixteen bytes of the slice.
     #[inline(always)]
+    #[must_use]
     pub fn from_slice(bytes: &[u8]) -> u8x16 {
         let mut lanes = [0; 16];
         lanes.copy_from_slice(&bytes[..16]);
@@ -22,12 +23,14 @@ impl u8x16 {
 
     /// Returns a vector with the byte in every lane.
     #[inline(always)]
+    #[must_use]
     pub fn splat(byte: u8) -> u8x16 {
         u8x16(u128::from_ne_bytes([byte; 16]))
     }
 
     /// Returns the mask of the lanes in which both vectors have the same byte.
     #[inline(always)]
+    #[must_use]
     pub fn simd_eq(self, other: u8x16) -> Mask {
         let apart = self.0 ^ other.0;
         Mask(!(((apart & LOW_BITS) + LOW_BITS) | apart | LOW_BITS))
@@ -37,6 +40,7 @@ impl u8x16 {
 impl Mask {
     /// Returns the number whose bit i is set if lane i is.
     #[inline(always)]
+    #[must_use]
     pub fn to_bitmask(self) -> u64 {
         top_bits(self.0 as u64) | top_bits((self.0 >> 64) as u64) << 8
     }

@@ -32,6 +32,7 @@ pub struct Fields(alloc::vec::Vec<Field>);
 
 impl Fields {
     /// Returns the value of the field with this name.
+    #[must_use]
     pub fn get(&self, name: &str) -> Option<&Value> {
         self.iter()
             .find(|field| field.0 == name)
@@ -39,11 +40,13 @@ impl Fields {
     }
 
     /// Returns the number of fields.
+    #[must_use]
     pub fn len(&self) -> usize {
         self.0.len()
     }
 
     /// Returns whether there are no fields.
+    #[must_use]
     pub fn is_empty(&self) -> bool {
         self.0.is_empty()
     }
@@ -104,11 +107,13 @@ impl Value {
     }
 
     /// Returns whether the value is `null`.
+    #[must_use]
     pub fn is_null(&self) -> bool {
         matches!(self, Value::Null)
     }
 
     /// Returns the value as a whole number.
+    #[must_use]
     pub fn as_u64(&self) -> Option<u64> {
         match self {
             Value::Number(Number::Whole(number)) => Some(*number),
@@ -117,6 +122,7 @@ impl Value {
     }
 
     /// Returns the value as a string.
+    #[must_use]
     pub fn as_str(&self) -> Option<&str> {
         match self {
             Value::String(text) => Some(text),
@@ -125,6 +131,7 @@ impl Value {
     }
 
     /// Returns the value as a list.
+    #[must_use]
     pub fn as_array(&self) -> Option<&Vec<Value>> {
         match self {
             Value::Array(items) => Some(items),
@@ -133,6 +140,7 @@ impl Value {
     }
 
     /// Returns the fields of the value.
+    #[must_use]
     pub fn as_object(&self) -> Option<&Fields> {
         match self {
             Value::Object(fields) => Some(fields),
@@ -141,6 +149,7 @@ impl Value {
     }
 
     /// Returns the value of a field.
+    #[must_use]
     pub fn get(&self, name: &str) -> Option<&Value> {
         self.as_object()?.get(name)
     }

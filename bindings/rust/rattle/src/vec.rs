@@ -8,6 +8,7 @@ pub struct Vec<T>(alloc::vec::Vec<T>);
 
 impl<T> Vec<T> {
     /// Creates an empty vector. It does not allocate.
+    #[must_use]
     pub fn new(_alloc: Global) -> Self {
         Vec(alloc::vec::Vec::new())
     }
@@ -35,6 +36,7 @@ impl<T> Vec<T> {
     }
 
     /// Returns the values.
+    #[must_use]
     pub fn as_slice(&self) -> &[T] {
         &self.0
     }

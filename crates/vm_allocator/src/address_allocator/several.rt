@@ -29,7 +29,6 @@ impl AddressAllocator {
             (λ error. FailsAll (state_of self.old) requests.now error (state_of self.new)) }
         ensures state { IsAddressState (state_of self.new) }
     {
-        self.recall_invariant();
         let mut ranges = Vec::with_capacity(alloc, requests.len())?;
         for request in requests {
             let answer = self.allocate(alloc, request.size(), request.align(), request.policy());
@@ -56,7 +55,6 @@ impl AddressAllocator {
             → state_of self.new ≡ before }
         ensures state { IsAddressState (state_of self.new) }
     {
-        self.recall_invariant();
         while let Some(range) = ranges.pop() {
             let _ = self.free(&range);
         }

@@ -7,7 +7,7 @@ ghost use Rattle.vm_engine.specs.Engine.Changes.{KeepsShape};
 ghost use Rattle.vm_engine.specs.Counts.NodeCounts.{nodes_to};
 ghost use Rattle.vm_engine.specs.Engine.NodeFields.{side};
 
-use super::summary::{Change, free_summary_of, refresh_free, summary_of};
+use super::summary::{Change, free_summary_over, refresh_free, summary_of};
 use super::{Child, InnerNode};
 use crate::Steps;
 use crate::ordering::compare;
@@ -25,13 +25,10 @@ impl InnerNode {
     {
         self.key = key;
         self.node_state = node_state;
-        refresh_free(
-            summary_of(&self.left).free,
-            summary_of(&self.right).free,
-            free_summary_of(&self.key, self.node_state),
-            &mut self.max_free,
-            &mut self.alignments,
-        )
+        let left = summary_of(&self.left).free;
+        let right = summary_of(&self.right).free;
+        let free = free_summary_over(left, right, &self.key, self.node_state);
+        refresh_free(free, &mut self.max_free, &mut self.alignments)
     }
 }
 
@@ -65,11 +62,8 @@ pub(crate) fn rewrite_at(
     if let Change::Nothing = change {
         return change;
     }
-    refresh_free(
-        summary_of(&tree.left).free,
-        summary_of(&tree.right).free,
-        free_summary_of(&tree.key, tree.node_state),
-        &mut tree.max_free,
-        &mut tree.alignments,
-    )
+    let left = summary_of(&tree.left).free;
+    let right = summary_of(&tree.right).free;
+    let free = free_summary_over(left, right, &tree.key, tree.node_state);
+    refresh_free(free, &mut tree.max_free, &mut tree.alignments)
 }

@@ -14,7 +14,7 @@ ghost use Rattle.vm_engine.specs.Engine.NodeFields.{side};
 use super::InnerNode;
 use super::delete::delete_at;
 use super::link::link_at;
-use super::summary::{Change, free_summary_of, refresh_free, summary_of};
+use super::summary::{Change, free_summary_over, refresh_free, summary_of};
 use crate::Steps;
 use crate::ordering::{compare, ends_before};
 use std::alloc::Global;
@@ -172,13 +172,10 @@ impl InnerNode {
                 right.mark_as_allocated(key, count)
             }
         };
-        refresh_free(
-            summary_of(&self.left).free,
-            summary_of(&self.right).free,
-            free_summary_of(&self.key, self.node_state),
-            &mut self.max_free,
-            &mut self.alignments,
-        );
+        let left = summary_of(&self.left).free;
+        let right = summary_of(&self.right).free;
+        let free = free_summary_over(left, right, &self.key, self.node_state);
+        refresh_free(free, &mut self.max_free, &mut self.alignments);
         answer
     }
 

@@ -16,7 +16,7 @@ returns-in-Err-clause-answer c =
     let answer : Allocates mid c.request-item.result (Err c.in-Err.error) (state_of c.allocate-answer.new.self) = rw (c.size.ensures.value, c.align.ensures, c.policy.ensures) at c.in-Err.ensures.answer in
     let refused = subst (λ (v : AddressState). Allocates mid c.request-item.result (Err c.in-Err.error) v) same answer in
     let each = subst (λ (v : AddressState). AllocatesEach before (take i all) c.loop-request.ranges.items v) (sym same) c.loop-request.invariant.each in
-    (c.free_all.ensures.undone before (take i all) c.recall_invariant.ensures each, inr (refused_at all i c.loop-request.ranges.items before mid c.request-item.result c.in-Err.error c.loop-request-test.true c.request-item.is c.loop-request.invariant.each refused))
+    (c.free_all.ensures.undone before (take i all) c.self.invariant.state each, inr (refused_at all i c.loop-request.ranges.items before mid c.request-item.result c.in-Err.error c.loop-request-test.true c.request-item.is c.loop-request.invariant.each refused))
 
 pub loop-request-preserved : goal.loop-request-preserved
 loop-request-preserved c =

@@ -6,7 +6,7 @@ use Rattle.vm_allocator.proofs.Answers.Several.{last_undone, none_given}
 use Rattle.vm_allocator.proofs.address_allocator.AddressAllocator.free_all.Goals as goal
 
 pub loop-range-init : goal.loop-range-init
-loop-range-init c = record { left = λ before requests i e. (requests, e); state = c.recall_invariant.ensures }
+loop-range-init c = record { left = λ before requests i e. (requests, e); state = c.self.invariant.state }
 
 pub loop-range-preserved : goal.loop-range-preserved
 loop-range-preserved c = record {

@@ -18,7 +18,8 @@ returns-in_err-interval_tree-clause-nodes c =
 pub invariant_of-result : goal.invariant_of-result
 invariant_of-result c =
     let a = over c.in-Some.parts.space c.in_ok-interval_tree.interval_tree in
-    encoded_ends (view c.args.value.now) a (parts_encoded_by (view c.args.value.now) a.space (view c.in-Some.parts.root.now) a.tree (sym c.in-Some.ensures) c.in_ok-interval_tree.ensures)
+    let encoded = parts_encoded_by (view c.args.value.now) a.space (view c.in-Some.parts.root.now) a.tree (sym c.in-Some.ensures) c.in_ok-interval_tree.ensures in
+    record { same_space = encoded_ends (view c.args.value.now) a encoded; state = encoded_state (view c.args.value.now) a encoded }
 
 pub returns-clause-answer : goal.returns-clause-answer
 returns-clause-answer c =

@@ -14,7 +14,10 @@ returns-in_err-interval_tree-clause-answer c =
     rw is (not_repaired (view c.args.value.now) c.in-Some.parts.space (view c.in-Some.parts.root.now) e (sym c.in-Some.ensures) c.in_err-interval_tree.ensures.answer)
 
 pub invariant_of-result : goal.invariant_of-result
-invariant_of-result c = c.in_ok-interval_tree.ensures.answer.is_space
+invariant_of-result c = record {
+  same_space = c.in_ok-interval_tree.ensures.answer.is_space;
+  state = c.in_ok-interval_tree.ensures.state;
+}
 
 pub returns-clause-answer : goal.returns-clause-answer
 returns-clause-answer c =

@@ -1,12 +1,13 @@
-use Rattle.std.proofs.Common.{sym, arith}
+use Rattle.std.proofs.Common.{◌≡◌, false, refl, sym, arith}
 use Rattle.std.specs.List.{All}
+use Rattle.std.specs.Option.{is_some}
 use Rattle.std.proofs.lemmas.Grind.{common_steps}
 use Rattle.vm_engine.specs.Tree.Fit.{HasNoFit}
 use Rattle.vm_engine.specs.Tree.Shape.{blocks}
 use Rattle.vm_engine.specs.Engine.NodeFields.{side}
 use Rattle.vm_engine.proofs.Choosing.PlaceSearch.{nothing_found, still_nothing, none_of, first_here, first_through_right, firsts}
 use Rattle.vm_engine.proofs.Counts.Entering.{none_unless_searched}
-use Rattle.vm_engine.proofs.node.InnerNode.+first_place.Goals.{in-Some, in_default}
+use Rattle.vm_engine.proofs.node.InnerNode.+first_place.Goals.{in-Some+else-is_some, in_default}
 use Rattle.vm_engine.proofs.Counts.Searching.{firsts as searches}
 use Rattle.vm_engine.proofs.node.InnerNode.+first_place.Goals as goal
 
@@ -14,7 +15,7 @@ pub returns-in-Some-lowest_fit-clause-place : goal.returns-in-Some-lowest_fit-cl
 returns-in-Some-lowest_fit-clause-place t c =
     let none : All (HasNoFit c.args.size c.args.alignment) (blocks (side c.self.inside.left)) =
     elim c.match-may_fit.branch [
-      | in-Some w ↦ rw w.in-Some.ensures.0 (nothing_found w.first_place.new.found _ _ w.first_place.ensures.place (rw (← w.found-is) (sym c.if-is_some.ensures)))
+      | in-Some+else-is_some w ↦ rw w.in-Some.ensures.0 (nothing_found w.first_place.new.found _ _ w.first_place.ensures.place (sym w.if-is_some.ensures))
       | in_default w ↦ none_unless_searched _ _ _ c.requires.sized c.requires.aligned w.in_default.ensures
     ] in
     first_here c.args.size c.args.alignment _ _ _ _ _ (sym c.self.view_is) none c.in-Some-lowest_fit.ensures
@@ -23,7 +24,7 @@ pub returns-in-Some-may_fit-clause-place : goal.returns-in-Some-may_fit-clause-p
 returns-in-Some-may_fit-clause-place t c =
     let none : All (HasNoFit c.args.size c.args.alignment) (blocks (side c.self.inside.left)) =
     elim c.match-may_fit.branch [
-      | in-Some w ↦ rw w.in-Some.ensures.0 (nothing_found w.first_place.new.found _ _ w.first_place.ensures.place (rw (← w.found-is) (sym c.if-is_some.ensures)))
+      | in-Some+else-is_some w ↦ rw w.in-Some.ensures.0 (nothing_found w.first_place.new.found _ _ w.first_place.ensures.place (sym w.if-is_some.ensures))
       | in_default w ↦ none_unless_searched _ _ _ c.requires.sized c.requires.aligned w.in_default.ensures
     ] in
     first_through_right c.args.size c.args.alignment _ _ _ _ c.first_place-in-Some-may_fit.new.found (sym c.self.view_is) none c.in_default-lowest_fit.ensures (rw c.in-Some-may_fit.ensures.0 c.first_place-in-Some-may_fit.ensures.place)
@@ -32,11 +33,16 @@ pub returns-in_default-may_fit-clause-place : goal.returns-in_default-may_fit-cl
 returns-in_default-may_fit-clause-place t c =
     let none : All (HasNoFit c.args.size c.args.alignment) (blocks (side c.self.inside.left)) =
     elim c.match-may_fit.branch [
-      | in-Some w ↦ rw w.in-Some.ensures.0 (nothing_found w.first_place.new.found _ _ w.first_place.ensures.place (rw (← w.found-is) (sym c.if-is_some.ensures)))
+      | in-Some+else-is_some w ↦ rw w.in-Some.ensures.0 (nothing_found w.first_place.new.found _ _ w.first_place.ensures.place (sym w.if-is_some.ensures))
       | in_default w ↦ none_unless_searched _ _ _ c.requires.sized c.requires.aligned w.in_default.ensures
     ] in
     let right = none_unless_searched _ _ _ c.requires.sized c.requires.aligned c.in_default-may_fit.ensures in
-    still_nothing c.match-may_fit.found _ _ (none_of c.args.size c.args.alignment _ _ _ _ (sym c.self.view_is) none c.in_default-lowest_fit.ensures right) (sym c.if-is_some.ensures)
+    let none_yet : is_some c.match-may_fit.found ≡ false =
+    elim c.match-may_fit.branch [
+      | in-Some+else-is_some w ↦ rw (w.found-is) (sym w.if-is_some.ensures)
+      | in_default w ↦ rw (w.found-is, c.requires.none_yet) refl
+    ] in
+    still_nothing c.match-may_fit.found _ _ (none_of c.args.size c.args.alignment _ _ _ _ (sym c.self.view_is) none c.in_default-lowest_fit.ensures right) none_yet
 
 -- Proof: this goal has a name because the search for a proof is slow.
 pub first_place-requires : goal.first_place-requires

@@ -1,13 +1,15 @@
 //! Checks that each call returns the result of the proved call, for arguments of all magnitudes.
 
+#[path = "../tests/draw/mod.rs"]
 mod draw;
 
-use divsharun::{
+use crate::{
     AddressAllocator, AllocPolicy, Constraint, DeviceManager, IdAllocator, RangeInclusive, TryError,
 };
+use alloc::{format, vec::Vec};
+use core::fmt::Debug;
 use draw::Draw;
 use rattle::Global;
-use std::fmt::Debug;
 
 /// Numbers at both ends and between.
 const NUMBERS: [u64; 6] = [0, 1, 2, 16, u64::MAX - 1, u64::MAX];
@@ -65,7 +67,10 @@ fn requests() {
     for (size, align) in pairs() {
         for policy in [AllocPolicy::FirstMatch, AllocPolicy::ExactMatch(18)] {
             let request = Constraint::new(size, align, policy);
-            same(request, proved::Constraint::new(size, align, policy));
+            same(
+                request,
+                proved::Constraint::new(size, align, policy.proved()),
+            );
             let parts = request.map(|request| (request.size(), request.align()));
             assert!(parts.is_err() || parts == Ok((size, align)));
         }
@@ -103,7 +108,9 @@ impl Spaces {
             2 => AllocPolicy::LastMatch,
             _ => AllocPolicy::ExactMatch(self.proved.base() + draw.below(WIDTH)),
         };
-        let proved = self.proved.allocate_counted(Global, size, align, policy);
+        let proved = self
+            .proved
+            .allocate_counted(Global, size, align, policy.proved());
         same(self.plain.allocate(size, align, policy), &proved.0);
         same(self.counted.allocate_counted(size, align, policy), &proved);
         match self.or_try_error.try_allocate(size, align, policy) {
@@ -124,7 +131,7 @@ impl Spaces {
                 _ => AllocPolicy::ExactMatch(at - at % align),
             };
             requests.push(Constraint::new(size, align, policy).unwrap());
-            proved_requests.push(proved::Constraint::new(size, align, policy).unwrap());
+            proved_requests.push(proved::Constraint::new(size, align, policy.proved()).unwrap());
         }
         let proved = self.proved.allocate_all(Global, &proved_requests);
         same(self.plain.allocate_all(&requests), &proved);
@@ -157,7 +164,7 @@ impl Spaces {
 
     fn compare(&self, before: &(AddressAllocator, proved::AddressAllocator)) {
         let (space, proved) = (&self.plain, &self.proved);
-        same(space, proved);
+        same(&space.0, proved);
         assert!(*space == self.counted && *space == self.or_try_error);
         same(
             (
@@ -184,7 +191,7 @@ impl Spaces {
         let held: Vec<_> = space.held_ranges().collect();
         let proved_held: Vec<_> = proved.held_ranges().collect();
         same(
-            AddressAllocator::with_held(space.base(), WIDTH, &held),
+            AddressAllocator::with_held(space.base(), WIDTH, &held).map(|space| space.0),
             proved::AddressAllocator::with_held(Global, proved.base(), WIDTH, &proved_held),
         );
     }
@@ -216,7 +223,10 @@ fn address_calls() {
 fn spaces() {
     for (base, size) in pairs() {
         let space = AddressAllocator::new(base, size);
-        same(&space, proved::AddressAllocator::new(Global, base, size));
+        same(
+            space.as_ref().map(|space| &space.0),
+            proved::AddressAllocator::new(Global, base, size),
+        );
         let or_try_error = AddressAllocator::try_new(base, size);
         assert_eq!(or_try_error, space.map_err(TryError::Refused));
     }
@@ -233,7 +243,7 @@ fn spaces_with_ranges() {
                 let (held, proved_held) = ([*one, *two], [*proved_one, *proved_two]);
                 let space = AddressAllocator::with_held(base, size, &held);
                 let proved = proved::AddressAllocator::with_held(Global, base, size, &proved_held);
-                same(&space, proved);
+                same(space.as_ref().map(|space| &space.0), proved);
                 let or_try_error = AddressAllocator::try_with_held(base, size, &held);
                 assert_eq!(or_try_error, space.map_err(TryError::Refused));
             }
@@ -287,12 +297,12 @@ fn devices() {
             match draw.below(2) {
                 0 => same(
                     devices.reserve(size, align, policy),
-                    proved.reserve(Global, size, align, policy),
+                    proved.reserve(Global, size, align, policy.proved()),
                 ),
                 _ => same(devices.release(id), proved.release(id)),
             }
             same(devices.slot(id), proved.slot(id));
-            same(&devices, &proved);
+            same(&devices.0, &proved);
         }
     }
     for (first, last, base, size) in [
@@ -302,7 +312,7 @@ fn devices() {
         (0, 1, 2, 3),
     ] {
         same(
-            DeviceManager::new(first, last, base, size),
+            DeviceManager::new(first, last, base, size).map(|devices| devices.0),
             proved_devices::DeviceManager::new(Global, first, last, base, size),
         );
     }
