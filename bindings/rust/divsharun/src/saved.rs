@@ -13,11 +13,15 @@ mod tests;
 mod writing;
 
 use crate::error::{or_abort, out_of_memory};
-use crate::{AddressAllocator, DeviceManager, IdAllocator, NodeState, RangeInclusive};
+use crate::{
+    AddressAllocator, AllocPolicy, DeviceManager, DeviceSlot, IdAllocator, NodeState,
+    RangeInclusive,
+};
 use form::Form;
 use rattle::{Global, Value};
-use reading::Reading;
+use reading::{Item, Policy, Reading, Slot};
 use serde::de::{DeserializeSeed, Error as _};
+use serde::ser::SerializeStruct;
 use serde::{Deserialize, Deserializer, Serialize, Serializer};
 use writing::Writing;
 
@@ -94,5 +98,43 @@ impl<'de> Deserialize<'de> for NodeState {
     fn deserialize<D: Deserializer<'de>>(from: D) -> Result<Self, D::Error> {
         let reader = proved::allocation_engine::NodeState::from_value;
         read(&Form::State, reader, from).map(NodeState::of)
+    }
+}
+
+impl Serialize for DeviceSlot {
+    fn serialize<S: Serializer>(&self, to: S) -> Result<S::Ok, S::Error> {
+        let mut fields = to.serialize_struct("DeviceSlot", 2)?;
+        fields.serialize_field("id", &self.id)?;
+        fields.serialize_field("mmio_range", &self.range)?;
+        fields.end()
+    }
+}
+
+impl<'de> Deserialize<'de> for DeviceSlot {
+    fn deserialize<D: Deserializer<'de>>(from: D) -> Result<Self, D::Error> {
+        let value = Reading::new(&form::SLOT).deserialize(from)?;
+        let slot =
+            Slot::decode(&value).ok_or_else(|| D::Error::missing_field("id or mmio_range"))?;
+        let range = RangeInclusive::new(slot.start, slot.end).map_err(D::Error::custom)?;
+        Ok(DeviceSlot { id: slot.id, range })
+    }
+}
+
+impl Serialize for AllocPolicy {
+    fn serialize<S: Serializer>(&self, to: S) -> Result<S::Ok, S::Error> {
+        let [first, last, exact] = form::POLICIES;
+        match self {
+            AllocPolicy::FirstMatch => to.serialize_unit_variant(form::POLICY, 0, first),
+            AllocPolicy::LastMatch => to.serialize_unit_variant(form::POLICY, 1, last),
+            AllocPolicy::ExactMatch(start) => {
+                to.serialize_newtype_variant(form::POLICY, 2, exact, start)
+            }
+        }
+    }
+}
+
+impl<'de> Deserialize<'de> for AllocPolicy {
+    fn deserialize<D: Deserializer<'de>>(from: D) -> Result<Self, D::Error> {
+        from.deserialize_enum(form::POLICY, &form::POLICIES, Policy)
     }
 }

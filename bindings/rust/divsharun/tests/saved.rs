@@ -9,7 +9,8 @@ use serde::de::{DeserializeOwned, IntoDeserializer};
 use serde::{Deserialize, Serialize};
 use std::cell::Cell;
 use vm_allocator::{
-    AddressAllocator, AllocPolicy, DeviceManager, IdAllocator, NodeState, RangeInclusive,
+    AddressAllocator, AllocPolicy, DeviceManager, DeviceSlot, IdAllocator, NodeState,
+    RangeInclusive,
 };
 
 const FRESH: &str = concat!(
@@ -206,6 +207,34 @@ fn written_values_are_read() {
     let all = r#"{"range_base":0,"next_id":null,"range_end":4294967295,"freed_ids":[]}"#;
     let all: IdAllocator = serde_json::from_str(all).unwrap();
     assert_eq!((all.held_count(), all.is_allocated(u32::MAX)), (1 << 32, true));
+}
+
+#[test]
+fn policies_and_slots_have_the_form_of_derives() {
+    let policies = [AllocPolicy::FirstMatch, AllocPolicy::LastMatch, AllocPolicy::ExactMatch(7)];
+    let text = r#"["FirstMatch","LastMatch",{"ExactMatch":7}]"#;
+    assert_eq!(json(&policies), text);
+    assert_eq!(serde_json::from_str::<Vec<AllocPolicy>>(text).unwrap(), policies);
+    for wrong in [
+        r#""ExactMatch""#,
+        r#"{"FirstMatch":7}"#,
+        r#""Next""#,
+        r#"{"ExactMatch":-1}"#,
+    ] {
+        assert!(!is_read::<AllocPolicy>(wrong), "{wrong}");
+    }
+    let range = RangeInclusive::new(1, 2).unwrap();
+    let slot = DeviceSlot { id: 5, range };
+    let text = r#"{"id":5,"mmio_range":{"start":1,"end":2}}"#;
+    assert_eq!(json(&slot), text);
+    assert_eq!(serde_json::from_str::<DeviceSlot>(text).unwrap(), slot);
+    for wrong in [
+        r#"{"id":5,"mmio_range":{"start":2,"end":1}}"#,
+        r#"{"id":5}"#,
+        r#"{"id":5,"mmio_range":{"start":1,"end":2},"colour":1}"#,
+    ] {
+        assert!(!is_read::<DeviceSlot>(wrong), "{wrong}");
+    }
 }
 
 /// Returns a manager with two devices, of which the second was unplugged.

@@ -43,6 +43,12 @@ pub(super) const STATES: &[&str] = &["Free", "Allocated"];
 /// The name of the type of states.
 pub(super) const STATE: &str = "NodeState";
 
+/// The policies in the order of their declaration.
+pub(super) const POLICIES: [&str; 3] = ["FirstMatch", "LastMatch", "ExactMatch"];
+
+/// The name of the type of policies.
+pub(super) const POLICY: &str = "AllocPolicy";
+
 /// The maximum nesting of nodes in a saved tree. Trees of `vm-allocator` are never higher.
 pub(super) const MOST_NESTED: u32 = 50;
 

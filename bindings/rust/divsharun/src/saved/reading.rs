@@ -1,6 +1,9 @@
 //! Deserializes a value of a given form.
 
-use super::form::{Form, Structure, MAX_LIST_LEN, MOST_NESTED, NODE, SLOT, STATE, STATES};
+use super::form::{
+    Form, Structure, MAX_LIST_LEN, MOST_NESTED, NODE, POLICIES, SLOT, STATE, STATES,
+};
+use crate::AllocPolicy;
 use alloc::vec::Vec;
 use core::fmt;
 use core::marker::PhantomData;
@@ -179,6 +182,26 @@ impl<'de> Visitor<'de> for State {
     }
 }
 
+/// Reads a policy.
+pub(super) struct Policy;
+
+impl<'de> Visitor<'de> for Policy {
+    type Value = AllocPolicy;
+
+    fn expecting(&self, f: &mut fmt::Formatter<'_>) -> fmt::Result {
+        f.write_str("a policy")
+    }
+
+    fn visit_enum<A: EnumAccess<'de>>(self, from: A) -> Result<AllocPolicy, A::Error> {
+        let (place, content) = from.variant_seed(Name(&POLICIES))?;
+        match place {
+            0 => content.unit_variant().map(|()| AllocPolicy::FirstMatch),
+            1 => content.unit_variant().map(|()| AllocPolicy::LastMatch),
+            _ => content.newtype_variant().map(AllocPolicy::ExactMatch),
+        }
+    }
+}
+
 /// Reads a list of items with ascending ids.
 ///
 /// It stores the items in their smallest form, and stops at the first one that makes the list
@@ -209,7 +232,7 @@ impl<'de, T: Item> Visitor<'de> for RisingList<T> {
 }
 
 /// An item of a [`RisingList`] in its smallest form.
-trait Item: Sized {
+pub(super) trait Item: Sized {
     const FORM: &'static Form;
 
     /// Converts a value of this form to an item.
@@ -235,10 +258,10 @@ impl Item for u32 {
 }
 
 /// A device with its range.
-struct Slot {
-    id: u32,
-    start: u64,
-    end: u64,
+pub(super) struct Slot {
+    pub(super) id: u32,
+    pub(super) start: u64,
+    pub(super) end: u64,
 }
 
 impl Item for Slot {
