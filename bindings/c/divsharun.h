@@ -3,27 +3,27 @@
  * divsharun: allocators of address ranges and ids for the devices of a virtual
  * machine: MMIO and PIO windows, PCI bars, interrupts and memory slots.
  *
- *     vm_address_allocator *mmio;
- *     vm_range bar;
+ *     dvs_address_allocator *mmio;
+ *     dvs_range bar;
  *
- *     if (vm_address_allocator_new(0xd0000000, 0x30000000, &mmio) != VM_OK)
+ *     if (dvs_address_allocator_new(0xd0000000, 0x30000000, &mmio) != DVS_OK)
  *         return -1;
- *     if (vm_range_allocate_first(mmio, 0x1000, 0x1000, &bar, NULL) == VM_OK)
- *         vm_range_free(mmio, bar, NULL);
- *     vm_address_allocator_destroy(mmio);
+ *     if (dvs_range_allocate_first(mmio, 0x1000, 0x1000, &bar, NULL) == DVS_OK)
+ *         dvs_range_free(mmio, bar, NULL);
+ *     dvs_address_allocator_destroy(mmio);
  *
  * Units. Addresses, sizes and alignments are in addresses of the space: bytes
  * of memory, or ports for PIO. A range includes its start and its end.
  *
- * Errors. Each call returns a status, except vm_status_text() and
- * vm_version_text(). A call writes its results through its last pointers, and
- * only if it returns VM_OK. An error leaves the results and the object
- * unchanged. Two errors come first in every call: VM_NULL if a pointer is null
- * that must not be, and VM_BUSY (see vm_range_visit()). The comment of a call
+ * Errors. Each call returns a status, except dvs_status_text() and
+ * dvs_version_text(). A call writes its results through its last pointers, and
+ * only if it returns DVS_OK. An error leaves the results and the object
+ * unchanged. Two errors come first in every call: DVS_NULL if a pointer is null
+ * that must not be, and DVS_BUSY (see dvs_range_visit()). The comment of a call
  * lists the other errors in the order in which they are checked.
  *
  * Ownership. You own an object from the call that creates it until the call
- * that destroys it. You own a saved text until vm_text_destroy(). The library
+ * that destroys it. You own a saved text until dvs_text_destroy(). The library
  * keeps no pointer to your memory after a call returns. A pointer argument must
  * be null or point to a valid object of its type.
  *
@@ -32,11 +32,11 @@
  * must be the only one on its object. Any thread can use and destroy an object.
  *
  * Memory. If an allocation fails, a call frees what it has allocated and
- * returns VM_OUT_OF_MEMORY. This is the last error, except in a call that reads
+ * returns DVS_OUT_OF_MEMORY. This is the last error, except in a call that reads
  * a text. These calls also use sets and maps of the Rust standard library, which
  * end the process with abort() if their allocation fails:
- * - vm_id_free(), vm_id_allocator_read(), vm_device_manager_read();
- * - vm_device_reserve_first(), _last() and _exact(), vm_device_release().
+ * - dvs_id_free(), dvs_id_allocator_read(), dvs_device_manager_read();
+ * - dvs_device_reserve_first(), _last() and _exact(), dvs_device_release().
  *
  * Freeing a range, allocating an id and queries do not allocate memory. Reading
  * a text allocates less than 80 times its length, even if the text is
@@ -58,396 +58,396 @@
 /*
  * The version of this header. The numbers of statuses, the members of
  * structures and the behavior of calls stay the same within one
- * VM_VERSION_MAJOR. It is also the number in the name of the shared library. A
- * new VM_VERSION_MINOR can add statuses and calls.
+ * DVS_VERSION_MAJOR. It is also the number in the name of the shared library. A
+ * new DVS_VERSION_MINOR can add statuses and calls.
  */
-#define VM_VERSION_MAJOR 1
-#define VM_VERSION_MINOR 0
-#define VM_VERSION_PATCH 0
-#define VM_VERSION_TEXT "1.0.0"
+#define DVS_VERSION_MAJOR 1
+#define DVS_VERSION_MINOR 0
+#define DVS_VERSION_PATCH 0
+#define DVS_VERSION_TEXT "1.0.0"
 
 #ifdef __cplusplus
 extern "C" {
 #endif
 
 /* The result of a call. The meaning of a number never changes. */
-typedef enum vm_status {
-    VM_OK = 0,
+typedef enum dvs_status {
+    DVS_OK = 0,
     /* A range would end at or past UINT64_MAX, or all ids up to UINT32_MAX are allocated. */
-    VM_OVERFLOW = 1,
+    DVS_OVERFLOW = 1,
     /* The id to free is outside the range of the allocator. */
-    VM_OUT_OF_RANGE = 2,
+    DVS_OUT_OF_RANGE = 2,
     /* The id to free was allocated and is already freed. */
-    VM_ALREADY_RELEASED = 3,
+    DVS_ALREADY_RELEASED = 3,
     /* The id to free was never allocated, or no device has it. */
-    VM_NEVER_ALLOCATED = 4,
+    DVS_NEVER_ALLOCATED = 4,
     /* No free range fits, all ids are allocated, or the range to free is not allocated. */
-    VM_RESOURCE_NOT_AVAILABLE = 5,
+    DVS_RESOURCE_NOT_AVAILABLE = 5,
     /* The start is past the end, or the range has all 2^64 addresses. */
-    VM_INVALID_RANGE = 6,
+    DVS_INVALID_RANGE = 6,
     /* The alignment is not a power of two. */
-    VM_INVALID_ALIGNMENT = 7,
+    DVS_INVALID_ALIGNMENT = 7,
     /* Two ranges share an address. No call of this library returns it. */
-    VM_OVERLAP = 8,
+    DVS_OVERLAP = 8,
     /* Exactly the requested range is already allocated. */
-    VM_INVALID_STATE_TRANSITION = 9,
+    DVS_INVALID_STATE_TRANSITION = 9,
     /* The requested start is not a multiple of the alignment. */
-    VM_UNALIGNED_ADDRESS = 10,
+    DVS_UNALIGNED_ADDRESS = 10,
     /* The size of a space is 0. */
-    VM_UNDERFLOW = 11,
+    DVS_UNDERFLOW = 11,
     /* The size of a requested range is 0. */
-    VM_INVALID_SIZE = 12,
+    DVS_INVALID_SIZE = 12,
     /* An allocation failed. */
-    VM_OUT_OF_MEMORY = 13,
+    DVS_OUT_OF_MEMORY = 13,
     /* A pointer is null that must not be. */
-    VM_NULL = 14,
+    DVS_NULL = 14,
     /* The object is being visited, so it cannot be changed or destroyed. */
-    VM_BUSY = 15,
+    DVS_BUSY = 15,
     /*
      * The text is not JSON of RFC 8259 in UTF-8, is nested more than 128 deep,
      * has a number greater than any double, or has an unpaired surrogate
      * escape.
      */
-    VM_NOT_JSON = 16,
+    DVS_NOT_JSON = 16,
     /* The text is JSON, but does not encode an object of the type. */
-    VM_NOT_A_STATE = 17,
+    DVS_NOT_A_STATE = 17,
     /* Not a status. It makes the type as wide as an int. */
-    VM_STATUS_WIDTH_ = 0x7fffffff
-} vm_status;
+    DVS_STATUS_WIDTH_ = 0x7fffffff
+} dvs_status;
 
 /* The addresses from start to end, both included. */
-typedef struct vm_range {
+typedef struct dvs_range {
     uint64_t start;
     uint64_t end;
-} vm_range;
+} dvs_range;
 
 /*
  * Details of an error. A call that returns an error writes all members of the
- * vm_refusal that it was given, with 0 for those without a meaning. A call that
- * returns VM_OK writes none. The pointer can be null.
+ * dvs_refusal that it was given, with 0 for those without a meaning. A call that
+ * returns DVS_OK writes none. The pointer can be null.
  */
-typedef struct vm_refusal {
-    /* VM_INVALID_RANGE, VM_OVERLAP: the range. VM_INVALID_STATE_TRANSITION: the allocated range. */
-    vm_range range;
-    /* VM_OVERLAP: the existing range. */
-    vm_range other;
-    /* VM_INVALID_SIZE: the size. */
+typedef struct dvs_refusal {
+    /* DVS_INVALID_RANGE, DVS_OVERLAP: the range. DVS_INVALID_STATE_TRANSITION: the allocated range. */
+    dvs_range range;
+    /* DVS_OVERLAP: the existing range. */
+    dvs_range other;
+    /* DVS_INVALID_SIZE: the size. */
     uint64_t size;
-    /* VM_OUT_OF_RANGE, VM_ALREADY_RELEASED, VM_NEVER_ALLOCATED: the id. */
+    /* DVS_OUT_OF_RANGE, DVS_ALREADY_RELEASED, DVS_NEVER_ALLOCATED: the id. */
     uint32_t id;
-} vm_refusal;
+} dvs_refusal;
 
 /* The resources of a device. */
-typedef struct vm_device {
-    vm_range range;
+typedef struct dvs_device {
+    dvs_range range;
     uint32_t id;
-} vm_device;
+} dvs_device;
 
 /* Allocates ranges of addresses from one space. Allocated ranges never share an address. */
-typedef struct vm_address_allocator vm_address_allocator;
+typedef struct dvs_address_allocator dvs_address_allocator;
 
 /* Allocates ids from a range, the lowest free id first. */
-typedef struct vm_id_allocator vm_id_allocator;
+typedef struct dvs_id_allocator dvs_id_allocator;
 
 /* Allocates an id and a range for each device. If it cannot have both, it gets neither. */
-typedef struct vm_device_manager vm_device_manager;
+typedef struct dvs_device_manager dvs_device_manager;
 
 /*
  * Returns a description of a status, also for a number that is not a status.
  * The text has static storage duration.
  */
-const char *vm_status_text(vm_status status);
+const char *dvs_status_text(dvs_status status);
 
 /*
- * Returns the version of the library that runs, like VM_VERSION_TEXT. It has
+ * Returns the version of the library that runs, like DVS_VERSION_TEXT. It has
  * static storage duration.
  */
-const char *vm_version_text(void);
+const char *dvs_version_text(void);
 
 /* ---- Ranges of addresses ---- */
 
 /*
  * Creates an allocator for the `size` addresses starting at `base`, all of them
- * free. Destroy it with vm_address_allocator_destroy().
+ * free. Destroy it with dvs_address_allocator_destroy().
  *
  * Errors, in order:
- * - VM_UNDERFLOW if `size` is 0.
- * - VM_OVERFLOW if the last address would be past UINT64_MAX.
- * - VM_OUT_OF_MEMORY.
+ * - DVS_UNDERFLOW if `size` is 0.
+ * - DVS_OVERFLOW if the last address would be past UINT64_MAX.
+ * - DVS_OUT_OF_MEMORY.
  */
-vm_status vm_address_allocator_new(uint64_t base, uint64_t size, vm_address_allocator **allocator);
+dvs_status dvs_address_allocator_new(uint64_t base, uint64_t size, dvs_address_allocator **allocator);
 
 /*
  * Destroys an allocator, with all its allocated ranges.
  *
- * Errors: VM_NULL, VM_BUSY. Nothing is destroyed then.
+ * Errors: DVS_NULL, DVS_BUSY. Nothing is destroyed then.
  */
-vm_status vm_address_allocator_destroy(vm_address_allocator *allocator);
+dvs_status dvs_address_allocator_destroy(dvs_address_allocator *allocator);
 
-/* Writes the first and the last address of the space to `space`. Errors: VM_NULL. */
-vm_status vm_address_allocator_space(const vm_address_allocator *allocator, vm_range *space);
+/* Writes the first and the last address of the space to `space`. Errors: DVS_NULL. */
+dvs_status dvs_address_allocator_space(const dvs_address_allocator *allocator, dvs_range *space);
 
 /*
  * Allocates the lowest `size` free addresses that start at a multiple of
- * `alignment`, and writes them to `range`. Free them with vm_range_free().
+ * `alignment`, and writes them to `range`. Free them with dvs_range_free().
  *
  * Errors, in order:
- * - VM_INVALID_SIZE if `size` is 0.
- * - VM_INVALID_ALIGNMENT if `alignment` is not a power of two.
- * - VM_RESOURCE_NOT_AVAILABLE if there is no such range.
- * - VM_OVERFLOW if the range ends at UINT64_MAX, or more than 6 * 10^9 ranges
+ * - DVS_INVALID_SIZE if `size` is 0.
+ * - DVS_INVALID_ALIGNMENT if `alignment` is not a power of two.
+ * - DVS_RESOURCE_NOT_AVAILABLE if there is no such range.
+ * - DVS_OVERFLOW if the range ends at UINT64_MAX, or more than 6 * 10^9 ranges
  *   are allocated.
- * - VM_OUT_OF_MEMORY.
+ * - DVS_OUT_OF_MEMORY.
  */
-vm_status vm_range_allocate_first(vm_address_allocator *allocator, uint64_t size,
-                                  uint64_t alignment, vm_range *range, vm_refusal *refusal);
+dvs_status dvs_range_allocate_first(dvs_address_allocator *allocator, uint64_t size,
+                                  uint64_t alignment, dvs_range *range, dvs_refusal *refusal);
 
 /*
  * Allocates the highest `size` free addresses that start at a multiple of
- * `alignment`. Its errors are those of vm_range_allocate_first(). VM_OVERFLOW is
+ * `alignment`. Its errors are those of dvs_range_allocate_first(). DVS_OVERFLOW is
  * returned if the highest range ends at UINT64_MAX, even if another is free.
  */
-vm_status vm_range_allocate_last(vm_address_allocator *allocator, uint64_t size, uint64_t alignment,
-                                 vm_range *range, vm_refusal *refusal);
+dvs_status dvs_range_allocate_last(dvs_address_allocator *allocator, uint64_t size, uint64_t alignment,
+                                 dvs_range *range, dvs_refusal *refusal);
 
 /*
  * Allocates the `size` addresses starting at `start`.
  *
  * Errors, in order:
- * - VM_INVALID_SIZE if `size` is 0.
- * - VM_INVALID_ALIGNMENT if `alignment` is not a power of two.
- * - VM_UNALIGNED_ADDRESS if `start` is not a multiple of `alignment`.
- * - VM_OVERFLOW if `start` is UINT64_MAX.
- * - VM_RESOURCE_NOT_AVAILABLE if `start` is outside the space.
- * - VM_OVERFLOW if the range would end past UINT64_MAX.
- * - VM_INVALID_STATE_TRANSITION, with the range, if exactly this range is
+ * - DVS_INVALID_SIZE if `size` is 0.
+ * - DVS_INVALID_ALIGNMENT if `alignment` is not a power of two.
+ * - DVS_UNALIGNED_ADDRESS if `start` is not a multiple of `alignment`.
+ * - DVS_OVERFLOW if `start` is UINT64_MAX.
+ * - DVS_RESOURCE_NOT_AVAILABLE if `start` is outside the space.
+ * - DVS_OVERFLOW if the range would end past UINT64_MAX.
+ * - DVS_INVALID_STATE_TRANSITION, with the range, if exactly this range is
  *   already allocated.
- * - VM_RESOURCE_NOT_AVAILABLE if an address of the range is allocated or
+ * - DVS_RESOURCE_NOT_AVAILABLE if an address of the range is allocated or
  *   outside the space.
- * - VM_OVERFLOW if the range ends at UINT64_MAX, or more than 6 * 10^9 ranges
+ * - DVS_OVERFLOW if the range ends at UINT64_MAX, or more than 6 * 10^9 ranges
  *   are allocated.
- * - VM_OUT_OF_MEMORY.
+ * - DVS_OUT_OF_MEMORY.
  */
-vm_status vm_range_allocate_exact(vm_address_allocator *allocator, uint64_t size,
-                                  uint64_t alignment, uint64_t start, vm_range *range,
-                                  vm_refusal *refusal);
+dvs_status dvs_range_allocate_exact(dvs_address_allocator *allocator, uint64_t size,
+                                  uint64_t alignment, uint64_t start, dvs_range *range,
+                                  dvs_refusal *refusal);
 
 /*
  * Frees an allocated range. It does not allocate memory.
  *
  * Errors, in order:
- * - VM_INVALID_RANGE if `range` is not a valid range.
- * - VM_RESOURCE_NOT_AVAILABLE if exactly this range is not allocated. A part of
+ * - DVS_INVALID_RANGE if `range` is not a valid range.
+ * - DVS_RESOURCE_NOT_AVAILABLE if exactly this range is not allocated. A part of
  *   an allocated range cannot be freed.
  */
-vm_status vm_range_free(vm_address_allocator *allocator, vm_range range, vm_refusal *refusal);
+dvs_status dvs_range_free(dvs_address_allocator *allocator, dvs_range range, dvs_refusal *refusal);
 
 /*
  * Writes to `is_held` whether exactly this range is allocated.
  *
- * Errors: VM_INVALID_RANGE if `range` is not a valid range.
+ * Errors: DVS_INVALID_RANGE if `range` is not a valid range.
  */
-vm_status vm_range_is_held(const vm_address_allocator *allocator, vm_range range, bool *is_held,
-                           vm_refusal *refusal);
+dvs_status dvs_range_is_held(const dvs_address_allocator *allocator, dvs_range range, bool *is_held,
+                           dvs_refusal *refusal);
 
-/* Writes the number of allocated ranges to `count`. It walks all of them. Errors: VM_NULL. */
-vm_status vm_range_count(const vm_address_allocator *allocator, uint64_t *count);
+/* Writes the number of allocated ranges to `count`. It walks all of them. Errors: DVS_NULL. */
+dvs_status dvs_range_count(const dvs_address_allocator *allocator, uint64_t *count);
 
 /*
- * The function that vm_range_visit() calls for each range, with its `context`.
+ * The function that dvs_range_visit() calls for each range, with its `context`.
  * It returns 0 to continue the visit and any other number to end it.
  *
  * The function must return. The process ends with abort() if a C++ exception
  * leaves it, if it calls pthread_exit(), or if its thread is cancelled in it.
  * It must not leave by longjmp(), because the allocator would stay busy.
  */
-typedef int vm_range_visitor(void *context, vm_range range);
+typedef int dvs_range_visitor(void *context, dvs_range range);
 
 /*
  * Calls `visitor` with each allocated range, in ascending order. `context` can
  * be null. It does not allocate memory.
  *
  * During the visit, calls that would change or destroy the allocator return
- * VM_BUSY. Calls that take a pointer to const are allowed.
+ * DVS_BUSY. Calls that take a pointer to const are allowed.
  *
- * Returns VM_OK even if the visitor ended the visit. Errors: VM_NULL.
+ * Returns DVS_OK even if the visitor ended the visit. Errors: DVS_NULL.
  */
-vm_status vm_range_visit(const vm_address_allocator *allocator, vm_range_visitor *visitor,
+dvs_status dvs_range_visit(const dvs_address_allocator *allocator, dvs_range_visitor *visitor,
                          void *context);
 
 /*
  * Saves the allocator as JSON. Writes the text to `text` and its length in
  * bytes, without the terminating zero, to `length`. Free the text with
- * vm_text_destroy().
+ * dvs_text_destroy().
  *
- * Errors: VM_OUT_OF_MEMORY.
+ * Errors: DVS_OUT_OF_MEMORY.
  */
-vm_status vm_address_allocator_save(const vm_address_allocator *allocator, char **text,
+dvs_status dvs_address_allocator_save(const dvs_address_allocator *allocator, char **text,
                                     size_t *length);
 
 /*
  * Creates the allocator that the `length` bytes of `text` encode. They need no
  * terminating zero, and can be untrusted. Destroy the allocator with
- * vm_address_allocator_destroy().
+ * dvs_address_allocator_destroy().
  *
  * Errors, in order:
- * - VM_NOT_JSON if the text is not JSON.
- * - VM_NOT_A_STATE if a field is missing, duplicate or unknown, or the values
+ * - DVS_NOT_JSON if the text is not JSON.
+ * - DVS_NOT_A_STATE if a field is missing, duplicate or unknown, or the values
  *   are not those of an allocator.
- * - VM_OUT_OF_MEMORY. It can also come first, while the text is read.
+ * - DVS_OUT_OF_MEMORY. It can also come first, while the text is read.
  */
-vm_status vm_address_allocator_read(const char *text, size_t length,
-                                    vm_address_allocator **allocator);
+dvs_status dvs_address_allocator_read(const char *text, size_t length,
+                                    dvs_address_allocator **allocator);
 
 /*
- * Reads like vm_address_allocator_read(), and also accepts what the Rust crate
+ * Reads like dvs_address_allocator_read(), and also accepts what the Rust crate
  * vm-allocator 0.1.4 wrote after one of its bugs. The ranges that the text
  * marks as allocated are allocated, and all other addresses are free.
  *
- * VM_NOT_A_STATE is returned if a field is missing, duplicate or unknown, or
+ * DVS_NOT_A_STATE is returned if a field is missing, duplicate or unknown, or
  * - the ranges are not in ascending order, overlap or leave the space;
  * - an allocated range ends at UINT64_MAX;
  * - a path from the root of the tree has more than 50 nodes.
  */
-vm_status vm_address_allocator_read_repaired(const char *text, size_t length,
-                                             vm_address_allocator **allocator);
+dvs_status dvs_address_allocator_read_repaired(const char *text, size_t length,
+                                             dvs_address_allocator **allocator);
 
 /* ---- Ids ---- */
 
 /*
  * Creates an allocator for the ids from `first` to `last`, both included, all
- * of them free. Destroy it with vm_id_allocator_destroy().
+ * of them free. Destroy it with dvs_id_allocator_destroy().
  *
  * Errors, in order:
- * - VM_INVALID_RANGE, with both ids, if `last` is less than `first`.
- * - VM_OUT_OF_MEMORY.
+ * - DVS_INVALID_RANGE, with both ids, if `last` is less than `first`.
+ * - DVS_OUT_OF_MEMORY.
  */
-vm_status vm_id_allocator_new(uint32_t first, uint32_t last, vm_id_allocator **allocator,
-                              vm_refusal *refusal);
+dvs_status dvs_id_allocator_new(uint32_t first, uint32_t last, dvs_id_allocator **allocator,
+                              dvs_refusal *refusal);
 
 /*
  * Destroys an allocator, with all its allocated ids.
  *
- * Errors: VM_NULL. Nothing is destroyed then.
+ * Errors: DVS_NULL. Nothing is destroyed then.
  */
-vm_status vm_id_allocator_destroy(vm_id_allocator *allocator);
+dvs_status dvs_id_allocator_destroy(dvs_id_allocator *allocator);
 
 /*
  * Allocates the lowest free id and writes it to `id`. It does not allocate
  * memory.
  *
- * Errors, if all ids are allocated: VM_OVERFLOW if the last id is UINT32_MAX,
- * and VM_RESOURCE_NOT_AVAILABLE otherwise.
+ * Errors, if all ids are allocated: DVS_OVERFLOW if the last id is UINT32_MAX,
+ * and DVS_RESOURCE_NOT_AVAILABLE otherwise.
  */
-vm_status vm_id_allocate(vm_id_allocator *allocator, uint32_t *id);
+dvs_status dvs_id_allocate(dvs_id_allocator *allocator, uint32_t *id);
 
-/* Writes the id that vm_id_allocate() would allocate, without a change. It has the same errors. */
-vm_status vm_id_peek(const vm_id_allocator *allocator, uint32_t *id);
+/* Writes the id that dvs_id_allocate() would allocate, without a change. It has the same errors. */
+dvs_status dvs_id_peek(const dvs_id_allocator *allocator, uint32_t *id);
 
 /*
  * Frees an allocated id. Ends the process if an allocation fails.
  *
  * Errors, in order, each with the id:
- * - VM_OUT_OF_RANGE if the id is not between the first and the last.
- * - VM_NEVER_ALLOCATED if the id was never allocated.
- * - VM_ALREADY_RELEASED if the id is already freed.
+ * - DVS_OUT_OF_RANGE if the id is not between the first and the last.
+ * - DVS_NEVER_ALLOCATED if the id was never allocated.
+ * - DVS_ALREADY_RELEASED if the id is already freed.
  */
-vm_status vm_id_free(vm_id_allocator *allocator, uint32_t id, vm_refusal *refusal);
+dvs_status dvs_id_free(dvs_id_allocator *allocator, uint32_t id, dvs_refusal *refusal);
 
 /*
  * Writes to `is_allocated` whether the id is allocated. An id outside the range
- * is not. Errors: VM_NULL.
+ * is not. Errors: DVS_NULL.
  */
-vm_status vm_id_is_allocated(const vm_id_allocator *allocator, uint32_t id, bool *is_allocated);
+dvs_status dvs_id_is_held(const dvs_id_allocator *allocator, uint32_t id, bool *is_allocated);
 
-/* Writes the number of allocated ids to `count`. Errors: VM_NULL. */
-vm_status vm_id_count(const vm_id_allocator *allocator, uint64_t *count);
+/* Writes the number of allocated ids to `count`. Errors: DVS_NULL. */
+dvs_status dvs_id_count(const dvs_id_allocator *allocator, uint64_t *count);
 
-/* Saves like vm_address_allocator_save(). */
-vm_status vm_id_allocator_save(const vm_id_allocator *allocator, char **text, size_t *length);
+/* Saves like dvs_address_allocator_save(). */
+dvs_status dvs_id_allocator_save(const dvs_id_allocator *allocator, char **text, size_t *length);
 
 /*
- * Reads like vm_address_allocator_read(). Ends the process if the allocation of
+ * Reads like dvs_address_allocator_read(). Ends the process if the allocation of
  * the set of freed ids fails.
  */
-vm_status vm_id_allocator_read(const char *text, size_t length, vm_id_allocator **allocator);
+dvs_status dvs_id_allocator_read(const char *text, size_t length, dvs_id_allocator **allocator);
 
 /* ---- Devices ---- */
 
 /*
  * Creates a manager without devices, for the ids from `first_id` to `last_id`,
  * both included, and the `size` addresses starting at `base`. Destroy it with
- * vm_device_manager_destroy().
+ * dvs_device_manager_destroy().
  *
  * Errors, in order:
- * - VM_INVALID_RANGE, with both ids, if `last_id` is less than `first_id`.
- * - VM_UNDERFLOW if `size` is 0.
- * - VM_OVERFLOW if the last address would be past UINT64_MAX.
- * - VM_OUT_OF_MEMORY.
+ * - DVS_INVALID_RANGE, with both ids, if `last_id` is less than `first_id`.
+ * - DVS_UNDERFLOW if `size` is 0.
+ * - DVS_OVERFLOW if the last address would be past UINT64_MAX.
+ * - DVS_OUT_OF_MEMORY.
  */
-vm_status vm_device_manager_new(uint32_t first_id, uint32_t last_id, uint64_t base, uint64_t size,
-                                vm_device_manager **manager, vm_refusal *refusal);
+dvs_status dvs_device_manager_new(uint32_t first_id, uint32_t last_id, uint64_t base, uint64_t size,
+                                dvs_device_manager **manager, dvs_refusal *refusal);
 
 /*
  * Destroys a manager, with all its devices.
  *
- * Errors: VM_NULL. Nothing is destroyed then.
+ * Errors: DVS_NULL. Nothing is destroyed then.
  */
-vm_status vm_device_manager_destroy(vm_device_manager *manager);
+dvs_status dvs_device_manager_destroy(dvs_device_manager *manager);
 
 /*
- * Allocates the lowest free id and the range of vm_range_allocate_first() for a
+ * Allocates the lowest free id and the range of dvs_range_allocate_first() for a
  * new device, and writes both to `device`. Release the device with
- * vm_device_release(). Ends the process if the allocation of the table of
+ * dvs_device_release(). Ends the process if the allocation of the table of
  * devices fails.
  *
- * Errors, in order: those of vm_id_allocate(), then those of
- * vm_range_allocate_first().
+ * Errors, in order: those of dvs_id_allocate(), then those of
+ * dvs_range_allocate_first().
  */
-vm_status vm_device_reserve_first(vm_device_manager *manager, uint64_t size, uint64_t alignment,
-                                  vm_device *device, vm_refusal *refusal);
+dvs_status dvs_device_reserve_first(dvs_device_manager *manager, uint64_t size, uint64_t alignment,
+                                  dvs_device *device, dvs_refusal *refusal);
 
-/* Reserves a device like vm_device_reserve_first(), with the range of vm_range_allocate_last(). */
-vm_status vm_device_reserve_last(vm_device_manager *manager, uint64_t size, uint64_t alignment,
-                                 vm_device *device, vm_refusal *refusal);
+/* Reserves a device like dvs_device_reserve_first(), with the range of dvs_range_allocate_last(). */
+dvs_status dvs_device_reserve_last(dvs_device_manager *manager, uint64_t size, uint64_t alignment,
+                                 dvs_device *device, dvs_refusal *refusal);
 
-/* Reserves a device like vm_device_reserve_first(), with the range of vm_range_allocate_exact(). */
-vm_status vm_device_reserve_exact(vm_device_manager *manager, uint64_t size, uint64_t alignment,
-                                  uint64_t start, vm_device *device, vm_refusal *refusal);
+/* Reserves a device like dvs_device_reserve_first(), with the range of dvs_range_allocate_exact(). */
+dvs_status dvs_device_reserve_exact(dvs_device_manager *manager, uint64_t size, uint64_t alignment,
+                                  uint64_t start, dvs_device *device, dvs_refusal *refusal);
 
 /*
  * Releases a device: frees its id and its range. Ends the process if an
  * allocation fails.
  *
- * Errors: VM_NEVER_ALLOCATED, with the id, if no device has it.
+ * Errors: DVS_NEVER_ALLOCATED, with the id, if no device has it.
  */
-vm_status vm_device_release(vm_device_manager *manager, uint32_t id, vm_refusal *refusal);
+dvs_status dvs_device_release(dvs_device_manager *manager, uint32_t id, dvs_refusal *refusal);
 
 /*
  * Writes the range of the device with this id to `range`.
  *
- * Errors: VM_NEVER_ALLOCATED, with the id, if no device has it.
+ * Errors: DVS_NEVER_ALLOCATED, with the id, if no device has it.
  */
-vm_status vm_device_slot(const vm_device_manager *manager, uint32_t id, vm_range *range,
-                         vm_refusal *refusal);
+dvs_status dvs_device_range(const dvs_device_manager *manager, uint32_t id, dvs_range *range,
+                         dvs_refusal *refusal);
 
-/* Saves like vm_address_allocator_save(). */
-vm_status vm_device_manager_save(const vm_device_manager *manager, char **text, size_t *length);
+/* Saves like dvs_address_allocator_save(). */
+dvs_status dvs_device_manager_save(const dvs_device_manager *manager, char **text, size_t *length);
 
 /*
- * Reads like vm_address_allocator_read(). Ends the process if the allocation of
+ * Reads like dvs_address_allocator_read(). Ends the process if the allocation of
  * the set of freed ids or of the table of devices fails.
  */
-vm_status vm_device_manager_read(const char *text, size_t length, vm_device_manager **manager);
+dvs_status dvs_device_manager_read(const char *text, size_t length, dvs_device_manager **manager);
 
 /* ---- Texts ---- */
 
 /*
  * Frees a saved text. The text must not have been changed.
  *
- * Errors: VM_NULL.
+ * Errors: DVS_NULL.
  */
-vm_status vm_text_destroy(char *text);
+dvs_status dvs_text_destroy(char *text);
 
 #ifdef __cplusplus
 }

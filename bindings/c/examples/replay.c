@@ -13,9 +13,9 @@ enum { MOST_BYTES = 120, MOST_NUMBERS = 4, MOST_DIGITS = 20 };
 
 /* The objects that the lines so far have created, or null. */
 struct session {
-    vm_address_allocator *space;
-    vm_id_allocator *ids;
-    vm_device_manager *manager;
+    dvs_address_allocator *space;
+    dvs_id_allocator *ids;
+    dvs_device_manager *manager;
 };
 
 /* Bytes without a terminating zero. */
@@ -24,66 +24,66 @@ struct text {
     size_t length;
 };
 
-static void refuse(vm_status status, const vm_refusal *refusal) {
+static void refuse(dvs_status status, const dvs_refusal *refusal) {
     switch (status) {
-    case VM_OVERFLOW:
+    case DVS_OVERFLOW:
         puts("error overflow");
         break;
-    case VM_OUT_OF_RANGE:
+    case DVS_OUT_OF_RANGE:
         printf("error out-of-range %" PRIu32 "\n", refusal->id);
         break;
-    case VM_ALREADY_RELEASED:
+    case DVS_ALREADY_RELEASED:
         printf("error already-released %" PRIu32 "\n", refusal->id);
         break;
-    case VM_NEVER_ALLOCATED:
+    case DVS_NEVER_ALLOCATED:
         printf("error never-allocated %" PRIu32 "\n", refusal->id);
         break;
-    case VM_RESOURCE_NOT_AVAILABLE:
+    case DVS_RESOURCE_NOT_AVAILABLE:
         puts("error not-available");
         break;
-    case VM_INVALID_RANGE:
+    case DVS_INVALID_RANGE:
         printf("error invalid-range %" PRIu64 " %" PRIu64 "\n", refusal->range.start,
                refusal->range.end);
         break;
-    case VM_INVALID_ALIGNMENT:
+    case DVS_INVALID_ALIGNMENT:
         puts("error invalid-alignment");
         break;
-    case VM_INVALID_STATE_TRANSITION:
+    case DVS_INVALID_STATE_TRANSITION:
         printf("error state %" PRIu64 " %" PRIu64 "\n", refusal->range.start, refusal->range.end);
         break;
-    case VM_UNALIGNED_ADDRESS:
+    case DVS_UNALIGNED_ADDRESS:
         puts("error unaligned");
         break;
-    case VM_UNDERFLOW:
+    case DVS_UNDERFLOW:
         puts("error underflow");
         break;
-    case VM_INVALID_SIZE:
+    case DVS_INVALID_SIZE:
         printf("error invalid-size %" PRIu64 "\n", refusal->size);
         break;
-    case VM_OUT_OF_MEMORY:
+    case DVS_OUT_OF_MEMORY:
         puts("error memory");
         break;
     default:
-        printf("error %s\n", vm_status_text(status));
+        printf("error %s\n", dvs_status_text(status));
     }
 }
 
-static void tell_done(vm_status status, const vm_refusal *refusal) {
-    if (status == VM_OK)
+static void tell_done(dvs_status status, const dvs_refusal *refusal) {
+    if (status == DVS_OK)
         puts("done");
     else
         refuse(status, refusal);
 }
 
-static void tell_range(vm_status status, vm_range range, const vm_refusal *refusal) {
-    if (status == VM_OK)
+static void tell_range(dvs_status status, dvs_range range, const dvs_refusal *refusal) {
+    if (status == DVS_OK)
         printf("range %" PRIu64 " %" PRIu64 "\n", range.start, range.end);
     else
         refuse(status, refusal);
 }
 
-static void tell_id(vm_status status, uint32_t id, const vm_refusal *refusal) {
-    if (status == VM_OK)
+static void tell_id(dvs_status status, uint32_t id, const dvs_refusal *refusal) {
+    if (status == DVS_OK)
         printf("id %" PRIu32 "\n", id);
     else
         refuse(status, refusal);
@@ -92,61 +92,61 @@ static void tell_id(vm_status status, uint32_t id, const vm_refusal *refusal) {
 /* ---- The calls, one per kind of line ---- */
 
 static void make_space(struct session *session, const uint64_t *number) {
-    vm_address_allocator *space;
-    vm_refusal none = {0};
-    vm_status status = vm_address_allocator_new(number[0], number[1], &space);
+    dvs_address_allocator *space;
+    dvs_refusal none = {0};
+    dvs_status status = dvs_address_allocator_new(number[0], number[1], &space);
 
-    if (status == VM_OK) {
-        vm_address_allocator_destroy(session->space);
+    if (status == DVS_OK) {
+        dvs_address_allocator_destroy(session->space);
         session->space = space;
     }
     tell_done(status, &none);
 }
 
 static void allocate_first(struct session *session, const uint64_t *number) {
-    vm_range range = {0};
-    vm_refusal refusal;
-    vm_status status =
-        vm_range_allocate_first(session->space, number[0], number[1], &range, &refusal);
+    dvs_range range = {0};
+    dvs_refusal refusal;
+    dvs_status status =
+        dvs_range_allocate_first(session->space, number[0], number[1], &range, &refusal);
 
     tell_range(status, range, &refusal);
 }
 
 static void allocate_last(struct session *session, const uint64_t *number) {
-    vm_range range = {0};
-    vm_refusal refusal;
-    vm_status status =
-        vm_range_allocate_last(session->space, number[0], number[1], &range, &refusal);
+    dvs_range range = {0};
+    dvs_refusal refusal;
+    dvs_status status =
+        dvs_range_allocate_last(session->space, number[0], number[1], &range, &refusal);
 
     tell_range(status, range, &refusal);
 }
 
 static void allocate_exact(struct session *session, const uint64_t *number) {
-    vm_range range = {0};
-    vm_refusal refusal;
-    vm_status status =
-        vm_range_allocate_exact(session->space, number[0], number[1], number[2], &range, &refusal);
+    dvs_range range = {0};
+    dvs_refusal refusal;
+    dvs_status status =
+        dvs_range_allocate_exact(session->space, number[0], number[1], number[2], &range, &refusal);
 
     tell_range(status, range, &refusal);
 }
 
 static void free_range(struct session *session, const uint64_t *number) {
-    vm_range range;
-    vm_refusal refusal;
+    dvs_range range;
+    dvs_refusal refusal;
 
     range.start = number[0];
     range.end = number[1];
-    tell_done(vm_range_free(session->space, range, &refusal), &refusal);
+    tell_done(dvs_range_free(session->space, range, &refusal), &refusal);
 }
 
 static void make_ids(struct session *session, const uint64_t *number) {
-    vm_id_allocator *ids;
-    vm_refusal refusal;
-    vm_status status =
-        vm_id_allocator_new((uint32_t)number[0], (uint32_t)number[1], &ids, &refusal);
+    dvs_id_allocator *ids;
+    dvs_refusal refusal;
+    dvs_status status =
+        dvs_id_allocator_new((uint32_t)number[0], (uint32_t)number[1], &ids, &refusal);
 
-    if (status == VM_OK) {
-        vm_id_allocator_destroy(session->ids);
+    if (status == DVS_OK) {
+        dvs_id_allocator_destroy(session->ids);
         session->ids = ids;
     }
     tell_done(status, &refusal);
@@ -154,8 +154,8 @@ static void make_ids(struct session *session, const uint64_t *number) {
 
 static void allocate_id(struct session *session, const uint64_t *number) {
     uint32_t id = 0;
-    vm_refusal none = {0};
-    vm_status status = vm_id_allocate(session->ids, &id);
+    dvs_refusal none = {0};
+    dvs_status status = dvs_id_allocate(session->ids, &id);
 
     (void)number;
     tell_id(status, id, &none);
@@ -163,8 +163,8 @@ static void allocate_id(struct session *session, const uint64_t *number) {
 
 static void free_id(struct session *session, const uint64_t *number) {
     uint32_t id = (uint32_t)number[0];
-    vm_refusal refusal;
-    vm_status status = vm_id_free(session->ids, id, &refusal);
+    dvs_refusal refusal;
+    dvs_status status = dvs_id_free(session->ids, id, &refusal);
 
     tell_id(status, id, &refusal);
 }
@@ -172,30 +172,30 @@ static void free_id(struct session *session, const uint64_t *number) {
 static void has_id(struct session *session, const uint64_t *number) {
     bool has = false;
 
-    vm_id_is_allocated(session->ids, (uint32_t)number[0], &has);
+    dvs_id_is_held(session->ids, (uint32_t)number[0], &has);
     puts(has ? "yes" : "no");
 }
 
 static void make_manager(struct session *session, const uint64_t *number) {
-    vm_device_manager *manager;
-    vm_refusal refusal;
-    vm_status status = vm_device_manager_new((uint32_t)number[0], (uint32_t)number[1], number[2],
+    dvs_device_manager *manager;
+    dvs_refusal refusal;
+    dvs_status status = dvs_device_manager_new((uint32_t)number[0], (uint32_t)number[1], number[2],
                                              number[3], &manager, &refusal);
 
-    if (status == VM_OK) {
-        vm_device_manager_destroy(session->manager);
+    if (status == DVS_OK) {
+        dvs_device_manager_destroy(session->manager);
         session->manager = manager;
     }
     tell_done(status, &refusal);
 }
 
 static void reserve_device(struct session *session, const uint64_t *number) {
-    vm_device device;
-    vm_refusal refusal;
-    vm_status status =
-        vm_device_reserve_first(session->manager, number[0], number[1], &device, &refusal);
+    dvs_device device;
+    dvs_refusal refusal;
+    dvs_status status =
+        dvs_device_reserve_first(session->manager, number[0], number[1], &device, &refusal);
 
-    if (status == VM_OK)
+    if (status == DVS_OK)
         printf("device %" PRIu32 " %" PRIu64 " %" PRIu64 "\n", device.id, device.range.start,
                device.range.end);
     else
@@ -203,9 +203,9 @@ static void reserve_device(struct session *session, const uint64_t *number) {
 }
 
 static void release_device(struct session *session, const uint64_t *number) {
-    vm_refusal refusal;
+    dvs_refusal refusal;
 
-    tell_done(vm_device_release(session->manager, (uint32_t)number[0], &refusal), &refusal);
+    tell_done(dvs_device_release(session->manager, (uint32_t)number[0], &refusal), &refusal);
 }
 
 /* ---- The lines ---- */
@@ -352,9 +352,9 @@ int main(void) {
     struct session session = {NULL, NULL, NULL};
 
     answer_lines(&session);
-    vm_address_allocator_destroy(session.space);
-    vm_id_allocator_destroy(session.ids);
-    vm_device_manager_destroy(session.manager);
+    dvs_address_allocator_destroy(session.space);
+    dvs_id_allocator_destroy(session.ids);
+    dvs_device_manager_destroy(session.manager);
     if (ferror(stdin))
         return 1;
     return fflush(stdout) == 0 && !ferror(stdout) ? 0 : 2;

@@ -32,29 +32,29 @@ static void check(bool holds) {
     }
 }
 
-static vm_address_allocator *new_space(void) {
-    vm_address_allocator *space;
+static dvs_address_allocator *new_space(void) {
+    dvs_address_allocator *space;
 
-    check(vm_address_allocator_new(0, (uint64_t)1 << 40, &space) == VM_OK);
+    check(dvs_address_allocator_new(0, (uint64_t)1 << 40, &space) == DVS_OK);
     return space;
 }
 
 static uint64_t c_exact(void) {
-    vm_address_allocator *space = new_space();
-    vm_range range;
+    dvs_address_allocator *space = new_space();
+    dvs_range range;
     uint64_t sum = 0;
     size_t i;
 
     for (i = 0; i < COUNT; i++) {
-        check(vm_range_allocate_exact(space, held[i].size, held[i].alignment, held[i].start, &range,
-                                      NULL) == VM_OK);
+        check(dvs_range_allocate_exact(space, held[i].size, held[i].alignment, held[i].start, &range,
+                                      NULL) == DVS_OK);
         sum += range.end;
     }
     for (i = 0; i < COUNT; i++) {
         range.start = range.end = freed[i];
-        check(vm_range_free(space, range, NULL) == VM_OK);
+        check(dvs_range_free(space, range, NULL) == DVS_OK);
     }
-    check(vm_address_allocator_destroy(space) == VM_OK);
+    check(dvs_address_allocator_destroy(space) == DVS_OK);
     return sum;
 }
 
@@ -63,17 +63,17 @@ static uint64_t through_rust_exact(void) {
 }
 
 static uint64_t c_first(void) {
-    vm_address_allocator *space = new_space();
-    vm_range range;
+    dvs_address_allocator *space = new_space();
+    dvs_range range;
     uint64_t sum = 0;
     size_t i;
 
     for (i = 0; i < COUNT; i++) {
-        check(vm_range_allocate_first(space, held[i].size, held[i].alignment, &range, NULL) ==
-              VM_OK);
+        check(dvs_range_allocate_first(space, held[i].size, held[i].alignment, &range, NULL) ==
+              DVS_OK);
         sum += range.end;
     }
-    check(vm_address_allocator_destroy(space) == VM_OK);
+    check(dvs_address_allocator_destroy(space) == DVS_OK);
     return sum;
 }
 

@@ -2,25 +2,25 @@
 
 use crate::handle::{create, with_mut, with_mut_unit, with_ref, Handle};
 use crate::texts::{read, save};
-use crate::{status_of, vm_range, vm_refusal, vm_status, CallError, Out};
+use crate::{status_of, dvs_range, dvs_refusal, dvs_status, CallError, Out};
 use rattle::Global;
 use std::ffi::c_char;
 use vm_allocator::{AllocPolicy, Error};
 use vm_devices::{DeviceManager, DeviceSlot};
 
 /// A device manager behind a C pointer.
-pub type vm_device_manager = Handle<DeviceManager>;
+pub type dvs_device_manager = Handle<DeviceManager>;
 
 /// The resources of a device.
 #[repr(C)]
-pub struct vm_device {
-    range: vm_range,
+pub struct dvs_device {
+    range: dvs_range,
     id: u32,
 }
 
-impl From<DeviceSlot> for vm_device {
+impl From<DeviceSlot> for dvs_device {
     fn from(slot: DeviceSlot) -> Self {
-        vm_device {
+        dvs_device {
             range: slot.range.into(),
             id: slot.id,
         }
@@ -28,14 +28,14 @@ impl From<DeviceSlot> for vm_device {
 }
 
 #[unsafe(no_mangle)]
-pub extern "C" fn vm_device_manager_new(
+pub extern "C" fn dvs_device_manager_new(
     first_id: u32,
     last_id: u32,
     base: u64,
     size: u64,
-    manager: Out<*mut vm_device_manager>,
-    refusal: Out<vm_refusal>,
-) -> vm_status {
+    manager: Out<*mut dvs_device_manager>,
+    refusal: Out<dvs_refusal>,
+) -> dvs_status {
     let made = create(manager, || {
         DeviceManager::new(Global, first_id, last_id, base, size)
     });
@@ -46,55 +46,55 @@ pub extern "C" fn vm_device_manager_new(
 ///
 /// The manager is null or from a call that creates one, and is not used after this call.
 #[unsafe(no_mangle)]
-pub unsafe extern "C" fn vm_device_manager_destroy(manager: *mut vm_device_manager) -> vm_status {
+pub unsafe extern "C" fn dvs_device_manager_destroy(manager: *mut dvs_device_manager) -> dvs_status {
     // SAFETY: the caller's contract.
     status_of(unsafe { Handle::destroy(manager) }, None)
 }
 
 #[unsafe(no_mangle)]
-pub extern "C" fn vm_device_reserve_first(
-    manager: Option<&vm_device_manager>,
+pub extern "C" fn dvs_device_reserve_first(
+    manager: Option<&dvs_device_manager>,
     size: u64,
     alignment: u64,
-    device: Out<vm_device>,
-    refusal: Out<vm_refusal>,
-) -> vm_status {
+    device: Out<dvs_device>,
+    refusal: Out<dvs_refusal>,
+) -> dvs_status {
     let taken = reserve(manager, size, alignment, AllocPolicy::FirstMatch, device);
     status_of(taken, refusal)
 }
 
 #[unsafe(no_mangle)]
-pub extern "C" fn vm_device_reserve_last(
-    manager: Option<&vm_device_manager>,
+pub extern "C" fn dvs_device_reserve_last(
+    manager: Option<&dvs_device_manager>,
     size: u64,
     alignment: u64,
-    device: Out<vm_device>,
-    refusal: Out<vm_refusal>,
-) -> vm_status {
+    device: Out<dvs_device>,
+    refusal: Out<dvs_refusal>,
+) -> dvs_status {
     let taken = reserve(manager, size, alignment, AllocPolicy::LastMatch, device);
     status_of(taken, refusal)
 }
 
 #[unsafe(no_mangle)]
-pub extern "C" fn vm_device_reserve_exact(
-    manager: Option<&vm_device_manager>,
+pub extern "C" fn dvs_device_reserve_exact(
+    manager: Option<&dvs_device_manager>,
     size: u64,
     alignment: u64,
     start: u64,
-    device: Out<vm_device>,
-    refusal: Out<vm_refusal>,
-) -> vm_status {
+    device: Out<dvs_device>,
+    refusal: Out<dvs_refusal>,
+) -> dvs_status {
     let policy = AllocPolicy::ExactMatch(start);
     let taken = reserve(manager, size, alignment, policy, device);
     status_of(taken, refusal)
 }
 
 fn reserve(
-    manager: Option<&vm_device_manager>,
+    manager: Option<&dvs_device_manager>,
     size: u64,
     alignment: u64,
     policy: AllocPolicy,
-    device: Out<vm_device>,
+    device: Out<dvs_device>,
 ) -> Result<(), CallError> {
     with_mut(manager, device, |manager| {
         let slot = manager.reserve(Global, size, alignment, policy)?;
@@ -103,23 +103,23 @@ fn reserve(
 }
 
 #[unsafe(no_mangle)]
-pub extern "C" fn vm_device_release(
-    manager: Option<&vm_device_manager>,
+pub extern "C" fn dvs_device_release(
+    manager: Option<&dvs_device_manager>,
     id: u32,
-    refusal: Out<vm_refusal>,
-) -> vm_status {
+    refusal: Out<dvs_refusal>,
+) -> dvs_status {
     let released = with_mut_unit(manager, |manager| manager.release(id));
     status_of(released, refusal)
 }
 
-/// Returns `VM_NEVER_ALLOCATED` for an id without a device, like `vm_device_release`.
+/// Returns `DVS_NEVER_ALLOCATED` for an id without a device, like `dvs_device_release`.
 #[unsafe(no_mangle)]
-pub extern "C" fn vm_device_slot(
-    manager: Option<&vm_device_manager>,
+pub extern "C" fn dvs_device_range(
+    manager: Option<&dvs_device_manager>,
     id: u32,
-    range: Out<vm_range>,
-    refusal: Out<vm_refusal>,
-) -> vm_status {
+    range: Out<dvs_range>,
+    refusal: Out<dvs_refusal>,
+) -> dvs_status {
     let asked = with_ref(manager, range, |manager| {
         let slot = manager.slot(id).ok_or(Error::NeverAllocated(id))?;
         Ok(slot.into())
@@ -128,11 +128,11 @@ pub extern "C" fn vm_device_slot(
 }
 
 #[unsafe(no_mangle)]
-pub extern "C" fn vm_device_manager_save(
-    manager: Option<&vm_device_manager>,
+pub extern "C" fn dvs_device_manager_save(
+    manager: Option<&dvs_device_manager>,
     text: Out<*mut c_char>,
     length: Out<usize>,
-) -> vm_status {
+) -> dvs_status {
     let saved = save(manager, text, length, DeviceManager::to_value);
     status_of(saved, None)
 }
@@ -141,11 +141,11 @@ pub extern "C" fn vm_device_manager_save(
 ///
 /// The text is null or points to `length` readable bytes.
 #[unsafe(no_mangle)]
-pub unsafe extern "C" fn vm_device_manager_read(
+pub unsafe extern "C" fn dvs_device_manager_read(
     text: *const c_char,
     length: usize,
-    manager: Out<*mut vm_device_manager>,
-) -> vm_status {
+    manager: Out<*mut dvs_device_manager>,
+) -> dvs_status {
     // SAFETY: the caller's contract.
     let read = unsafe { read(text, length, manager, DeviceManager::from_value) };
     status_of(read, None)

@@ -2,21 +2,21 @@
 
 use crate::handle::{create, with_mut, with_mut_unit, with_ref, Handle};
 use crate::texts::{read, save};
-use crate::{status_of, vm_refusal, vm_status, Out};
+use crate::{status_of, dvs_refusal, dvs_status, Out};
 use rattle::Global;
 use std::ffi::c_char;
 use vm_allocator::IdAllocator;
 
 /// An id allocator behind a C pointer.
-pub type vm_id_allocator = Handle<IdAllocator>;
+pub type dvs_id_allocator = Handle<IdAllocator>;
 
 #[unsafe(no_mangle)]
-pub extern "C" fn vm_id_allocator_new(
+pub extern "C" fn dvs_id_allocator_new(
     first: u32,
     last: u32,
-    allocator: Out<*mut vm_id_allocator>,
-    refusal: Out<vm_refusal>,
-) -> vm_status {
+    allocator: Out<*mut dvs_id_allocator>,
+    refusal: Out<dvs_refusal>,
+) -> dvs_status {
     let made = create(allocator, || IdAllocator::new(Global, first, last));
     status_of(made, refusal)
 }
@@ -25,39 +25,39 @@ pub extern "C" fn vm_id_allocator_new(
 ///
 /// The allocator is null or from a call that creates one, and is not used after this call.
 #[unsafe(no_mangle)]
-pub unsafe extern "C" fn vm_id_allocator_destroy(allocator: *mut vm_id_allocator) -> vm_status {
+pub unsafe extern "C" fn dvs_id_allocator_destroy(allocator: *mut dvs_id_allocator) -> dvs_status {
     // SAFETY: the caller's contract.
     status_of(unsafe { Handle::destroy(allocator) }, None)
 }
 
 #[unsafe(no_mangle)]
-pub extern "C" fn vm_id_allocate(allocator: Option<&vm_id_allocator>, id: Out<u32>) -> vm_status {
+pub extern "C" fn dvs_id_allocate(allocator: Option<&dvs_id_allocator>, id: Out<u32>) -> dvs_status {
     let taken = with_mut(allocator, id, |allocator| allocator.allocate_id());
     status_of(taken, None)
 }
 
 #[unsafe(no_mangle)]
-pub extern "C" fn vm_id_peek(allocator: Option<&vm_id_allocator>, id: Out<u32>) -> vm_status {
+pub extern "C" fn dvs_id_peek(allocator: Option<&dvs_id_allocator>, id: Out<u32>) -> dvs_status {
     let asked = with_ref(allocator, id, |allocator| allocator.peek_id());
     status_of(asked, None)
 }
 
 #[unsafe(no_mangle)]
-pub extern "C" fn vm_id_free(
-    allocator: Option<&vm_id_allocator>,
+pub extern "C" fn dvs_id_free(
+    allocator: Option<&dvs_id_allocator>,
     id: u32,
-    refusal: Out<vm_refusal>,
-) -> vm_status {
+    refusal: Out<dvs_refusal>,
+) -> dvs_status {
     let freed = with_mut_unit(allocator, |allocator| allocator.free_id(id).map(|_| ()));
     status_of(freed, refusal)
 }
 
 #[unsafe(no_mangle)]
-pub extern "C" fn vm_id_is_allocated(
-    allocator: Option<&vm_id_allocator>,
+pub extern "C" fn dvs_id_is_held(
+    allocator: Option<&dvs_id_allocator>,
     id: u32,
     is_allocated: Out<bool>,
-) -> vm_status {
+) -> dvs_status {
     let asked = with_ref(allocator, is_allocated, |allocator| {
         Ok(allocator.is_allocated(id))
     });
@@ -65,17 +65,17 @@ pub extern "C" fn vm_id_is_allocated(
 }
 
 #[unsafe(no_mangle)]
-pub extern "C" fn vm_id_count(allocator: Option<&vm_id_allocator>, count: Out<u64>) -> vm_status {
+pub extern "C" fn dvs_id_count(allocator: Option<&dvs_id_allocator>, count: Out<u64>) -> dvs_status {
     let asked = with_ref(allocator, count, |allocator| Ok(allocator.held_count()));
     status_of(asked, None)
 }
 
 #[unsafe(no_mangle)]
-pub extern "C" fn vm_id_allocator_save(
-    allocator: Option<&vm_id_allocator>,
+pub extern "C" fn dvs_id_allocator_save(
+    allocator: Option<&dvs_id_allocator>,
     text: Out<*mut c_char>,
     length: Out<usize>,
-) -> vm_status {
+) -> dvs_status {
     let saved = save(allocator, text, length, IdAllocator::to_value);
     status_of(saved, None)
 }
@@ -84,11 +84,11 @@ pub extern "C" fn vm_id_allocator_save(
 ///
 /// The text is null or points to `length` readable bytes.
 #[unsafe(no_mangle)]
-pub unsafe extern "C" fn vm_id_allocator_read(
+pub unsafe extern "C" fn dvs_id_allocator_read(
     text: *const c_char,
     length: usize,
-    allocator: Out<*mut vm_id_allocator>,
-) -> vm_status {
+    allocator: Out<*mut dvs_id_allocator>,
+) -> dvs_status {
     // SAFETY: the caller's contract.
     let read = unsafe { read(text, length, allocator, IdAllocator::from_value) };
     status_of(read, None)

@@ -19,7 +19,7 @@ mod texts;
 #[path = "../speed/through_rust.rs"]
 mod through_rust;
 
-use status::{status_of, vm_refusal, vm_status, CallError};
+use status::{status_of, dvs_refusal, dvs_status, CallError};
 use std::mem::MaybeUninit;
 use vm_allocator::RangeInclusive;
 
@@ -29,24 +29,24 @@ type Out<'a, T> = Option<&'a mut MaybeUninit<T>>;
 /// The addresses from `start` to `end`, both included.
 #[repr(C)]
 #[derive(Clone, Copy, Default)]
-pub struct vm_range {
+pub struct dvs_range {
     start: u64,
     end: u64,
 }
 
-impl From<RangeInclusive> for vm_range {
+impl From<RangeInclusive> for dvs_range {
     fn from(range: RangeInclusive) -> Self {
-        vm_range {
+        dvs_range {
             start: range.start(),
             end: range.end(),
         }
     }
 }
 
-impl TryFrom<vm_range> for RangeInclusive {
+impl TryFrom<dvs_range> for RangeInclusive {
     type Error = vm_allocator::Error;
 
-    fn try_from(range: vm_range) -> Result<Self, Self::Error> {
+    fn try_from(range: dvs_range) -> Result<Self, Self::Error> {
         RangeInclusive::new(range.start, range.end)
     }
 }

@@ -2,23 +2,23 @@
 
 use crate::handle::{create, non_null, with_mut, with_mut_unit, with_ref, Handle};
 use crate::texts::{read, save};
-use crate::{status_of, vm_range, vm_refusal, vm_status, CallError, Out};
+use crate::{status_of, dvs_range, dvs_refusal, dvs_status, CallError, Out};
 use rattle::Global;
 use std::ffi::{c_char, c_int, c_void};
 use vm_allocator::{AddressAllocator, AllocPolicy};
 
 /// An address allocator behind a C pointer.
-pub type vm_address_allocator = Handle<AddressAllocator>;
+pub type dvs_address_allocator = Handle<AddressAllocator>;
 
 /// The visitor that C passes for allocated ranges. If it unwinds, the process ends.
-pub type vm_range_visitor = extern "C-unwind" fn(context: *mut c_void, range: vm_range) -> c_int;
+pub type dvs_range_visitor = extern "C-unwind" fn(context: *mut c_void, range: dvs_range) -> c_int;
 
 #[unsafe(no_mangle)]
-pub extern "C" fn vm_address_allocator_new(
+pub extern "C" fn dvs_address_allocator_new(
     base: u64,
     size: u64,
-    allocator: Out<*mut vm_address_allocator>,
-) -> vm_status {
+    allocator: Out<*mut dvs_address_allocator>,
+) -> dvs_status {
     let made = create(allocator, || AddressAllocator::new(Global, base, size));
     status_of(made, None)
 }
@@ -27,20 +27,20 @@ pub extern "C" fn vm_address_allocator_new(
 ///
 /// The allocator is null or from a call that creates one, and is not used after this call.
 #[unsafe(no_mangle)]
-pub unsafe extern "C" fn vm_address_allocator_destroy(
-    allocator: *mut vm_address_allocator,
-) -> vm_status {
+pub unsafe extern "C" fn dvs_address_allocator_destroy(
+    allocator: *mut dvs_address_allocator,
+) -> dvs_status {
     // SAFETY: the caller's contract.
     status_of(unsafe { Handle::destroy(allocator) }, None)
 }
 
 #[unsafe(no_mangle)]
-pub extern "C" fn vm_address_allocator_space(
-    allocator: Option<&vm_address_allocator>,
-    space: Out<vm_range>,
-) -> vm_status {
+pub extern "C" fn dvs_address_allocator_space(
+    allocator: Option<&dvs_address_allocator>,
+    space: Out<dvs_range>,
+) -> dvs_status {
     let asked = with_ref(allocator, space, |allocator| {
-        Ok(vm_range {
+        Ok(dvs_range {
             start: allocator.base(),
             end: allocator.end(),
         })
@@ -49,38 +49,38 @@ pub extern "C" fn vm_address_allocator_space(
 }
 
 #[unsafe(no_mangle)]
-pub extern "C" fn vm_range_allocate_first(
-    allocator: Option<&vm_address_allocator>,
+pub extern "C" fn dvs_range_allocate_first(
+    allocator: Option<&dvs_address_allocator>,
     size: u64,
     alignment: u64,
-    range: Out<vm_range>,
-    refusal: Out<vm_refusal>,
-) -> vm_status {
+    range: Out<dvs_range>,
+    refusal: Out<dvs_refusal>,
+) -> dvs_status {
     let taken = allocate(allocator, size, alignment, AllocPolicy::FirstMatch, range);
     status_of(taken, refusal)
 }
 
 #[unsafe(no_mangle)]
-pub extern "C" fn vm_range_allocate_last(
-    allocator: Option<&vm_address_allocator>,
+pub extern "C" fn dvs_range_allocate_last(
+    allocator: Option<&dvs_address_allocator>,
     size: u64,
     alignment: u64,
-    range: Out<vm_range>,
-    refusal: Out<vm_refusal>,
-) -> vm_status {
+    range: Out<dvs_range>,
+    refusal: Out<dvs_refusal>,
+) -> dvs_status {
     let taken = allocate(allocator, size, alignment, AllocPolicy::LastMatch, range);
     status_of(taken, refusal)
 }
 
 #[unsafe(no_mangle)]
-pub extern "C" fn vm_range_allocate_exact(
-    allocator: Option<&vm_address_allocator>,
+pub extern "C" fn dvs_range_allocate_exact(
+    allocator: Option<&dvs_address_allocator>,
     size: u64,
     alignment: u64,
     start: u64,
-    range: Out<vm_range>,
-    refusal: Out<vm_refusal>,
-) -> vm_status {
+    range: Out<dvs_range>,
+    refusal: Out<dvs_refusal>,
+) -> dvs_status {
     let policy = AllocPolicy::ExactMatch(start);
     let taken = allocate(allocator, size, alignment, policy, range);
     status_of(taken, refusal)
@@ -88,11 +88,11 @@ pub extern "C" fn vm_range_allocate_exact(
 
 #[inline(always)]
 fn allocate(
-    allocator: Option<&vm_address_allocator>,
+    allocator: Option<&dvs_address_allocator>,
     size: u64,
     alignment: u64,
     policy: AllocPolicy,
-    range: Out<vm_range>,
+    range: Out<dvs_range>,
 ) -> Result<(), CallError> {
     with_mut(allocator, range, |allocator| {
         let range = allocator.allocate(Global, size, alignment, policy)?;
@@ -101,22 +101,22 @@ fn allocate(
 }
 
 #[unsafe(no_mangle)]
-pub extern "C" fn vm_range_free(
-    allocator: Option<&vm_address_allocator>,
-    range: vm_range,
-    refusal: Out<vm_refusal>,
-) -> vm_status {
+pub extern "C" fn dvs_range_free(
+    allocator: Option<&dvs_address_allocator>,
+    range: dvs_range,
+    refusal: Out<dvs_refusal>,
+) -> dvs_status {
     let freed = with_mut_unit(allocator, |allocator| allocator.free(&range.try_into()?));
     status_of(freed, refusal)
 }
 
 #[unsafe(no_mangle)]
-pub extern "C" fn vm_range_is_held(
-    allocator: Option<&vm_address_allocator>,
-    range: vm_range,
+pub extern "C" fn dvs_range_is_held(
+    allocator: Option<&dvs_address_allocator>,
+    range: dvs_range,
     is_held: Out<bool>,
-    refusal: Out<vm_refusal>,
-) -> vm_status {
+    refusal: Out<dvs_refusal>,
+) -> dvs_status {
     let asked = with_ref(allocator, is_held, |allocator| {
         Ok(allocator.holds(&range.try_into()?))
     });
@@ -124,26 +124,26 @@ pub extern "C" fn vm_range_is_held(
 }
 
 #[unsafe(no_mangle)]
-pub extern "C" fn vm_range_count(
-    allocator: Option<&vm_address_allocator>,
+pub extern "C" fn dvs_range_count(
+    allocator: Option<&dvs_address_allocator>,
     count: Out<u64>,
-) -> vm_status {
+) -> dvs_status {
     let asked = with_ref(allocator, count, |allocator| Ok(allocator.held_count()));
     status_of(asked, None)
 }
 
 #[unsafe(no_mangle)]
-pub extern "C" fn vm_range_visit(
-    allocator: Option<&vm_address_allocator>,
-    visitor: Option<vm_range_visitor>,
+pub extern "C" fn dvs_range_visit(
+    allocator: Option<&dvs_address_allocator>,
+    visitor: Option<dvs_range_visitor>,
     context: *mut c_void,
-) -> vm_status {
+) -> dvs_status {
     status_of(visit(allocator, visitor, context), None)
 }
 
 fn visit(
-    allocator: Option<&vm_address_allocator>,
-    visitor: Option<vm_range_visitor>,
+    allocator: Option<&dvs_address_allocator>,
+    visitor: Option<dvs_range_visitor>,
     context: *mut c_void,
 ) -> Result<(), CallError> {
     let (allocator, visitor) = (non_null(allocator)?, non_null(visitor)?);
@@ -158,11 +158,11 @@ fn visit(
 }
 
 #[unsafe(no_mangle)]
-pub extern "C" fn vm_address_allocator_save(
-    allocator: Option<&vm_address_allocator>,
+pub extern "C" fn dvs_address_allocator_save(
+    allocator: Option<&dvs_address_allocator>,
     text: Out<*mut c_char>,
     length: Out<usize>,
-) -> vm_status {
+) -> dvs_status {
     let saved = save(allocator, text, length, AddressAllocator::to_value);
     status_of(saved, None)
 }
@@ -171,11 +171,11 @@ pub extern "C" fn vm_address_allocator_save(
 ///
 /// The text is null or points to `length` readable bytes.
 #[unsafe(no_mangle)]
-pub unsafe extern "C" fn vm_address_allocator_read(
+pub unsafe extern "C" fn dvs_address_allocator_read(
     text: *const c_char,
     length: usize,
-    allocator: Out<*mut vm_address_allocator>,
-) -> vm_status {
+    allocator: Out<*mut dvs_address_allocator>,
+) -> dvs_status {
     // SAFETY: the caller's contract.
     let read = unsafe { read(text, length, allocator, AddressAllocator::from_value) };
     status_of(read, None)
@@ -185,11 +185,11 @@ pub unsafe extern "C" fn vm_address_allocator_read(
 ///
 /// The text is null or points to `length` readable bytes.
 #[unsafe(no_mangle)]
-pub unsafe extern "C" fn vm_address_allocator_read_repaired(
+pub unsafe extern "C" fn dvs_address_allocator_read_repaired(
     text: *const c_char,
     length: usize,
-    allocator: Out<*mut vm_address_allocator>,
-) -> vm_status {
+    allocator: Out<*mut dvs_address_allocator>,
+) -> dvs_status {
     let from_value = AddressAllocator::from_value_repaired;
     // SAFETY: the caller's contract.
     let read = unsafe { read(text, length, allocator, from_value) };

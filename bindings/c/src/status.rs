@@ -1,6 +1,6 @@
 //! The errors of calls, as statuses and details.
 
-use crate::{vm_range, Out};
+use crate::{dvs_range, Out};
 use rattle::TextError;
 use std::ffi::{c_char, CStr};
 use vm_allocator::{Error, ValueError};
@@ -9,28 +9,28 @@ use vm_allocator::{Error, ValueError};
 #[repr(C)]
 #[derive(Clone, Copy)]
 #[allow(missing_docs)]
-pub enum vm_status {
-    VM_OK = 0,
-    VM_OVERFLOW = 1,
-    VM_OUT_OF_RANGE = 2,
-    VM_ALREADY_RELEASED = 3,
-    VM_NEVER_ALLOCATED = 4,
-    VM_RESOURCE_NOT_AVAILABLE = 5,
-    VM_INVALID_RANGE = 6,
-    VM_INVALID_ALIGNMENT = 7,
-    VM_OVERLAP = 8,
-    VM_INVALID_STATE_TRANSITION = 9,
-    VM_UNALIGNED_ADDRESS = 10,
-    VM_UNDERFLOW = 11,
-    VM_INVALID_SIZE = 12,
-    VM_OUT_OF_MEMORY = 13,
-    VM_NULL = 14,
-    VM_BUSY = 15,
-    VM_NOT_JSON = 16,
-    VM_NOT_A_STATE = 17,
+pub enum dvs_status {
+    DVS_OK = 0,
+    DVS_OVERFLOW = 1,
+    DVS_OUT_OF_RANGE = 2,
+    DVS_ALREADY_RELEASED = 3,
+    DVS_NEVER_ALLOCATED = 4,
+    DVS_RESOURCE_NOT_AVAILABLE = 5,
+    DVS_INVALID_RANGE = 6,
+    DVS_INVALID_ALIGNMENT = 7,
+    DVS_OVERLAP = 8,
+    DVS_INVALID_STATE_TRANSITION = 9,
+    DVS_UNALIGNED_ADDRESS = 10,
+    DVS_UNDERFLOW = 11,
+    DVS_INVALID_SIZE = 12,
+    DVS_OUT_OF_MEMORY = 13,
+    DVS_NULL = 14,
+    DVS_BUSY = 15,
+    DVS_NOT_JSON = 16,
+    DVS_NOT_A_STATE = 17,
 }
 
-use vm_status::*;
+use dvs_status::*;
 
 /// The text of each status, at the index of its number.
 const TEXTS: [&CStr; 18] = [
@@ -57,9 +57,9 @@ const TEXTS: [&CStr; 18] = [
 /// The details of an error.
 #[repr(C)]
 #[derive(Default)]
-pub struct vm_refusal {
-    range: vm_range,
-    other: vm_range,
+pub struct dvs_refusal {
+    range: dvs_range,
+    other: dvs_range,
     size: u64,
     id: u32,
 }
@@ -102,20 +102,20 @@ impl From<TextError> for CallError {
 }
 
 impl CallError {
-    fn status(&self) -> vm_status {
+    fn status(&self) -> dvs_status {
         match self {
-            CallError::Null => VM_NULL,
-            CallError::Busy => VM_BUSY,
-            CallError::OutOfMemory => VM_OUT_OF_MEMORY,
-            CallError::NotJson => VM_NOT_JSON,
-            CallError::NotAState => VM_NOT_A_STATE,
+            CallError::Null => DVS_NULL,
+            CallError::Busy => DVS_BUSY,
+            CallError::OutOfMemory => DVS_OUT_OF_MEMORY,
+            CallError::NotJson => DVS_NOT_JSON,
+            CallError::NotAState => DVS_NOT_A_STATE,
             CallError::Call(error) => status_of_error(error),
         }
     }
 
     /// Returns the details of the error.
-    fn numbers(&self) -> vm_refusal {
-        let none = vm_refusal::default();
+    fn numbers(&self) -> dvs_refusal {
+        let none = dvs_refusal::default();
         match self {
             CallError::Call(error) => numbers_of_error(error),
             _ => none,
@@ -123,32 +123,32 @@ impl CallError {
     }
 }
 
-fn status_of_error(error: &Error) -> vm_status {
+fn status_of_error(error: &Error) -> dvs_status {
     match error {
-        Error::Overflow => VM_OVERFLOW,
-        Error::OutOfRange(_) => VM_OUT_OF_RANGE,
-        Error::AlreadyReleased(_) => VM_ALREADY_RELEASED,
-        Error::NeverAllocated(_) => VM_NEVER_ALLOCATED,
-        Error::ResourceNotAvailable => VM_RESOURCE_NOT_AVAILABLE,
-        Error::InvalidRange(_, _) => VM_INVALID_RANGE,
-        Error::InvalidAlignment => VM_INVALID_ALIGNMENT,
-        Error::Overlap(_, _) => VM_OVERLAP,
-        Error::InvalidStateTransition(_, _) => VM_INVALID_STATE_TRANSITION,
-        Error::UnalignedAddress => VM_UNALIGNED_ADDRESS,
-        Error::Underflow => VM_UNDERFLOW,
-        Error::InvalidSize(_) => VM_INVALID_SIZE,
-        Error::OutOfMemory => VM_OUT_OF_MEMORY,
+        Error::Overflow => DVS_OVERFLOW,
+        Error::OutOfRange(_) => DVS_OUT_OF_RANGE,
+        Error::AlreadyReleased(_) => DVS_ALREADY_RELEASED,
+        Error::NeverAllocated(_) => DVS_NEVER_ALLOCATED,
+        Error::ResourceNotAvailable => DVS_RESOURCE_NOT_AVAILABLE,
+        Error::InvalidRange(_, _) => DVS_INVALID_RANGE,
+        Error::InvalidAlignment => DVS_INVALID_ALIGNMENT,
+        Error::Overlap(_, _) => DVS_OVERLAP,
+        Error::InvalidStateTransition(_, _) => DVS_INVALID_STATE_TRANSITION,
+        Error::UnalignedAddress => DVS_UNALIGNED_ADDRESS,
+        Error::Underflow => DVS_UNDERFLOW,
+        Error::InvalidSize(_) => DVS_INVALID_SIZE,
+        Error::OutOfMemory => DVS_OUT_OF_MEMORY,
     }
 }
 
-fn numbers_of_error(error: &Error) -> vm_refusal {
-    let mut numbers = vm_refusal::default();
+fn numbers_of_error(error: &Error) -> dvs_refusal {
+    let mut numbers = dvs_refusal::default();
     match error {
         Error::OutOfRange(id) | Error::AlreadyReleased(id) | Error::NeverAllocated(id) => {
             numbers.id = *id;
         }
         Error::InvalidRange(start, end) => {
-            numbers.range = vm_range {
+            numbers.range = dvs_range {
                 start: *start,
                 end: *end,
             };
@@ -166,15 +166,15 @@ fn numbers_of_error(error: &Error) -> vm_refusal {
 
 /// Returns the status of a result. If it is an error, also writes its details to `refusal`.
 #[inline(always)]
-pub(crate) fn status_of(answer: Result<(), CallError>, refusal: Out<vm_refusal>) -> vm_status {
+pub(crate) fn status_of(answer: Result<(), CallError>, refusal: Out<dvs_refusal>) -> dvs_status {
     match answer {
-        Ok(()) => VM_OK,
+        Ok(()) => DVS_OK,
         Err(refused) => report(&refused, refusal),
     }
 }
 
 #[cold]
-fn report(refused: &CallError, refusal: Out<vm_refusal>) -> vm_status {
+fn report(refused: &CallError, refusal: Out<dvs_refusal>) -> dvs_status {
     if let Some(refusal) = refusal {
         refusal.write(refused.numbers());
     }
@@ -183,12 +183,12 @@ fn report(refused: &CallError, refusal: Out<vm_refusal>) -> vm_status {
 
 /// The number is from C, so it can be one that is not a status.
 #[unsafe(no_mangle)]
-pub extern "C" fn vm_status_text(status: u32) -> *const c_char {
+pub extern "C" fn dvs_status_text(status: u32) -> *const c_char {
     let text = usize::try_from(status).ok().and_then(|at| TEXTS.get(at));
     text.copied().unwrap_or(c"Unknown status.").as_ptr()
 }
 
 #[unsafe(no_mangle)]
-pub extern "C" fn vm_version_text() -> *const c_char {
+pub extern "C" fn dvs_version_text() -> *const c_char {
     concat!(env!("CARGO_PKG_VERSION"), "\0").as_ptr().cast()
 }

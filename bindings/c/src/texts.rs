@@ -1,7 +1,7 @@
 //! Saving objects as JSON, and reading them.
 
 use crate::handle::{non_null, Handle};
-use crate::{vm_status, CallError, Out};
+use crate::{dvs_status, CallError, Out};
 use rattle::{Global, Value};
 use std::ffi::{c_char, CString};
 use std::fmt::{self, Write};
@@ -95,11 +95,11 @@ pub(crate) unsafe fn read<T>(
 /// The text is null, or from a call that saves an object and unchanged. It is not used after this
 /// call.
 #[unsafe(no_mangle)]
-pub unsafe extern "C" fn vm_text_destroy(text: *mut c_char) -> vm_status {
+pub unsafe extern "C" fn dvs_text_destroy(text: *mut c_char) -> dvs_status {
     if text.is_null() {
-        return vm_status::VM_NULL;
+        return dvs_status::DVS_NULL;
     }
     // SAFETY: `save` made it as a `CString`, and it is dropped only here.
     drop(unsafe { CString::from_raw(text) });
-    vm_status::VM_OK
+    dvs_status::DVS_OK
 }

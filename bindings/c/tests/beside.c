@@ -4,10 +4,10 @@
 bool catches_its_panic(void);
 
 int main(void) {
-    vm_address_allocator *space;
+    dvs_address_allocator *space;
 
-    CHECK(vm_address_allocator_new(0, 10, &space) == VM_OK);
+    CHECK(dvs_address_allocator_new(0, 10, &space) == DVS_OK);
     CHECK(catches_its_panic());
-    CHECK(vm_address_allocator_destroy(space) == VM_OK);
+    CHECK(dvs_address_allocator_destroy(space) == DVS_OK);
     return 0;
 }

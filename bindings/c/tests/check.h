@@ -17,15 +17,15 @@
         }                                                                                          \
     } while (0)
 
-static inline vm_range range_of(uint64_t start, uint64_t end) {
-    vm_range range;
+static inline dvs_range range_of(uint64_t start, uint64_t end) {
+    dvs_range range;
 
     range.start = start;
     range.end = end;
     return range;
 }
 
-static inline bool is_range(vm_range range, uint64_t start, uint64_t end) {
+static inline bool is_range(dvs_range range, uint64_t start, uint64_t end) {
     return range.start == start && range.end == end;
 }
 
@@ -34,7 +34,7 @@ static inline bool is_range(vm_range range, uint64_t start, uint64_t end) {
     static inline char *name(const type *object, size_t *length) {                                 \
         char *text;                                                                                \
                                                                                                    \
-        CHECK(type##_save(object, &text, length) == VM_OK);                                        \
+        CHECK(type##_save(object, &text, length) == DVS_OK);                                        \
         CHECK(strlen(text) == *length);                                                            \
         return text;                                                                               \
     }

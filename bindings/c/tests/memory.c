@@ -1,6 +1,6 @@
 /*
  * Fails each allocation of each call in turn. The call must return
- * VM_OUT_OF_MEMORY, free what it has allocated, and change nothing. The calls
+ * DVS_OUT_OF_MEMORY, free what it has allocated, and change nothing. The calls
  * that the header lists as exceptions must end the process. It also measures
  * the memory that reading a text allocates.
  *
@@ -85,33 +85,33 @@ void __wrap_free(void *old) {
 }
 
 /* The objects of the calls, and their saved texts. */
-static vm_address_allocator *space;
-static vm_id_allocator *ids;
-static vm_device_manager *manager;
+static dvs_address_allocator *space;
+static dvs_id_allocator *ids;
+static dvs_device_manager *manager;
 static char *space_text, *ids_text, *manager_text;
 static size_t space_length, ids_length, manager_length;
 
-SAVED(saved_space, vm_address_allocator)
-SAVED(saved_ids, vm_id_allocator)
-SAVED(saved_devices, vm_device_manager)
+SAVED(saved_space, dvs_address_allocator)
+SAVED(saved_ids, dvs_id_allocator)
+SAVED(saved_devices, dvs_device_manager)
 
 static void set_up(void) {
-    vm_range range;
+    dvs_range range;
     uint32_t id;
     int i;
 
-    CHECK(vm_address_allocator_new(0, 1000, &space) == VM_OK);
+    CHECK(dvs_address_allocator_new(0, 1000, &space) == DVS_OK);
     for (i = 0; i < 8; i++)
-        CHECK(vm_range_allocate_first(space, 3, 8, &range, NULL) == VM_OK);
-    CHECK(vm_id_allocator_new(0, 9, &ids, NULL) == VM_OK);
-    CHECK(vm_id_allocate(ids, &id) == VM_OK);
-    CHECK(vm_device_manager_new(0, 9, 0, 100, &manager, NULL) == VM_OK);
+        CHECK(dvs_range_allocate_first(space, 3, 8, &range, NULL) == DVS_OK);
+    CHECK(dvs_id_allocator_new(0, 9, &ids, NULL) == DVS_OK);
+    CHECK(dvs_id_allocate(ids, &id) == DVS_OK);
+    CHECK(dvs_device_manager_new(0, 9, 0, 100, &manager, NULL) == DVS_OK);
 }
 
 static void tear_down(void) {
-    CHECK(vm_address_allocator_destroy(space) == VM_OK);
-    CHECK(vm_id_allocator_destroy(ids) == VM_OK);
-    CHECK(vm_device_manager_destroy(manager) == VM_OK);
+    CHECK(dvs_address_allocator_destroy(space) == DVS_OK);
+    CHECK(dvs_id_allocator_destroy(ids) == DVS_OK);
+    CHECK(dvs_device_manager_destroy(manager) == DVS_OK);
 }
 
 static void keep_texts(void) {
@@ -121,14 +121,14 @@ static void keep_texts(void) {
 }
 
 static void drop_texts(void) {
-    CHECK(vm_text_destroy(space_text) == VM_OK);
-    CHECK(vm_text_destroy(ids_text) == VM_OK);
-    CHECK(vm_text_destroy(manager_text) == VM_OK);
+    CHECK(dvs_text_destroy(space_text) == DVS_OK);
+    CHECK(dvs_text_destroy(ids_text) == DVS_OK);
+    CHECK(dvs_text_destroy(manager_text) == DVS_OK);
 }
 
 static void check_same(char *text, const char *before) {
     CHECK(strcmp(text, before) == 0);
-    CHECK(vm_text_destroy(text) == VM_OK);
+    CHECK(dvs_text_destroy(text) == DVS_OK);
 }
 
 static void check_unchanged(void) {
@@ -141,112 +141,112 @@ static void check_unchanged(void) {
 
 /* ---- The calls that return an error. Each frees what it allocates. ---- */
 
-static vm_status destroyed_space(vm_status status, vm_address_allocator *made) {
-    if (status == VM_OK)
-        vm_address_allocator_destroy(made);
+static dvs_status destroyed_space(dvs_status status, dvs_address_allocator *made) {
+    if (status == DVS_OK)
+        dvs_address_allocator_destroy(made);
     return status;
 }
 
-static vm_status destroyed_text(vm_status status, char *text) {
-    if (status == VM_OK)
-        vm_text_destroy(text);
+static dvs_status destroyed_text(dvs_status status, char *text) {
+    if (status == DVS_OK)
+        dvs_text_destroy(text);
     return status;
 }
 
-static vm_status freed(vm_status status, vm_range range) {
-    if (status == VM_OK)
-        CHECK(vm_range_free(space, range, NULL) == VM_OK);
+static dvs_status freed(dvs_status status, dvs_range range) {
+    if (status == DVS_OK)
+        CHECK(dvs_range_free(space, range, NULL) == DVS_OK);
     return status;
 }
 
-static vm_status new_space(void) {
-    vm_address_allocator *made = NULL;
-    vm_status status = vm_address_allocator_new(1, 2, &made);
+static dvs_status new_space(void) {
+    dvs_address_allocator *made = NULL;
+    dvs_status status = dvs_address_allocator_new(1, 2, &made);
 
     return destroyed_space(status, made);
 }
 
-static vm_status new_ids(void) {
-    vm_id_allocator *made;
-    vm_status status = vm_id_allocator_new(1, 2, &made, NULL);
+static dvs_status new_ids(void) {
+    dvs_id_allocator *made;
+    dvs_status status = dvs_id_allocator_new(1, 2, &made, NULL);
 
-    if (status == VM_OK)
-        vm_id_allocator_destroy(made);
+    if (status == DVS_OK)
+        dvs_id_allocator_destroy(made);
     return status;
 }
 
-static vm_status new_manager(void) {
-    vm_device_manager *made;
-    vm_status status = vm_device_manager_new(1, 2, 3, 4, &made, NULL);
+static dvs_status new_manager(void) {
+    dvs_device_manager *made;
+    dvs_status status = dvs_device_manager_new(1, 2, 3, 4, &made, NULL);
 
-    if (status == VM_OK)
-        vm_device_manager_destroy(made);
+    if (status == DVS_OK)
+        dvs_device_manager_destroy(made);
     return status;
 }
 
-static vm_status allocate_first(void) {
-    vm_range range = {0, 0};
-    vm_status status = vm_range_allocate_first(space, 3, 16, &range, NULL);
+static dvs_status allocate_first(void) {
+    dvs_range range = {0, 0};
+    dvs_status status = dvs_range_allocate_first(space, 3, 16, &range, NULL);
 
     return freed(status, range);
 }
 
-static vm_status allocate_last(void) {
-    vm_range range = {0, 0};
-    vm_status status = vm_range_allocate_last(space, 3, 8, &range, NULL);
+static dvs_status allocate_last(void) {
+    dvs_range range = {0, 0};
+    dvs_status status = dvs_range_allocate_last(space, 3, 8, &range, NULL);
 
     return freed(status, range);
 }
 
 /* Allocates a range with free addresses on both sides. */
-static vm_status allocate_exact(void) {
-    vm_range range = {0, 0};
-    vm_status status = vm_range_allocate_exact(space, 3, 1, 500, &range, NULL);
+static dvs_status allocate_exact(void) {
+    dvs_range range = {0, 0};
+    dvs_status status = dvs_range_allocate_exact(space, 3, 1, 500, &range, NULL);
 
     return freed(status, range);
 }
 
-static vm_status save_space(void) {
+static dvs_status save_space(void) {
     char *text = NULL;
     size_t length;
-    vm_status status = vm_address_allocator_save(space, &text, &length);
+    dvs_status status = dvs_address_allocator_save(space, &text, &length);
 
     return destroyed_text(status, text);
 }
 
-static vm_status save_ids(void) {
+static dvs_status save_ids(void) {
     char *text = NULL;
     size_t length;
-    vm_status status = vm_id_allocator_save(ids, &text, &length);
+    dvs_status status = dvs_id_allocator_save(ids, &text, &length);
 
     return destroyed_text(status, text);
 }
 
-static vm_status save_manager(void) {
+static dvs_status save_manager(void) {
     char *text = NULL;
     size_t length;
-    vm_status status = vm_device_manager_save(manager, &text, &length);
+    dvs_status status = dvs_device_manager_save(manager, &text, &length);
 
     return destroyed_text(status, text);
 }
 
-static vm_status read_space(void) {
-    vm_address_allocator *made = NULL;
-    vm_status status = vm_address_allocator_read(space_text, space_length, &made);
+static dvs_status read_space(void) {
+    dvs_address_allocator *made = NULL;
+    dvs_status status = dvs_address_allocator_read(space_text, space_length, &made);
 
     return destroyed_space(status, made);
 }
 
-static vm_status read_space_repaired(void) {
-    vm_address_allocator *made = NULL;
-    vm_status status = vm_address_allocator_read_repaired(space_text, space_length, &made);
+static dvs_status read_space_repaired(void) {
+    dvs_address_allocator *made = NULL;
+    dvs_status status = dvs_address_allocator_read_repaired(space_text, space_length, &made);
 
     return destroyed_space(status, made);
 }
 
 static const struct call {
     const char *name;
-    vm_status (*call)(void);
+    dvs_status (*call)(void);
     /* The minimum number of its allocations. */
     unsigned long requests;
 } calls[] = {
@@ -270,13 +270,13 @@ static void refuse_in_turn(const struct call *call) {
     keep_texts();
     for (number = 1;; number++) {
         long before = blocks;
-        vm_status status;
+        dvs_status status;
 
         until_refused = number;
         status = call->call();
         if (until_refused > 0)
             break;
-        CHECK(status == VM_OUT_OF_MEMORY);
+        CHECK(status == DVS_OUT_OF_MEMORY);
         CHECK(blocks == before);
         check_unchanged();
     }
@@ -290,41 +290,41 @@ static void refuse_in_turn(const struct call *call) {
 /* ---- The calls that end the process ---- */
 
 static void free_id(void) {
-    vm_id_free(ids, 0, NULL);
+    dvs_id_free(ids, 0, NULL);
 }
 
 static void read_ids(void) {
     static const char text[] =
         "{\"freed_ids\":[5],\"next_id\":7,\"range_base\":5,\"range_end\":23}";
-    vm_id_allocator *made;
+    dvs_id_allocator *made;
 
-    vm_id_allocator_read(text, strlen(text), &made);
+    dvs_id_allocator_read(text, strlen(text), &made);
 }
 
 static void reserve_device(void) {
-    vm_device device;
+    dvs_device device;
 
-    vm_device_reserve_first(manager, 100, 1, &device, NULL);
+    dvs_device_reserve_first(manager, 100, 1, &device, NULL);
 }
 
 /* Reserves a device without a failed allocation. */
 static void plug_in(void) {
     unsigned long number = until_refused;
-    vm_device device;
+    dvs_device device;
 
     until_refused = 0;
-    CHECK(vm_device_reserve_first(manager, 1, 1, &device, NULL) == VM_OK && device.id == 0);
+    CHECK(dvs_device_reserve_first(manager, 1, 1, &device, NULL) == DVS_OK && device.id == 0);
     until_refused = number;
 }
 
 static void release_device(void) {
     plug_in();
-    vm_device_release(manager, 0, NULL);
+    dvs_device_release(manager, 0, NULL);
 }
 
 static void read_manager(void) {
     unsigned long number = until_refused;
-    vm_device_manager *made;
+    dvs_device_manager *made;
     size_t length;
     char *text;
 
@@ -332,8 +332,8 @@ static void read_manager(void) {
     until_refused = 0;
     text = saved_devices(manager, &length);
     until_refused = number;
-    vm_device_manager_read(text, length, &made);
-    vm_text_destroy(text);
+    dvs_device_manager_read(text, length, &made);
+    dvs_text_destroy(text);
 }
 
 /* Fails each allocation of a call in turn, each in a separate process, until one ends it. */
@@ -380,7 +380,7 @@ static const struct nesting {
 /* Reads an array of `count` nested values. Returns the allocated bytes per byte of the text. */
 static double read_nested(const struct nesting *nesting, int depth, int count) {
     static char text[1 << 16];
-    vm_address_allocator *made;
+    dvs_address_allocator *made;
     size_t length, before = bytes;
     char *end = text;
     int i, level;
@@ -396,7 +396,7 @@ static double read_nested(const struct nesting *nesting, int depth, int count) {
     *end++ = ']';
     length = (size_t)(end - text);
     most_bytes = bytes;
-    CHECK(vm_address_allocator_read(text, length, &made) == VM_NOT_A_STATE);
+    CHECK(dvs_address_allocator_read(text, length, &made) == DVS_NOT_A_STATE);
     CHECK(bytes == before && most_bytes - before < TIMES * length);
     return (double)(most_bytes - before) / (double)length;
 }

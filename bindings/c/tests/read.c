@@ -5,39 +5,39 @@
  */
 #include "check.h"
 
-SAVED(saved_space, vm_address_allocator)
-SAVED(saved_ids, vm_id_allocator)
-SAVED(saved_devices, vm_device_manager)
+SAVED(saved_space, dvs_address_allocator)
+SAVED(saved_ids, dvs_id_allocator)
+SAVED(saved_devices, dvs_device_manager)
 
-static void tell(vm_status status, char *saved) {
+static void tell(dvs_status status, char *saved) {
     printf("%d %s\n", (int)status, saved == NULL ? "" : saved);
     if (saved != NULL)
-        vm_text_destroy(saved);
+        dvs_text_destroy(saved);
 }
 
 static void read_space(const char *text, size_t length, bool is_repaired) {
-    vm_address_allocator *space = NULL;
-    vm_status status = is_repaired ? vm_address_allocator_read_repaired(text, length, &space)
-                                   : vm_address_allocator_read(text, length, &space);
+    dvs_address_allocator *space = NULL;
+    dvs_status status = is_repaired ? dvs_address_allocator_read_repaired(text, length, &space)
+                                   : dvs_address_allocator_read(text, length, &space);
 
-    tell(status, status == VM_OK ? saved_space(space, &length) : NULL);
-    vm_address_allocator_destroy(space);
+    tell(status, status == DVS_OK ? saved_space(space, &length) : NULL);
+    dvs_address_allocator_destroy(space);
 }
 
 static void read_ids(const char *text, size_t length) {
-    vm_id_allocator *ids = NULL;
-    vm_status status = vm_id_allocator_read(text, length, &ids);
+    dvs_id_allocator *ids = NULL;
+    dvs_status status = dvs_id_allocator_read(text, length, &ids);
 
-    tell(status, status == VM_OK ? saved_ids(ids, &length) : NULL);
-    vm_id_allocator_destroy(ids);
+    tell(status, status == DVS_OK ? saved_ids(ids, &length) : NULL);
+    dvs_id_allocator_destroy(ids);
 }
 
 static void read_devices(const char *text, size_t length) {
-    vm_device_manager *manager = NULL;
-    vm_status status = vm_device_manager_read(text, length, &manager);
+    dvs_device_manager *manager = NULL;
+    dvs_status status = dvs_device_manager_read(text, length, &manager);
 
-    tell(status, status == VM_OK ? saved_devices(manager, &length) : NULL);
-    vm_device_manager_destroy(manager);
+    tell(status, status == DVS_OK ? saved_devices(manager, &length) : NULL);
+    dvs_device_manager_destroy(manager);
 }
 
 static void read_text(char reader, const char *text, size_t length) {

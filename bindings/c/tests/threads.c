@@ -11,7 +11,7 @@
 enum { THREADS = 8, ROUNDS = 40, VISITS = 200000, HELD = 64 };
 enum { SMALL_STACK = 64 * 1024, LEVELS = 50 };
 
-SAVED(saved_space, vm_address_allocator)
+SAVED(saved_space, dvs_address_allocator)
 
 static void run(pthread_t *thread, const pthread_attr_t *how, void *(*work)(void *), void *on) {
     CHECK(pthread_create(thread, how, work, on) == 0);
@@ -27,58 +27,58 @@ static void join_all(pthread_t *threads, size_t count) {
 /* ---- A separate object for each thread ---- */
 
 /* Allocates and frees, and checks that the results are those of a single thread. */
-static void fill_and_empty(vm_address_allocator *space, uint64_t base) {
-    vm_range range;
+static void fill_and_empty(dvs_address_allocator *space, uint64_t base) {
+    dvs_range range;
     uint64_t i;
 
     for (i = 0; i < HELD; i++) {
-        CHECK(vm_range_allocate_first(space, 16, 16, &range, NULL) == VM_OK);
+        CHECK(dvs_range_allocate_first(space, 16, 16, &range, NULL) == DVS_OK);
         CHECK(is_range(range, base + 16 * i, base + 16 * i + 15));
     }
     for (i = 0; i < HELD; i++) {
         uint64_t start = base + 16 * (i * 13 % HELD);
 
-        CHECK(vm_range_free(space, range_of(start, start + 15), NULL) == VM_OK);
+        CHECK(dvs_range_free(space, range_of(start, start + 15), NULL) == DVS_OK);
     }
 }
 
-static void fill_ids(vm_id_allocator *ids) {
+static void fill_ids(dvs_id_allocator *ids) {
     uint32_t i, id;
 
     for (i = 0; i < HELD; i++)
-        CHECK(vm_id_allocate(ids, &id) == VM_OK && id == i);
+        CHECK(dvs_id_allocate(ids, &id) == DVS_OK && id == i);
     for (i = 0; i < HELD; i++)
-        CHECK(vm_id_free(ids, i * 13 % HELD, NULL) == VM_OK);
+        CHECK(dvs_id_free(ids, i * 13 % HELD, NULL) == DVS_OK);
 }
 
-static void plug_devices(vm_device_manager *manager) {
-    vm_device device;
+static void plug_devices(dvs_device_manager *manager) {
+    dvs_device device;
     uint32_t i;
 
     for (i = 0; i < HELD; i++)
-        CHECK(vm_device_reserve_last(manager, 1, 1, &device, NULL) == VM_OK && device.id == i);
+        CHECK(dvs_device_reserve_last(manager, 1, 1, &device, NULL) == DVS_OK && device.id == i);
     for (i = 0; i < HELD; i++)
-        CHECK(vm_device_release(manager, i, NULL) == VM_OK);
+        CHECK(dvs_device_release(manager, i, NULL) == DVS_OK);
 }
 
 static void *use_own(void *context) {
     uint64_t base = *(const uint64_t *)context;
-    vm_address_allocator *space;
-    vm_id_allocator *ids;
-    vm_device_manager *manager;
+    dvs_address_allocator *space;
+    dvs_id_allocator *ids;
+    dvs_device_manager *manager;
     int i;
 
-    CHECK(vm_address_allocator_new(base, 16 * HELD, &space) == VM_OK);
-    CHECK(vm_id_allocator_new(0, HELD, &ids, NULL) == VM_OK);
-    CHECK(vm_device_manager_new(0, HELD, base, HELD, &manager, NULL) == VM_OK);
+    CHECK(dvs_address_allocator_new(base, 16 * HELD, &space) == DVS_OK);
+    CHECK(dvs_id_allocator_new(0, HELD, &ids, NULL) == DVS_OK);
+    CHECK(dvs_device_manager_new(0, HELD, base, HELD, &manager, NULL) == DVS_OK);
     for (i = 0; i < ROUNDS; i++) {
         fill_and_empty(space, base);
         fill_ids(ids);
         plug_devices(manager);
     }
-    CHECK(vm_address_allocator_destroy(space) == VM_OK);
-    CHECK(vm_id_allocator_destroy(ids) == VM_OK);
-    CHECK(vm_device_manager_destroy(manager) == VM_OK);
+    CHECK(dvs_address_allocator_destroy(space) == DVS_OK);
+    CHECK(dvs_id_allocator_destroy(ids) == DVS_OK);
+    CHECK(dvs_device_manager_destroy(manager) == DVS_OK);
     return NULL;
 }
 
@@ -97,25 +97,25 @@ static void use_own_objects(void) {
 /* ---- An object passed from thread to thread ---- */
 
 static void *make_one(void *context) {
-    vm_range range;
-    vm_address_allocator **space = (vm_address_allocator **)context;
+    dvs_range range;
+    dvs_address_allocator **space = (dvs_address_allocator **)context;
 
-    CHECK(vm_address_allocator_new(0, 100, space) == VM_OK);
-    CHECK(vm_range_allocate_first(*space, 10, 1, &range, NULL) == VM_OK);
+    CHECK(dvs_address_allocator_new(0, 100, space) == DVS_OK);
+    CHECK(dvs_range_allocate_first(*space, 10, 1, &range, NULL) == DVS_OK);
     return NULL;
 }
 
 static void *destroy_one(void *context) {
-    vm_address_allocator **space = (vm_address_allocator **)context;
+    dvs_address_allocator **space = (dvs_address_allocator **)context;
 
-    CHECK(vm_range_free(*space, range_of(0, 9), NULL) == VM_OK);
-    CHECK(vm_address_allocator_destroy(*space) == VM_OK);
+    CHECK(dvs_range_free(*space, range_of(0, 9), NULL) == DVS_OK);
+    CHECK(dvs_address_allocator_destroy(*space) == DVS_OK);
     return NULL;
 }
 
 static void hand_on(void) {
     pthread_t thread;
-    vm_address_allocator *space;
+    dvs_address_allocator *space;
 
     run(&thread, NULL, make_one, &space);
     join_all(&thread, 1);
@@ -125,13 +125,13 @@ static void hand_on(void) {
 
 /* ---- Queries at the same time ---- */
 
-static int count_range(void *context, vm_range range) {
+static int count_range(void *context, dvs_range range) {
     *(uint64_t *)context += range.end - range.start + 1;
     return 0;
 }
 
 static void *look(void *context) {
-    const vm_address_allocator *space = (const vm_address_allocator *)context;
+    const dvs_address_allocator *space = (const dvs_address_allocator *)context;
     int i;
 
     for (i = 0; i < ROUNDS; i++) {
@@ -139,40 +139,40 @@ static void *look(void *context) {
         bool is_held = false;
         size_t length;
 
-        CHECK(vm_range_count(space, &count) == VM_OK && count == HELD);
-        CHECK(vm_range_visit(space, count_range, &sum) == VM_OK && sum == 3 * HELD);
-        CHECK(vm_range_is_held(space, range_of(0, 2), &is_held, NULL) == VM_OK && is_held);
-        CHECK(vm_text_destroy(saved_space(space, &length)) == VM_OK);
+        CHECK(dvs_range_count(space, &count) == DVS_OK && count == HELD);
+        CHECK(dvs_range_visit(space, count_range, &sum) == DVS_OK && sum == 3 * HELD);
+        CHECK(dvs_range_is_held(space, range_of(0, 2), &is_held, NULL) == DVS_OK && is_held);
+        CHECK(dvs_text_destroy(saved_space(space, &length)) == DVS_OK);
     }
     return NULL;
 }
 
 static void look_together(void) {
     pthread_t threads[THREADS];
-    vm_address_allocator *space;
-    vm_range range;
+    dvs_address_allocator *space;
+    dvs_range range;
     size_t i;
 
-    CHECK(vm_address_allocator_new(0, 4 * HELD, &space) == VM_OK);
+    CHECK(dvs_address_allocator_new(0, 4 * HELD, &space) == DVS_OK);
     for (i = 0; i < HELD; i++)
-        CHECK(vm_range_allocate_first(space, 3, 4, &range, NULL) == VM_OK);
+        CHECK(dvs_range_allocate_first(space, 3, 4, &range, NULL) == DVS_OK);
     for (i = 0; i < THREADS; i++)
         run(&threads[i], NULL, look, space);
     join_all(threads, THREADS);
-    CHECK(vm_range_free(space, range, NULL) == VM_OK);
-    CHECK(vm_address_allocator_destroy(space) == VM_OK);
+    CHECK(dvs_range_free(space, range, NULL) == DVS_OK);
+    CHECK(dvs_address_allocator_destroy(space) == DVS_OK);
 }
 
 /* ---- Visits at the same time ---- */
 
 static void *visit_often(void *context) {
-    const vm_address_allocator *space = (const vm_address_allocator *)context;
+    const dvs_address_allocator *space = (const dvs_address_allocator *)context;
     int i;
 
     for (i = 0; i < VISITS; i++) {
         uint64_t sum = 0;
 
-        CHECK(vm_range_visit(space, count_range, &sum) == VM_OK && sum == 3);
+        CHECK(dvs_range_visit(space, count_range, &sum) == DVS_OK && sum == 3);
     }
     return NULL;
 }
@@ -180,17 +180,17 @@ static void *visit_often(void *context) {
 /* If a visit were not counted, the space would be busy after them. */
 static void visit_together(void) {
     pthread_t threads[THREADS];
-    vm_address_allocator *space;
-    vm_range range;
+    dvs_address_allocator *space;
+    dvs_range range;
     size_t i;
 
-    CHECK(vm_address_allocator_new(0, 3, &space) == VM_OK);
-    CHECK(vm_range_allocate_first(space, 3, 1, &range, NULL) == VM_OK);
+    CHECK(dvs_address_allocator_new(0, 3, &space) == DVS_OK);
+    CHECK(dvs_range_allocate_first(space, 3, 1, &range, NULL) == DVS_OK);
     for (i = 0; i < THREADS; i++)
         run(&threads[i], NULL, visit_often, space);
     join_all(threads, THREADS);
-    CHECK(vm_range_free(space, range, NULL) == VM_OK);
-    CHECK(vm_address_allocator_destroy(space) == VM_OK);
+    CHECK(dvs_range_free(space, range, NULL) == DVS_OK);
+    CHECK(dvs_address_allocator_destroy(space) == DVS_OK);
 }
 
 /* ---- On a small stack ---- */
@@ -221,7 +221,7 @@ static char *chain_of_nodes(int levels) {
 
 static void *go_deep(void *context) {
     static char brackets[100000];
-    vm_address_allocator *space;
+    dvs_address_allocator *space;
     char *text = chain_of_nodes(LEVELS), *too_deep = chain_of_nodes(LEVELS + 1);
     uint64_t count;
     size_t length;
@@ -229,21 +229,21 @@ static void *go_deep(void *context) {
 
     (void)context;
     memset(brackets, '[', sizeof brackets);
-    CHECK(vm_address_allocator_read(brackets, sizeof brackets, &space) == VM_NOT_JSON);
+    CHECK(dvs_address_allocator_read(brackets, sizeof brackets, &space) == DVS_NOT_JSON);
     for (levels = 128; levels <= 129; levels++) {
         memset(brackets + levels, ']', (size_t)levels);
-        CHECK(vm_address_allocator_read(brackets, 2 * (size_t)levels, &space) ==
-              (levels == 128 ? VM_NOT_A_STATE : VM_NOT_JSON));
+        CHECK(dvs_address_allocator_read(brackets, 2 * (size_t)levels, &space) ==
+              (levels == 128 ? DVS_NOT_A_STATE : DVS_NOT_JSON));
         memset(brackets, '[', sizeof brackets);
     }
-    CHECK(vm_address_allocator_read(text, strlen(text), &space) == VM_NOT_A_STATE);
-    CHECK(vm_address_allocator_read_repaired(too_deep, strlen(too_deep), &space) == VM_NOT_A_STATE);
-    CHECK(vm_address_allocator_read_repaired(text, strlen(text), &space) == VM_OK);
+    CHECK(dvs_address_allocator_read(text, strlen(text), &space) == DVS_NOT_A_STATE);
+    CHECK(dvs_address_allocator_read_repaired(too_deep, strlen(too_deep), &space) == DVS_NOT_A_STATE);
+    CHECK(dvs_address_allocator_read_repaired(text, strlen(text), &space) == DVS_OK);
     free(too_deep);
     free(text);
-    CHECK(vm_range_count(space, &count) == VM_OK && count == LEVELS);
-    CHECK(vm_text_destroy(saved_space(space, &length)) == VM_OK);
-    CHECK(vm_address_allocator_destroy(space) == VM_OK);
+    CHECK(dvs_range_count(space, &count) == DVS_OK && count == LEVELS);
+    CHECK(dvs_text_destroy(saved_space(space, &length)) == DVS_OK);
+    CHECK(dvs_address_allocator_destroy(space) == DVS_OK);
     return NULL;
 }
 

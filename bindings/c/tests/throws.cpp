@@ -6,29 +6,29 @@
 #include <sys/wait.h>
 #include <unistd.h>
 
-static int throw_one(void *, vm_range) {
+static int throw_one(void *, dvs_range) {
     throw 1;
 }
 
-static int exit_thread(void *, vm_range) {
+static int exit_thread(void *, dvs_range) {
     pthread_exit(nullptr);
 }
 
-static int cancel_thread(void *, vm_range) {
+static int cancel_thread(void *, dvs_range) {
     pthread_cancel(pthread_self());
     pthread_testcancel();
     return 0;
 }
 
 static void *visit(void *context) {
-    vm_range_visitor *visitor = *static_cast<vm_range_visitor **>(context);
-    vm_address_allocator *space;
-    vm_range range;
+    dvs_range_visitor *visitor = *static_cast<dvs_range_visitor **>(context);
+    dvs_address_allocator *space;
+    dvs_range range;
 
-    CHECK(vm_address_allocator_new(0, 10, &space) == VM_OK);
-    CHECK(vm_range_allocate_first(space, 1, 1, &range, nullptr) == VM_OK);
+    CHECK(dvs_address_allocator_new(0, 10, &space) == DVS_OK);
+    CHECK(dvs_range_allocate_first(space, 1, 1, &range, nullptr) == DVS_OK);
     try {
-        vm_range_visit(space, visitor, nullptr);
+        dvs_range_visit(space, visitor, nullptr);
     } catch (int) {
         _exit(1);
     }
@@ -36,7 +36,7 @@ static void *visit(void *context) {
 }
 
 /* Visits in a thread, and exits if the visit returns. */
-static void visit_in_child(vm_range_visitor *visitor) {
+static void visit_in_child(dvs_range_visitor *visitor) {
     pthread_t thread;
 
     CHECK(freopen("/dev/null", "w", stderr) != nullptr);
@@ -45,7 +45,7 @@ static void visit_in_child(vm_range_visitor *visitor) {
     _exit(2);
 }
 
-static void check_aborts(vm_range_visitor *visitor) {
+static void check_aborts(dvs_range_visitor *visitor) {
     pid_t child = fork();
     int ended;
 

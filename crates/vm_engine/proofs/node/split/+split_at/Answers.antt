@@ -57,8 +57,8 @@ refreshed_over_side t c =
     let e : side c.args.at.now ≡ shape_of c.tree.inside = cc in
     let max_free = c.refresh_free.new.cached_max_free in
     let count = c.refresh_free.new.cached_alignments in
-    let longest = rw (c.summary_of.ensures.value.1, c.summary_of-in-FreeOnly.ensures.value.1, c.free_summary_of.ensures.max_free) at c.refresh_free.ensures.max_free in
-    let reached = rw (c.summary_of.ensures.value.2, c.summary_of-in-FreeOnly.ensures.value.2, c.free_summary_of.ensures.alignments) at c.refresh_free.ensures.alignments in
+    let longest = rw (c.free_summary_over-free.ensures.max_free, c.summary_of.ensures.value.1, c.summary_of-in-FreeOnly.ensures.value.1) at c.refresh_free.ensures.max_free in
+    let reached = rw (c.free_summary_over-free.ensures.alignments, c.summary_of.ensures.value.2, c.summary_of-in-FreeOnly.ensures.value.2) at c.refresh_free.ensures.alignments in
     elim c.match-compare.branch [
       | in-Greater w ↦
           let l = w.split_at-change in
