@@ -147,7 +147,7 @@ impl AddressAllocator {
     ///   - `Overflow` if the height of the tree is 48 or more. This takes more than 6 * 10^9
     ///     allocated ranges.
     ///   - `OutOfMemory` if the allocation of a node fails.
-    #[tactic(auto, using(crate::proofs::Callers::allocations))]
+    #[tactic(auto, using(crate::proofs::Callers::allocations, vm_engine::proofs::Answers::Requests::allocating, vm_engine::proofs::Answers::Filling::succeeding, crate::proofs::Trees::trees))]
     pub fn allocate(
         &mut self,
         alloc: Global,
@@ -177,7 +177,9 @@ impl AddressAllocator {
         // Each result under its exact condition.
         ensures answer { Allocates (state_of self.old) (request_for size alignment policy) result (state_of self.new) }
     {
-        self.allocate_counted(alloc, size, alignment, policy).0
+        let tree = &mut self.interval_tree;
+        let constraint = Constraint::new(size, alignment, policy)?;
+        tree.allocate(alloc, constraint)
     }
 
     /// Allocates like [`allocate`](Self::allocate), and also returns the number of tree nodes that

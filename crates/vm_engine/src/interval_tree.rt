@@ -15,6 +15,7 @@ ghost use Rattle.std.specs.Prelude.{◌≡◌, OnErr, OnOk, IfOk};
 ghost use Rattle.vm_engine.specs.Address.{IsAddressState};
 ghost use Rattle.vm_engine.specs.Answer.{Grants, Frees};
 ghost use Rattle.vm_ranges.specs.Cloning.{Clones};
+ghost use Rattle.vm_ranges.specs.Request.{IsRequest};
 ghost use Rattle.vm_engine.specs.Tree.Shape.{blocks, height_of, IsTree};
 ghost use Rattle.vm_engine.specs.Counts.GapSearch.{SearchesGaps, SearchesAligned};
 ghost use Rattle.vm_engine.specs.Counts.Steps.{Enters, EntersToFree, IsBalancedTreeOf, IsGrantCount, IsFreeCount, SplitsIfLow};
@@ -127,6 +128,7 @@ impl IntervalTree {
         count: &mut Steps,
     ) -> Result<RangeInclusive>
         requires { count.old ≡ 0 }
+        ensures valid { IsRequest constraint }
         ensures answer { Grants (tree_state self.old) constraint result (tree_state self.new) }
         ensures unchanged { OnErr result (self.new ≡ self.old) }
         ensures depth { SplitsIfLow (height_of self.old) (tree_state self.old) constraint result }
@@ -162,6 +164,7 @@ impl IntervalTree {
     ///   - `OutOfMemory` if the allocation of a node fails.
     #[tactic(auto, using(crate::proofs::Nodes::Spaces::states))]
     pub fn allocate(&mut self, alloc: Global, constraint: Constraint) -> Result<RangeInclusive>
+        ensures valid { IsRequest constraint }
         ensures answer { Grants (tree_state self.old) constraint result (tree_state self.new) }
         ensures unchanged { OnErr result (self.new ≡ self.old) }
         ensures state { IsAddressState (tree_state self.new) }

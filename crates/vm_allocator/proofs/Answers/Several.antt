@@ -3,12 +3,18 @@ use Rattle.std.proofs.Common.{◌≡◌, ℕ, ◌+◌, ◌<◌, List, [], ◌∷
 use Rattle.std.proofs.Math.Seq.{drop-cons, drop-length}
 use Rattle.std.proofs.lemmas.List.{take-append-drop, append-nil}
 use Rattle.vm_ranges.specs.Range.{Range}
-use Rattle.vm_ranges.specs.Request.{Request}
+use Rattle.vm_ranges.specs.Request.{Request, IsRequest, ByConstraint}
 use Rattle.vm_engine.specs.Address.{AddressState, IsAddressState}
-use Rattle.vm_engine.specs.Answer.{Allocates, Frees}
+use Rattle.vm_engine.specs.Answer.{Grants, Allocates, Frees}
 use Rattle.vm_allocator.specs.Several.{AllocatesEach, RefusesOne}
 use Rattle.vm_ranges.specs.declared.error.Error.{Error}
 use Rattle.vm_engine.proofs.Answers.AddressAnswers.{allocated_state, freeing_undoes}
+use Rattle.vm_allocator.proofs.Callers.{given}
+
+-- The result of a valid request is that of `allocate`.
+pub request_allocates : (request : Request) (old new : AddressState) (answer : Result Range Error) → IsRequest request → Grants old request answer new → Allocates old request answer new
+unfolding Allocates ByConstraint
+request_allocates request old new answer v g = inr (λ e. omega (arith, e, v.some), inr (v.aligned, inr (v.start, g)))
 
 pub each_more : (qs : List Request) (rs : List Range) (old mid new : AddressState) (q : Request) (r : Range) → AllocatesEach old qs rs mid → Allocates mid q (Ok r) new → AllocatesEach old (qs ++ q ∷ []) (rs ++ r ∷ []) new
 each_more [] [] old mid new q r e a = (new, subst (λ (v : AddressState). Allocates v q (Ok r) new) e a, refl)
@@ -37,6 +43,13 @@ last_undone (x ∷ rs) (q ∷ qs) old mid new r answer i e f =
 pub none_given : (qs : List Request) (old new : AddressState) → AllocatesEach old qs [] new → new ≡ old
 none_given [] old new e = e
 none_given (q ∷ qs) old new e = absurd e
+
+-- Allocations keep the space.
+pub each_space : (qs : List Request) (rs : List Range) (old new : AddressState) → AllocatesEach old qs rs new → new.space ≡ old.space
+each_space [] [] old new e = ap (λ (v : AddressState). v.space) e
+each_space [] (r ∷ rs) old new e = absurd e
+each_space (q ∷ qs) [] old new e = absurd e
+each_space (q ∷ qs) (r ∷ rs) old new e = each_space qs rs e.0 new e.2 ∙ ap (λ (v : AddressState). v.space) (given old e.0 q r e.1).left
 
 -- ---- The first requests of a list
 take_more : {A : Type 0} (xs : List A) (i : ℕ) (x : A) → i < length xs → x ≡ get_or xs i x → take (suc i) xs ≡ take i xs ++ x ∷ []

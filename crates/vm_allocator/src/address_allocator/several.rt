@@ -2,11 +2,13 @@
 ghost use Rattle.std.specs.Prelude.{◌≡◌, List, MatchResult};
 ghost use Rattle.vm_ranges.specs.Request.{Request};
 ghost use Rattle.vm_engine.specs.Address.{AddressState, IsAddressState};
+ghost use Rattle.vm_engine.specs.Tree.SpaceTree.{tree_state};
 ghost use Rattle.vm_allocator.specs.Allocator.{state_of};
 ghost use Rattle.vm_allocator.specs.Several.{AllocatesEach, FailsAll};
 
 use super::AddressAllocator;
 use std::alloc::Global;
+use vm_engine::IntervalTree;
 use vm_ranges::{Constraint, RangeInclusive, Result};
 
 impl AddressAllocator {
@@ -29,34 +31,33 @@ impl AddressAllocator {
             (λ error. FailsAll (state_of self.old) requests.now error (state_of self.new)) }
         ensures state { IsAddressState (state_of self.new) }
     {
+        let tree = &mut self.interval_tree;
         let mut ranges = Vec::with_capacity(alloc, requests.len())?;
         for request in requests {
-            let answer = self.allocate(alloc, request.size(), request.align(), request.policy());
-            match answer {
+            match tree.allocate(alloc, *request) {
                 Ok(range) => {
                     let Ok(()) = ranges.push(range) else {
                         unreachable!()
                     };
                 }
                 Err(error) => {
-                    self.free_all(&mut ranges);
+                    free_all(tree, &mut ranges);
                     return Err(error);
                 }
             }
         }
         Ok(ranges)
     }
+}
 
-    /// Frees ranges that were allocated one after the other, the last one first. This leads back to
-    /// the state before their allocation.
-    fn free_all(&mut self, ranges: &mut Vec<RangeInclusive>)
-        ensures undone { (before : AddressState) (requests : List Request) → IsAddressState before
-            → AllocatesEach before requests ranges.old.items (state_of self.old)
-            → state_of self.new ≡ before }
-        ensures state { IsAddressState (state_of self.new) }
-    {
-        while let Some(range) = ranges.pop() {
-            let _ = self.free(&range);
-        }
+/// Frees ranges that were allocated one after the other, the last one first. This leads back to the
+/// state before their allocation.
+fn free_all(tree: &mut IntervalTree, ranges: &mut Vec<RangeInclusive>)
+    ensures { (before : AddressState) (requests : List Request) → IsAddressState before
+        → AllocatesEach before requests ranges.old.items (tree_state tree.old)
+        → tree_state tree.new ≡ before }
+{
+    while let Some(range) = ranges.pop() {
+        let _ = tree.free(&range);
     }
 }

@@ -4,6 +4,7 @@
 //! copy one. Code that receives a counter can only count a node, or pass the counter on.
 ghost use Rattle.std.specs.Prelude.{◌≡◌, ◌+◌, ◌<◌, OnErr};
 ghost use Rattle.vm_ranges.specs.Range.{MAX};
+ghost use Rattle.vm_ranges.specs.Request.{IsRequest};
 ghost use Rattle.vm_engine.specs.Address.{IsAddressState};
 ghost use Rattle.vm_engine.specs.Answer.{Grants, Frees};
 ghost use Rattle.vm_engine.specs.Tree.Shape.{height_of, IsTree};
@@ -72,14 +73,14 @@ impl IntervalTree {
         alloc: Global,
         constraint: Constraint,
     ) -> (Result<RangeInclusive>, u64)
+        ensures valid { IsRequest constraint }
         ensures answer { Grants (tree_state self.old) constraint result.0 (tree_state self.new) }
         ensures unchanged { OnErr result.0 (self.new ≡ self.old) }
         ensures depth { SplitsIfLow (height_of self.old) (tree_state self.old) constraint result.0 }
         ensures count { Enters self.old constraint result.0 0 result.1 }
         ensures steps { IsGrantCount (height_of self.old) (tree_state self.old) constraint result.0 result.1 }
-        ensures search { SearchesGaps (height_of self.old) (tree_state self.old) constraint result.0 result.1 }
-        ensures search_aligned { SearchesAligned (height_of self.old) (tree_state self.old)
-            constraint result.0 result.1 }
+        ensures search { SearchesGaps (height_of self.old) (tree_state self.old) constraint result.0 result.1
+            × SearchesAligned (height_of self.old) (tree_state self.old) constraint result.0 result.1 }
         ensures state { IsAddressState (tree_state self.new) }
     {
         let mut count = Steps { entered: 0 };

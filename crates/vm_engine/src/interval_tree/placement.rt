@@ -1,6 +1,7 @@
 //! Chooses the range of a request, and finds the free block that contains it.
 ghost use Rattle.std.specs.Prelude.{◌≡◌, ◌≢◌, ◌+◌, ◌<◌, ◌≤◌, IfErr, OnOk, IfSome};
 ghost use Rattle.vm_ranges.specs.Range.{MAX};
+ghost use Rattle.vm_ranges.specs.Request.{IsRequest};
 ghost use Rattle.vm_engine.specs.Tree.Block.{free_block};
 ghost use Rattle.vm_engine.specs.Tree.BlockEdits.{HasLength};
 ghost use Rattle.vm_engine.specs.Tree.Shape.{height_of, IsTree};
@@ -24,6 +25,7 @@ impl IntervalTree {
     #[tactic(auto, using(crate::proofs::Choosing::Searched::choices))]
     pub(super) fn choose_place(&self, constraint: Constraint, count: &mut Steps) -> Result<Choice>
         requires { count.old ≡ 0 }
+        ensures valid { IsRequest constraint }
         ensures answer { Chooses self.now constraint result }
         ensures over { IfErr result (λ error.
             error ≡ Error.Overflow → NoneEndsBelowMax (tree_state self.now) constraint) }

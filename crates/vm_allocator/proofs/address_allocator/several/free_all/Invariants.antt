@@ -1,15 +1,14 @@
 use Rattle.std.specs.Prelude.{List, length}
 use Rattle.vm_ranges.specs.Request.{Request}
 use Rattle.vm_engine.specs.Address.{AddressState, IsAddressState}
-use Rattle.vm_allocator.specs.Allocator.{state_of}
+use Rattle.vm_engine.specs.Tree.SpaceTree.{tree_state}
 use Rattle.vm_allocator.specs.Several.{AllocatesEach}
-use Rattle.vm_allocator.proofs.address_allocator.AddressAllocator.free_all.Given as goal
+use Rattle.vm_allocator.proofs.address_allocator.several.free_all.Given as goal
 
 -- If requests got the ranges, some of them got the ranges that are left.
 abbrev pub invariant-loop-range : goal.invariant-loop-range
 invariant-loop-range l = record {
-  left : (before : AddressState) (requests : List Request) → IsAddressState before → AllocatesEach before requests l.initial.ranges.items (state_of l.initial.self) → (ps : List Request) × AllocatesEach before ps l.ranges.items (state_of l.self);
-  state : IsAddressState (state_of l.self);
+  left : (before : AddressState) (requests : List Request) → IsAddressState before → AllocatesEach before requests l.initial.ranges.items (tree_state l.initial.tree) → (ps : List Request) × AllocatesEach before ps l.ranges.items (tree_state l.tree);
 }
 
 abbrev pub decreases-loop-range : goal.decreases-loop-range

@@ -1,0 +1,23 @@
+use Rattle.std.proofs.Common.{◌≡◌, ◌∙◌, ◌++◌, ◌-◌, ℕ, ap, take, subst, List, []}
+use Rattle.vm_ranges.specs.Range.{Range}
+use Rattle.vm_engine.specs.Tree.SpaceTree.{tree_state}
+use Rattle.vm_allocator.specs.Several.{AllocatesEach}
+use Rattle.vm_allocator.proofs.Answers.Several.{last_undone, none_given}
+use Rattle.vm_allocator.proofs.address_allocator.several.free_all.Goals as goal
+
+pub loop-range-init : goal.loop-range-init
+loop-range-init c = record { left = λ before requests i e. (requests, e) }
+
+pub loop-range-preserved : goal.loop-range-preserved
+loop-range-preserved c = record {
+  left = λ before requests i e.
+      let l = c.loop-range.invariant.left before requests i e in
+      let s = subst (λ (v : List Range). AllocatesEach before l.0 v (tree_state c.loop-range.tree)) c.in-Some.ensures.items l.1 in
+      last_undone c.pop.new.self.items l.0 before (tree_state c.loop-range.tree) (tree_state c.free.new.self) c.in-Some.range c.free.result i s c.free.ensures.answer;
+}
+
+pub returns : goal.returns
+returns c = λ before requests i e.
+    let l = c.loop-range.invariant.left before requests i e in
+    let none : c.loop-range.ranges.items ≡ [] = c.in_default.ensures.items ∙ ap (λ (v : List Range). v ++ []) (c.in_default.ensures.rest ∙ ap (λ (n : ℕ). take (n - 1) c.loop-range.ranges.items) c.in_default.ensures.cases.0) in
+    none_given l.0 before (tree_state c.loop-range.tree) (subst (λ (v : List Range). AllocatesEach before l.0 v (tree_state c.loop-range.tree)) none l.1)
