@@ -15,21 +15,25 @@
  * Units. Addresses, sizes and alignments are in addresses of the space: bytes
  * of memory, or ports for PIO. A range includes its start and its end.
  *
- * Errors. Each call returns a status, except dvs_status_text() and
- * dvs_version_text(). A call writes its results through its last pointers, and
- * only if it returns DVS_OK. An error leaves the results and the object
- * unchanged. Two errors come first in every call: DVS_NULL if a pointer is null
- * that must not be, and DVS_BUSY (see dvs_range_visit()). The comment of a call
- * lists the other errors in the order in which they are checked.
+ * Errors. Each call that can fail returns a status. It writes its results
+ * through its last pointers, and only if it returns DVS_OK. An error leaves the
+ * results and the object unchanged. Two errors come first in every call:
+ * DVS_NULL if a pointer is null that must not be, and DVS_BUSY (see
+ * dvs_range_visit()). The comment of a call lists the other errors in the order
+ * in which they are checked.
  *
  * Ownership. You own an object from the call that creates it until the call
- * that destroys it. You own a saved text until dvs_text_destroy(). The library
- * keeps no pointer to your memory after a call returns. A pointer argument must
- * be null or point to a valid object of its type.
+ * that destroys it. You own a saved text until dvs_text_destroy(), and free()
+ * must not be called on it. The library keeps no pointer to your memory after a
+ * call returns. A pointer argument must be null or point to a valid object of
+ * its type. Two results of a call must not share memory.
  *
  * Threads. Calls on different objects can run at the same time. On one object,
  * calls that take a pointer to const can run at the same time. Any other call
  * must be the only one on its object. Any thread can use and destroy an object.
+ * After fork() the child has its own copy of each object. A signal handler must
+ * not make a call on an object, because the signal can interrupt another call.
+ * A thread must not be cancelled asynchronously in a call.
  *
  * Memory. If an allocation fails, a call frees what it has allocated and
  * returns DVS_OUT_OF_MEMORY. This is the last error, except in a call that reads
@@ -41,6 +45,13 @@
  * Freeing a range, allocating an id and queries do not allocate memory. Reading
  * a text allocates less than 80 times its length, even if the text is
  * untrusted. This includes the overhead of glibc's malloc for each block.
+ *
+ * Cost. Let k be the number of allocated ranges. Allocating and freeing a range
+ * takes time of the order of log k, and so do dvs_range_is_held() and
+ * dvs_range_at(). An alignment can make the search for a range visit more gaps.
+ * Calls on ids and devices take logarithmic time too. Counts of ids and
+ * devices, dvs_longest_gap() and the ends of a space take constant time. All
+ * other calls take time linear in the size of the object or the text.
  *
  * Stack. 64 KiB are enough for every call.
  *
@@ -59,19 +70,30 @@
  * The version of this header. The numbers of statuses, the members of
  * structures and the behavior of calls stay the same within one
  * DVS_VERSION_MAJOR. It is also the number in the name of the shared library. A
- * new DVS_VERSION_MINOR can add statuses and calls.
+ * new DVS_VERSION_MINOR can add statuses and calls. DVS_VERSION_NUMBER is
+ * 10000 * major + 100 * minor + patch.
  */
-#define DVS_VERSION_MAJOR 1
+#define DVS_VERSION_MAJOR 2
 #define DVS_VERSION_MINOR 0
 #define DVS_VERSION_PATCH 0
-#define DVS_VERSION_TEXT "1.0.0"
+#define DVS_VERSION_NUMBER 20000
+#define DVS_VERSION_TEXT "2.0.0"
+
+/* Marks a call whose status says whether its results are written. */
+#ifdef __GNUC__
+#define DVS_WARN_UNUSED __attribute__((warn_unused_result))
+#else
+#define DVS_WARN_UNUSED
+#endif
 
 #ifdef __cplusplus
 extern "C" {
 #endif
 
-/* The result of a call. The meaning of a number never changes. */
-typedef enum dvs_status {
+/* The result of a call: one of the constants below. The meaning of a number never changes. */
+typedef uint32_t dvs_status;
+
+enum {
     DVS_OK = 0,
     /* A range would end at or past UINT64_MAX, or all ids up to UINT32_MAX are allocated. */
     DVS_OVERFLOW = 1,
@@ -111,9 +133,9 @@ typedef enum dvs_status {
     DVS_NOT_JSON = 16,
     /* The text is JSON, but does not encode an object of the type. */
     DVS_NOT_A_STATE = 17,
-    /* Not a status. It makes the type as wide as an int. */
-    DVS_STATUS_WIDTH_ = 0x7fffffff
-} dvs_status;
+    /* The policy of a request is not one of the constants. */
+    DVS_INVALID_POLICY = 18
+};
 
 /* The addresses from start to end, both included. */
 typedef struct dvs_range {
@@ -127,7 +149,8 @@ typedef struct dvs_range {
  * returns DVS_OK writes none. The pointer can be null.
  */
 typedef struct dvs_refusal {
-    /* DVS_INVALID_RANGE, DVS_OVERLAP: the range. DVS_INVALID_STATE_TRANSITION: the allocated range. */
+    /* DVS_INVALID_RANGE, DVS_OVERLAP: the range. DVS_INVALID_STATE_TRANSITION: the allocated range.
+     */
     dvs_range range;
     /* DVS_OVERLAP: the existing range. */
     dvs_range other;
@@ -142,6 +165,25 @@ typedef struct dvs_device {
     dvs_range range;
     uint32_t id;
 } dvs_device;
+
+/* The range that a request gets if several fit. */
+enum {
+    /* The lowest range. */
+    DVS_FIRST = 0,
+    /* The highest range. */
+    DVS_LAST = 1,
+    /* The range at the start that the request names. */
+    DVS_EXACT = 2
+};
+
+/* A request for a range of `size` addresses that starts at a multiple of `alignment`. */
+typedef struct dvs_request {
+    uint64_t size;
+    uint64_t alignment;
+    /* Used by DVS_EXACT only. */
+    uint64_t start;
+    uint32_t policy;
+} dvs_request;
 
 /* Allocates ranges of addresses from one space. Allocated ranges never share an address. */
 typedef struct dvs_address_allocator dvs_address_allocator;
@@ -164,6 +206,9 @@ const char *dvs_status_text(dvs_status status);
  */
 const char *dvs_version_text(void);
 
+/* Returns the version of the library that runs, like DVS_VERSION_NUMBER. */
+uint32_t dvs_version_number(void);
+
 /* ---- Ranges of addresses ---- */
 
 /*
@@ -175,16 +220,42 @@ const char *dvs_version_text(void);
  * - DVS_OVERFLOW if the last address would be past UINT64_MAX.
  * - DVS_OUT_OF_MEMORY.
  */
-dvs_status dvs_address_allocator_new(uint64_t base, uint64_t size, dvs_address_allocator **allocator);
+DVS_WARN_UNUSED
+dvs_status dvs_address_allocator_new(uint64_t base, uint64_t size,
+                                     dvs_address_allocator **allocator);
 
 /*
- * Destroys an allocator, with all its allocated ranges.
+ * Creates an allocator like dvs_address_allocator_new(), in which the `count`
+ * ranges of `held` are allocated. They must be in ascending order. `held` can be
+ * null if `count` is 0.
  *
- * Errors: DVS_NULL, DVS_BUSY. Nothing is destroyed then.
+ * Errors, in order:
+ * - DVS_INVALID_RANGE, with the first range that is not a valid range.
+ * - DVS_OUT_OF_MEMORY if the allocation of a copy of the list fails.
+ * - DVS_UNDERFLOW if `size` is 0.
+ * - DVS_OVERFLOW if the space would end past UINT64_MAX.
+ * - For the first range that cannot be allocated:
+ *   - DVS_RESOURCE_NOT_AVAILABLE if it does not start after the end of the range
+ *     before it.
+ *   - DVS_OVERFLOW if it starts at UINT64_MAX.
+ *   - DVS_RESOURCE_NOT_AVAILABLE if it is outside the space.
+ *   - DVS_OVERFLOW if it ends at UINT64_MAX.
+ * - DVS_OVERFLOW if there are 2^49 or more ranges and gaps.
+ * - DVS_OUT_OF_MEMORY.
  */
-dvs_status dvs_address_allocator_destroy(dvs_address_allocator *allocator);
+DVS_WARN_UNUSED
+dvs_status dvs_address_allocator_with_held(uint64_t base, uint64_t size, const dvs_range *held,
+                                           size_t count, dvs_address_allocator **allocator,
+                                           dvs_refusal *refusal);
+
+/*
+ * Destroys an allocator, with all its allocated ranges. It does nothing if the
+ * pointer is null or during a visit of the allocator.
+ */
+void dvs_address_allocator_destroy(dvs_address_allocator *allocator);
 
 /* Writes the first and the last address of the space to `space`. Errors: DVS_NULL. */
+DVS_WARN_UNUSED
 dvs_status dvs_address_allocator_space(const dvs_address_allocator *allocator, dvs_range *space);
 
 /*
@@ -199,16 +270,18 @@ dvs_status dvs_address_allocator_space(const dvs_address_allocator *allocator, d
  *   are allocated.
  * - DVS_OUT_OF_MEMORY.
  */
+DVS_WARN_UNUSED
 dvs_status dvs_range_allocate_first(dvs_address_allocator *allocator, uint64_t size,
-                                  uint64_t alignment, dvs_range *range, dvs_refusal *refusal);
+                                    uint64_t alignment, dvs_range *range, dvs_refusal *refusal);
 
 /*
  * Allocates the highest `size` free addresses that start at a multiple of
  * `alignment`. Its errors are those of dvs_range_allocate_first(). DVS_OVERFLOW is
  * returned if the highest range ends at UINT64_MAX, even if another is free.
  */
-dvs_status dvs_range_allocate_last(dvs_address_allocator *allocator, uint64_t size, uint64_t alignment,
-                                 dvs_range *range, dvs_refusal *refusal);
+DVS_WARN_UNUSED
+dvs_status dvs_range_allocate_last(dvs_address_allocator *allocator, uint64_t size,
+                                   uint64_t alignment, dvs_range *range, dvs_refusal *refusal);
 
 /*
  * Allocates the `size` addresses starting at `start`.
@@ -228,9 +301,31 @@ dvs_status dvs_range_allocate_last(dvs_address_allocator *allocator, uint64_t si
  *   are allocated.
  * - DVS_OUT_OF_MEMORY.
  */
+DVS_WARN_UNUSED
 dvs_status dvs_range_allocate_exact(dvs_address_allocator *allocator, uint64_t size,
-                                  uint64_t alignment, uint64_t start, dvs_range *range,
-                                  dvs_refusal *refusal);
+                                    uint64_t alignment, uint64_t start, dvs_range *range,
+                                    dvs_refusal *refusal);
+
+/*
+ * Allocates a range for each of the `count` requests, in their order, and writes
+ * them to the array `ranges` of `count` members. It allocates all of them or
+ * none. Each range is the one that the call for its policy would allocate after
+ * the requests before it.
+ *
+ * On an error of a request, its index is written to `failed`, which can be null.
+ * Otherwise `count` is written to it.
+ *
+ * Errors, in order:
+ * - DVS_OUT_OF_MEMORY if the allocation of a list of ranges fails.
+ * - For the first request that fails: DVS_INVALID_POLICY if its policy is not
+ *   one of the constants, otherwise the error of dvs_range_allocate_first(),
+ *   _last() or _exact().
+ */
+DVS_WARN_UNUSED
+dvs_status dvs_address_allocator_allocate_all(dvs_address_allocator *allocator,
+                                              const dvs_request *requests, size_t count,
+                                              dvs_range *ranges, size_t *failed,
+                                              dvs_refusal *refusal);
 
 /*
  * Frees an allocated range. It does not allocate memory.
@@ -247,19 +342,42 @@ dvs_status dvs_range_free(dvs_address_allocator *allocator, dvs_range range, dvs
  *
  * Errors: DVS_INVALID_RANGE if `range` is not a valid range.
  */
+DVS_WARN_UNUSED
 dvs_status dvs_range_is_held(const dvs_address_allocator *allocator, dvs_range range, bool *is_held,
-                           dvs_refusal *refusal);
+                             dvs_refusal *refusal);
 
 /* Writes the number of allocated ranges to `count`. It walks all of them. Errors: DVS_NULL. */
+DVS_WARN_UNUSED
 dvs_status dvs_range_count(const dvs_address_allocator *allocator, uint64_t *count);
 
 /*
- * The function that dvs_range_visit() calls for each range, with its `context`.
- * It returns 0 to continue the visit and any other number to end it.
+ * Writes the allocated range that contains the address to `range`.
+ *
+ * Errors: DVS_RESOURCE_NOT_AVAILABLE if no allocated range contains it.
+ */
+DVS_WARN_UNUSED
+dvs_status dvs_range_at(const dvs_address_allocator *allocator, uint64_t address, dvs_range *range);
+
+/*
+ * Writes the length of the longest gap to `length`, or 0 if there is none. A gap
+ * is a run of free addresses with no free address next to it. A request of
+ * alignment 1 fits if and only if its size is at most this length. Errors:
+ * DVS_NULL.
+ */
+DVS_WARN_UNUSED
+dvs_status dvs_longest_gap(const dvs_address_allocator *allocator, uint64_t *length);
+
+/* Writes the number of free addresses to `count`. It walks all gaps. Errors: DVS_NULL. */
+DVS_WARN_UNUSED
+dvs_status dvs_clear_count(const dvs_address_allocator *allocator, uint64_t *count);
+
+/*
+ * The function that a visit calls for each range, with its `context`. It returns
+ * 0 to continue the visit and any other number to end it.
  *
  * The function must return. The process ends with abort() if a C++ exception
  * leaves it, if it calls pthread_exit(), or if its thread is cancelled in it.
- * It must not leave by longjmp(), because the allocator would stay busy.
+ * It must not leave by longjmp(), because the object would stay busy.
  */
 typedef int dvs_range_visitor(void *context, dvs_range range);
 
@@ -273,6 +391,10 @@ typedef int dvs_range_visitor(void *context, dvs_range range);
  * Returns DVS_OK even if the visitor ended the visit. Errors: DVS_NULL.
  */
 dvs_status dvs_range_visit(const dvs_address_allocator *allocator, dvs_range_visitor *visitor,
+                           void *context);
+
+/* Visits the gaps like dvs_range_visit() visits the allocated ranges. */
+dvs_status dvs_gap_visit(const dvs_address_allocator *allocator, dvs_range_visitor *visitor,
                          void *context);
 
 /*
@@ -282,8 +404,9 @@ dvs_status dvs_range_visit(const dvs_address_allocator *allocator, dvs_range_vis
  *
  * Errors: DVS_OUT_OF_MEMORY.
  */
+DVS_WARN_UNUSED
 dvs_status dvs_address_allocator_save(const dvs_address_allocator *allocator, char **text,
-                                    size_t *length);
+                                      size_t *length);
 
 /*
  * Creates the allocator that the `length` bytes of `text` encode. They need no
@@ -296,8 +419,9 @@ dvs_status dvs_address_allocator_save(const dvs_address_allocator *allocator, ch
  *   are not those of an allocator.
  * - DVS_OUT_OF_MEMORY. It can also come first, while the text is read.
  */
+DVS_WARN_UNUSED
 dvs_status dvs_address_allocator_read(const char *text, size_t length,
-                                    dvs_address_allocator **allocator);
+                                      dvs_address_allocator **allocator);
 
 /*
  * Reads like dvs_address_allocator_read(), and also accepts what the Rust crate
@@ -309,8 +433,9 @@ dvs_status dvs_address_allocator_read(const char *text, size_t length,
  * - an allocated range ends at UINT64_MAX;
  * - a path from the root of the tree has more than 50 nodes.
  */
+DVS_WARN_UNUSED
 dvs_status dvs_address_allocator_read_repaired(const char *text, size_t length,
-                                             dvs_address_allocator **allocator);
+                                               dvs_address_allocator **allocator);
 
 /* ---- Ids ---- */
 
@@ -322,15 +447,20 @@ dvs_status dvs_address_allocator_read_repaired(const char *text, size_t length,
  * - DVS_INVALID_RANGE, with both ids, if `last` is less than `first`.
  * - DVS_OUT_OF_MEMORY.
  */
+DVS_WARN_UNUSED
 dvs_status dvs_id_allocator_new(uint32_t first, uint32_t last, dvs_id_allocator **allocator,
-                              dvs_refusal *refusal);
+                                dvs_refusal *refusal);
 
 /*
- * Destroys an allocator, with all its allocated ids.
- *
- * Errors: DVS_NULL. Nothing is destroyed then.
+ * Destroys an allocator, with all its allocated ids. It does nothing if the
+ * pointer is null or during a visit of the allocator.
  */
-dvs_status dvs_id_allocator_destroy(dvs_id_allocator *allocator);
+void dvs_id_allocator_destroy(dvs_id_allocator *allocator);
+
+/* Writes the first and the last id of the range. Errors: DVS_NULL. */
+DVS_WARN_UNUSED
+dvs_status dvs_id_allocator_range(const dvs_id_allocator *allocator, uint32_t *first,
+                                  uint32_t *last);
 
 /*
  * Allocates the lowest free id and writes it to `id`. It does not allocate
@@ -339,9 +469,11 @@ dvs_status dvs_id_allocator_destroy(dvs_id_allocator *allocator);
  * Errors, if all ids are allocated: DVS_OVERFLOW if the last id is UINT32_MAX,
  * and DVS_RESOURCE_NOT_AVAILABLE otherwise.
  */
+DVS_WARN_UNUSED
 dvs_status dvs_id_allocate(dvs_id_allocator *allocator, uint32_t *id);
 
 /* Writes the id that dvs_id_allocate() would allocate, without a change. It has the same errors. */
+DVS_WARN_UNUSED
 dvs_status dvs_id_peek(const dvs_id_allocator *allocator, uint32_t *id);
 
 /*
@@ -355,21 +487,31 @@ dvs_status dvs_id_peek(const dvs_id_allocator *allocator, uint32_t *id);
 dvs_status dvs_id_free(dvs_id_allocator *allocator, uint32_t id, dvs_refusal *refusal);
 
 /*
- * Writes to `is_allocated` whether the id is allocated. An id outside the range
- * is not. Errors: DVS_NULL.
+ * Writes to `is_held` whether the id is allocated. An id outside the range is
+ * not. Errors: DVS_NULL.
  */
-dvs_status dvs_id_is_held(const dvs_id_allocator *allocator, uint32_t id, bool *is_allocated);
+DVS_WARN_UNUSED
+dvs_status dvs_id_is_held(const dvs_id_allocator *allocator, uint32_t id, bool *is_held);
 
 /* Writes the number of allocated ids to `count`. Errors: DVS_NULL. */
+DVS_WARN_UNUSED
 dvs_status dvs_id_count(const dvs_id_allocator *allocator, uint64_t *count);
 
+/* The function that dvs_id_visit() calls for each id. It has the rules of dvs_range_visitor. */
+typedef int dvs_id_visitor(void *context, uint32_t id);
+
+/* Visits the allocated ids in ascending order, like dvs_range_visit() visits ranges. */
+dvs_status dvs_id_visit(const dvs_id_allocator *allocator, dvs_id_visitor *visitor, void *context);
+
 /* Saves like dvs_address_allocator_save(). */
+DVS_WARN_UNUSED
 dvs_status dvs_id_allocator_save(const dvs_id_allocator *allocator, char **text, size_t *length);
 
 /*
  * Reads like dvs_address_allocator_read(). Ends the process if the allocation of
  * the set of freed ids fails.
  */
+DVS_WARN_UNUSED
 dvs_status dvs_id_allocator_read(const char *text, size_t length, dvs_id_allocator **allocator);
 
 /* ---- Devices ---- */
@@ -385,15 +527,24 @@ dvs_status dvs_id_allocator_read(const char *text, size_t length, dvs_id_allocat
  * - DVS_OVERFLOW if the last address would be past UINT64_MAX.
  * - DVS_OUT_OF_MEMORY.
  */
+DVS_WARN_UNUSED
 dvs_status dvs_device_manager_new(uint32_t first_id, uint32_t last_id, uint64_t base, uint64_t size,
-                                dvs_device_manager **manager, dvs_refusal *refusal);
+                                  dvs_device_manager **manager, dvs_refusal *refusal);
 
 /*
- * Destroys a manager, with all its devices.
- *
- * Errors: DVS_NULL. Nothing is destroyed then.
+ * Destroys a manager, with all its devices. It does nothing if the pointer is
+ * null or during a visit of the manager.
  */
-dvs_status dvs_device_manager_destroy(dvs_device_manager *manager);
+void dvs_device_manager_destroy(dvs_device_manager *manager);
+
+/* Writes the first and the last address of the space to `space`. Errors: DVS_NULL. */
+DVS_WARN_UNUSED
+dvs_status dvs_device_manager_space(const dvs_device_manager *manager, dvs_range *space);
+
+/* Writes the first and the last id for devices. Errors: DVS_NULL. */
+DVS_WARN_UNUSED
+dvs_status dvs_device_manager_ids(const dvs_device_manager *manager, uint32_t *first,
+                                  uint32_t *last);
 
 /*
  * Allocates the lowest free id and the range of dvs_range_allocate_first() for a
@@ -404,16 +555,21 @@ dvs_status dvs_device_manager_destroy(dvs_device_manager *manager);
  * Errors, in order: those of dvs_id_allocate(), then those of
  * dvs_range_allocate_first().
  */
+DVS_WARN_UNUSED
 dvs_status dvs_device_reserve_first(dvs_device_manager *manager, uint64_t size, uint64_t alignment,
-                                  dvs_device *device, dvs_refusal *refusal);
+                                    dvs_device *device, dvs_refusal *refusal);
 
-/* Reserves a device like dvs_device_reserve_first(), with the range of dvs_range_allocate_last(). */
+/* Reserves a device like dvs_device_reserve_first(), with the range of dvs_range_allocate_last().
+ */
+DVS_WARN_UNUSED
 dvs_status dvs_device_reserve_last(dvs_device_manager *manager, uint64_t size, uint64_t alignment,
-                                 dvs_device *device, dvs_refusal *refusal);
+                                   dvs_device *device, dvs_refusal *refusal);
 
-/* Reserves a device like dvs_device_reserve_first(), with the range of dvs_range_allocate_exact(). */
+/* Reserves a device like dvs_device_reserve_first(), with the range of dvs_range_allocate_exact().
+ */
+DVS_WARN_UNUSED
 dvs_status dvs_device_reserve_exact(dvs_device_manager *manager, uint64_t size, uint64_t alignment,
-                                  uint64_t start, dvs_device *device, dvs_refusal *refusal);
+                                    uint64_t start, dvs_device *device, dvs_refusal *refusal);
 
 /*
  * Releases a device: frees its id and its range. Ends the process if an
@@ -428,26 +584,45 @@ dvs_status dvs_device_release(dvs_device_manager *manager, uint32_t id, dvs_refu
  *
  * Errors: DVS_NEVER_ALLOCATED, with the id, if no device has it.
  */
+DVS_WARN_UNUSED
 dvs_status dvs_device_range(const dvs_device_manager *manager, uint32_t id, dvs_range *range,
-                         dvs_refusal *refusal);
+                            dvs_refusal *refusal);
+
+/*
+ * Writes the device whose range contains the address to `device`.
+ *
+ * Errors: DVS_RESOURCE_NOT_AVAILABLE if there is none.
+ */
+DVS_WARN_UNUSED
+dvs_status dvs_device_at(const dvs_device_manager *manager, uint64_t address, dvs_device *device);
+
+/* Writes the number of devices to `count`. Errors: DVS_NULL. */
+DVS_WARN_UNUSED
+dvs_status dvs_device_count(const dvs_device_manager *manager, uint64_t *count);
+
+/* The function that dvs_device_visit() calls for each device. It has the rules of
+ * dvs_range_visitor. */
+typedef int dvs_device_visitor(void *context, dvs_device device);
+
+/* Visits the devices in ascending order of ids, like dvs_range_visit() visits ranges. */
+dvs_status dvs_device_visit(const dvs_device_manager *manager, dvs_device_visitor *visitor,
+                            void *context);
 
 /* Saves like dvs_address_allocator_save(). */
+DVS_WARN_UNUSED
 dvs_status dvs_device_manager_save(const dvs_device_manager *manager, char **text, size_t *length);
 
 /*
  * Reads like dvs_address_allocator_read(). Ends the process if the allocation of
  * the set of freed ids or of the table of devices fails.
  */
+DVS_WARN_UNUSED
 dvs_status dvs_device_manager_read(const char *text, size_t length, dvs_device_manager **manager);
 
 /* ---- Texts ---- */
 
-/*
- * Frees a saved text. The text must not have been changed.
- *
- * Errors: DVS_NULL.
- */
-dvs_status dvs_text_destroy(char *text);
+/* Frees a saved text, which must not have been changed. It does nothing if the pointer is null. */
+void dvs_text_destroy(char *text);
 
 #ifdef __cplusplus
 }

@@ -180,7 +180,7 @@ static void make_manager(struct session *session, const uint64_t *number) {
     dvs_device_manager *manager;
     dvs_refusal refusal;
     dvs_status status = dvs_device_manager_new((uint32_t)number[0], (uint32_t)number[1], number[2],
-                                             number[3], &manager, &refusal);
+                                               number[3], &manager, &refusal);
 
     if (status == DVS_OK) {
         dvs_device_manager_destroy(session->manager);

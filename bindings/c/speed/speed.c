@@ -46,8 +46,8 @@ static uint64_t c_exact(void) {
     size_t i;
 
     for (i = 0; i < COUNT; i++) {
-        check(dvs_range_allocate_exact(space, held[i].size, held[i].alignment, held[i].start, &range,
-                                      NULL) == DVS_OK);
+        check(dvs_range_allocate_exact(space, held[i].size, held[i].alignment, held[i].start,
+                                       &range, NULL) == DVS_OK);
         sum += range.end;
     }
     for (i = 0; i < COUNT; i++) {

@@ -46,9 +46,9 @@ pub extern "C" fn dvs_device_manager_new(
 ///
 /// The manager is null or from a call that creates one, and is not used after this call.
 #[unsafe(no_mangle)]
-pub unsafe extern "C" fn dvs_device_manager_destroy(manager: *mut dvs_device_manager) -> dvs_status {
+pub unsafe extern "C" fn dvs_device_manager_destroy(manager: *mut dvs_device_manager) {
     // SAFETY: the caller's contract.
-    status_of(unsafe { Handle::destroy(manager) }, None)
+    unsafe { Handle::destroy(manager) }
 }
 
 #[unsafe(no_mangle)]

@@ -35,23 +35,18 @@ impl<T> Handle<T> {
         Ok(Box::into_raw(one.into_boxed_slice()).cast())
     }
 
-    /// Drops an object.
-    ///
-    /// # Errors
-    ///
-    /// - `Null` if the pointer is null.
-    /// - `Busy` if the object is being visited.
+    /// Drops an object. It does nothing if the pointer is null or the object is being visited.
     ///
     /// # Safety
     ///
     /// The pointer is null or from `new`, and is not used after this call.
-    pub(crate) unsafe fn destroy(pointer: *mut Handle<T>) -> Result<(), CallError> {
+    pub(crate) unsafe fn destroy(pointer: *mut Handle<T>) {
         // SAFETY: it is null or points to a handle that `new` made.
-        let handle = non_null(unsafe { pointer.as_ref() })?;
-        handle.check_not_visited()?;
-        // SAFETY: `new` made it as a box of one handle, and it is dropped only here.
-        drop(unsafe { Box::from_raw(pointer) });
-        Ok(())
+        let handle = unsafe { pointer.as_ref() };
+        if handle.is_some_and(|handle| handle.check_not_visited().is_ok()) {
+            // SAFETY: `new` made it as a box of one handle, and it is dropped only here.
+            drop(unsafe { Box::from_raw(pointer) });
+        }
     }
 
     /// Returns the object for reading.

@@ -25,9 +25,9 @@ pub extern "C" fn dvs_id_allocator_new(
 ///
 /// The allocator is null or from a call that creates one, and is not used after this call.
 #[unsafe(no_mangle)]
-pub unsafe extern "C" fn dvs_id_allocator_destroy(allocator: *mut dvs_id_allocator) -> dvs_status {
+pub unsafe extern "C" fn dvs_id_allocator_destroy(allocator: *mut dvs_id_allocator) {
     // SAFETY: the caller's contract.
-    status_of(unsafe { Handle::destroy(allocator) }, None)
+    unsafe { Handle::destroy(allocator) }
 }
 
 #[unsafe(no_mangle)]

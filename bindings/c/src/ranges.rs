@@ -29,9 +29,9 @@ pub extern "C" fn dvs_address_allocator_new(
 #[unsafe(no_mangle)]
 pub unsafe extern "C" fn dvs_address_allocator_destroy(
     allocator: *mut dvs_address_allocator,
-) -> dvs_status {
+) {
     // SAFETY: the caller's contract.
-    status_of(unsafe { Handle::destroy(allocator) }, None)
+    unsafe { Handle::destroy(allocator) }
 }
 
 #[unsafe(no_mangle)]

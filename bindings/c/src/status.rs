@@ -6,31 +6,26 @@ use std::ffi::{c_char, CStr};
 use vm_allocator::{Error, ValueError};
 
 /// The result of a call.
-#[repr(C)]
-#[derive(Clone, Copy)]
-#[allow(missing_docs)]
-pub enum dvs_status {
-    DVS_OK = 0,
-    DVS_OVERFLOW = 1,
-    DVS_OUT_OF_RANGE = 2,
-    DVS_ALREADY_RELEASED = 3,
-    DVS_NEVER_ALLOCATED = 4,
-    DVS_RESOURCE_NOT_AVAILABLE = 5,
-    DVS_INVALID_RANGE = 6,
-    DVS_INVALID_ALIGNMENT = 7,
-    DVS_OVERLAP = 8,
-    DVS_INVALID_STATE_TRANSITION = 9,
-    DVS_UNALIGNED_ADDRESS = 10,
-    DVS_UNDERFLOW = 11,
-    DVS_INVALID_SIZE = 12,
-    DVS_OUT_OF_MEMORY = 13,
-    DVS_NULL = 14,
-    DVS_BUSY = 15,
-    DVS_NOT_JSON = 16,
-    DVS_NOT_A_STATE = 17,
-}
+pub type dvs_status = u32;
 
-use dvs_status::*;
+const DVS_OK: dvs_status = 0;
+const DVS_OVERFLOW: dvs_status = 1;
+const DVS_OUT_OF_RANGE: dvs_status = 2;
+const DVS_ALREADY_RELEASED: dvs_status = 3;
+const DVS_NEVER_ALLOCATED: dvs_status = 4;
+const DVS_RESOURCE_NOT_AVAILABLE: dvs_status = 5;
+const DVS_INVALID_RANGE: dvs_status = 6;
+const DVS_INVALID_ALIGNMENT: dvs_status = 7;
+const DVS_OVERLAP: dvs_status = 8;
+const DVS_INVALID_STATE_TRANSITION: dvs_status = 9;
+const DVS_UNALIGNED_ADDRESS: dvs_status = 10;
+const DVS_UNDERFLOW: dvs_status = 11;
+const DVS_INVALID_SIZE: dvs_status = 12;
+const DVS_OUT_OF_MEMORY: dvs_status = 13;
+const DVS_NULL: dvs_status = 14;
+const DVS_BUSY: dvs_status = 15;
+const DVS_NOT_JSON: dvs_status = 16;
+const DVS_NOT_A_STATE: dvs_status = 17;
 
 /// The text of each status, at the index of its number.
 const TEXTS: [&CStr; 18] = [

@@ -1,7 +1,7 @@
 //! Saving objects as JSON, and reading them.
 
 use crate::handle::{non_null, Handle};
-use crate::{dvs_status, CallError, Out};
+use crate::{CallError, Out};
 use rattle::{Global, Value};
 use std::ffi::{c_char, CString};
 use std::fmt::{self, Write};
@@ -95,11 +95,9 @@ pub(crate) unsafe fn read<T>(
 /// The text is null, or from a call that saves an object and unchanged. It is not used after this
 /// call.
 #[unsafe(no_mangle)]
-pub unsafe extern "C" fn dvs_text_destroy(text: *mut c_char) -> dvs_status {
-    if text.is_null() {
-        return dvs_status::DVS_NULL;
+pub unsafe extern "C" fn dvs_text_destroy(text: *mut c_char) {
+    if !text.is_null() {
+        // SAFETY: `save` made it as a `CString`, and it is dropped only here.
+        drop(unsafe { CString::from_raw(text) });
     }
-    // SAFETY: `save` made it as a `CString`, and it is dropped only here.
-    drop(unsafe { CString::from_raw(text) });
-    dvs_status::DVS_OK
 }

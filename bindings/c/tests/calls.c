@@ -70,7 +70,8 @@ static void make_spaces(void) {
     dvs_range range;
 
     REFUSED(DVS_UNDERFLOW, dvs_address_allocator *, dvs_address_allocator_new(16, 0, &answer));
-    REFUSED(DVS_OVERFLOW, dvs_address_allocator *, dvs_address_allocator_new(2, UINT64_MAX, &answer));
+    REFUSED(DVS_OVERFLOW, dvs_address_allocator *,
+            dvs_address_allocator_new(2, UINT64_MAX, &answer));
     CHECK(noted(dvs_address_allocator_new(1, UINT64_MAX, &space)) == DVS_OK);
     CHECK(dvs_address_allocator_space(space, &range) == DVS_OK);
     CHECK(is_range(range, 1, UINT64_MAX));
@@ -81,7 +82,8 @@ static void make_spaces(void) {
 static void refuse_requests(dvs_address_allocator *space) {
     REFUSED(DVS_INVALID_SIZE, dvs_range, dvs_range_allocate_first(space, 0, 3, &answer, &refusal));
     CHECK(are_told(0, 0, 0));
-    REFUSED(DVS_INVALID_ALIGNMENT, dvs_range, dvs_range_allocate_last(space, 1, 3, &answer, &refusal));
+    REFUSED(DVS_INVALID_ALIGNMENT, dvs_range,
+            dvs_range_allocate_last(space, 1, 3, &answer, &refusal));
     REFUSED(DVS_UNALIGNED_ADDRESS, dvs_range,
             dvs_range_allocate_exact(space, 1, 4, 0x1002, &answer, &refusal));
     REFUSED(DVS_OVERFLOW, dvs_range,
@@ -147,7 +149,7 @@ static void allocate_large_ranges(void) {
     CHECK(dvs_range_allocate_last(space, 0x200000001, 0x800000000, &last, NULL) == DVS_OK);
     CHECK(is_range(last, 0x7654330800000000, 0x7654330a00000000));
     CHECK(dvs_range_allocate_exact(space, 0x100000001, 0x800000000, 0x7654328800000000, &exact,
-                                  NULL) == DVS_OK);
+                                   NULL) == DVS_OK);
     CHECK(is_range(exact, 0x7654328800000000, 0x7654328900000000));
     REFUSED(DVS_INVALID_STATE_TRANSITION, dvs_range,
             dvs_range_allocate_exact(space, 0x200000000, 1, 0x7654321400000000, &answer, &refusal));
@@ -168,7 +170,8 @@ static void allocate_many_ranges(void) {
 
     CHECK(dvs_address_allocator_new(0, MANY, &space) == DVS_OK);
     for (i = 0; i < MANY; i++) {
-        CHECK(dvs_range_allocate_first(space, 1, 1, &range, NULL) == DVS_OK && is_range(range, i, i));
+        CHECK(dvs_range_allocate_first(space, 1, 1, &range, NULL) == DVS_OK &&
+              is_range(range, i, i));
         CHECK(dvs_range_count(space, &count) == DVS_OK && count == i + 1);
     }
     CHECK(dvs_address_allocator_destroy(space) == DVS_OK);
@@ -368,7 +371,8 @@ static void reserve_devices(void) {
     dvs_range range;
 
     CHECK(dvs_device_manager_new(1, 3, 0x1000, 0x1000, &manager, NULL) == DVS_OK);
-    REFUSED(DVS_INVALID_SIZE, dvs_device, dvs_device_reserve_last(manager, 0, 1, &answer, &refusal));
+    REFUSED(DVS_INVALID_SIZE, dvs_device,
+            dvs_device_reserve_last(manager, 0, 1, &answer, &refusal));
     CHECK(dvs_device_reserve_first(manager, 0x100, 0x100, &first, NULL) == DVS_OK);
     CHECK(dvs_device_reserve_last(manager, 0x100, 0x100, &last, NULL) == DVS_OK);
     REFUSED(DVS_INVALID_STATE_TRANSITION, dvs_device,
@@ -380,7 +384,8 @@ static void reserve_devices(void) {
     CHECK(exact.id == 3 && is_range(exact.range, 0x1801, 0x1801));
     REFUSED(DVS_RESOURCE_NOT_AVAILABLE, dvs_device,
             dvs_device_reserve_first(manager, 1, 1, &answer, &refusal));
-    CHECK(dvs_device_range(manager, 2, &range, &refusal) == DVS_OK && is_range(range, 0x1f00, 0x1fff));
+    CHECK(dvs_device_range(manager, 2, &range, &refusal) == DVS_OK &&
+          is_range(range, 0x1f00, 0x1fff));
     CHECK(dvs_device_release(manager, 2, &refusal) == DVS_OK);
     RETURNS(DVS_NEVER_ALLOCATED, dvs_device_release(manager, 2, &refusal));
     CHECK(are_told(0, 0, 2));
@@ -455,7 +460,8 @@ static void save_ids(void) {
     CHECK(strcmp(text, IDS) == 0);
     CHECK(dvs_text_destroy(text) == DVS_OK);
     CHECK(dvs_id_allocator_destroy(ids) == DVS_OK);
-    REFUSED(DVS_NOT_A_STATE, dvs_id_allocator *, dvs_id_allocator_read(SPACE, strlen(SPACE), &answer));
+    REFUSED(DVS_NOT_A_STATE, dvs_id_allocator *,
+            dvs_id_allocator_read(SPACE, strlen(SPACE), &answer));
 }
 
 static void save_devices(void) {

@@ -34,7 +34,7 @@ static inline bool is_range(dvs_range range, uint64_t start, uint64_t end) {
     static inline char *name(const type *object, size_t *length) {                                 \
         char *text;                                                                                \
                                                                                                    \
-        CHECK(type##_save(object, &text, length) == DVS_OK);                                        \
+        CHECK(type##_save(object, &text, length) == DVS_OK);                                       \
         CHECK(strlen(text) == *length);                                                            \
         return text;                                                                               \
     }

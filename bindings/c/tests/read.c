@@ -18,7 +18,7 @@ static void tell(dvs_status status, char *saved) {
 static void read_space(const char *text, size_t length, bool is_repaired) {
     dvs_address_allocator *space = NULL;
     dvs_status status = is_repaired ? dvs_address_allocator_read_repaired(text, length, &space)
-                                   : dvs_address_allocator_read(text, length, &space);
+                                    : dvs_address_allocator_read(text, length, &space);
 
     tell(status, status == DVS_OK ? saved_space(space, &length) : NULL);
     dvs_address_allocator_destroy(space);

@@ -237,7 +237,8 @@ static void *go_deep(void *context) {
         memset(brackets, '[', sizeof brackets);
     }
     CHECK(dvs_address_allocator_read(text, strlen(text), &space) == DVS_NOT_A_STATE);
-    CHECK(dvs_address_allocator_read_repaired(too_deep, strlen(too_deep), &space) == DVS_NOT_A_STATE);
+    CHECK(dvs_address_allocator_read_repaired(too_deep, strlen(too_deep), &space) ==
+          DVS_NOT_A_STATE);
     CHECK(dvs_address_allocator_read_repaired(text, strlen(text), &space) == DVS_OK);
     free(too_deep);
     free(text);
