@@ -4,3 +4,4 @@ pub mod IdLaws
 pub mod IdHistoryLaws
 pub use Rattle.vm_ranges.specs.RangeLaws
 pub use Rattle.vm_engine.specs.Laws.AddressLaws
+pub use Rattle.vm_engine.specs.Laws.QueryLaws
