@@ -1,3 +1,3 @@
 pub mod AllocatorChecks
 pub mod IdChecks
-pub mod IdWalks
+pub mod IdQueries

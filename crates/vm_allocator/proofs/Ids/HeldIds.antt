@@ -13,7 +13,7 @@ use Rattle.std.specs.BTreeSet.{BTreeSet, contains, IsOrdered}
 use Rattle.std.specs.FinSet as set
 use Rattle.vm_ranges.proofs.NumberSets.{tied_here, tied_is, apart_not_tied, same_test}
 use Rattle.vm_allocator.specs.Ids.{IdState, IsHeld, held_ids, held_count, IsIdState, bound_of, held_of, ids_of, AreIds}
-use Rattle.vm_allocator.specs.Checks.IdWalks.{ids_left}
+use Rattle.vm_allocator.specs.Checks.IdQueries.{ids_left}
 use Rattle.vm_allocator.specs.Laws.IdLaws.{HeldIdsAreListed}
 use Rattle.vm_allocator.proofs.Ids.IdSets.{in_row, held_from, from_held, bound_above}
 use Rattle.vm_allocator.proofs.Ids.IncreasingBounds.{IncreaseWithin, sorted, rise}

@@ -24,7 +24,7 @@ pub struct HeldIds<'a> {
 
 impl<'a> Model for HeldIds<'a> {
     ghost use Rattle.std.specs.Prelude.{ℕ, ◌-◌, ◌^◌, ◌≤◌, List};
-    ghost use Rattle.vm_allocator.specs.Checks.IdWalks.{freed_left, ids_left};
+    ghost use Rattle.vm_allocator.specs.Checks.IdQueries.{freed_left, ids_left};
 
     ghost Value = { List ℕ };
 

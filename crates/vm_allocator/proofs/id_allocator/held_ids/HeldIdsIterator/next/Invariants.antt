@@ -1,5 +1,5 @@
 use Rattle.std.proofs.Common.{◌-◌, ◌≡◌}
-use Rattle.vm_allocator.specs.Checks.IdWalks.{freed_left, ids_left}
+use Rattle.vm_allocator.specs.Checks.IdQueries.{freed_left, ids_left}
 use Rattle.vm_allocator.proofs.id_allocator.held_ids.HeldIdsIterator.next.Given as goal
 
 -- The ids that are left do not change.
