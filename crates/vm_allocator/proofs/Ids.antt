@@ -2,6 +2,9 @@ pub mod IdSets
 pub mod IdFields
 pub mod AllocatedIds
 pub mod IdCounts
+pub mod RisingIds
+pub mod HeldIds
+pub mod ComparedIds
 pub mod FreedIds
 pub mod IdAnswers
 pub mod EveryIdCall

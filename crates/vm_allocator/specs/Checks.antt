@@ -1,2 +1,3 @@
 pub mod AllocatorChecks
 pub mod IdChecks
+pub mod IdQueries

@@ -1,7 +1,7 @@
 -- The state of an id allocator, and the result of each of its calls. An id is *held* if it is allocated and was not
 -- freed since.
-use Rattle.std.specs.Prelude.{◌≡◌, ℕ, ◌+◌, ◌-◌, ◌<◌, ◌≤◌, ◌⊎◌, max, Option, Some, None, unwrap_or, IsTrue, Result, Ok, Err, refl}
-use Rattle.std.specs.List.{range_with_len}
+use Rattle.std.specs.Prelude.{◌≡◌, ℕ, ◌+◌, ◌-◌, ◌<◌, ◌≤◌, ◌⊎◌, max, List, Option, Some, None, unwrap_or, IsTrue, Result, Ok, Err, refl}
+use Rattle.std.specs.List.{filter, range_with_len}
 use Rattle.std.specs.Ordering.{nat_cmp}
 use Rattle.std.specs.Coded.{Coded, code_by, coded×, coded_ℕ}
 use Rattle.std.specs.BTreeSet.{BTreeSet, contains}
@@ -45,6 +45,10 @@ IsHeld state i = IsTrue (set.contains state.held i)
 -- The number of held ids.
 abbrev pub held_count : IdState → ℕ
 held_count state = set.len state.held
+
+-- The held ids, in increasing order.
+abbrev pub held_ids : IdState → List ℕ
+held_ids state = filter (λ i. set.contains state.held i) (range_with_len state.lo (state.bound - state.lo))
 
 -- The id i is in the range and not held.
 abbrev pub IsNotHeld : IdState → ℕ → Type 0

@@ -1,5 +1,6 @@
 pub mod Allocator
 pub mod Ids
+pub mod IdOrder
 pub mod Several
 pub mod Histories
 pub mod Laws

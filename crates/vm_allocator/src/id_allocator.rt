@@ -27,6 +27,11 @@ use std::collections::BTreeSet;
 use std::marker::Model;
 use vm_ranges::{Error, Result};
 
+mod comparing;
+mod held_ids;
+
+pub use held_ids::HeldIds;
+
 /// Allocates ids from a range, the lowest free id first.
 ///
 /// An id is never allocated twice at the same time.
@@ -98,6 +103,22 @@ impl IdAllocator {
             range_end,
             freed_ids: BTreeSet::new(alloc),
         })
+    }
+
+    /// Returns the lowest id of the range.
+    #[tactic(auto, unfolding(crate::specs::Ids::ids_of))]
+    pub fn range_base(&self) -> u32
+        ensures { result ≡ self.now.lo }
+    {
+        self.range_base
+    }
+
+    /// Returns the highest id of the range.
+    #[tactic(auto, unfolding(crate::specs::Ids::ids_of))]
+    pub fn range_end(&self) -> u32
+        ensures { result ≡ self.now.hi }
+    {
+        self.range_end
     }
 
     /// Returns a copy. It has the same range, the same allocated ids and the same ids that were

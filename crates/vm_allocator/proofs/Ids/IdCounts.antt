@@ -125,7 +125,7 @@ counted state lo hi next freed e a o =
 pub ruleset counts = (allocated_above, freed_fit, counted)
 
 -- ---- A list of held ids
-tells_apart : (i j : ℕ) → Decides (same i j) (i ≡ j)
+pub tells_apart : (i j : ℕ) → Decides (same i j) (i ≡ j)
 tells_apart i j = (tied_is i j, λ e. subst (λ (v : ℕ). same i v ≡ true) e (tied_here i))
 
 few_in : (is : List ℕ) (s : set.FinSet nat_cmp) → IsDistinct same is → All (λ i. IsTrue (set.contains s i)) is → length is ≤ set.len s

@@ -1,7 +1,9 @@
 -- Laws of ids that follow only from the definitions.
 use Rattle.std.specs.Prelude.{◌≡◌, ◌≢◌, ℕ, ◌≤◌, ◌⊎◌, ◌↔◌, List, length, Result, Ok, Err}
 use Rattle.std.specs.List.{All, AllPairs, Contains}
-use Rattle.vm_allocator.specs.Ids.{MAX_ID, IdState, WasEverAllocated, IsHeld, held_count, IsIdState, holding_id, MakesIds, AllocatesId, PeeksId, FreesId}
+use Rattle.std.specs.List.Sorted.{IsStrictlySortedBy}
+use Rattle.std.specs.Ordering.{nat_cmp}
+use Rattle.vm_allocator.specs.Ids.{MAX_ID, IdState, WasEverAllocated, IsHeld, held_count, held_ids, IsIdState, holding_id, MakesIds, AllocatesId, PeeksId, FreesId}
 use Rattle.vm_ranges.specs.declared.error.Error.{Error}
 use Rattle.vm_ranges.specs.declared.error.Error.TheVariants.{OutOfMemory}
 
@@ -63,3 +65,9 @@ abbrev pub IdCountFindsAll : Type 0
 IdCountFindsAll =
     (state : IdState) (list : List ℕ) → AllPairs (λ i j. i ≢ j) list → All (IsHeld state) list →
     (length list ≡ held_count state) ↔ ((i : ℕ) → IsHeld state i → Contains list i)
+
+-- The list of the held ids contains exactly the held ids, in strictly increasing order. Its length is their number.
+pub record HeldIdsAreListed : Type 0 where
+  pub listed : (state : IdState) (id : ℕ) → IsIdState state → Contains (held_ids state) id ↔ IsHeld state id
+  pub increasing : (state : IdState) → IsStrictlySortedBy nat_cmp (held_ids state)
+  pub counted : (state : IdState) → IsIdState state → length (held_ids state) ≡ held_count state

@@ -8,6 +8,7 @@ ghost use Rattle.vm_allocator.specs.Laws.IdLaws.{
   AllocatingAdds,
   FreeingRemoves,
   IdCountFindsAll,
+  HeldIdsAreListed,
 };
 
 /// Proves that a call has one result and one next state in each state, unless memory runs out.
@@ -38,4 +39,11 @@ fn one_id_changes()
 #[tactic(auto, using(crate::proofs::Ids::IdCounts::listings))]
 fn id_counts_find_all()
     ensures { IdCountFindsAll }
+{}
+
+/// Proves that `held_ids` returns exactly the allocated ids, from the lowest to the highest, and
+/// that their number is `held_count`.
+#[tactic(auto, using(crate::proofs::Ids::HeldIds::listings))]
+fn held_ids_are_listed()
+    ensures { HeldIdsAreListed }
 {}
