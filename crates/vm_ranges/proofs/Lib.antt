@@ -6,9 +6,11 @@ pub mod Power
 pub mod Alignments
 pub mod RangeCalls
 pub mod RangeOrders
+pub mod RangeHashes
 pub mod Requests
 pub mod Steps
 pub mod FieldSteps
+pub mod Nesting
 pub mod NumberSteps
 pub mod Items
 pub mod NumberSets
