@@ -18,3 +18,4 @@ pub mod Lists
 pub mod Nulls
 pub mod ReadRanges
 pub mod ReadStates
+pub mod ReadTexts

@@ -5,16 +5,16 @@ use Rattle.std.proofs.lemmas.Option.{same_Some}
 use Rattle.std.proofs.lemmas.Slice.Eq.{bytes_eq-Decides}
 use Rattle.std.specs.Cmp.Lexicographic.{slice_cmp}
 use Rattle.std.specs.Ordering.{match_ordering}
-use Rattle.serde_json.specs.Data.{Num, Data, null, boolean, number, string, array, object, Members, no_members, member, depth, members_depth}
+use Rattle.serde_json.specs.Data.{Num, Data, null, boolean, number, string, array, object, Items, no_items, item, Members, no_members, member, depth, items_depth, members_depth}
 use Rattle.serde_json.specs.Events.{members_len}
 use Rattle.serde_json.specs.Find.{get, get_member, as_number, as_u64}
 use Rattle.vm_ranges.specs.Fields.{field_count, FieldIs}
+use Rattle.vm_ranges.specs.Lists.{EncodesItems, EncodesListOf}
 use Rattle.vm_ranges.specs.Numbers.{number_in, whole_number}
 use Rattle.vm_ranges.specs.RangeValues.{EncodesRange, EncodesState}
 use Rattle.vm_ranges.specs.Range.{Range}
 use Rattle.vm_ranges.specs.declared.state.NodeState.{NodeState}
 use Rattle.vm_ranges.proofs.Steps.{and_then_some}
-use Rattle.vm_ranges.proofs.FieldSteps.{field_map, field_is}
 
 -- ---- Members without one of them
 -- The members without the first one with the name k.
@@ -151,3 +151,20 @@ range_nests d r s =
 -- The value of a state nests nothing.
 pub state_nests : (d : Data) (s : NodeState) → EncodesState d s → depth d ≤ 0
 state_nests d s e = let f = ap depth e in omega (arith, f)
+
+-- ---- Lists
+module _ {X : Type 0} (States : Data → X → Type 0) (n : ℕ) (within : (d : Data) (x : X) → States d x → depth d ≤ n) where
+  items_within : (ds : Items) (xs : List X) → EncodesItems States ds xs → items_depth ds ≤ n
+  items_within no_items [] s = omega arith
+  items_within no_items (x ∷ xs) s = absurd s
+  items_within (item d ds) [] s = absurd s
+  items_within (item d ds) (x ∷ xs) s = let e = within d x s.0 in let f = items_within ds xs s.1 in omega (arith, e, f)
+
+  -- A list nests one deeper than its items.
+  pub list_within : (d : Data) (xs : List X) → EncodesListOf States d xs → depth d ≤ suc n
+  list_within null xs s = absurd s
+  list_within (boolean b) xs s = absurd s
+  list_within (number y) xs s = absurd s
+  list_within (string t) xs s = absurd s
+  list_within (array ds) xs s = let e = items_within ds xs s in omega (arith, e)
+  list_within (object ms) xs s = absurd s
