@@ -28,6 +28,9 @@ use Rattle.vm_allocator.proofs.Ids.ReadIdStates.{one_encoded, encoded_state as e
 -- A list of different held ranges or ids contains all of them if and only if its length is their number.
 pub use Rattle.vm_engine.proofs.Blocks.HeldLists.{ranges_listed}
 pub use Rattle.vm_allocator.proofs.Ids.IdCounts.{ids_listed}
+-- The values of allocators and of ids nest few levels, and a text is parsed to the value that was written.
+pub use Rattle.vm_allocator.proofs.Reading.NestedValues.{addresses_nest, ids_nest}
+pub use Rattle.vm_ranges.proofs.ReadTexts.{parsed_again}
 -- Decoding a value finds the range that it encodes.
 pub use Rattle.vm_ranges.proofs.ReadRanges.{found-states, states-found}
 

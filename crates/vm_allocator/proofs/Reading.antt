@@ -3,3 +3,4 @@ pub mod AllocatorParts
 pub mod ReadAllocators
 pub mod ReadRepaired
 pub mod WrittenAllocators
+pub mod NestedValues

@@ -15,6 +15,7 @@ pub use Rattle.vm_ranges.specs.Request
 pub use Rattle.vm_ranges.specs.Alignment
 pub use Rattle.vm_ranges.specs.Cloning
 pub use Rattle.vm_ranges.specs.Saving
+pub use Rattle.vm_ranges.specs.Texts
 pub use Rattle.vm_engine.specs.Address
 pub use Rattle.vm_engine.specs.Answer
 pub use Rattle.vm_engine.specs.Held

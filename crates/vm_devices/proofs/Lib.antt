@@ -17,3 +17,4 @@ pub mod ManagerFields
 pub mod MatchingCounts
 pub mod PairedLists
 pub mod SavedManagers
+pub mod NestedManagers

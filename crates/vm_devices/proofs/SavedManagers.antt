@@ -106,7 +106,7 @@ one_manager d a b s t =
     ∙ ap (λ v. record { ids = b.ids; space = v; devices = a.devices }) space
     ∙ ap (λ v. record { ids = b.ids; space = b.space; devices = v }) devices
 
-read_again : (d : Data) (old : DeviceState) (answer : Result DeviceState ValueError) → EncodesManager d old → ReadsInParts (EncodesManager d) answer → (answer ≡ Ok old) ⊎ (answer ≡ Err OutOfMemory)
+pub read_again : (d : Data) (old : DeviceState) (answer : Result DeviceState ValueError) → EncodesManager d old → ReadsInParts (EncodesManager d) answer → (answer ≡ Ok old) ⊎ (answer ≡ Err OutOfMemory)
 read_again d old (Ok new) s r = inl (ap (λ (v : DeviceState). Ok v) (one_manager d new old r s))
 read_again d old (Err NotAState) s r = absurd (r (old, s))
 read_again d old (Err OutOfMemory) s r = inr refl

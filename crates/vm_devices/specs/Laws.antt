@@ -1,9 +1,14 @@
 -- Laws of every history of a manager of devices that is new or was read.
-use Rattle.std.specs.Prelude.{◌≡◌, ◌≢◌, ℕ, ◌<◌, ◌≤◌, ◌⊎◌, List, map, length, Result, Ok, Err}
+use Rattle.std.specs.Prelude.{◌≡◌, ◌≢◌, ℕ, ◌<◌, ◌≤◌, ◌⊎◌, List, map, length, Result, Ok, Err, MatchResult}
 use Rattle.std.specs.List.{All}
 use Rattle.serde_json.specs.Data.{Data}
+use Rattle.serde_json.specs.Errors.{IsMemory}
+use Rattle.serde_json.specs.View.{view}
+use Rattle.serde_json.specs.declared.error.Error as json
+use Rattle.serde_json.specs.declared.value.Value.{Value}
 use Rattle.vm_ranges.specs.Range.{Range, MAX, Overlaps, Covers, address_count}
 use Rattle.vm_ranges.specs.Request.{Request, request_for}
+use Rattle.vm_ranges.specs.Texts.{IsTextOf, Parses}
 use Rattle.vm_engine.specs.Answer.{SPLIT_LIMIT_MIN_HELD}
 use Rattle.vm_allocator.specs.Ids.{IsOfRange}
 use Rattle.vm_ranges.specs.declared.error.Error.{Error}
@@ -88,3 +93,12 @@ pub record ManagerIsReadAgain : Type 0 where
   pub again : (d : Data) (old : DeviceState) (answer : Result DeviceState ValueError) →
       EncodesManager d old → ReadsInParts (EncodesManager d) answer →
       (answer ≡ Ok old) ⊎ (answer ≡ Err unread.OutOfMemory)
+
+-- The text of the value that was written for a manager is parsed, and the value of the text is read as this manager,
+-- unless memory runs out.
+abbrev pub ManagerIsReadFromText : Type 0
+ManagerIsReadFromText =
+    (old : DeviceState) (value : Value) (text : List ℕ) (parsed : Result Value json.Error) →
+    EncodesManager (view value) old → IsTextOf text (view value) → Parses text parsed →
+    MatchResult parsed (λ again. (answer : Result DeviceState ValueError) →
+    ReadsInParts (EncodesManager (view again)) answer → (answer ≡ Ok old) ⊎ (answer ≡ Err unread.OutOfMemory)) IsMemory

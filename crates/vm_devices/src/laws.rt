@@ -9,6 +9,7 @@ ghost use Rattle.vm_devices.specs.Laws.{
   EveryDeviceCallIsAnswered,
   EveryDeviceListHasHistory,
   ManagerIsReadAgain,
+  ManagerIsReadFromText,
 };
 
 /// Proves that in every history no two devices share an id or an address, and each device is in the
@@ -47,4 +48,11 @@ fn every_call_is_answered()
 #[tactic(auto, using(crate::proofs::SavedManagers::manager_again))]
 fn managers_are_read_again()
     ensures { ManagerIsReadAgain }
+{}
+
+/// Proves that a saved manager survives its JSON text: `to_value`, `to_string`, `from_str` and
+/// `from_value` in turn return the same manager, unless memory runs out.
+#[tactic(auto, using(crate::proofs::NestedManagers::texts))]
+fn texts_are_read()
+    ensures { ManagerIsReadFromText }
 {}

@@ -4,6 +4,7 @@ pub mod Replacement
 pub mod Gaps
 pub mod OneList
 pub mod BlockStates
+pub mod BlockCounts
 pub mod HeldSets
 pub mod HeldChanges
 pub mod HeldLists

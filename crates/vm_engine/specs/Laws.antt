@@ -1,3 +1,4 @@
 pub mod AddressLaws
 pub mod CountLaws
 pub mod QueryLaws
+pub mod MemoryLaws

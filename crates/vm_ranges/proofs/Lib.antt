@@ -6,9 +6,11 @@ pub mod Power
 pub mod Alignments
 pub mod RangeCalls
 pub mod RangeOrders
+pub mod RangeHashes
 pub mod Requests
 pub mod Steps
 pub mod FieldSteps
+pub mod Nesting
 pub mod NumberSteps
 pub mod Items
 pub mod NumberSets
@@ -16,3 +18,4 @@ pub mod Lists
 pub mod Nulls
 pub mod ReadRanges
 pub mod ReadStates
+pub mod ReadTexts

@@ -6,6 +6,7 @@ pub mod Alignment
 pub mod Request
 pub mod Cloning
 pub mod Saving
+pub mod Texts
 pub mod Fields
 pub mod Numbers
 pub mod Lists

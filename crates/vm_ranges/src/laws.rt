@@ -1,9 +1,16 @@
 //! Laws of ranges.
-ghost use Rattle.vm_ranges.specs.RangeLaws.{RangesAreSets};
+ghost use Rattle.vm_ranges.specs.RangeLaws.{RangesAreSets, HashAgreesWithEquality};
 
 /// Proves that overlapping is symmetric, that containing is reflexive and transitive, and that the
 /// order of ranges agrees with their equality.
 #[tactic(auto, using(crate::proofs::RangeOrders::ranges_are_sets))]
 fn ranges_are_sets()
     ensures { RangesAreSets }
+{}
+
+/// Proves that two ranges write the same bytes to a hasher if and only if they are equal. So equal
+/// ranges have the same hash.
+#[tactic(auto, using(crate::proofs::RangeHashes::hashes))]
+fn equal_ranges_hash_equally()
+    ensures { HashAgreesWithEquality ⟦<crate::range::RangeInclusive as PartialEq>⟧.eq ⟦<crate::range::RangeInclusive as std::hash::Hash>⟧.hash_input }
 {}

@@ -3,7 +3,7 @@ ghost use Rattle.vm_ranges.specs.RangeValues.{EncodesRange, EncodesState};
 ghost use Rattle.vm_allocator.specs.Values.AllocatorValues.{EncodesAllocator};
 ghost use Rattle.vm_allocator.specs.Values.RepairedValues.{EncodesRepaired};
 ghost use Rattle.vm_allocator.specs.Values.IdValues.{EncodesIds};
-ghost use Rattle.vm_allocator.specs.Laws.ValueLaws.{EncodesAtMostOne, ReadsWritten, ReadersAgree};
+ghost use Rattle.vm_allocator.specs.Laws.ValueLaws.{EncodesAtMostOne, ReadsWritten, ReadsText, ReadersAgree};
 
 /// Proves that a value encodes at most one object of each type.
 #[tactic(auto, using(crate::proofs::Reading::ReadAgain::one_object))]
@@ -23,6 +23,16 @@ fn written_is_read()
     ensures node_states { ReadsWritten EncodesState }
     ensures address_allocators { ReadsWritten EncodesAllocator }
     ensures id_allocators { ReadsWritten EncodesIds }
+{}
+
+/// Proves that a saved object survives its JSON text: `to_value`, `to_string`, `from_str` and
+/// `from_value` in turn return the same object, node for node, unless memory runs out.
+#[tactic(auto, using(crate::proofs::Reading::NestedValues::texts))]
+fn texts_are_read()
+    ensures ranges { ReadsText EncodesRange }
+    ensures node_states { ReadsText EncodesState }
+    ensures address_allocators { ReadsText EncodesAllocator }
+    ensures id_allocators { ReadsText EncodesIds }
 {}
 
 /// Proves that both readers return equal allocators, unless memory runs out.

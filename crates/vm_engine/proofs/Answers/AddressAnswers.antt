@@ -38,12 +38,12 @@ outcome request old new answer h =
     ⊎_elim (λ l. inl l) (λ k. taken_outcome request old new answer k.0.some k.1) (allocates_outcome old new answer request h)
 
 -- A success is an allocation.
-gets : (request : Request) (old new : AddressState) (r : Range) → Allocates old request (Ok r) new → IsAllocation old request (Ok r) new
+pub gets : (request : Request) (old new : AddressState) (r : Range) → Allocates old request (Ok r) new → IsAllocation old request (Ok r) new
 gets request old new r h = ⊎_elim (λ l. absurd (cc (l.1))) (λ g. g) (outcome request old new (Ok r) h)
 
 -- ---- Each call keeps the state valid
 -- An allocated range lies in the space and ends below MAX, and none of its addresses was held.
-lies_clear : (old new : AddressState) (request : Request) (answer : Result Range Error) (g : IsAllocation old request answer new) → IsAddressState old → (old.space.start ≤ g.from) × (g.from + request.size - 1 ≤ old.space.end) × (g.from + request.size - 1 < MAX) × Misses old.held (span g.from request.size)
+pub lies_clear : (old new : AddressState) (request : Request) (answer : Result Range Error) (g : IsAllocation old request answer new) → IsAddressState old → (old.space.start ≤ g.from) × (g.from + request.size - 1 ≤ old.space.end) × (g.from + request.size - 1 < MAX) × Misses old.held (span g.from request.size)
 unfolding IsPlace
 lies_clear old new request answer g i =
     let some = g.some in

@@ -13,7 +13,7 @@ abbrev pub Misses : List Range → Range → Type 0
 Misses hs r = (a : ℕ) → IsIn r a → ¬ IsHeldAddress hs a
 
 -- A range that has no held address is below a held range or above it.
-beside : (x r : Range) (xs : List Range) → x.start ≤ x.end → r.start ≤ r.end → Misses (x ∷ xs) r → (r.end < x.start) ⊎ (x.end < r.start)
+pub beside : (x r : Range) (xs : List Range) → x.start ≤ x.end → r.start ≤ r.end → Misses (x ∷ xs) r → (r.end < x.start) ⊎ (x.end < r.start)
 beside x r xs o l m =
     ⊎_elim
     (λ (a : r.end < x.start). inl a)
@@ -28,7 +28,7 @@ beside x r xs o l m =
     (cases_lt x.end r.start))
     (cases_lt r.end x.start)
 
-misses_later : (x r : Range) (xs : List Range) → Misses (x ∷ xs) r → Misses xs r
+pub misses_later : (x r : Range) (xs : List Range) → Misses (x ∷ xs) r → Misses xs r
 misses_later x r xs m a i h = m a i (inr h)
 
 pub in_order_with : (lo hi : ℕ) (r : Range) (hs : List Range) → AreInOrder lo hs hi → lo ≤ r.start → r.start ≤ r.end → r.end ≤ hi → r.end < MAX → Misses hs r → AreInOrder lo (with_range r hs) hi

@@ -1,0 +1,29 @@
+-- How deep the value of a tree nests.
+use Rattle.std.proofs.Common.{◌≡◌, ℕ, ◌+◌, ◌≤◌, max, [], ◌∷◌, codes, refl, ap, arith}
+use Rattle.serde_json.specs.Data.{Data, depth}
+use Rattle.vm_ranges.proofs.FieldSteps.{field_map}
+use Rattle.vm_ranges.proofs.Nesting.{object_within, number_within, range_nests, state_nests}
+use Rattle.vm_ranges.specs.Range.{Range}
+use Rattle.vm_ranges.specs.RangeValues.{EncodesRange, EncodesState}
+use Rattle.vm_engine.specs.Tree.Shape.{Shape, Tip, Fork, MAX_HEIGHT, height_of}
+use Rattle.vm_engine.specs.Values.TreeValues.{EncodesShape, EncodesSpaceTree}
+
+-- The value of a tree nests at most one deeper than its nodes.
+pub shape_nests : (s : Shape) (d : Data) → EncodesShape d s → depth d ≤ height_of s + 1
+shape_nests Tip d p = let e = ap depth p in omega (arith, e)
+shape_nests (Fork l b r) d p =
+    let n = max (height_of l) (height_of r) + 1 in
+    let e =
+    object_within n (codes "key" ∷ codes "node_state" ∷ codes "left" ∷ codes "right" ∷ codes "height" ∷ []) d
+    ((refl, (refl, (refl, (refl, tt)))), ((refl, (refl, (refl, tt))), ((refl, (refl, tt)), ((refl, tt), (tt, tt)))))
+    p.five_fields
+    (field_map (codes "key") d _ _ (λ v k. let i = range_nests v b.key k in omega (arith, i)) p.key,
+    (field_map (codes "node_state") d _ _ (λ v k. let i = state_nests v b.state k in omega (arith, i)) p.node_state,
+    (field_map (codes "left") d _ _ (λ v k. let i = shape_nests l v k in omega (arith, i)) p.left,
+    (field_map (codes "right") d _ _ (λ v k. let i = shape_nests r v k in omega (arith, i)) p.right,
+    (number_within n n (codes "height") d p.height, tt))))) in
+    omega (arith, e)
+
+-- The value of an allocator's tree nests at most MAX_HEIGHT + 1 deep.
+pub tree_nests : (d : Data) (space : Range) (s : Shape) → EncodesSpaceTree d space s → depth d ≤ MAX_HEIGHT + 1
+tree_nests d space s p = let e = shape_nests s d p.encoded in let h = p.nested in omega (arith, e, h)
