@@ -38,6 +38,8 @@ FOLDERS = {
     "std::alloc": ("rattle", {"AllocError", "AllocFailed", "Global"}),
     "std::cmp": ("core::cmp", {"Ordering"}),
     "std::collections": ("rattle", {"BTreeMap", "BTreeSet"}),
+    "std::collections::btree_map": ("rattle::btree_map", {"Iter"}),
+    "std::collections::btree_set": ("rattle::btree_set", {"Iter"}),
     "std::io": ("std::io", {"Read", "Write"}),
     "std::marker": (None, {"Model"}),
     "std::process": ("std::process", {"ExitCode"}),

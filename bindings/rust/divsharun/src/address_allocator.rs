@@ -359,6 +359,65 @@ impl AddressAllocator {
         self.0.holds(&key.0)
     }
 
+    /// Returns the allocated range that contains the address, or `None` if there is none.
+    ///
+    /// It walks one path of the tree and does not allocate.
+    ///
+    /// # Example
+    ///
+    /// ```rust
+    /// use divsharun::{AddressAllocator, AllocPolicy};
+    ///
+    /// let mut mmio = AddressAllocator::new(0xd000_0000, 0x3000_0000)?;
+    /// let window = mmio.allocate(0x1000, 0x1000, AllocPolicy::FirstMatch)?;
+    /// // The guest accesses this address.
+    /// assert_eq!(mmio.held_at(0xd000_0010), Some(window));
+    /// assert_eq!(mmio.held_at(0xd000_1000), None);
+    /// # Ok::<(), divsharun::Error>(())
+    /// ```
+    #[must_use]
+    pub fn held_at(&self, address: u64) -> Option<RangeInclusive> {
+        self.0.held_at(address).map(RangeInclusive)
+    }
+
+    /// Returns an iterator over the gaps in ascending order. A gap is a run of free addresses with
+    /// no free address next to it.
+    ///
+    /// It does not allocate.
+    ///
+    /// # Example
+    ///
+    /// ```rust
+    /// use divsharun::{AddressAllocator, AllocPolicy};
+    ///
+    /// let mut ports = AddressAllocator::new(0, 0x100)?;
+    /// ports.allocate(0x10, 1, AllocPolicy::ExactMatch(0x40))?;
+    /// let gaps: Vec<_> = ports.gaps().map(|gap| gap.to_string()).collect();
+    /// assert_eq!(gaps, ["0-3f", "50-ff"]);
+    /// assert_eq!((ports.longest_gap(), ports.free_len()), (0xb0, 0xf0));
+    /// # Ok::<(), divsharun::Error>(())
+    /// ```
+    pub fn gaps(&self) -> Gaps<'_> {
+        Gaps(self.0.gaps())
+    }
+
+    /// Returns the length of the longest gap, or 0 if there is none. It reads one node.
+    ///
+    /// A request of alignment 1 that names no start fits if and only if its size is at most this
+    /// length.
+    #[must_use]
+    pub fn longest_gap(&self) -> u64 {
+        self.0.longest_gap()
+    }
+
+    /// Returns the number of free addresses.
+    ///
+    /// It walks the whole tree and does not allocate.
+    #[must_use]
+    pub fn free_len(&self) -> u64 {
+        self.0.clear_count()
+    }
+
     /// Returns the number of allocated ranges.
     ///
     /// It walks the whole tree and does not allocate.
@@ -467,5 +526,35 @@ impl FusedIterator for HeldRanges<'_> {}
 impl fmt::Debug for HeldRanges<'_> {
     fn fmt(&self, f: &mut fmt::Formatter<'_>) -> fmt::Result {
         f.debug_struct("HeldRanges").finish_non_exhaustive()
+    }
+}
+
+impl<'a> IntoIterator for &'a AddressAllocator {
+    type Item = RangeInclusive;
+    type IntoIter = HeldRanges<'a>;
+
+    /// Returns an iterator over the allocated ranges.
+    fn into_iter(self) -> HeldRanges<'a> {
+        self.held_ranges()
+    }
+}
+
+/// An iterator over the gaps of an [`AddressAllocator`], in ascending order. It is created by
+/// [`gaps`](AddressAllocator::gaps).
+pub struct Gaps<'a>(proved::Gaps<'a>);
+
+impl Iterator for Gaps<'_> {
+    type Item = RangeInclusive;
+
+    fn next(&mut self) -> Option<RangeInclusive> {
+        self.0.next().map(RangeInclusive)
+    }
+}
+
+impl FusedIterator for Gaps<'_> {}
+
+impl fmt::Debug for Gaps<'_> {
+    fn fmt(&self, f: &mut fmt::Formatter<'_>) -> fmt::Result {
+        f.debug_struct("Gaps").finish_non_exhaustive()
     }
 }

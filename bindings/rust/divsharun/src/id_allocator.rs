@@ -1,12 +1,13 @@
-use crate::error::{or_abort, out_of_memory};
-use crate::Result;
+use crate::error::{or_abort, or_try_error, out_of_memory};
+use crate::{Result, TryError};
 use core::fmt;
+use core::iter::FusedIterator;
 use rattle::Global;
 
 /// Allocates ids from a range, the lowest free id first.
 ///
-/// Freed ids are stored in a [`BTreeSet`](alloc::collections::BTreeSet). If one of its allocations
-/// fails, the process ends, so [`free_id`](Self::free_id) and `clone` have no `try_` variants.
+/// Two allocators are equal if and only if they have the same range, the same allocated ids and the
+/// same ids that were allocated at some time.
 ///
 /// # Example
 ///
@@ -23,6 +24,7 @@ use rattle::Global;
 /// assert!(lines.is_allocated(6));
 /// # Ok::<(), Error>(())
 /// ```
+#[derive(PartialEq, Eq)]
 pub struct IdAllocator(pub(crate) proved::IdAllocator);
 
 impl IdAllocator {
@@ -77,6 +79,59 @@ impl IdAllocator {
         or_abort(self.0.free_id(id))
     }
 
+    /// Frees an id like [`free_id`](Self::free_id), but returns an error if an allocation fails.
+    ///
+    /// # Errors
+    ///
+    /// An error changes nothing. In this order:
+    /// - `Refused` with `OutOfRange`, `NeverAllocated` or `AlreadyReleased`, if `free_id` returns
+    ///   that error.
+    /// - `OutOfMemory` if an allocation of memory fails.
+    pub fn try_free_id(&mut self, id: u32) -> core::result::Result<u32, TryError> {
+        or_try_error(self.0.free_id(id))
+    }
+
+    /// Returns the first id of the range.
+    #[must_use]
+    pub fn range_base(&self) -> u32 {
+        self.0.range_base()
+    }
+
+    /// Returns the last id of the range.
+    #[must_use]
+    pub fn range_end(&self) -> u32 {
+        self.0.range_end()
+    }
+
+    /// Returns an iterator over the allocated ids in ascending order. It does not allocate memory,
+    /// and visits each id that was allocated at some time.
+    ///
+    /// # Example
+    ///
+    /// ```rust
+    /// use divsharun::IdAllocator;
+    ///
+    /// let mut lines = IdAllocator::new(5, 23)?;
+    /// for _ in 0..3 {
+    ///     lines.allocate_id()?;
+    /// }
+    /// lines.free_id(6)?;
+    /// assert!(lines.held_ids().eq([5, 7]));
+    /// # Ok::<(), divsharun::Error>(())
+    /// ```
+    pub fn held_ids(&self) -> HeldIds<'_> {
+        HeldIds(self.0.held_ids())
+    }
+
+    /// Returns a copy, or an error if an allocation fails.
+    ///
+    /// # Errors
+    ///
+    /// - `OutOfMemory` if an allocation of memory fails.
+    pub fn try_clone(&self) -> core::result::Result<Self, TryError> {
+        or_try_error(self.0.try_clone(Global)).map(IdAllocator)
+    }
+
     /// Returns the number of allocated ids in constant time. It does not allocate memory.
     #[must_use]
     pub fn held_count(&self) -> u64 {
@@ -86,15 +141,32 @@ impl IdAllocator {
 
 impl Clone for IdAllocator {
     fn clone(&self) -> Self {
-        match self.0.try_clone(Global) {
-            Ok(clone) => IdAllocator(clone),
-            Err(_) => out_of_memory(),
-        }
+        self.try_clone().unwrap_or_else(|_| out_of_memory())
     }
 }
 
 impl fmt::Debug for IdAllocator {
     fn fmt(&self, f: &mut fmt::Formatter<'_>) -> fmt::Result {
         self.0.fmt(f)
+    }
+}
+
+/// An iterator over the allocated ids of an [`IdAllocator`], in ascending order. It is created by
+/// [`held_ids`](IdAllocator::held_ids).
+pub struct HeldIds<'a>(proved::HeldIds<'a>);
+
+impl Iterator for HeldIds<'_> {
+    type Item = u32;
+
+    fn next(&mut self) -> Option<u32> {
+        self.0.next()
+    }
+}
+
+impl FusedIterator for HeldIds<'_> {}
+
+impl fmt::Debug for HeldIds<'_> {
+    fn fmt(&self, f: &mut fmt::Formatter<'_>) -> fmt::Result {
+        f.debug_struct("HeldIds").finish_non_exhaustive()
     }
 }

@@ -167,11 +167,11 @@ mod range;
 #[cfg(feature = "serde")]
 mod saved;
 
-pub use address_allocator::{AddressAllocator, HeldRanges};
+pub use address_allocator::{AddressAllocator, Gaps, HeldRanges};
 pub use constraint::{AllocPolicy, Constraint, DEFAULT_CONSTRAINT_ALIGN};
 pub use device_manager::{DeviceManager, DeviceSlot};
 pub use error::{Error, Result, TryError};
-pub use id_allocator::IdAllocator;
+pub use id_allocator::{HeldIds, IdAllocator};
 pub use layout::{Block, Blocks, Layout};
 pub use node_state::NodeState;
 pub use range::RangeInclusive;
@@ -184,6 +184,8 @@ const _: () = {
     is_shared_and_sent::<DeviceManager>();
     is_shared_and_sent::<DeviceSlot>();
     is_shared_and_sent::<HeldRanges<'_>>();
+    is_shared_and_sent::<Gaps<'_>>();
+    is_shared_and_sent::<HeldIds<'_>>();
     is_shared_and_sent::<Layout<'_>>();
     is_shared_and_sent::<Blocks<'_>>();
     is_shared_and_sent::<Block<'_>>();

@@ -25,7 +25,7 @@ mod vec;
 #[cfg(feature = "count_boxes")]
 pub use boxed::boxes_followed;
 pub use boxed::Box;
-pub use collections::{BTreeMap, BTreeSet};
+pub use collections::{btree_map, btree_set, BTreeMap, BTreeSet};
 #[cfg(feature = "json")]
 pub use json::TextError;
 #[cfg(feature = "program")]

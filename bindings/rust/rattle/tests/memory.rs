@@ -3,8 +3,9 @@
 
 mod refusing;
 
-use rattle::{json, AllocError, AllocFailed, Box, Global, Value, Vec};
+use rattle::{json, AllocError, AllocFailed, BTreeMap, BTreeSet, Box, Global, Value, Vec};
 use refusing::{blocks, refusing};
+use std::collections;
 
 /// Makes a call with each of its allocations failing in turn. It must return an error and free
 /// every block. Then it must succeed.
@@ -54,6 +55,93 @@ fn vectors() {
         }
     }
     assert!(refusals > 0 && list.iter().copied().eq(0..100));
+}
+
+/// Makes a call with its first allocation failing, then with its second, and so on, until it
+/// succeeds. Returns the result and the number of failures.
+fn until_allowed<T, E>(
+    mut call: impl FnMut() -> Result<T, E>,
+    mut failed: impl FnMut(E),
+) -> (T, u64) {
+    for number in 1.. {
+        match refusing(number, &mut call).0 {
+            Ok(result) => return (result, number - 1),
+            Err(error) => failed(error),
+        }
+    }
+    unreachable!()
+}
+
+/// Compares maps with those of Rust while they grow and while they shrink, with keys in random, in
+/// ascending and in descending order.
+#[test]
+fn maps() {
+    let before = blocks();
+    for (keys, order) in [8, 500, 20_000]
+        .into_iter()
+        .flat_map(|keys| [0, 1, 2].map(|order| (keys, order)))
+    {
+        let (mut map, mut rust) = (BTreeMap::new(Global), collections::BTreeMap::new());
+        let (mut draw, mut failures) = (1u64, 0);
+        for step in 0..3 * keys {
+            draw = draw * 75 % 65_537;
+            let key = [draw % keys, step % keys, keys - 1 - step % keys][order];
+            if step < 2 * keys && step % 4 != 3 {
+                let length = map.len();
+                let insert = || match map.insert(key, step) {
+                    Ok(previous) => Ok(previous),
+                    Err(AllocFailed(entry)) => Err((entry, map.len(), map.get(&key).copied())),
+                };
+                let (previous, failed) = until_allowed(insert, |(entry, len, value)| {
+                    assert_eq!((entry, len, value), ((key, step), length, None));
+                });
+                failures += failed;
+                assert_eq!(previous, rust.insert(key, step));
+            } else {
+                let (removed, made) = refusing(1, || map.remove(&key));
+                assert_eq!((removed, made), (rust.remove(&key), 0));
+            }
+            assert_eq!(map.get(&key), rust.get(&key));
+            assert_eq!((map.len(), map.is_empty()), (rust.len(), rust.is_empty()));
+            if step % (keys / 4) == 0 {
+                assert!(map.iter().eq(rust.iter()));
+                let (mut clone, _) = until_allowed(|| map.clone(), |_| {});
+                assert!(clone == map);
+                // The clone has the capacity that `remove` needs.
+                while let Some(key) = clone.iter().next().map(|entry| *entry.0) {
+                    assert_eq!(
+                        refusing(1, || clone.remove(&key)),
+                        (map.get(&key).copied(), 0)
+                    );
+                }
+            }
+        }
+        assert!(failures > 0);
+    }
+    assert_eq!(blocks(), before);
+}
+
+#[test]
+fn sets() {
+    for keys in [8u32, 500, 20_000] {
+        let (mut set, mut rust) = (BTreeSet::new(Global), collections::BTreeSet::new());
+        let mut draw = 1;
+        for step in 0..3 * keys {
+            draw = draw * 75 % 65_537;
+            let value = draw % keys;
+            if step < 2 * keys && step % 4 != 3 {
+                let insert = || set.insert(value);
+                let failed = |AllocFailed(back)| assert_eq!(back, value);
+                assert_eq!(until_allowed(insert, failed).0, rust.insert(value));
+            } else {
+                assert_eq!(refusing(1, || set.pop_first()), (rust.pop_first(), 0));
+            }
+            assert_eq!(set.first(), rust.first());
+            assert_eq!(set.contains(&value), rust.contains(&value));
+        }
+        assert!(set.iter().eq(rust.iter()));
+        assert!(set.clone().is_ok_and(|clone| clone == set));
+    }
 }
 
 #[test]

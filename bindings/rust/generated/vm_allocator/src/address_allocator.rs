@@ -3,7 +3,7 @@
 //! An allocator of address ranges.
 //!
 //! The allocator stores its space next to the tree of blocks, so that `base` and `end` are one load
-//! each. The invariant states that the two agree. The fields are `pub(crate)` because `saved`
+//! each. The invariant states that the two agree and that the state is valid. The fields are `pub(crate)` because `saved`
 //! builds allocators from values.
 //!
 //! `allocate` and `free` call the counted versions and drop the count. Some clauses follow from
@@ -15,6 +15,7 @@ use vm_engine::IntervalTree;
 use vm_ranges::{AllocPolicy, Constraint, Error, RangeInclusive, Result};
 
 mod comparing;
+mod gaps;
 mod held_ranges;
 mod several;
 
@@ -113,7 +114,6 @@ impl AddressAllocator {
     ///   - `Overflow` if the height of the tree is 48 or more. This takes more than 6 * 10^9
     ///     allocated ranges.
     ///   - `OutOfMemory` if the allocation of a node fails.
-    #[allow(clippy::let_and_return)]
     pub fn allocate(
         &mut self,
         alloc: Global,
@@ -121,8 +121,9 @@ impl AddressAllocator {
         alignment: u64,
         policy: AllocPolicy,
     ) -> Result<RangeInclusive> {
-        let answer = self.allocate_counted(alloc, size, alignment, policy).0;
-        answer
+        let tree = &mut self.interval_tree;
+        let constraint = Constraint::new(size, alignment, policy)?;
+        tree.allocate(alloc, constraint)
     }
 
     /// Allocates like [`allocate`](Self::allocate), and also returns the number of tree nodes that
@@ -196,9 +197,6 @@ impl AddressAllocator {
     pub fn base(&self) -> u64 {
         self.address_space.start()
     }
-
-    // Proof: makes the invariant of the state available to the caller. It does nothing when it
-    // runs.
 
     /// Returns the last address of the space.
     pub fn end(&self) -> u64 {

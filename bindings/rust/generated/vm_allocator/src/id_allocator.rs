@@ -9,6 +9,11 @@ use rattle::Global;
 use rattle::BTreeSet;
 use vm_ranges::{Error, Result};
 
+mod comparing;
+mod held_ids;
+
+pub use held_ids::HeldIds;
+
 /// Allocates ids from a range, the lowest free id first.
 ///
 /// An id is never allocated twice at the same time.
@@ -60,6 +65,16 @@ impl IdAllocator {
             range_end,
             freed_ids: BTreeSet::new(alloc),
         })
+    }
+
+    /// Returns the lowest id of the range.
+    pub fn range_base(&self) -> u32 {
+        self.range_base
+    }
+
+    /// Returns the highest id of the range.
+    pub fn range_end(&self) -> u32 {
+        self.range_end
     }
 
     /// Returns a copy. It has the same range, the same allocated ids and the same ids that were

@@ -5,7 +5,8 @@
 //! - `placement` chooses the range of a request.
 //! - `allocation` allocates the chosen range.
 //! - `deallocation` frees an allocated range.
-//! - `held_ranges` iterates over the allocated ranges.
+//! - `held_ranges` has queries about the allocated ranges.
+//! - `gaps` has queries about the free addresses.
 //! - `comparing` compares two trees.
 //! - `counted` has the calls that count the nodes that they enter.
 //!
@@ -27,6 +28,7 @@ mod building;
 mod comparing;
 pub(crate) mod counted;
 mod deallocation;
+pub(crate) mod gaps;
 pub(crate) mod held_ranges;
 pub(crate) mod placement;
 
@@ -111,7 +113,6 @@ impl IntervalTree {
     /// - Only if the range splits its free block:
     ///   - `Overflow` if the height of the tree is 48 or more.
     ///   - `OutOfMemory` if the allocation of a node fails.
-    #[allow(clippy::let_and_return)]
     pub fn allocate(&mut self, alloc: Global, constraint: Constraint) -> Result<RangeInclusive> {
         self.allocate_counted(alloc, constraint).0
     }

@@ -6,7 +6,7 @@
 //! a tree cover the whole space, and two neighbours are never both free.
 //!
 //! - [`IntervalTree`] allocates and frees ranges.
-//! - [`HeldRanges`] iterates over the allocated ranges.
+//! - [`HeldRanges`] iterates over the allocated ranges, and [`Gaps`] over the gaps between them.
 
 #![forbid(unsafe_code)]
 #![no_std]
@@ -19,4 +19,5 @@ mod saved;
 
 pub use interval_tree::IntervalTree;
 use interval_tree::counted::Steps;
+pub use interval_tree::gaps::Gaps;
 pub use interval_tree::held_ranges::HeldRanges;

@@ -95,6 +95,11 @@ impl InnerNode {
     pub(crate) fn height(&self) -> u64 {
         self.height
     }
+
+    /// Returns the length of the longest free block in the subtree, or 0 if there is none.
+    pub(crate) fn max_free(&self) -> u64 {
+        self.max_free
+    }
 }
 
 /// Returns the height of a child, or 0 if the child is absent.

@@ -1,6 +1,6 @@
 // Written by bindings/erase from crates/vm_allocator/src/address_allocator/held_ranges.rt: do not edit.
 
-//! Queries of the allocated ranges: an iterator, a test and a count.
+//! Queries of the allocated ranges: an iterator, a test, a search by an address, and a count.
 
 use super::AddressAllocator;
 use vm_engine::HeldRanges;
@@ -20,6 +20,14 @@ impl AddressAllocator {
     /// of the tree and does not allocate.
     pub fn holds(&self, key: &RangeInclusive) -> bool {
         self.interval_tree.holds(key)
+    }
+
+    /// Returns the allocated range that contains an address, or `None` if the address is free or
+    /// outside the space.
+    ///
+    /// It descends one path of the tree and does not allocate.
+    pub fn held_at(&self, address: u64) -> Option<RangeInclusive> {
+        self.interval_tree.held_at(address)
     }
 
     /// Returns the number of allocated ranges.

@@ -5,6 +5,7 @@
 use rattle::Vec;
 use super::AddressAllocator;
 use rattle::Global;
+use vm_engine::IntervalTree;
 use vm_ranges::{Constraint, RangeInclusive, Result};
 
 impl AddressAllocator {
@@ -22,29 +23,29 @@ impl AddressAllocator {
         alloc: Global,
         requests: &[Constraint],
     ) -> Result<Vec<RangeInclusive>> {
+        let tree = &mut self.interval_tree;
         let mut ranges = Vec::with_capacity(alloc, requests.len())?;
         for request in requests {
-            let answer = self.allocate(alloc, request.size(), request.align(), request.policy());
-            match answer {
+            match tree.allocate(alloc, *request) {
                 Ok(range) => {
                     let Ok(()) = ranges.push(range) else {
                         unreachable!()
                     };
                 }
                 Err(error) => {
-                    self.free_all(&mut ranges);
+                    free_all(tree, &mut ranges);
                     return Err(error);
                 }
             }
         }
         Ok(ranges)
     }
+}
 
-    /// Frees ranges that were allocated one after the other, the last one first. This leads back to
-    /// the state before their allocation.
-    fn free_all(&mut self, ranges: &mut Vec<RangeInclusive>) {
-        while let Some(range) = ranges.pop() {
-            let _ = self.free(&range);
-        }
+/// Frees ranges that were allocated one after the other, the last one first. This leads back to the
+/// state before their allocation.
+fn free_all(tree: &mut IntervalTree, ranges: &mut Vec<RangeInclusive>) {
+    while let Some(range) = ranges.pop() {
+        let _ = tree.free(&range);
     }
 }

@@ -7,7 +7,7 @@
 
 use super::IntervalTree;
 use crate::node::walks::Walk;
-use crate::node::walks::held::{count_held, has_held};
+use crate::node::walks::held::{count_held, has_held, held_at};
 use vm_ranges::{NodeState, RangeInclusive};
 
 /// An iterator over the allocated ranges, from the lowest to the highest. It does not allocate.
@@ -45,6 +45,14 @@ impl IntervalTree {
     /// path from the root and does not allocate.
     pub fn holds(&self, key: &RangeInclusive) -> bool {
         has_held(&self.root, key)
+    }
+
+    /// Returns the allocated range that contains an address, or `None` if the address is free or
+    /// outside the space.
+    ///
+    /// It follows one path from the root and does not allocate.
+    pub fn held_at(&self, address: u64) -> Option<RangeInclusive> {
+        held_at(&self.root, address)
     }
 
     /// Returns the number of allocated ranges. It visits every node and does not allocate.

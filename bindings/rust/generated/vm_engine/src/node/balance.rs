@@ -12,7 +12,9 @@
 //! again.
 
 use rattle::Box;
-use super::summary::{Change, free_summary_of, refresh_free, summary_of, summary_over};
+use super::summary::{
+    Change, free_summary_of, free_summary_over, refresh_free, summary_of, summary_over,
+};
 use super::{Child, InnerNode, height};
 use vm_ranges::{NodeState, RangeInclusive};
 
@@ -57,8 +59,8 @@ pub(super) fn update(
         *alignments = own.alignments;
         return Updated::Unbalanced(left.take(), right.take());
     }
-    let own = free_summary_of(key, node_state);
-    let change = refresh_free(first.free, second.free, own, max_free, alignments);
+    let free = free_summary_over(first.free, second.free, key, node_state);
+    let change = refresh_free(free, max_free, alignments);
     let height = first.height.max(second.height) + 1;
     if height == *cached_height {
         return Updated::Balanced(change);

@@ -65,7 +65,6 @@ impl InnerNode {
     ///
     /// It does not allocate.
     #[inline(never)]
-    #[allow(clippy::let_and_return)]
     pub(crate) fn delete_root(tree: Box<InnerNode>, count: &mut Steps) -> Option<Box<InnerNode>> {
         let InnerNode { left, right, .. } = Box::into_inner(tree);
         join(left, right, count)

@@ -101,9 +101,9 @@ impl InnerNode {
         self.enter(count);
         if let Some(left) = may_fit(&self.left, size, alignment) {
             left.first_place(size, alignment, found, count);
-        }
-        if found.is_some() {
-            return;
+            if found.is_some() {
+                return;
+            }
         }
         if let Some(start) = lowest_fit(&self.key, self.node_state, size, alignment) {
             *found = Some(Place {
@@ -122,9 +122,9 @@ impl InnerNode {
         self.enter(count);
         if let Some(right) = may_fit(&self.right, size, alignment) {
             right.last_place(size, alignment, found, count);
-        }
-        if found.is_some() {
-            return;
+            if found.is_some() {
+                return;
+            }
         }
         if let Some(start) = highest_fit(&self.key, self.node_state, size, alignment) {
             *found = Some(Place {

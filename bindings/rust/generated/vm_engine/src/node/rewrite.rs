@@ -2,7 +2,7 @@
 
 //! Changes the key and the state of a block in place.
 
-use super::summary::{Change, free_summary_of, refresh_free, summary_of};
+use super::summary::{Change, free_summary_over, refresh_free, summary_of};
 use super::{Child, InnerNode};
 use crate::Steps;
 use crate::ordering::compare;
@@ -15,13 +15,10 @@ impl InnerNode {
     pub(super) fn rewrite_here(&mut self, key: RangeInclusive, node_state: NodeState) -> Change {
         self.key = key;
         self.node_state = node_state;
-        refresh_free(
-            summary_of(&self.left).free,
-            summary_of(&self.right).free,
-            free_summary_of(&self.key, self.node_state),
-            &mut self.max_free,
-            &mut self.alignments,
-        )
+        let left = summary_of(&self.left).free;
+        let right = summary_of(&self.right).free;
+        let free = free_summary_over(left, right, &self.key, self.node_state);
+        refresh_free(free, &mut self.max_free, &mut self.alignments)
     }
 }
 
@@ -47,11 +44,8 @@ pub(crate) fn rewrite_at(
     if let Change::Nothing = change {
         return change;
     }
-    refresh_free(
-        summary_of(&tree.left).free,
-        summary_of(&tree.right).free,
-        free_summary_of(&tree.key, tree.node_state),
-        &mut tree.max_free,
-        &mut tree.alignments,
-    )
+    let left = summary_of(&tree.left).free;
+    let right = summary_of(&tree.right).free;
+    let free = free_summary_over(left, right, &tree.key, tree.node_state);
+    refresh_free(free, &mut tree.max_free, &mut tree.alignments)
 }

@@ -12,7 +12,7 @@
 
 use super::balance::update;
 use super::link::link_at;
-use super::summary::{Change, free_summary_of, refresh_free, summary_of};
+use super::summary::{Change, free_summary_over, refresh_free, summary_of};
 use super::{Child, InnerNode};
 use crate::Steps;
 use crate::ordering::compare;
@@ -86,13 +86,12 @@ pub(crate) fn split_at(at: &mut Child, split: &mut Split, count: &mut Steps) -> 
     };
     match change {
         Change::Nothing => Change::Nothing,
-        Change::FreeOnly => refresh_free(
-            summary_of(&tree.left).free,
-            summary_of(&tree.right).free,
-            free_summary_of(&tree.key, tree.node_state),
-            &mut tree.max_free,
-            &mut tree.alignments,
-        ),
+        Change::FreeOnly => {
+            let left = summary_of(&tree.left).free;
+            let right = summary_of(&tree.right).free;
+            let free = free_summary_over(left, right, &tree.key, tree.node_state);
+            refresh_free(free, &mut tree.max_free, &mut tree.alignments)
+        }
         Change::Height => {
             let updated = update(
                 &mut tree.left,

@@ -95,6 +95,30 @@ pub(super) fn summary_of(child: &Child) -> Summary {
     }
 }
 
+/// Returns the free summary of a node from those of its children and its own block.
+///
+/// It looks at the key only if the block is free.
+#[inline(always)]
+pub(super) fn free_summary_over(
+    left: FreeSummary,
+    right: FreeSummary,
+    key: &RangeInclusive,
+    node_state: NodeState,
+) -> FreeSummary {
+    let max_free = left.max_free.max(right.max_free);
+    let alignments = left.alignments.max(right.alignments);
+    match node_state {
+        NodeState::Allocated => FreeSummary {
+            max_free,
+            alignments,
+        },
+        NodeState::Free => FreeSummary {
+            max_free: max_free.max(key.len()),
+            alignments: alignments.max(alignment_count(key)),
+        },
+    }
+}
+
 /// Returns the summary of a node with these children and this block.
 #[inline(always)]
 pub(super) fn summary_over(
@@ -105,41 +129,28 @@ pub(super) fn summary_over(
 ) -> Summary {
     let first = summary_of(left);
     let second = summary_of(right);
-    let own = free_summary_of(key, node_state);
     Summary {
         height: first.height.max(second.height) + 1,
-        free: FreeSummary {
-            max_free: first
-                .free
-                .max_free
-                .max(second.free.max_free)
-                .max(own.max_free),
-            alignments: first
-                .free
-                .alignments
-                .max(second.free.alignments)
-                .max(own.alignments),
-        },
+        free: free_summary_over(first.free, second.free, key, node_state),
     }
 }
 
-/// Updates the cached free summary of a node from those of its children and its own block. Returns
-/// the change.
+/// Updates the cached free summary of a node. Returns the change.
 #[inline(always)]
 pub(super) fn refresh_free(
-    left: FreeSummary,
-    right: FreeSummary,
-    own: FreeSummary,
+    free: FreeSummary,
     cached_max_free: &mut u64,
     cached_alignments: &mut u8,
 ) -> Change {
-    let max_free = left.max_free.max(right.max_free).max(own.max_free);
-    let alignments = left.alignments.max(right.alignments).max(own.alignments);
-    if max_free == *cached_max_free && alignments == *cached_alignments {
-        return Change::Nothing;
+    if free.max_free == *cached_max_free {
+        if free.alignments == *cached_alignments {
+            return Change::Nothing;
+        }
+        *cached_alignments = free.alignments;
+        return Change::FreeOnly;
     }
-    *cached_max_free = max_free;
-    *cached_alignments = alignments;
+    *cached_max_free = free.max_free;
+    *cached_alignments = free.alignments;
     Change::FreeOnly
 }
 

@@ -3,12 +3,13 @@
 //! Iteration over the blocks of a tree, and recursive functions that do not count nodes.
 //!
 //! A `Walk` stores its path in an array of 49 links, so it does not allocate. Two walks side by
-//! side find the first difference of two trees of different shapes. `copying`, `encoding` and
-//! `held` are recursive. `encoding` is in this folder because it reads the fields of nodes.
+//! side find the first difference of two trees of different shapes. `copying`, `encoding`, `held` and
+//! `gaps` are recursive. `encoding` is in this folder because it reads the fields of nodes.
 
 pub(crate) mod comparing;
 pub(crate) mod copying;
 pub(crate) mod encoding;
+pub(crate) mod gaps;
 pub(crate) mod held;
 
 use super::{Child, InnerNode};

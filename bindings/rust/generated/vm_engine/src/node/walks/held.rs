@@ -21,6 +21,23 @@ pub(crate) fn has_held(tree: &Child, key: &RangeInclusive) -> bool {
     }
 }
 
+/// Returns the allocated block that contains an address, or `None` if there is no such block. It
+/// follows one path from the root.
+pub(crate) fn held_at(tree: &Child, address: u64) -> Option<RangeInclusive> {
+    let Some(node) = tree else { return None };
+    let node: &InnerNode = node;
+    if address < node.key.start() {
+        return held_at(&node.left, address);
+    }
+    if node.key.end() < address {
+        return held_at(&node.right, address);
+    }
+    match node.node_state {
+        NodeState::Free => None,
+        NodeState::Allocated => Some(node.key),
+    }
+}
+
 /// Returns the number of allocated blocks.
 pub(crate) fn count_held(tree: &Child) -> u64 {
     let Some(node) = tree else { return 0 };
