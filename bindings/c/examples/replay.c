@@ -170,10 +170,10 @@ static void free_id(struct session *session, const uint64_t *number) {
 }
 
 static void has_id(struct session *session, const uint64_t *number) {
-    bool has = false;
+    bool has;
+    dvs_status status = dvs_id_is_held(session->ids, (uint32_t)number[0], &has);
 
-    dvs_id_is_held(session->ids, (uint32_t)number[0], &has);
-    puts(has ? "yes" : "no");
+    puts(status == DVS_OK && has ? "yes" : "no");
 }
 
 static void make_manager(struct session *session, const uint64_t *number) {

@@ -54,7 +54,7 @@ static uint64_t c_exact(void) {
         range.start = range.end = freed[i];
         check(dvs_range_free(space, range, NULL) == DVS_OK);
     }
-    check(dvs_address_allocator_destroy(space) == DVS_OK);
+    dvs_address_allocator_destroy(space);
     return sum;
 }
 
@@ -73,7 +73,7 @@ static uint64_t c_first(void) {
               DVS_OK);
         sum += range.end;
     }
-    check(dvs_address_allocator_destroy(space) == DVS_OK);
+    dvs_address_allocator_destroy(space);
     return sum;
 }
 

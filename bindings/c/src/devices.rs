@@ -2,7 +2,7 @@
 
 use crate::handle::{create, with_mut, with_mut_unit, with_ref, Handle};
 use crate::texts::{read, save};
-use crate::{status_of, dvs_range, dvs_refusal, dvs_status, CallError, Out};
+use crate::{dvs_range, dvs_refusal, dvs_status, status_of, CallError, Out};
 use rattle::Global;
 use std::ffi::c_char;
 use vm_allocator::{AllocPolicy, Error};

@@ -2,6 +2,7 @@
 
 use crate::{CallError, Out};
 use std::cell::UnsafeCell;
+use std::ffi::c_int;
 use std::sync::atomic::{AtomicUsize, Ordering};
 use vm_allocator::Result as Answer;
 
@@ -58,18 +59,11 @@ impl<T> Handle<T> {
 
     /// Returns the object for writing, or `Busy` if it is being visited.
     #[allow(clippy::mut_from_ref)]
-    fn get_mut(&self) -> Result<&mut T, CallError> {
+    pub(crate) fn get_mut(&self) -> Result<&mut T, CallError> {
         self.check_not_visited()?;
         // SAFETY: no visit reads the object, and the header forbids other calls on it at the same
         // time.
         Ok(unsafe { &mut *self.object.get() })
-    }
-
-    /// Calls `visit` with the object. It cannot be changed meanwhile.
-    pub(crate) fn while_visiting(&self, visit: impl FnOnce(&T)) {
-        self.visits.fetch_add(1, Ordering::Relaxed);
-        visit(self.get());
-        self.visits.fetch_sub(1, Ordering::Relaxed);
     }
 
     fn check_not_visited(&self) -> Result<(), CallError> {
@@ -78,6 +72,24 @@ impl<T> Handle<T> {
             _ => Err(CallError::Busy),
         }
     }
+}
+
+/// Calls `visitor` with each item of an object, until it returns a number other than 0. The object
+/// cannot be changed meanwhile.
+pub(crate) fn visit<'a, T, I: Iterator>(
+    handle: Option<&'a Handle<T>>,
+    items: impl FnOnce(&'a T) -> I,
+    visitor: Option<impl Fn(I::Item) -> c_int>,
+) -> Result<(), CallError> {
+    let (handle, visitor) = (non_null(handle)?, non_null(visitor)?);
+    handle.visits.fetch_add(1, Ordering::Relaxed);
+    for item in items(handle.get()) {
+        if visitor(item) != 0 {
+            break;
+        }
+    }
+    handle.visits.fetch_sub(1, Ordering::Relaxed);
+    Ok(())
 }
 
 /// Creates an object, and writes its pointer to `out`.

@@ -1,14 +1,17 @@
 //! The id allocator.
 
-use crate::handle::{create, with_mut, with_mut_unit, with_ref, Handle};
+use crate::handle::{create, non_null, visit, with_mut, with_mut_unit, with_ref, Handle};
 use crate::texts::{read, save};
-use crate::{status_of, dvs_refusal, dvs_status, Out};
+use crate::{dvs_refusal, dvs_status, status_of, CallError, Out};
 use rattle::Global;
-use std::ffi::c_char;
+use std::ffi::{c_char, c_int, c_void};
 use vm_allocator::IdAllocator;
 
 /// An id allocator behind a C pointer.
 pub type dvs_id_allocator = Handle<IdAllocator>;
+
+/// The visitor that C passes for allocated ids. If it unwinds, the process ends.
+pub type dvs_id_visitor = extern "C-unwind" fn(context: *mut c_void, id: u32) -> c_int;
 
 #[unsafe(no_mangle)]
 pub extern "C" fn dvs_id_allocator_new(
@@ -31,7 +34,10 @@ pub unsafe extern "C" fn dvs_id_allocator_destroy(allocator: *mut dvs_id_allocat
 }
 
 #[unsafe(no_mangle)]
-pub extern "C" fn dvs_id_allocate(allocator: Option<&dvs_id_allocator>, id: Out<u32>) -> dvs_status {
+pub extern "C" fn dvs_id_allocate(
+    allocator: Option<&dvs_id_allocator>,
+    id: Out<u32>,
+) -> dvs_status {
     let taken = with_mut(allocator, id, |allocator| allocator.allocate_id());
     status_of(taken, None)
 }
@@ -56,18 +62,54 @@ pub extern "C" fn dvs_id_free(
 pub extern "C" fn dvs_id_is_held(
     allocator: Option<&dvs_id_allocator>,
     id: u32,
-    is_allocated: Out<bool>,
+    is_held: Out<bool>,
 ) -> dvs_status {
-    let asked = with_ref(allocator, is_allocated, |allocator| {
+    let asked = with_ref(allocator, is_held, |allocator| {
         Ok(allocator.is_allocated(id))
     });
     status_of(asked, None)
 }
 
 #[unsafe(no_mangle)]
-pub extern "C" fn dvs_id_count(allocator: Option<&dvs_id_allocator>, count: Out<u64>) -> dvs_status {
+pub extern "C" fn dvs_id_count(
+    allocator: Option<&dvs_id_allocator>,
+    count: Out<u64>,
+) -> dvs_status {
     let asked = with_ref(allocator, count, |allocator| Ok(allocator.held_count()));
     status_of(asked, None)
+}
+
+#[unsafe(no_mangle)]
+pub extern "C" fn dvs_id_visit(
+    allocator: Option<&dvs_id_allocator>,
+    visitor: Option<dvs_id_visitor>,
+    context: *mut c_void,
+) -> dvs_status {
+    let visitor = visitor.map(|visitor| move |id| visitor(context, id));
+    status_of(visit(allocator, IdAllocator::held_ids, visitor), None)
+}
+
+#[unsafe(no_mangle)]
+pub extern "C" fn dvs_id_allocator_range(
+    allocator: Option<&dvs_id_allocator>,
+    first: Out<u32>,
+    last: Out<u32>,
+) -> dvs_status {
+    status_of(write_range(allocator, |ids| ids, first, last), None)
+}
+
+/// Writes the first and the last id of the allocator in an object.
+pub(crate) fn write_range<T>(
+    handle: Option<&Handle<T>>,
+    ids: impl FnOnce(&T) -> &IdAllocator,
+    first: Out<u32>,
+    last: Out<u32>,
+) -> Result<(), CallError> {
+    let (handle, first, last) = (non_null(handle)?, non_null(first)?, non_null(last)?);
+    let ids = ids(handle.get());
+    first.write(ids.range_base());
+    last.write(ids.range_end());
+    Ok(())
 }
 
 #[unsafe(no_mangle)]

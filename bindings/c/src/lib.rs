@@ -12,6 +12,7 @@
 mod devices;
 mod handle;
 mod ids;
+mod lists;
 mod ranges;
 mod status;
 mod texts;
@@ -19,7 +20,7 @@ mod texts;
 #[path = "../speed/through_rust.rs"]
 mod through_rust;
 
-use status::{status_of, dvs_refusal, dvs_status, CallError};
+use status::{dvs_refusal, dvs_status, status_of, CallError};
 use std::mem::MaybeUninit;
 use vm_allocator::RangeInclusive;
 

@@ -1,11 +1,11 @@
 //! The address allocator.
 
-use crate::handle::{create, non_null, with_mut, with_mut_unit, with_ref, Handle};
+use crate::handle::{create, visit, with_mut, with_mut_unit, with_ref, Handle};
 use crate::texts::{read, save};
-use crate::{status_of, dvs_range, dvs_refusal, dvs_status, CallError, Out};
+use crate::{dvs_range, dvs_refusal, dvs_status, status_of, CallError, Out};
 use rattle::Global;
 use std::ffi::{c_char, c_int, c_void};
-use vm_allocator::{AddressAllocator, AllocPolicy};
+use vm_allocator::{AddressAllocator, AllocPolicy, Error, RangeInclusive};
 
 /// An address allocator behind a C pointer.
 pub type dvs_address_allocator = Handle<AddressAllocator>;
@@ -27,9 +27,7 @@ pub extern "C" fn dvs_address_allocator_new(
 ///
 /// The allocator is null or from a call that creates one, and is not used after this call.
 #[unsafe(no_mangle)]
-pub unsafe extern "C" fn dvs_address_allocator_destroy(
-    allocator: *mut dvs_address_allocator,
-) {
+pub unsafe extern "C" fn dvs_address_allocator_destroy(allocator: *mut dvs_address_allocator) {
     // SAFETY: the caller's contract.
     unsafe { Handle::destroy(allocator) }
 }
@@ -133,28 +131,58 @@ pub extern "C" fn dvs_range_count(
 }
 
 #[unsafe(no_mangle)]
+pub extern "C" fn dvs_range_at(
+    allocator: Option<&dvs_address_allocator>,
+    address: u64,
+    range: Out<dvs_range>,
+) -> dvs_status {
+    let asked = with_ref(allocator, range, |allocator| {
+        let held = allocator.held_at(address);
+        Ok(held.ok_or(Error::ResourceNotAvailable)?.into())
+    });
+    status_of(asked, None)
+}
+
+#[unsafe(no_mangle)]
+pub extern "C" fn dvs_longest_gap(
+    allocator: Option<&dvs_address_allocator>,
+    length: Out<u64>,
+) -> dvs_status {
+    let asked = with_ref(allocator, length, |allocator| Ok(allocator.longest_gap()));
+    status_of(asked, None)
+}
+
+#[unsafe(no_mangle)]
+pub extern "C" fn dvs_clear_count(
+    allocator: Option<&dvs_address_allocator>,
+    count: Out<u64>,
+) -> dvs_status {
+    let asked = with_ref(allocator, count, |allocator| Ok(allocator.clear_count()));
+    status_of(asked, None)
+}
+
+#[unsafe(no_mangle)]
 pub extern "C" fn dvs_range_visit(
     allocator: Option<&dvs_address_allocator>,
     visitor: Option<dvs_range_visitor>,
     context: *mut c_void,
 ) -> dvs_status {
-    status_of(visit(allocator, visitor, context), None)
+    let visitor =
+        visitor.map(|visitor| move |range: RangeInclusive| visitor(context, range.into()));
+    status_of(
+        visit(allocator, AddressAllocator::held_ranges, visitor),
+        None,
+    )
 }
 
-fn visit(
+#[unsafe(no_mangle)]
+pub extern "C" fn dvs_gap_visit(
     allocator: Option<&dvs_address_allocator>,
     visitor: Option<dvs_range_visitor>,
     context: *mut c_void,
-) -> Result<(), CallError> {
-    let (allocator, visitor) = (non_null(allocator)?, non_null(visitor)?);
-    allocator.while_visiting(|allocator| {
-        for range in allocator.held_ranges() {
-            if visitor(context, range.into()) != 0 {
-                break;
-            }
-        }
-    });
-    Ok(())
+) -> dvs_status {
+    let visitor = visitor.map(|visitor| move |gap: RangeInclusive| visitor(context, gap.into()));
+    status_of(visit(allocator, AddressAllocator::gaps, visitor), None)
 }
 
 #[unsafe(no_mangle)]

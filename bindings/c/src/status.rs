@@ -26,9 +26,10 @@ const DVS_NULL: dvs_status = 14;
 const DVS_BUSY: dvs_status = 15;
 const DVS_NOT_JSON: dvs_status = 16;
 const DVS_NOT_A_STATE: dvs_status = 17;
+const DVS_INVALID_POLICY: dvs_status = 18;
 
 /// The text of each status, at the index of its number.
-const TEXTS: [&CStr; 18] = [
+const TEXTS: [&CStr; 19] = [
     c"The call succeeded.",
     c"Management operations on desired resource resulted in overflow.",
     c"The id is not in the range.",
@@ -47,6 +48,7 @@ const TEXTS: [&CStr; 18] = [
     c"The object is being visited and cannot be changed.",
     c"The text is not JSON.",
     c"The value does not encode a valid object.",
+    c"The policy is not valid.",
 ];
 
 /// The details of an error.
@@ -66,6 +68,7 @@ pub(crate) enum CallError {
     OutOfMemory,
     NotJson,
     NotAState,
+    InvalidPolicy,
     Call(Error),
 }
 
@@ -104,6 +107,7 @@ impl CallError {
             CallError::OutOfMemory => DVS_OUT_OF_MEMORY,
             CallError::NotJson => DVS_NOT_JSON,
             CallError::NotAState => DVS_NOT_A_STATE,
+            CallError::InvalidPolicy => DVS_INVALID_POLICY,
             CallError::Call(error) => status_of_error(error),
         }
     }
@@ -186,4 +190,18 @@ pub extern "C" fn dvs_status_text(status: u32) -> *const c_char {
 #[unsafe(no_mangle)]
 pub extern "C" fn dvs_version_text() -> *const c_char {
     concat!(env!("CARGO_PKG_VERSION"), "\0").as_ptr().cast()
+}
+
+/// The version is that of Cargo.toml. Cargo passes its three numbers as texts.
+#[unsafe(no_mangle)]
+pub extern "C" fn dvs_version_number() -> u32 {
+    [
+        env!("CARGO_PKG_VERSION_MAJOR"),
+        env!("CARGO_PKG_VERSION_MINOR"),
+        env!("CARGO_PKG_VERSION_PATCH"),
+    ]
+    .iter()
+    .fold(0, |number, part| {
+        100 * number + part.parse::<u32>().unwrap_or(0)
+    })
 }

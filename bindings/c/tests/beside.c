@@ -8,6 +8,6 @@ int main(void) {
 
     CHECK(dvs_address_allocator_new(0, 10, &space) == DVS_OK);
     CHECK(catches_its_panic());
-    CHECK(dvs_address_allocator_destroy(space) == DVS_OK);
+    dvs_address_allocator_destroy(space);
     return 0;
 }

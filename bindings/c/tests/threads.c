@@ -76,9 +76,9 @@ static void *use_own(void *context) {
         fill_ids(ids);
         plug_devices(manager);
     }
-    CHECK(dvs_address_allocator_destroy(space) == DVS_OK);
-    CHECK(dvs_id_allocator_destroy(ids) == DVS_OK);
-    CHECK(dvs_device_manager_destroy(manager) == DVS_OK);
+    dvs_address_allocator_destroy(space);
+    dvs_id_allocator_destroy(ids);
+    dvs_device_manager_destroy(manager);
     return NULL;
 }
 
@@ -109,7 +109,7 @@ static void *destroy_one(void *context) {
     dvs_address_allocator **space = (dvs_address_allocator **)context;
 
     CHECK(dvs_range_free(*space, range_of(0, 9), NULL) == DVS_OK);
-    CHECK(dvs_address_allocator_destroy(*space) == DVS_OK);
+    dvs_address_allocator_destroy(*space);
     return NULL;
 }
 
@@ -142,7 +142,7 @@ static void *look(void *context) {
         CHECK(dvs_range_count(space, &count) == DVS_OK && count == HELD);
         CHECK(dvs_range_visit(space, count_range, &sum) == DVS_OK && sum == 3 * HELD);
         CHECK(dvs_range_is_held(space, range_of(0, 2), &is_held, NULL) == DVS_OK && is_held);
-        CHECK(dvs_text_destroy(saved_space(space, &length)) == DVS_OK);
+        dvs_text_destroy(saved_space(space, &length));
     }
     return NULL;
 }
@@ -160,7 +160,7 @@ static void look_together(void) {
         run(&threads[i], NULL, look, space);
     join_all(threads, THREADS);
     CHECK(dvs_range_free(space, range, NULL) == DVS_OK);
-    CHECK(dvs_address_allocator_destroy(space) == DVS_OK);
+    dvs_address_allocator_destroy(space);
 }
 
 /* ---- Visits at the same time ---- */
@@ -190,7 +190,7 @@ static void visit_together(void) {
         run(&threads[i], NULL, visit_often, space);
     join_all(threads, THREADS);
     CHECK(dvs_range_free(space, range, NULL) == DVS_OK);
-    CHECK(dvs_address_allocator_destroy(space) == DVS_OK);
+    dvs_address_allocator_destroy(space);
 }
 
 /* ---- On a small stack ---- */
@@ -243,8 +243,8 @@ static void *go_deep(void *context) {
     free(too_deep);
     free(text);
     CHECK(dvs_range_count(space, &count) == DVS_OK && count == LEVELS);
-    CHECK(dvs_text_destroy(saved_space(space, &length)) == DVS_OK);
-    CHECK(dvs_address_allocator_destroy(space) == DVS_OK);
+    dvs_text_destroy(saved_space(space, &length));
+    dvs_address_allocator_destroy(space);
     return NULL;
 }
 

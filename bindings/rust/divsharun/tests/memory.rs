@@ -58,7 +58,7 @@ const TRIED: [(u64, TriedCall); 14] = [
 ];
 
 /// Calls that end the process, each with the number of its allocations on [`two_held`]. A set or a
-/// map of the Rust standard library allocates one block for a few ids or devices.
+/// map allocates two blocks for a few ids or devices.
 const ENDED: [(u64, EndedCall); 10] = [
     (1, |_| assert!(AddressAllocator::new(0, 64).is_ok())),
     (5, |space| drop(space.clone())),
@@ -72,10 +72,10 @@ const ENDED: [(u64, EndedCall); 10] = [
     (2, |space| {
         assert!(space.allocate_counted(4, 1, ExactMatch(4)).0.is_ok())
     }),
-    (1, |_| drop(one_free_id())),
-    (2, |_| drop(one_free_id().clone())),
+    (2, |_| drop(one_free_id())),
+    (4, |_| drop(one_free_id().clone())),
     (1, |_| assert!(DeviceManager::new(0, 0, 0, 64).is_ok())),
-    (4, |_| reserve_and_release()),
+    (6, |_| reserve_and_release()),
 ];
 
 fn main() {

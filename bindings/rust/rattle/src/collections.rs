@@ -118,12 +118,10 @@ impl<K: Ord + Copy, V> BTreeMap<K, V> {
     /// Makes room for a new key at a place, and returns the place that it has then. An error changes no
     /// entry.
     fn make_room(&mut self, place: Place, key: K) -> Result<Place, AllocError> {
-        try_reserve(&mut self.chunks)?;
-        try_reserve(&mut self.bounds)?;
-        let count = self.chunks.len();
         let Some(chunk) = self.chunks.get_mut(place.chunk) else {
             let mut chunk = Vec::new();
             reserve(&mut chunk, 1)?;
+            try_reserve(&mut self.chunks)?;
             self.chunks.push(chunk);
             return Ok(place);
         };
@@ -131,25 +129,35 @@ impl<K: Ord + Copy, V> BTreeMap<K, V> {
             try_reserve(chunk)?;
             return Ok(place);
         }
-        // Half of the chunk goes to a new chunk after it. If keys come in order, all or nothing does.
-        let kept = match place {
-            Place { chunk: 0, entry: 0 } => 0,
-            _ if place.chunk + 1 == count && place.entry == chunk.len() => chunk.len(),
-            _ => chunk.len() / 2,
-        };
+        self.split(place, key)
+    }
+
+    /// Moves a part of a full chunk to a new chunk after it, and returns the place of the new key.
+    ///
+    /// Half of the chunk is moved. If keys come in order, all of it or nothing is moved.
+    fn split(&mut self, place: Place, key: K) -> Result<Place, AllocError> {
         let mut lower = Vec::new();
         reserve(&mut lower, Self::MAX_ENTRIES)?;
+        try_reserve(&mut self.chunks)?;
+        try_reserve(&mut self.bounds)?;
+        let is_last = place.chunk + 1 == self.chunks.len();
+        let chunk = &mut self.chunks[place.chunk];
+        let kept = match place {
+            Place { chunk: 0, entry: 0 } => 0,
+            _ if is_last && place.entry == chunk.len() => chunk.len(),
+            _ => chunk.len() / 2,
+        };
         let goes_lower = place.entry > kept || kept == chunk.len();
         lower.extend(chunk.drain(kept..));
         let bound = lower.first().map_or(key, |entry: &(K, V)| entry.0);
         self.chunks.insert(place.chunk + 1, lower);
         self.bounds.insert(place.chunk, bound);
-        Ok(match goes_lower {
-            true => Place {
-                chunk: place.chunk + 1,
-                entry: place.entry - kept,
-            },
-            false => place,
+        if !goes_lower {
+            return Ok(place);
+        }
+        Ok(Place {
+            chunk: place.chunk + 1,
+            entry: place.entry - kept,
         })
     }
 

@@ -1,0 +1,336 @@
+/* Checks the calls that list, look up and count, and the calls with arrays. */
+#include "check.h"
+
+enum { MOST = 8 };
+
+/* What a visitor was called with. */
+struct seen {
+    size_t count;
+    size_t stop_at;
+    dvs_range ranges[MOST];
+    uint32_t ids[MOST];
+};
+
+static struct seen all_of(void) {
+    struct seen seen;
+
+    memset(&seen, 0, sizeof seen);
+    seen.stop_at = MOST;
+    return seen;
+}
+
+static int see_range(void *context, dvs_range range) {
+    struct seen *seen = (struct seen *)context;
+
+    seen->ranges[seen->count++] = range;
+    return seen->count == seen->stop_at;
+}
+
+static int see_id(void *context, uint32_t id) {
+    struct seen *seen = (struct seen *)context;
+
+    seen->ids[seen->count++] = id;
+    return seen->count == seen->stop_at;
+}
+
+static int see_device(void *context, dvs_device device) {
+    struct seen *seen = (struct seen *)context;
+
+    seen->ids[seen->count] = device.id;
+    return see_range(context, device.range);
+}
+
+static dvs_request request_of(uint64_t size, uint64_t alignment, uint32_t policy, uint64_t start) {
+    dvs_request request;
+
+    request.size = size;
+    request.alignment = alignment;
+    request.policy = policy;
+    request.start = start;
+    return request;
+}
+
+/* ---- Spaces with ranges ---- */
+
+static dvs_address_allocator *two_held(void) {
+    dvs_range held[2];
+    dvs_address_allocator *space;
+
+    held[0] = range_of(0x1000, 0x1fff);
+    held[1] = range_of(0x3000, 0x37ff);
+    CHECK(dvs_address_allocator_with_held(0, 0x4000, held, 2, &space, NULL) == DVS_OK);
+    return space;
+}
+
+static void make_with_ranges(void) {
+    dvs_address_allocator *space = two_held();
+    struct seen seen = all_of();
+
+    CHECK(dvs_range_visit(space, see_range, &seen) == DVS_OK && seen.count == 2);
+    CHECK(is_range(seen.ranges[0], 0x1000, 0x1fff) && is_range(seen.ranges[1], 0x3000, 0x37ff));
+    dvs_address_allocator_destroy(space);
+    CHECK(dvs_address_allocator_with_held(0, 4, NULL, 0, &space, NULL) == DVS_OK);
+    dvs_address_allocator_destroy(space);
+}
+
+static void refuse_ranges(void) {
+    static const struct row {
+        uint64_t base, size;
+        uint64_t start, end;
+        dvs_status status;
+    } rows[] = {
+        {0, 0, 5, 4, DVS_INVALID_RANGE},
+        {0, 0, 5, 5, DVS_UNDERFLOW},
+        {2, UINT64_MAX, 5, 5, DVS_OVERFLOW},
+        {0, 16, 3, 5, DVS_RESOURCE_NOT_AVAILABLE},
+        {0, 16, UINT64_MAX, UINT64_MAX, DVS_OVERFLOW},
+        {0, 16, 15, 16, DVS_RESOURCE_NOT_AVAILABLE},
+        {1, UINT64_MAX, 7, UINT64_MAX, DVS_OVERFLOW},
+    };
+    size_t i;
+
+    for (i = 0; i < sizeof rows / sizeof rows[0]; i++) {
+        dvs_address_allocator *space = NULL;
+        dvs_refusal refusal;
+        dvs_range held[2];
+        bool is_invalid = rows[i].status == DVS_INVALID_RANGE;
+
+        held[0] = range_of(1, 3);
+        held[1] = range_of(rows[i].start, rows[i].end);
+        CHECK(dvs_address_allocator_with_held(rows[i].base, rows[i].size, held, 2, &space,
+                                              &refusal) == rows[i].status);
+        CHECK(space == NULL);
+        CHECK(is_range(refusal.range, is_invalid ? 5 : 0, is_invalid ? 4 : 0));
+    }
+}
+
+/* ---- Look-ups ---- */
+
+static void look_up_ranges(void) {
+    dvs_address_allocator *space = two_held();
+    static const uint64_t clear[] = {0, 0xfff, 0x2000, 0x2fff, 0x3800, 0x3fff, 0x4000, UINT64_MAX};
+    dvs_range range;
+    uint64_t number;
+    size_t i;
+
+    CHECK(dvs_range_at(space, 0x1000, &range) == DVS_OK && is_range(range, 0x1000, 0x1fff));
+    CHECK(dvs_range_at(space, 0x1fff, &range) == DVS_OK && is_range(range, 0x1000, 0x1fff));
+    CHECK(dvs_range_at(space, 0x3123, &range) == DVS_OK && is_range(range, 0x3000, 0x37ff));
+    for (i = 0; i < sizeof clear / sizeof clear[0]; i++)
+        CHECK(dvs_range_at(space, clear[i], &range) == DVS_RESOURCE_NOT_AVAILABLE);
+    CHECK(is_range(range, 0x3000, 0x37ff));
+    CHECK(dvs_longest_gap(space, &number) == DVS_OK && number == 0x1000);
+    CHECK(dvs_clear_count(space, &number) == DVS_OK && number == 0x2800);
+    dvs_address_allocator_destroy(space);
+}
+
+static void visit_gaps(void) {
+    dvs_address_allocator *space = two_held();
+    struct seen seen = all_of();
+    dvs_range range;
+    uint64_t number;
+
+    CHECK(dvs_gap_visit(space, see_range, &seen) == DVS_OK && seen.count == 3);
+    CHECK(is_range(seen.ranges[0], 0, 0xfff) && is_range(seen.ranges[1], 0x2000, 0x2fff));
+    CHECK(is_range(seen.ranges[2], 0x3800, 0x3fff));
+    seen = all_of();
+    seen.stop_at = 2;
+    CHECK(dvs_gap_visit(space, see_range, &seen) == DVS_OK && seen.count == 2);
+    while (dvs_longest_gap(space, &number) == DVS_OK && number > 0)
+        CHECK(dvs_range_allocate_first(space, number, 1, &range, NULL) == DVS_OK);
+    seen = all_of();
+    CHECK(dvs_gap_visit(space, see_range, &seen) == DVS_OK && seen.count == 0);
+    CHECK(dvs_clear_count(space, &number) == DVS_OK && number == 0);
+    dvs_address_allocator_destroy(space);
+}
+
+/* ---- Several requests ---- */
+
+static void allocate_all(void) {
+    dvs_address_allocator *space = two_held();
+    dvs_request requests[3];
+    dvs_range ranges[3];
+    size_t failed = MOST;
+    uint64_t count;
+
+    requests[0] = request_of(0x800, 0x800, DVS_LAST, 7);
+    requests[1] = request_of(0x10, 1, DVS_FIRST, 0);
+    requests[2] = request_of(0x100, 0x100, DVS_EXACT, 0x2100);
+    CHECK(dvs_address_allocator_allocate_all(space, requests, 3, ranges, &failed, NULL) == DVS_OK);
+    CHECK(failed == 3);
+    CHECK(is_range(ranges[0], 0x3800, 0x3fff) && is_range(ranges[1], 0, 0xf));
+    CHECK(is_range(ranges[2], 0x2100, 0x21ff));
+    CHECK(dvs_address_allocator_allocate_all(space, NULL, 0, NULL, NULL, NULL) == DVS_OK);
+    CHECK(dvs_range_count(space, &count) == DVS_OK && count == 5);
+    dvs_address_allocator_destroy(space);
+}
+
+static void allocate_none(void) {
+    static const struct row {
+        dvs_request request;
+        dvs_status status;
+    } rows[] = {
+        {{0, 1, 0, DVS_FIRST}, DVS_INVALID_SIZE},
+        {{1, 3, 0, DVS_FIRST}, DVS_INVALID_ALIGNMENT},
+        {{1, 2, 1, DVS_EXACT}, DVS_UNALIGNED_ADDRESS},
+        {{0x1000, 1, 0x1000, DVS_EXACT}, DVS_INVALID_STATE_TRANSITION},
+        {{0x1000, 1, 0, DVS_LAST}, DVS_RESOURCE_NOT_AVAILABLE},
+        {{1, 1, UINT64_MAX, DVS_EXACT}, DVS_OVERFLOW},
+        {{1, 1, 0, DVS_EXACT + 1}, DVS_INVALID_POLICY},
+        {{1, 1, 0, UINT32_MAX}, DVS_INVALID_POLICY},
+    };
+    dvs_address_allocator *space = two_held();
+    dvs_address_allocator *before = two_held();
+    dvs_range ranges[4];
+    dvs_refusal refusal;
+    size_t i;
+
+    for (i = 0; i < sizeof rows / sizeof rows[0]; i++) {
+        dvs_request requests[4];
+        struct seen now = all_of(), then = all_of();
+        size_t failed = MOST;
+
+        requests[0] = request_of(0x1000, 1, DVS_FIRST, 0);
+        requests[1] = request_of(0x800, 1, DVS_EXACT, 0x2000);
+        requests[2] = rows[i].request;
+        requests[3] = request_of(0, 0, DVS_FIRST, 0);
+        ranges[0] = range_of(1, 2);
+        CHECK(dvs_address_allocator_allocate_all(space, requests, 4, ranges, &failed, &refusal) ==
+              rows[i].status);
+        CHECK(failed == 2 && is_range(ranges[0], 1, 2) && refusal.id == 0);
+        CHECK(dvs_range_visit(space, see_range, &now) == DVS_OK);
+        CHECK(dvs_range_visit(before, see_range, &then) == DVS_OK);
+        CHECK(memcmp(&now, &then, sizeof now) == 0);
+    }
+    CHECK(dvs_address_allocator_allocate_all(space, NULL, SIZE_MAX, ranges, NULL, NULL) ==
+          DVS_NULL);
+    dvs_address_allocator_destroy(space);
+    dvs_address_allocator_destroy(before);
+}
+
+/* ---- Ids and devices ---- */
+
+static int change_ids(void *context, uint32_t id) {
+    dvs_id_allocator *ids = (dvs_id_allocator *)context;
+    uint32_t next;
+
+    CHECK(dvs_id_free(ids, id, NULL) == DVS_BUSY && dvs_id_allocate(ids, &next) == DVS_BUSY);
+    dvs_id_allocator_destroy(ids);
+    return 1;
+}
+
+static void visit_ids(void) {
+    dvs_id_allocator *ids;
+    struct seen seen = all_of();
+    uint32_t first = 0, last = 0, id;
+    int i;
+
+    CHECK(dvs_id_allocator_new(UINT32_MAX - 3, UINT32_MAX, &ids, NULL) == DVS_OK);
+    CHECK(dvs_id_allocator_range(ids, &first, &last) == DVS_OK);
+    CHECK(first == UINT32_MAX - 3 && last == UINT32_MAX);
+    CHECK(dvs_id_visit(ids, see_id, &seen) == DVS_OK && seen.count == 0);
+    for (i = 0; i < 4; i++)
+        CHECK(dvs_id_allocate(ids, &id) == DVS_OK);
+    CHECK(dvs_id_free(ids, UINT32_MAX - 1, NULL) == DVS_OK);
+    CHECK(dvs_id_visit(ids, see_id, &seen) == DVS_OK && seen.count == 3);
+    CHECK(seen.ids[0] == UINT32_MAX - 3 && seen.ids[1] == UINT32_MAX - 2 &&
+          seen.ids[2] == UINT32_MAX);
+    CHECK(dvs_id_visit(ids, change_ids, ids) == DVS_OK);
+    dvs_id_allocator_destroy(ids);
+}
+
+static int change_devices(void *context, dvs_device device) {
+    dvs_device_manager *manager = (dvs_device_manager *)context;
+
+    CHECK(dvs_device_release(manager, device.id, NULL) == DVS_BUSY);
+    dvs_device_manager_destroy(manager);
+    return 1;
+}
+
+static void look_up_devices(void) {
+    dvs_device_manager *manager;
+    struct seen seen = all_of();
+    uint32_t first = 0, last = 0;
+    uint64_t count;
+    dvs_range space;
+    dvs_device device;
+
+    CHECK(dvs_device_manager_new(5, 7, 0x1000, 0x1000, &manager, NULL) == DVS_OK);
+    CHECK(dvs_device_manager_space(manager, &space) == DVS_OK && is_range(space, 0x1000, 0x1fff));
+    CHECK(dvs_device_manager_ids(manager, &first, &last) == DVS_OK && first == 5 && last == 7);
+    CHECK(dvs_device_reserve_last(manager, 0x100, 1, &device, NULL) == DVS_OK);
+    CHECK(dvs_device_reserve_first(manager, 0x10, 1, &device, NULL) == DVS_OK);
+    CHECK(dvs_device_reserve_first(manager, 0x10, 1, &device, NULL) == DVS_OK);
+    CHECK(dvs_device_release(manager, 6, NULL) == DVS_OK);
+    CHECK(dvs_device_count(manager, &count) == DVS_OK && count == 2);
+    CHECK(dvs_device_visit(manager, see_device, &seen) == DVS_OK && seen.count == 2);
+    CHECK(seen.ids[0] == 5 && is_range(seen.ranges[0], 0x1f00, 0x1fff));
+    CHECK(seen.ids[1] == 7 && is_range(seen.ranges[1], 0x1010, 0x101f));
+    CHECK(dvs_device_at(manager, 0x101f, &device) == DVS_OK && device.id == 7);
+    CHECK(is_range(device.range, 0x1010, 0x101f));
+    CHECK(dvs_device_at(manager, 0x1f00, &device) == DVS_OK && device.id == 5);
+    CHECK(dvs_device_at(manager, 0x1000, &device) == DVS_RESOURCE_NOT_AVAILABLE && device.id == 5);
+    CHECK(dvs_device_at(manager, UINT64_MAX, &device) == DVS_RESOURCE_NOT_AVAILABLE);
+    CHECK(dvs_device_visit(manager, change_devices, manager) == DVS_OK);
+    dvs_device_manager_destroy(manager);
+}
+
+/* ---- Null pointers ---- */
+
+static void give_null(void) {
+    dvs_address_allocator *space = two_held();
+    dvs_id_allocator *ids;
+    dvs_device_manager *manager;
+    dvs_range range;
+    dvs_request request = request_of(1, 1, DVS_FIRST, 0);
+    dvs_device device;
+    uint64_t number;
+    uint32_t id;
+
+    CHECK(dvs_id_allocator_new(1, 2, &ids, NULL) == DVS_OK);
+    CHECK(dvs_device_manager_new(1, 2, 3, 4, &manager, NULL) == DVS_OK);
+    CHECK(dvs_address_allocator_with_held(0, 4, NULL, 1, &space, NULL) == DVS_NULL);
+    CHECK(dvs_address_allocator_with_held(0, 0, NULL, 0, NULL, NULL) == DVS_NULL);
+    CHECK(dvs_address_allocator_allocate_all(NULL, &request, 1, &range, NULL, NULL) == DVS_NULL);
+    CHECK(dvs_address_allocator_allocate_all(space, NULL, 1, &range, NULL, NULL) == DVS_NULL);
+    CHECK(dvs_address_allocator_allocate_all(space, &request, 1, NULL, NULL, NULL) == DVS_NULL);
+    CHECK(dvs_range_at(NULL, 0, &range) == DVS_NULL && dvs_range_at(space, 0, NULL) == DVS_NULL);
+    CHECK(dvs_longest_gap(NULL, &number) == DVS_NULL && dvs_longest_gap(space, NULL) == DVS_NULL);
+    CHECK(dvs_clear_count(NULL, &number) == DVS_NULL && dvs_clear_count(space, NULL) == DVS_NULL);
+    CHECK(dvs_gap_visit(NULL, see_range, NULL) == DVS_NULL);
+    CHECK(dvs_gap_visit(space, NULL, NULL) == DVS_NULL);
+    CHECK(dvs_id_visit(NULL, see_id, NULL) == DVS_NULL &&
+          dvs_id_visit(ids, NULL, NULL) == DVS_NULL);
+    CHECK(dvs_id_allocator_range(NULL, &id, &id) == DVS_NULL);
+    CHECK(dvs_id_allocator_range(ids, NULL, &id) == DVS_NULL);
+    CHECK(dvs_id_allocator_range(ids, &id, NULL) == DVS_NULL);
+    CHECK(dvs_device_visit(NULL, see_device, NULL) == DVS_NULL);
+    CHECK(dvs_device_visit(manager, NULL, NULL) == DVS_NULL);
+    CHECK(dvs_device_manager_space(NULL, &range) == DVS_NULL);
+    CHECK(dvs_device_manager_space(manager, NULL) == DVS_NULL);
+    CHECK(dvs_device_manager_ids(NULL, &id, &id) == DVS_NULL);
+    CHECK(dvs_device_manager_ids(manager, NULL, &id) == DVS_NULL);
+    CHECK(dvs_device_manager_ids(manager, &id, NULL) == DVS_NULL);
+    CHECK(dvs_device_count(NULL, &number) == DVS_NULL);
+    CHECK(dvs_device_count(manager, NULL) == DVS_NULL);
+    CHECK(dvs_device_at(NULL, 0, &device) == DVS_NULL);
+    CHECK(dvs_device_at(manager, 0, NULL) == DVS_NULL);
+    dvs_address_allocator_destroy(space);
+    dvs_id_allocator_destroy(ids);
+    dvs_device_manager_destroy(manager);
+}
+
+int main(void) {
+    make_with_ranges();
+    refuse_ranges();
+    look_up_ranges();
+    visit_gaps();
+    allocate_all();
+    allocate_none();
+    visit_ids();
+    look_up_devices();
+    give_null();
+    CHECK(dvs_version_number() == DVS_VERSION_NUMBER);
+    puts("enumerate: every list, look-up and array checked");
+    return 0;
+}
