@@ -678,7 +678,8 @@ int main(void) {
     say_words();
     check_version();
     for (status = 0; status < STATUSES; status++)
-        CHECK(seen[status] || status == DVS_OVERLAP || status == DVS_OUT_OF_MEMORY);
+        CHECK(seen[status] || status == DVS_OVERLAP || status == DVS_OUT_OF_MEMORY ||
+              status == DVS_INVALID_POLICY);
     puts("calls: every call and every status checked");
     return 0;
 }
