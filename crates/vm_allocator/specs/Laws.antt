@@ -1,4 +1,5 @@
 pub mod HistoryLaws
+pub mod SeveralLaws
 pub mod ValueLaws
 pub mod IdLaws
 pub mod IdHistoryLaws

@@ -5,3 +5,4 @@ mod histories;
 mod id_histories;
 mod ids;
 mod saved;
+mod several;
