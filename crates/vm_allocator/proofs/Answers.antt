@@ -5,3 +5,4 @@ pub mod Several
 pub mod SeveralParts
 pub mod HeldOnes
 pub mod HeldFaults
+pub mod LongestGap

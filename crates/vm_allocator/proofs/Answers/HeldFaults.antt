@@ -1,20 +1,21 @@
 -- If a range cannot be held after others, `ExactMatch` has the same error for it.
-use Rattle.std.proofs.Common.{◌≡◌, ℕ, ◌+◌, ◌≤◌, ◌<◌, List, [], ◌∷◌, ◌++◌, true, false, cond, eqb, ltb, eq-eqb, Option, Some, None, Result, Err, refl, sym, ◌∙◌, arith, subst, ⊎_elim}
+use Rattle.std.proofs.Common.{◌≡◌, ℕ, ◌+◌, ◌≤◌, ◌<◌, List, [], ◌∷◌, ◌++◌, true, false, cond, eqb, ltb, eq-eqb, Option, Some, None, Result, Err, refl, ap, ◌∙◌, arith, subst, ⊎_elim}
 use Rattle.std.specs.List.{All, Contains}
-use Rattle.std.proofs.lemmas.Bool.{ltb-true, ltb-false, le-ltb, eqb-true, ne_eqb}
+use Rattle.std.proofs.lemmas.Bool.{ltb-true, ltb-false, eqb-true, cases_lt}
 use Rattle.std.proofs.lemmas.List.Elements.{All-head, All-tail}
-use Rattle.vm_ranges.specs.Range.{Range, MAX, IsIn, address_count, span}
+use Rattle.vm_ranges.specs.Range.{Range, MAX, IsRange, IsIn, address_count, span}
 use Rattle.vm_ranges.specs.Alignment.{IsAlignment}
 use Rattle.vm_ranges.specs.Request.{IsRequest, IsStartAligned, request_for}
 use Rattle.vm_engine.specs.Address.{AddressState, AreInOrder}
 use Rattle.vm_engine.specs.Answer.{ByStart, ByExactPolicy, Grants, Allocates}
 use Rattle.vm_engine.specs.Held.{range_fault, or_else, first_fault}
-use Rattle.vm_allocator.specs.Laws.SeveralLaws.{FaultIsThatOfExactMatch}
+use Rattle.vm_allocator.specs.Laws.SeveralLaws.{AreIncreasing, FaultIsThatOfExactMatch}
 use Rattle.vm_ranges.specs.declared.error.Error.{Error}
 use Rattle.vm_ranges.specs.declared.error.Error.TheVariants.{Overflow, ResourceNotAvailable}
 use Rattle.vm_ranges.specs.declared.constraint.AllocPolicy.TheVariants.{ExactMatch}
 use Rattle.vm_engine.proofs.Blocks.PlainWords.{IsHeldAddress, held_contains, held_address, all_miss}
 use Rattle.vm_engine.proofs.Answers.Filling.{request_grants}
+use Rattle.vm_allocator.proofs.Answers.HeldOnes.{held_if_no_fault}
 
 module _ (space : Range) (before : List Range) (lo : ℕ) (r : Range) (some : r.start ≤ r.end) (top : r.end ≤ MAX) (from : space.start ≤ lo) (behind : lo ≤ r.start) (above : (x : ℕ) → lo ≤ x → ¬ IsHeldAddress before x) where
   abbrev state : AddressState
@@ -81,27 +82,10 @@ abbrev next_after : ℕ → List Range → ℕ
 next_after lo [] = lo
 next_after lo (b ∷ bs) = next_after (b.end + 1) bs
 
-can_be_held : (lo hi : ℕ) (b : Range) → lo ≤ b.start → b.start ≤ b.end → b.end ≤ hi → b.end < MAX → range_fault lo hi b ≡ None
-can_be_held lo hi b p q u v =
-    rw (le-ltb b.start lo p, ne_eqb b.start MAX (λ e. omega arith), le-ltb hi b.end u, ne_eqb b.end MAX (λ e. omega arith)) refl
-
-or_no_fault : (o : Option Error) → or_else o None ≡ o
-or_no_fault None = refl
-or_no_fault (Some e) = refl
-
-fault_after : (lo hi : ℕ) (before : List Range) (r : Range) → AreInOrder lo before hi → first_fault lo hi (before ++ r ∷ []) ≡ range_fault (next_after lo before) hi r
-fault_after lo hi [] r s = or_no_fault (range_fault lo hi r)
-fault_after lo hi (b ∷ bs) r s = rw (can_be_held lo hi b s.0 s.1 s.2 s.3) (fault_after (b.end + 1) hi bs r s.4)
-
 -- All ranges end before that address.
 from_next : (lo hi : ℕ) (before : List Range) → AreInOrder lo before hi → lo ≤ next_after lo before
 from_next lo hi [] s = omega arith
 from_next lo hi (b ∷ bs) s = omega (arith, from_next (b.end + 1) hi bs s.4, s.0, s.1)
-
-next_behind : (lo : ℕ) (before : List Range) (r : Range) → lo ≤ r.start → All (λ b. b.end < r.start) before → next_after lo before ≤ r.start
-next_behind lo [] r l a = l
-next_behind lo (b ∷ bs) r l a =
-    next_behind (b.end + 1) bs r (omega (arith, All-head (λ b. b.end < r.start) b bs a)) (All-tail (λ b. b.end < r.start) b bs a)
 
 none_above : (lo hi x : ℕ) (before : List Range) → AreInOrder lo before hi → next_after lo before ≤ x → ¬ IsHeldAddress before x
 none_above lo hi x [] s l h = h
@@ -110,6 +94,40 @@ none_above lo hi x (b ∷ bs) s l h =
     (λ (i : IsIn b x). omega (arith, i.1, l, from_next (b.end + 1) hi bs s.4))
     (none_above (b.end + 1) hi x bs s.4 l)
     h
+
+-- The first range of a list that cannot be held.
+record FirstFault (lo hi : ℕ) (held : List Range) (e : Error) : Type 0 where
+  before : List Range
+  range : Range
+  after : List Range
+  cut : held ≡ before ++ range ∷ after
+  order : AreInOrder lo before hi
+  valid : IsRange range.start range.end
+  behind : next_after lo before ≤ range.start
+  fault : range_fault (next_after lo before) hi range ≡ Some e
+
+first_one : (lo hi : ℕ) (held : List Range) (e : Error) → hi ≤ MAX → All (λ r. IsRange r.start r.end) held → AreIncreasing lo held → first_fault lo hi held ≡ Some e → FirstFault lo hi held e
+first_one lo hi [] e top a i f = absurd (cc f)
+first_one lo hi (r ∷ rs) e top a i f =
+    let range = All-head (λ r. IsRange r.start r.end) r rs a in
+    elim (range_fault lo hi r) as (λ v. range_fault lo hi r ≡ v → or_else v (first_fault (r.end + 1) hi rs) ≡ Some e → FirstFault lo hi (r ∷ rs) e) [
+      | None ↦ λ none g.
+          let k = first_one (r.end + 1) hi rs e top (All-tail (λ r. IsRange r.start r.end) r rs a) i.1 g in
+          let here = held_if_no_fault lo hi r none range.0 in
+          let below : r.end < MAX = ⊎_elim (λ (l : r.end < MAX). l) (λ (l : MAX ≤ r.end). absurd (here.2 (omega (arith, here.1)))) (cases_lt r.end MAX) in
+          record {
+            before = r ∷ k.before;
+            range = k.range;
+            after = k.after;
+            cut = ap (λ (v : List Range). r ∷ v) k.cut;
+            order = (here.0, range.0, here.1, below, k.order);
+            valid = k.valid;
+            behind = k.behind;
+            fault = k.fault;
+          }
+      | Some x ↦ λ some g.
+          record { before = []; range = r; after = rs; cut = refl; order = tt; valid = range; behind = i.0; fault = some ∙ g }
+    ] refl f
 
 -- ---- The result of the request
 exact_grants : (old : AddressState) (r : Range) (answer : Result Range Error) (new : AddressState) → Allocates old (request_for (address_count r) 1 (ExactMatch r.start)) answer new
@@ -121,12 +139,20 @@ exact_grants old r answer new h =
     (_, request_grants request old new answer sense h)
 
 pub fault_is_that_of_exact_match : FaultIsThatOfExactMatch
-fault_is_that_of_exact_match space before r e answer new valid range from rising fault h =
-    let old : AddressState = record { space = space; held = before } in
+fault_is_that_of_exact_match space held e range each increasing fault =
     let lo = space.start in
     let hi = space.end in
-    let g = exact_grants old r answer new h in
-    let same : range_fault (next_after lo before) hi r ≡ Some e = sym (fault_after lo hi before r valid.in_order) ∙ fault in
-    (same_fault space before (next_after lo before) r range.0 range.1 (from_next lo hi before valid.in_order) (next_behind lo before r from rising)
-    (λ x l. none_above lo hi x before valid.in_order l)
-    e (λ x. (answer ≡ Err x) × (new ≡ old)) g.0 same g.1).0
+    let k = first_one lo hi held e range.1 each increasing fault in
+    let old : AddressState = record { space = space; held = k.before } in
+    record {
+      before = k.before;
+      range = k.range;
+      after = k.after;
+      cut = k.cut;
+      state = record { space = range; in_order = k.order };
+      error = λ answer new h.
+          let g = exact_grants old k.range answer new h in
+          (same_fault space k.before (next_after lo k.before) k.range k.valid.0 k.valid.1 (from_next lo hi k.before k.order) k.behind
+          (λ x l. none_above lo hi x k.before k.order l)
+          e (λ x. (answer ≡ Err x) × (new ≡ old)) g.0 k.fault g.1).0;
+    }

@@ -63,7 +63,7 @@ allocated_are_some (r ∷ rs) old new e =
     (omega (arith, ap (λ (v : Range). v.end) g.long), allocated_are_some rs e.0 new e.2)
 
 -- A range without a fault can be held.
-held_if_no_fault : (lo hi : ℕ) (r : Range) → range_fault lo hi r ≡ None → r.start ≤ r.end → (lo ≤ r.start) × (r.end ≤ hi) × (¬ (r.end ≡ MAX))
+pub held_if_no_fault : (lo hi : ℕ) (r : Range) → range_fault lo hi r ≡ None → r.start ≤ r.end → (lo ≤ r.start) × (r.end ≤ hi) × (¬ (r.end ≡ MAX))
 held_if_no_fault lo hi r f some =
     elim (ltb r.start lo) as (λ v. ltb r.start lo ≡ v → cond v (Some ResourceNotAvailable) (cond (eqb r.start MAX) (Some Overflow) (cond (ltb hi r.end) (Some ResourceNotAvailable) (cond (eqb r.end MAX) (Some Overflow) None))) ≡ None → (lo ≤ r.start) × (r.end ≤ hi) × (¬ (r.end ≡ MAX))) [
       | true ↦ λ a g. absurd (cc g)

@@ -1,5 +1,5 @@
 -- Laws of several requests in one call, and of ranges that are held from the start.
-use Rattle.std.specs.Prelude.{◌≡◌, ◌↔◌, ℕ, ◌<◌, ◌≤◌, ◌⊎◌, List, [], ◌∷◌, ◌++◌, length, Result, Ok, Err, Some}
+use Rattle.std.specs.Prelude.{◌≡◌, ◌↔◌, ℕ, ◌+◌, ◌≤◌, ◌⊎◌, List, [], ◌∷◌, ◌++◌, length, Result, Ok, Err, Some}
 use Rattle.std.specs.List.{All}
 use Rattle.vm_ranges.specs.Range.{Range, MAX, IsRange, address_count}
 use Rattle.vm_ranges.specs.Request.{Request, request_for}
@@ -20,15 +20,28 @@ HeldIsEqual =
     Makes base size (Ok first) → AllocatesEach first (exact_requests held) held new →
     MakesWithHeld base size held (Ok made) → AreEqual made new
 
--- The first range of an increasing list that cannot be held has the error that ExactMatch has for it, in the state in
--- which the ranges before it are held.
+-- The ranges are increasing: the first one starts at lo or above, and each other one after the end of the range before it.
+abbrev pub AreIncreasing : ℕ → List Range → Type 0
+AreIncreasing lo [] = Unit {0}
+AreIncreasing lo (r ∷ rs) = (lo ≤ r.start) × AreIncreasing (r.end + 1) rs
+
+-- ExactMatch has the error e for one of the ranges, in the state in which exactly the ranges before it are held.
+pub record FailsAt (space : Range) (held : List Range) (e : Error) : Type 0 where
+  pub before : List Range
+  pub range : Range
+  pub after : List Range
+  pub cut : held ≡ before ++ range ∷ after
+  pub state : IsAddressState (record { space = space; held = before })
+  pub error : (answer : Result Range Error) (new : AddressState) →
+      Allocates (record { space = space; held = before })
+      (request_for (address_count range) 1 (ExactMatch range.start)) answer new → answer ≡ Err e
+
+-- The error of an increasing list of ranges is the one that ExactMatch has for the first range that cannot be held.
 abbrev pub FaultIsThatOfExactMatch : Type 0
 FaultIsThatOfExactMatch =
-    (space : Range) (before : List Range) (r : Range) (e : Error) (answer : Result Range Error) (new : AddressState) →
-    let old : AddressState = record { space = space; held = before } in
-    IsAddressState old → IsRange r.start r.end → space.start ≤ r.start → All (λ b. b.end < r.start) before →
-    first_fault space.start space.end (before ++ r ∷ []) ≡ Some e →
-    Allocates old (request_for (address_count r) 1 (ExactMatch r.start)) answer new → answer ≡ Err e
+    (space : Range) (held : List Range) (e : Error) → IsRange space.start space.end →
+    All (λ r. IsRange r.start r.end) held → AreIncreasing space.start held →
+    first_fault space.start space.end held ≡ Some e → FailsAt space held e
 
 -- A list of one request is allocated as by `allocate`, and has its error.
 pub record OneIsAllocated : Type 0 where
