@@ -1,4 +1,6 @@
 pub mod HistoryLaws
+pub mod SeveralLaws
+pub mod GapLaws
 pub mod ValueLaws
 pub mod IdLaws
 pub mod IdHistoryLaws
