@@ -2,10 +2,10 @@
 //!
 //! A first pass checks and counts without allocating. A second pass builds the blocks into a tree
 //! from the middle, so no rotation is needed.
-ghost use Rattle.std.specs.Prelude.{◌≡◌, ◌≢◌, ◌≤◌, ◌∷◌, [], Some, None, length, IfOk, IfErr, MatchResult};
+ghost use Rattle.std.specs.Prelude.{◌≡◌, ◌≢◌, ◌<◌, ◌≤◌, ◌∷◌, [], Some, None, length, IfOk, IfErr, MatchResult};
 ghost use Rattle.vm_engine.specs.Address.{IsAddressState};
 ghost use Rattle.vm_engine.specs.Tree.SpaceTree.{tree_state, made_tree};
-ghost use Rattle.vm_engine.specs.Held.{MakesHeld, range_fault};
+ghost use Rattle.vm_engine.specs.Held.{TOO_MANY_BLOCKS, MakesHeld, range_fault};
 ghost use Rattle.vm_engine.specs.Engine.NodeFields.{side};
 ghost use Rattle.vm_engine.specs.Engine.Building.{remaining_blocks, IsBlockCursor, IsBuilt, CountsBlocks};
 
@@ -144,6 +144,7 @@ impl BlockCursor<'_> {
 fn build(alloc: Global, count: u64, cursor: &mut BlockCursor<'_>) -> Result<Child>
     requires cursor { IsBlockCursor cursor.old }
     requires enough { count ≤ length (remaining_blocks cursor.old) }
+    requires few { count < TOO_MANY_BLOCKS }
     ensures built { IfOk result (λ tree. IsBuilt count (remaining_blocks cursor.old) (side tree) (remaining_blocks cursor.new)) }
     ensures cursor { IfOk result (λ tree. IsBlockCursor cursor.new) }
     ensures error { IfErr result (λ error. error ≡ Error.OutOfMemory) }

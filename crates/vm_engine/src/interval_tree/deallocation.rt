@@ -9,7 +9,7 @@ ghost use Rattle.vm_ranges.specs.Range.{MAX, IsRange};
 ghost use Rattle.vm_engine.specs.Answer.{Frees};
 ghost use Rattle.vm_engine.specs.Tree.FreeBeside.{without_if_some};
 ghost use Rattle.vm_engine.specs.Engine.FreedBlocks.{IsAround, joined, with_joined, start_with, end_with};
-ghost use Rattle.vm_engine.specs.Tree.Shape.{blocks, height_of};
+ghost use Rattle.vm_engine.specs.Tree.Shape.{MAX_HEIGHT, blocks, height_of};
 ghost use Rattle.vm_engine.specs.Engine.NodeFields.{side};
 ghost use Rattle.vm_engine.specs.Tree.SpaceTree.{tree_state, IsSpaceTree};
 ghost use Rattle.vm_engine.specs.Counts.Steps.{EntersToFree, IsJoinCount};
@@ -48,6 +48,7 @@ impl IntervalTree {
 fn join_free(root: &mut Child, key: &RangeInclusive, beside: &Neighbours, count: &mut Steps)
     requires around { IsAround (blocks (side root.old)) key.now beside.now }
     requires count_fits { count.old + 3 * height_of (side root.old) < MAX }
+    requires depth { height_of (side root.old) ≤ MAX_HEIGHT }
     ensures blocks { blocks (side root.new) ≡ with_joined key.now beside.now (blocks (side root.old)) }
     ensures height { height_of (side root.new) ≤ height_of (side root.old) }
     ensures count { IsJoinCount (side root.old) key.now beside.now.before beside.now.after count.old count.new }
@@ -77,7 +78,8 @@ fn joined(key: &RangeInclusive, beside: &Neighbours) -> RangeInclusive
 /// Removes the node with this key, if there is a key.
 #[tactic(auto, using(crate::proofs::Counts::NodeCountBounds::deletion_bounds))]
 fn delete_if_some(root: &mut Child, key: &Option<RangeInclusive>, count: &mut Steps)
-    requires { count.old + height_of (side root.old) < MAX }
+    requires count_fits { count.old + height_of (side root.old) < MAX }
+    requires depth { height_of (side root.old) ≤ MAX_HEIGHT }
     ensures blocks { blocks (side root.new) ≡ without_if_some key.now (blocks (side root.old)) }
     ensures height { height_of (side root.new) ≤ height_of (side root.old) }
     ensures same { key.now ≡ None → side root.new ≡ side root.old }

@@ -5,7 +5,7 @@
 ghost use Rattle.std.specs.Prelude.{◌≡◌, ◌+◌, ◌<◌, ◌≤◌, ◌^◌, ◌++◌, [], ◌∷◌, max, IsSome};
 ghost use Rattle.vm_ranges.specs.Range.{MAX};
 ghost use Rattle.vm_engine.specs.Tree.BlockList.{IsOrderedFrom, replace_block};
-ghost use Rattle.vm_engine.specs.Tree.Shape.{Shape, Tip, Fork, blocks, height_of, root_block, DifferByAtMost, IsTree};
+ghost use Rattle.vm_engine.specs.Tree.Shape.{Shape, Tip, Fork, MAX_HEIGHT, blocks, height_of, root_block, DifferByAtMost, IsTree};
 ghost use Rattle.vm_engine.specs.Engine.Changes.{IsLeaf, Joins, Shrinks, LeavesIfAbsent};
 ghost use Rattle.vm_engine.specs.Counts.NodeCounts.{nodes_to_first, nodes_to_join, nodes_to_delete};
 ghost use Rattle.vm_engine.specs.Engine.NodeFields.{side};
@@ -24,6 +24,7 @@ use vm_ranges::RangeInclusive;
 fn take_first_at(at: &mut Child, count: &mut Steps) -> (Box<InnerNode>, Change)
     requires some { IsSome at.old }
     requires count_fits { count.old + height_of (side at.old) < MAX }
+    requires depth { height_of (side at.old) ≤ MAX_HEIGHT }
     ensures blocks { blocks (side at.old) ≡ root_block result.0.value ∷ blocks (side at.new) }
     ensures leaf { IsLeaf result.0.value }
     ensures shrinks { Shrinks (side at.old) (side at.new) result.1 }
@@ -67,6 +68,7 @@ pub(super) fn join(left: Child, mut right: Child, count: &mut Steps) -> Child
     requires close { DifferByAtMost 1 (height_of (side left)) (height_of (side right)) }
     requires height_fits { max (height_of (side left)) (height_of (side right)) + 1 < 2 ^ 64 }
     requires count_fits { count.old + height_of (side right) < MAX }
+    requires depth { height_of (side right) ≤ MAX_HEIGHT }
     ensures joins { Joins (side left) (side right) (side result) }
     ensures count { count.new ≡ count.old + nodes_to_join (side left) (side right) }
 {
@@ -88,7 +90,8 @@ impl InnerNode {
     #[tactic(auto, using(crate::proofs::Counts::NodeCountBounds::deletion_bounds, crate::proofs::Counts::NodeCountCases::nodes_to_delete_cases))]
     #[inline(never)]
     pub(crate) fn delete_root(tree: Box<InnerNode>, count: &mut Steps) -> Option<Box<InnerNode>>
-        requires { count.old + height_of tree.value ≤ MAX }
+        requires count_fits { count.old + height_of tree.value ≤ MAX }
+        requires depth { height_of tree.value ≤ MAX_HEIGHT }
         ensures blocks { blocks (side result) ≡ replace_block (root_block tree.value).key [] (blocks tree.value) }
         ensures no_right { (left : Shape) → tree.value ≡ Fork left (root_block tree.value) Tip → side result ≡ left }
         ensures no_left { (right : Shape) → tree.value ≡ Fork Tip (root_block tree.value) right → side result ≡ right }
@@ -104,7 +107,8 @@ impl InnerNode {
 /// path. Returns the change of the subtree's summary.
 #[tactic(auto, using(crate::proofs::Nodes::SideChange::deletions, crate::proofs::Counts::NodeCountCases::nodes_to_delete_cases))]
 pub(crate) fn delete_at(at: &mut Child, key: &RangeInclusive, count: &mut Steps) -> Change
-    requires { count.old + height_of (side at.old) < MAX }
+    requires count_fits { count.old + height_of (side at.old) < MAX }
+    requires depth { height_of (side at.old) ≤ MAX_HEIGHT }
     ensures blocks { blocks (side at.new) ≡ replace_block key.now [] (blocks (side at.old)) }
     ensures absent { LeavesIfAbsent key.now result (side at.old) (side at.new) }
     ensures shrinks { Shrinks (side at.old) (side at.new) result }

@@ -1,9 +1,9 @@
 //! The search for the block that contains a range.
-ghost use Rattle.std.specs.Prelude.{◌≡◌, ◌+◌, ◌<◌};
+ghost use Rattle.std.specs.Prelude.{◌≡◌, ◌+◌, ◌<◌, ◌≤◌};
 ghost use Rattle.std.specs.Option.{option_map};
 ghost use Rattle.vm_ranges.specs.Range.{MAX};
 ghost use Rattle.vm_engine.specs.Tree.BlockList.{find_superset};
-ghost use Rattle.vm_engine.specs.Tree.Shape.{blocks, height_of, root_block, IsTree};
+ghost use Rattle.vm_engine.specs.Tree.Shape.{MAX_HEIGHT, blocks, height_of, root_block, IsTree};
 ghost use Rattle.vm_engine.specs.Counts.NodeCounts.{nodes_across};
 
 use super::InnerNode;
@@ -19,7 +19,8 @@ impl InnerNode {
         key: &RangeInclusive,
         count: &mut Steps,
     ) -> Option<&InnerNode>
-        requires { count.old + height_of self.now < MAX }
+        requires count_fits { count.old + height_of self.now < MAX }
+        requires depth { height_of self.now ≤ MAX_HEIGHT }
         ensures found { find_superset key.now (blocks self.now) ≡ option_map (λ n. root_block n.now) result }
         ensures count { count.new ≡ count.old + nodes_across key.now self.now }
         ensures tree { IsTree self.now }

@@ -4,7 +4,7 @@
 //! it found the block. So the recursive call is the last step, and compiles to a loop.
 ghost use Rattle.std.specs.Prelude.{◌≡◌, ◌+◌, ◌*◌, ◌<◌, ◌≤◌, Option, Some, None};
 ghost use Rattle.vm_ranges.specs.Range.{MAX, Range};
-ghost use Rattle.vm_engine.specs.Tree.Shape.{blocks, height_of, root_block};
+ghost use Rattle.vm_engine.specs.Tree.Shape.{MAX_HEIGHT, blocks, height_of, root_block};
 ghost use Rattle.vm_engine.specs.Counts.NodeCounts.{nodes_to_first, nodes_to_last, nodes_around};
 ghost use Rattle.vm_engine.specs.Engine.NodeFields.{side};
 ghost use Rattle.vm_engine.specs.Engine.NeighbourNodes.{free_key_of, free_keys, if_found};
@@ -52,7 +52,8 @@ fn last_below<'a>(
     before: Option<&'a InnerNode>,
     count: &mut Steps,
 ) -> Option<&'a InnerNode>
-    requires { count.old + height_of (side child.now) < MAX }
+    requires count_fits { count.old + height_of (side child.now) < MAX }
+    requires depth { height_of (side child.now) ≤ MAX_HEIGHT }
     ensures value { free_key_of result ≡ last_free (free_key_of before.entry) (blocks (side child.now)) }
     ensures count { count.new ≡ count.old + nodes_to_last (side child.now) }
 {
@@ -69,7 +70,8 @@ fn first_below<'a>(
     after: Option<&'a InnerNode>,
     count: &mut Steps,
 ) -> Option<&'a InnerNode>
-    requires { count.old + height_of (side child.now) < MAX }
+    requires count_fits { count.old + height_of (side child.now) < MAX }
+    requires depth { height_of (side child.now) ≤ MAX_HEIGHT }
     ensures value { free_key_of result ≡ first_free (blocks (side child.now)) (free_key_of after.entry) }
     ensures count { count.new ≡ count.old + nodes_to_first (side child.now) }
 {
@@ -83,7 +85,8 @@ impl InnerNode {
     /// Returns the node with the highest block.
     #[tactic(auto, using(crate::proofs::Releasing::Neighbours::ends, crate::proofs::Counts::NodeCountCases::nodes_to_ends_cases))]
     fn last_node(&self, count: &mut Steps) -> &InnerNode
-        requires { count.old + height_of self.now < MAX }
+        requires count_fits { count.old + height_of self.now < MAX }
+        requires depth { height_of self.now ≤ MAX_HEIGHT }
         ensures value { (d : Option Range) → free_key_of (Some result) ≡ last_free d (blocks self.now) }
         ensures count { count.new ≡ count.old + nodes_to_last self.now }
     {
@@ -97,7 +100,8 @@ impl InnerNode {
     /// Returns the node with the lowest block.
     #[tactic(auto, using(crate::proofs::Releasing::Neighbours::ends, crate::proofs::Counts::NodeCountCases::nodes_to_ends_cases))]
     fn first_node(&self, count: &mut Steps) -> &InnerNode
-        requires { count.old + height_of self.now < MAX }
+        requires count_fits { count.old + height_of self.now < MAX }
+        requires depth { height_of self.now ≤ MAX_HEIGHT }
         ensures value { (d : Option Range) → free_key_of (Some result) ≡ first_free (blocks self.now) d }
         ensures count { count.new ≡ count.old + nodes_to_first self.now }
     {
@@ -119,7 +123,8 @@ impl InnerNode {
         beside: &mut NeighbourNodes<'a>,
         count: &mut Steps,
     ) -> bool
-        requires { count.old + 2 * height_of self.now < MAX }
+        requires count_fits { count.old + 2 * height_of self.now < MAX }
+        requires depth { height_of self.now ≤ MAX_HEIGHT }
         ensures value { if_found result (free_keys beside.new)
             ≡ neighbours key.now (free_key_of beside.old.before) (blocks self.now) (free_key_of beside.old.after) }
         ensures count { count.new ≡ count.old + nodes_around key.now self.now }
@@ -150,7 +155,8 @@ impl InnerNode {
         beside: &mut NeighbourNodes<'a>,
         count: &mut Steps,
     ) -> bool
-        requires { count.old + 2 * height_of self.now ≤ MAX }
+        requires count_fits { count.old + 2 * height_of self.now ≤ MAX }
+        requires depth { height_of self.now ≤ MAX_HEIGHT }
         ensures value { if_found result (free_keys beside.new)
             ≡ neighbours (root_block self.now).key (free_key_of beside.old.before) (blocks self.now) (free_key_of beside.old.after) }
         ensures count { count.new + 1 ≡ count.old + nodes_around (root_block self.now).key self.now }
@@ -169,7 +175,8 @@ impl InnerNode {
     ///
     /// It returns `None` if there is no such block.
     pub(crate) fn neighbours(&self, key: &RangeInclusive, count: &mut Steps) -> Option<Neighbours>
-        requires { count.old + 2 * height_of self.now < MAX }
+        requires count_fits { count.old + 2 * height_of self.now < MAX }
+        requires depth { height_of self.now ≤ MAX_HEIGHT }
         ensures value { result ≡ neighbours key.now None (blocks self.now) None }
         ensures count { count.new ≡ count.old + nodes_around key.now self.now }
     {

@@ -4,12 +4,12 @@
 //! write the place into an `Option` of their caller, because returning it would copy 32 bytes at
 //! every level. Before a call enters a child, `may_fit` checks that the child exists and that its
 //! summary fits the request.
-ghost use Rattle.std.specs.Prelude.{◌≡◌, ◌+◌, ◌<◌, true, false, None, IfSome, MatchOption};
+ghost use Rattle.std.specs.Prelude.{◌≡◌, ◌+◌, ◌<◌, ◌≤◌, true, false, None, IfSome, MatchOption};
 ghost use Rattle.vm_ranges.specs.Range.{MAX};
 ghost use Rattle.vm_ranges.specs.Alignment.{IsAlignment};
 ghost use Rattle.vm_engine.specs.Tree.Fit.{FindsLowestFit, FindsHighestFit};
 ghost use Rattle.vm_engine.specs.Engine.Place.{FindsFirst, FindsLast};
-ghost use Rattle.vm_engine.specs.Tree.Shape.{blocks, node_count, IsTree};
+ghost use Rattle.vm_engine.specs.Tree.Shape.{MAX_HEIGHT, blocks, height_of, node_count, IsTree};
 ghost use Rattle.vm_engine.specs.Counts.NodeCounts.{may_fit_in, nodes_of_first, nodes_of_last};
 ghost use Rattle.vm_engine.specs.Engine.NodeFields.{side};
 
@@ -101,6 +101,7 @@ pub(crate) fn first_place(
     requires sized { 0 < size }
     requires aligned { IsAlignment alignment }
     requires count_fits { count.old + node_count (side tree.now) < MAX }
+    requires depth { height_of (side tree.now) ≤ MAX_HEIGHT }
     ensures place { FindsFirst size alignment (blocks (side tree.now)) result }
     ensures tree { IfSome result (λ _. IsTree (side tree.now)) }
     ensures count { count.new ≡ count.old + nodes_of_first size alignment (side tree.now) }
@@ -123,6 +124,7 @@ pub(crate) fn last_place(
     requires sized { 0 < size }
     requires aligned { IsAlignment alignment }
     requires count_fits { count.old + node_count (side tree.now) < MAX }
+    requires depth { height_of (side tree.now) ≤ MAX_HEIGHT }
     ensures place { FindsLast size alignment (blocks (side tree.now)) result }
     ensures tree { IfSome result (λ _. IsTree (side tree.now)) }
     ensures count { count.new ≡ count.old + nodes_of_last size alignment (side tree.now) }
@@ -143,6 +145,7 @@ impl InnerNode {
         requires may_fit { may_fit_in size alignment self.now ≡ true }
         requires none_yet { found.old ≡ None }
         requires count_fits { count.old + node_count self.now < MAX }
+        requires depth { height_of self.now ≤ MAX_HEIGHT }
         ensures place { FindsFirst size alignment (blocks self.now) found.new }
         ensures count { count.new ≡ count.old + nodes_of_first size alignment self.now }
         ensures tree { IsTree self.now }
@@ -174,6 +177,7 @@ impl InnerNode {
         requires may_fit { may_fit_in size alignment self.now ≡ true }
         requires none_yet { found.old ≡ None }
         requires count_fits { count.old + node_count self.now < MAX }
+        requires depth { height_of self.now ≤ MAX_HEIGHT }
         ensures place { FindsLast size alignment (blocks self.now) found.new }
         ensures count { count.new ≡ count.old + nodes_of_last size alignment self.now }
         ensures tree { IsTree self.now }

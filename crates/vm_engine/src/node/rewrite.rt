@@ -1,8 +1,8 @@
 //! Changes the key and the state of a block in place.
-ghost use Rattle.std.specs.Prelude.{◌≡◌, ◌+◌, ◌<◌, IsSome};
+ghost use Rattle.std.specs.Prelude.{◌≡◌, ◌+◌, ◌<◌, ◌≤◌, IsSome};
 ghost use Rattle.vm_ranges.specs.Range.{MAX};
 ghost use Rattle.vm_engine.specs.Tree.BlockList.{IsOrderedFrom, with_block, find_key};
-ghost use Rattle.vm_engine.specs.Tree.Shape.{blocks, height_of, root_block};
+ghost use Rattle.vm_engine.specs.Tree.Shape.{MAX_HEIGHT, blocks, height_of, root_block};
 ghost use Rattle.vm_engine.specs.Engine.Changes.{KeepsShape};
 ghost use Rattle.vm_engine.specs.Counts.NodeCounts.{nodes_to};
 ghost use Rattle.vm_engine.specs.Engine.NodeFields.{side};
@@ -47,6 +47,7 @@ pub(crate) fn rewrite_at(
     requires known { IsSome (find_key old.now (blocks (side at.old))) }
     requires ordered { IsOrderedFrom 0 (with_block old.now key node_state (blocks (side at.old))) }
     requires count_fits { count.old + height_of (side at.old) < MAX }
+    requires depth { height_of (side at.old) ≤ MAX_HEIGHT }
     ensures blocks { blocks (side at.new) ≡ with_block old.now key node_state (blocks (side at.old)) }
     ensures keeps { KeepsShape (side at.old) (side at.new) result }
     ensures count { count.new ≡ count.old + nodes_to old.now (side at.old) }

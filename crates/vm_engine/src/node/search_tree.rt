@@ -1,7 +1,7 @@
 //! The usual calls of a search tree: searches, insertions, deletions and marks by key.
 //!
 //! The allocator makes none of these calls. They exist for the tests of the tree.
-ghost use Rattle.std.specs.Prelude.{◌≡◌, ◌+◌, ◌*◌, ◌<◌, [], None, IfOk, IfErr, OnOk, OnErr};
+ghost use Rattle.std.specs.Prelude.{◌≡◌, ◌+◌, ◌*◌, ◌<◌, ◌≤◌, [], None, IfOk, IfErr, OnOk, OnErr};
 ghost use Rattle.std.specs.Option.{option_map};
 ghost use Rattle.vm_ranges.specs.Range.{MAX};
 ghost use Rattle.vm_engine.specs.Tree.BlockList.{IsClearOf, insert_block, replace_block, find_key};
@@ -83,7 +83,8 @@ impl InnerNode {
         key: &RangeInclusive,
         count: &mut Steps,
     ) -> Option<Box<InnerNode>>
-        requires { count.old + height_of tree.value < MAX }
+        requires count_fits { count.old + height_of tree.value < MAX }
+        requires depth { height_of tree.value ≤ MAX_HEIGHT }
         ensures blocks { blocks (side result) ≡ replace_block key.now [] (blocks tree.value) }
         ensures unchanged { find_key key.now (blocks tree.value) ≡ None → side result ≡ tree.value }
         ensures shrinks { Shrinks tree.value (side result) Change.Height }
@@ -97,7 +98,8 @@ impl InnerNode {
     /// Returns the node with exactly this key, or `None` if there is no such node.
     #[tactic(auto, using(crate::proofs::Blocks::Replacement::findings, crate::proofs::Counts::NodeCountCases::nodes_to_cases))]
     pub(crate) fn search(&self, key: &RangeInclusive, count: &mut Steps) -> Option<&InnerNode>
-        requires { count.old + height_of self.now < MAX }
+        requires count_fits { count.old + height_of self.now < MAX }
+        requires depth { height_of self.now ≤ MAX_HEIGHT }
         ensures found { find_key key.now (blocks self.now) ≡ option_map (λ n. root_block n.now) result }
         ensures count { count.new ≡ count.old + nodes_to key.now self.now }
     {
@@ -120,7 +122,8 @@ impl InnerNode {
     /// Returns the first key on the path that overlaps `new`, or `None` if there is no such key.
     #[tactic(auto, using(crate::proofs::Nodes::FirstOverlaps::first_overlaps, crate::proofs::Counts::NodeCountCases::nodes_across_cases))]
     fn first_overlap(&self, new: &RangeInclusive, count: &mut Steps) -> Option<RangeInclusive>
-        requires { count.old + height_of self.now < MAX }
+        requires count_fits { count.old + height_of self.now < MAX }
+        requires depth { height_of self.now ≤ MAX_HEIGHT }
         ensures overlap { result ≡ first_overlap new.now self.now }
         ensures overlaps { FindsOverlap new.now result (blocks self.now) }
         ensures count { count.new ≡ count.old + nodes_across new.now self.now }
@@ -150,7 +153,8 @@ impl InnerNode {
         key: &RangeInclusive,
         count: &mut Steps,
     ) -> Result<()>
-        requires { count.old + height_of self.old < MAX }
+        requires count_fits { count.old + height_of self.old < MAX }
+        requires depth { height_of self.old ≤ MAX_HEIGHT }
         ensures marks { Marks (find_key key.now (blocks self.old)) key.now result self.old self.new }
         ensures height { height_of self.new ≡ height_of self.old }
         ensures tree { IsTree self.new }

@@ -3,11 +3,11 @@
 //! The free summaries on the path can only rise, to include the new range. So each is updated
 //! before the child is entered, nothing is left to do after it, and the recursion compiles to a
 //! loop.
-ghost use Rattle.std.specs.Prelude.{◌≡◌, ◌+◌, ◌<◌};
+ghost use Rattle.std.specs.Prelude.{◌≡◌, ◌+◌, ◌<◌, ◌≤◌};
 ghost use Rattle.vm_ranges.specs.Range.{MAX};
 ghost use Rattle.vm_engine.specs.Tree.Block.{free_length, free_block};
 ghost use Rattle.vm_engine.specs.Tree.Multiples.{free_alignments};
-ghost use Rattle.vm_engine.specs.Tree.Shape.{blocks, height_of};
+ghost use Rattle.vm_engine.specs.Tree.Shape.{MAX_HEIGHT, blocks, height_of};
 ghost use Rattle.vm_engine.specs.Counts.NodeCounts.{nodes_to};
 ghost use Rattle.vm_engine.specs.Engine.Widening.{CanWiden, Widens};
 ghost use Rattle.vm_engine.specs.Engine.NodeFields.{side};
@@ -34,6 +34,7 @@ fn widen_at(
     requires max_free { free.now.max_free ≡ free_length (free_block range.now) }
     requires alignments { free.now.alignments ≡ free_alignments (free_block range.now) }
     requires count_fits { count.old + height_of (side at.old) < MAX }
+    requires depth { height_of (side at.old) ≤ MAX_HEIGHT }
     ensures widened { Widens (side at.old) held.now range.now (side at.new) }
     ensures count { count.new ≡ count.old + nodes_to held.now (side at.old) }
 {
@@ -63,6 +64,7 @@ pub(crate) fn widen(
 )
     requires can { CanWiden (blocks (side root.old)) held.now range.now }
     requires count_fits { count.old + height_of (side root.old) < MAX }
+    requires depth { height_of (side root.old) ≤ MAX_HEIGHT }
     ensures widened { Widens (side root.old) held.now range.now (side root.new) }
     ensures count { count.new ≡ count.old + nodes_to held.now (side root.old) }
 {

@@ -124,7 +124,8 @@ fn collect_keys(
     depth: u64,
     held: &mut Vec<RangeInclusive>,
 ) -> std::result::Result<(), AllocError>
-    requires { HasNodesWithin depth (view value.now) }
+    requires nodes { HasNodesWithin depth (view value.now) }
+    requires depth { depth ≤ MAX_NESTING_REPAIRED }
     ensures { OnOk result (CollectsKeys (view value.now) held.old.items held.new.items) }
 {
     let Some(node) = decode_node(value) else {

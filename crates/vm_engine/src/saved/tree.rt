@@ -1,9 +1,9 @@
 //! Encodes a tree as a value, and decodes it. A value is checked completely before nodes are built.
-ghost use Rattle.std.specs.Prelude.{IfOk};
+ghost use Rattle.std.specs.Prelude.{◌≤◌, IfOk};
 ghost use Rattle.serde_json.specs.View.{view};
 ghost use Rattle.vm_engine.specs.Engine.NodeFields.{side};
 ghost use Rattle.vm_ranges.specs.Saving.{Saves, Reads};
-ghost use Rattle.vm_engine.specs.Tree.Shape.{blocks};
+ghost use Rattle.vm_engine.specs.Tree.Shape.{MAX_HEIGHT, blocks};
 ghost use Rattle.vm_engine.specs.Tree.SpaceTree.{space_of};
 ghost use Rattle.vm_engine.specs.Values.TreeValues.{EncodesShape, EncodesSpaceTree};
 ghost use Rattle.vm_engine.specs.Checks.ValueParts.{HasShapeWithin};
@@ -58,7 +58,8 @@ impl IntervalTree {
 ///
 /// It returns an error if the allocation of a node fails. The nodes built so far are freed.
 fn build(value: &Value, depth: u64, alloc: Global) -> std::result::Result<Child, AllocError>
-    requires { HasShapeWithin depth (view value.now) }
+    requires shape { HasShapeWithin depth (view value.now) }
+    requires depth { depth ≤ MAX_HEIGHT }
     ensures { IfOk result (λ tree. EncodesShape (view value.now) (side tree)) }
 {
     let Some(node) = decode_node(value) else {

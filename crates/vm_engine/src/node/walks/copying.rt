@@ -1,5 +1,6 @@
 //! Copies trees.
-ghost use Rattle.std.specs.Prelude.{◌≡◌, MatchResult};
+ghost use Rattle.std.specs.Prelude.{◌≡◌, ◌≤◌, MatchResult};
+ghost use Rattle.vm_engine.specs.Tree.Shape.{MAX_HEIGHT, height_of};
 
 use crate::node::InnerNode;
 use std::alloc::Global;
@@ -9,6 +10,7 @@ use vm_ranges::{Error, Result};
 ///
 /// It returns `OutOfMemory` if the allocation of a node fails. The nodes copied so far are freed.
 pub(crate) fn copy(tree: &InnerNode, alloc: Global) -> Result<Box<InnerNode>>
+    requires { height_of tree.now ≤ MAX_HEIGHT }
     ensures { MatchResult result (λ copy. copy.value ≡ tree.now) (λ error. error ≡ Error.OutOfMemory) }
 {
     let left = match &tree.left {

@@ -1,6 +1,7 @@
 //! Encodes trees as values.
+ghost use Rattle.std.specs.Prelude.{◌≤◌};
 ghost use Rattle.serde_json.specs.View.{view};
-ghost use Rattle.vm_engine.specs.Tree.Shape.{IsTree};
+ghost use Rattle.vm_engine.specs.Tree.Shape.{MAX_HEIGHT, height_of, IsTree};
 ghost use Rattle.vm_engine.specs.Values.TreeValues.{EncodesShape};
 ghost use Rattle.vm_engine.specs.Engine.NodeFields.{side};
 ghost use Rattle.vm_ranges.specs.Saving.{Saves};
@@ -16,6 +17,7 @@ use vm_ranges::Result;
 /// It returns `OutOfMemory` if an allocation fails.
 #[tactic(auto, using(crate::proofs::Reading::Writing::nodes))]
 pub(crate) fn encode(tree: &Child, alloc: Global) -> Result<Value>
+    requires { height_of (side tree.now) ≤ MAX_HEIGHT }
     ensures answer { Saves (λ d. EncodesShape d (side tree.now)) result }
     ensures tree { IsTree (side tree.now) }
 {

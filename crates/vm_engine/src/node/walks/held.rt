@@ -17,6 +17,7 @@ use vm_ranges::{NodeState, RangeInclusive};
 /// Returns `true` if the tree has an allocated block with this key. It follows one path from the
 /// root.
 pub(crate) fn has_held(tree: &Child, key: &RangeInclusive) -> bool
+    requires { height_of (side tree.now) ≤ MAX_HEIGHT }
     ensures { IsTrue result ↔ (find_key key.now (blocks (side tree.now)) ≡ Some (held_block key.now)) }
 {
     let Some(node) = tree else { return false };

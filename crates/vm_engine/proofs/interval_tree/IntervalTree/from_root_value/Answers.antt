@@ -8,8 +8,8 @@ use Rattle.vm_engine.proofs.interval_tree.IntervalTree.from_root_value.Goals as 
 pub returns-then-not-is_tree_of : goal.returns-then-not-is_tree_of
 returns-then-not-is_tree_of c = none_encoded (view c.args.value.now) c.args.space.now (sym c.if-not-is_tree_of.ensures.value)
 
-pub build-requires : goal.build-requires
-build-requires c = has_shape (view c.args.value.now) c.args.space.now c.if-not-is_tree_of.ensures.space (sym c.if-not-is_tree_of.ensures.value)
+pub build-requires-clause-shape : goal.build-requires-clause-shape
+build-requires-clause-shape c = has_shape (view c.args.value.now) c.args.space.now c.if-not-is_tree_of.ensures.space (sym c.if-not-is_tree_of.ensures.value)
 
 pub invariant_of-result : goal.invariant_of-result
 invariant_of-result c =

@@ -16,8 +16,8 @@ returns-in_err-held-clause-answer c =
     let found = rw (c.into.ensures, c.start.ensures.value, c.end.ensures.value) at c.in-Some.ensures in
     rw is (some_keys (view c.args.value.now) c.args.space.now c.in-Some.last (sym found))
 
-pub collect_keys-requires : goal.collect_keys-requires
-collect_keys-requires c =
+pub collect_keys-requires-clause-nodes : goal.collect_keys-requires-clause-nodes
+collect_keys-requires-clause-nodes c =
     let found = rw (c.into.ensures, c.start.ensures.value, c.end.ensures.value) at c.in-Some.ensures in
     keys_within (view c.args.value.now) c.args.space.now c.in-Some.last (sym found)
 
