@@ -1,31 +1,38 @@
 //! The resources of a virtual machine monitor: a window below 4 GiB and one above it, interrupts,
 //! and slots for memory.
 //!
-//! Two threads plug and unplug devices at the same time, and everything is saved and restored. It
-//! compiles unchanged with `vm-allocator` 0.1.4, and prints the same.
+//! A device takes its interrupt and its bars side by side: all of them or none. Two threads plug and
+//! unplug devices at the same time, and everything is saved and restored. The dependency has the name
+//! `vm-allocator`, as in a project that switched.
 
 use std::sync::{Arc, Mutex, PoisonError};
 use std::thread;
-use vm_allocator::{AddressAllocator, AllocPolicy, Error, IdAllocator, RangeInclusive, Result};
+use vm_allocator::{
+    AddressAllocator, AllocPolicy, Constraint, Error, IdAllocator, RangeInclusive, Result,
+};
 
 const PAGE: u64 = 0x1000;
 const MIB: u64 = 1 << 20;
 const GIB: u64 = 1 << 30;
 
-/// The window of a bar.
-#[derive(Clone, Copy, Debug)]
-enum Window {
-    Below4Gib,
-    Above4Gib,
+/// The sizes of a device's bars in both windows. Each is a power of two.
+#[derive(Clone, Copy)]
+struct Bars<'a> {
+    below_4_gib: &'a [u64],
+    above_4_gib: &'a [u64],
 }
 
-/// A bar. Its size is a power of two.
-type BarRequest = (Window, u64);
-
-#[derive(Debug, Default)]
+#[derive(Debug)]
 struct PciDevice {
-    bars: Vec<(Window, RangeInclusive)>,
-    interrupts: Vec<u32>,
+    interrupt: u32,
+    below_4_gib: Vec<RangeInclusive>,
+    above_4_gib: Vec<RangeInclusive>,
+}
+
+impl PciDevice {
+    fn bars(&self) -> impl Iterator<Item = &RangeInclusive> {
+        self.below_4_gib.iter().chain(&self.above_4_gib)
+    }
 }
 
 #[derive(Debug)]
@@ -34,7 +41,7 @@ struct MemoryModule {
     range: RangeInclusive,
 }
 
-#[derive(Clone, Debug)]
+#[derive(Clone, Debug, PartialEq)]
 struct Resources {
     below_4_gib: AddressAllocator,
     above_4_gib: AddressAllocator,
@@ -42,27 +49,36 @@ struct Resources {
     memory_slots: IdAllocator,
 }
 
+/// Returns the requests for bars, each aligned to its size and at least to a page.
+fn requests(sizes: &[u64]) -> Result<Vec<Constraint>> {
+    let sizes = sizes.iter();
+    sizes
+        .map(|size| Constraint::new(*size, PAGE.max(*size), AllocPolicy::FirstMatch))
+        .collect()
+}
+
 impl Resources {
+    /// Creates the resources. The firmware and the interrupt controller have ranges already.
     fn new() -> Result<Self> {
+        let controller = RangeInclusive::new(0xfec0_0000, 0xfec0_0fff)?;
+        let firmware = RangeInclusive::new(0xffc0_0000, 0xffff_ffff)?;
+        let taken = [controller, firmware];
         Ok(Resources {
-            below_4_gib: AddressAllocator::new(3 * GIB, 768 * MIB)?,
+            below_4_gib: AddressAllocator::with_held(3 * GIB, GIB, &taken)?,
             above_4_gib: AddressAllocator::new(64 * GIB, 192 * GIB)?,
             interrupts: IdAllocator::new(24, 191)?,
             memory_slots: IdAllocator::new(0, 508)?,
         })
     }
 
-    fn window(&mut self, window: Window) -> &mut AddressAllocator {
-        match window {
-            Window::Below4Gib => &mut self.below_4_gib,
-            Window::Above4Gib => &mut self.above_4_gib,
-        }
-    }
-
-    /// Plugs in a device. It gets all of its bars and interrupts, or none.
-    fn plug(&mut self, bars: &[BarRequest], interrupts: usize) -> Result<PciDevice> {
-        let mut device = PciDevice::default();
-        match self.take(&mut device, bars, interrupts) {
+    /// Plugs in a device. It gets an interrupt and all of its bars, or nothing.
+    fn plug(&mut self, bars: Bars) -> Result<PciDevice> {
+        let mut device = PciDevice {
+            interrupt: self.interrupts.allocate_id()?,
+            below_4_gib: Vec::new(),
+            above_4_gib: Vec::new(),
+        };
+        match self.take_bars(&mut device, bars) {
             Ok(()) => Ok(device),
             Err(error) => {
                 self.unplug(&device)?;
@@ -71,35 +87,24 @@ impl Resources {
         }
     }
 
-    /// Allocates the bars and interrupts of a device, up to the first error.
-    fn take(
-        &mut self,
-        device: &mut PciDevice,
-        bars: &[BarRequest],
-        interrupts: usize,
-    ) -> Result<()> {
-        for (window, size) in bars {
-            let align = PAGE.max(*size);
-            let bar = self
-                .window(*window)
-                .allocate(*size, align, AllocPolicy::FirstMatch)?;
-            device.bars.push((*window, bar));
-        }
-        while device.interrupts.len() < interrupts {
-            device.interrupts.push(self.interrupts.allocate_id()?);
-        }
+    /// Allocates the bars of a device. In each window it gets all of them or none.
+    fn take_bars(&mut self, device: &mut PciDevice, bars: Bars) -> Result<()> {
+        let below_4_gib = requests(bars.below_4_gib)?;
+        let above_4_gib = requests(bars.above_4_gib)?;
+        device.below_4_gib = self.below_4_gib.allocate_all(&below_4_gib)?;
+        device.above_4_gib = self.above_4_gib.allocate_all(&above_4_gib)?;
         Ok(())
     }
 
     /// Frees everything that a device has.
     fn unplug(&mut self, device: &PciDevice) -> Result<()> {
-        for (window, bar) in &device.bars {
-            self.window(*window).free(bar)?;
+        for bar in &device.below_4_gib {
+            self.below_4_gib.free(bar)?;
         }
-        for interrupt in &device.interrupts {
-            self.interrupts.free_id(*interrupt)?;
+        for bar in &device.above_4_gib {
+            self.above_4_gib.free(bar)?;
         }
-        Ok(())
+        self.interrupts.free_id(device.interrupt).map(drop)
     }
 
     /// Plugs in memory, at an address that the guest knows.
@@ -170,38 +175,42 @@ fn restore(snapshot: Snapshot) -> Resources {
 
 /// Plugs in a graphics card, unplugs it and plugs it in again, and tries one that does not fit.
 fn plug_cards(shared: &Shared) -> Result<PciDevice> {
-    let bars = [
-        (Window::Below4Gib, 16 * MIB),
-        (Window::Above4Gib, 16 * GIB),
-        (Window::Above4Gib, 32 * MIB),
-        (Window::Below4Gib, PAGE),
-    ];
-    let card = shared.with(|resources| resources.plug(&bars, 4))?;
-    println!("plugged in: {card:x?}");
+    let bars = Bars {
+        below_4_gib: &[16 * MIB, PAGE],
+        above_4_gib: &[16 * GIB, 32 * MIB],
+    };
+    let card = shared.with(|resources| resources.plug(bars))?;
+    println!("plugged in: {}", names_of(&card));
 
     // The last bar does not fit, so the card gets none.
-    let too_large = [
-        (Window::Below4Gib, MIB),
-        (Window::Above4Gib, GIB),
-        (Window::Below4Gib, GIB),
-    ];
+    let too_large = Bars {
+        below_4_gib: &[MIB, PAGE],
+        above_4_gib: &[GIB, 256 * GIB],
+    };
     let before = shared.with(|resources| Ok(resources.clone()))?;
-    let refusal = shared.with(|resources| resources.plug(&too_large, 1));
+    let refusal = shared.with(|resources| resources.plug(too_large));
     println!("refused: {:?}", refusal.map(|_| ()));
     shared.with(|resources| {
         assert_eq!(resources.below_4_gib, before.below_4_gib);
         assert_eq!(resources.above_4_gib, before.above_4_gib);
+        // A guest accesses an address, and the monitor looks for the bar that contains it.
+        let bar = resources
+            .below_4_gib
+            .held_at(card.below_4_gib[0].start() + 0x10);
+        assert_eq!(bar, Some(card.below_4_gib[0]));
         resources.unplug(&card)
     })?;
 
-    let again = shared.with(|resources| resources.plug(&bars, 4))?;
-    assert!(again
-        .bars
-        .iter()
-        .map(|bar| bar.1)
-        .eq(card.bars.iter().map(|bar| bar.1)));
+    let again = shared.with(|resources| resources.plug(bars))?;
+    assert!(again.bars().eq(card.bars()));
     println!("plugged in again, with the same ranges");
     Ok(again)
+}
+
+/// Returns the bars of a device in hexadecimal.
+fn names_of(device: &PciDevice) -> String {
+    let bars: Vec<_> = device.bars().map(ToString::to_string).collect();
+    bars.join(", ")
 }
 
 /// Plugs in sixteen network devices from each of two threads.
@@ -209,8 +218,11 @@ fn plug_by_two_threads(shared: &Shared) -> Result<Vec<PciDevice>> {
     let workers = [0, 1].map(|_| {
         let shared = shared.clone();
         thread::spawn(move || -> Result<Vec<PciDevice>> {
-            let bars = [(Window::Below4Gib, PAGE), (Window::Above4Gib, 512 * 1024)];
-            let plug = || shared.with(|resources| resources.plug(&bars, 3));
+            let bars = Bars {
+                below_4_gib: &[PAGE],
+                above_4_gib: &[512 * 1024],
+            };
+            let plug = || shared.with(|resources| resources.plug(bars));
             (0..16).map(|_| plug()).collect()
         })
     });
@@ -223,16 +235,11 @@ fn plug_by_two_threads(shared: &Shared) -> Result<Vec<PciDevice>> {
 
 /// Returns whether the devices share no address and no interrupt.
 fn are_apart(devices: &[PciDevice]) -> bool {
-    let mut ranges: Vec<_> = devices.iter().flat_map(|device| &device.bars).collect();
-    ranges.sort_by_key(|bar| bar.1);
-    let mut interrupts: Vec<_> = devices
-        .iter()
-        .flat_map(|device| &device.interrupts)
-        .collect();
+    let mut bars: Vec<_> = devices.iter().flat_map(PciDevice::bars).collect();
+    bars.sort();
+    let mut interrupts: Vec<_> = devices.iter().map(|device| device.interrupt).collect();
     interrupts.sort();
-    ranges
-        .windows(2)
-        .all(|pair| !pair[0].1.overlaps(&pair[1].1))
+    bars.windows(2).all(|pair| !pair[0].overlaps(pair[1]))
         && interrupts.windows(2).all(|pair| pair[0] != pair[1])
 }
 
@@ -240,7 +247,7 @@ fn main() -> Result<()> {
     let shared = Shared(Arc::new(Mutex::new(Resources::new()?)));
     let card = plug_cards(&shared)?;
     let memory = shared.with(|resources| resources.plug_memory(128 * GIB, 8 * GIB))?;
-    println!("memory: {memory:x?}");
+    println!("memory: {} in slot {}", memory.range, memory.slot);
     let twice = shared.with(|resources| resources.plug_memory(128 * GIB, 8 * GIB));
     assert!(matches!(twice, Err(Error::InvalidStateTransition(range, _)) if range == memory.range));
 
@@ -255,14 +262,9 @@ fn main() -> Result<()> {
     }
     restored.above_4_gib.free(&memory.range)?;
     restored.memory_slots.free_id(memory.slot)?;
-    // Everything is free now, so a device can have a whole window.
-    let whole = restored.plug(
-        &[
-            (Window::Above4Gib, 64 * GIB),
-            (Window::Below4Gib, 512 * MIB),
-        ],
-        168,
-    )?;
-    println!("restored and emptied, then: {:x?}", whole.bars);
+    // Everything is free now but what the firmware has.
+    assert_eq!(restored.above_4_gib.free_len(), 192 * GIB);
+    println!("restored and emptied, then:");
+    println!("{}", restored.below_4_gib.layout());
     Ok(())
 }
