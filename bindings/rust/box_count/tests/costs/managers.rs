@@ -1,10 +1,9 @@
 //! A call of a manager costs at most as much as its parts: the calls of its space and of its ids,
-//! and the operations on a map of the Rust standard library.
+//! and the operations on a map.
 use crate::meter::{at_most, cost};
 use crate::objects::{with_part, Setting, SETTINGS};
 use crate::requests::{allocations, list, map, object, DEVICE};
-use rattle::{Global, Value};
-use std::collections::{BTreeMap, BTreeSet};
+use rattle::{BTreeMap, BTreeSet, Global, Value};
 use vm_allocator::AllocPolicy::{self, FirstMatch};
 use vm_allocator::Error::NeverAllocated;
 use vm_allocator::{AddressAllocator, IdAllocator, RangeInclusive};
@@ -28,8 +27,8 @@ impl Pair {
             manager: at_most(&s, &[made], new).unwrap(),
             first_id: lo,
             space: space.unwrap(),
-            table: BTreeMap::new(),
-            freed: BTreeSet::new(),
+            table: BTreeMap::new(Global),
+            freed: BTreeSet::new(Global),
         }
     }
 
@@ -46,7 +45,7 @@ impl Pair {
             .freed
             .pop_first()
             .unwrap_or(self.first_id + self.table.len() as u32);
-        let inserted = cost(|| self.table.insert(id, range)).1;
+        let inserted = cost(|| self.table.insert(id, range).unwrap()).1;
         let device = at_most(&name, &[placed, inserted], reserve);
         assert_eq!(device, Ok(DeviceSlot { id, range }));
     }
@@ -55,7 +54,7 @@ impl Pair {
     fn release(&mut self, id: u32) {
         let range = at_most(&id, &[], || self.manager.slot(id)).unwrap();
         let freed = cost(|| self.space.free(&range).unwrap()).1;
-        let inserted = cost(|| self.freed.insert(id)).1;
+        let inserted = cost(|| self.freed.insert(id).unwrap()).1;
         self.table.remove(&id);
         at_most(&id, &[freed, inserted], || self.manager.release(id)).unwrap();
         let again = at_most(&id, &[], || self.manager.release(id));
@@ -76,8 +75,8 @@ fn calls() {
         for (size, align, policy, _) in allocations(s) {
             pair.reserve(size, align, policy);
         }
-        while let Some((id, _)) = pair.table.first_key_value() {
-            pair.release(*id);
+        while let Some(id) = pair.table.iter().next().map(|entry| *entry.0) {
+            pair.release(id);
         }
         let refused = [(9, 0, 0, 1), (0, 9, 0, 0), (0, 9, u64::MAX, 2)];
         for (lo, hi, base, size) in refused {
@@ -109,8 +108,8 @@ fn saved() {
         at_most(&s, &parts, || manager.to_value(Global)).unwrap();
 
         let counted = cost(|| space.held_count()).1;
-        let slots = [map(s.held_ids()), 0];
-        let starts = [map(space.held_ranges().map(|range| range.start())), 0];
+        let slots = [map(s.held_ids().zip(space.held_ranges())), 0];
+        let starts = [map(space.held_ranges().map(|range| (range.start(), 0u32))), 0];
         let find = |id| assert!(space.holds(&manager.slot(id).unwrap()));
         let found = cost(|| s.held_ids().for_each(find)).1;
         let parts = [read_ids, read_space, counted, slots, starts, found];

@@ -1,6 +1,5 @@
 //! The measured objects.
-use rattle::{Global, Value};
-use std::collections::BTreeSet;
+use rattle::{BTreeSet, Global, Value};
 use vm_allocator::AllocPolicy::{ExactMatch, FirstMatch};
 use vm_allocator::{AddressAllocator, IdAllocator, RangeInclusive};
 use vm_devices::DeviceManager;
@@ -70,11 +69,11 @@ impl Setting {
 
     pub fn ids(self) -> (IdAllocator, BTreeSet<u32>) {
         let mut ids = IdAllocator::new(Global, self.first_id, self.last_id()).unwrap();
-        let mut freed = BTreeSet::new();
+        let mut freed = BTreeSet::new(Global);
         (0..2 * self.held).for_each(|_| assert!(ids.allocate_id().is_ok()));
         for id in self.freed_ids() {
             ids.free_id(id).unwrap();
-            freed.insert(id);
+            assert!(freed.insert(id).is_ok());
         }
         (ids, freed)
     }

@@ -1,12 +1,11 @@
 //! The number of allocations of each call, as a function of the nodes, ids and devices.
 //!
 //! The expected numbers follow from the data: one block for each node of a tree, and one for each
-//! list of fields, each name and each string of a value. Sets, maps and lists are those of the Rust
-//! standard library, so they count as the same operations on these do.
+//! list of fields, each name and each string of a value. Sets, maps and lists count as the same
+//! operations on such an object do.
 use crate::meter::{at_most, cost, with_failing};
 use crate::objects::{last_node, range, with_part, Setting, SETTINGS};
-use rattle::{AllocError, Global, Value};
-use std::collections::BTreeMap;
+use rattle::{AllocError, BTreeMap, Global, Value};
 use std::fmt::Debug;
 use vm_allocator::allocation_engine::{IntervalTree, NodeState};
 use vm_allocator::AllocPolicy::{self, ExactMatch, FirstMatch, LastMatch};
@@ -32,10 +31,11 @@ pub fn list(items: u64) -> u64 {
     cost(push_all).1[0]
 }
 
-/// Returns the number of allocations of a map or a set whose keys are inserted one by one.
-pub fn map<K: Ord>(keys: impl Iterator<Item = K>) -> u64 {
-    let mut map = BTreeMap::new();
-    let insert_all = || keys.for_each(|key| assert!(map.insert(key, ()).is_none()));
+/// Returns the number of allocations of a map whose entries are inserted one by one.
+pub fn map<K: Ord + Copy, V>(entries: impl Iterator<Item = (K, V)>) -> u64 {
+    let mut map = BTreeMap::new(Global);
+    let mut is_new = |(key, value)| matches!(map.insert(key, value), Ok(None));
+    let insert_all = || entries.for_each(|entry| assert!(is_new(entry)));
     cost(insert_all).1[0]
 }
 
@@ -333,7 +333,7 @@ fn ids() {
         expect(&s, &Err(NeverAllocated(hi)), || ids.free_id(hi));
         expect(&s, &Err(AlreadyReleased(lo + 1)), || ids.free_id(lo + 1));
         for id in s.held_ids() {
-            let inserted = cost(|| freed.insert(id)).1;
+            let inserted = cost(|| freed.insert(id).is_ok()).1;
             at_most(&(s, id), &[inserted], || ids.free_id(id)).unwrap();
         }
         for _ in 0..=2 * s.held {
@@ -355,7 +355,7 @@ fn saved_ids() {
         let (ids, written) = (s.ids().0, object(4) + list(s.held));
         expect(&s, &Ok(written), || ids.to_value(Global));
         let mut value = ids.to_value(Global).unwrap();
-        at_most(&s, &[[map(s.freed_ids()), 0]], || read(&value)).unwrap();
+        at_most(&s, &[[map(s.freed_ids().map(|id| (id, ()))), 0]], || read(&value)).unwrap();
         let last = format!("/freed_ids/{}", s.held - 1);
         for path in [&last, "/freed_ids", "/range_base", "/range_end", "/next_id"] {
             with_part(&mut value, path, Value::from(-1), |value| {
