@@ -17,3 +17,6 @@ pub mod ManagerFields
 pub mod MatchingCounts
 pub mod PairedLists
 pub mod SavedManagers
+pub mod StartTables
+pub mod DeviceLists
+pub mod DeviceStarts
