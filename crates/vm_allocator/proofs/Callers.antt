@@ -31,6 +31,11 @@ pub use Rattle.vm_allocator.proofs.Ids.IdCounts.{ids_listed}
 -- The values of allocators and of ids nest few levels, and a text is parsed to the value that was written.
 pub use Rattle.vm_allocator.proofs.Reading.NestedValues.{addresses_nest, ids_nest}
 pub use Rattle.vm_ranges.proofs.ReadTexts.{parsed_again}
+-- The held ids are listed in increasing order, and equal states are the same.
+pub use Rattle.vm_allocator.proofs.Ids.HeldIds.{listed_held}
+pub use Rattle.vm_allocator.proofs.Ids.ComparedIds.{id_state_cmp-Equal}
+-- Maps with numbers as keys.
+pub use Rattle.vm_allocator.proofs.Ids.RisingIds.{keys_rise, entries_of_sorted, same_rising}
 -- Decoding a value finds the range that it encodes.
 pub use Rattle.vm_ranges.proofs.ReadRanges.{found-states, states-found}
 

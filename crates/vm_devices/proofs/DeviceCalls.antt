@@ -2,7 +2,6 @@
 -- call.
 use Rattle.std.proofs.Common.{◌≡◌, ℕ, ◌⊎◌, refl, sym, ap, ◌∙◌, inl, inr, ⊎_elim, subst, Some, None, Result, Ok, Err}
 use Rattle.std.specs.Ordering.{nat_cmp}
-use Rattle.std.specs.BTreeMap.{BTreeMap, IsEmpty, IsUnchanged, Updates}
 use Rattle.std.specs.FinMap as map
 use Rattle.std.specs.List.{Contains}
 use Rattle.vm_ranges.specs.Range.{Range}
@@ -18,7 +17,6 @@ use Rattle.vm_allocator.proofs.Callers.{given}
 use Rattle.vm_allocator.proofs.Ids.IdAnswers.{peeking_predicts}
 use Rattle.vm_devices.specs.declared.device_slot.DeviceSlot.{DeviceSlot}
 use Rattle.vm_devices.specs.Devices.{DeviceState, IsDeviceState, IsDevice, devices_of, MakesManager, Reserves, Releases}
-use Rattle.vm_devices.proofs.Tables.{table_with, table_without, no_entries}
 use Rattle.vm_devices.proofs.Pairs.{id_held}
 use Rattle.vm_devices.proofs.NewManagers.{IsMade, no_devices}
 use Rattle.vm_devices.proofs.Reserving.{reserved_state, released_state}
@@ -27,7 +25,7 @@ use Rattle.vm_devices.proofs.Reserving.{reserved_state, released_state}
 pub record Parts : Type 0 where
   pub ids : IdState
   pub space : AddressState
-  pub slots : BTreeMap ℕ Range
+  pub slots : map.FinMap nat_cmp Range
 
 -- The state that they represent.
 abbrev pub state_in : Parts → DeviceState
@@ -43,15 +41,15 @@ pub space_refused : (lo hi base size : ℕ) (ids : IdState) (e : Error) → Make
 unfolding MakesManager
 space_refused lo hi base size ids e m n = (Ok ids, Err e, m, n, refl)
 
-pub manager_made : (lo hi base size : ℕ) (ids : IdState) (space : AddressState) (slots : BTreeMap ℕ Range) → MakesIds lo hi (Ok ids) →
-    Makes base size (Ok space) → IsEmpty slots → MakesManager lo hi base size (Ok (devices_of ids space slots))
+pub manager_made : (lo hi base size : ℕ) (ids : IdState) (space : AddressState) (slots : map.FinMap nat_cmp Range) → MakesIds lo hi (Ok ids) →
+    Makes base size (Ok space) → slots ≡ map.empty → MakesManager lo hi base size (Ok (devices_of ids space slots))
 unfolding MakesManager
 manager_made lo hi base size ids space slots m n e =
-    (Ok ids, Ok space, m, n, ap (λ t. Ok (record { ids = ids; space = space; devices = t })) (no_entries slots e))
+    (Ok ids, Ok space, m, n, ap (λ t. Ok (record { ids = ids; space = space; devices = t })) e)
 
-pub manager_state : {lo hi base size : ℕ} (new : Parts) → IsMade lo hi base size new.ids new.space → IsEmpty new.slots → IsDeviceState (state_in new)
+pub manager_state : {lo hi base size : ℕ} (new : Parts) → IsMade lo hi base size new.ids new.space → new.slots ≡ map.empty → IsDeviceState (state_in new)
 manager_state {lo} {hi} {base} {size} new m e =
-    subst (λ t. IsDeviceState (record { ids = new.ids; space = new.space; devices = t })) (sym (no_entries new.slots e)) (no_devices lo hi base size new.ids new.space m)
+    subst (λ t. IsDeviceState (record { ids = new.ids; space = new.space; devices = t })) (sym e) (no_devices lo hi base size new.ids new.space m)
 
 pub ruleset makes_managers = (ids_refused, space_refused, manager_made)
 
@@ -87,22 +85,22 @@ unfolding Reserves
 table_refused {old} {new} {request} {r} a same = for_peeked old.ids a.id _ _ a.predicted (Ok r, a.space, a.answer, inr (refl, same))
 
 -- A range is allocated and freed, and the table is unchanged.
-pub record IsUndone (old : Parts) (later : AddressState) (left : BTreeMap ℕ Range) : Type 0 where
+pub record IsUndone (old : Parts) (later : AddressState) (left : map.FinMap nat_cmp Range) : Type 0 where
   pub mid : AddressState
   pub request : Request
   pub range : Range
   pub answer : Result (Unit {0}) Error
   pub given : Allocates old.space request (Ok range) mid
   pub back : Frees mid range answer later
-  pub unchanged : IsUnchanged old.slots left
+  pub unchanged : left ≡ old.slots
 
 -- The state is then the state before.
-pub undone : {old : Parts} {later : AddressState} {left : BTreeMap ℕ Range} → IsDeviceState (state_in old) → IsUndone old later left →
+pub undone : {old : Parts} {later : AddressState} {left : map.FinMap nat_cmp Range} → IsDeviceState (state_in old) → IsUndone old later left →
     devices_of old.ids later left ≡ state_in old
 undone {old} {later} {left} i u =
     let back : later ≡ old.space = (freeing_undoes old.space u.mid later u.request u.range u.answer i.space u.given u.back).1 in
     ap (λ (s : AddressState). devices_of old.ids s left) back
-    ∙ ap (λ es. record { ids = old.ids; space = old.space; devices = map.from_entries es }) u.unchanged
+    ∙ ap (λ t. devices_of old.ids old.space t) u.unchanged
 
 -- The predicted id and a range are allocated, and entered in the table.
 pub record Comes (old new : Parts) (request : Request) (slot : DeviceSlot) : Type 0 where
@@ -110,7 +108,7 @@ pub record Comes (old new : Parts) (request : Request) (slot : DeviceSlot) : Typ
   pub predicted : PeeksId old.ids (Ok slot.id)
   pub taken : AllocatesId old.ids answer new.ids
   pub given : Allocates old.space request (Ok slot.range) new.space
-  pub entered : Updates nat_cmp old.slots new.slots slot.id (Some slot.range)
+  pub entered : new.slots ≡ map.insert old.slots slot.id slot.range
 
 -- A device is then reserved.
 pub come : {old new : Parts} {request : Request} {slot : DeviceSlot} → Comes old new request slot → Reserves (state_in old) request (Ok slot) (state_in new)
@@ -118,8 +116,7 @@ unfolding Reserves
 come {old} {new} {request} {slot} c =
     let predicted = (peeking_predicts.held old.ids new.ids slot.id c.answer c.predicted c.taken).1 in
     let given = (given old.space new.space request slot.range c.given).left in
-    let table = table_with old.slots new.slots slot.id slot.range c.entered in
-    for_peeked old.ids slot.id _ _ c.predicted (Ok slot.range, new.space, c.given, inl (refl, cc (predicted, given, table)))
+    for_peeked old.ids slot.id _ _ c.predicted (Ok slot.range, new.space, c.given, inl (refl, cc (predicted, given, c.entered)))
 
 pub come_state : {old new : Parts} {request : Request} {slot : DeviceSlot} → IsDeviceState (state_in old) → Comes old new request slot →
     IsDeviceState (state_in new)
@@ -159,7 +156,7 @@ pub record Goes (old new : Parts) (id : ℕ) : Type 0 where
   pub device : IsDevice (state_in old) id range
   pub freed_id : FreesId old.ids id (Ok back) new.ids
   pub freed_range : Frees old.space range answer new.space
-  pub removed : Updates nat_cmp old.slots new.slots id None
+  pub removed : new.slots ≡ map.remove old.slots id
 
 -- The device is then released.
 pub go : {old new : Parts} {id : ℕ} → IsDeviceState (state_in old) → Goes old new id → Releases (state_in old) id (Ok tt) (state_in new)
@@ -167,8 +164,7 @@ unfolding Releases
 go {old} {new} {id} i g =
     let no_id = id_freed old.ids new.ids id g.back g.freed_id in
     let no_range = range_freed old.space new.space g.range g.answer (i.pairs.held id g.range g.device) g.freed_range in
-    let table = table_without old.slots new.slots id g.removed in
-    rw g.device (inl (refl, cc (no_id, no_range, table)))
+    rw g.device (inl (refl, cc (no_id, no_range, g.removed)))
 
 pub go_state : {old new : Parts} {id : ℕ} → IsDeviceState (state_in old) → Goes old new id → IsDeviceState (state_in new)
 go_state {old} {new} {id} i g = released_state (state_in old) (state_in new) id (Ok tt) i (go i g)

@@ -18,3 +18,6 @@ pub mod MatchingCounts
 pub mod PairedLists
 pub mod SavedManagers
 pub mod NestedManagers
+pub mod StartTables
+pub mod DeviceLists
+pub mod DeviceStarts

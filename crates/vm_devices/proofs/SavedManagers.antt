@@ -52,16 +52,16 @@ module _ {d : Data} (r : ReadOf d) where
     increasing : IsStrictlySortedBy nat_cmp (keys_of table.entries)
     increasing = increasing_sorted r.fields.slots table.entries paired.0
 
-    pub read_state : IsDeviceState (devices_of r.ids r.space table)
+    pub read_state : IsDeviceState (devices_of r.ids r.space (map.from_entries table.entries))
     read_state =
         let space = addresses_encoded r.fields.space r.space r.space_encoded in
         record {
           ids = ids_encoded r.fields.ids r.ids r.ids_encoded;
           space = space;
-          pairs = pairs_all (devices_of r.ids r.space table) table.entries refl increasing space paired.1;
+          pairs = pairs_all (devices_of r.ids r.space (map.from_entries table.entries)) table.entries refl increasing space paired.1;
         }
 
-    pub manager_read : EncodesManager d (devices_of r.ids r.space table)
+    pub manager_read : EncodesManager d (devices_of r.ids r.space (map.from_entries table.entries))
     manager_read =
         let f = r.fields in
         let found : Data × Data × Items = (f.ids, f.space, f.slots) in
@@ -117,7 +117,7 @@ manager_again = record { one = one_manager; again = read_again }
 -- ---- A written value encodes the manager
 pub manager_written : {d ids space slots : Data} {i : IdState} {a : SpaceInTree} (table : BTreeMap ℕ Range) → ManagerParts d ids space slots →
     EncodesIds ids i → EncodesAllocator space a → EncodesList slots table.entries → IsStrictlySortedBy nat_cmp (keys_of table.entries) →
-    IsDeviceState (devices_of i (state_of a) table) → EncodesManager d (devices_of i (state_of a) table)
+    IsDeviceState (devices_of i (state_of a) (map.from_entries table.entries)) → EncodesManager d (devices_of i (state_of a) (map.from_entries table.entries))
 manager_written {d} {ids} {space} {slots} {i} {a} table p is held ss rise state = record {
   four_fields = p.four_fields;
   version = p.version_is;

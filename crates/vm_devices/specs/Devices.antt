@@ -3,7 +3,6 @@ use Rattle.std.specs.Prelude.{◌≡◌, ℕ, ◌⊎◌, ◌↔◌, Some, IsSome
 use Rattle.std.specs.List.{Contains}
 use Rattle.std.specs.Ordering.{nat_cmp}
 use Rattle.std.specs.Coded.{Coded, code_by, coded×, coded_ℕ}
-use Rattle.std.specs.BTreeMap.{BTreeMap}
 use Rattle.std.specs.FinMap as map
 use Rattle.vm_ranges.specs.Range.{Range, range_code}
 use Rattle.vm_engine.specs.Address.{AddressState, address_state_code, IsAddressState, holding, releasing}
@@ -30,8 +29,8 @@ device_state_code =
     (λ _. refl)
 
 -- The state that ids, a space and a table represent.
-abbrev pub devices_of : IdState → AddressState → BTreeMap ℕ Range → DeviceState
-devices_of ids space slots = record { ids = ids; space = space; devices = map.from_entries slots.entries }
+abbrev pub devices_of : IdState → AddressState → map.FinMap nat_cmp Range → DeviceState
+devices_of ids space devices = record { ids = ids; space = space; devices = devices }
 
 -- There is a device with this id and this range.
 abbrev pub IsDevice : DeviceState → ℕ → Range → Type 0

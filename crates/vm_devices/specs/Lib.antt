@@ -3,3 +3,5 @@ pub mod Histories
 pub mod Laws
 pub mod Saved
 pub mod SavedChecks
+pub mod Queries
+pub mod TableChecks

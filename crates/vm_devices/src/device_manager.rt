@@ -4,6 +4,7 @@
 //! first. The calls after them, and the call that undoes an allocation, always succeed.
 ghost use Rattle.std.specs.Prelude.{◌≡◌, ◌%◌, OnErr, OnOk, IfOk};
 ghost use Rattle.std.specs.FinMap as map;
+ghost use Rattle.vm_ranges.specs.Cloning.{Clones};
 ghost use Rattle.vm_ranges.specs.Range.{Range, address_count};
 ghost use Rattle.vm_ranges.specs.Request.{request_for};
 ghost use Rattle.vm_engine.specs.Answer.{IsChosen};
@@ -20,11 +21,16 @@ ghost use Rattle.vm_devices.specs.Devices.{
 
 use crate::device_slot::DeviceSlot;
 use std::alloc::Global;
-use std::collections::BTreeMap;
 use std::marker::Model;
 use vm_allocator::{AddressAllocator, AllocPolicy, Error, IdAllocator, RangeInclusive, Result};
 
+mod comparing;
+mod device_table;
+mod queries;
 mod saved;
+
+use self::device_table::DeviceTable;
+pub use self::queries::Devices;
 
 /// Reserves an id and a range of addresses for each device, both or neither.
 ///
@@ -34,7 +40,7 @@ pub struct DeviceManager {
     id_allocator: IdAllocator,
     mmio_allocator: AddressAllocator,
     // The range of each device, by its id.
-    slots: BTreeMap<u32, RangeInclusive>,
+    slots: DeviceTable,
 }
 
 impl Model for DeviceManager {
@@ -71,7 +77,25 @@ impl DeviceManager {
         Ok(DeviceManager {
             id_allocator,
             mmio_allocator,
-            slots: BTreeMap::new(alloc),
+            slots: DeviceTable::new(alloc),
+        })
+    }
+
+    /// Returns a copy. It has equal allocators and the same devices.
+    ///
+    /// # Errors
+    ///
+    /// - `OutOfMemory` if an allocation fails.
+    pub fn try_clone(&self, alloc: Global) -> Result<Self>
+        ensures { Clones self.now result }
+    {
+        let id_allocator = self.id_allocator.try_clone(alloc)?;
+        let mmio_allocator = self.mmio_allocator.try_clone(alloc)?;
+        let slots = self.slots.try_clone()?;
+        Ok(DeviceManager {
+            id_allocator,
+            mmio_allocator,
+            slots,
         })
     }
 
@@ -146,7 +170,7 @@ impl DeviceManager {
         // Only this call can fail (out of memory), so it is first.
         self.id_allocator.free_id(id)?;
         let _ = self.mmio_allocator.free(&range);
-        self.slots.remove(&id);
+        self.slots.remove(id);
         Ok(())
     }
 
@@ -158,6 +182,6 @@ impl DeviceManager {
         ensures value { result ≡ map.get self.now.devices id }
         ensures state { IsDeviceState self.now }
     {
-        self.slots.get(&id).copied()
+        self.slots.slots().get(&id).copied()
     }
 }

@@ -33,7 +33,7 @@ same_state : (a b : IdState) → a.lo ≡ b.lo → a.hi ≡ b.hi → a.bound ≡
 same_state a b l h n s = λ i. record { lo = l i; hi = h i; bound = n i; held = s i }
 
 -- The order returns Equal exactly if both states are the same.
-id_state_cmp-Equal : (a b : IdState) → IsIdState a → IsIdState b → (id_state_cmp a b ≡ Equal) ↔ (a ≡ b)
+pub id_state_cmp-Equal : (a b : IdState) → IsIdState a → IsIdState b → (id_state_cmp a b ≡ Equal) ↔ (a ≡ b)
 id_state_cmp-Equal a b s t = (
   λ h.
       let p = both_equal _ _ h in

@@ -12,6 +12,7 @@ mod slots;
 use self::pairing::read_devices;
 use self::slots::encode_slots;
 use super::DeviceManager;
+use super::device_table::DeviceTable;
 use serde_json::{Value, json};
 use std::alloc::{AllocError, Global};
 use vm_allocator::{AddressAllocator, IdAllocator, Result, ValueError};
@@ -32,7 +33,7 @@ impl DeviceManager {
     {
         let ids = self.id_allocator.to_value(alloc)?;
         let space = self.mmio_allocator.to_value(alloc)?;
-        let slots = encode_slots(alloc, &self.slots)?;
+        let slots = encode_slots(alloc, self.slots.slots())?;
         Ok(manager_object(alloc, ids, space, slots)?)
     }
 
@@ -65,7 +66,7 @@ impl DeviceManager {
         Ok(DeviceManager {
             id_allocator,
             mmio_allocator,
-            slots,
+            slots: DeviceTable::from_slots(alloc, slots)?,
         })
     }
 }

@@ -255,6 +255,8 @@ fn spaces_and_trees() {
         none(&s, || (space.holds(&s.key()), tree.holds(&s.key())));
         none(&s, || (space.held_count(), tree.held_count()));
         none(&s, || (space.held_ranges().count(), tree.height()));
+        none(&s, || (space.held_at(s.base), space.longest_gap()));
+        none(&s, || (space.gaps().count(), space.clear_count()));
         none(&s, || (tree.held_ranges().count(), tree == other_tree));
         none(&s, || (tree < other_tree, tree.cmp(&other_tree)));
         none(&s, || (space == other, space < other, space.cmp(&other)));
@@ -327,7 +329,9 @@ fn ids() {
         let copy = || freed.clone();
         at_most(&s, &[cost(copy).1], || ids.try_clone(Global)).unwrap();
         none(&s, || (ids.peek_id().is_ok(), ids.is_allocated(lo)));
+        let same = ids.try_clone(Global).unwrap();
         none(&s, || ids.held_count());
+        none(&s, || (ids.held_ids().count(), ids == same));
         let outside = if lo == 0 { hi + 1 } else { lo - 1 };
         expect(&s, &Err(OutOfRange(outside)), || ids.free_id(outside));
         expect(&s, &Err(NeverAllocated(hi)), || ids.free_id(hi));

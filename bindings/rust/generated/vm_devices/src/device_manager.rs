@@ -7,10 +7,15 @@
 
 use crate::device_slot::DeviceSlot;
 use rattle::Global;
-use rattle::BTreeMap;
 use vm_allocator::{AddressAllocator, AllocPolicy, Error, IdAllocator, RangeInclusive, Result};
 
+mod comparing;
+mod device_table;
+mod queries;
 mod saved;
+
+use self::device_table::DeviceTable;
+pub use self::queries::Devices;
 
 /// Reserves an id and a range of addresses for each device, both or neither.
 ///
@@ -20,7 +25,7 @@ pub struct DeviceManager {
     id_allocator: IdAllocator,
     mmio_allocator: AddressAllocator,
     // The range of each device, by its id.
-    slots: BTreeMap<u32, RangeInclusive>,
+    slots: DeviceTable,
 }
 
 impl DeviceManager {
@@ -40,7 +45,23 @@ impl DeviceManager {
         Ok(DeviceManager {
             id_allocator,
             mmio_allocator,
-            slots: BTreeMap::new(alloc),
+            slots: DeviceTable::new(alloc),
+        })
+    }
+
+    /// Returns a copy. It has equal allocators and the same devices.
+    ///
+    /// # Errors
+    ///
+    /// - `OutOfMemory` if an allocation fails.
+    pub fn try_clone(&self, alloc: Global) -> Result<Self> {
+        let id_allocator = self.id_allocator.try_clone(alloc)?;
+        let mmio_allocator = self.mmio_allocator.try_clone(alloc)?;
+        let slots = self.slots.try_clone()?;
+        Ok(DeviceManager {
+            id_allocator,
+            mmio_allocator,
+            slots,
         })
     }
 
@@ -89,7 +110,7 @@ impl DeviceManager {
         // Only this call can fail (out of memory), so it is first.
         self.id_allocator.free_id(id)?;
         let _ = self.mmio_allocator.free(&range);
-        self.slots.remove(&id);
+        self.slots.remove(id);
         Ok(())
     }
 
@@ -97,6 +118,6 @@ impl DeviceManager {
     ///
     /// It does not allocate.
     pub fn slot(&self, id: u32) -> Option<RangeInclusive> {
-        self.slots.get(&id).copied()
+        self.slots.slots().get(&id).copied()
     }
 }

@@ -8,5 +8,5 @@
 mod device_manager;
 mod device_slot;
 
-pub use device_manager::DeviceManager;
+pub use device_manager::{DeviceManager, Devices};
 pub use device_slot::DeviceSlot;

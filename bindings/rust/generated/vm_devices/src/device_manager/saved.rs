@@ -9,6 +9,7 @@ mod slots;
 use self::pairing::read_devices;
 use self::slots::encode_slots;
 use super::DeviceManager;
+use super::device_table::DeviceTable;
 use rattle::{Value, json};
 use rattle::{AllocError, Global};
 use vm_allocator::{AddressAllocator, IdAllocator, Result, ValueError};
@@ -27,7 +28,7 @@ impl DeviceManager {
     pub fn to_value(&self, alloc: Global) -> Result<Value> {
         let ids = self.id_allocator.to_value(alloc)?;
         let space = self.mmio_allocator.to_value(alloc)?;
-        let slots = encode_slots(alloc, &self.slots)?;
+        let slots = encode_slots(alloc, self.slots.slots())?;
         Ok(manager_object(alloc, ids, space, slots)?)
     }
 
@@ -56,7 +57,7 @@ impl DeviceManager {
         Ok(DeviceManager {
             id_allocator,
             mmio_allocator,
-            slots,
+            slots: DeviceTable::from_slots(alloc, slots)?,
         })
     }
 }

@@ -17,7 +17,7 @@ invariant_of-result c =
       ids_made = c.in_ok-id_allocator.ensures.answer;
       space_made = c.in_ok-mmio_allocator.ensures.answer;
     } in
-    manager_state new made c.new-3.ensures.empty
+    manager_state new made c.new-3.ensures
 
 pub returns-clause-state : goal.returns-clause-state
 returns-clause-state c = invariant_of-result c

@@ -17,7 +17,7 @@ invariant_of-self-2 c =
       device = ap (λ (v : DeviceState). map.get v.devices c.args.id) c.self.view_is ∙ sym c.in-Some.ensures.value;
       freed_id = c.in_ok-free_id.ensures.answer;
       freed_range = c.free.ensures.answer;
-      removed = c.remove.ensures.updates;
+      removed = c.remove.ensures;
     } in
     go_state c.self.invariant goes
 
@@ -32,7 +32,7 @@ returns-clause-answer c =
       device = ap (λ (v : DeviceState). map.get v.devices c.args.id) c.self.view_is ∙ sym c.in-Some.ensures.value;
       freed_id = c.in_ok-free_id.ensures.answer;
       freed_range = c.free.ensures.answer;
-      removed = c.remove.ensures.updates;
+      removed = c.remove.ensures;
     } in
     rw (← c.self.view_is) (go c.self.invariant goes)
 

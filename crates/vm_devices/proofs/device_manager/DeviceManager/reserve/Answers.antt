@@ -65,7 +65,7 @@ invariant_of-self-2 c =
       predicted = c.in_ok-id.ensures.answer;
       taken = c.allocate_id.ensures.answer;
       given = c.in_ok-range.ensures.answer;
-      entered = c.in_default.ensures.updates;
+      entered = c.in_default.ensures.inserted;
     } in
     come_state c.self.invariant comes
 
@@ -79,7 +79,7 @@ returns-clause-answer c =
       predicted = c.in_ok-id.ensures.answer;
       taken = c.allocate_id.ensures.answer;
       given = c.in_ok-range.ensures.answer;
-      entered = c.in_default.ensures.updates;
+      entered = c.in_default.ensures.inserted;
     } in
     rw (← c.self.view_is) (come comes)
 

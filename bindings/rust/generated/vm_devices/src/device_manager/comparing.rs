@@ -1,0 +1,29 @@
+// Written by bindings/erase from crates/vm_devices/src/device_manager/comparing.rt: do not edit.
+
+//! Equality of managers.
+
+use super::DeviceManager;
+use rattle::BTreeMap;
+use vm_allocator::RangeInclusive;
+
+impl PartialEq for DeviceManager {
+    /// Returns whether both managers have equal allocators and the same devices.
+    ///
+    /// It stops at the first difference and does not allocate.
+    fn eq(&self, other: &DeviceManager) -> bool {
+        let same_devices = same_slots(self.slots.slots(), other.slots.slots());
+        same_devices
+            && self.id_allocator == other.id_allocator
+            && self.mmio_allocator == other.mmio_allocator
+    }
+}
+
+impl Eq for DeviceManager {
+}
+
+/// Returns whether both tables have the same devices.
+fn same_slots(a: &BTreeMap<u32, RangeInclusive>, b: &BTreeMap<u32, RangeInclusive>) -> bool {
+    // Tables of different lengths differ, and no walk over them is needed.
+    let same_length = a.len() == b.len();
+    same_length && a == b
+}

@@ -1,0 +1,48 @@
+-- Devices start at different addresses, and a new device starts at none of them.
+use Rattle.std.proofs.Common.{◌≡◌, ℕ, refl, sym, ap, ◌∙◌, arith, inl, inr, subst, Option, Some, None, IsSome, Ok}
+use Rattle.std.specs.List.{Contains}
+use Rattle.std.specs.FinMap as map
+use Rattle.vm_ranges.specs.Range.{Range, Overlaps}
+use Rattle.vm_ranges.specs.Request.{Request}
+use Rattle.vm_engine.specs.Address.{AddressState, IsAddressState}
+use Rattle.vm_engine.specs.Answer.{Allocates}
+use Rattle.vm_allocator.specs.Ids.{IdState, IsHeld, IsLowestNotHeld, ByLowestNotHeld, PeeksId}
+use Rattle.vm_engine.proofs.Answers.AddressAnswers.{adds_range, state_is_preserved, lie_apart}
+use Rattle.vm_allocator.proofs.Callers.{range_was_free}
+use Rattle.vm_devices.specs.Devices.{DeviceState, IsDeviceState}
+use Rattle.vm_devices.specs.TableChecks.{StartsAt, IsNew, HaveDifferentStarts}
+
+-- Held ranges with the same start are the same range.
+one_start : (space : AddressState) → IsAddressState space → (q r : Range) → Contains space.held q → Contains space.held r → q.start ≡ r.start → q ≡ r
+unfolding Overlaps
+one_start space i q r c d e =
+    let l = lie_apart space i in
+    let first = (l.inside q c).0 in
+    let second = (l.inside r d).0 in
+    l.apart q r c d (q.start, (omega arith, omega (arith, first)), (omega (arith, e), omega (arith, e, second)))
+
+pub devices_start_apart : (state : DeviceState) → IsDeviceState state → HaveDifferentStarts state.devices
+devices_start_apart state i j k start a b =
+    let first = i.pairs.held j a.range a.found in
+    let second = i.pairs.held k b.range b.found in
+    let one : a.range ≡ b.range = one_start state.space i.space a.range b.range first second (a.start_is ∙ sym b.start_is) in
+    i.pairs.once j k b.range (a.found ∙ ap Some one) b.found
+
+lowest_not_held : (ids : IdState) (id : ℕ) → PeeksId ids (Ok id) → ¬ IsHeld ids id
+unfolding PeeksId ByLowestNotHeld IsLowestNotHeld
+lowest_not_held ids id (inl h) k = let same : id ≡ h.0 = cc (h.2) in h.1.0.1 (subst (IsHeld ids) same k)
+lowest_not_held ids id (inr (all, inl h)) k = absurd (cc (h.1))
+lowest_not_held ids id (inr (all, inr h)) k = absurd (cc (h.1))
+
+pub new_device : (old : DeviceState) (mid : AddressState) (request : Request) (id : ℕ) (r : Range) → IsDeviceState old → PeeksId old.ids (Ok id) → Allocates old.space request (Ok r) mid → IsNew old.devices id r.start
+new_device old mid request id r i p a = record {
+  id_is_new = none (map.get old.devices id) refl;
+  start_is_new = λ other h.
+      let held = i.pairs.held other h.range h.found in
+      let added = adds_range old.space mid request r i.space a in
+      let one : h.range ≡ r = one_start mid (state_is_preserved.allocated old.space mid request (Ok r) i.space a) h.range r ((added.held h.range).1 (inl held)) ((added.held r).1 (inr refl)) h.start_is in
+      range_was_free old.space mid request r a (subst (Contains old.space.held) one held);
+} where
+  none : (o : Option Range) → map.get old.devices id ≡ o → o ≡ None
+  none None e = refl
+  none (Some q) e = absurd (lowest_not_held old.ids id p ((i.pairs.ids id).1 (subst IsSome (sym e) refl)))

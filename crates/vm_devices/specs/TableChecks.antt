@@ -1,0 +1,24 @@
+-- The tables of the devices by id and by start. Only private functions cite these definitions.
+use Rattle.std.specs.Prelude.{◌≡◌, ◌↔◌, ℕ, Some, None}
+use Rattle.std.specs.Ordering.{nat_cmp}
+use Rattle.std.specs.FinMap as map
+use Rattle.vm_ranges.specs.Range.{Range}
+
+-- The device with this id has a range that starts at `start`.
+pub record StartsAt (devices : map.FinMap nat_cmp Range) (id start : ℕ) : Type 0 where
+  pub range : Range
+  pub found : map.get devices id ≡ Some range
+  pub start_is : range.start ≡ start
+
+-- The ids are those of the devices, by the starts of their ranges.
+abbrev pub AreIdsByStart : map.FinMap nat_cmp Range → map.FinMap nat_cmp ℕ → Type 0
+AreIdsByStart devices ids = (start id : ℕ) → (map.get ids start ≡ Some id) ↔ StartsAt devices id start
+
+-- No device has the id, and no range of a device starts at `start`.
+pub record IsNew (devices : map.FinMap nat_cmp Range) (id start : ℕ) : Type 0 where
+  pub id_is_new : map.get devices id ≡ None
+  pub start_is_new : (other : ℕ) → ¬ StartsAt devices other start
+
+-- No two ranges of devices start at the same address.
+abbrev pub HaveDifferentStarts : map.FinMap nat_cmp Range → Type 0
+HaveDifferentStarts devices = (i j start : ℕ) → StartsAt devices i start → StartsAt devices j start → i ≡ j

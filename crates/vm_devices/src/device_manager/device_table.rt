@@ -1,0 +1,114 @@
+//! The table of the devices. It finds a range by its id, and an id by the start of its range.
+ghost use Rattle.std.specs.Prelude.{◌≡◌, ◌↔◌, ℕ, Some, IfOk, OnOk, OnErr};
+ghost use Rattle.std.specs.FinMap as map;
+ghost use Rattle.vm_devices.specs.TableChecks.{StartsAt, IsNew, HaveDifferentStarts};
+
+use std::alloc::{AllocError, Global};
+use std::collections::BTreeMap;
+use std::marker::Model;
+use vm_allocator::RangeInclusive;
+
+/// The range of each device by its id, and the id of each device by the start of its range.
+///
+/// Its model is the table by ids.
+#[derive(Debug, Drop)]
+pub(super) struct DeviceTable {
+    slots: BTreeMap<u32, RangeInclusive>,
+    ids_by_start: BTreeMap<u64, u32>,
+}
+
+impl Model for DeviceTable {
+    ghost use Rattle.std.specs.Coded.{coded_ℕ};
+    ghost use Rattle.std.specs.Ordering.{nat_cmp};
+    ghost use Rattle.std.specs.FinMap as map;
+    ghost use Rattle.vm_ranges.specs.Range.{Range, range_code};
+    ghost use Rattle.vm_devices.specs.TableChecks.{AreIdsByStart};
+
+    ghost Value = { map.FinMap nat_cmp Range };
+
+    ghost coded = { map.code coded_ℕ range_code };
+
+    ghost view = { λ t. map.from_entries t.slots.entries };
+
+    ghost invariant = { λ t. AreIdsByStart (map.from_entries t.slots.entries) (map.from_entries t.ids_by_start.entries) };
+}
+
+impl DeviceTable {
+    /// Creates a table without devices. It does not allocate.
+    pub(super) fn new(alloc: Global) -> DeviceTable
+        ensures { result ≡ map.empty }
+    {
+        DeviceTable {
+            slots: BTreeMap::new(alloc),
+            ids_by_start: BTreeMap::new(alloc),
+        }
+    }
+
+    /// Creates a table from the ranges by ids.
+    pub(super) fn from_slots(
+        alloc: Global,
+        slots: BTreeMap<u32, RangeInclusive>,
+    ) -> Result<DeviceTable, AllocError>
+        requires { HaveDifferentStarts (map.from_entries slots.entries) }
+        ensures { IfOk result (λ table. table ≡ map.from_entries slots.entries) }
+    {
+        let mut ids_by_start = BTreeMap::new(alloc);
+        for (id, range) in slots.iter() {
+            ids_by_start.insert(range.start(), *id)?;
+        }
+        Ok(DeviceTable {
+            slots,
+            ids_by_start,
+        })
+    }
+
+    /// Returns a copy.
+    pub(super) fn try_clone(&self) -> Result<DeviceTable, AllocError>
+        ensures { IfOk result (λ table. table ≡ self.now) }
+    {
+        let slots = self.slots.clone()?;
+        let ids_by_start = self.ids_by_start.clone()?;
+        Ok(DeviceTable {
+            slots,
+            ids_by_start,
+        })
+    }
+
+    /// Returns the ranges by ids.
+    pub(super) fn slots(&self) -> &BTreeMap<u32, RangeInclusive>
+        ensures { map.from_entries result.now.entries ≡ self.now }
+    {
+        &self.slots
+    }
+
+    /// Returns the id of the device whose range starts at `start`, or `None` if there is none.
+    pub(super) fn id_at(&self, start: u64) -> Option<u32>
+        ensures { (id : ℕ) → (result ≡ Some id) ↔ StartsAt self.now id start }
+    {
+        self.ids_by_start.get(&start).copied()
+    }
+
+    /// Inserts a device. An error changes nothing.
+    pub(super) fn insert(&mut self, id: u32, range: RangeInclusive) -> Result<(), AllocError>
+        requires { IsNew self.old id range.start }
+        ensures inserted { OnOk result (self.new ≡ map.insert self.old id range) }
+        ensures err { OnErr result (self.new ≡ self.old) }
+    {
+        let start = range.start();
+        self.ids_by_start.insert(start, id)?;
+        if let Err(refused) = self.slots.insert(id, range) {
+            self.ids_by_start.remove(&start);
+            return Err(refused.into());
+        }
+        Ok(())
+    }
+
+    /// Removes the device with this id, if there is one.
+    pub(super) fn remove(&mut self, id: u32)
+        ensures { self.new ≡ map.remove self.old id }
+    {
+        if let Some(range) = self.slots.remove(&id) {
+            self.ids_by_start.remove(&range.start());
+        }
+    }
+}
