@@ -1,6 +1,8 @@
-use crate::error::or_abort;
-use crate::{AllocPolicy, RangeInclusive, Result};
+use crate::address_allocator::ShortDebug;
+use crate::error::{or_abort, or_try_error, out_of_memory};
+use crate::{AllocPolicy, RangeInclusive, Result, TryError};
 use core::fmt;
+use core::iter::FusedIterator;
 use rattle::Global;
 
 /// The resources of a device: an id and a range of addresses.
@@ -23,14 +25,22 @@ pub struct DeviceSlot {
     pub range: RangeInclusive,
 }
 
+impl DeviceSlot {
+    /// Converts a slot of the proved code.
+    fn of(slot: proved_devices::DeviceSlot) -> DeviceSlot {
+        DeviceSlot {
+            id: slot.id,
+            range: RangeInclusive(slot.range),
+        }
+    }
+}
+
 /// Allocates an id and a range of addresses for each device. If it cannot have both, it gets
 /// neither.
 ///
 /// Two devices never share an id or an address.
 ///
-/// Freed ids are stored in a [`BTreeSet`](alloc::collections::BTreeSet) and devices in a
-/// [`BTreeMap`](alloc::collections::BTreeMap). If one of their allocations fails, the process ends,
-/// so there are no `try_` variants.
+/// Two managers are equal if and only if their allocators are equal and they have the same devices.
 ///
 /// # Example
 ///
@@ -48,6 +58,7 @@ pub struct DeviceSlot {
 /// assert_eq!(devices.reserve(0x1000, 0x1000, AllocPolicy::FirstMatch)?, disk);
 /// # Ok::<(), Error>(())
 /// ```
+#[derive(PartialEq, Eq)]
 pub struct DeviceManager(pub(crate) proved_devices::DeviceManager);
 
 impl DeviceManager {
@@ -67,6 +78,23 @@ impl DeviceManager {
         .map(DeviceManager)
     }
 
+    /// Creates a manager like [`new`](Self::new), but returns an error if an allocation fails.
+    ///
+    /// # Errors
+    ///
+    /// In this order:
+    /// - `Refused` with `InvalidRange`, `Underflow` or `Overflow`, if `new` returns that error.
+    /// - `OutOfMemory` if the allocation of a node fails.
+    pub fn try_new(
+        id_lo: u32,
+        id_hi: u32,
+        base: u64,
+        size: u64,
+    ) -> core::result::Result<Self, TryError> {
+        let made = proved_devices::DeviceManager::new(Global, id_lo, id_hi, base, size);
+        or_try_error(made).map(DeviceManager)
+    }
+
     /// Allocates the lowest free id and a range of `size` addresses for a new device. `policy` and
     /// `align` choose the range as in
     /// [`AddressAllocator::allocate`](crate::AddressAllocator::allocate).
@@ -80,11 +108,23 @@ impl DeviceManager {
     ///   or `InvalidStateTransition`, as of
     ///   [`AddressAllocator::allocate`](crate::AddressAllocator::allocate).
     pub fn reserve(&mut self, size: u64, align: u64, policy: AllocPolicy) -> Result<DeviceSlot> {
-        let slot = or_abort(self.0.reserve(Global, size, align, policy.proved()))?;
-        Ok(DeviceSlot {
-            id: slot.id,
-            range: RangeInclusive(slot.range),
-        })
+        or_abort(self.0.reserve(Global, size, align, policy.proved())).map(DeviceSlot::of)
+    }
+
+    /// Reserves like [`reserve`](Self::reserve), but returns an error if an allocation fails.
+    ///
+    /// # Errors
+    ///
+    /// An error leaves ids, ranges and devices unchanged. In this order:
+    /// - `Refused` with the error of `reserve`.
+    /// - `OutOfMemory` if the allocation of a node or for the table of devices fails.
+    pub fn try_reserve(
+        &mut self,
+        size: u64,
+        align: u64,
+        policy: AllocPolicy,
+    ) -> core::result::Result<DeviceSlot, TryError> {
+        or_try_error(self.0.reserve(Global, size, align, policy.proved())).map(DeviceSlot::of)
     }
 
     /// Releases a device: frees its id and its range.
@@ -96,6 +136,59 @@ impl DeviceManager {
         or_abort(self.0.release(id))
     }
 
+    /// Releases a device like [`release`](Self::release), but returns an error if an allocation
+    /// fails.
+    ///
+    /// # Errors
+    ///
+    /// An error changes nothing. In this order:
+    /// - `Refused(NeverAllocated(id))` if no device has this id.
+    /// - `OutOfMemory` if an allocation for the set of freed ids fails.
+    pub fn try_release(&mut self, id: u32) -> core::result::Result<(), TryError> {
+        or_try_error(self.0.release(id))
+    }
+
+    /// Returns an iterator over the devices in ascending order of ids. It does not allocate.
+    pub fn devices(&self) -> Devices<'_> {
+        Devices(self.0.devices())
+    }
+
+    /// Returns the number of devices in constant time. It does not allocate.
+    #[must_use]
+    pub fn device_count(&self) -> u64 {
+        self.0.device_count()
+    }
+
+    /// Returns the device whose range contains the address, or `None` if there is none.
+    ///
+    /// It walks one path of the tree and looks up one entry of a table. It does not allocate.
+    ///
+    /// # Example
+    ///
+    /// ```rust
+    /// use divsharun::{AllocPolicy, DeviceManager};
+    ///
+    /// let mut devices = DeviceManager::new(0, 100, 0xd000_0000, 0x3000_0000)?;
+    /// let disk = devices.reserve(0x1000, 0x1000, AllocPolicy::FirstMatch)?;
+    /// // The guest accesses this address.
+    /// assert_eq!(devices.device_at(0xd000_0010), Some(disk));
+    /// assert!(devices.devices().eq([disk]));
+    /// # Ok::<(), divsharun::Error>(())
+    /// ```
+    #[must_use]
+    pub fn device_at(&self, address: u64) -> Option<DeviceSlot> {
+        self.0.device_at(address).map(DeviceSlot::of)
+    }
+
+    /// Returns a copy, or an error if an allocation fails.
+    ///
+    /// # Errors
+    ///
+    /// - `OutOfMemory` if an allocation fails.
+    pub fn try_clone(&self) -> core::result::Result<Self, TryError> {
+        or_try_error(self.0.try_clone(Global)).map(DeviceManager)
+    }
+
     /// Returns the range of the device with this id, or `None` if there is no such device. It does
     /// not allocate.
     pub fn slot(&self, id: u32) -> Option<RangeInclusive> {
@@ -103,8 +196,58 @@ impl DeviceManager {
     }
 }
 
+impl Clone for DeviceManager {
+    fn clone(&self) -> Self {
+        self.try_clone().unwrap_or_else(|_| out_of_memory())
+    }
+}
+
+/// Writes the ids, the space and the devices, and not the tree.
 impl fmt::Debug for DeviceManager {
     fn fmt(&self, f: &mut fmt::Formatter<'_>) -> fmt::Result {
-        self.0.fmt(f)
+        f.debug_struct("DeviceManager")
+            .field("ids", self.0.ids())
+            .field("addresses", &ShortDebug(self.0.addresses()))
+            .field("devices", &DebugDevices(self))
+            .finish()
+    }
+}
+
+/// The `Debug` of the devices of a manager.
+struct DebugDevices<'a>(&'a DeviceManager);
+
+impl fmt::Debug for DebugDevices<'_> {
+    fn fmt(&self, f: &mut fmt::Formatter<'_>) -> fmt::Result {
+        f.debug_list().entries(self.0.devices()).finish()
+    }
+}
+
+impl<'a> IntoIterator for &'a DeviceManager {
+    type Item = DeviceSlot;
+    type IntoIter = Devices<'a>;
+
+    /// Returns an iterator over the devices.
+    fn into_iter(self) -> Devices<'a> {
+        self.devices()
+    }
+}
+
+/// An iterator over the devices of a [`DeviceManager`], in ascending order of ids. It is created by
+/// [`devices`](DeviceManager::devices).
+pub struct Devices<'a>(proved_devices::Devices<'a>);
+
+impl Iterator for Devices<'_> {
+    type Item = DeviceSlot;
+
+    fn next(&mut self) -> Option<DeviceSlot> {
+        self.0.next().map(DeviceSlot::of)
+    }
+}
+
+impl FusedIterator for Devices<'_> {}
+
+impl fmt::Debug for Devices<'_> {
+    fn fmt(&self, f: &mut fmt::Formatter<'_>) -> fmt::Result {
+        f.debug_struct("Devices").finish_non_exhaustive()
     }
 }

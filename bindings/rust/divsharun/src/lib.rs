@@ -38,29 +38,31 @@
 //! difference. These items are new:
 //!
 //! - [`DeviceManager`];
-//! - of an [`IdAllocator`]: [`peek_id`](IdAllocator::peek_id) and
-//!   [`held_count`](IdAllocator::held_count);
+//! - of an [`IdAllocator`]: [`peek_id`](IdAllocator::peek_id),
+//!   [`held_count`](IdAllocator::held_count), [`held_ids`](IdAllocator::held_ids), the ends of the
+//!   range and equality;
 //! - of an [`AddressAllocator`]: [`with_held`](AddressAllocator::with_held),
 //!   [`allocate_all`](AddressAllocator::allocate_all),
+//!   [`allocate_constraint`](AddressAllocator::allocate_constraint),
 //!   [`held_ranges`](AddressAllocator::held_ranges), [`holds`](AddressAllocator::holds),
-//!   [`held_count`](AddressAllocator::held_count), [`height`](AddressAllocator::height),
+//!   [`held_at`](AddressAllocator::held_at), [`held_count`](AddressAllocator::held_count),
+//!   [`gaps`](AddressAllocator::gaps), [`longest_gap`](AddressAllocator::longest_gap),
+//!   [`free_len`](AddressAllocator::free_len), [`height`](AddressAllocator::height),
 //!   [`layout`](AddressAllocator::layout),
-//!   [`allocate_counted`](AddressAllocator::allocate_counted),
-//!   [`free_counted`](AddressAllocator::free_counted) and the `try_` variants.
+//!   [`allocate_counted`](AddressAllocator::allocate_counted) and
+//!   [`free_counted`](AddressAllocator::free_counted);
+//! - of a [`RangeInclusive`]: its texts, conversions,
+//!   [`contains_address`](RangeInclusive::contains_address) and
+//!   [`intersection`](RangeInclusive::intersection);
+//! - the `try_` variants of all calls that allocate.
 //!
 //! # Out of memory
 //!
 //! If an allocation fails, the process ends, as with Rust's collections. To handle the error
-//! instead, use the `try_` variants: [`AddressAllocator::try_new`],
-//! [`try_with_held`](AddressAllocator::try_with_held),
-//! [`try_allocate`](AddressAllocator::try_allocate),
-//! [`try_allocate_all`](AddressAllocator::try_allocate_all) and
-//! [`try_clone`](AddressAllocator::try_clone). They return a [`TryError`] and change nothing on an
-//! error. Both kinds can be called on the same allocator.
-//!
-//! [`IdAllocator`] and [`DeviceManager`] have no `try_` variants. They store freed ids in a
-//! [`BTreeSet`](alloc::collections::BTreeSet) and devices in a
-//! [`BTreeMap`](alloc::collections::BTreeMap), which cannot report a failed allocation.
+//! instead, use the `try_` variants, for example
+//! [`AddressAllocator::try_allocate`], [`IdAllocator::try_free_id`] and
+//! [`DeviceManager::try_reserve`]. They return a [`TryError`] and change nothing on an error. Both
+//! kinds can be called on the same object.
 //!
 //! Freeing a range, allocating an id, comparisons and queries do not allocate.
 //!
@@ -169,7 +171,7 @@ mod saved;
 
 pub use address_allocator::{AddressAllocator, Gaps, HeldRanges};
 pub use constraint::{AllocPolicy, Constraint, DEFAULT_CONSTRAINT_ALIGN};
-pub use device_manager::{DeviceManager, DeviceSlot};
+pub use device_manager::{DeviceManager, DeviceSlot, Devices};
 pub use error::{Error, Result, TryError};
 pub use id_allocator::{HeldIds, IdAllocator};
 pub use layout::{Block, Blocks, Layout};
@@ -186,6 +188,7 @@ const _: () = {
     is_shared_and_sent::<HeldRanges<'_>>();
     is_shared_and_sent::<Gaps<'_>>();
     is_shared_and_sent::<HeldIds<'_>>();
+    is_shared_and_sent::<Devices<'_>>();
     is_shared_and_sent::<Layout<'_>>();
     is_shared_and_sent::<Blocks<'_>>();
     is_shared_and_sent::<Block<'_>>();
