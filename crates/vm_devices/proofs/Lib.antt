@@ -20,3 +20,4 @@ pub mod SavedManagers
 pub mod StartTables
 pub mod DeviceLists
 pub mod DeviceStarts
+pub mod ComparedManagers
