@@ -26,6 +26,7 @@ use vm_engine::IntervalTree;
 use vm_ranges::{AllocPolicy, Constraint, Error, RangeInclusive, Result};
 
 mod comparing;
+mod gaps;
 mod held_ranges;
 mod several;
 

@@ -1,7 +1,9 @@
 //! Laws: theorems about the definitions that the contracts of the calls cite.
 //!
 //! Each law is the contract of a function that does nothing.
+mod gaps;
 mod histories;
 mod id_histories;
 mod ids;
 mod saved;
+mod several;

@@ -12,7 +12,7 @@ mod saved;
 
 pub use address_allocator::AddressAllocator;
 pub use id_allocator::{HeldIds, IdAllocator};
-pub use vm_engine::HeldRanges;
+pub use vm_engine::{Gaps, HeldRanges};
 pub use vm_ranges::{
     AllocPolicy, Constraint, DEFAULT_CONSTRAINT_ALIGN, Error, RangeInclusive, Result, ValueError,
 };

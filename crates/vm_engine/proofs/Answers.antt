@@ -3,3 +3,4 @@ pub mod Once
 pub mod Outcomes
 pub mod Filling
 pub mod AddressAnswers
+pub mod HeldAndGaps

@@ -7,3 +7,4 @@ pub mod BlockStates
 pub mod HeldSets
 pub mod HeldChanges
 pub mod HeldLists
+pub mod GapLists

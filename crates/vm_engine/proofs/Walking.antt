@@ -1,2 +1,4 @@
 pub mod WalkPaths
 pub mod HeldInTrees
+pub mod HeldAtAddresses
+pub mod GapsInTrees

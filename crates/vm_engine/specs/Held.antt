@@ -18,7 +18,7 @@ range_fault lo hi r =
     else None
 
 -- The first of two optional errors.
-abbrev or_else : Option Error → Option Error → Option Error
+abbrev pub or_else : Option Error → Option Error → Option Error
 or_else None e = e
 or_else (Some e) f = Some e
 

@@ -1,2 +1,3 @@
 pub mod AddressLaws
 pub mod CountLaws
+pub mod QueryLaws

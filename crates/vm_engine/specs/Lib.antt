@@ -4,6 +4,7 @@ pub mod Comparison
 pub mod Tree
 pub mod Counts
 pub mod Held
+pub mod Queries
 pub mod Laws
 pub mod Values
 pub mod Checks

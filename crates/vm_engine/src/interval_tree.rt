@@ -3,7 +3,8 @@
 //! - `placement` chooses the range of a request.
 //! - `allocation` allocates the chosen range.
 //! - `deallocation` frees an allocated range.
-//! - `held_ranges` iterates over the allocated ranges.
+//! - `held_ranges` has queries about the allocated ranges.
+//! - `gaps` has queries about the free addresses.
 //! - `comparing` compares two trees.
 //! - `counted` has the calls that count the nodes that they enter.
 //!
@@ -33,6 +34,7 @@ mod building;
 mod comparing;
 pub(crate) mod counted;
 mod deallocation;
+pub(crate) mod gaps;
 pub(crate) mod held_ranges;
 pub(crate) mod placement;
 
@@ -91,7 +93,8 @@ impl IntervalTree {
 
     /// Returns an iterator over the blocks, from the lowest to the highest.
     fn walk(&self) -> Walk<'_>
-        ensures { result ≡ blocks self.now }
+        ensures value { result ≡ blocks self.now }
+        ensures space { IsSpaceTree self.now }
     {
         Walk::new(&self.root)
     }

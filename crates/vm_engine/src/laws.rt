@@ -2,3 +2,4 @@
 //! empty function.
 mod addresses;
 mod orders;
+mod queries;

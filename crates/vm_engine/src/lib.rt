@@ -4,7 +4,7 @@
 //! a tree cover the whole space, and two neighbours are never both free.
 //!
 //! - [`IntervalTree`] allocates and frees ranges.
-//! - [`HeldRanges`] iterates over the allocated ranges.
+//! - [`HeldRanges`] iterates over the allocated ranges, and [`Gaps`] over the gaps between them.
 #![tactic(auto)]
 
 mod block;
@@ -16,4 +16,5 @@ mod saved;
 
 pub use interval_tree::IntervalTree;
 use interval_tree::counted::Steps;
+pub use interval_tree::gaps::Gaps;
 pub use interval_tree::held_ranges::HeldRanges;

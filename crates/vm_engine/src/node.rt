@@ -7,7 +7,7 @@
 //! of a tree are functions of that value, so "unchanged" is an equation.
 ghost use Rattle.std.specs.Prelude.{◌≡◌, ◌+◌, ◌<◌, ◌≤◌, ◌^◌, ◌↔◌, max, IsNone, IfOk};
 ghost use Rattle.vm_ranges.specs.Range.{MAX};
-ghost use Rattle.vm_engine.specs.Tree.Shape.{Tip, Fork, height_of, single, root_block, IsTree};
+ghost use Rattle.vm_engine.specs.Tree.Shape.{Tip, Fork, height_of, max_free_of, single, root_block, IsTree};
 ghost use Rattle.vm_engine.specs.Engine.NodeFields.{side};
 
 mod balance;
@@ -138,6 +138,14 @@ impl InnerNode {
         ensures tree { IsTree self.now }
     {
         self.height
+    }
+
+    /// Returns the length of the longest free block in the subtree, or 0 if there is none.
+    pub(crate) fn max_free(&self) -> u64
+        ensures value { result ≡ max_free_of self.now }
+        ensures tree { IsTree self.now }
+    {
+        self.max_free
     }
 }
 

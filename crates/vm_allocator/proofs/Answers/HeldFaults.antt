@@ -1,14 +1,21 @@
 -- If a range cannot be held after others, `ExactMatch` has the same error for it.
-use Rattle.std.proofs.Common.{◌≡◌, ℕ, ◌≤◌, ◌<◌, List, true, false, cond, eqb, ltb, eq-eqb, Some, None, refl, arith, subst, ⊎_elim}
-use Rattle.std.specs.List.{Contains}
-use Rattle.std.proofs.lemmas.Bool.{ltb-true, ltb-false, eqb-true}
-use Rattle.vm_ranges.specs.Range.{Range, MAX, address_count, span}
-use Rattle.vm_engine.specs.Address.{AddressState}
-use Rattle.vm_engine.specs.Answer.{ByStart}
-use Rattle.vm_engine.specs.Held.{range_fault}
+use Rattle.std.proofs.Common.{◌≡◌, ℕ, ◌+◌, ◌≤◌, ◌<◌, List, [], ◌∷◌, ◌++◌, true, false, cond, eqb, ltb, eq-eqb, Option, Some, None, Result, Err, refl, ap, ◌∙◌, arith, subst, ⊎_elim}
+use Rattle.std.specs.List.{All, Contains}
+use Rattle.std.proofs.lemmas.Bool.{ltb-true, ltb-false, eqb-true, cases_lt}
+use Rattle.std.proofs.lemmas.List.Elements.{All-head, All-tail}
+use Rattle.vm_ranges.specs.Range.{Range, MAX, IsRange, IsIn, address_count, span}
+use Rattle.vm_ranges.specs.Alignment.{IsAlignment}
+use Rattle.vm_ranges.specs.Request.{IsRequest, IsStartAligned, request_for}
+use Rattle.vm_engine.specs.Address.{AddressState, AreInOrder}
+use Rattle.vm_engine.specs.Answer.{ByStart, ByExactPolicy, Grants, Allocates}
+use Rattle.vm_engine.specs.Held.{range_fault, or_else, first_fault}
+use Rattle.vm_allocator.specs.Laws.SeveralLaws.{AreIncreasing, FaultIsThatOfExactMatch}
 use Rattle.vm_ranges.specs.declared.error.Error.{Error}
 use Rattle.vm_ranges.specs.declared.error.Error.TheVariants.{Overflow, ResourceNotAvailable}
+use Rattle.vm_ranges.specs.declared.constraint.AllocPolicy.TheVariants.{ExactMatch}
 use Rattle.vm_engine.proofs.Blocks.PlainWords.{IsHeldAddress, held_contains, held_address, all_miss}
+use Rattle.vm_engine.proofs.Answers.Filling.{request_grants}
+use Rattle.vm_allocator.proofs.Answers.HeldOnes.{held_if_no_fault}
 
 module _ (space : Range) (before : List Range) (lo : ℕ) (r : Range) (some : r.start ≤ r.end) (top : r.end ≤ MAX) (from : space.start ≤ lo) (behind : lo ≤ r.start) (above : (x : ℕ) → lo ≤ x → ¬ IsHeldAddress before x) where
   abbrev state : AddressState
@@ -51,7 +58,7 @@ module _ (space : Range) (before : List Range) (lo : ℕ) (r : Range) (some : r.
   unfolding ByStart
   starts_at_max P Q m h = ⊎_elim (λ a. a.1) (λ a. absurd (a.0 m)) h
 
-  pub same_fault : (e : Error) (P : Error → Type 0) (Q : Type 0) → range_fault lo space.end r ≡ Some e → ByStart r.start (address_count r) state P Q → P e
+  same_fault : (e : Error) (P : Error → Type 0) (Q : Type 0) → range_fault lo space.end r ≡ Some e → ByStart r.start (address_count r) state P Q → P e
   same_fault e P Q f h =
       elim (ltb r.start lo) as (λ v. ltb r.start lo ≡ v → cond v (Some ResourceNotAvailable) (cond (eqb r.start MAX) (Some Overflow) (cond (ltb space.end r.end) (Some ResourceNotAvailable) (cond (eqb r.end MAX) (Some Overflow) None))) ≡ Some e → P e) [
         | true ↦ λ a _. absurd (omega (arith, ltb-true r.start lo a))
@@ -69,10 +76,83 @@ module _ (space : Range) (before : List Range) (lo : ℕ) (r : Range) (some : r.
         ] refl g
       ] refl f
 
-abbrev pub SameFault : Type 0
-SameFault = (space : Range) (before : List Range) (lo : ℕ) (r : Range) → r.start ≤ r.end → r.end ≤ MAX → space.start ≤ lo → lo ≤ r.start → ((x : ℕ) → lo ≤ x → ¬ IsHeldAddress before x) → (e f : Error) → range_fault lo space.end r ≡ Some e → ByStart r.start (address_count r) (record { space = space; held = before }) (λ x. x ≡ f) ⊥ → e ≡ f
+-- ---- The ranges before it
+-- The address after the last range, or lo if there is no range.
+abbrev next_after : ℕ → List Range → ℕ
+next_after lo [] = lo
+next_after lo (b ∷ bs) = next_after (b.end + 1) bs
 
-pub same_faults : SameFault
-same_faults space before lo r some top from behind above e f = same_fault space before lo r some top from behind above e (λ x. x ≡ f) ⊥
+-- All ranges end before that address.
+from_next : (lo hi : ℕ) (before : List Range) → AreInOrder lo before hi → lo ≤ next_after lo before
+from_next lo hi [] s = omega arith
+from_next lo hi (b ∷ bs) s = omega (arith, from_next (b.end + 1) hi bs s.4, s.0, s.1)
 
-pub ruleset faults = (same_faults)
+none_above : (lo hi x : ℕ) (before : List Range) → AreInOrder lo before hi → next_after lo before ≤ x → ¬ IsHeldAddress before x
+none_above lo hi x [] s l h = h
+none_above lo hi x (b ∷ bs) s l h =
+    ⊎_elim
+    (λ (i : IsIn b x). omega (arith, i.1, l, from_next (b.end + 1) hi bs s.4))
+    (none_above (b.end + 1) hi x bs s.4 l)
+    h
+
+-- The first range of a list that cannot be held.
+record FirstFault (lo hi : ℕ) (held : List Range) (e : Error) : Type 0 where
+  before : List Range
+  range : Range
+  after : List Range
+  cut : held ≡ before ++ range ∷ after
+  order : AreInOrder lo before hi
+  valid : IsRange range.start range.end
+  behind : next_after lo before ≤ range.start
+  fault : range_fault (next_after lo before) hi range ≡ Some e
+
+first_one : (lo hi : ℕ) (held : List Range) (e : Error) → hi ≤ MAX → All (λ r. IsRange r.start r.end) held → AreIncreasing lo held → first_fault lo hi held ≡ Some e → FirstFault lo hi held e
+first_one lo hi [] e top a i f = absurd (cc f)
+first_one lo hi (r ∷ rs) e top a i f =
+    let range = All-head (λ r. IsRange r.start r.end) r rs a in
+    elim (range_fault lo hi r) as (λ v. range_fault lo hi r ≡ v → or_else v (first_fault (r.end + 1) hi rs) ≡ Some e → FirstFault lo hi (r ∷ rs) e) [
+      | None ↦ λ none g.
+          let k = first_one (r.end + 1) hi rs e top (All-tail (λ r. IsRange r.start r.end) r rs a) i.1 g in
+          let here = held_if_no_fault lo hi r none range.0 in
+          let below : r.end < MAX = ⊎_elim (λ (l : r.end < MAX). l) (λ (l : MAX ≤ r.end). absurd (here.2 (omega (arith, here.1)))) (cases_lt r.end MAX) in
+          record {
+            before = r ∷ k.before;
+            range = k.range;
+            after = k.after;
+            cut = ap (λ (v : List Range). r ∷ v) k.cut;
+            order = (here.0, range.0, here.1, below, k.order);
+            valid = k.valid;
+            behind = k.behind;
+            fault = k.fault;
+          }
+      | Some x ↦ λ some g.
+          record { before = []; range = r; after = rs; cut = refl; order = tt; valid = range; behind = i.0; fault = some ∙ g }
+    ] refl f
+
+-- ---- The result of the request
+exact_grants : (old : AddressState) (r : Range) (answer : Result Range Error) (new : AddressState) → Allocates old (request_for (address_count r) 1 (ExactMatch r.start)) answer new
+    → (Rest : Type 0) × ByStart r.start (address_count r) old (λ e. (answer ≡ Err e) × (new ≡ old)) Rest
+unfolding IsAlignment IsStartAligned Grants ByExactPolicy
+exact_grants old r answer new h =
+    let request = request_for (address_count r) 1 (ExactMatch r.start) in
+    let sense : IsRequest request = record { some = omega arith; aligned = (0, omega arith, refl); start = omega arith } in
+    (_, request_grants request old new answer sense h)
+
+pub fault_is_that_of_exact_match : FaultIsThatOfExactMatch
+fault_is_that_of_exact_match space held e range each increasing fault =
+    let lo = space.start in
+    let hi = space.end in
+    let k = first_one lo hi held e range.1 each increasing fault in
+    let old : AddressState = record { space = space; held = k.before } in
+    record {
+      before = k.before;
+      range = k.range;
+      after = k.after;
+      cut = k.cut;
+      state = record { space = range; in_order = k.order };
+      error = λ answer new h.
+          let g = exact_grants old k.range answer new h in
+          (same_fault space k.before (next_after lo k.before) k.range k.valid.0 k.valid.1 (from_next lo hi k.before k.order) k.behind
+          (λ x l. none_above lo hi x k.before k.order l)
+          e (λ x. (answer ≡ Err x) × (new ≡ old)) g.0 k.fault g.1).0;
+    }

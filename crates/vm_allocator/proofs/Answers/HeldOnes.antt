@@ -1,15 +1,23 @@
 -- Ranges that are allocated by their starts one after the other.
-use Rattle.std.proofs.Common.{◌≡◌, ℕ, ◌+◌, List, [], ◌∷◌, ◌++◌, refl, sym, ap, ◌∙◌, subst, arith, inl, inr}
-use Rattle.std.proofs.lemmas.Bool.{le-ltb}
+use Rattle.std.proofs.Common.{◌≡◌, ℕ, ◌+◌, ◌-◌, ◌<◌, ◌≤◌, ◌⊎◌, List, [], ◌∷◌, ◌++◌, length, true, false, cond, eqb, ltb, Option, Some, None, MatchOption, Result, Ok, Err, refl, sym, ap, ◌∙◌, subst, arith, inl, inr, ⊎_elim}
+use Rattle.std.proofs.lemmas.Bool.{le-ltb, ltb-false, eqb-false, cases_lt}
 use Rattle.std.proofs.lemmas.List.{append_assoc, append-nil}
-use Rattle.vm_ranges.specs.Range.{Range, address_count}
+use Rattle.vm_ranges.specs.Cases.{IfElse}
+use Rattle.vm_ranges.specs.Range.{Range, MAX, IsRange, address_count, span}
 use Rattle.vm_ranges.specs.Request.{request_for}
 use Rattle.vm_ranges.specs.declared.constraint.AllocPolicy.TheVariants.{ExactMatch}
-use Rattle.vm_engine.specs.Address.{AddressState, AreInOrder, with_range}
+use Rattle.vm_ranges.specs.declared.error.Error.{Error}
+use Rattle.vm_ranges.specs.declared.error.Error.TheVariants.{Overflow, ResourceNotAvailable, OutOfMemory}
+use Rattle.vm_engine.specs.Address.{AddressState, AreInOrder, IsAddressState, with_range}
+use Rattle.vm_engine.specs.Answer.{Makes}
+use Rattle.vm_engine.specs.Held.{range_fault, or_else, first_fault, TOO_MANY_BLOCKS, BySpace, MakesHeld, MakesWithHeld}
+use Rattle.vm_engine.specs.Tree.Blocks.{blocks_of}
 use Rattle.vm_allocator.specs.Several.{AllocatesEach, exact_requests, HeldAsAllocated}
+use Rattle.vm_allocator.specs.Laws.SeveralLaws.{HeldIsEqual}
 use Rattle.vm_allocator.proofs.Callers.{given}
 use Rattle.vm_engine.proofs.Blocks.PlainWords.{IsHeld}
 use Rattle.vm_engine.proofs.Blocks.HeldSets.{later_above}
+use Rattle.vm_engine.proofs.Making.HeldTrees.{held_made}
 
 -- The ranges of a list without its end are in order.
 in_order_below : (xs ys : List Range) (lo hi : ℕ) → AreInOrder lo (xs ++ ys) hi → AreInOrder lo xs hi
@@ -42,4 +50,83 @@ each_exact (r ∷ rs) before space new s e =
 pub held_as_allocated : HeldAsAllocated
 held_as_allocated space held new i e = each_exact held [] space new i.in_order e
 
-pub ruleset held_ones = (held_as_allocated)
+-- ---- An allocator that is created with these ranges
+-- Each range is in order.
+abbrev AreSome : List Range → Type 0
+AreSome [] = Unit {0}
+AreSome (r ∷ rs) = (r.start ≤ r.end) × AreSome rs
+
+allocated_are_some : (rs : List Range) (old new : AddressState) → AllocatesEach old (exact_requests rs) rs new → AreSome rs
+allocated_are_some [] old new e = tt
+allocated_are_some (r ∷ rs) old new e =
+    let g = given old e.0 (request_for (address_count r) 1 (ExactMatch r.start)) r e.1 in
+    (omega (arith, ap (λ (v : Range). v.end) g.long), allocated_are_some rs e.0 new e.2)
+
+-- A range without a fault can be held.
+pub held_if_no_fault : (lo hi : ℕ) (r : Range) → range_fault lo hi r ≡ None → r.start ≤ r.end → (lo ≤ r.start) × (r.end ≤ hi) × (¬ (r.end ≡ MAX))
+held_if_no_fault lo hi r f some =
+    elim (ltb r.start lo) as (λ v. ltb r.start lo ≡ v → cond v (Some ResourceNotAvailable) (cond (eqb r.start MAX) (Some Overflow) (cond (ltb hi r.end) (Some ResourceNotAvailable) (cond (eqb r.end MAX) (Some Overflow) None))) ≡ None → (lo ≤ r.start) × (r.end ≤ hi) × (¬ (r.end ≡ MAX))) [
+      | true ↦ λ a g. absurd (cc g)
+      | false ↦ λ a g. elim (eqb r.start MAX) as (λ v. cond v (Some Overflow) (cond (ltb hi r.end) (Some ResourceNotAvailable) (cond (eqb r.end MAX) (Some Overflow) None)) ≡ None → (lo ≤ r.start) × (r.end ≤ hi) × (¬ (r.end ≡ MAX))) [
+        | true ↦ λ k. absurd (cc k)
+        | false ↦ λ k. elim (ltb hi r.end) as (λ v. ltb hi r.end ≡ v → cond v (Some ResourceNotAvailable) (cond (eqb r.end MAX) (Some Overflow) None) ≡ None → (lo ≤ r.start) × (r.end ≤ hi) × (¬ (r.end ≡ MAX))) [
+          | true ↦ λ d m. absurd (cc m)
+          | false ↦ λ d m. elim (eqb r.end MAX) as (λ v. eqb r.end MAX ≡ v → cond v (Some Overflow) None ≡ None → (lo ≤ r.start) × (r.end ≤ hi) × (¬ (r.end ≡ MAX))) [
+            | true ↦ λ o p. absurd (cc p)
+            | false ↦ λ o p. (ltb-false r.start lo a, ltb-false hi r.end d, eqb-false r.end MAX o)
+          ] refl m
+        ] refl k
+      ] g
+    ] refl f
+
+no_fault_parts : (o p : Option Error) → or_else o p ≡ None → (o ≡ None) × (p ≡ None)
+no_fault_parts None p e = (refl, e)
+no_fault_parts (Some x) p e = absurd (cc e)
+
+in_order_if_no_fault : (lo hi : ℕ) (rs : List Range) → hi ≤ MAX → first_fault lo hi rs ≡ None → AreSome rs → AreInOrder lo rs hi
+in_order_if_no_fault lo hi [] top f s = tt
+in_order_if_no_fault lo hi (r ∷ rs) top f s =
+    let parts = no_fault_parts (range_fault lo hi r) (first_fault (r.end + 1) hi rs) f in
+    let here = held_if_no_fault lo hi r parts.0 s.0 in
+    let below : r.end < MAX = ⊎_elim (λ (l : r.end < MAX). l) (λ (l : MAX ≤ r.end). absurd (here.2 (omega (arith, here.1)))) (cases_lt r.end MAX) in
+    (here.0, s.0, here.1, below, in_order_if_no_fault (r.end + 1) hi rs top parts.1 s.1)
+
+-- The space, and the state that is made.
+new_space : (base size : ℕ) (first : AddressState) → size ≤ MAX → Makes base size (Ok first) → (first ≡ with_held (span base size) []) × IsRange base (base + size - 1) × ¬ (size ≡ 0) × ¬ (MAX < base + size - 1)
+unfolding Makes
+new_space base size first l h =
+    ⊎_elim
+    (λ a. absurd (cc (a.1)))
+    (λ a. ⊎_elim
+    (λ b. absurd (cc (b.1)))
+    (λ b. ⊎_elim
+    (λ (c : Ok first ≡ Ok (with_held (span base size) [])). (cc c, (omega (arith, a.0), omega (arith, b.0), λ z. omega (arith, a.0)), a.0, b.0))
+    (λ c. absurd (cc c))
+    b.1)
+    a.1)
+    h
+
+made_held : (base size : ℕ) (held : List Range) (made : AddressState) → ¬ (size ≡ 0) → ¬ (MAX < base + size - 1) → MakesWithHeld base size held (Ok made) → MakesHeld (span base size) held (Ok made)
+unfolding BySpace
+made_held base size held made some fits h =
+    ⊎_elim (λ a. absurd (some a.0)) (λ a. ⊎_elim (λ b. absurd (fits b.0)) (λ b. b.1) a.1) h
+
+no_fault : (o : Option Error) (many : Type 0) (answer : Result AddressState Error) (state made : AddressState) → MatchOption o (IfElse many (answer ≡ Err Overflow) ((answer ≡ Ok state) ⊎ (answer ≡ Err OutOfMemory))) (λ fault. answer ≡ Err fault) → answer ≡ Ok made → o ≡ None
+no_fault None many answer state made h e = refl
+no_fault (Some f) many answer state made h e = absurd (cc (h, e))
+
+held_no_fault : (space : Range) (held : List Range) (made : AddressState) → MakesHeld space held (Ok made) → first_fault space.start space.end held ≡ None
+unfolding MakesHeld
+held_no_fault space held made h =
+    no_fault (first_fault space.start space.end held) (TOO_MANY_BLOCKS ≤ length (blocks_of (with_held space held))) (Ok made) (with_held space held) made h refl
+
+pub held_is_equal : HeldIsEqual
+held_is_equal base size held first new made word m e h =
+    let space = span base size in
+    let n = new_space base size first word m in
+    let k = made_held base size held made n.2 n.3 h in
+    let each : AllocatesEach (with_held space []) (exact_requests held) held new = subst (λ (v : AddressState). AllocatesEach v (exact_requests held) held new) n.0 e in
+    let order = in_order_if_no_fault base (base + size - 1) held n.1.1 (held_no_fault space held made k) (allocated_are_some held (with_held space []) new each) in
+    let valid : IsAddressState (with_held space held) = record { space = n.1; in_order = order } in
+    let same : made ≡ new = held_made space held made k ∙ sym (held_as_allocated space held new valid each) in
+    record { space = ap (λ (v : AddressState). v.space) same; held = ap (λ (v : AddressState). v.held) same }

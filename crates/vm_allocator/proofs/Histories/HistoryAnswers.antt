@@ -129,7 +129,7 @@ exact_grants policy n a t old new answer state some p h =
     let g : Grants old (request_for n a (ExactMatch t)) answer new = subst (λ (v : AllocPolicy). Grants old (request_for n a v) answer new) p h in
     exact_errors old new answer t n _ state some g
 
-answered : (request : Request) (old new : AddressState) (answer : Result Range Error) → IsAddressState old → Allocates old request answer new → IsAnswered old request answer new
+pub answered : (request : Request) (old new : AddressState) (answer : Result Range Error) → IsAddressState old → Allocates old request answer new → IsAnswered old request answer new
 answered request old new answer state h =
     record {
       invalid = λ e m. invalid request old new answer e h m;

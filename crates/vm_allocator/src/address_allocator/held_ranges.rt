@@ -1,6 +1,7 @@
-//! Queries of the allocated ranges: an iterator, a test and a count.
+//! Queries of the allocated ranges: an iterator, a test, a search by an address, and a count.
 ghost use Rattle.std.specs.Prelude.{◌≡◌, ◌↔◌, IsTrue, length};
 ghost use Rattle.std.specs.List.{Contains};
+ghost use Rattle.vm_engine.specs.Queries.{IsHeldAt};
 ghost use Rattle.vm_allocator.specs.Allocator.{state_of};
 
 use super::AddressAllocator;
@@ -25,6 +26,16 @@ impl AddressAllocator {
         ensures { IsTrue result ↔ Contains (state_of self.now).held key.now }
     {
         self.interval_tree.holds(key)
+    }
+
+    /// Returns the allocated range that contains an address, or `None` if the address is free or
+    /// outside the space.
+    ///
+    /// It descends one path of the tree and does not allocate.
+    pub fn held_at(&self, address: u64) -> Option<RangeInclusive>
+        ensures { IsHeldAt (state_of self.now) address result }
+    {
+        self.interval_tree.held_at(address)
     }
 
     /// Returns the number of allocated ranges.

@@ -2,7 +2,6 @@
 //!
 //! A history is a list of calls of an allocator that was created or read. It can go on with a
 //! clone.
-ghost use Rattle.vm_allocator.specs.Several.{HeldAsAllocated};
 ghost use Rattle.vm_allocator.specs.Values.AllocatorValues.{EncodesAddresses};
 ghost use Rattle.vm_allocator.specs.Values.RepairedValues.{EncodesRepaired};
 ghost use Rattle.vm_allocator.specs.Laws.HistoryLaws.{
@@ -52,13 +51,6 @@ fn held_are_valid()
 #[tactic(auto, using(crate::proofs::Histories::AlongHistories::decided))]
 fn state_decides()
     ensures { StateDecides }
-{}
-
-/// Proves that ranges which are held from the start are held as if they were allocated one after
-/// the other.
-#[tactic(auto, using(crate::proofs::Answers::HeldOnes::held_ones, crate::proofs::Answers::HeldFaults::faults))]
-fn held_is_allocated()
-    ensures { HeldAsAllocated }
 {}
 
 /// Proves that freed ranges leave no trace, in whatever order they are freed.

@@ -11,7 +11,7 @@ use Rattle.vm_engine.proofs.Nodes.TreeEdits.{some_same}
 use Rattle.vm_engine.proofs.Nodes.MinNodes.{most_nodes, node_count-blocks, power_grows}
 
 -- ---- Their number
-held_of-append : (xs ys : List Block) → held_of (xs ++ ys) ≡ held_of xs ++ held_of ys
+pub held_of-append : (xs ys : List Block) → held_of (xs ++ ys) ≡ held_of xs ++ held_of ys
 held_of-append [] ys = refl
 held_of-append (b ∷ bs) ys =
     ap (λ (v : List Range). range_if_held b.state b.key ++ v) (held_of-append bs ys)

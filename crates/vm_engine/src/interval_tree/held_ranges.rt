@@ -5,11 +5,12 @@
 ghost use Rattle.std.specs.Prelude.{◌≡◌, ◌↔◌, IsTrue, length};
 ghost use Rattle.std.specs.List.{Contains};
 ghost use Rattle.std.specs.Iterator.{YieldsFirst, item_count};
+ghost use Rattle.vm_engine.specs.Queries.{IsHeldAt};
 ghost use Rattle.vm_engine.specs.Tree.SpaceTree.{tree_state};
 
 use super::IntervalTree;
 use crate::node::walks::Walk;
-use crate::node::walks::held::{count_held, has_held};
+use crate::node::walks::held::{count_held, has_held, held_at};
 use std::marker::Model;
 use vm_ranges::{NodeState, RangeInclusive};
 
@@ -68,6 +69,16 @@ impl IntervalTree {
         ensures { IsTrue result ↔ Contains (tree_state self.now).held key.now }
     {
         has_held(&self.root, key)
+    }
+
+    /// Returns the allocated range that contains an address, or `None` if the address is free or
+    /// outside the space.
+    ///
+    /// It follows one path from the root and does not allocate.
+    pub fn held_at(&self, address: u64) -> Option<RangeInclusive>
+        ensures { IsHeldAt (tree_state self.now) address result }
+    {
+        held_at(&self.root, address)
     }
 
     /// Returns the number of allocated ranges. It visits every node and does not allocate.

@@ -1,8 +1,8 @@
 //! Iteration over the blocks of a tree, and recursive functions that do not count nodes.
 //!
 //! A `Walk` stores its path in an array of 49 links, so it does not allocate. Two walks side by
-//! side find the first difference of two trees of different shapes. `copying`, `encoding` and
-//! `held` are recursive. `encoding` is in this folder because it reads the fields of nodes.
+//! side find the first difference of two trees of different shapes. `copying`, `encoding`, `held` and
+//! `gaps` are recursive. `encoding` is in this folder because it reads the fields of nodes.
 ghost use Rattle.std.specs.Prelude.{◌≡◌, ◌≤◌, ◌++◌, drop};
 ghost use Rattle.std.specs.Iterator.{YieldsFirst, item_count};
 ghost use Rattle.vm_engine.specs.Tree.Shape.{MAX_HEIGHT, blocks, height_of};
@@ -12,6 +12,7 @@ ghost use Rattle.vm_engine.specs.Engine.Walks.{remaining_blocks, Fits};
 pub(crate) mod comparing;
 pub(crate) mod copying;
 pub(crate) mod encoding;
+pub(crate) mod gaps;
 pub(crate) mod held;
 #[cfg(test)]
 pub(crate) mod shapes;

@@ -1,0 +1,39 @@
+//! Queries of the free addresses: the gaps, the length of the longest gap, and a count.
+//!
+//! A gap is a run of free addresses with no free address next to it.
+ghost use Rattle.std.specs.Prelude.{◌≡◌};
+ghost use Rattle.vm_engine.specs.Queries.{gaps_of, longest_of, count_of};
+ghost use Rattle.vm_allocator.specs.Allocator.{state_of};
+
+use super::AddressAllocator;
+use vm_engine::Gaps;
+
+impl AddressAllocator {
+    /// Returns an iterator over the gaps, from the lowest to the highest.
+    ///
+    /// It does not allocate.
+    pub fn gaps(&self) -> Gaps<'_>
+        ensures { result ≡ gaps_of (state_of self.now) }
+    {
+        self.interval_tree.gaps()
+    }
+
+    /// Returns the length of the longest gap, or 0 if no address is free.
+    ///
+    /// At alignment 1, `FirstMatch` and `LastMatch` find a range for a request exactly if its size is
+    /// at most this length. It reads one node and does not allocate.
+    pub fn longest_gap(&self) -> u64
+        ensures { result ≡ longest_of (gaps_of (state_of self.now)) }
+    {
+        self.interval_tree.longest_gap()
+    }
+
+    /// Returns the number of free addresses.
+    ///
+    /// It walks the whole tree and does not allocate.
+    pub fn clear_count(&self) -> u64
+        ensures { result ≡ count_of (gaps_of (state_of self.now)) }
+    {
+        self.interval_tree.clear_count()
+    }
+}

@@ -1,0 +1,100 @@
+-- The free blocks of a tree: their ranges, the longest one, and the number of their addresses.
+use Rattle.std.proofs.Common.{◌≡◌, ℕ, ◌+◌, ◌<◌, ◌≤◌, max, List, [], ◌∷◌, ◌++◌, refl, sym, ap, ◌∙◌, arith, append_assoc, ⊎_elim}
+use Rattle.std.proofs.lemmas.Bool.{cases_lt}
+use Rattle.vm_ranges.specs.Range.{Range, MAX, address_count}
+use Rattle.vm_engine.specs.Address.{AddressState}
+use Rattle.vm_engine.specs.Tree.Block.{Block, free_length}
+use Rattle.vm_engine.specs.Tree.Blocks.{Tiles, TilesSpace, blocks_of}
+use Rattle.vm_engine.specs.Tree.Shape.{Shape, Tip, Fork, blocks, max_free_of}
+use Rattle.vm_engine.specs.Tree.SpaceTree.{space_of, tree_state, IsSpaceTree}
+use Rattle.vm_engine.specs.Queries.{range_if_free, free_of, gaps_of, longest_of, count_of}
+use Rattle.vm_ranges.specs.declared.state.NodeState.{NodeState}
+use Rattle.vm_ranges.specs.declared.state.NodeState.TheVariants.{Free, Allocated}
+use Rattle.vm_engine.proofs.Comparing.Tilings.{tree_blocks}
+
+pub free_of-free : (b : Block) (bs : List Block) → b.state ≡ Free → free_of (b ∷ bs) ≡ b.key ∷ free_of bs
+free_of-free b bs e = ap (λ (s : NodeState). range_if_free s b.key ++ free_of bs) e
+
+pub free_of-held : (b : Block) (bs : List Block) → b.state ≡ Allocated → free_of (b ∷ bs) ≡ free_of bs
+free_of-held b bs e = ap (λ (s : NodeState). range_if_free s b.key ++ free_of bs) e
+
+pub ruleset free_of_first = (free_of-free, free_of-held)
+
+free_of-append : (xs ys : List Block) → free_of (xs ++ ys) ≡ free_of xs ++ free_of ys
+free_of-append [] ys = refl
+free_of-append (b ∷ bs) ys =
+    ap (λ (v : List Range). range_if_free b.state b.key ++ v) (free_of-append bs ys)
+    ∙ sym (append_assoc (range_if_free b.state b.key) (free_of bs) (free_of ys))
+
+-- ---- The number of their addresses
+count_of-append : (xs ys : List Range) → count_of (xs ++ ys) ≡ count_of xs + count_of ys
+count_of-append [] ys = omega arith
+count_of-append (r ∷ rs) ys = omega (arith, count_of-append rs ys)
+
+own_count : (s : NodeState) (k : Range) (rs : List Range) → count_of (range_if_free s k ++ rs) ≡ free_length (record { key = k; state = s }) + count_of rs
+own_count Free k rs = refl
+own_count Allocated k rs = omega arith
+
+own_few : (s : NodeState) (k : Range) → free_length (record { key = k; state = s }) ≤ address_count k
+own_few Free k = omega arith
+own_few Allocated k = omega arith
+
+clear_fork : (l : Shape) (b : Block) (r : Shape) → count_of (free_of (blocks (Fork l b r))) ≡ count_of (free_of (blocks l)) + count_of (free_of (blocks r)) + free_length b
+clear_fork l b r =
+    let both = ap count_of (free_of-append (blocks l) (b ∷ blocks r)) ∙ count_of-append (free_of (blocks l)) (free_of (b ∷ blocks r)) in
+    omega (arith, both, own_count b.state b.key (free_of (blocks r)))
+
+pub clear_fork-free : (l : Shape) (b : Block) (r : Shape) → b.state ≡ Free → count_of (free_of (blocks (Fork l b r))) ≡ count_of (free_of (blocks l)) + count_of (free_of (blocks r)) + address_count b.key
+clear_fork-free l b r e =
+    let own : free_length b ≡ address_count b.key = ap (λ (s : NodeState). free_length (record { key = b.key; state = s })) e in
+    omega (arith, clear_fork l b r, own)
+
+pub clear_fork-held : (l : Shape) (b : Block) (r : Shape) → b.state ≡ Allocated → count_of (free_of (blocks (Fork l b r))) ≡ count_of (free_of (blocks l)) + count_of (free_of (blocks r))
+clear_fork-held l b r e =
+    let own : free_length b ≡ 0 = ap (λ (s : NodeState). free_length (record { key = b.key; state = s })) e in
+    omega (arith, clear_fork l b r, own)
+
+pub clear_children : (l : Shape) (b : Block) (r : Shape) → count_of (free_of (blocks l)) + count_of (free_of (blocks r)) ≤ count_of (free_of (blocks (Fork l b r)))
+clear_children l b r = omega (arith, clear_fork l b r)
+
+pub ruleset clear_numbers = (clear_fork-free, clear_fork-held, clear_children)
+
+-- A tiling has no more free addresses than addresses.
+pub clear_within : (p : NodeState) (lo hi : ℕ) (bs : List Block) → Tiles p lo bs hi → count_of (free_of bs) + lo ≤ hi + 1
+clear_within p lo hi [] t = omega arith
+clear_within p lo hi (b ∷ bs) t =
+    omega (arith, clear_within b.state (b.key.end + 1) hi bs t.3, own_count b.state b.key (free_of bs), own_few b.state b.key, t.0, t.1)
+
+-- ---- The longest one
+longest_of-append : (xs ys : List Range) → longest_of (xs ++ ys) ≡ max (longest_of xs) (longest_of ys)
+longest_of-append [] ys = omega arith
+longest_of-append (r ∷ rs) ys = omega (arith, longest_of-append rs ys)
+
+own_longest : (s : NodeState) (k : Range) (rs : List Range) → longest_of (range_if_free s k ++ rs) ≡ max (free_length (record { key = k; state = s })) (longest_of rs)
+own_longest Free k rs = refl
+own_longest Allocated k rs = omega arith
+
+max_free_is_longest : (s : Shape) → max_free_of s ≡ longest_of (free_of (blocks s))
+max_free_is_longest Tip = refl
+max_free_is_longest (Fork l b r) =
+    let both = ap longest_of (free_of-append (blocks l) (b ∷ blocks r)) ∙ longest_of-append (free_of (blocks l)) (free_of (b ∷ blocks r)) in
+    omega (arith, max_free_is_longest l, max_free_is_longest r, both, own_longest b.state b.key (free_of (blocks r)))
+
+-- ---- The gaps of a tree are its free blocks
+pub gaps_in_tree : (s : Shape) → IsSpaceTree s → free_of (blocks s) ≡ gaps_of (tree_state s)
+gaps_in_tree s h = ap free_of (sym (tree_blocks s h))
+
+pub longest_in_tree : (s : Shape) → IsSpaceTree s → max_free_of s ≡ longest_of (gaps_of (tree_state s))
+longest_in_tree s h = max_free_is_longest s ∙ ap longest_of (gaps_in_tree s h)
+
+pub clear_in_tree : (s : Shape) → IsSpaceTree s → count_of (free_of (blocks s)) ≤ MAX
+unfolding TilesSpace
+clear_in_tree s h =
+    let sp = space_of (blocks s) in
+    let few = clear_within Allocated sp.start sp.end (blocks s) h.tiling.tiles in
+    ⊎_elim
+    (λ (p : 0 < sp.start). omega (arith, few, h.space.1))
+    (λ (p : sp.start ≤ 0). let last = h.space.2 (omega arith) in omega arith)
+    (cases_lt 0 sp.start)
+
+pub ruleset gaps_in_trees = (gaps_in_tree, longest_in_tree, clear_in_tree)

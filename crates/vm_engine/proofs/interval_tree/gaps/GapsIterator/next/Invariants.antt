@@ -1,0 +1,9 @@
+use Rattle.std.proofs.Common.{◌≡◌, length}
+use Rattle.vm_engine.specs.Queries.{free_of}
+use Rattle.vm_engine.proofs.interval_tree.gaps.GapsIterator.next.Given as goal
+
+abbrev pub invariant-loop-block : goal.invariant-loop-block
+invariant-loop-block l = free_of l.self-inside.walk ≡ free_of l.initial.self-inside.walk
+
+abbrev pub decreases-loop-block : goal.decreases-loop-block
+decreases-loop-block l = length l.self-inside.walk

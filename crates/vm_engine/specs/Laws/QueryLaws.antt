@@ -1,0 +1,77 @@
+-- Laws of the queries of addresses and gaps.
+use Rattle.std.specs.Prelude.{◌≡◌, ◌↔◌, ℕ, ◌+◌, ◌<◌, ◌≤◌, ◌⊎◌, List, Option, Some, None}
+use Rattle.std.specs.List.{All, Contains}
+use Rattle.vm_ranges.specs.Range.{Range, IsIn, address_count}
+use Rattle.vm_engine.specs.Address.{AddressState, IsAddressState, IsClear, IsPlace}
+use Rattle.vm_engine.specs.Tree.Blocks.{Tiles, held_of, blocks_of}
+use Rattle.vm_engine.specs.Queries.{free_of, gaps_of, longest_of, count_of, IsHeldAt}
+use Rattle.vm_ranges.specs.declared.state.NodeState.TheVariants.{Allocated}
+
+-- The address x is in exactly one of the ranges.
+pub record IsInOne (ranges : List Range) (x : ℕ) : Type 0 where
+  pub range : Range
+  pub listed : Contains ranges range
+  pub inside : IsIn range x
+  pub only : (r : Range) → Contains ranges r → IsIn r x → r ≡ range
+
+-- The address x is in none of the ranges.
+abbrev pub IsInNone : List Range → ℕ → Type 0
+IsInNone ranges x = All (λ r. ¬ IsIn r x) ranges
+
+-- Each address of the space is either in exactly one held range or in exactly one gap.
+abbrev pub EachAddressIsInOne : Type 0
+EachAddressIsInOne =
+    (state : AddressState) (x : ℕ) → IsAddressState state → IsIn state.space x →
+    (IsInOne state.held x × IsInNone (gaps_of state) x) ⊎ (IsInOne (gaps_of state) x × IsInNone state.held x)
+
+-- The answer is the held range that contains the address x, or None if x is in a gap or outside the space.
+pub record AgreesWithLists (state : AddressState) (x : ℕ) (answer : Option Range) : Type 0 where
+  pub held : (r : Range) → Contains state.held r → IsIn r x → answer ≡ Some r
+  pub gap : (g : Range) → Contains (gaps_of state) g → IsIn g x → answer ≡ None
+  pub outside : ¬ IsIn state.space x → answer ≡ None
+
+-- The result of `held_at` agrees with the lists of held ranges and gaps.
+abbrev pub HeldAtAgrees : Type 0
+HeldAtAgrees =
+    (state : AddressState) (x : ℕ) (answer : Option Range) →
+    IsAddressState state → IsHeldAt state x answer → AgreesWithLists state x answer
+
+-- The range g is a longest range of clear addresses: its addresses are clear, and the addresses before and after it are
+-- not clear.
+pub record IsGap (state : AddressState) (g : Range) : Type 0 where
+  pub some : g.start ≤ g.end
+  pub clear : (x : ℕ) → IsIn g x → IsClear state x
+  pub before : (x : ℕ) → x + 1 ≡ g.start → ¬ IsClear state x
+  pub after : ¬ IsClear state (g.end + 1)
+
+-- The gaps are exactly the longest ranges of clear addresses.
+abbrev pub GapsAreLongest : Type 0
+GapsAreLongest = (state : AddressState) (g : Range) → IsAddressState state → Contains (gaps_of state) g ↔ IsGap state g
+
+-- The blocks of a state cover its space in order. Its held ranges are the held blocks, and its gaps are the free blocks.
+pub record IsInBlocks (state : AddressState) : Type 0 where
+  pub tiles : Tiles Allocated state.space.start (blocks_of state) state.space.end
+  pub held : held_of (blocks_of state) ≡ state.held
+  pub gaps : free_of (blocks_of state) ≡ gaps_of state
+
+-- The held ranges and the gaps of each valid state are in turn its blocks, which cover the space.
+abbrev pub HeldAndGapsAreBlocks : Type 0
+HeldAndGapsAreBlocks = (state : AddressState) → IsAddressState state → IsInBlocks state
+
+-- The length of the longest gap is 0 exactly if no address is clear.
+abbrev pub LongestIsZero : Type 0
+LongestIsZero =
+    (state : AddressState) → IsAddressState state →
+    (longest_of (gaps_of state) ≡ 0) ↔ ((x : ℕ) → ¬ IsClear state x)
+
+-- There is a place for n addresses at alignment 1 exactly if n is at most the length of the longest gap.
+abbrev pub LongestFits : Type 0
+LongestFits =
+    (state : AddressState) (n : ℕ) → IsAddressState state → 0 < n →
+    ((s : ℕ) × IsPlace n 1 state s) ↔ (n ≤ longest_of (gaps_of state))
+
+-- The clear addresses and the addresses of the held ranges are together as many as those of the space.
+abbrev pub CountsAddUp : Type 0
+CountsAddUp =
+    (state : AddressState) → IsAddressState state →
+    count_of (gaps_of state) + count_of state.held ≡ address_count state.space

@@ -1,0 +1,42 @@
+-- The gaps of a state, and the results of queries of addresses.
+use Rattle.std.specs.Prelude.{ℕ, ◌+◌, max, List, [], ◌∷◌, ◌++◌, Option, Some, None}
+use Rattle.std.specs.List.{All, Contains}
+use Rattle.vm_ranges.specs.Range.{Range, IsIn, address_count}
+use Rattle.vm_engine.specs.Address.{AddressState}
+use Rattle.vm_engine.specs.Tree.Block.{Block}
+use Rattle.vm_engine.specs.Tree.Blocks.{blocks_of}
+use Rattle.vm_ranges.specs.declared.state.NodeState.{NodeState}
+use Rattle.vm_ranges.specs.declared.state.NodeState.TheVariants.{Free, Allocated}
+
+-- The range of a block if it is free, otherwise no range.
+abbrev pub range_if_free : NodeState → Range → List Range
+range_if_free Free k = k ∷ []
+range_if_free Allocated k = []
+
+-- The ranges of the free blocks, in order.
+abbrev pub free_of : List Block → List Range
+free_of [] = []
+free_of (b ∷ bs) = range_if_free b.state b.key ++ free_of bs
+
+-- The gaps of a state, from the lowest to the highest.
+abbrev pub gaps_of : AddressState → List Range
+gaps_of state = free_of (blocks_of state)
+
+-- The number of addresses of the longest range, or 0 if there is no range.
+abbrev pub longest_of : List Range → ℕ
+longest_of [] = 0
+longest_of (r ∷ rs) = max (address_count r) (longest_of rs)
+
+-- The number of addresses of all ranges together.
+abbrev pub count_of : List Range → ℕ
+count_of [] = 0
+count_of (r ∷ rs) = address_count r + count_of rs
+
+-- The answer is a range of the list that contains the address x, or None if no range of the list contains it.
+abbrev pub IsRangeAt : List Range → ℕ → Option Range → Type 0
+IsRangeAt ranges x None = All (λ r. ¬ IsIn r x) ranges
+IsRangeAt ranges x (Some r) = Contains ranges r × IsIn r x
+
+-- The answer is a held range that contains the address x, or None if no held range contains it.
+abbrev pub IsHeldAt : AddressState → ℕ → Option Range → Type 0
+IsHeldAt state x answer = IsRangeAt state.held x answer

@@ -1,0 +1,79 @@
+//! Queries about the free addresses: the gaps, the length of the longest gap, and the number of
+//! free addresses.
+//!
+//! A gap is a run of free addresses with no free address next to it. Each free block is a gap.
+ghost use Rattle.std.specs.Prelude.{◌≡◌};
+ghost use Rattle.std.specs.Iterator.{YieldsFirst, item_count};
+ghost use Rattle.vm_engine.specs.Queries.{gaps_of, longest_of, count_of};
+ghost use Rattle.vm_engine.specs.Tree.SpaceTree.{tree_state};
+
+use super::IntervalTree;
+use crate::node::walks::Walk;
+use crate::node::walks::gaps::count_clear;
+use std::marker::Model;
+use vm_ranges::{NodeState, RangeInclusive};
+
+/// An iterator over the gaps, from the lowest to the highest. It does not allocate.
+///
+/// Its model is the list of the gaps that it has not returned yet.
+#[derive(Drop)]
+pub struct Gaps<'a> {
+    walk: Walk<'a>,
+}
+
+impl<'a> Model for Gaps<'a> {
+    ghost use Rattle.std.specs.Prelude.{List};
+    ghost use Rattle.vm_ranges.specs.Range.{Range};
+    ghost use Rattle.vm_engine.specs.Queries.{free_of};
+
+    ghost Value = { List Range };
+
+    ghost view = { λ g. free_of g.walk };
+}
+
+impl<'a> Iterator for Gaps<'a> {
+    type Item = RangeInclusive;
+
+    ghost next_gives = { YieldsFirst (λ g. g) };
+
+    ghost remaining = { item_count (λ g. g) };
+
+    /// Returns the next gap.
+    #[tactic(auto, using(crate::proofs::Walking::GapsInTrees::free_of_first))]
+    fn next(&mut self) -> Option<RangeInclusive> {
+        while let Some(block) = self.walk.next() {
+            if block.state == NodeState::Free {
+                return Some(block.key);
+            }
+        }
+        None
+    }
+}
+
+impl IntervalTree {
+    /// Returns an iterator over the gaps, from the lowest to the highest. It does not allocate.
+    #[tactic(auto, using(crate::proofs::Walking::GapsInTrees::gaps_in_trees))]
+    pub fn gaps(&self) -> Gaps<'_>
+        ensures { result ≡ gaps_of (tree_state self.now) }
+    {
+        Gaps { walk: self.walk() }
+    }
+
+    /// Returns the length of the longest gap in addresses, or 0 if no address is free.
+    ///
+    /// It reads the root only and does not allocate.
+    #[tactic(auto, using(crate::proofs::Walking::GapsInTrees::gaps_in_trees))]
+    pub fn longest_gap(&self) -> u64
+        ensures { result ≡ longest_of (gaps_of (tree_state self.now)) }
+    {
+        self.root().max_free()
+    }
+
+    /// Returns the number of free addresses. It visits every node and does not allocate.
+    #[tactic(auto, using(crate::proofs::Walking::GapsInTrees::gaps_in_trees))]
+    pub fn clear_count(&self) -> u64
+        ensures { result ≡ count_of (gaps_of (tree_state self.now)) }
+    {
+        count_clear(&self.root)
+    }
+}

@@ -1,0 +1,39 @@
+//! Laws of queries of addresses and gaps.
+ghost use Rattle.vm_engine.specs.Laws.QueryLaws.{
+  EachAddressIsInOne,
+  HeldAtAgrees,
+  GapsAreLongest,
+  HeldAndGapsAreBlocks,
+  LongestIsZero,
+  LongestFits,
+  CountsAddUp,
+};
+
+/// States that each address of the space is either in exactly one allocated range or in exactly one
+/// gap. `held_at` agrees with both lists.
+#[tactic(auto, using(crate::proofs::Answers::HeldAndGaps::one_range))]
+fn addresses_are_in_one_range()
+    ensures one { EachAddressIsInOne }
+    ensures agrees { HeldAtAgrees }
+{}
+
+/// States that the gaps are exactly the longest ranges of free addresses. The allocated ranges and
+/// the gaps in turn cover the space.
+fn gaps_are_longest()
+    ensures longest { GapsAreLongest }
+    ensures blocks { HeldAndGapsAreBlocks }
+{}
+
+/// States that a request at alignment 1 has a place exactly if it is at most as long as the longest
+/// gap. The length of the longest gap is 0 exactly if no address is free.
+fn longest_gap_fits()
+    ensures zero { LongestIsZero }
+    ensures fits { LongestFits }
+{}
+
+/// States that the number of free addresses and the lengths of the allocated ranges add up to the
+/// size of the space.
+#[tactic(auto, using(crate::proofs::Answers::HeldAndGaps::counts))]
+fn counts_add_up()
+    ensures { CountsAddUp }
+{}
