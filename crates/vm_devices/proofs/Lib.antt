@@ -21,3 +21,4 @@ pub mod NestedManagers
 pub mod StartTables
 pub mod DeviceLists
 pub mod DeviceStarts
+pub mod ComparedManagers

@@ -1,8 +1,9 @@
--- The tables of the devices by id and by start. Only private functions cite these definitions.
+-- The tables of the devices by id and by start, and a part of equality. Only private functions cite these definitions.
 use Rattle.std.specs.Prelude.{◌≡◌, ◌↔◌, ℕ, Some, None}
 use Rattle.std.specs.Ordering.{nat_cmp}
 use Rattle.std.specs.FinMap as map
 use Rattle.vm_ranges.specs.Range.{Range}
+use Rattle.vm_devices.specs.Devices.{DeviceState}
 
 -- The device with this id has a range that starts at `start`.
 pub record StartsAt (devices : map.FinMap nat_cmp Range) (id start : ℕ) : Type 0 where
@@ -22,3 +23,7 @@ pub record IsNew (devices : map.FinMap nat_cmp Range) (id start : ℕ) : Type 0 
 -- No two ranges of devices start at the same address.
 abbrev pub HaveDifferentStarts : map.FinMap nat_cmp Range → Type 0
 HaveDifferentStarts devices = (i j start : ℕ) → StartsAt devices i start → StartsAt devices j start → i ≡ j
+
+-- The managers have equal allocators.
+abbrev pub HaveSameAllocators : DeviceState → DeviceState → Type 0
+HaveSameAllocators a b = (a.ids ≡ b.ids) × (a.space ≡ b.space)

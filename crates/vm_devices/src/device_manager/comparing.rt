@@ -4,6 +4,7 @@ ghost use Rattle.std.proofs.Common.{rules};
 ghost use Rattle.std.specs.Cmp.Rules.{comparing};
 ghost use Rattle.std.specs.Ordering.{eq_by_cmp, nat_cmp};
 ghost use Rattle.std.specs.BTreeMap.{IsOrdered};
+ghost use Rattle.vm_devices.specs.TableChecks.{HaveSameAllocators};
 ghost use Rattle.vm_devices.specs.Queries.{device_state_cmp, device_state_cmp-total};
 
 use super::DeviceManager;
@@ -22,15 +23,22 @@ impl PartialEq for DeviceManager {
         ensures equal { IsTrue result ↔ (self.now ≡ other.now) }
         ensures order { result ≡ eq_by_cmp device_state_cmp self.now other.now }
     {
-        let same_devices = same_slots(self.slots.slots(), other.slots.slots());
-        same_devices
-            && self.id_allocator == other.id_allocator
-            && self.mmio_allocator == other.mmio_allocator
+        self.has_allocators_of(other) && same_slots(self.slots.slots(), other.slots.slots())
     }
 }
 
 impl Eq for DeviceManager {
     ghost laws = { Prim.search (comparing, device_state_cmp-total, rules) };
+}
+
+impl DeviceManager {
+    /// Returns whether both managers have equal allocators.
+    #[tactic(auto, using(crate::proofs::ComparedManagers::spaces))]
+    fn has_allocators_of(&self, other: &DeviceManager) -> bool
+        ensures { IsTrue result ↔ HaveSameAllocators self.now other.now }
+    {
+        self.id_allocator == other.id_allocator && self.mmio_allocator == other.mmio_allocator
+    }
 }
 
 /// Returns whether both tables have the same devices.

@@ -5,6 +5,7 @@ use Rattle.vm_ranges.specs.declared.error.Error.TheVariants.{OutOfMemory}
 use Rattle.vm_devices.specs.declared.device_slot.DeviceSlot.{DeviceSlot}
 use Rattle.vm_devices.specs.Devices.{devices_of}
 use Rattle.vm_devices.proofs.DeviceCalls.{Parts, IsUndone, Comes, range_refused, table_refused, undone, come, come_state}
+use Rattle.vm_devices.proofs.DeviceStarts.{new_device}
 use Rattle.vm_devices.proofs.Callers.{device_lowest, device_state, device_fits, device_chosen}
 use Rattle.vm_devices.proofs.device_manager.DeviceManager.reserve.Goals as goal
 
@@ -21,6 +22,10 @@ returns-in_err-range-clause-answer c =
       answer = c.in_err-range.ensures.answer;
     })
     same)
+
+pub insert-requires : goal.insert-requires
+insert-requires c =
+    new_device _ (state_of c.allocate.new.self) (request_for c.args.size c.args.align c.args.policy) c.in_ok-id.id c.in_ok-range.range c.self.invariant c.in_ok-id.ensures.answer c.in_ok-range.ensures.answer
 
 pub returns-in-Err-clause-unchanged : goal.returns-in-Err-clause-unchanged
 returns-in-Err-clause-unchanged c =
