@@ -39,5 +39,3 @@ text_again old value text parsed w t p =
       MatchResult r (λ v. (answer : Result DeviceState ValueError) → ReadsInParts (EncodesManager (view v)) answer → (answer ≡ Ok old) ⊎ (answer ≡ Err OutOfMemory)) IsMemory
   at (Ok v) e = λ answer k. read_again (view v) old answer (subst (λ (d : Data). EncodesManager d old) (sym e) w) k
   at (Err e) m = m
-
-pub ruleset texts = (text_again)

@@ -52,7 +52,6 @@ fn managers_are_read_again()
 
 /// Proves that a saved manager survives its JSON text: `to_value`, `to_string`, `from_str` and
 /// `from_value` in turn return the same manager, unless memory runs out.
-#[tactic(auto, using(crate::proofs::NestedManagers::texts))]
 fn texts_are_read()
     ensures { ManagerIsReadFromText }
 {}

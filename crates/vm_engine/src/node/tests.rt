@@ -24,6 +24,7 @@ fn range(rt: &impl Abort, key: Key) -> RangeInclusive {
 
 /// Returns a copy. It tries a second time if the first allocation fails.
 fn copied(rt: &impl Abort, alloc: Global, tree: &InnerNode) -> Option<Box<InnerNode>> {
+    assert!(rt; tree.height() <= 49);
     match copy(tree, alloc) {
         Ok(copy) => Some(copy),
         Err(_) => Some(copy(tree, alloc).expect(rt, "memory is refused once")),
