@@ -36,11 +36,8 @@
  * A thread must not be cancelled asynchronously in a call.
  *
  * Memory. If an allocation fails, a call frees what it has allocated and
- * returns DVS_OUT_OF_MEMORY. This is the last error, except in a call that reads
- * a text. These calls also use sets and maps of the Rust standard library, which
- * end the process with abort() if their allocation fails:
- * - dvs_id_free(), dvs_id_allocator_read(), dvs_device_manager_read();
- * - dvs_device_reserve_first(), _last() and _exact(), dvs_device_release().
+ * returns DVS_OUT_OF_MEMORY. No call ends the process for want of memory. This
+ * is the last error, except in a call that reads a text or takes an array.
  *
  * Freeing a range, allocating an id and queries do not allocate memory. Reading
  * a text allocates less than 80 times its length, even if the text is
@@ -477,12 +474,13 @@ DVS_WARN_UNUSED
 dvs_status dvs_id_peek(const dvs_id_allocator *allocator, uint32_t *id);
 
 /*
- * Frees an allocated id. Ends the process if an allocation fails.
+ * Frees an allocated id.
  *
  * Errors, in order, each with the id:
  * - DVS_OUT_OF_RANGE if the id is not between the first and the last.
  * - DVS_NEVER_ALLOCATED if the id was never allocated.
  * - DVS_ALREADY_RELEASED if the id is already freed.
+ * - DVS_OUT_OF_MEMORY, without an id.
  */
 dvs_status dvs_id_free(dvs_id_allocator *allocator, uint32_t id, dvs_refusal *refusal);
 
@@ -507,10 +505,7 @@ dvs_status dvs_id_visit(const dvs_id_allocator *allocator, dvs_id_visitor *visit
 DVS_WARN_UNUSED
 dvs_status dvs_id_allocator_save(const dvs_id_allocator *allocator, char **text, size_t *length);
 
-/*
- * Reads like dvs_address_allocator_read(). Ends the process if the allocation of
- * the set of freed ids fails.
- */
+/* Reads like dvs_address_allocator_read(). */
 DVS_WARN_UNUSED
 dvs_status dvs_id_allocator_read(const char *text, size_t length, dvs_id_allocator **allocator);
 
@@ -549,8 +544,7 @@ dvs_status dvs_device_manager_ids(const dvs_device_manager *manager, uint32_t *f
 /*
  * Allocates the lowest free id and the range of dvs_range_allocate_first() for a
  * new device, and writes both to `device`. Release the device with
- * dvs_device_release(). Ends the process if the allocation of the table of
- * devices fails.
+ * dvs_device_release().
  *
  * Errors, in order: those of dvs_id_allocate(), then those of
  * dvs_range_allocate_first().
@@ -572,10 +566,10 @@ dvs_status dvs_device_reserve_exact(dvs_device_manager *manager, uint64_t size, 
                                     uint64_t start, dvs_device *device, dvs_refusal *refusal);
 
 /*
- * Releases a device: frees its id and its range. Ends the process if an
- * allocation fails.
+ * Releases a device: frees its id and its range.
  *
- * Errors: DVS_NEVER_ALLOCATED, with the id, if no device has it.
+ * Errors, in order: DVS_NEVER_ALLOCATED, with the id, if no device has it, and
+ * DVS_OUT_OF_MEMORY.
  */
 dvs_status dvs_device_release(dvs_device_manager *manager, uint32_t id, dvs_refusal *refusal);
 
@@ -612,10 +606,7 @@ dvs_status dvs_device_visit(const dvs_device_manager *manager, dvs_device_visito
 DVS_WARN_UNUSED
 dvs_status dvs_device_manager_save(const dvs_device_manager *manager, char **text, size_t *length);
 
-/*
- * Reads like dvs_address_allocator_read(). Ends the process if the allocation of
- * the set of freed ids or of the table of devices fails.
- */
+/* Reads like dvs_address_allocator_read(). */
 DVS_WARN_UNUSED
 dvs_status dvs_device_manager_read(const char *text, size_t length, dvs_device_manager **manager);
 

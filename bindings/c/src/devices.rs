@@ -1,15 +1,21 @@
 //! The device manager: an id and a range for each device.
 
-use crate::handle::{create, with_mut, with_mut_unit, with_ref, Handle};
+use crate::handle::{create, visit, with_mut, with_mut_unit, with_ref, Handle};
+use crate::ids::write_range;
+use crate::ranges::space_of;
 use crate::texts::{read, save};
 use crate::{dvs_range, dvs_refusal, dvs_status, status_of, CallError, Out};
 use rattle::Global;
-use std::ffi::c_char;
+use std::ffi::{c_char, c_int, c_void};
 use vm_allocator::{AllocPolicy, Error};
 use vm_devices::{DeviceManager, DeviceSlot};
 
 /// A device manager behind a C pointer.
 pub type dvs_device_manager = Handle<DeviceManager>;
+
+/// The visitor that C passes for devices. If it unwinds, the process ends.
+pub type dvs_device_visitor =
+    extern "C-unwind" fn(context: *mut c_void, device: dvs_device) -> c_int;
 
 /// The resources of a device.
 #[repr(C)]
@@ -125,6 +131,57 @@ pub extern "C" fn dvs_device_range(
         Ok(slot.into())
     });
     status_of(asked, refusal)
+}
+
+#[unsafe(no_mangle)]
+pub extern "C" fn dvs_device_at(
+    manager: Option<&dvs_device_manager>,
+    address: u64,
+    device: Out<dvs_device>,
+) -> dvs_status {
+    let asked = with_ref(manager, device, |manager| {
+        let slot = manager.device_at(address);
+        Ok(slot.ok_or(Error::ResourceNotAvailable)?.into())
+    });
+    status_of(asked, None)
+}
+
+#[unsafe(no_mangle)]
+pub extern "C" fn dvs_device_count(
+    manager: Option<&dvs_device_manager>,
+    count: Out<u64>,
+) -> dvs_status {
+    let asked = with_ref(manager, count, |manager| Ok(manager.device_count()));
+    status_of(asked, None)
+}
+
+#[unsafe(no_mangle)]
+pub extern "C" fn dvs_device_visit(
+    manager: Option<&dvs_device_manager>,
+    visitor: Option<dvs_device_visitor>,
+    context: *mut c_void,
+) -> dvs_status {
+    let visitor = visitor.map(|visitor| move |slot: DeviceSlot| visitor(context, slot.into()));
+    status_of(visit(manager, DeviceManager::devices, visitor), None)
+}
+
+#[unsafe(no_mangle)]
+pub extern "C" fn dvs_device_manager_space(
+    manager: Option<&dvs_device_manager>,
+    space: Out<dvs_range>,
+) -> dvs_status {
+    let asked = with_ref(manager, space, |manager| Ok(space_of(manager.addresses())));
+    status_of(asked, None)
+}
+
+#[unsafe(no_mangle)]
+pub extern "C" fn dvs_device_manager_ids(
+    manager: Option<&dvs_device_manager>,
+    first: Out<u32>,
+    last: Out<u32>,
+) -> dvs_status {
+    let written = write_range(manager, DeviceManager::ids, first, last);
+    status_of(written, None)
 }
 
 #[unsafe(no_mangle)]

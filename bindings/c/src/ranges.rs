@@ -37,13 +37,16 @@ pub extern "C" fn dvs_address_allocator_space(
     allocator: Option<&dvs_address_allocator>,
     space: Out<dvs_range>,
 ) -> dvs_status {
-    let asked = with_ref(allocator, space, |allocator| {
-        Ok(dvs_range {
-            start: allocator.base(),
-            end: allocator.end(),
-        })
-    });
+    let asked = with_ref(allocator, space, |allocator| Ok(space_of(allocator)));
     status_of(asked, None)
+}
+
+/// Returns the range from the first to the last address of the space.
+pub(crate) fn space_of(allocator: &AddressAllocator) -> dvs_range {
+    dvs_range {
+        start: allocator.base(),
+        end: allocator.end(),
+    }
 }
 
 #[unsafe(no_mangle)]

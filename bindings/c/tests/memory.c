@@ -1,8 +1,7 @@
 /*
  * Fails each allocation of each call in turn. The call must return
- * DVS_OUT_OF_MEMORY, free what it has allocated, and change nothing. The calls
- * that the header lists as exceptions must end the process. It also measures
- * the memory that reading a text allocates.
+ * DVS_OUT_OF_MEMORY, free what it has allocated, and change nothing. It also
+ * measures the memory that reading a text allocates.
  *
  * The linker option --wrap directs all allocations to this file.
  */
@@ -11,9 +10,6 @@
 
 #include <errno.h>
 #include <malloc.h>
-#include <signal.h>
-#include <sys/wait.h>
-#include <unistd.h>
 
 /* The number of allocations up to the one that fails, or 0 if none fails. */
 static unsigned long until_refused;
@@ -96,6 +92,7 @@ SAVED(saved_ids, dvs_id_allocator)
 SAVED(saved_devices, dvs_device_manager)
 
 static void set_up(void) {
+    dvs_device device;
     dvs_range range;
     uint32_t id;
     int i;
@@ -104,8 +101,11 @@ static void set_up(void) {
     for (i = 0; i < 8; i++)
         CHECK(dvs_range_allocate_first(space, 3, 8, &range, NULL) == DVS_OK);
     CHECK(dvs_id_allocator_new(0, 9, &ids, NULL) == DVS_OK);
-    CHECK(dvs_id_allocate(ids, &id) == DVS_OK);
+    for (i = 0; i < 3; i++)
+        CHECK(dvs_id_allocate(ids, &id) == DVS_OK);
+    CHECK(dvs_id_free(ids, 1, NULL) == DVS_OK);
     CHECK(dvs_device_manager_new(0, 9, 0, 100, &manager, NULL) == DVS_OK);
+    CHECK(dvs_device_reserve_first(manager, 1, 1, &device, NULL) == DVS_OK && device.id == 0);
 }
 
 static void tear_down(void) {
@@ -139,7 +139,7 @@ static void check_unchanged(void) {
     check_same(saved_devices(manager, &length), manager_text);
 }
 
-/* ---- The calls that return an error. Each frees what it allocates. ---- */
+/* ---- The calls. Each undoes what it did. ---- */
 
 static dvs_status destroyed_space(dvs_status status, dvs_address_allocator *made) {
     if (status == DVS_OK)
@@ -244,6 +244,97 @@ static dvs_status read_space_repaired(void) {
     return destroyed_space(status, made);
 }
 
+static dvs_status make_with_held(void) {
+    dvs_range held[2];
+    dvs_address_allocator *made = NULL;
+    dvs_status status;
+
+    held[0] = range_of(4, 7);
+    held[1] = range_of(9, 9);
+    status = dvs_address_allocator_with_held(0, 16, held, 2, &made, NULL);
+    return destroyed_space(status, made);
+}
+
+static dvs_status allocate_all(void) {
+    dvs_request requests[2] = {{3, 16, 0, DVS_FIRST}, {3, 1, 500, DVS_EXACT}};
+    dvs_range ranges[2] = {{0, 0}, {0, 0}};
+    dvs_status status = dvs_address_allocator_allocate_all(space, requests, 2, ranges, NULL, NULL);
+
+    return freed(freed(status, ranges[0]), ranges[1]);
+}
+
+static dvs_status free_id(void) {
+    dvs_status status = dvs_id_free(ids, 0, NULL);
+    uint32_t id;
+
+    if (status == DVS_OK)
+        CHECK(dvs_id_allocate(ids, &id) == DVS_OK && id == 0);
+    return status;
+}
+
+static dvs_status read_ids(void) {
+    dvs_id_allocator *made;
+    dvs_status status = dvs_id_allocator_read(ids_text, ids_length, &made);
+
+    if (status == DVS_OK)
+        dvs_id_allocator_destroy(made);
+    return status;
+}
+
+/* Releases a device without a failed allocation. */
+static dvs_status released(dvs_status status, uint32_t id) {
+    unsigned long number = until_refused;
+
+    until_refused = 0;
+    if (status == DVS_OK)
+        CHECK(dvs_device_release(manager, id, NULL) == DVS_OK);
+    until_refused = number;
+    return status;
+}
+
+static dvs_status reserve_first(void) {
+    dvs_device device = {{0, 0}, 0};
+    dvs_status status = dvs_device_reserve_first(manager, 4, 8, &device, NULL);
+
+    return released(status, device.id);
+}
+
+static dvs_status reserve_last(void) {
+    dvs_device device = {{0, 0}, 0};
+    dvs_status status = dvs_device_reserve_last(manager, 4, 8, &device, NULL);
+
+    return released(status, device.id);
+}
+
+static dvs_status reserve_exact(void) {
+    dvs_device device = {{0, 0}, 0};
+    dvs_status status = dvs_device_reserve_exact(manager, 4, 1, 50, &device, NULL);
+
+    return released(status, device.id);
+}
+
+/* Releases the device 0, and reserves it again without a failed allocation. */
+static dvs_status release_device(void) {
+    dvs_status status = dvs_device_release(manager, 0, NULL);
+    unsigned long number = until_refused;
+    dvs_device device;
+
+    until_refused = 0;
+    if (status == DVS_OK)
+        CHECK(dvs_device_reserve_first(manager, 1, 1, &device, NULL) == DVS_OK && device.id == 0);
+    until_refused = number;
+    return status;
+}
+
+static dvs_status read_manager(void) {
+    dvs_device_manager *made;
+    dvs_status status = dvs_device_manager_read(manager_text, manager_length, &made);
+
+    if (status == DVS_OK)
+        dvs_device_manager_destroy(made);
+    return status;
+}
+
 static const struct call {
     const char *name;
     dvs_status (*call)(void);
@@ -261,6 +352,15 @@ static const struct call {
     {"save a manager", save_manager, 10},
     {"read a space", read_space, 40},
     {"repair a space", read_space_repaired, 40},
+    {"with ranges", make_with_held, 7},
+    {"several requests", allocate_all, 5},
+    {"free an id", free_id, 1},
+    {"read ids", read_ids, 12},
+    {"release a device", release_device, 2},
+    {"reserve first", reserve_first, 2},
+    {"reserve last", reserve_last, 2},
+    {"reserve exactly", reserve_exact, 2},
+    {"read a manager", read_manager, 40},
 };
 
 /* Fails each allocation of a call in turn, until a run has no failed allocation. */
@@ -285,78 +385,6 @@ static void refuse_in_turn(const struct call *call) {
     if (number <= call->requests)
         fprintf(stderr, "%s: %lu allocations\n", call->name, number - 1);
     CHECK(number > call->requests);
-}
-
-/* ---- The calls that end the process ---- */
-
-static void free_id(void) {
-    dvs_id_free(ids, 0, NULL);
-}
-
-static void read_ids(void) {
-    static const char text[] =
-        "{\"freed_ids\":[5],\"next_id\":7,\"range_base\":5,\"range_end\":23}";
-    dvs_id_allocator *made;
-
-    dvs_id_allocator_read(text, strlen(text), &made);
-}
-
-static void reserve_device(void) {
-    dvs_device device;
-
-    dvs_device_reserve_first(manager, 100, 1, &device, NULL);
-}
-
-/* Reserves a device without a failed allocation. */
-static void plug_in(void) {
-    unsigned long number = until_refused;
-    dvs_device device;
-
-    until_refused = 0;
-    CHECK(dvs_device_reserve_first(manager, 1, 1, &device, NULL) == DVS_OK && device.id == 0);
-    until_refused = number;
-}
-
-static void release_device(void) {
-    plug_in();
-    dvs_device_release(manager, 0, NULL);
-}
-
-static void read_manager(void) {
-    unsigned long number = until_refused;
-    dvs_device_manager *made;
-    size_t length;
-    char *text;
-
-    plug_in();
-    until_refused = 0;
-    text = saved_devices(manager, &length);
-    until_refused = number;
-    dvs_device_manager_read(text, length, &made);
-    dvs_text_destroy(text);
-}
-
-/* Fails each allocation of a call in turn, each in a separate process, until one ends it. */
-static void refuse_until_it_ends(void (*call)(void)) {
-    unsigned long number;
-
-    for (number = 1; number < 1000; number++) {
-        pid_t child = fork();
-        int ended;
-
-        CHECK(child >= 0);
-        if (child == 0) {
-            CHECK(freopen("/dev/null", "w", stderr) != NULL);
-            until_refused = number;
-            call();
-            _exit(until_refused > 0 ? 1 : 0);
-        }
-        CHECK(waitpid(child, &ended, 0) == child);
-        if (WIFSIGNALED(ended) && WTERMSIG(ended) == SIGABRT)
-            return;
-        CHECK(WIFEXITED(ended) && WEXITSTATUS(ended) == 0);
-    }
-    CHECK(!"a failed allocation ends the process");
 }
 
 /* ---- The memory for reading ---- */
@@ -423,11 +451,6 @@ int main(void) {
     set_up();
     for (i = 0; i < sizeof calls / sizeof calls[0]; i++)
         refuse_in_turn(&calls[i]);
-    refuse_until_it_ends(free_id);
-    refuse_until_it_ends(read_ids);
-    refuse_until_it_ends(reserve_device);
-    refuse_until_it_ends(release_device);
-    refuse_until_it_ends(read_manager);
     tear_down();
     measure_reading();
     CHECK(blocks == before);

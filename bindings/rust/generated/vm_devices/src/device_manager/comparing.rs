@@ -11,14 +11,18 @@ impl PartialEq for DeviceManager {
     ///
     /// It stops at the first difference and does not allocate.
     fn eq(&self, other: &DeviceManager) -> bool {
-        let same_devices = same_slots(self.slots.slots(), other.slots.slots());
-        same_devices
-            && self.id_allocator == other.id_allocator
-            && self.mmio_allocator == other.mmio_allocator
+        self.has_allocators_of(other) && same_slots(self.slots.slots(), other.slots.slots())
     }
 }
 
 impl Eq for DeviceManager {
+}
+
+impl DeviceManager {
+    /// Returns whether both managers have equal allocators.
+    fn has_allocators_of(&self, other: &DeviceManager) -> bool {
+        self.id_allocator == other.id_allocator && self.mmio_allocator == other.mmio_allocator
+    }
 }
 
 /// Returns whether both tables have the same devices.
