@@ -21,3 +21,5 @@ pub mod StartTables
 pub mod DeviceLists
 pub mod DeviceStarts
 pub mod ComparedManagers
+pub mod DeviceAtAddress
+pub mod DeviceQueries

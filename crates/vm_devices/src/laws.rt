@@ -9,6 +9,8 @@ ghost use Rattle.vm_devices.specs.Laws.{
   EveryDeviceCallIsAnswered,
   EveryDeviceListHasHistory,
   ManagerIsReadAgain,
+  DevicesAreListed,
+  DeviceIsAtItsAddresses,
 };
 
 /// Proves that in every history no two devices share an id or an address, and each device is in the
@@ -47,4 +49,16 @@ fn every_call_is_answered()
 #[tactic(auto, using(crate::proofs::SavedManagers::manager_again))]
 fn managers_are_read_again()
     ensures { ManagerIsReadAgain }
+{}
+
+/// Proves that `devices` returns the allocated ids with the allocated ranges, one to one.
+#[tactic(auto, using(crate::proofs::DeviceQueries::queries))]
+fn devices_are_listed()
+    ensures { DevicesAreListed }
+{}
+
+/// Proves that `device_at` returns the device of each address of a device's range.
+#[tactic(auto, using(crate::proofs::DeviceQueries::queries))]
+fn devices_are_at_their_addresses()
+    ensures { DeviceIsAtItsAddresses }
 {}
