@@ -32,7 +32,7 @@ pub use Rattle.vm_allocator.proofs.Ids.IdCounts.{ids_listed}
 pub use Rattle.vm_allocator.proofs.Reading.NestedValues.{addresses_nest, ids_nest}
 pub use Rattle.vm_ranges.proofs.ReadTexts.{parsed_again}
 -- The held ids are listed in increasing order, and equal states are the same.
-pub use Rattle.vm_allocator.proofs.Ids.HeldIds.{listed_held}
+pub use Rattle.vm_allocator.proofs.Ids.HeldIds.{listed_held, in_held_ids}
 pub use Rattle.vm_allocator.proofs.Ids.ComparedIds.{id_state_cmp-Equal}
 -- Maps with numbers as keys.
 pub use Rattle.vm_allocator.proofs.Ids.RisingIds.{keys_rise, entries_of_sorted, same_rising}

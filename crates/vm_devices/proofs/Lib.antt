@@ -22,3 +22,5 @@ pub mod StartTables
 pub mod DeviceLists
 pub mod DeviceStarts
 pub mod ComparedManagers
+pub mod DeviceAtAddress
+pub mod DeviceQueries

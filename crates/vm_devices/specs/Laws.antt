@@ -1,16 +1,16 @@
 -- Laws of every history of a manager of devices that is new or was read.
-use Rattle.std.specs.Prelude.{◌≡◌, ◌≢◌, ℕ, ◌<◌, ◌≤◌, ◌⊎◌, List, map, length, Result, Ok, Err, MatchResult}
-use Rattle.std.specs.List.{All}
+use Rattle.std.specs.Prelude.{◌≡◌, ◌≢◌, ℕ, ◌<◌, ◌≤◌, ◌⊎◌, ◌↔◌, List, map, length, Option, Some, Result, Ok, Err, MatchResult}
+use Rattle.std.specs.List.{All, Contains}
 use Rattle.serde_json.specs.Data.{Data}
 use Rattle.serde_json.specs.Errors.{IsMemory}
 use Rattle.serde_json.specs.View.{view}
 use Rattle.serde_json.specs.declared.error.Error as json
 use Rattle.serde_json.specs.declared.value.Value.{Value}
-use Rattle.vm_ranges.specs.Range.{Range, MAX, Overlaps, Covers, address_count}
+use Rattle.vm_ranges.specs.Range.{Range, MAX, IsIn, Overlaps, Covers, address_count}
 use Rattle.vm_ranges.specs.Request.{Request, request_for}
 use Rattle.vm_ranges.specs.Texts.{IsTextOf, Parses}
 use Rattle.vm_engine.specs.Answer.{SPLIT_LIMIT_MIN_HELD}
-use Rattle.vm_allocator.specs.Ids.{IsOfRange}
+use Rattle.vm_allocator.specs.Ids.{IsOfRange, held_count, held_ids}
 use Rattle.vm_ranges.specs.declared.error.Error.{Error}
 use Rattle.vm_ranges.specs.declared.error.Error.TheVariants.{Overflow, OutOfMemory}
 use Rattle.vm_ranges.specs.declared.saved.ValueError.{ValueError}
@@ -18,6 +18,7 @@ use Rattle.vm_ranges.specs.declared.saved.ValueError.TheVariants as unread
 use Rattle.vm_ranges.specs.declared.constraint.AllocPolicy.TheVariants.{ExactMatch}
 use Rattle.vm_devices.specs.declared.device_slot.DeviceSlot.{DeviceSlot}
 use Rattle.vm_devices.specs.Devices.{DeviceState, IsDevice, IsDeviceState, MakesManager, Reserves, Releases}
+use Rattle.vm_devices.specs.Queries.{device_list, device_count, DeviceAt}
 use Rattle.vm_devices.specs.Saved.{EncodesManager, ReadsInParts}
 use Rattle.vm_devices.specs.Histories.{DeviceCall, DeviceAsked, device_asked_by, RunsOutOfMemory, IsDeviceHistoryFrom, AreDevicesReached, WasReserved, WasRead}
 
@@ -102,3 +103,19 @@ ManagerIsReadFromText =
     EncodesManager (view value) old → IsTextOf text (view value) → Parses text parsed →
     MatchResult parsed (λ again. (answer : Result DeviceState ValueError) →
     ReadsInParts (EncodesManager (view again)) answer → (answer ≡ Ok old) ⊎ (answer ≡ Err unread.OutOfMemory)) IsMemory
+
+-- The devices pair the held ids with the held ranges: the list of the devices has the held ids, in their order, and exactly
+-- the held ranges.
+pub record DevicesAreListed : Type 0 where
+  pub ids : (state : DeviceState) → IsDeviceState state → map (λ device. device.id) (device_list state) ≡ held_ids state.ids
+  pub ranges : (state : DeviceState) (r : Range) → IsDeviceState state →
+      Contains (map (λ device. device.range) (device_list state)) r ↔ Contains state.space.held r
+  pub counted : (state : DeviceState) → IsDeviceState state →
+      (length (device_list state) ≡ device_count state) × (device_count state ≡ held_count state.ids)
+      × (device_count state ≡ length state.space.held)
+
+-- The device at an address of a device's range is this device.
+abbrev pub DeviceIsAtItsAddresses : Type 0
+DeviceIsAtItsAddresses =
+    (state : DeviceState) (id : ℕ) (r : Range) (address : ℕ) (answer : Option DeviceSlot) → IsDeviceState state →
+    IsDevice state id r → IsIn r address → DeviceAt state address answer → answer ≡ Some (record { id = id; range = r })

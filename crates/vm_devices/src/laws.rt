@@ -10,6 +10,8 @@ ghost use Rattle.vm_devices.specs.Laws.{
   EveryDeviceListHasHistory,
   ManagerIsReadAgain,
   ManagerIsReadFromText,
+  DevicesAreListed,
+  DeviceIsAtItsAddresses,
 };
 
 /// Proves that in every history no two devices share an id or an address, and each device is in the
@@ -54,4 +56,16 @@ fn managers_are_read_again()
 /// `from_value` in turn return the same manager, unless memory runs out.
 fn texts_are_read()
     ensures { ManagerIsReadFromText }
+{}
+
+/// Proves that `devices` returns the allocated ids with the allocated ranges, one to one.
+#[tactic(auto, using(crate::proofs::DeviceQueries::queries))]
+fn devices_are_listed()
+    ensures { DevicesAreListed }
+{}
+
+/// Proves that `device_at` returns the device of each address of a device's range.
+#[tactic(auto, using(crate::proofs::DeviceQueries::queries))]
+fn devices_are_at_their_addresses()
+    ensures { DeviceIsAtItsAddresses }
 {}

@@ -9,6 +9,7 @@ use vm_allocator::allocation_engine::NodeState::Allocated;
 use vm_allocator::{AddressAllocator, AllocPolicy, Error, RangeInclusive, Result};
 use vm_devices::DeviceManager;
 
+mod listed;
 mod reserving;
 mod saved;
 mod without_memory;

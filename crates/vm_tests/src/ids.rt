@@ -8,6 +8,7 @@ use std::process::Abort;
 use vm_allocator::{Error, IdAllocator, Result};
 
 mod counts;
+mod held;
 
 /// Returns the results of the calls that only read: whether some ids are allocated, the number of
 /// allocated ids, and the next id.

@@ -69,6 +69,18 @@ impl DeviceManager {
         self.slots.slots().len() as u64
     }
 
+    /// Returns the device whose range contains the address, or `None` if no device has it.
+    ///
+    /// It descends one path of the tree, looks the range up in a table, and does not allocate.
+    #[tactic(auto, using(crate::proofs::DeviceAtAddress::found))]
+    pub fn device_at(&self, address: u64) -> Option<DeviceSlot>
+        ensures { DeviceAt self.now address result }
+    {
+        let range = self.mmio_allocator.held_at(address)?;
+        let id = self.slots.id_at(range.start())?;
+        Some(DeviceSlot { id, range })
+    }
+
     /// Returns the allocator of the addresses, to look at.
     pub fn addresses(&self) -> &AddressAllocator
         ensures { state_of result.now ≡ self.now.space }

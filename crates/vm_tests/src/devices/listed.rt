@@ -1,0 +1,112 @@
+//! Tests of the list of devices, of the device at an address, of equality and of copies.
+use super::*;
+use crate::fixtures::{fail_from_here, holds_exactly};
+use vm_devices::DeviceSlot;
+
+/// Returns the id of a device, and the ends of its range.
+fn parts(device: DeviceSlot) -> (u32, u64, u64) {
+    (device.id, device.range.start(), device.range.end())
+}
+
+/// Returns whether exactly these are the devices.
+fn are_devices(devices: &DeviceManager, want: &[(u32, u64, u64)]) -> bool {
+    let mut listed = devices.devices();
+    for device in want {
+        if listed.next().map(parts) != Some(*device) {
+            return false;
+        }
+    }
+    listed.next().is_none() && devices.device_count() == want.len() as u64
+}
+
+/// Checks the device at an address.
+fn expect_at(
+    rt: &impl Abort,
+    devices: &DeviceManager,
+    address: u64,
+    want: Option<(u32, u64, u64)>,
+) {
+    expect_eq(rt, &devices.device_at(address).map(parts), &want, &address);
+}
+
+const FIRST: (u32, u64, u64) = (3, 0x1000, 0x10FF);
+const SECOND: (u32, u64, u64) = (4, 0x1800, 0x180F);
+const THIRD: (u32, u64, u64) = (5, 0x1100, 0x1100);
+
+/// Reserves three devices. The range of the third is between the others.
+fn three(rt: &(impl Abort + AllocGlobal)) -> DeviceManager {
+    let mut devices = made(rt, (3, 9), 0x1000, 0x1000);
+    let rows = &[
+        (First(0x100, 1), Device(FIRST.0, FIRST.1, FIRST.2)),
+        (Exact(0x10, 1, 0x1800), Device(SECOND.0, SECOND.1, SECOND.2)),
+        (First(1, 1), Device(THIRD.0, THIRD.1, THIRD.2)),
+    ];
+    replay(rt, &mut devices, rows);
+    devices
+}
+
+/// Checks that three devices are listed and found at their addresses.
+fn expect_three(rt: &impl Abort, devices: &DeviceManager) {
+    let listed = are_devices(devices, &[FIRST, SECOND, THIRD]);
+    expect_true(rt, listed, &"three devices");
+    expect_at(rt, devices, 0x0FFF, None);
+    expect_at(rt, devices, 0x1000, Some(FIRST));
+    expect_at(rt, devices, 0x1080, Some(FIRST));
+    expect_at(rt, devices, 0x10FF, Some(FIRST));
+    expect_at(rt, devices, 0x1100, Some(THIRD));
+    expect_at(rt, devices, 0x1101, None);
+    expect_at(rt, devices, 0x180F, Some(SECOND));
+    expect_at(rt, devices, 0x1810, None);
+    expect_at(rt, devices, u64::MAX, None);
+}
+
+#[test]
+fn listed_and_found(rt: HostRuntime) {
+    let none = made(&rt, (3, 9), 0x1000, 0x1000);
+    expect_true(&rt, are_devices(&none, &[]), &"no device");
+    expect_at(&rt, &none, 0x1000, None);
+    let mut devices = three(&rt);
+    expect_three(&rt, &devices);
+    let held = holds_exactly(devices.addresses(), &[(0x1000, 0x10FF), (0x1100, 0x1100), (0x1800, 0x180F)]);
+    expect_true(&rt, held && devices.ids().held_count() == 3, &"both allocators");
+    // A released device is not found any more. The next one starts at the same address.
+    replay(&rt, &mut devices, &[(Release(3), Gone)]);
+    expect_true(&rt, are_devices(&devices, &[SECOND, THIRD]), &"two devices");
+    expect_at(&rt, &devices, 0x1000, None);
+    replay(&rt, &mut devices, &[(Release(4), Gone), (First(8, 1), Device(3, 0x1000, 0x1007))]);
+    expect_at(&rt, &devices, 0x1007, Some((3, 0x1000, 0x1007)));
+    expect_at(&rt, &devices, 0x1008, None);
+    expect_at(&rt, &devices, 0x1800, None);
+}
+
+#[test]
+fn listed_without_memory(rt: HostRuntime) {
+    let devices = three(&rt);
+    fail_from_here(rt.alloc());
+    expect_three(&rt, &devices);
+}
+
+/// Clones a manager. If memory runs out, it repeats the call.
+fn cloned(rt: &(impl Abort + AllocGlobal), devices: &DeviceManager) -> DeviceManager {
+    match devices.try_clone(rt.alloc()) {
+        Ok(clone) => clone,
+        Err(_) => devices.try_clone(rt.alloc()).expect(rt, "memory is refused once"),
+    }
+}
+
+#[test]
+fn equal_and_cloned(rt: HostRuntime) {
+    let devices = three(&rt);
+    let mut clone = cloned(&rt, &devices);
+    expect_true(&rt, clone == devices && devices == three(&rt), &"the same devices");
+    expect_three(&rt, &clone);
+    replay(&rt, &mut clone, &[(Release(4), Gone)]);
+    expect_true(&rt, clone != devices, &"a clone that changed");
+    expect_three(&rt, &devices);
+    // The same ids and the same ranges, paired in another way.
+    let rows = &[(Release(3), Gone), (Exact(0x10, 1, 0x1800), Device(3, 0x1800, 0x180F))];
+    replay(&rt, &mut clone, rows);
+    replay(&rt, &mut clone, &[(First(0x100, 1), Device(4, 0x1000, 0x10FF))]);
+    let same_parts = clone.ids() == devices.ids() && clone.addresses() == devices.addresses();
+    expect_true(&rt, same_parts && clone != devices, &"other pairs");
+}
