@@ -104,7 +104,8 @@ ALLOWED = {
         "vm_engine/src/saved/repaired.rt check_keys",
         "vm_engine/src/saved/check.rt check_subtree"),
     "clippy::while_let_on_iterator": (
-        "vm_engine/src/interval_tree/held_ranges.rt next", "vm_engine/src/node/walks/comparing.rt compare_blocks",
+        "vm_engine/src/interval_tree/gaps.rt next", "vm_engine/src/interval_tree/held_ranges.rt next",
+        "vm_engine/src/node/walks/comparing.rt compare_blocks",
         "vm_engine/src/node/walks/comparing.rt same_blocks"),
 }
 

@@ -185,6 +185,17 @@ impl Spaces {
             proved.held_ranges().collect::<Vec<_>>(),
         );
         same(
+            space.gaps().collect::<Vec<_>>(),
+            proved.gaps().collect::<Vec<_>>(),
+        );
+        same(
+            (space.longest_gap(), space.free_len()),
+            (proved.longest_gap(), proved.clear_count()),
+        );
+        for address in space.base()..space.base().saturating_add(WIDTH) {
+            same(space.held_at(address), proved.held_at(address));
+        }
+        same(
             (*space == before.0, space.cmp(&before.0)),
             (*proved == before.1, proved.cmp(&before.1)),
         );
@@ -273,6 +284,14 @@ fn ids() {
             );
             same(&ids, &proved);
             same(ids.clone(), &ids);
+            same(
+                (ids.range_base(), ids.range_end()),
+                (proved.range_base(), proved.range_end()),
+            );
+            same(
+                ids.held_ids().collect::<Vec<_>>(),
+                proved.held_ids().collect::<Vec<_>>(),
+            );
         }
     }
     for (first, last) in [(1, 0), (0, 0), (u32::MAX, 0), (0, u32::MAX)] {
@@ -302,6 +321,16 @@ fn devices() {
                 _ => same(devices.release(id), proved.release(id)),
             }
             same(devices.slot(id), proved.slot(id));
+            let address = base + draw.below(64);
+            same(devices.device_at(address), proved.device_at(address));
+            same(
+                (
+                    devices.device_count(),
+                    devices.devices().collect::<Vec<_>>(),
+                ),
+                (proved.device_count(), proved.devices().collect::<Vec<_>>()),
+            );
+            assert_eq!(devices.clone(), devices);
             same(&devices.0, &proved);
         }
     }

@@ -242,7 +242,11 @@ fn debug_texts_show_the_fields() {
         format!("{slot:?}"),
         format!("DeviceSlot {{ id: 0, range: {range_text} }}")
     );
-    assert!(format!("{devices:?}").ends_with(&format!("slots: {{0: {range_text}}} }}")));
+    let device_text = format!("DeviceSlot {{ id: 0, range: {range_text} }}");
+    assert!(
+        format!("{devices:?}").starts_with("DeviceManager { ids: IdAllocator { range_base: 0, ")
+    );
+    assert!(format!("{devices:?}").ends_with(&format!("devices: [{device_text}] }}")));
     assert_eq!(format!("{:?}", space.held_ranges()), "HeldRanges { .. }");
     let layout = space.layout().named([(held, "disk")]);
     let names = r#"names: {RangeInclusive { start: 19, end: 19 }: "disk"} }"#;
@@ -389,4 +393,39 @@ fn a_request_is_allocated_as_its_numbers_are() {
         spaces[0].try_allocate_constraint(request),
         Err(TryError::Refused(error))
     );
+}
+
+#[test]
+fn objects_are_equal_by_what_they_hold() {
+    let ids = |first, freed: &[u32]| {
+        let mut ids = IdAllocator::new(first, 9).unwrap();
+        (0..3).for_each(|_| assert!(ids.allocate_id().is_ok()));
+        freed
+            .iter()
+            .for_each(|id| assert_eq!(ids.free_id(*id), Ok(*id)));
+        ids
+    };
+    assert_eq!(ids(5, &[6]), ids(5, &[6]).clone());
+    assert_ne!(ids(5, &[6]), ids(5, &[]));
+    assert_ne!(ids(5, &[]), ids(6, &[]));
+    assert!(ids(5, &[6]).held_ids().eq([5, 7]));
+    assert_eq!((ids(5, &[]).range_base(), ids(5, &[]).range_end()), (5, 9));
+
+    let devices = |policy| {
+        let mut devices = DeviceManager::new(1, 9, 0x1000, 0x1000).unwrap();
+        for size in [0x10, 0x20] {
+            devices.reserve(size, size, policy).unwrap();
+        }
+        devices
+    };
+    let first = devices(AllocPolicy::FirstMatch);
+    assert_eq!(first, first.clone());
+    assert_ne!(first, devices(AllocPolicy::LastMatch));
+    let listed: Vec<DeviceSlot> = (&first).into_iter().collect();
+    assert_eq!(
+        (listed.len() as u64, listed[1].id),
+        (first.device_count(), 2)
+    );
+    assert_eq!(first.device_at(0x1020), Some(listed[1]));
+    assert_eq!(first.device_at(0x1010), None);
 }

@@ -30,7 +30,7 @@ type EndedCall = fn(&mut AddressAllocator);
 /// Calls that return an error, each with the number of its allocations on [`two_held`]: one for a
 /// space, one for each free part of a gap that remains, one for each block of a copy or of a space
 /// with ranges. A call with ranges copies the list, and one with requests makes three lists.
-const TRIED: [(u64, TriedCall); 14] = [
+const TRIED: [(u64, TriedCall); 20] = [
     (1, |_| AddressAllocator::try_new(0, 64).map(drop)),
     (5, |space| space.try_clone().map(drop)),
     (1, |_| AddressAllocator::try_with_held(0, 64, &[]).map(drop)),
@@ -55,6 +55,20 @@ const TRIED: [(u64, TriedCall); 14] = [
     }),
     (0, |space| refused(space.try_allocate(64, 1, FirstMatch))),
     (0, |space| refused(space.try_allocate(0, 1, FirstMatch))),
+    (2, |_| one_held_id().try_free_id(0).map(drop)),
+    (0, |_| refused(one_held_id().try_free_id(1))),
+    (0, |_| one_held_id().try_clone().map(drop)),
+    (1, |_| DeviceManager::try_new(0, 0, 0, 64).map(drop)),
+    (8, |_| {
+        let mut devices = DeviceManager::try_new(0, 0, 0, 64)?;
+        devices.try_reserve(1, 1, FirstMatch)?;
+        devices.try_release(0)
+    }),
+    (1 + 1 + 4 + 2 + 4, |_| {
+        let mut devices = DeviceManager::try_new(0, 0, 0, 64)?;
+        devices.try_reserve(1, 1, FirstMatch)?;
+        devices.try_clone().map(drop)
+    }),
 ];
 
 /// Calls that end the process, each with the number of its allocations on [`two_held`]. A set or a
@@ -75,7 +89,7 @@ const ENDED: [(u64, EndedCall); 10] = [
     (2, |_| drop(one_free_id())),
     (4, |_| drop(one_free_id().clone())),
     (1, |_| assert!(DeviceManager::new(0, 0, 0, 64).is_ok())),
-    (6, |_| reserve_and_release()),
+    (8, |_| reserve_and_release()),
 ];
 
 fn main() {
@@ -87,6 +101,7 @@ fn main() {
     }
     count_requests();
     refuse_each_request();
+    objects_stay_the_same();
     no_request_is_made();
     processes_are_ended();
     println!("each allocation is counted, and failed in turn");
@@ -129,14 +144,20 @@ fn refused<T: Debug>(answer: Result<T, TryError>) -> Tried {
     }
 }
 
-fn one_free_id() -> IdAllocator {
+fn one_held_id() -> IdAllocator {
     let mut ids = IdAllocator::new(0, 0).expect("ids");
-    assert_eq!(ids.allocate_id().and_then(|id| ids.free_id(id)), Ok(0));
+    assert_eq!(ids.allocate_id(), Ok(0));
     ids
 }
 
-/// Makes four allocations: for the space, for the rest of its gap, for the map, and for the set of
-/// freed ids.
+fn one_free_id() -> IdAllocator {
+    let mut ids = one_held_id();
+    assert_eq!(ids.free_id(0), Ok(0));
+    ids
+}
+
+/// Makes an allocation for the space and one for the rest of its gap, and two each for both maps of
+/// devices and for the set of freed ids.
 fn reserve_and_release() {
     let mut devices = DeviceManager::new(0, 0, 0, 64).expect("a manager");
     assert!(devices.reserve(1, 1, FirstMatch).is_ok());
@@ -168,6 +189,41 @@ fn refuse_each_request() {
             assert_eq!(answer, Err(TryError::OutOfMemory), "row {row}");
             assert_eq!((&space, blocks()), (&unchanged, before), "row {row}");
         }
+    }
+}
+
+/// Checks that ids and devices do not change if an allocation fails.
+fn objects_stay_the_same() {
+    let mut ids = one_held_id();
+    unchanged_until_allowed(&mut ids, IdAllocator::clone, |ids| ids.try_free_id(0));
+    assert_eq!(ids.held_count(), 0);
+    let mut devices = DeviceManager::new(0, 1, 0, 64).expect("a manager");
+    unchanged_until_allowed(&mut devices, DeviceManager::clone, |devices| {
+        devices.try_reserve(1, 1, FirstMatch)
+    });
+    assert_eq!(devices.device_count(), 1);
+    unchanged_until_allowed(&mut devices, DeviceManager::clone, |devices| {
+        devices.try_release(0)
+    });
+    assert_eq!(devices.device_count(), 0);
+}
+
+/// Makes a call with its first allocation failing, then with its second, until it succeeds. An error
+/// must change nothing.
+fn unchanged_until_allowed<O: PartialEq + Debug, T: Debug>(
+    object: &mut O,
+    clone: fn(&O) -> O,
+    call: impl Fn(&mut O) -> Result<T, TryError>,
+) {
+    let unchanged = clone(object);
+    for number in 1.. {
+        let (answer, _) = refusing(number, || call(object));
+        if answer.is_ok() {
+            assert!(number > 1 && *object != unchanged);
+            return;
+        }
+        assert_eq!(answer.err(), Some(TryError::OutOfMemory));
+        assert_eq!(*object, unchanged);
     }
 }
 

@@ -45,6 +45,15 @@ impl DeviceManager {
         self.slots.slots().len() as u64
     }
 
+    /// Returns the device whose range contains the address, or `None` if no device has it.
+    ///
+    /// It descends one path of the tree, looks the range up in a table, and does not allocate.
+    pub fn device_at(&self, address: u64) -> Option<DeviceSlot> {
+        let range = self.mmio_allocator.held_at(address)?;
+        let id = self.slots.id_at(range.start())?;
+        Some(DeviceSlot { id, range })
+    }
+
     /// Returns the allocator of the addresses, to look at.
     pub fn addresses(&self) -> &AddressAllocator {
         &self.mmio_allocator

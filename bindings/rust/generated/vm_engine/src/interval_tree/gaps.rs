@@ -21,6 +21,7 @@ impl<'a> Iterator for Gaps<'a> {
     type Item = RangeInclusive;
 
     /// Returns the next gap.
+    #[allow(clippy::while_let_on_iterator)]
     fn next(&mut self) -> Option<RangeInclusive> {
         while let Some(block) = self.walk.next() {
             if block.state == NodeState::Free {
