@@ -355,7 +355,7 @@ static const struct call {
     {"with ranges", make_with_held, 7},
     {"several requests", allocate_all, 5},
     {"free an id", free_id, 1},
-    {"read ids", read_ids, 12},
+    {"read ids", read_ids, 8},
     {"release a device", release_device, 2},
     {"reserve first", reserve_first, 2},
     {"reserve last", reserve_last, 2},

@@ -397,6 +397,7 @@ impl AddressAllocator {
     /// assert_eq!((ports.longest_gap(), ports.free_len()), (0xb0, 0xf0));
     /// # Ok::<(), divsharun::Error>(())
     /// ```
+    #[must_use]
     pub fn gaps(&self) -> Gaps<'_> {
         Gaps(self.0.gaps())
     }

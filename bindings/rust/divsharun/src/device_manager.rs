@@ -149,6 +149,7 @@ impl DeviceManager {
     }
 
     /// Returns an iterator over the devices in ascending order of ids. It does not allocate.
+    #[must_use]
     pub fn devices(&self) -> Devices<'_> {
         Devices(self.0.devices())
     }

@@ -119,6 +119,7 @@ impl IdAllocator {
     /// assert!(lines.held_ids().eq([5, 7]));
     /// # Ok::<(), divsharun::Error>(())
     /// ```
+    #[must_use]
     pub fn held_ids(&self) -> HeldIds<'_> {
         HeldIds(self.0.held_ids())
     }
