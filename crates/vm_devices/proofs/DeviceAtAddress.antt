@@ -38,4 +38,4 @@ device_missed {state} {x} {r} f =
     let none : None ≡ Some owner.0 = (f.ids owner.0).1 (record { range = r; found = owner.1; start_is = refl }) in
     absurd (cc (none))
 
-pub ruleset found = (no_range_at, device_found, device_missed)
+pub ruleset found = (no_range_at)
