@@ -372,9 +372,9 @@ static const struct call {
     {"free an id", free_id, 1},
     {"read ids", read_ids, 8},
     {"release a device", release_device, 2},
-    {"reserve first", reserve_first, 2},
-    {"reserve last", reserve_last, 2},
-    {"reserve exactly", reserve_exact, 2},
+    {"reserve first", reserve_first, 1},
+    {"reserve last", reserve_last, 1},
+    {"reserve exactly", reserve_exact, 1},
     {"read a manager", read_manager, 40},
 };
 
