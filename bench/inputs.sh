@@ -37,6 +37,11 @@ fill() {
     awk -v k="$1" 'BEGIN { printf "space 0 %.0f\n", k * 4096; for (i = 0; i < k; i++) print "first 4096 1" }'
 }
 
+# k ranges of one address each at the highest free address, none of them freed.
+last() {
+    awk -v k="$1" 'BEGIN { print "space 0 " 2 * k; for (i = 0; i < k; i++) print "last 1 1" }'
+}
+
 # k pages in ascending order, every second one freed, and then ranges of two pages, which fit only after all
 # gaps. Each is freed at once.
 frag() {

@@ -1,0 +1,18 @@
+/* The space of replay.c: with Linux's drm_mm, or with the C library of this repository. */
+#ifndef SPACE_H
+#define SPACE_H
+
+#include <stdbool.h>
+#include <stdint.h>
+
+void make_space(uint64_t base, uint64_t size);
+
+/* Each of these returns whether it succeeded, and writes the start of the range. */
+bool allocate_first(uint64_t size, uint64_t alignment, uint64_t *start);
+bool allocate_last(uint64_t size, uint64_t alignment, uint64_t *start);
+bool allocate_exact(uint64_t size, uint64_t alignment, uint64_t *start);
+
+/* Returns whether exactly this range was allocated. */
+bool free_range(uint64_t first, uint64_t last);
+
+#endif
