@@ -1,9 +1,9 @@
-//! Prints nanoseconds per call for 10^3 to 10^5 allocated ranges or ids, by `cargo bench`. Without
-//! `--bench`, as in `cargo test`, it runs one short round.
+//! Prints nanoseconds per call for 10^3 to 10^5 allocated ranges or ids, with a warm and with a cold
+//! cache, by `cargo bench`. Without `--bench`, as in `cargo test`, it runs one short round.
 
 mod workload;
 
-use workload::{library, Call, Devices};
+use workload::{library, Cache, Call, Devices};
 
 library!(Divsharun, divsharun);
 
@@ -20,13 +20,16 @@ fn main() {
     println!("| call | {} |", heads.join(" | "));
     println!("|---{}|", "|---".repeat(counts.len()));
     let devices: Vec<Devices> = counts.iter().map(|count| Devices::new(*count)).collect();
-    for call in Call::ALL {
+    for (call, cache) in Call::ALL
+        .into_iter()
+        .flat_map(|call| Cache::ALL.map(|cache| (call, cache)))
+    {
         let times: Vec<String> = devices
             .iter()
-            .map(|devices| devices.measure::<Divsharun>(call, rounds))
+            .map(|devices| devices.measure::<Divsharun>(call, cache, rounds))
             .inspect(|measured| assert!(measured.answers.iter().all(Result::is_ok)))
             .map(|measured| format!("{:.0} ns", measured.nanoseconds))
             .collect();
-        println!("| {call} | {} |", times.join(" | "));
+        println!("| {call}, {cache:?} | {} |", times.join(" | "));
     }
 }

@@ -150,6 +150,31 @@ impl fmt::Display for Call {
     }
 }
 
+/// Whether the measured data is in the cache of the processor before the first measured call.
+#[derive(Clone, Copy, Debug, PartialEq, Eq)]
+pub enum Cache {
+    /// The same ranges were freed and allocated right before.
+    Warm,
+    /// More memory than the cache holds was read right before.
+    Cold,
+}
+
+impl Cache {
+    pub const ALL: [Cache; 2] = [Cache::Warm, Cache::Cold];
+}
+
+/// Reads more memory than the cache of a processor holds.
+fn empty_cache() {
+    let memory = vec![1u8; 128 << 20];
+    black_box(
+        memory
+            .iter()
+            .step_by(64)
+            .map(|byte| u64::from(*byte))
+            .sum::<u64>(),
+    );
+}
+
 /// The measurement of a call.
 pub struct Measured {
     /// The median time of a call, in nanoseconds.
@@ -203,14 +228,27 @@ impl Devices {
     }
 
     /// Measures a call in this number of rounds.
-    pub fn measure<L: Library>(&self, call: Call, rounds: u64) -> Measured {
+    pub fn measure<L: Library>(&self, call: Call, cache: Cache, rounds: u64) -> Measured {
         match call {
-            Call::AllocateId | Call::FreeId => self.measure_ids::<L>(call, rounds),
-            _ => self.measure_ranges::<L>(call, rounds),
+            Call::AllocateId | Call::FreeId => self.measure_ids::<L>(call, cache, rounds),
+            _ => self.measure_ranges::<L>(call, cache, rounds),
         }
     }
 
-    fn measure_ranges<L: Library>(&self, call: Call, rounds: u64) -> Measured {
+    /// Frees the moved ranges and allocates them again, or empties the cache.
+    fn prepare<L: Library>(&self, space: &mut L::Space, cache: Cache) {
+        if cache == Cache::Cold {
+            return empty_cache();
+        }
+        for range in &self.moved {
+            L::free(space, *range).expect("it is held");
+        }
+        for range in &self.moved {
+            L::allocate(space, size_of(range), 1, Place::Exact(range.0)).expect("it is clear");
+        }
+    }
+
+    fn measure_ranges<L: Library>(&self, call: Call, cache: Cache, rounds: u64) -> Measured {
         let full = self.full::<L>();
         let mut timing = Timing::default();
         for round in 0..rounds {
@@ -218,9 +256,14 @@ impl Devices {
             let mut moved = self.moved.clone();
             let mut space = full.clone();
             draw.shuffle(&mut moved);
+            self.prepare::<L>(&mut space, cache);
             timing.of(call == Call::Free, &moved, |range| {
                 L::free(&mut space, *range)
             });
+            // The ranges were freed right before, so the cache is warm.
+            if cache == Cache::Cold {
+                empty_cache();
+            }
             draw.shuffle(&mut moved);
             // The largest first, so that each one fits.
             moved.sort_by_key(|range| u64::MAX - size_of(range));
@@ -236,7 +279,7 @@ impl Devices {
         timing.done()
     }
 
-    fn measure_ids<L: Library>(&self, call: Call, rounds: u64) -> Measured {
+    fn measure_ids<L: Library>(&self, call: Call, cache: Cache, rounds: u64) -> Measured {
         let count = self.ranges.len() as u32;
         let mut full = L::ids(0, count);
         for _ in 0..count {
@@ -249,7 +292,16 @@ impl Devices {
             let mut all: Vec<u32> = (0..count).collect();
             draw.shuffle(&mut all);
             let moved = &all[..self.moved.len()];
+            if cache == Cache::Cold {
+                empty_cache();
+            } else {
+                moved.iter().for_each(|id| drop(L::free_id(&mut ids, *id)));
+                moved.iter().for_each(|_| drop(L::allocate_id(&mut ids)));
+            }
             timing.of(call == Call::FreeId, moved, |id| L::free_id(&mut ids, *id));
+            if cache == Cache::Cold {
+                empty_cache();
+            }
             timing.of(call == Call::AllocateId, moved, |_| {
                 L::allocate_id(&mut ids)
             });

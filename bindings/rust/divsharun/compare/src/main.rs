@@ -17,7 +17,7 @@ mod workload;
 use difference::Tally;
 use std::process::ExitCode;
 use std::time::SystemTime;
-use workload::{library, Call, Devices};
+use workload::{library, Cache, Call, Devices};
 
 library!(Port, divsharun);
 library!(Rust, vm_allocator);
@@ -56,18 +56,21 @@ fn seed_of_the_clock() -> u64 {
 fn measure(tally: &mut Tally) {
     println!("| call | 1,000 ranges | 10,000 ranges | 100,000 ranges |\n|---|---|---|---|");
     let devices = [1_000, 10_000, 100_000].map(Devices::new);
-    for call in Call::ALL {
+    for (call, cache) in Call::ALL
+        .into_iter()
+        .flat_map(|call| Cache::ALL.map(|cache| (call, cache)))
+    {
         let cells: Vec<String> = devices
             .iter()
-            .map(|devices| measure_call(call, devices, tally))
+            .map(|devices| measure_call(call, cache, devices, tally))
             .collect();
-        println!("| {call} | {} |", cells.join(" | "));
+        println!("| {call}, {cache:?} | {} |", cells.join(" | "));
     }
 }
 
-fn measure_call(call: Call, devices: &Devices, tally: &mut Tally) -> String {
-    let rust = devices.measure::<Rust>(call, ROUNDS);
-    let port = devices.measure::<Port>(call, ROUNDS);
+fn measure_call(call: Call, cache: Cache, devices: &Devices, tally: &mut Tally) -> String {
+    let rust = devices.measure::<Rust>(call, cache, ROUNDS);
+    let port = devices.measure::<Port>(call, cache, ROUNDS);
     for (rust_answer, port_answer) in rust.answers.iter().zip(&port.answers) {
         if rust_answer != port_answer {
             tally.unnamed_difference(&format!("{call}: {rust_answer:?} and {port_answer:?}"));
