@@ -99,6 +99,18 @@ pub(crate) fn holds_exactly(space: &AddressAllocator, ranges: &[(u64, u64)]) -> 
     held.next().is_none()
 }
 
+/// Returns whether exactly these ranges are the gaps.
+pub(crate) fn gaps_exactly(space: &AddressAllocator, ranges: &[(u64, u64)]) -> bool {
+    let mut gaps = space.gaps();
+    for range in ranges {
+        match gaps.next() {
+            Some(next) if (next.start(), next.end()) == *range => {}
+            _ => return false,
+        }
+    }
+    gaps.next().is_none()
+}
+
 /// Parses the value of a text.
 pub(crate) fn parsed(rt: &(impl Abort + AllocGlobal), text: &str) -> Value {
     match Value::from_str(rt.alloc(), text) {

@@ -122,6 +122,23 @@ fn ranges_created(rt: HostRuntime) {
     expect_eq(&rt, &numbers, &(MILLION, 21), &"2^20 <= 2,000,000 < 2^21");
 }
 
+#[test]
+fn addresses_looked_up(rt: HostRuntime) {
+    let space = created_half_held(&rt, MANY);
+    for address in 0..2 * MANY {
+        let is_held = space.held_at(address) == Some(range(&rt, address, address));
+        expect_eq(&rt, &is_held, &(address % 2 == 0), &address);
+        assert!(rt; space.longest_gap() == 1);
+    }
+    let mut start: u64 = 1;
+    for gap in space.gaps() {
+        expect_eq(&rt, &(gap.start(), gap.end()), &(start, start), &gap);
+        start = start.saturating_add(2);
+    }
+    let numbers = (start, space.clear_count());
+    expect_eq(&rt, &numbers, &(2 * MANY + 1, MANY), &"each odd address");
+}
+
 /// Makes `MANY` requests for the first free address in one call, in a space of a number of addresses.
 fn allocate_many(rt: &(impl Abort + AllocGlobal), size: u64) -> (AddressAllocator, Option<Error>) {
     let request = Constraint::new(1, 1, AllocPolicy::FirstMatch);

@@ -1,5 +1,5 @@
 -- If a range cannot be held after others, `ExactMatch` has the same error for it.
-use Rattle.std.proofs.Common.{◌≡◌, ℕ, ◌+◌, ◌≤◌, ◌<◌, List, [], ◌∷◌, ◌++◌, true, false, cond, eqb, ltb, eq-eqb, Option, Some, None, Result, Err, refl, ap, ◌∙◌, arith, subst, ⊎_elim}
+use Rattle.std.proofs.Common.{◌≡◌, ℕ, ◌+◌, ◌≤◌, ◌<◌, List, [], ◌∷◌, ◌++◌, true, false, cond, eqb, ltb, eq-eqb, Some, None, Result, Err, refl, ap, ◌∙◌, arith, subst, ⊎_elim}
 use Rattle.std.specs.List.{All, Contains}
 use Rattle.std.proofs.lemmas.Bool.{ltb-true, ltb-false, eqb-true, cases_lt}
 use Rattle.std.proofs.lemmas.List.Elements.{All-head, All-tail}

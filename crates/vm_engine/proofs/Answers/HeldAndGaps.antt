@@ -1,13 +1,11 @@
 -- The held ranges and the gaps of a valid state.
-use Rattle.std.proofs.Common.{◌≡◌, ◌↔◌, ℕ, ◌+◌, ◌-◌, ◌<◌, ◌≤◌, ◌⊎◌, List, [], ◌∷◌, Option, Some, None, refl, sym, ap, ◌∙◌, arith, inl, inr, ⊎_elim, subst}
-use Rattle.std.specs.List.{All, Contains}
+use Rattle.std.proofs.Common.{◌≡◌, ℕ, ◌+◌, ◌-◌, ◌<◌, ◌≤◌, ◌⊎◌, List, [], ◌∷◌, Option, Some, None, refl, sym, ap, arith, inl, inr, ⊎_elim, subst}
 use Rattle.std.proofs.lemmas.Bool.{cases_lt}
 use Rattle.vm_ranges.specs.Range.{Range, IsIn, address_count}
 use Rattle.vm_ranges.proofs.RangeCalls.{same_range}
 use Rattle.vm_engine.specs.Address.{AddressState, IsAddressState, IsClear, IsPlace}
-use Rattle.vm_engine.specs.Tree.Block.{Block}
 use Rattle.vm_engine.specs.Tree.Blocks.{Tiles, held_of, blocks_of}
-use Rattle.vm_engine.specs.Queries.{free_of, gaps_of, longest_of, count_of, IsRangeAt}
+use Rattle.vm_engine.specs.Queries.{gaps_of, longest_of, count_of, IsRangeAt}
 use Rattle.vm_engine.specs.Laws.QueryLaws.{IsInOne, IsInNone, EachAddressIsInOne, AgreesWithLists, HeldAtAgrees, IsGap, GapsAreLongest, HeldAndGapsAreBlocks, LongestIsZero, LongestFits, CountsAddUp}
 use Rattle.vm_ranges.specs.declared.state.NodeState.TheVariants.{Allocated}
 use Rattle.vm_engine.proofs.Blocks.PlainWords.{IsHeldAddress, IsHeld, contains_held, held_contains, all_miss, none_holds, held_address}

@@ -1,5 +1,5 @@
 -- The free blocks of a tiling: each is a longest range of addresses that are not held.
-use Rattle.std.proofs.Common.{◌≡◌, ℕ, ◌+◌, ◌-◌, ◌<◌, ◌≤◌, ◌⊎◌, max, true, false, ltb, cond, List, [], ◌∷◌, ◌++◌, refl, sym, ap, ◌∙◌, arith, inl, inr, ⊎_elim, subst}
+use Rattle.std.proofs.Common.{◌≡◌, ℕ, ◌+◌, ◌<◌, ◌≤◌, ◌⊎◌, List, [], ◌∷◌, refl, sym, ap, ◌∙◌, arith, inl, inr, ⊎_elim, subst}
 use Rattle.std.proofs.lemmas.Bool.{cases_lt}
 use Rattle.vm_ranges.specs.Range.{Range, IsIn, address_count}
 use Rattle.vm_engine.specs.Tree.Block.{Block}

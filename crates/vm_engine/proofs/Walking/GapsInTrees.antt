@@ -2,9 +2,8 @@
 use Rattle.std.proofs.Common.{◌≡◌, ℕ, ◌+◌, ◌<◌, ◌≤◌, max, List, [], ◌∷◌, ◌++◌, refl, sym, ap, ◌∙◌, arith, append_assoc, ⊎_elim}
 use Rattle.std.proofs.lemmas.Bool.{cases_lt}
 use Rattle.vm_ranges.specs.Range.{Range, MAX, address_count}
-use Rattle.vm_engine.specs.Address.{AddressState}
 use Rattle.vm_engine.specs.Tree.Block.{Block, free_length}
-use Rattle.vm_engine.specs.Tree.Blocks.{Tiles, TilesSpace, blocks_of}
+use Rattle.vm_engine.specs.Tree.Blocks.{Tiles, TilesSpace}
 use Rattle.vm_engine.specs.Tree.Shape.{Shape, Tip, Fork, blocks, max_free_of}
 use Rattle.vm_engine.specs.Tree.SpaceTree.{space_of, tree_state, IsSpaceTree}
 use Rattle.vm_engine.specs.Queries.{range_if_free, free_of, gaps_of, longest_of, count_of}

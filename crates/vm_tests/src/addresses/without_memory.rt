@@ -1,7 +1,7 @@
 //! Calls that do not allocate. tests/refused_memory makes every allocation after `fail_from_here`
 //! fail.
 use super::*;
-use crate::fixtures::{fail_from_here, holds_exactly, range};
+use crate::fixtures::{fail_from_here, gaps_exactly, holds_exactly, range};
 use std::cmp::Ordering;
 
 /// Makes the calls in turn without memory, and checks their results.
@@ -48,6 +48,12 @@ fn look_up(rt: &impl Abort, space: &AddressAllocator, other: &AddressAllocator) 
     expect_true(rt, are_held, &"these three are held");
     let is_whole = space.holds(&range(rt, 6, 7)) && !space.holds(&range(rt, 6, 6));
     expect_true(rt, is_whole && space.held_count() == 3, &"three whole ones");
+    let is_found = space.held_at(7) == Some(range(rt, 6, 7)) && space.held_at(8).is_none();
+    expect_true(rt, is_found, &"the address of a range and of a gap");
+    let are_clear = gaps_exactly(space, &[(0, 1), (4, 5), (8, 9), (12, 15)]);
+    expect_true(rt, are_clear, &"the other four are gaps");
+    let numbers = (space.longest_gap(), space.clear_count());
+    expect_eq(rt, &numbers, &(4, 10), &"the longest gap and all gaps");
 }
 
 /// Fills the space of three allocated ranges, and frees all.

@@ -1,6 +1,4 @@
 use Rattle.std.proofs.Common.{◌≡◌, refl}
-use Rattle.vm_engine.specs.Tree.Block.{Block}
-use Rattle.vm_engine.specs.Tree.Shape.{Shape}
 use Rattle.vm_engine.specs.Engine.NodeFields.{side, shape_of}
 use Rattle.vm_engine.proofs.Walking.HeldAtAddresses.{at_left, at_right, at_free, at_held}
 use Rattle.vm_engine.proofs.node.walks.held.+held_at.Goals as goal
