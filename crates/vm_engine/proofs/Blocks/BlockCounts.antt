@@ -1,13 +1,9 @@
 -- The number of blocks before and after a range is added to the held ranges or removed from them.
-use Rattle.std.proofs.Common.{◌≡◌, ℕ, ◌+◌, ◌-◌, ◌*◌, ◌<◌, ◌≤◌, List, [], ◌∷◌, ◌++◌, length, length-append, refl, sym, ap, ◌∙◌, arith, inl, inr, ◌⊎◌, ⊎_elim, subst, eq-eqb, Result, Ok}
+use Rattle.std.proofs.Common.{◌≡◌, ℕ, ◌+◌, ◌-◌, ◌<◌, ◌≤◌, List, [], ◌∷◌, length, length-append, refl, sym, ap, ◌∙◌, arith, inl, inr, ⊎_elim, subst, eq-eqb, Ok}
 use Rattle.std.proofs.lemmas.Bool.{cases_lt, lt-ltb, le-ltb, cases_eq, ne_eqb}
 use Rattle.vm_ranges.specs.Range.{Range, IsIn, span}
-use Rattle.vm_ranges.specs.Request.{Request}
-use Rattle.vm_engine.specs.Address.{AddressState, IsClear, with_range, without_range, holding, releasing, AreInOrder, IsAddressState}
-use Rattle.vm_engine.specs.Answer.{Allocates, Frees}
-use Rattle.vm_engine.specs.Tree.Blocks.{gap_before, blocks_between, blocks_of, IsBlocksOf}
-use Rattle.vm_engine.specs.Tree.Shape.{Shape, node_count, blocks}
-use Rattle.vm_engine.specs.Tree.SpaceTree.{tree_state, IsSpaceTree}
+use Rattle.vm_engine.specs.Address.{AddressState, IsClear, with_range, without_range, holding, releasing, AreInOrder}
+use Rattle.vm_engine.specs.Tree.Blocks.{gap_before, blocks_between, blocks_of}
 use Rattle.vm_ranges.specs.declared.state.NodeState.TheVariants.{Allocated}
 use Rattle.vm_engine.specs.Laws.MemoryLaws.{block_count, IsOneIf, AreClearBeside, OneNodeForEachBlock, AllocationAddsParts, FreeingRemovesGaps, BlocksAreFew}
 use Rattle.vm_engine.proofs.Answers.AddressAnswers.{gets, lies_clear, freed_held}
@@ -145,9 +141,9 @@ with_without lo hi r (x ∷ xs) s h =
     let f = le-ltb r.start x.start (omega (arith, later_above lo hi x xs r s k, s.1)) in
     rw (e, f) (ap (λ (v : List Range). x ∷ v) (with_without (x.end + 1) hi r xs s.4 k)))
     (cases_eq r.start x.start) where
-  first : (ys : List Range) → AreInOrder lo (x ∷ ys) hi → r.start ≡ x.start → with_range r ys ≡ r ∷ ys
-  first [] t d = refl
-  first (y ∷ ys) t d = rw (lt-ltb r.start y.start (omega (arith, t.1, t.4.0))) refl
+      first : (ys : List Range) → AreInOrder lo (x ∷ ys) hi → r.start ≡ x.start → with_range r ys ≡ r ∷ ys
+      first [] t d = refl
+      first (y ∷ ys) t d = rw (lt-ltb r.start y.start (omega (arith, t.1, t.4.0))) refl
 
 -- ---- The states of an allocator
 -- No address of a removed range is held.
