@@ -1,5 +1,5 @@
 -- How deep an object nests, by the values of its fields.
-use Rattle.std.proofs.Common.{◌≡◌, ℕ, suc, ◌≤◌, max, Bool, true, false, List, [], ◌∷◌, length, Option, Some, None, option_and_then, MatchOption, Ordering, Less, Equal, Greater, bytes_eq, nat_cmp, is_eq, codes, refl, sym, ap, ◌∙◌, subst, arith, true≢false}
+use Rattle.std.proofs.Common.{◌≡◌, ℕ, suc, ◌≤◌, max, false, List, [], ◌∷◌, length, Option, Some, None, option_and_then, MatchOption, Ordering, Less, Equal, Greater, bytes_eq, nat_cmp, is_eq, codes, refl, sym, ap, ◌∙◌, subst, arith, true≢false}
 use Rattle.std.proofs.lemmas.Map.Text.{is_eq-slice_cmp}
 use Rattle.std.proofs.lemmas.Option.{same_Some}
 use Rattle.std.proofs.lemmas.Slice.Eq.{bytes_eq-Decides}

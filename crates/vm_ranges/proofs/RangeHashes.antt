@@ -1,5 +1,5 @@
 -- Two ranges write the same bytes to a hasher if and only if they are equal.
-use Rattle.std.proofs.Common.{◌≡◌, ℕ, suc, ◌<◌, ◌^◌, ◌&&◌, ◌==◌, eqb, List, [], ◌∷◌, refl, sym, ap, ◌∙◌, arith}
+use Rattle.std.proofs.Common.{◌≡◌, ℕ, ◌<◌, ◌^◌, ◌==◌, List, [], ◌∷◌, refl, sym, ap, ◌∙◌, arith}
 use Rattle.std.proofs.lemmas.Bool.{and_parts, and_from, eqb-true, eq-eqb}
 use Rattle.std.proofs.lemmas.Nat.{from_le_bytes-to_le_bytes_8}
 use Rattle.std.specs.Hash.{HashWrites, u64, le_bytes}
@@ -31,14 +31,14 @@ same_number n m p q e = sym (from_le_bytes-to_le_bytes_8 n p) ∙ ap (from_le_by
 pub hash_agrees : HashAgreesWithEquality same_range writes
 hash_agrees r s p q = (
   λ h.
-    let both = and_parts (r.start == s.start) (r.end == s.end) h in
-    let start : r.start ≡ s.start = eqb-true r.start s.start both.0 in
-    let end : r.end ≡ s.end = eqb-true r.end s.end both.1 in
-    rw (start, end) refl,
+      let both = and_parts (r.start == s.start) (r.end == s.end) h in
+      let start : r.start ≡ s.start = eqb-true r.start s.start both.0 in
+      let end : r.end ≡ s.end = eqb-true r.end s.end both.1 in
+      rw (start, end) refl,
   λ h.
-    let start = same_number r.start s.start (omega (arith, p.0, p.1)) (omega (arith, q.0, q.1)) (ap first h) in
-    let end = same_number r.end s.end (omega (arith, p.1)) (omega (arith, q.1)) (ap second h) in
-    and_from _ _ (eq-eqb r.start s.start start) (eq-eqb r.end s.end end),
+      let start = same_number r.start s.start (omega (arith, p.0, p.1)) (omega (arith, q.0, q.1)) (ap first h) in
+      let end = same_number r.end s.end (omega (arith, p.1)) (omega (arith, q.1)) (ap second h) in
+      and_from _ _ (eq-eqb r.start s.start start) (eq-eqb r.end s.end end),
 )
 
 pub ruleset hashes = (hash_agrees)

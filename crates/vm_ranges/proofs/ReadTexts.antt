@@ -1,9 +1,9 @@
 -- A value that was written as a text is read again.
-use Rattle.std.proofs.Common.{◌≡◌, ◌≤◌, List, ℕ, Some, None, Result, Ok, Err, MatchResult, refl, sym, ◌∙◌}
+use Rattle.std.proofs.Common.{◌≡◌, ◌≤◌, List, ℕ, Result, Ok, Err, MatchResult, refl, sym, ◌∙◌}
 use Rattle.std.proofs.lemmas.Option.{same_Some}
 use Rattle.serde_json.specs.Data.{Data, depth}
 use Rattle.serde_json.specs.Errors.{IsMemory}
-use Rattle.serde_json.specs.Read.{read, max_depth}
+use Rattle.serde_json.specs.Read.{max_depth}
 use Rattle.serde_json.specs.View.{view}
 use Rattle.serde_json.specs.declared.error.Code.{Code}
 use Rattle.serde_json.specs.declared.error.Code.TheVariants.{Invalid, NumberOutOfRange, OutOfMemory}

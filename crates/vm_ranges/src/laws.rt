@@ -12,5 +12,7 @@ fn ranges_are_sets()
 /// ranges have the same hash.
 #[tactic(auto, using(crate::proofs::RangeHashes::hashes))]
 fn equal_ranges_hash_equally()
-    ensures { HashAgreesWithEquality ⟦<crate::range::RangeInclusive as PartialEq>⟧.eq ⟦<crate::range::RangeInclusive as std::hash::Hash>⟧.hash_input }
+    ensures { HashAgreesWithEquality
+        ⟦<crate::range::RangeInclusive as PartialEq>⟧.eq
+        ⟦<crate::range::RangeInclusive as std::hash::Hash>⟧.hash_input }
 {}

@@ -1,8 +1,9 @@
 -- How deep the values of allocators nest, and the allocators that are read of their texts.
-use Rattle.std.proofs.Common.{◌≡◌, ◌⊎◌, ℕ, ◌+◌, ◌≤◌, ◌∷◌, [], List, Option, Some, None, codes, refl, sym, ap, arith, subst, Result, Ok, Err, MatchResult}
+use Rattle.std.proofs.Common.{◌≡◌, ◌⊎◌, ℕ, ◌+◌, ◌≤◌, ◌∷◌, [], List, Option, Some, None, codes, refl, sym, ap, ◌∙◌, arith, subst, Result, Ok, Err, MatchResult}
+use Rattle.std.proofs.lemmas.Option.{same_Some}
 use Rattle.serde_json.specs.Data.{Data, depth}
 use Rattle.serde_json.specs.Errors.{IsMemory}
-use Rattle.serde_json.specs.Read.{max_depth}
+use Rattle.serde_json.specs.Read.{read, max_depth}
 use Rattle.serde_json.specs.View.{view}
 use Rattle.serde_json.specs.declared.error.Error as json
 use Rattle.serde_json.specs.declared.value.Value.{Value}
@@ -12,6 +13,7 @@ use Rattle.vm_ranges.proofs.ReadTexts.{parsed_again}
 use Rattle.vm_ranges.specs.Range.{Range}
 use Rattle.vm_ranges.specs.RangeValues.{EncodesRange, EncodesState}
 use Rattle.vm_ranges.specs.Saving.{Reads}
+use Rattle.vm_ranges.specs.Texts.{IsTextOf}
 use Rattle.vm_ranges.specs.declared.saved.ValueError.{ValueError}
 use Rattle.vm_ranges.specs.declared.saved.ValueError.TheVariants.{OutOfMemory}
 use Rattle.vm_engine.proofs.Reading.NestedTrees.{tree_nests}
@@ -21,6 +23,7 @@ use Rattle.vm_allocator.specs.Ids.{IdState}
 use Rattle.vm_allocator.specs.Values.AllocatorValues.{EncodesTree, EncodesAllocator, EncodesAddresses}
 use Rattle.vm_allocator.specs.Values.IdValues.{EncodesNext, EncodesNumber, EncodesIds}
 use Rattle.vm_allocator.specs.Laws.ValueLaws.{ReadsWritten, ReadsText}
+use Rattle.vm_allocator.proofs.Reading.ReadAllocators.{one_allocator}
 use Rattle.vm_allocator.proofs.Reading.ReadAgain.{range_again, state_again, allocator_again, ids_again}
 
 -- ---- How deep the values nest
@@ -51,6 +54,16 @@ ids_nest d state p =
     (field_map (codes "freed_ids") d _ _ (λ v k. list_within EncodesNumber 0 (λ w n e. let z = whole_flat w n e in omega (arith, z)) v p.fields.freed_ids k) f.freed_ids, tt))))
 
 -- ---- Texts
+-- The allocator that is read from the text of a written value is the allocator that was written.
+pub text_gives_again : (text : List ℕ) (d e : Data) (old new : SpaceInTree) → EncodesAllocator d old → IsTextOf text d → read text ≡ Some e → EncodesAllocator e new → new ≡ old
+text_gives_again text d e old new s t p q =
+    let same : e ≡ d = same_Some e d (sym p ∙ t (let n = allocator_nests d old s in omega (arith, n))) in
+    one_allocator d new old (subst (λ (v : Data). EncodesAllocator v new) same q) s
+
+-- The text of a written value has a value.
+pub text_has_value : (text : List ℕ) (d : Data) (old : SpaceInTree) → EncodesAllocator d old → IsTextOf text d → read text ≡ None → ⊥
+text_has_value text d old s t p = let f = t (let n = allocator_nests d old s in omega (arith, n)) in cc
+
 text_again : {X : Type 0} (States : Data → X → Type 0) → ((d : Data) (x : X) → States d x → depth d ≤ max_depth) → ReadsWritten States → ReadsText States
 text_again {X} States nests again old value text parsed w t p =
     at parsed (parsed_again text (view value) parsed (nests (view value) old w) t p) where

@@ -1,13 +1,9 @@
 -- The number of blocks before and after a range is added to the held ranges or removed from them.
-use Rattle.std.proofs.Common.{◌≡◌, ℕ, ◌+◌, ◌-◌, ◌*◌, ◌<◌, ◌≤◌, List, [], ◌∷◌, ◌++◌, length, length-append, refl, sym, ap, ◌∙◌, arith, inl, inr, ◌⊎◌, ⊎_elim, subst, eq-eqb, Result, Ok}
+use Rattle.std.proofs.Common.{◌≡◌, ℕ, ◌+◌, ◌-◌, ◌<◌, ◌≤◌, List, [], ◌∷◌, length, length-append, refl, sym, ap, ◌∙◌, arith, inl, inr, ⊎_elim, subst, eq-eqb, Ok}
 use Rattle.std.proofs.lemmas.Bool.{cases_lt, lt-ltb, le-ltb, cases_eq, ne_eqb}
 use Rattle.vm_ranges.specs.Range.{Range, IsIn, span}
-use Rattle.vm_ranges.specs.Request.{Request}
-use Rattle.vm_engine.specs.Address.{AddressState, IsClear, with_range, without_range, holding, releasing, AreInOrder, IsAddressState}
-use Rattle.vm_engine.specs.Answer.{Allocates, Frees}
-use Rattle.vm_engine.specs.Tree.Blocks.{gap_before, blocks_between, blocks_of, IsBlocksOf}
-use Rattle.vm_engine.specs.Tree.Shape.{Shape, node_count, blocks}
-use Rattle.vm_engine.specs.Tree.SpaceTree.{tree_state, IsSpaceTree}
+use Rattle.vm_engine.specs.Address.{AddressState, IsClear, with_range, without_range, holding, releasing, AreInOrder}
+use Rattle.vm_engine.specs.Tree.Blocks.{gap_before, blocks_between, blocks_of}
 use Rattle.vm_ranges.specs.declared.state.NodeState.TheVariants.{Allocated}
 use Rattle.vm_engine.specs.Laws.MemoryLaws.{block_count, IsOneIf, AreClearBeside, OneNodeForEachBlock, AllocationAddsParts, FreeingRemovesGaps, BlocksAreFew}
 use Rattle.vm_engine.proofs.Answers.AddressAnswers.{gets, lies_clear, freed_held}
@@ -145,9 +141,9 @@ with_without lo hi r (x ∷ xs) s h =
     let f = le-ltb r.start x.start (omega (arith, later_above lo hi x xs r s k, s.1)) in
     rw (e, f) (ap (λ (v : List Range). x ∷ v) (with_without (x.end + 1) hi r xs s.4 k)))
     (cases_eq r.start x.start) where
-  first : (ys : List Range) → AreInOrder lo (x ∷ ys) hi → r.start ≡ x.start → with_range r ys ≡ r ∷ ys
-  first [] t d = refl
-  first (y ∷ ys) t d = rw (lt-ltb r.start y.start (omega (arith, t.1, t.4.0))) refl
+      first : (ys : List Range) → AreInOrder lo (x ∷ ys) hi → r.start ≡ x.start → with_range r ys ≡ r ∷ ys
+      first [] t d = refl
+      first (y ∷ ys) t d = rw (lt-ltb r.start y.start (omega (arith, t.1, t.4.0))) refl
 
 -- ---- The states of an allocator
 -- No address of a removed range is held.
@@ -183,6 +179,46 @@ state_adds state ks r p =
     } in
     (p.below + p.above, beside, omega (arith, p.more))
 
+-- Addresses outside a range are held as before it was added.
+held_address_before : (r : Range) (x : ℕ) (hs : List Range) → ¬ IsIn r x → IsHeldAddress (with_range r hs) x → IsHeldAddress hs x
+held_address_before r x [] n h = ⊎_elim n (λ k. k) h
+held_address_before r x (y ∷ ys) n h =
+    ⊎_elim
+    (λ (d : r.start < y.start).
+    let e = lt-ltb r.start y.start d in
+    let k : IsHeldAddress (r ∷ y ∷ ys) x = rw e at h in
+    ⊎_elim (λ (i : IsIn r x). absurd (n i)) (λ (i : IsHeldAddress (y ∷ ys) x). i) k)
+    (λ (d : y.start ≤ r.start).
+    let e = le-ltb r.start y.start d in
+    let k : IsHeldAddress (y ∷ with_range r ys) x = rw e at h in
+    ⊎_elim (λ (i : IsIn y x). inl i) (λ (i : IsHeldAddress (with_range r ys) x). inr (held_address_before r x ys n i)) k)
+    (cases_lt r.start y.start)
+
+held_address_after : (r : Range) (x : ℕ) (hs : List Range) → IsHeldAddress hs x → IsHeldAddress (with_range r hs) x
+held_address_after r x [] h = absurd h
+held_address_after r x (y ∷ ys) h =
+    ⊎_elim
+    (λ (d : r.start < y.start). let e = lt-ltb r.start y.start d in rw e (inr h))
+    (λ (d : y.start ≤ r.start).
+    let e = le-ltb r.start y.start d in
+    rw e (⊎_elim (λ (i : IsIn y x). inl i) (λ (i : IsHeldAddress ys x). inr (held_address_after r x ys i)) h))
+    (cases_lt r.start y.start)
+
+-- The addresses beside a range are clear before it is added exactly if they are clear after.
+beside_after : (state : AddressState) (r : Range) (n : ℕ) → r.start ≤ r.end → AreClearBeside state r n → AreClearBeside (holding r state) r n
+beside_after state r n l p =
+    let later : (x : ℕ) → ¬ IsIn r x → IsClear state x → IsClear (holding r state) x =
+    λ x out k. (k.0, all_miss (with_range r state.held) x (λ h. none_holds state.held x k.1 (held_address_before r x state.held out h))) in
+    let sooner : (x : ℕ) → IsClear (holding r state) x → IsClear state x =
+    λ x k. (k.0, all_miss state.held x (λ h. none_holds (with_range r state.held) x k.1 (held_address_after r x state.held h))) in
+    record {
+      below = p.below;
+      above = p.above;
+      before = one_if _ _ p.below (λ k. (k.0, later k.0 (λ i. omega (arith, k.2, i.0)) k.1, k.2)) (λ k. (k.0, sooner k.0 k.1, k.2)) p.before;
+      after = one_if _ _ p.above (later (r.end + 1) (λ i. omega (arith, i.1))) (sooner (r.end + 1)) p.after;
+      both = p.both;
+    }
+
 pub allocation_adds : AllocationAddsParts
 unfolding blocks_of
 allocation_adds old new request r i h =
@@ -211,7 +247,9 @@ freeing_removes old new r i h =
     let more : Adds lo hi rest old.held r = subst (λ (ks : List Range). Adds lo hi rest ks r) (with_without lo hi r old.held i.in_order f.0)
     (adds lo hi r rest order l.0 l.1 l.2 (misses_without lo hi r old.held i.in_order f.0)) in
     let given = state_adds (releasing r old) old.held r more in
-    (given.0, subst (λ (v : AddressState). AreClearBeside v r given.0) (sym f.1) given.1, given.2 ∙ ap (λ (v : AddressState). block_count v + given.0) (sym f.1))
+    let back : holding r (releasing r old) ≡ old = ap (λ (ks : List Range). record old { held = ks }) (with_without lo hi r old.held i.in_order f.0) in
+    let beside : AreClearBeside old r given.0 = subst (λ (v : AddressState). AreClearBeside v r given.0) back (beside_after (releasing r old) r given.0 l.1 given.1) in
+    (given.0, beside, given.2 ∙ ap (λ (v : AddressState). block_count v + given.0) (sym f.1))
 
 pub blocks_are_few : BlocksAreFew
 unfolding blocks_of

@@ -1,10 +1,9 @@
 -- How deep the value of a tree nests.
-use Rattle.std.proofs.Common.{◌≡◌, ℕ, ◌+◌, ◌≤◌, max, [], ◌∷◌, codes, refl, ap, arith}
+use Rattle.std.proofs.Common.{◌+◌, ◌≤◌, max, [], ◌∷◌, codes, refl, ap, arith}
 use Rattle.serde_json.specs.Data.{Data, depth}
 use Rattle.vm_ranges.proofs.FieldSteps.{field_map}
 use Rattle.vm_ranges.proofs.Nesting.{object_within, number_within, range_nests, state_nests}
 use Rattle.vm_ranges.specs.Range.{Range}
-use Rattle.vm_ranges.specs.RangeValues.{EncodesRange, EncodesState}
 use Rattle.vm_engine.specs.Tree.Shape.{Shape, Tip, Fork, MAX_HEIGHT, height_of}
 use Rattle.vm_engine.specs.Values.TreeValues.{EncodesShape, EncodesSpaceTree}
 
@@ -16,12 +15,19 @@ shape_nests (Fork l b r) d p =
     let e =
     object_within n (codes "key" ∷ codes "node_state" ∷ codes "left" ∷ codes "right" ∷ codes "height" ∷ []) d
     ((refl, (refl, (refl, (refl, tt)))), ((refl, (refl, (refl, tt))), ((refl, (refl, tt)), ((refl, tt), (tt, tt)))))
-    p.five_fields
-    (field_map (codes "key") d _ _ (λ v k. let i = range_nests v b.key k in omega (arith, i)) p.key,
-    (field_map (codes "node_state") d _ _ (λ v k. let i = state_nests v b.state k in omega (arith, i)) p.node_state,
-    (field_map (codes "left") d _ _ (λ v k. let i = shape_nests l v k in omega (arith, i)) p.left,
-    (field_map (codes "right") d _ _ (λ v k. let i = shape_nests r v k in omega (arith, i)) p.right,
-    (number_within n n (codes "height") d p.height, tt))))) in
+    p.five_fields (
+      field_map (codes "key") d _ _ (λ v k. let i = range_nests v b.key k in omega (arith, i)) p.key,
+      (
+        field_map (codes "node_state") d _ _ (λ v k. let i = state_nests v b.state k in omega (arith, i)) p.node_state,
+        (
+          field_map (codes "left") d _ _ (λ v k. let i = shape_nests l v k in omega (arith, i)) p.left,
+          (
+            field_map (codes "right") d _ _ (λ v k. let i = shape_nests r v k in omega (arith, i)) p.right,
+            (number_within n n (codes "height") d p.height, tt),
+          ),
+        ),
+      ),
+    ) in
     omega (arith, e)
 
 -- The value of an allocator's tree nests at most MAX_HEIGHT + 1 deep.

@@ -1,5 +1,5 @@
 -- Laws of the memory of an address allocator. Its tree has one node for each block.
-use Rattle.std.specs.Prelude.{◌≡◌, ℕ, ◌+◌, ◌*◌, ◌≤◌, Result, Ok, length}
+use Rattle.std.specs.Prelude.{◌≡◌, ℕ, ◌+◌, ◌*◌, ◌≤◌, Ok, length}
 use Rattle.vm_ranges.specs.Cases.{IfElse}
 use Rattle.vm_ranges.specs.Range.{Range}
 use Rattle.vm_ranges.specs.Request.{Request}
@@ -39,7 +39,7 @@ AllocationAddsParts =
 abbrev pub FreeingRemovesGaps : Type 0
 FreeingRemovesGaps =
     (old new : AddressState) (r : Range) → IsAddressState old → Frees old r (Ok tt) new →
-    (gaps : ℕ) × AreClearBeside new r gaps × (block_count old ≡ block_count new + gaps)
+    (gaps : ℕ) × AreClearBeside old r gaps × (block_count old ≡ block_count new + gaps)
 
 -- A state with k held ranges has at most 2k + 1 blocks.
 abbrev pub BlocksAreFew : Type 0
