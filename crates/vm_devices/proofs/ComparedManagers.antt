@@ -2,25 +2,23 @@
 use Rattle.std.proofs.Common.{◌≡◌, ◌↔◌, ℕ, Bool, false, ◌&&◌, eqb, List, [], ◌∷◌, refl, sym, ap, ◌∙◌, subst, IsTrue}
 use Rattle.std.proofs.lemmas.Bool.{both_ways, and_parts, and_from, eq-eqb, eqb-true}
 use Rattle.std.proofs.lemmas.Bool.Decides.{same_from_decides}
-use Rattle.std.proofs.lemmas.Cmp.{tied_itself, lists_total}
+use Rattle.std.proofs.lemmas.Cmp.{tied_itself}
 use Rattle.std.specs.declared.cmp.Ordering.TheVariants.{Equal}
 use Rattle.std.specs.Ordering.{nat_cmp, eq_by_cmp, is_eq}
-use Rattle.std.specs.Cmp.{Equal-is, unsigned_tied}
-use Rattle.std.specs.Cmp.Lexicographic.{pointwise, slice_cmp, lists_ties}
+use Rattle.std.specs.Cmp.{Equal-is}
+use Rattle.std.specs.Cmp.Lexicographic.{pointwise}
 use Rattle.std.specs.BTreeMap.{BTreeMap, IsOrdered}
 use Rattle.std.specs.FinMap.{slice_cmp-IsAntisymmetric, nat_cmp-IsAntisymmetric}
 use Rattle.std.specs.FinMap as map
 use Rattle.vm_ranges.proofs.RangeCalls.{same_range as one_range}
 use Rattle.vm_ranges.proofs.RangeOrders.{both_equal, range_cmp-exact}
 use Rattle.vm_ranges.specs.Range.{Range}
-use Rattle.vm_ranges.specs.RangeOrder.{range_cmp, same_range}
-use Rattle.vm_engine.specs.Address.{AddressState}
-use Rattle.vm_engine.specs.Comparison.{state_cmp, AreEqual}
+use Rattle.vm_ranges.specs.RangeOrder.{same_range}
 use Rattle.vm_engine.proofs.Comparing.StateOrders.{one_state, equal_states, state_cmp-Equal}
 use Rattle.vm_allocator.proofs.Callers.{entries_of_sorted, id_state_cmp-Equal}
-use Rattle.vm_devices.specs.Devices.{DeviceState, IsDeviceState, devices_of}
-use Rattle.vm_devices.specs.Queries.{entry_cmp, entry_cmp-total, device_state_cmp, device_state_cmp-total}
-use Rattle.vm_devices.specs.TableChecks.{HaveSameAllocators}
+use Rattle.vm_devices.specs.Devices.{DeviceState, IsDeviceState}
+use Rattle.vm_devices.specs.Queries.{entry_cmp, device_state_cmp, device_state_cmp-total}
+use Rattle.vm_devices.specs.Checks.{HaveSameAllocators}
 use Rattle.vm_devices.proofs.Tables.{table}
 
 pub ruleset spaces = (one_state, equal_states)

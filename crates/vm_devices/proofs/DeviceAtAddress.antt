@@ -1,15 +1,10 @@
 -- The device whose range contains an address.
-use Rattle.std.proofs.Common.{◌≡◌, ◌↔◌, ℕ, refl, sym, ap, ◌∙◌, subst, Option, Some, None}
-use Rattle.std.proofs.lemmas.Option.{same_Some}
-use Rattle.std.specs.List.{All, Contains}
-use Rattle.std.specs.FinMap as map
-use Rattle.vm_ranges.specs.Range.{Range, IsIn, Overlaps}
+use Rattle.std.proofs.Common.{◌≡◌, ◌↔◌, ℕ, refl, subst, Option, Some, None}
+use Rattle.vm_ranges.specs.Range.{Range, IsIn}
 use Rattle.vm_engine.specs.Queries.{IsHeldAt}
-use Rattle.vm_engine.proofs.Answers.AddressAnswers.{lie_apart}
-use Rattle.vm_devices.specs.declared.device_slot.DeviceSlot.{DeviceSlot}
 use Rattle.vm_devices.specs.Devices.{DeviceState, IsDevice, IsDeviceState}
 use Rattle.vm_devices.specs.Queries.{DeviceAt}
-use Rattle.vm_devices.specs.TableChecks.{StartsAt}
+use Rattle.vm_devices.specs.Checks.{StartsAt}
 use Rattle.vm_devices.proofs.DeviceStarts.{devices_start_apart}
 
 -- No held range contains the address.

@@ -1,6 +1,6 @@
 -- The results of the calls of a manager follow from the results of its parts. A record has the facts of one case of a
 -- call.
-use Rattle.std.proofs.Common.{◌≡◌, ℕ, ◌⊎◌, refl, sym, ap, ◌∙◌, inl, inr, ⊎_elim, subst, Some, None, Result, Ok, Err}
+use Rattle.std.proofs.Common.{◌≡◌, ℕ, ◌⊎◌, refl, sym, ap, ◌∙◌, inl, inr, ⊎_elim, subst, None, Result, Ok, Err}
 use Rattle.std.specs.Ordering.{nat_cmp}
 use Rattle.std.specs.FinMap as map
 use Rattle.std.specs.List.{Contains}

@@ -1,17 +1,14 @@
 -- The devices as a list, and the device at an address.
 use Rattle.std.proofs.Common.{◌≡◌, ◌↔◌, ℕ, List, [], ◌∷◌, map as map_list, length, refl, sym, ap, ◌∙◌, subst, Option, Some, None, IsSome, is_some, IsTrue}
 use Rattle.std.proofs.lemmas.List.{length-map}
-use Rattle.std.proofs.lemmas.Option.{same_Some}
 use Rattle.std.specs.Cmp.{nat_cmp_total}
-use Rattle.std.specs.List.{Contains, list_any}
+use Rattle.std.specs.List.{Contains}
 use Rattle.std.specs.Map.{keys_of, values_of}
-use Rattle.std.specs.Ordering.{nat_cmp, eq_by_cmp}
 use Rattle.std.specs.FinMap as map
-use Rattle.std.specs.FinSet as set
 use Rattle.vm_ranges.proofs.NumberSets.{same_test}
-use Rattle.vm_ranges.specs.Range.{Range, IsIn, Overlaps}
+use Rattle.vm_ranges.specs.Range.{Range, Overlaps}
 use Rattle.vm_engine.proofs.Answers.AddressAnswers.{lie_apart}
-use Rattle.vm_allocator.specs.Ids.{IsHeld, held_ids, held_count}
+use Rattle.vm_allocator.specs.Ids.{held_ids, held_count}
 use Rattle.vm_allocator.proofs.Callers.{listed_held, in_held_ids, keys_rise, same_rising}
 use Rattle.vm_devices.specs.declared.device_slot.DeviceSlot.{DeviceSlot}
 use Rattle.vm_devices.specs.Devices.{DeviceState, IsDevice, IsDeviceState}

@@ -10,7 +10,7 @@ use Rattle.vm_allocator.specs.Ids.{IdState, IsHeld, IsLowestNotHeld, ByLowestNot
 use Rattle.vm_engine.proofs.Answers.AddressAnswers.{adds_range, state_is_preserved, lie_apart}
 use Rattle.vm_allocator.proofs.Callers.{range_was_free}
 use Rattle.vm_devices.specs.Devices.{DeviceState, IsDeviceState}
-use Rattle.vm_devices.specs.TableChecks.{StartsAt, IsNew, HaveDifferentStarts}
+use Rattle.vm_devices.specs.Checks.{IsNew, HaveDifferentStarts}
 
 -- Held ranges with the same start are the same range.
 one_start : (space : AddressState) → IsAddressState space → (q r : Range) → Contains space.held q → Contains space.held r → q.start ≡ r.start → q ≡ r

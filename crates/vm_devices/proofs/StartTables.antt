@@ -1,5 +1,5 @@
 -- The ids by starts, after a device is inserted or removed.
-use Rattle.std.proofs.Common.{◌≡◌, ◌↔◌, ℕ, ◌⊎◌, List, [], ◌∷◌, ◌++◌, refl, sym, ap, ◌∙◌, arith, inl, inr, ⊎_elim, subst, Option, Some, None, Ok}
+use Rattle.std.proofs.Common.{◌≡◌, ◌↔◌, ℕ, ◌⊎◌, List, [], ◌∷◌, ◌++◌, refl, sym, ap, ◌∙◌, inl, inr, ⊎_elim, subst, Option, Some, None}
 use Rattle.std.proofs.lemmas.Bool.{cases_eq}
 use Rattle.std.proofs.lemmas.Option.{same_Some}
 use Rattle.std.specs.Ordering.{nat_cmp}
@@ -8,7 +8,7 @@ use Rattle.std.specs.Map.{lookup}
 use Rattle.std.specs.BTreeMap.{BTreeMap, is_at, IsEmpty, IsUnchanged, Updates}
 use Rattle.std.specs.FinMap as map
 use Rattle.vm_ranges.specs.Range.{Range}
-use Rattle.vm_devices.specs.TableChecks.{StartsAt, AreIdsByStart, IsNew, HaveDifferentStarts}
+use Rattle.vm_devices.specs.Checks.{StartsAt, AreIdsByStart, IsNew, HaveDifferentStarts}
 use Rattle.vm_devices.proofs.Tables.{table, seen, table_with, table_without, no_entries, with_here, with_other, without_here, without_other}
 use Rattle.vm_devices.proofs.Entries.{IsEntry, Rise, found_entry, entry_found}
 

@@ -4,4 +4,4 @@ pub mod Laws
 pub mod Saved
 pub mod SavedChecks
 pub mod Queries
-pub mod TableChecks
+pub mod Checks

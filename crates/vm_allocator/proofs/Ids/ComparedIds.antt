@@ -1,9 +1,8 @@
 -- Equality of id allocators is equality of their states.
-use Rattle.std.proofs.Common.{◌≡◌, ◌↔◌, ℕ, ◌<◌, ◌≤◌, Bool, false, true, not, nat_eq, List, refl, sym, ap, ◌∙◌, arith, subst, ⊎_elim, Option, Some, None, IsTrue}
+use Rattle.std.proofs.Common.{◌≡◌, ◌↔◌, ℕ, ◌<◌, ◌≤◌, Bool, false, true, nat_eq, List, refl, sym, ap, ◌∙◌, arith, subst, ⊎_elim, Option, Some, None, IsTrue}
 use Rattle.std.proofs.lemmas.Bool.{both_ways, cases_Bool}
 use Rattle.std.proofs.lemmas.Bool.Decides.{same_from_decides}
 use Rattle.std.proofs.lemmas.Cmp.{tied_itself, lists_total}
-use Rattle.std.proofs.lemmas.Option.{same_Some}
 use Rattle.std.specs.List.{list_any}
 use Rattle.std.specs.declared.cmp.Ordering.TheVariants.{Equal}
 use Rattle.std.specs.Ordering.{nat_cmp, eq_by_cmp, is_eq}
@@ -12,9 +11,9 @@ use Rattle.std.specs.Cmp.Lexicographic.{pointwise, slice_cmp, lists_ties}
 use Rattle.std.specs.BTreeSet.{BTreeSet, contains, IsOrdered}
 use Rattle.std.specs.FinMap.{slice_cmp-IsAntisymmetric}
 use Rattle.std.specs.FinSet as set
-use Rattle.vm_ranges.proofs.NumberSets.{same_test, same_members}
+use Rattle.vm_ranges.proofs.NumberSets.{same_test}
 use Rattle.vm_ranges.proofs.RangeOrders.{both_equal}
-use Rattle.vm_allocator.specs.Ids.{IdState, IsIdState, held_ids, MAX_ID, bound_of, held_of, ids_of, IsNext, AreIds}
+use Rattle.vm_allocator.specs.Ids.{IdState, IsIdState, held_ids, bound_of, held_of, ids_of, IsNext, AreIds}
 use Rattle.vm_allocator.specs.Checks.IdQueries.{HaveSameBounds}
 use Rattle.vm_allocator.specs.IdOrder.{id_state_cmp, id_state_cmp-total}
 use Rattle.vm_allocator.proofs.Ids.IdFields.{is_state}

@@ -4,7 +4,7 @@ ghost use Rattle.std.proofs.Common.{rules};
 ghost use Rattle.std.specs.Cmp.Rules.{comparing};
 ghost use Rattle.std.specs.Ordering.{eq_by_cmp, nat_cmp};
 ghost use Rattle.std.specs.BTreeMap.{IsOrdered};
-ghost use Rattle.vm_devices.specs.TableChecks.{HaveSameAllocators};
+ghost use Rattle.vm_devices.specs.Checks.{HaveSameAllocators};
 ghost use Rattle.vm_devices.specs.Queries.{device_state_cmp, device_state_cmp-total};
 
 use super::DeviceManager;

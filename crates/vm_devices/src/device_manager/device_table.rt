@@ -1,7 +1,7 @@
 //! The table of the devices. It finds a range by its id, and an id by the start of its range.
 ghost use Rattle.std.specs.Prelude.{◌≡◌, ◌↔◌, ℕ, Some, IfOk, OnOk, OnErr};
 ghost use Rattle.std.specs.FinMap as map;
-ghost use Rattle.vm_devices.specs.TableChecks.{StartsAt, IsNew, HaveDifferentStarts};
+ghost use Rattle.vm_devices.specs.Checks.{StartsAt, IsNew, HaveDifferentStarts};
 
 use std::alloc::{AllocError, Global};
 use std::collections::BTreeMap;
@@ -22,7 +22,7 @@ impl Model for DeviceTable {
     ghost use Rattle.std.specs.Ordering.{nat_cmp};
     ghost use Rattle.std.specs.FinMap as map;
     ghost use Rattle.vm_ranges.specs.Range.{Range, range_code};
-    ghost use Rattle.vm_devices.specs.TableChecks.{AreIdsByStart};
+    ghost use Rattle.vm_devices.specs.Checks.{AreIdsByStart};
 
     ghost Value = { map.FinMap nat_cmp Range };
 

@@ -30,7 +30,9 @@ fn expect_at(
 }
 
 const FIRST: (u32, u64, u64) = (3, 0x1000, 0x10FF);
+
 const SECOND: (u32, u64, u64) = (4, 0x1800, 0x180F);
+
 const THIRD: (u32, u64, u64) = (5, 0x1100, 0x1100);
 
 /// Reserves three devices. The range of the third is between the others.
@@ -67,13 +69,24 @@ fn listed_and_found(rt: HostRuntime) {
     expect_at(&rt, &none, 0x1000, None);
     let mut devices = three(&rt);
     expect_three(&rt, &devices);
-    let held = holds_exactly(devices.addresses(), &[(0x1000, 0x10FF), (0x1100, 0x1100), (0x1800, 0x180F)]);
-    expect_true(&rt, held && devices.ids().held_count() == 3, &"both allocators");
+    let held = holds_exactly(
+        devices.addresses(),
+        &[(0x1000, 0x10FF), (0x1100, 0x1100), (0x1800, 0x180F)],
+    );
+    expect_true(
+        &rt,
+        held && devices.ids().held_count() == 3,
+        &"both allocators",
+    );
     // A released device is not found any more. The next one starts at the same address.
     replay(&rt, &mut devices, &[(Release(3), Gone)]);
     expect_true(&rt, are_devices(&devices, &[SECOND, THIRD]), &"two devices");
     expect_at(&rt, &devices, 0x1000, None);
-    replay(&rt, &mut devices, &[(Release(4), Gone), (First(8, 1), Device(3, 0x1000, 0x1007))]);
+    replay(
+        &rt,
+        &mut devices,
+        &[(Release(4), Gone), (First(8, 1), Device(3, 0x1000, 0x1007))],
+    );
     expect_at(&rt, &devices, 0x1007, Some((3, 0x1000, 0x1007)));
     expect_at(&rt, &devices, 0x1008, None);
     expect_at(&rt, &devices, 0x1800, None);
@@ -90,7 +103,9 @@ fn listed_without_memory(rt: HostRuntime) {
 fn cloned(rt: &(impl Abort + AllocGlobal), devices: &DeviceManager) -> DeviceManager {
     match devices.try_clone(rt.alloc()) {
         Ok(clone) => clone,
-        Err(_) => devices.try_clone(rt.alloc()).expect(rt, "memory is refused once"),
+        Err(_) => devices
+            .try_clone(rt.alloc())
+            .expect(rt, "memory is refused once"),
     }
 }
 
@@ -98,15 +113,26 @@ fn cloned(rt: &(impl Abort + AllocGlobal), devices: &DeviceManager) -> DeviceMan
 fn equal_and_cloned(rt: HostRuntime) {
     let devices = three(&rt);
     let mut clone = cloned(&rt, &devices);
-    expect_true(&rt, clone == devices && devices == three(&rt), &"the same devices");
+    expect_true(
+        &rt,
+        clone == devices && devices == three(&rt),
+        &"the same devices",
+    );
     expect_three(&rt, &clone);
     replay(&rt, &mut clone, &[(Release(4), Gone)]);
     expect_true(&rt, clone != devices, &"a clone that changed");
     expect_three(&rt, &devices);
     // The same ids and the same ranges, paired in another way.
-    let rows = &[(Release(3), Gone), (Exact(0x10, 1, 0x1800), Device(3, 0x1800, 0x180F))];
+    let rows = &[
+        (Release(3), Gone),
+        (Exact(0x10, 1, 0x1800), Device(3, 0x1800, 0x180F)),
+    ];
     replay(&rt, &mut clone, rows);
-    replay(&rt, &mut clone, &[(First(0x100, 1), Device(4, 0x1000, 0x10FF))]);
+    replay(
+        &rt,
+        &mut clone,
+        &[(First(0x100, 1), Device(4, 0x1000, 0x10FF))],
+    );
     let same_parts = clone.ids() == devices.ids() && clone.addresses() == devices.addresses();
     expect_true(&rt, same_parts && clone != devices, &"other pairs");
 }

@@ -26,7 +26,11 @@ fn expect_held(
 #[test]
 fn held_in_the_middle(rt: HostRuntime) {
     let mut ids = made(&rt, 5, 9);
-    expect_true(&rt, ids.range_base() == 5 && ids.range_end() == 9, &"a range");
+    expect_true(
+        &rt,
+        ids.range_base() == 5 && ids.range_end() == 9,
+        &"a range",
+    );
     expect_held(&rt, &mut ids, &[], &[]);
     expect_held(&rt, &mut ids, &[TakeAll(5, 7)], &[5, 6, 7]);
     expect_held(&rt, &mut ids, &[TakeAll(8, 9)], &[5, 6, 7, 8, 9]);
@@ -45,7 +49,12 @@ fn held_at_the_end(rt: HostRuntime) {
     expect_held(&rt, &mut ids, &[Allocate(Id(HIGH))], &[LOW, HIGH]);
     expect_held(&rt, &mut ids, &[Free(LOW, Id(LOW))], &[HIGH]);
     expect_held(&rt, &mut ids, &[Free(HIGH, Id(HIGH))], &[]);
-    expect_held(&rt, &mut made(&rt, HIGH, HIGH), &[TakeAll(HIGH, HIGH)], &[HIGH]);
+    expect_held(
+        &rt,
+        &mut made(&rt, HIGH, HIGH),
+        &[TakeAll(HIGH, HIGH)],
+        &[HIGH],
+    );
 }
 
 /// Returns the allocator of the ids from 5 to 9 after the calls.

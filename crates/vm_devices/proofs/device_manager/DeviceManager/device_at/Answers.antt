@@ -1,4 +1,4 @@
-use Rattle.std.proofs.Common.{◌≡◌, sym, ◌∙◌, Some, None, rules}
+use Rattle.std.proofs.Common.{◌≡◌, Some, None, rules}
 use Rattle.vm_devices.proofs.DeviceAtAddress.{IsFound, device_found, device_missed}
 use Rattle.vm_devices.proofs.device_manager.DeviceManager.device_at.Goals as goal
 

@@ -1,6 +1,6 @@
 use Rattle.std.proofs.Common.{◌≡◌, sym, ap, ◌∙◌}
 use Rattle.vm_allocator.specs.Allocator.{state_of}
-use Rattle.vm_devices.specs.Devices.{DeviceState, devices_of}
+use Rattle.vm_devices.specs.Devices.{devices_of}
 use Rattle.vm_devices.proofs.Tables.{table}
 use Rattle.vm_devices.proofs.SavedManagers.{manager_written}
 use Rattle.vm_devices.proofs.device_manager.DeviceManager.to_value.Goals as goal

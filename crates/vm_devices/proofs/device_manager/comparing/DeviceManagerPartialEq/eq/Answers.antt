@@ -1,4 +1,4 @@
-use Rattle.std.proofs.Common.{sym, ap, ◌∙◌, refl}
+use Rattle.std.proofs.Common.{ap, ◌∙◌, refl}
 use Rattle.std.proofs.lemmas.Bool.{both_ways}
 use Rattle.vm_devices.specs.Devices.{DeviceState}
 use Rattle.vm_devices.proofs.ComparedManagers.{tested, tested_by_order}

@@ -2,8 +2,7 @@ use Rattle.std.proofs.Common.{◌≡◌, ℕ, List, [], ◌∷◌, ◌++◌, map
 use Rattle.std.proofs.lemmas.List.{map-append}
 use Rattle.std.specs.Map.Iter.{deref_pair}
 use Rattle.vm_ranges.specs.Range.{Range}
-use Rattle.vm_devices.proofs.Tables.{table}
-use Rattle.vm_devices.proofs.StartTables.{IdsOf, IsNext, no_ids, more_ids, all_ids}
+use Rattle.vm_devices.proofs.StartTables.{IsNext, no_ids, more_ids, all_ids}
 use Rattle.vm_devices.proofs.device_manager.device_table.DeviceTable.from_slots.Goals as goal
 
 pub loop-id-init : goal.loop-id-init

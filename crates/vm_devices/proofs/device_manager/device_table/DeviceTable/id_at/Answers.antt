@@ -1,6 +1,5 @@
-use Rattle.std.proofs.Common.{◌≡◌, sym, ◌∙◌, Some}
+use Rattle.std.proofs.Common.{◌≡◌, sym, ◌∙◌}
 use Rattle.std.specs.FinMap as map
-use Rattle.vm_devices.specs.TableChecks.{StartsAt}
 use Rattle.vm_devices.proofs.Tables.{table, seen}
 use Rattle.vm_devices.proofs.device_manager.device_table.DeviceTable.id_at.Goals as goal
 

@@ -1,4 +1,4 @@
-use Rattle.std.proofs.Common.{◌≡◌, ap, sym, ◌∙◌, refl}
+use Rattle.std.proofs.Common.{ap, ◌∙◌, refl}
 use Rattle.std.specs.FinMap as map
 use Rattle.vm_devices.proofs.Tables.{table_with}
 use Rattle.vm_devices.proofs.StartTables.{IsEntering, kept_match, entered_match, undone_match}

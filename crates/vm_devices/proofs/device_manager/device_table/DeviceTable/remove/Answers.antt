@@ -1,4 +1,4 @@
-use Rattle.std.proofs.Common.{◌≡◌, ap, sym, ◌∙◌, refl}
+use Rattle.std.proofs.Common.{ap, ◌∙◌, refl}
 use Rattle.std.specs.FinMap as map
 use Rattle.vm_devices.proofs.Tables.{table_without}
 use Rattle.vm_devices.proofs.StartTables.{kept_match, left_match}

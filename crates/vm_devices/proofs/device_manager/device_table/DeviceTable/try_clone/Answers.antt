@@ -1,4 +1,3 @@
-use Rattle.std.proofs.Common.{◌≡◌, ap, ◌∙◌}
 use Rattle.std.proofs.lemmas.Map.Entries.{entries_from_clone}
 use Rattle.vm_devices.proofs.StartTables.{kept_match}
 use Rattle.vm_devices.proofs.device_manager.device_table.DeviceTable.try_clone.Goals as goal
