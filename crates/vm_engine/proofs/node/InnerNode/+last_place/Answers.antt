@@ -15,7 +15,7 @@ returns-in-Some-highest_fit-clause-place t c =
     let none : All (HasNoFit c.args.size c.args.alignment) (blocks (side c.self.inside.right)) =
     elim c.match-may_fit.branch [
       | in-Some w ↦ rw w.in-Some.ensures.0 (nothing_found w.last_place.new.found _ _ w.last_place.ensures.place (rw (← w.found-is) (sym c.if-is_some.ensures)))
-      | in_default w ↦ none_unless_searched _ _ _ c.requires.sized c.requires.aligned w.in_default.ensures
+      | in_default w ↦ none_unless_searched _ _ _ c.requires.request.0 c.requires.request.1 w.in_default.ensures
     ] in
     last_here c.args.size c.args.alignment _ _ _ _ _ (sym c.self.view_is) none c.in-Some-highest_fit.ensures
 
@@ -24,7 +24,7 @@ returns-in-Some-may_fit-clause-place t c =
     let none : All (HasNoFit c.args.size c.args.alignment) (blocks (side c.self.inside.right)) =
     elim c.match-may_fit.branch [
       | in-Some w ↦ rw w.in-Some.ensures.0 (nothing_found w.last_place.new.found _ _ w.last_place.ensures.place (rw (← w.found-is) (sym c.if-is_some.ensures)))
-      | in_default w ↦ none_unless_searched _ _ _ c.requires.sized c.requires.aligned w.in_default.ensures
+      | in_default w ↦ none_unless_searched _ _ _ c.requires.request.0 c.requires.request.1 w.in_default.ensures
     ] in
     last_through_left c.args.size c.args.alignment _ _ _ _ c.last_place-in-Some-may_fit.new.found (sym c.self.view_is) none c.in_default-highest_fit.ensures (rw c.in-Some-may_fit.ensures.0 c.last_place-in-Some-may_fit.ensures.place)
 
@@ -33,9 +33,9 @@ returns-in_default-may_fit-clause-place t c =
     let none : All (HasNoFit c.args.size c.args.alignment) (blocks (side c.self.inside.right)) =
     elim c.match-may_fit.branch [
       | in-Some w ↦ rw w.in-Some.ensures.0 (nothing_found w.last_place.new.found _ _ w.last_place.ensures.place (rw (← w.found-is) (sym c.if-is_some.ensures)))
-      | in_default w ↦ none_unless_searched _ _ _ c.requires.sized c.requires.aligned w.in_default.ensures
+      | in_default w ↦ none_unless_searched _ _ _ c.requires.request.0 c.requires.request.1 w.in_default.ensures
     ] in
-    let left = none_unless_searched _ _ _ c.requires.sized c.requires.aligned c.in_default-may_fit.ensures in
+    let left = none_unless_searched _ _ _ c.requires.request.0 c.requires.request.1 c.in_default-may_fit.ensures in
     still_nothing c.match-may_fit.found _ _ (none_of c.args.size c.args.alignment _ _ _ _ (sym c.self.view_is) left c.in_default-highest_fit.ensures none) (sym c.if-is_some.ensures)
 
 -- Proof: this goal has a name because the search for a proof is slow.
