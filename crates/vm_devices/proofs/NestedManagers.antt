@@ -1,5 +1,5 @@
 -- How deep the value of a manager nests, and the manager that is read of its text.
-use Rattle.std.proofs.Common.{◌≡◌, ◌⊎◌, ℕ, ◌≤◌, ◌∷◌, [], List, codes, refl, sym, arith, subst, Result, Ok, Err, MatchResult}
+use Rattle.std.proofs.Common.{◌≡◌, ◌⊎◌, ℕ, ◌≤◌, ◌∷◌, [], codes, refl, sym, arith, subst, Result, Ok, Err, MatchResult}
 use Rattle.serde_json.specs.Data.{Data, depth}
 use Rattle.serde_json.specs.Errors.{IsMemory}
 use Rattle.serde_json.specs.View.{view}
@@ -8,7 +8,6 @@ use Rattle.serde_json.specs.declared.value.Value.{Value}
 use Rattle.vm_ranges.proofs.FieldSteps.{field_map}
 use Rattle.vm_ranges.proofs.Nesting.{object_within, number_within, range_nests, list_within}
 use Rattle.vm_ranges.specs.Range.{Range}
-use Rattle.vm_ranges.specs.Texts.{IsTextOf, Parses}
 use Rattle.vm_ranges.specs.declared.saved.ValueError.{ValueError}
 use Rattle.vm_ranges.specs.declared.saved.ValueError.TheVariants.{OutOfMemory}
 use Rattle.vm_allocator.proofs.Callers.{addresses_nest, ids_nest, parsed_again}
@@ -19,23 +18,29 @@ use Rattle.vm_devices.proofs.SavedManagers.{read_again}
 
 device_nests : (d : Data) (e : ℕ × Range) → EncodesDevice d e → depth d ≤ 2
 device_nests d e p =
-    object_within 1 (codes "id" ∷ codes "mmio_range" ∷ []) d ((refl, tt), (tt, tt)) p.two_fields
-    (number_within 1 _ (codes "id") d p.id,
-    (field_map (codes "mmio_range") d _ _ (λ v k. range_nests v e.1 k) p.mmio_range, tt))
+    object_within 1 (codes "id" ∷ codes "mmio_range" ∷ []) d ((refl, tt), (tt, tt)) p.two_fields (
+      number_within 1 _ (codes "id") d p.id,
+      (field_map (codes "mmio_range") d _ _ (λ v k. range_nests v e.1 k) p.mmio_range, tt),
+    )
 
 manager_nests : (d : Data) (state : DeviceState) → EncodesManager d state → depth d ≤ 53
 manager_nests d state p =
     object_within 52 (codes "version" ∷ codes "id_allocator" ∷ codes "mmio_allocator" ∷ codes "slots" ∷ []) d
-    ((refl, (refl, (refl, tt))), ((refl, (refl, tt)), ((refl, tt), (tt, tt)))) p.four_fields
-    (number_within 52 _ (codes "version") d p.version,
-    (field_map (codes "id_allocator") d _ _ (λ v k. let e = ids_nest v state.ids k in omega (arith, e)) p.id_allocator,
-    (field_map (codes "mmio_allocator") d _ _ (λ v k. addresses_nest v state.space k) p.mmio_allocator,
-    (field_map (codes "slots") d _ _ (λ v k. let e = list_within EncodesDevice 2 device_nests v p.listed k in omega (arith, e)) p.slots, tt))))
+    ((refl, (refl, (refl, tt))), ((refl, (refl, tt)), ((refl, tt), (tt, tt)))) p.four_fields (
+      number_within 52 _ (codes "version") d p.version,
+      (
+        field_map (codes "id_allocator") d _ _ (λ v k. let e = ids_nest v state.ids k in omega (arith, e)) p.id_allocator,
+        (
+          field_map (codes "mmio_allocator") d _ _ (λ v k. addresses_nest v state.space k) p.mmio_allocator,
+          (field_map (codes "slots") d _ _ (λ v k. let e = list_within EncodesDevice 2 device_nests v p.listed k in omega (arith, e)) p.slots, tt),
+        ),
+      ),
+    )
 
 pub text_again : ManagerIsReadFromText
 text_again old value text parsed w t p =
     at parsed (parsed_again text (view value) parsed (let e = manager_nests (view value) old w in omega (arith, e)) t p) where
-  at : (r : Result Value json.Error) → MatchResult r (λ v. view v ≡ view value) IsMemory →
-      MatchResult r (λ v. (answer : Result DeviceState ValueError) → ReadsInParts (EncodesManager (view v)) answer → (answer ≡ Ok old) ⊎ (answer ≡ Err OutOfMemory)) IsMemory
-  at (Ok v) e = λ answer k. read_again (view v) old answer (subst (λ (d : Data). EncodesManager d old) (sym e) w) k
-  at (Err e) m = m
+      at : (r : Result Value json.Error) → MatchResult r (λ v. view v ≡ view value) IsMemory →
+          MatchResult r (λ v. (answer : Result DeviceState ValueError) → ReadsInParts (EncodesManager (view v)) answer → (answer ≡ Ok old) ⊎ (answer ≡ Err OutOfMemory)) IsMemory
+      at (Ok v) e = λ answer k. read_again (view v) old answer (subst (λ (d : Data). EncodesManager d old) (sym e) w) k
+      at (Err e) m = m

@@ -9,7 +9,7 @@ use Rattle.vm_ranges.specs.RangeOrder.{same_range}
 use Rattle.vm_ranges.specs.RangeLaws.{HashAgreesWithEquality}
 use mir.Syntax.{w64}
 
--- What a range writes to a hasher.
+-- A range writes this to a hasher: its start, then its end.
 abbrev writes : Range → HashWrites
 writes r = le_bytes 8 r.start ∷ u64 r.end
 

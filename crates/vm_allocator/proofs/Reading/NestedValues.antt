@@ -10,7 +10,6 @@ use Rattle.serde_json.specs.declared.value.Value.{Value}
 use Rattle.vm_ranges.proofs.FieldSteps.{field_map}
 use Rattle.vm_ranges.proofs.Nesting.{object_within, number_within, whole_flat, range_nests, state_nests, list_within}
 use Rattle.vm_ranges.proofs.ReadTexts.{parsed_again}
-use Rattle.vm_ranges.specs.Range.{Range}
 use Rattle.vm_ranges.specs.RangeValues.{EncodesRange, EncodesState}
 use Rattle.vm_ranges.specs.Saving.{Reads}
 use Rattle.vm_ranges.specs.Texts.{IsTextOf}
@@ -32,9 +31,10 @@ root_nests d Root n f p = let e = object_within n (codes "root" ∷ []) d (tt, t
 
 pub allocator_nests : (d : Data) (a : SpaceInTree) → EncodesAllocator d a → depth d ≤ 52
 allocator_nests d a p =
-    object_within 51 (codes "address_space" ∷ codes "interval_tree" ∷ []) d ((refl, tt), (tt, tt)) p.two_fields
-    (field_map (codes "address_space") d _ _ (λ v k. let e = range_nests v a.space k in omega (arith, e)) p.address_space,
-    (field_map (codes "interval_tree") d _ _ (λ v k. root_nests v _ 50 (λ w t. tree_nests w a.space a.tree t) k) p.interval_tree, tt))
+    object_within 51 (codes "address_space" ∷ codes "interval_tree" ∷ []) d ((refl, tt), (tt, tt)) p.two_fields (
+      field_map (codes "address_space") d _ _ (λ v k. let e = range_nests v a.space k in omega (arith, e)) p.address_space,
+      (field_map (codes "interval_tree") d _ _ (λ v k. root_nests v _ 50 (λ w t. tree_nests w a.space a.tree t) k) p.interval_tree, tt),
+    )
 
 pub addresses_nest : (d : Data) (state : AddressState) → EncodesAddresses d state → depth d ≤ 52
 addresses_nest d state p = allocator_nests d p.allocator p.encoded
@@ -47,11 +47,16 @@ pub ids_nest : (d : Data) (state : IdState) → EncodesIds d state → depth d �
 ids_nest d state p =
     let f = p.written in
     object_within 1 (codes "range_base" ∷ codes "next_id" ∷ codes "range_end" ∷ codes "freed_ids" ∷ []) d
-    ((refl, (refl, (refl, tt))), ((refl, (refl, tt)), ((refl, tt), (tt, tt)))) f.four_fields
-    (number_within 1 _ (codes "range_base") d f.range_base,
-    (field_map (codes "next_id") d _ _ (λ v k. next_nests v p.fields.next_id k) f.next_id,
-    (number_within 1 _ (codes "range_end") d f.range_end,
-    (field_map (codes "freed_ids") d _ _ (λ v k. list_within EncodesNumber 0 (λ w n e. let z = whole_flat w n e in omega (arith, z)) v p.fields.freed_ids k) f.freed_ids, tt))))
+    ((refl, (refl, (refl, tt))), ((refl, (refl, tt)), ((refl, tt), (tt, tt)))) f.four_fields (
+      number_within 1 _ (codes "range_base") d f.range_base,
+      (
+        field_map (codes "next_id") d _ _ (λ v k. next_nests v p.fields.next_id k) f.next_id,
+        (
+          number_within 1 _ (codes "range_end") d f.range_end,
+          (field_map (codes "freed_ids") d _ _ (λ v k. list_within EncodesNumber 0 (λ w n e. let z = whole_flat w n e in omega (arith, z)) v p.fields.freed_ids k) f.freed_ids, tt),
+        ),
+      ),
+    )
 
 -- ---- Texts
 -- The allocator that is read from the text of a written value is the allocator that was written.
@@ -67,10 +72,10 @@ text_has_value text d old s t p = let f = t (let n = allocator_nests d old s in 
 text_again : {X : Type 0} (States : Data → X → Type 0) → ((d : Data) (x : X) → States d x → depth d ≤ max_depth) → ReadsWritten States → ReadsText States
 text_again {X} States nests again old value text parsed w t p =
     at parsed (parsed_again text (view value) parsed (nests (view value) old w) t p) where
-  at : (r : Result Value json.Error) → MatchResult r (λ v. view v ≡ view value) IsMemory →
-      MatchResult r (λ v. (answer : Result X ValueError) → Reads (States (view v)) answer → (answer ≡ Ok old) ⊎ (answer ≡ Err OutOfMemory)) IsMemory
-  at (Ok v) e = λ answer k. again old v answer (subst (λ (d : Data). States d old) (sym e) w) k
-  at (Err e) m = m
+      at : (r : Result Value json.Error) → MatchResult r (λ v. view v ≡ view value) IsMemory →
+          MatchResult r (λ v. (answer : Result X ValueError) → Reads (States (view v)) answer → (answer ≡ Ok old) ⊎ (answer ≡ Err OutOfMemory)) IsMemory
+      at (Ok v) e = λ answer k. again old v answer (subst (λ (d : Data). States d old) (sym e) w) k
+      at (Err e) m = m
 
 pub range_text : ReadsText EncodesRange
 range_text = text_again EncodesRange (λ d r p. let e = range_nests d r p in omega (arith, e)) range_again

@@ -17,7 +17,7 @@ block_count state = length (blocks_of state)
 abbrev pub IsOneIf : Type 0 → ℕ → Type 0
 IsOneIf fact n = IfElse fact (n ≡ 1) (n ≡ 0)
 
--- Of the two addresses right before and right after the range r, n are clear.
+-- The number of clear addresses among the two right before and right after the range r is n.
 pub record AreClearBeside (state : AddressState) (r : Range) (n : ℕ) : Type 0 where
   pub below : ℕ
   pub above : ℕ

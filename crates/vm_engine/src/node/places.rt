@@ -140,8 +140,7 @@ impl InnerNode {
     /// Writes the lowest place in the subtree to `found`, if there is a place.
     #[tactic(auto, using(crate::proofs::Choosing::PlaceSearch::firsts, crate::proofs::Counts::Searching::firsts))]
     fn first_place(&self, size: u64, alignment: u64, found: &mut Option<Place>, count: &mut Steps)
-        requires sized { 0 < size }
-        requires aligned { IsAlignment alignment }
+        requires request { (0 < size) × IsAlignment alignment }
         requires may_fit { may_fit_in size alignment self.now ≡ true }
         requires none_yet { found.old ≡ None }
         requires count_fits { count.old + node_count self.now < MAX }
@@ -172,8 +171,7 @@ impl InnerNode {
     /// Writes the highest place in the subtree to `found`, if there is a place.
     #[tactic(auto, using(crate::proofs::Choosing::PlaceSearch::lasts, crate::proofs::Counts::Searching::lasts))]
     fn last_place(&self, size: u64, alignment: u64, found: &mut Option<Place>, count: &mut Steps)
-        requires sized { 0 < size }
-        requires aligned { IsAlignment alignment }
+        requires request { (0 < size) × IsAlignment alignment }
         requires may_fit { may_fit_in size alignment self.now ≡ true }
         requires none_yet { found.old ≡ None }
         requires count_fits { count.old + node_count self.now < MAX }

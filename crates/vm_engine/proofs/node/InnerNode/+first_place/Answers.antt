@@ -16,7 +16,7 @@ returns-in-Some-lowest_fit-clause-place t c =
     let none : All (HasNoFit c.args.size c.args.alignment) (blocks (side c.self.inside.left)) =
     elim c.match-may_fit.branch [
       | in-Some+else-is_some w ↦ rw w.in-Some.ensures.0 (nothing_found w.first_place.new.found _ _ w.first_place.ensures.place (sym w.if-is_some.ensures))
-      | in_default w ↦ none_unless_searched _ _ _ c.requires.sized c.requires.aligned w.in_default.ensures
+      | in_default w ↦ none_unless_searched _ _ _ c.requires.request.0 c.requires.request.1 w.in_default.ensures
     ] in
     first_here c.args.size c.args.alignment _ _ _ _ _ (sym c.self.view_is) none c.in-Some-lowest_fit.ensures
 
@@ -25,7 +25,7 @@ returns-in-Some-may_fit-clause-place t c =
     let none : All (HasNoFit c.args.size c.args.alignment) (blocks (side c.self.inside.left)) =
     elim c.match-may_fit.branch [
       | in-Some+else-is_some w ↦ rw w.in-Some.ensures.0 (nothing_found w.first_place.new.found _ _ w.first_place.ensures.place (sym w.if-is_some.ensures))
-      | in_default w ↦ none_unless_searched _ _ _ c.requires.sized c.requires.aligned w.in_default.ensures
+      | in_default w ↦ none_unless_searched _ _ _ c.requires.request.0 c.requires.request.1 w.in_default.ensures
     ] in
     first_through_right c.args.size c.args.alignment _ _ _ _ c.first_place-in-Some-may_fit.new.found (sym c.self.view_is) none c.in_default-lowest_fit.ensures (rw c.in-Some-may_fit.ensures.0 c.first_place-in-Some-may_fit.ensures.place)
 
@@ -34,9 +34,9 @@ returns-in_default-may_fit-clause-place t c =
     let none : All (HasNoFit c.args.size c.args.alignment) (blocks (side c.self.inside.left)) =
     elim c.match-may_fit.branch [
       | in-Some+else-is_some w ↦ rw w.in-Some.ensures.0 (nothing_found w.first_place.new.found _ _ w.first_place.ensures.place (sym w.if-is_some.ensures))
-      | in_default w ↦ none_unless_searched _ _ _ c.requires.sized c.requires.aligned w.in_default.ensures
+      | in_default w ↦ none_unless_searched _ _ _ c.requires.request.0 c.requires.request.1 w.in_default.ensures
     ] in
-    let right = none_unless_searched _ _ _ c.requires.sized c.requires.aligned c.in_default-may_fit.ensures in
+    let right = none_unless_searched _ _ _ c.requires.request.0 c.requires.request.1 c.in_default-may_fit.ensures in
     let none_yet : is_some c.match-may_fit.found ≡ false =
     elim c.match-may_fit.branch [
       | in-Some+else-is_some w ↦ rw (w.found-is) (sym w.if-is_some.ensures)
