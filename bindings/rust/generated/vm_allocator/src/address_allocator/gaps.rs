@@ -17,8 +17,8 @@ impl AddressAllocator {
 
     /// Returns the length of the longest gap, or 0 if no address is free.
     ///
-    /// At alignment 1, `FirstMatch` and `LastMatch` find a range for a request exactly if its size is
-    /// at most this length. It reads one node and does not allocate.
+    /// At alignment 1, `FirstMatch` and `LastMatch` return `ResourceNotAvailable` exactly if the size
+    /// is more than this length. It reads one node and does not allocate.
     pub fn longest_gap(&self) -> u64 {
         self.interval_tree.longest_gap()
     }
