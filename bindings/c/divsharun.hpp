@@ -1,0 +1,189 @@
+/* SPDX-License-Identifier: Apache-2.0 OR BSD-3-Clause */
+/*
+ * The calls of divsharun.h for C++11: owners that destroy their object, statuses
+ * as std::error_code, and lists as vectors or by a function for each item.
+ *
+ * A method has the rules of its call. It returns the code of the status, which
+ * converts to false for DVS_OK. Only methods with a vector, a string or a
+ * function of the caller can throw.
+ */
+#ifndef DIVSHARUN_HPP
+#define DIVSHARUN_HPP
+
+#include "divsharun.h"
+
+#include <exception>
+#include <memory>
+#include <string>
+#include <system_error>
+#include <utility>
+#include <vector>
+
+namespace dvs {
+
+using error = std::error_code;
+
+class status_category final : public std::error_category {
+  public:
+    const char *name() const noexcept override { return "divsharun"; }
+    std::string message(int status) const override {
+        return dvs_status_text(static_cast<dvs_status>(status));
+    }
+};
+
+inline const std::error_category &category() noexcept {
+    static const status_category only;
+    return only;
+}
+
+inline error code(dvs_status status) noexcept {
+    return {static_cast<int>(status), category()};
+}
+
+/* Owns an object, and destroys it. It is empty until a method has created the object. */
+template <typename T, void (*Destroy)(T *)> class owner {
+    struct destroyer {
+        void operator()(T *object) const noexcept { Destroy(object); }
+    };
+    std::unique_ptr<T, destroyer> object;
+
+  public:
+    T *get() const noexcept { return object.get(); }
+    explicit operator bool() const noexcept { return object != nullptr; }
+
+  protected:
+    /* Replaces the object by a new one, if the call that creates it succeeds. */
+    template <typename Call> error create(Call call) {
+        T *made = nullptr;
+        dvs_status status = call(&made);
+        if (status == DVS_OK)
+            object.reset(made);
+        return code(status);
+    }
+
+    template <typename Read> error read_by(Read call, const std::string &text) {
+        return create([&](T **out) { return call(text.data(), text.size(), out); });
+    }
+
+    template <typename Save> error save_by(Save call, std::string &text) const {
+        char *saved = nullptr;
+        std::size_t length = 0;
+        dvs_status status = call(get(), &saved, &length);
+        std::unique_ptr<char, void (*)(char *)> owned(saved, dvs_text_destroy);
+        if (status == DVS_OK)
+            text.assign(saved, length);
+        return code(status);
+    }
+
+    /* Calls `action` with each item until it returns false. An exception ends the visit. */
+    template <typename Item, typename Visit, typename Action>
+    error visit_by(Visit call, Action action) const {
+        struct visit {
+            Action action;
+            std::exception_ptr thrown;
+            static int one(void *context, Item item) {
+                visit *self = static_cast<visit *>(context);
+                try {
+                    return self->action(item) ? 0 : 1;
+                } catch (...) {
+                    self->thrown = std::current_exception();
+                    return 1;
+                }
+            }
+        } all = {std::move(action), nullptr};
+        dvs_status status = call(get(), visit::one, &all);
+        if (all.thrown)
+            std::rethrow_exception(all.thrown);
+        return code(status);
+    }
+
+    template <typename Item, typename Visit> std::vector<Item> list_by(Visit call) const {
+        std::vector<Item> items;
+        visit_by<Item>(call, [&items](Item item) { return items.push_back(item), true; });
+        return items;
+    }
+};
+
+class address_allocator : public owner<dvs_address_allocator, dvs_address_allocator_destroy> {
+    using object = dvs_address_allocator;
+
+  public:
+    error make(uint64_t base, uint64_t size) {
+        return create([=](object **out) { return dvs_address_allocator_new(base, size, out); });
+    }
+    error make_with_held(uint64_t base, uint64_t size, const std::vector<dvs_range> &held,
+                         dvs_refusal *refusal = nullptr) {
+        return create([&](object **out) {
+            return dvs_address_allocator_with_held(base, size, held.data(), held.size(), out,
+                                                   refusal);
+        });
+    }
+    error read(const std::string &text) { return read_by(dvs_address_allocator_read, text); }
+    error save(std::string &text) const { return save_by(dvs_address_allocator_save, text); }
+    error allocate_first(uint64_t size, uint64_t alignment, dvs_range &range) {
+        return code(dvs_range_allocate_first(get(), size, alignment, &range, nullptr));
+    }
+    error allocate_last(uint64_t size, uint64_t alignment, dvs_range &range) {
+        return code(dvs_range_allocate_last(get(), size, alignment, &range, nullptr));
+    }
+    error allocate_exact(uint64_t size, uint64_t alignment, uint64_t start, dvs_range &range,
+                         dvs_refusal *refusal = nullptr) {
+        return code(dvs_range_allocate_exact(get(), size, alignment, start, &range, refusal));
+    }
+    error allocate_all(const std::vector<dvs_request> &requests, std::vector<dvs_range> &ranges,
+                       std::size_t *failed = nullptr) {
+        ranges.resize(requests.size());
+        return code(dvs_address_allocator_allocate_all(get(), requests.data(), requests.size(),
+                                                       ranges.data(), failed, nullptr));
+    }
+    error free(dvs_range range) { return code(dvs_range_free(get(), range, nullptr)); }
+    error at(uint64_t address, dvs_range &range) const {
+        return code(dvs_range_at(get(), address, &range));
+    }
+    error longest_gap(uint64_t &length) const { return code(dvs_longest_gap(get(), &length)); }
+    std::vector<dvs_range> ranges() const { return list_by<dvs_range>(dvs_range_visit); }
+    std::vector<dvs_range> gaps() const { return list_by<dvs_range>(dvs_gap_visit); }
+    template <typename Action> error for_each(Action action) const {
+        return visit_by<dvs_range>(dvs_range_visit, std::move(action));
+    }
+};
+
+class id_allocator : public owner<dvs_id_allocator, dvs_id_allocator_destroy> {
+    using object = dvs_id_allocator;
+
+  public:
+    error make(uint32_t first, uint32_t last) {
+        return create(
+            [=](object **out) { return dvs_id_allocator_new(first, last, out, nullptr); });
+    }
+    error read(const std::string &text) { return read_by(dvs_id_allocator_read, text); }
+    error save(std::string &text) const { return save_by(dvs_id_allocator_save, text); }
+    error allocate(uint32_t &id) { return code(dvs_id_allocate(get(), &id)); }
+    error free(uint32_t id) { return code(dvs_id_free(get(), id, nullptr)); }
+    std::vector<uint32_t> ids() const { return list_by<uint32_t>(dvs_id_visit); }
+};
+
+class device_manager : public owner<dvs_device_manager, dvs_device_manager_destroy> {
+    using object = dvs_device_manager;
+
+  public:
+    error make(uint32_t first_id, uint32_t last_id, uint64_t base, uint64_t size) {
+        return create([=](object **out) {
+            return dvs_device_manager_new(first_id, last_id, base, size, out, nullptr);
+        });
+    }
+    error read(const std::string &text) { return read_by(dvs_device_manager_read, text); }
+    error save(std::string &text) const { return save_by(dvs_device_manager_save, text); }
+    error reserve_first(uint64_t size, uint64_t alignment, dvs_device &device) {
+        return code(dvs_device_reserve_first(get(), size, alignment, &device, nullptr));
+    }
+    error release(uint32_t id) { return code(dvs_device_release(get(), id, nullptr)); }
+    error at(uint64_t address, dvs_device &device) const {
+        return code(dvs_device_at(get(), address, &device));
+    }
+    std::vector<dvs_device> devices() const { return list_by<dvs_device>(dvs_device_visit); }
+};
+
+} // namespace dvs
+
+#endif
