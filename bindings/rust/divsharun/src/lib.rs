@@ -149,7 +149,7 @@
 //! # #[cfg(not(feature = "serde"))]
 //! # fn main() {}
 //! ```
-#![no_std]
+#![cfg_attr(not(test), no_std)]
 #![forbid(unsafe_code)]
 #![deny(missing_docs)]
 #![warn(clippy::must_use_candidate)]
