@@ -11,7 +11,7 @@ mod reading;
 mod tests;
 mod writing;
 
-use crate::{AllocPolicy, NodeState};
+use crate::NodeState;
 
 /// The maximum nesting of nodes in a saved tree. Trees of `vm-allocator` are never higher.
 const MAX_NESTING: u32 = 50;
@@ -22,6 +22,9 @@ const MAX_HELD: u64 = 6_293_134_512;
 /// The maximum length of a list that is read or written: the number of 20-bit ids, more than a
 /// monitor uses.
 const MAX_LIST_LEN: usize = 1 << 20;
+
+/// The error of a longer list.
+const TOO_LONG: &str = "a list has more than 1,048,576 items";
 
 /// The version of a saved device manager.
 const VERSION: u64 = 1;
@@ -62,7 +65,7 @@ use names;
 
 names!(NodeState, unknown_variant: Free, Allocated);
 
-/// The variant of an [`AllocPolicy`].
+/// The variant of an `AllocPolicy`.
 #[derive(Clone, Copy)]
 enum Policy {
     FirstMatch,
@@ -71,13 +74,3 @@ enum Policy {
 }
 
 names!(Policy, unknown_variant: FirstMatch, LastMatch, ExactMatch);
-
-impl Policy {
-    fn of(policy: &AllocPolicy) -> Policy {
-        match policy {
-            AllocPolicy::FirstMatch => Policy::FirstMatch,
-            AllocPolicy::LastMatch => Policy::LastMatch,
-            AllocPolicy::ExactMatch(_) => Policy::ExactMatch,
-        }
-    }
-}

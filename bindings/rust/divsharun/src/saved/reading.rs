@@ -2,9 +2,9 @@
 //!
 //! Only the allocated keys of an address allocator are kept. A subtree that was read is known by
 //! its first and its last address, so a node can be checked once it has its key and both subtrees.
-//! The ids and the devices become values for the proved readers.
+//! Ids and devices become values for the proved readers.
 
-use super::{Name, Policy, MAX_HELD, MAX_LIST_LEN, MAX_NESTING, VERSION};
+use super::{Name, Policy, MAX_HELD, MAX_LIST_LEN, MAX_NESTING, TOO_LONG, VERSION};
 use crate::error::{or_abort, out_of_memory};
 use crate::{
     AddressAllocator, AllocPolicy, DeviceManager, DeviceSlot, IdAllocator, NodeState,
@@ -61,7 +61,7 @@ impl<N: Name> Visitor<'_> for Identifier<N> {
 /// that were read before it, which are options.
 macro_rules! structure {
     (
-        [$($generics:tt)*] $visitor:ty, $name:literal => $value:ty, $this:ident
+        $visitor:ty, $name:literal => $value:ty, $this:ident
         { $($field:ident: $seed:expr),* } $build:expr
     ) => {
         const _: () = {
@@ -71,7 +71,7 @@ macro_rules! structure {
 
             super::names!(Field, unknown_field: $($field),*);
 
-            impl<'de, $($generics)*> DeserializeSeed<'de> for $visitor {
+            impl<'de> DeserializeSeed<'de> for $visitor {
                 type Value = $value;
 
                 fn deserialize<D: Deserializer<'de>>(self, from: D) -> Result<$value, D::Error> {
@@ -79,18 +79,14 @@ macro_rules! structure {
                 }
             }
 
-            impl<'de, $($generics)*> Visitor<'de> for $visitor {
+            impl<'de> Visitor<'de> for $visitor {
                 type Value = $value;
 
                 fn expecting(&self, f: &mut fmt::Formatter<'_>) -> fmt::Result {
-                    let count = Field::NAMES.len();
-                    write!(f, concat!("struct ", $name, " with {} elements"), count)
+                    write!(f, "struct {} with {} elements", $name, Field::NAMES.len())
                 }
 
-                fn visit_seq<A: SeqAccess<'de>>(
-                    mut self,
-                    mut from: A,
-                ) -> Result<$value, A::Error> {
+                fn visit_seq<A: SeqAccess<'de>>(mut self, mut from: A) -> Result<$value, A::Error> {
                     let $this = &mut self;
                     $(
                         let $field = from.next_element_seed($seed)?;
@@ -102,10 +98,7 @@ macro_rules! structure {
                     $build
                 }
 
-                fn visit_map<A: MapAccess<'de>>(
-                    mut self,
-                    mut from: A,
-                ) -> Result<$value, A::Error> {
+                fn visit_map<A: MapAccess<'de>>(mut self, mut from: A) -> Result<$value, A::Error> {
                     let $this = &mut self;
                     $(let mut $field = None;)*
                     while let Some(name) = from.next_key_seed(Identifier(PhantomData))? {
@@ -131,184 +124,159 @@ fn found<T, E: Error>(field: Option<T>, name: &'static str) -> Result<T, E> {
     field.ok_or_else(|| E::missing_field(name))
 }
 
+/// Implements `Deserialize` by a visitor.
+macro_rules! read_by {
+    ($($object:ident, $from:ident: $read:expr;)*) => {$(
+        impl<'de> Deserialize<'de> for $object {
+            fn deserialize<D: Deserializer<'de>>($from: D) -> Result<Self, D::Error> {
+                $read
+            }
+        }
+    )*};
+}
+
+read_by! {
+    RangeInclusive, from: Range.deserialize(from);
+    NodeState, from: from.deserialize_enum("NodeState", NodeState::NAMES, State);
+    AllocPolicy, from: from.deserialize_enum("AllocPolicy", Policy::NAMES, AnyPolicy);
+    AddressAllocator, from: Space::default().deserialize(from);
+    IdAllocator, from: Ids.deserialize(from);
+    DeviceSlot, from: Slot.deserialize(from);
+    DeviceManager, from: Devices.deserialize(from);
+}
+
 struct Range;
 
-structure!([] Range, "RangeInclusive" => RangeInclusive, _this {
+structure!(Range, "RangeInclusive" => RangeInclusive, _this {
     start: PhantomData::<u64>,
     end: PhantomData::<u64>
 } RangeInclusive::new(start, end).map_err(A::Error::custom));
 
-#[derive(Clone, Copy)]
-struct Slot;
+/// Implements the visitor of a variant and its content.
+macro_rules! variants {
+    ($visitor:ident, $name:ident($content:ident) { $($variant:pat => $read:expr),* }) => {
+        struct $visitor;
 
-structure!([] Slot, "DeviceSlot" => DeviceSlot, _this {
-    id: PhantomData::<u32>,
-    mmio_range: Range
-} Ok(DeviceSlot { id, range: mmio_range }));
+        impl<'de> Visitor<'de> for $visitor {
+            type Value = $name;
 
-struct State;
+            fn expecting(&self, f: &mut fmt::Formatter<'_>) -> fmt::Result {
+                f.write_str(concat!("enum ", stringify!($name)))
+            }
 
-impl<'de> DeserializeSeed<'de> for State {
-    type Value = NodeState;
-
-    fn deserialize<D: Deserializer<'de>>(self, from: D) -> Result<NodeState, D::Error> {
-        from.deserialize_enum("NodeState", NodeState::NAMES, self)
-    }
+            fn visit_enum<A: EnumAccess<'de>>(self, from: A) -> Result<$name, A::Error> {
+                let (variant, $content) = from.variant_seed(Identifier(PhantomData))?;
+                match variant {
+                    $($variant => $read),*
+                }
+            }
+        }
+    };
 }
 
-impl<'de> Visitor<'de> for State {
-    type Value = NodeState;
+variants!(State, NodeState(content) { state => content.unit_variant().map(|()| state) });
 
-    fn expecting(&self, f: &mut fmt::Formatter<'_>) -> fmt::Result {
-        f.write_str("enum NodeState")
-    }
+variants!(AnyPolicy, AllocPolicy(content) {
+    Policy::FirstMatch => content.unit_variant().map(|()| AllocPolicy::FirstMatch),
+    Policy::LastMatch => content.unit_variant().map(|()| AllocPolicy::LastMatch),
+    Policy::ExactMatch => content.newtype_variant().map(AllocPolicy::ExactMatch)
+});
 
-    fn visit_enum<A: EnumAccess<'de>>(self, from: A) -> Result<NodeState, A::Error> {
-        let (state, content) = from.variant_seed(Identifier(PhantomData))?;
-        content.unit_variant().map(|()| state)
-    }
+/// The nodes read so far.
+#[derive(Default)]
+pub(super) struct Nodes {
+    held: Vec<proved::RangeInclusive>,
+    count: u64,
+    // The sum of the lengths of all keys. If they share no address, it does not overflow.
+    len: u64,
+    is_unbalanced: bool,
 }
 
-/// What is kept of the nodes of a tree.
-pub(super) trait Nodes {
-    type Subtree;
-
-    /// Returns the subtree without nodes.
-    fn empty() -> Self::Subtree;
-
-    /// Takes a key before the keys of its right subtree, or after them if they came first.
-    fn take<E: Error>(&mut self, key: RangeInclusive, state: NodeState) -> Result<(), E>;
-
-    /// Returns the subtree of a node.
-    fn join<E: Error>(
-        left: Self::Subtree,
-        key: RangeInclusive,
-        state: NodeState,
-        right: Self::Subtree,
-        height: u64,
-    ) -> Result<Self::Subtree, E>;
-}
-
-/// The allocated keys. A subtree is known by its first and its last address.
-pub(super) struct Held(pub(super) Vec<proved::RangeInclusive>);
-
-impl Nodes for Held {
-    type Subtree = Option<(u64, u64)>;
-
-    fn empty() -> Self::Subtree {
-        None
-    }
-
+impl Nodes {
+    /// Takes a key before those of its right subtree, or after them if they came first.
     fn take<E: Error>(&mut self, key: RangeInclusive, state: NodeState) -> Result<(), E> {
+        self.count += 1;
+        self.len = self.len.wrapping_add(key.len());
         if state == NodeState::Free {
             return Ok(());
         }
         if key.end() == u64::MAX {
             return Err(E::custom("an allocated key ends at u64::MAX"));
         }
-        if self.0.len() as u64 >= MAX_HELD {
-            return Err(E::custom(format_args!(
-                "more than {MAX_HELD} keys are allocated"
-            )));
+        if self.held.len() as u64 == MAX_HELD {
+            return Err(E::custom("more than 6,293,134,512 keys are allocated"));
         }
-        self.0.push(key.0);
+        self.held.push(key.0);
         Ok(())
     }
 
+    /// Returns the subtree of a node.
     fn join<E: Error>(
-        left: Self::Subtree,
+        &mut self,
+        left: Option<Span>,
         key: RangeInclusive,
-        _: NodeState,
-        right: Self::Subtree,
-        _: u64,
-    ) -> Result<Self::Subtree, E> {
-        let (first, before) = left.map_or((key.start(), None), |(first, last)| (first, Some(last)));
-        let (after, last) = right.map_or((None, key.end()), |(first, last)| (Some(first), last));
-        if before.is_some_and(|before| before >= key.start())
-            || after.is_some_and(|after| after <= key.end())
+        right: Option<Span>,
+        height: u64,
+    ) -> Result<Option<Span>, E> {
+        let [left_height, right_height] =
+            [&left, &right].map(|side| side.map_or(0, |side| side.height));
+        let is_unbalanced = left_height.abs_diff(right_height) > 1;
+        let is_high = Some(height) != left_height.max(right_height).checked_add(1);
+        self.is_unbalanced |= is_unbalanced || is_high;
+        if left.is_some_and(|left| left.last >= key.start())
+            || right.is_some_and(|right| right.first <= key.end())
         {
             return Err(E::custom("the keys do not ascend or share an address"));
         }
-        Ok(Some((first, last)))
+        Ok(Some(Span {
+            first: left.map_or(key.start(), |left| left.first),
+            last: right.map_or(key.end(), |right| right.last),
+            height,
+        }))
     }
 }
 
-/// The values of all nodes, for the proved reader of devices.
-struct Values;
-
-impl Nodes for Values {
-    type Subtree = Value;
-
-    fn empty() -> Value {
-        Value::Null
-    }
-
-    fn take<E: Error>(&mut self, _: RangeInclusive, _: NodeState) -> Result<(), E> {
-        Ok(())
-    }
-
-    fn join<E: Error>(
-        left: Value,
-        key: RangeInclusive,
-        state: NodeState,
-        right: Value,
-        height: u64,
-    ) -> Result<Value, E> {
-        Ok(object([
-            ("key", range_value(key)),
-            ("node_state", NodeState::NAMES[state as usize].into()),
-            ("left", left),
-            ("right", right),
-            ("height", height.into()),
-        ]))
-    }
+/// A subtree without its nodes: its first and its last address, and its height as it was read.
+#[derive(Clone, Copy, Debug, PartialEq)]
+pub(super) struct Span {
+    first: u64,
+    last: u64,
+    height: u64,
 }
 
-/// Returns the object with these fields.
-fn object<const N: usize>(fields: [(&str, Value); N]) -> Value {
-    let fields = fields.into_iter().map(|(name, value)| (name.into(), value));
-    Value::from(fields.collect::<Fields>())
-}
-
-/// Returns the value of a range.
-fn range_value(range: RangeInclusive) -> Value {
-    object([("start", range.start().into()), ("end", range.end().into())])
-}
-
-/// A node with its children, or none.
-pub(super) struct Subtree<'a, N> {
-    pub(super) nodes: &'a mut N,
+/// Reads a node with its children, or none.
+pub(super) struct OptionalNode<'a> {
+    pub(super) nodes: &'a mut Nodes,
     /// The number of node levels that can still follow.
     pub(super) levels: u32,
 }
 
-impl<'de, N: Nodes> DeserializeSeed<'de> for Subtree<'_, N> {
-    type Value = N::Subtree;
+impl<'de> DeserializeSeed<'de> for OptionalNode<'_> {
+    type Value = Option<Span>;
 
-    fn deserialize<D: Deserializer<'de>>(self, from: D) -> Result<N::Subtree, D::Error> {
+    fn deserialize<D: Deserializer<'de>>(self, from: D) -> Result<Option<Span>, D::Error> {
         from.deserialize_option(self)
     }
 }
 
-impl<'de, N: Nodes> Visitor<'de> for Subtree<'_, N> {
-    type Value = N::Subtree;
+impl<'de> Visitor<'de> for OptionalNode<'_> {
+    type Value = Option<Span>;
 
     fn expecting(&self, f: &mut fmt::Formatter<'_>) -> fmt::Result {
-        f.write_str("option")
+        f.write_str("a node or none")
     }
 
-    fn visit_none<E>(self) -> Result<N::Subtree, E> {
-        Ok(N::empty())
+    fn visit_none<E>(self) -> Result<Option<Span>, E> {
+        Ok(None)
     }
 
-    fn visit_unit<E>(self) -> Result<N::Subtree, E> {
-        Ok(N::empty())
+    fn visit_unit<E>(self) -> Result<Option<Span>, E> {
+        Ok(None)
     }
 
-    fn visit_some<D: Deserializer<'de>>(self, from: D) -> Result<N::Subtree, D::Error> {
+    fn visit_some<D: Deserializer<'de>>(self, from: D) -> Result<Option<Span>, D::Error> {
         let Some(levels) = self.levels.checked_sub(1) else {
-            let reason = format_args!("nodes are nested more than {MAX_NESTING} deep");
-            return Err(D::Error::custom(reason));
+            return Err(D::Error::custom("nodes are nested more than 50 deep"));
         };
         let node = Node {
             nodes: self.nodes,
@@ -319,75 +287,112 @@ impl<'de, N: Nodes> Visitor<'de> for Subtree<'_, N> {
     }
 }
 
-struct Node<'a, N> {
-    nodes: &'a mut N,
+struct Node<'a> {
+    nodes: &'a mut Nodes,
     levels: u32,
     is_taken: bool,
 }
 
-impl<N: Nodes> Node<'_, N> {
-    fn child(&mut self) -> Subtree<'_, N> {
-        Subtree {
+impl Node<'_> {
+    fn child(&mut self) -> OptionalNode<'_> {
+        OptionalNode {
             nodes: self.nodes,
             levels: self.levels,
         }
     }
 
+    /// Takes the key, unless it was taken.
+    fn take<E: Error>(&mut self, key: RangeInclusive, state: NodeState) -> Result<(), E> {
+        if self.is_taken {
+            return Ok(());
+        }
+        self.is_taken = true;
+        self.nodes.take(key, state)
+    }
+
     /// Returns the seed of the right child. Takes the key before, if the fields came in order.
-    fn right<E: Error, T>(
+    fn right<E: Error>(
         &mut self,
         key: Option<RangeInclusive>,
         state: Option<NodeState>,
-        left: &Option<T>,
-    ) -> Result<Subtree<'_, N>, E> {
+        left: Option<Option<Span>>,
+    ) -> Result<OptionalNode<'_>, E> {
         if let (Some(key), Some(state), Some(_)) = (key, state, left) {
-            self.nodes.take(key, state)?;
-            self.is_taken = true;
+            self.take(key, state)?;
         }
         Ok(self.child())
     }
-
-    fn take<E: Error>(&mut self, key: RangeInclusive, state: NodeState) -> Result<(), E> {
-        match self.is_taken {
-            true => Ok(()),
-            false => self.nodes.take(key, state),
-        }
-    }
 }
 
-structure!(['a, N: Nodes] Node<'a, N>, "InnerNode" => N::Subtree, this {
-    key: Range,
-    node_state: State,
+structure!(Node<'_>, "InnerNode" => Option<Span>, this {
+    key: PhantomData::<RangeInclusive>,
+    node_state: PhantomData::<NodeState>,
     left: this.child(),
-    right: this.right(key, node_state, &left)?,
+    right: this.right::<A::Error>(key, node_state, left)?,
     height: PhantomData::<u64>
 } {
     this.take(key, node_state)?;
-    N::join(left, key, node_state, right, height)
+    this.nodes.join(left, key, right, height)
 });
 
-struct Tree<'a, N>(&'a mut N);
+struct Tree<'a>(&'a mut Nodes);
 
-structure!(['a, N: Nodes] Tree<'a, N>, "IntervalTree" => N::Subtree, this {
-    root: Subtree { nodes: &mut *this.0, levels: MAX_NESTING }
+structure!(Tree<'_>, "IntervalTree" => Option<Span>, this {
+    root: OptionalNode { nodes: this.0, levels: MAX_NESTING }
 } Ok(root));
 
-struct Space<'a, N>(&'a mut N);
-
-structure!(['a, N: Nodes] Space<'a, N>, "AddressAllocator" => (RangeInclusive, N::Subtree), this {
-    address_space: Range,
-    interval_tree: Tree(&mut *this.0)
-} Ok((address_space, interval_tree)));
-
-/// A list of items with ascending ids.
-///
-/// It stops at the first item that makes the list invalid, so untrusted input costs little memory.
-struct RisingList<S, T> {
-    item: S,
-    id: fn(&T) -> u32,
+/// Reads an address allocator.
+#[derive(Default)]
+struct Space {
+    nodes: Nodes,
+    // Whether the tree must be one that the proved code builds.
+    is_strict: bool,
 }
 
-impl<'de, T, S: DeserializeSeed<'de, Value = T> + Copy> DeserializeSeed<'de> for RisingList<S, T> {
+structure!(Space, "AddressAllocator" => AddressAllocator, this {
+    address_space: PhantomData::<RangeInclusive>,
+    interval_tree: Tree(&mut this.nodes)
+} this.finish(address_space, interval_tree));
+
+impl Space {
+    /// Returns the allocator with the allocated keys.
+    fn finish<E: Error>(
+        &mut self,
+        space: RangeInclusive,
+        root: Option<Span>,
+    ) -> Result<AddressAllocator, E> {
+        if root.is_some_and(|root| root.first < space.start() || root.last > space.end()) {
+            return Err(E::custom("a key is outside the space"));
+        }
+        let Nodes {
+            held,
+            count,
+            len,
+            is_unbalanced,
+        } = &mut self.nodes;
+        // It takes linear time if the fields of the nodes came in order.
+        held.sort_unstable();
+        let read = proved::AddressAllocator::with_held(Global, space.start(), space.len(), held);
+        let read = AddressAllocator(or_abort(read).map_err(E::custom)?);
+        if self.is_strict {
+            let blocks = read.held_count() + read.gaps().count() as u64;
+            if *is_unbalanced {
+                return Err(E::custom("the tree is unbalanced, or a height is wrong"));
+            }
+            if *len != space.len() || *count != blocks {
+                return Err(E::custom("the tree has a gap or free neighbours"));
+            }
+        }
+        Ok(read)
+    }
+}
+
+/// Reads a list of items with ascending ids.
+///
+/// It stops at the first item that makes the list invalid, so untrusted input costs little memory.
+struct RisingList<T>(fn(&T) -> u32);
+
+impl<'de, T: Deserialize<'de>> DeserializeSeed<'de> for RisingList<T> {
     type Value = Vec<T>;
 
     fn deserialize<D: Deserializer<'de>>(self, from: D) -> Result<Vec<T>, D::Error> {
@@ -395,25 +400,22 @@ impl<'de, T, S: DeserializeSeed<'de, Value = T> + Copy> DeserializeSeed<'de> for
     }
 }
 
-impl<'de, T, S: DeserializeSeed<'de, Value = T> + Copy> Visitor<'de> for RisingList<S, T> {
+impl<'de, T: Deserialize<'de>> Visitor<'de> for RisingList<T> {
     type Value = Vec<T>;
 
     fn expecting(&self, f: &mut fmt::Formatter<'_>) -> fmt::Result {
-        f.write_str("a sequence")
+        f.write_str("a list")
     }
 
     fn visit_seq<A: SeqAccess<'de>>(self, mut from: A) -> Result<Vec<T>, A::Error> {
         let mut items: Vec<T> = Vec::new();
-        while let Some(item) = from.next_element_seed(self.item)? {
-            if items
-                .last()
-                .is_some_and(|last| (self.id)(last) >= (self.id)(&item))
-            {
+        while let Some(item) = from.next_element()? {
+            let last = items.last().map(self.0);
+            if last.is_some_and(|last| last >= self.0(&item)) {
                 return Err(A::Error::custom("the ids of a list do not ascend"));
             }
             if items.len() == MAX_LIST_LEN {
-                let reason = format_args!("the list has more than {MAX_LIST_LEN} items");
-                return Err(A::Error::custom(reason));
+                return Err(A::Error::custom(TOO_LONG));
             }
             items.push(item);
         }
@@ -422,160 +424,79 @@ impl<'de, T, S: DeserializeSeed<'de, Value = T> + Copy> Visitor<'de> for RisingL
 }
 
 /// Returns the value of a list.
-fn list_value<T>(items: Vec<T>, value: fn(T) -> Value) -> Value {
+fn list<T>(items: Vec<T>, value: impl Fn(T) -> Value) -> Value {
     Value::Array(items.into_iter().map(value).collect::<Vec<_>>().into())
 }
 
-struct Ids;
-
-structure!([] Ids, "IdAllocator" => Value, _this {
-    range_base: PhantomData::<u32>,
-    next_id: PhantomData::<Option<u32>>,
-    range_end: PhantomData::<u32>,
-    freed_ids: RisingList { item: PhantomData::<u32>, id: |id| *id }
-} Ok(object([
-    ("range_base", range_base.into()),
-    ("next_id", next_id.map_or(Value::Null, Value::from)),
-    ("range_end", range_end.into()),
-    ("freed_ids", list_value(freed_ids, Value::from)),
-])));
-
-struct Devices;
-
-structure!([] Devices, "DeviceManager" => Value, _this {
-    version: PhantomData::<u64>,
-    id_allocator: Ids,
-    mmio_allocator: Space(&mut Values),
-    slots: RisingList { item: Slot, id: |slot: &DeviceSlot| slot.id }
-} {
-    let (space, root) = mmio_allocator;
-    let tree = object([("root", root)]);
-    let space = object([("address_space", range_value(space)), ("interval_tree", tree)]);
-    let slots = list_value(slots, |slot| {
-        object([("id", slot.id.into()), ("mmio_range", range_value(slot.range))])
-    });
-    Ok(object([
-        ("version", version.into()),
-        ("id_allocator", id_allocator),
-        ("mmio_allocator", space),
-        ("slots", slots),
-    ]))
-});
-
-impl<'de> Deserialize<'de> for RangeInclusive {
-    fn deserialize<D: Deserializer<'de>>(from: D) -> Result<Self, D::Error> {
-        Range.deserialize(from)
-    }
+/// Returns the value of an object with these fields.
+fn object<const N: usize>(fields: [(&str, Value); N]) -> Value {
+    let fields = fields.into_iter().map(|(name, value)| (name.into(), value));
+    Value::from(fields.collect::<Fields>())
 }
 
-impl<'de> Deserialize<'de> for NodeState {
-    fn deserialize<D: Deserializer<'de>>(from: D) -> Result<Self, D::Error> {
-        State.deserialize(from)
-    }
-}
-
-impl<'de> Deserialize<'de> for DeviceSlot {
-    fn deserialize<D: Deserializer<'de>>(from: D) -> Result<Self, D::Error> {
-        Slot.deserialize(from)
-    }
-}
-
-impl<'de> Deserialize<'de> for AllocPolicy {
-    fn deserialize<D: Deserializer<'de>>(from: D) -> Result<Self, D::Error> {
-        from.deserialize_enum("AllocPolicy", Policy::NAMES, AnyPolicy)
-    }
-}
-
-struct AnyPolicy;
-
-impl<'de> Visitor<'de> for AnyPolicy {
-    type Value = AllocPolicy;
-
-    fn expecting(&self, f: &mut fmt::Formatter<'_>) -> fmt::Result {
-        f.write_str("enum AllocPolicy")
-    }
-
-    fn visit_enum<A: EnumAccess<'de>>(self, from: A) -> Result<AllocPolicy, A::Error> {
-        let (policy, content) = from.variant_seed(Identifier(PhantomData))?;
-        match policy {
-            Policy::FirstMatch => content.unit_variant().map(|()| AllocPolicy::FirstMatch),
-            Policy::LastMatch => content.unit_variant().map(|()| AllocPolicy::LastMatch),
-            Policy::ExactMatch => content.newtype_variant().map(AllocPolicy::ExactMatch),
-        }
-    }
-}
-
-impl<'de> Deserialize<'de> for AddressAllocator {
-    fn deserialize<D: Deserializer<'de>>(from: D) -> Result<Self, D::Error> {
-        let mut held = Held(Vec::new());
-        let (space, span) = Space(&mut held).deserialize(from)?;
-        if span.is_some_and(|(first, last)| first < space.start() || last > space.end()) {
-            return Err(D::Error::custom("a key is outside the space"));
-        }
-        // It takes linear time if the fields of the nodes came in order.
-        held.0.sort_unstable();
-        let read = proved::AddressAllocator::with_held(Global, space.start(), space.len(), &held.0);
-        or_abort(read)
-            .map(AddressAllocator)
-            .map_err(D::Error::custom)
-    }
-}
-
-impl<'de> Deserialize<'de> for IdAllocator {
-    fn deserialize<D: Deserializer<'de>>(from: D) -> Result<Self, D::Error> {
-        let value = Ids.deserialize(from)?;
-        let read = proved::IdAllocator::from_value(Global, &value);
-        decoded(read, || fault_of_ids(&value)).map(IdAllocator)
-    }
-}
-
-impl<'de> Deserialize<'de> for DeviceManager {
-    fn deserialize<D: Deserializer<'de>>(from: D) -> Result<Self, D::Error> {
-        let value = Devices.deserialize(from)?;
-        let read = proved_devices::DeviceManager::from_value(Global, &value);
-        decoded(read, || fault_of_devices(&value)).map(DeviceManager)
-    }
-}
-
-/// Returns the object of a proved reader, or an error with the condition that the value violates.
-fn decoded<T, E: Error>(
-    read: Result<T, proved::ValueError>,
-    fault: impl FnOnce() -> &'static str,
-) -> Result<T, E> {
+/// Returns the object of a proved reader, or an error with this reason.
+fn decoded<T, E: Error>(read: Result<T, proved::ValueError>, reason: &str) -> Result<T, E> {
     read.map_err(|error| match error {
-        proved::ValueError::NotAState => E::custom(fault()),
+        proved::ValueError::NotAState => E::custom(reason),
         proved::ValueError::OutOfMemory => out_of_memory(),
     })
 }
 
-/// Returns a condition that the value of ids violates.
-fn fault_of_ids(value: &Value) -> &'static str {
-    let number = |name| value.get(name).and_then(Value::as_u64);
-    let (base, next, end) = (number("range_base"), number("next_id"), number("range_end"));
-    match next {
-        _ if base > end => "range_base is past range_end",
-        None if end < Some(u32::MAX.into()) => "next_id is none, and range_end is not u32::MAX",
-        Some(next) if Some(next) < base || Some(next) > end.map(|end| end + 1) => {
-            "next_id is neither in the range nor right after it"
-        }
-        _ => "a freed id is not below next_id and in the range",
-    }
-}
+struct Ids;
 
-/// Returns a condition that the value of a device manager violates.
-fn fault_of_devices(value: &Value) -> &'static str {
-    let is_read = |name, read: fn(&Value) -> bool| value.get(name).is_some_and(read);
-    if value.get("version").and_then(Value::as_u64) != Some(VERSION) {
-        "the version is not 1"
-    } else if !is_read("id_allocator", |ids| {
-        proved::IdAllocator::from_value(Global, ids).is_ok()
-    }) {
-        value.get("id_allocator").map_or("no ids", fault_of_ids)
-    } else if !is_read("mmio_allocator", |space| {
-        proved::AddressAllocator::from_value(Global, space).is_ok()
-    }) {
-        "mmio_allocator is not a balanced tree of the blocks of its space"
+structure!(Ids, "IdAllocator" => IdAllocator, _this {
+    range_base: PhantomData::<u32>,
+    next_id: PhantomData::<Option<u32>>,
+    range_end: PhantomData::<u32>,
+    freed_ids: RisingList(|id: &u32| *id)
+} {
+    let end = u64::from(range_end);
+    let next = next_id.map_or(1 << 32, u64::from);
+    let reason = if range_base > range_end {
+        "range_base is past range_end"
+    } else if next < range_base.into() || next > end + 1 {
+        "next_id is neither in the range nor right after it"
     } else {
-        "slots do not pair the allocated ids with the allocated ranges"
-    }
-}
+        "a freed id is outside the range or not below next_id"
+    };
+    let value = object([
+        ("range_base", range_base.into()),
+        ("next_id", next_id.map_or(Value::Null, Value::from)),
+        ("range_end", range_end.into()),
+        ("freed_ids", list(freed_ids, Value::from)),
+    ]);
+    decoded(proved::IdAllocator::from_value(Global, &value), reason).map(IdAllocator)
+});
+
+struct Slot;
+
+structure!(Slot, "DeviceSlot" => DeviceSlot, _this {
+    id: PhantomData::<u32>,
+    mmio_range: PhantomData::<RangeInclusive>
+} Ok(DeviceSlot { id, range: mmio_range }));
+
+struct Devices;
+
+structure!(Devices, "DeviceManager" => DeviceManager, _this {
+    version: PhantomData::<u64>,
+    id_allocator: PhantomData::<IdAllocator>,
+    mmio_allocator: Space { is_strict: true, ..Space::default() },
+    slots: RisingList(|slot: &DeviceSlot| slot.id)
+} {
+    let reason = match version {
+        VERSION => "the devices do not pair the allocated ids with the allocated ranges",
+        _ => "the version is not 1",
+    };
+    let slot = |DeviceSlot { id, range }| {
+        let range = object([("start", range.start().into()), ("end", range.end().into())]);
+        object([("id", id.into()), ("mmio_range", range)])
+    };
+    let value = object([
+        ("version", version.into()),
+        ("id_allocator", or_abort(id_allocator.0.to_value(Global)).map_err(A::Error::custom)?),
+        ("mmio_allocator", or_abort(mmio_allocator.0.to_value(Global)).map_err(A::Error::custom)?),
+        ("slots", list(slots, slot)),
+    ]);
+    let read = proved_devices::DeviceManager::from_value(Global, &value);
+    decoded(read, reason).map(DeviceManager)
+});

@@ -3,7 +3,7 @@
 //! The proved strict readers must accept what serde writes. Damaged values are read by serde and by
 //! the proved reader, which must accept the same ones.
 
-use super::reading::{Held, Subtree};
+use super::reading::{Nodes, OptionalNode};
 use crate::{AddressAllocator, AllocPolicy, DeviceManager, IdAllocator};
 use alloc::format;
 use alloc::string::{String, ToString};
@@ -334,6 +334,9 @@ impl<'de> Deserializer<'de> for Unit {
 
 #[test]
 fn a_unit_is_no_node() {
-    let nodes = &mut Held(Vec::new());
-    assert_eq!(Subtree { nodes, levels: 1 }.deserialize(Unit), Ok(None));
+    let nodes = &mut Nodes::default();
+    assert_eq!(
+        OptionalNode { nodes, levels: 1 }.deserialize(Unit),
+        Ok(None)
+    );
 }

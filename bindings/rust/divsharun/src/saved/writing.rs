@@ -1,6 +1,6 @@
 //! Writes objects. Only the ids are a value first.
 
-use super::{Name, Policy, MAX_LIST_LEN, VERSION};
+use super::{Name, Policy, MAX_LIST_LEN, TOO_LONG, VERSION};
 use crate::error::or_abort;
 use crate::{
     AddressAllocator, AllocPolicy, DeviceManager, DeviceSlot, IdAllocator, NodeState,
@@ -11,50 +11,91 @@ use rattle::{Global, Value};
 use serde::ser::{Error, SerializeStruct};
 use serde::{Serialize, Serializer};
 
-/// Writes a structure with these fields.
+/// Implements `Serialize` for a structure with these fields.
 macro_rules! write_fields {
-    ($to:ident, $name:literal { $($field:ident: $value:expr),* }) => {{
-        let mut fields = $to.serialize_struct($name, [$(stringify!($field)),*].len())?;
-        $(fields.serialize_field(stringify!($field), &$value)?;)*
-        fields.end()
-    }};
+    ($object:ty, $name:literal, $this:ident { $($field:ident: $value:expr),* }) => {
+        impl Serialize for $object {
+            fn serialize<S: Serializer>(&self, to: S) -> Result<S::Ok, S::Error> {
+                let $this = self;
+                let mut fields = to.serialize_struct($name, [$(stringify!($field)),*].len())?;
+                $(fields.serialize_field(stringify!($field), &$value)?;)*
+                fields.end()
+            }
+        }
+    };
 }
 
-impl Serialize for RangeInclusive {
-    fn serialize<S: Serializer>(&self, to: S) -> Result<S::Ok, S::Error> {
-        write_fields!(to, "RangeInclusive" { start: self.start(), end: self.end() })
+write_fields!(
+    RangeInclusive,
+    "RangeInclusive",
+    this {
+        start: this.start(),
+        end: this.end()
     }
-}
+);
 
 impl Serialize for NodeState {
     fn serialize<S: Serializer>(&self, to: S) -> Result<S::Ok, S::Error> {
-        let place = *self as u32;
-        to.serialize_unit_variant("NodeState", place, NodeState::NAMES[place as usize])
+        let place = *self as usize;
+        to.serialize_unit_variant("NodeState", place as u32, NodeState::NAMES[place])
     }
 }
 
 impl Serialize for AllocPolicy {
     fn serialize<S: Serializer>(&self, to: S) -> Result<S::Ok, S::Error> {
-        let place = Policy::of(self) as u32;
-        let name = Policy::NAMES[place as usize];
-        match self {
-            AllocPolicy::ExactMatch(start) => {
-                to.serialize_newtype_variant("AllocPolicy", place, name, start)
-            }
-            _ => to.serialize_unit_variant("AllocPolicy", place, name),
+        let (policy, start) = match self {
+            AllocPolicy::FirstMatch => (Policy::FirstMatch, None),
+            AllocPolicy::LastMatch => (Policy::LastMatch, None),
+            AllocPolicy::ExactMatch(start) => (Policy::ExactMatch, Some(start)),
+        };
+        let (place, name) = (policy as u32, Policy::NAMES[policy as usize]);
+        match start {
+            None => to.serialize_unit_variant("AllocPolicy", place, name),
+            Some(start) => to.serialize_newtype_variant("AllocPolicy", place, name, start),
         }
     }
 }
 
-impl Serialize for DeviceSlot {
-    fn serialize<S: Serializer>(&self, to: S) -> Result<S::Ok, S::Error> {
-        write_fields!(to, "DeviceSlot" { id: self.id, mmio_range: self.range })
+write_fields!(
+    DeviceSlot,
+    "DeviceSlot",
+    this {
+        id: this.id,
+        mmio_range: this.range
+    }
+);
+
+/// An id allocator, with the fields that no call returns: the next id and the freed ids.
+struct Ids<'a>(&'a proved::IdAllocator, Option<u32>, Vec<u32>);
+
+impl Ids<'_> {
+    fn of<E: Error>(ids: &proved::IdAllocator) -> Result<Ids<'_>, E> {
+        let value = or_abort(ids.to_value(Global)).map_err(E::custom)?;
+        let freed = value.get("freed_ids").and_then(Value::as_array);
+        let freed = freed.map_or(&[][..], |freed| freed);
+        if freed.len() > MAX_LIST_LEN {
+            return Err(E::custom(TOO_LONG));
+        }
+        let id = |value: &Value| value.as_u64().map(|id| id as u32);
+        let next = value.get("next_id").and_then(id);
+        Ok(Ids(ids, next, freed.iter().filter_map(id).collect()))
     }
 }
 
+write_fields!(
+    Ids<'_>,
+    "IdAllocator",
+    this {
+        range_base: this.0.range_base(),
+        next_id: this.1,
+        range_end: this.0.range_end(),
+        freed_ids: this.2
+    }
+);
+
 impl Serialize for IdAllocator {
     fn serialize<S: Serializer>(&self, to: S) -> Result<S::Ok, S::Error> {
-        Ids(&self.0).serialize(to)
+        Ids::of::<S::Error>(&self.0)?.serialize(to)
     }
 }
 
@@ -64,65 +105,37 @@ impl Serialize for AddressAllocator {
     }
 }
 
-impl Serialize for DeviceManager {
-    fn serialize<S: Serializer>(&self, to: S) -> Result<S::Ok, S::Error> {
-        let slots: Vec<DeviceSlot> = self.devices().collect();
-        check_length(slots.len())?;
-        write_fields!(to, "DeviceManager" {
-            version: VERSION,
-            id_allocator: Ids(self.0.ids()),
-            mmio_allocator: Space(self.0.addresses()),
-            slots: slots
-        })
+write_fields!(
+    DeviceManager,
+    "DeviceManager",
+    this {
+        version: VERSION,
+        id_allocator: Ids::of::<S::Error>(this.0.ids())?,
+        mmio_allocator: Space(this.0.addresses()),
+        slots: match this.device_count() as usize {
+            0..=MAX_LIST_LEN => this.devices().collect::<Vec<_>>(),
+            _ => return Err(S::Error::custom(TOO_LONG)),
+        }
     }
-}
+);
 
-/// Returns an error if a list is too long to be read.
-fn check_length<E: Error>(length: usize) -> Result<(), E> {
-    match length {
-        0..=MAX_LIST_LEN => Ok(()),
-        _ => Err(E::custom(format_args!(
-            "the list has more than {MAX_LIST_LEN} items"
-        ))),
-    }
-}
-
-struct Ids<'a>(&'a proved::IdAllocator);
-
-impl Serialize for Ids<'_> {
-    fn serialize<S: Serializer>(&self, to: S) -> Result<S::Ok, S::Error> {
-        // No call returns the next id and the freed ids.
-        let value = or_abort(self.0.to_value(Global)).map_err(S::Error::custom)?;
-        let id = |value: &Value| value.as_u64().and_then(|id| u32::try_from(id).ok());
-        let freed = value.get("freed_ids").and_then(Value::as_array);
-        let freed = freed.ok_or_else(|| S::Error::custom("missing field `freed_ids`"))?;
-        check_length(freed.len())?;
-        let freed: Vec<u32> = freed.iter().filter_map(id).collect();
-        write_fields!(to, "IdAllocator" {
-            range_base: self.0.range_base(),
-            next_id: value.get("next_id").and_then(id),
-            range_end: self.0.range_end(),
-            freed_ids: freed
-        })
-    }
-}
-
-/// An address allocator.
 struct Space<'a>(&'a proved::AddressAllocator);
 
-impl Serialize for Space<'_> {
-    fn serialize<S: Serializer>(&self, to: S) -> Result<S::Ok, S::Error> {
-        let (base, end) = (self.0.base(), self.0.end());
-        let blocks = blocks_of(self.0);
-        let root = Subtree {
-            blocks: &blocks,
-            end,
-        };
-        write_fields!(to, "AddressAllocator" {
-            address_space: RangeInclusive::new(base, end).map_err(S::Error::custom)?,
-            interval_tree: Tree(root)
+write_fields!(
+    Space<'_>,
+    "AddressAllocator",
+    this {
+        address_space: valid_range::<S::Error>(this.0.base(), this.0.end())?,
+        interval_tree: Tree(Subtree {
+            blocks: &blocks_of(this.0),
+            end: this.0.end()
         })
     }
+);
+
+/// Returns the range from `start` to `end`, which is valid.
+fn valid_range<E: Error>(start: u64, end: u64) -> Result<RangeInclusive, E> {
+    RangeInclusive::new(start, end).map_err(E::custom)
 }
 
 /// The start and the state of a block. It ends right before the next block.
@@ -148,14 +161,10 @@ fn blocks_of(space: &proved::AddressAllocator) -> Vec<Block> {
 
 struct Tree<'a>(Subtree<'a>);
 
-impl Serialize for Tree<'_> {
-    fn serialize<S: Serializer>(&self, to: S) -> Result<S::Ok, S::Error> {
-        write_fields!(to, "IntervalTree" { root: self.0 })
-    }
-}
+write_fields!(Tree<'_>, "IntervalTree", this { root: this.0 });
 
-/// The balanced tree of blocks, of which the last one ends at `end`. The number of blocks decides
-/// its shape.
+/// The balanced tree of some blocks, of which the last one ends at `end`. The number of blocks
+/// decides its shape.
 struct Subtree<'a> {
     blocks: &'a [Block],
     end: u64,
@@ -164,43 +173,43 @@ struct Subtree<'a> {
 impl Serialize for Subtree<'_> {
     fn serialize<S: Serializer>(&self, to: S) -> Result<S::Ok, S::Error> {
         let (before, rest) = self.blocks.split_at(self.blocks.len() / 2);
-        match rest {
-            [] => to.serialize_none(),
-            [middle, after @ ..] => to.serialize_some(&Node {
-                left: Subtree {
-                    blocks: before,
-                    end: middle.0.wrapping_sub(1),
-                },
-                start: middle.0,
-                end: after.first().map_or(self.end, |next| next.0 - 1),
-                state: middle.1,
-                right: Subtree {
-                    blocks: after,
-                    end: self.end,
-                },
-                height: u64::from(self.blocks.len().ilog2()) + 1,
-            }),
-        }
+        let Some((middle, after)) = rest.split_first() else {
+            return to.serialize_none();
+        };
+        let (start, end) = (middle.0, after.first().map_or(self.end, |next| next.0 - 1));
+        to.serialize_some(&Node {
+            key: valid_range(start, end)?,
+            state: middle.1,
+            // There is nothing before a block that starts at 0.
+            left: Subtree {
+                blocks: before,
+                end: start.saturating_sub(1),
+            },
+            right: Subtree {
+                blocks: after,
+                end: self.end,
+            },
+            height: u64::from(self.blocks.len().ilog2()) + 1,
+        })
     }
 }
 
 struct Node<'a> {
-    left: Subtree<'a>,
-    start: u64,
-    end: u64,
+    key: RangeInclusive,
     state: NodeState,
+    left: Subtree<'a>,
     right: Subtree<'a>,
     height: u64,
 }
 
-impl Serialize for Node<'_> {
-    fn serialize<S: Serializer>(&self, to: S) -> Result<S::Ok, S::Error> {
-        write_fields!(to, "InnerNode" {
-            key: RangeInclusive::new(self.start, self.end).map_err(S::Error::custom)?,
-            node_state: self.state,
-            left: self.left,
-            right: self.right,
-            height: self.height
-        })
+write_fields!(
+    Node<'_>,
+    "InnerNode",
+    this {
+        key: this.key,
+        node_state: this.state,
+        left: this.left,
+        right: this.right,
+        height: this.height
     }
-}
+);
