@@ -165,6 +165,8 @@ mod layout;
 mod node_state;
 #[cfg(test)]
 mod proved_calls;
+#[cfg(all(test, feature = "serde"))]
+mod proved_readers;
 mod range;
 #[cfg(feature = "serde")]
 mod saved;

@@ -4,7 +4,7 @@
 //! its first and its last address, so a node can be checked once it has its key and both subtrees.
 //! Ids and devices become values for the proved readers.
 
-use super::{Name, Policy, MAX_HELD, MAX_LIST_LEN, MAX_NESTING, TOO_LONG, VERSION};
+use super::{MAX_LIST_LEN, POLICIES, STATES, TOO_LONG, VERSION};
 use crate::error::{or_abort, out_of_memory};
 use crate::{
     AddressAllocator, AllocPolicy, DeviceManager, DeviceSlot, IdAllocator, NodeState,
@@ -20,37 +20,51 @@ use serde::de::{
 };
 use serde::{Deserialize, Deserializer};
 
-/// Reads a [`Name`].
-struct Identifier<N>(PhantomData<N>);
+/// The maximum nesting of nodes in a saved tree. Trees of `vm-allocator` are never higher.
+const MAX_NESTING: u32 = 50;
 
-impl<'de, N: Name> DeserializeSeed<'de> for Identifier<N> {
-    type Value = N;
+/// The maximum number of allocated keys, as in the proved reader of these trees.
+const MAX_HELD: u64 = 6_293_134_512;
 
-    fn deserialize<D: Deserializer<'de>>(self, from: D) -> Result<N, D::Error> {
+/// Reads a field or a variant as its index. Some formats write the index instead of the name.
+#[derive(Clone, Copy)]
+struct Name {
+    names: &'static [&'static str],
+    // A match on literals is faster than a search in `names`.
+    find: fn(&str) -> Option<usize>,
+    is_field: bool,
+}
+
+impl<'de> DeserializeSeed<'de> for Name {
+    type Value = usize;
+
+    fn deserialize<D: Deserializer<'de>>(self, from: D) -> Result<usize, D::Error> {
         from.deserialize_identifier(self)
     }
 }
 
-impl<N: Name> Visitor<'_> for Identifier<N> {
-    type Value = N;
+impl Visitor<'_> for Name {
+    type Value = usize;
 
     fn expecting(&self, f: &mut fmt::Formatter<'_>) -> fmt::Result {
-        write!(f, "one of {:?}", N::NAMES)
+        write!(f, "one of {:?}", self.names)
     }
 
-    fn visit_u64<E: Error>(self, place: u64) -> Result<N, E> {
-        let name = usize::try_from(place)
-            .ok()
-            .and_then(|place| N::ALL.get(place));
-        name.copied()
-            .ok_or_else(|| E::invalid_value(Unexpected::Unsigned(place), &self))
+    fn visit_u64<E: Error>(self, place: u64) -> Result<usize, E> {
+        match usize::try_from(place) {
+            Ok(place) if place < self.names.len() => Ok(place),
+            _ => Err(E::invalid_value(Unexpected::Unsigned(place), &self)),
+        }
     }
 
-    fn visit_str<E: Error>(self, name: &str) -> Result<N, E> {
-        N::find(name).ok_or_else(|| N::unknown(name))
+    fn visit_str<E: Error>(self, name: &str) -> Result<usize, E> {
+        (self.find)(name).ok_or_else(|| match self.is_field {
+            true => E::unknown_field(name, self.names),
+            false => E::unknown_variant(name, self.names),
+        })
     }
 
-    fn visit_bytes<E: Error>(self, name: &[u8]) -> Result<N, E> {
+    fn visit_bytes<E: Error>(self, name: &[u8]) -> Result<usize, E> {
         self.visit_str(&String::from_utf8_lossy(name))
     }
 }
@@ -66,16 +80,22 @@ macro_rules! structure {
     ) => {
         const _: () = {
             #[allow(non_camel_case_types)]
-            #[derive(Clone, Copy)]
             enum Field { $($field),* }
 
-            super::names!(Field, unknown_field: $($field),*);
+            const FIELD: Name = Name {
+                names: &[$(stringify!($field)),*],
+                find: |name| match name {
+                    $(stringify!($field) => Some(Field::$field as usize),)*
+                    _ => None,
+                },
+                is_field: true,
+            };
 
             impl<'de> DeserializeSeed<'de> for $visitor {
                 type Value = $value;
 
                 fn deserialize<D: Deserializer<'de>>(self, from: D) -> Result<$value, D::Error> {
-                    from.deserialize_struct($name, Field::NAMES, self)
+                    from.deserialize_struct($name, FIELD.names, self)
                 }
             }
 
@@ -83,7 +103,7 @@ macro_rules! structure {
                 type Value = $value;
 
                 fn expecting(&self, f: &mut fmt::Formatter<'_>) -> fmt::Result {
-                    write!(f, "struct {} with {} elements", $name, Field::NAMES.len())
+                    write!(f, "struct {} with {} elements", $name, FIELD.names.len())
                 }
 
                 fn visit_seq<A: SeqAccess<'de>>(mut self, mut from: A) -> Result<$value, A::Error> {
@@ -94,34 +114,29 @@ macro_rules! structure {
                             return Err(A::Error::invalid_length(Field::$field as usize, &self));
                         }
                     )*
-                    $(let $field = found($field, stringify!($field))?;)*
+                    let wrong = A::Error::missing_field;
+                    $(let $field = $field.ok_or_else(|| wrong(stringify!($field)))?;)*
                     $build
                 }
 
                 fn visit_map<A: MapAccess<'de>>(mut self, mut from: A) -> Result<$value, A::Error> {
                     let $this = &mut self;
                     $(let mut $field = None;)*
-                    while let Some(name) = from.next_key_seed(Identifier(PhantomData))? {
-                        match name {
-                            $(Field::$field => {
-                                if $field.is_some() {
-                                    return Err(A::Error::duplicate_field(stringify!($field)));
-                                }
-                                $field = Some(from.next_value_seed($seed)?);
-                            })*
-                        }
+                    while let Some(place) = from.next_key_seed(FIELD)? {
+                        $(if place == Field::$field as usize {
+                            if $field.is_some() {
+                                return Err(A::Error::duplicate_field(stringify!($field)));
+                            }
+                            $field = Some(from.next_value_seed($seed)?);
+                        })*
                     }
-                    $(let $field = found($field, stringify!($field))?;)*
+                    let wrong = A::Error::missing_field;
+                    $(let $field = $field.ok_or_else(|| wrong(stringify!($field)))?;)*
                     $build
                 }
             }
         };
     };
-}
-
-/// Returns the value of a field, or an error if the field is missing.
-fn found<T, E: Error>(field: Option<T>, name: &'static str) -> Result<T, E> {
-    field.ok_or_else(|| E::missing_field(name))
 }
 
 /// Implements `Deserialize` by a visitor.
@@ -137,8 +152,8 @@ macro_rules! read_by {
 
 read_by! {
     RangeInclusive, from: Range.deserialize(from);
-    NodeState, from: from.deserialize_enum("NodeState", NodeState::NAMES, State);
-    AllocPolicy, from: from.deserialize_enum("AllocPolicy", Policy::NAMES, AnyPolicy);
+    NodeState, from: from.deserialize_enum("NodeState", STATES, State);
+    AllocPolicy, from: from.deserialize_enum("AllocPolicy", POLICIES, Policy);
     AddressAllocator, from: Space::default().deserialize(from);
     IdAllocator, from: Ids.deserialize(from);
     DeviceSlot, from: Slot.deserialize(from);
@@ -152,40 +167,58 @@ structure!(Range, "RangeInclusive" => RangeInclusive, _this {
     end: PhantomData::<u64>
 } RangeInclusive::new(start, end).map_err(A::Error::custom));
 
-/// Implements the visitor of a variant and its content.
-macro_rules! variants {
-    ($visitor:ident, $name:ident($content:ident) { $($variant:pat => $read:expr),* }) => {
-        struct $visitor;
+const STATE: Name = Name {
+    names: STATES,
+    find: |name| STATES.iter().position(|state| *state == name),
+    is_field: false,
+};
 
-        impl<'de> Visitor<'de> for $visitor {
-            type Value = $name;
+struct State;
 
-            fn expecting(&self, f: &mut fmt::Formatter<'_>) -> fmt::Result {
-                f.write_str(concat!("enum ", stringify!($name)))
-            }
+impl<'de> Visitor<'de> for State {
+    type Value = NodeState;
 
-            fn visit_enum<A: EnumAccess<'de>>(self, from: A) -> Result<$name, A::Error> {
-                let (variant, $content) = from.variant_seed(Identifier(PhantomData))?;
-                match variant {
-                    $($variant => $read),*
-                }
-            }
-        }
-    };
+    fn expecting(&self, f: &mut fmt::Formatter<'_>) -> fmt::Result {
+        f.write_str("enum NodeState")
+    }
+
+    fn visit_enum<A: EnumAccess<'de>>(self, from: A) -> Result<NodeState, A::Error> {
+        let (place, content) = from.variant_seed(STATE)?;
+        content.unit_variant()?;
+        Ok([NodeState::Free, NodeState::Allocated][place])
+    }
 }
 
-variants!(State, NodeState(content) { state => content.unit_variant().map(|()| state) });
+const POLICY: Name = Name {
+    names: POLICIES,
+    find: |name| POLICIES.iter().position(|policy| *policy == name),
+    is_field: false,
+};
 
-variants!(AnyPolicy, AllocPolicy(content) {
-    Policy::FirstMatch => content.unit_variant().map(|()| AllocPolicy::FirstMatch),
-    Policy::LastMatch => content.unit_variant().map(|()| AllocPolicy::LastMatch),
-    Policy::ExactMatch => content.newtype_variant().map(AllocPolicy::ExactMatch)
-});
+struct Policy;
+
+impl<'de> Visitor<'de> for Policy {
+    type Value = AllocPolicy;
+
+    fn expecting(&self, f: &mut fmt::Formatter<'_>) -> fmt::Result {
+        f.write_str("enum AllocPolicy")
+    }
+
+    fn visit_enum<A: EnumAccess<'de>>(self, from: A) -> Result<AllocPolicy, A::Error> {
+        match from.variant_seed(POLICY)? {
+            (0, content) => content.unit_variant().map(|()| AllocPolicy::FirstMatch),
+            (1, content) => content.unit_variant().map(|()| AllocPolicy::LastMatch),
+            (_, content) => content.newtype_variant().map(AllocPolicy::ExactMatch),
+        }
+    }
+}
 
 /// The nodes read so far.
 #[derive(Default)]
-pub(super) struct Nodes {
+struct Nodes {
     held: Vec<proved::RangeInclusive>,
+    // The nodes that the current node is nested in.
+    depth: u32,
     count: u64,
     // The sum of the lengths of all keys. If they share no address, it does not overflow.
     len: u64,
@@ -213,43 +246,37 @@ impl Nodes {
     /// Returns the subtree of a node.
     fn join<E: Error>(
         &mut self,
-        left: Option<Span>,
         key: RangeInclusive,
-        right: Option<Span>,
+        [left, right]: [Option<Span>; 2],
         height: u64,
     ) -> Result<Option<Span>, E> {
-        let [left_height, right_height] =
-            [&left, &right].map(|side| side.map_or(0, |side| side.height));
-        let is_unbalanced = left_height.abs_diff(right_height) > 1;
-        let is_high = Some(height) != left_height.max(right_height).checked_add(1);
-        self.is_unbalanced |= is_unbalanced || is_high;
-        if left.is_some_and(|left| left.last >= key.start())
-            || right.is_some_and(|right| right.first <= key.end())
-        {
+        let [low, high] = [left, right].map(|child| child.map_or(0, |child| child.height));
+        let is_balanced = low.abs_diff(high) <= 1;
+        self.is_unbalanced |= !is_balanced || low.max(high).checked_add(1) != Some(height);
+        let is_before = left.is_none_or(|left| left.last < key.start());
+        if !is_before || right.is_some_and(|right| right.first <= key.end()) {
             return Err(E::custom("the keys do not ascend or share an address"));
         }
+        let first = left.map_or(key.start(), |left| left.first);
+        let last = right.map_or(key.end(), |right| right.last);
         Ok(Some(Span {
-            first: left.map_or(key.start(), |left| left.first),
-            last: right.map_or(key.end(), |right| right.last),
+            first,
+            last,
             height,
         }))
     }
 }
 
 /// A subtree without its nodes: its first and its last address, and its height as it was read.
-#[derive(Clone, Copy, Debug, PartialEq)]
-pub(super) struct Span {
+#[derive(Clone, Copy)]
+struct Span {
     first: u64,
     last: u64,
     height: u64,
 }
 
 /// Reads a node with its children, or none.
-pub(super) struct OptionalNode<'a> {
-    pub(super) nodes: &'a mut Nodes,
-    /// The number of node levels that can still follow.
-    pub(super) levels: u32,
-}
+struct OptionalNode<'a>(&'a mut Nodes);
 
 impl<'de> DeserializeSeed<'de> for OptionalNode<'_> {
     type Value = Option<Span>;
@@ -275,70 +302,49 @@ impl<'de> Visitor<'de> for OptionalNode<'_> {
     }
 
     fn visit_some<D: Deserializer<'de>>(self, from: D) -> Result<Option<Span>, D::Error> {
-        let Some(levels) = self.levels.checked_sub(1) else {
+        if self.0.depth == MAX_NESTING {
             return Err(D::Error::custom("nodes are nested more than 50 deep"));
-        };
-        let node = Node {
-            nodes: self.nodes,
-            levels,
-            is_taken: false,
-        };
-        node.deserialize(from)
+        }
+        self.0.depth += 1;
+        let root = Node(&mut *self.0, false).deserialize(from)?;
+        self.0.depth -= 1;
+        Ok(root)
     }
 }
 
-struct Node<'a> {
-    nodes: &'a mut Nodes,
-    levels: u32,
-    is_taken: bool,
-}
+/// Reads a node. Its key can be taken before the others are read.
+struct Node<'a>(&'a mut Nodes, bool);
 
 impl Node<'_> {
-    fn child(&mut self) -> OptionalNode<'_> {
-        OptionalNode {
-            nodes: self.nodes,
-            levels: self.levels,
-        }
-    }
-
-    /// Takes the key, unless it was taken.
+    /// Takes the key once.
     fn take<E: Error>(&mut self, key: RangeInclusive, state: NodeState) -> Result<(), E> {
-        if self.is_taken {
-            return Ok(());
+        match core::mem::replace(&mut self.1, true) {
+            true => Ok(()),
+            false => self.0.take(key, state),
         }
-        self.is_taken = true;
-        self.nodes.take(key, state)
-    }
-
-    /// Returns the seed of the right child. Takes the key before, if the fields came in order.
-    fn right<E: Error>(
-        &mut self,
-        key: Option<RangeInclusive>,
-        state: Option<NodeState>,
-        left: Option<Option<Span>>,
-    ) -> Result<OptionalNode<'_>, E> {
-        if let (Some(key), Some(state), Some(_)) = (key, state, left) {
-            self.take(key, state)?;
-        }
-        Ok(self.child())
     }
 }
 
 structure!(Node<'_>, "InnerNode" => Option<Span>, this {
     key: PhantomData::<RangeInclusive>,
     node_state: PhantomData::<NodeState>,
-    left: this.child(),
-    right: this.right::<A::Error>(key, node_state, left)?,
+    left: OptionalNode(this.0),
+    right: {
+        if let (Some(key), Some(state), true) = (key, node_state, left.is_some()) {
+            this.take::<A::Error>(key, state)?;
+        }
+        OptionalNode(this.0)
+    },
     height: PhantomData::<u64>
 } {
-    this.take(key, node_state)?;
-    this.nodes.join(left, key, right, height)
+    this.take::<A::Error>(key, node_state)?;
+    this.0.join(key, [left, right], height)
 });
 
 struct Tree<'a>(&'a mut Nodes);
 
 structure!(Tree<'_>, "IntervalTree" => Option<Span>, this {
-    root: OptionalNode { nodes: this.0, levels: MAX_NESTING }
+    root: OptionalNode(this.0)
 } Ok(root));
 
 /// Reads an address allocator.
@@ -364,22 +370,18 @@ impl Space {
         if root.is_some_and(|root| root.first < space.start() || root.last > space.end()) {
             return Err(E::custom("a key is outside the space"));
         }
-        let Nodes {
-            held,
-            count,
-            len,
-            is_unbalanced,
-        } = &mut self.nodes;
+        let nodes = &mut self.nodes;
         // It takes linear time if the fields of the nodes came in order.
-        held.sort_unstable();
-        let read = proved::AddressAllocator::with_held(Global, space.start(), space.len(), held);
+        nodes.held.sort_unstable();
+        let (base, size) = (space.start(), space.len());
+        let read = proved::AddressAllocator::with_held(Global, base, size, &nodes.held);
         let read = AddressAllocator(or_abort(read).map_err(E::custom)?);
         if self.is_strict {
             let blocks = read.held_count() + read.gaps().count() as u64;
-            if *is_unbalanced {
+            if nodes.is_unbalanced {
                 return Err(E::custom("the tree is unbalanced, or a height is wrong"));
             }
-            if *len != space.len() || *count != blocks {
+            if nodes.len != size || nodes.count != blocks {
                 return Err(E::custom("the tree has a gap or free neighbours"));
             }
         }

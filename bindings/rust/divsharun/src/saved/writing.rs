@@ -1,6 +1,6 @@
 //! Writes objects. Only the ids are a value first.
 
-use super::{Name, Policy, MAX_LIST_LEN, TOO_LONG, VERSION};
+use super::{MAX_LIST_LEN, POLICIES, STATES, TOO_LONG, VERSION};
 use crate::error::or_abort;
 use crate::{
     AddressAllocator, AllocPolicy, DeviceManager, DeviceSlot, IdAllocator, NodeState,
@@ -11,9 +11,9 @@ use rattle::{Global, Value};
 use serde::ser::{Error, SerializeStruct};
 use serde::{Serialize, Serializer};
 
-/// Implements `Serialize` for a structure with these fields.
+/// Implements `Serialize` for structures with these fields.
 macro_rules! write_fields {
-    ($object:ty, $name:literal, $this:ident { $($field:ident: $value:expr),* }) => {
+    ($($object:ty as $name:literal, $this:ident: $($field:ident = $value:expr),*;)*) => {$(
         impl Serialize for $object {
             fn serialize<S: Serializer>(&self, to: S) -> Result<S::Ok, S::Error> {
                 let $this = self;
@@ -22,76 +22,57 @@ macro_rules! write_fields {
                 fields.end()
             }
         }
-    };
+    )*};
 }
 
-write_fields!(
-    RangeInclusive,
-    "RangeInclusive",
-    this {
-        start: this.start(),
-        end: this.end()
-    }
-);
+write_fields! {
+    RangeInclusive as "RangeInclusive", this: start = this.start(), end = this.end();
+    DeviceSlot as "DeviceSlot", this: id = this.id, mmio_range = this.range;
+    Ids<'_> as "IdAllocator", this:
+        range_base = this.ids.range_base(),
+        next_id = this.next,
+        range_end = this.ids.range_end(),
+        freed_ids = this.freed;
+    DeviceManager as "DeviceManager", this:
+        version = VERSION,
+        id_allocator = Ids::of::<S::Error>(this.0.ids())?,
+        mmio_allocator = Space(this.0.addresses()),
+        slots = match this.device_count() as usize {
+            0..=MAX_LIST_LEN => this.devices().collect::<Vec<_>>(),
+            _ => return Err(S::Error::custom(TOO_LONG)),
+        };
+    Space<'_> as "AddressAllocator", this:
+        address_space = RangeInclusive::new(this.0.base(), this.0.end()).map_err(Error::custom)?,
+        interval_tree = Tree(Subtree(&blocks_of(this.0), this.0.end()));
+    Tree<'_> as "IntervalTree", this: root = this.0;
+    Node<'_> as "InnerNode", this:
+        key = RangeInclusive::new(this.block.0, this.end).map_err(Error::custom)?,
+        node_state = this.block.1,
+        // No block is before one that starts at 0.
+        left = Subtree(this.before, this.block.0.saturating_sub(1)),
+        right = Subtree(this.after, this.last),
+        height = u64::from((this.before.len() + 1 + this.after.len()).ilog2()) + 1;
+}
 
 impl Serialize for NodeState {
     fn serialize<S: Serializer>(&self, to: S) -> Result<S::Ok, S::Error> {
         let place = *self as usize;
-        to.serialize_unit_variant("NodeState", place as u32, NodeState::NAMES[place])
+        to.serialize_unit_variant("NodeState", place as u32, STATES[place])
     }
 }
 
 impl Serialize for AllocPolicy {
     fn serialize<S: Serializer>(&self, to: S) -> Result<S::Ok, S::Error> {
-        let (policy, start) = match self {
-            AllocPolicy::FirstMatch => (Policy::FirstMatch, None),
-            AllocPolicy::LastMatch => (Policy::LastMatch, None),
-            AllocPolicy::ExactMatch(start) => (Policy::ExactMatch, Some(start)),
-        };
-        let (place, name) = (policy as u32, Policy::NAMES[policy as usize]);
-        match start {
-            None => to.serialize_unit_variant("AllocPolicy", place, name),
-            Some(start) => to.serialize_newtype_variant("AllocPolicy", place, name, start),
+        let (kind, names) = ("AllocPolicy", POLICIES);
+        match self {
+            AllocPolicy::FirstMatch => to.serialize_unit_variant(kind, 0, names[0]),
+            AllocPolicy::LastMatch => to.serialize_unit_variant(kind, 1, names[1]),
+            AllocPolicy::ExactMatch(start) => {
+                to.serialize_newtype_variant(kind, 2, names[2], start)
+            }
         }
     }
 }
-
-write_fields!(
-    DeviceSlot,
-    "DeviceSlot",
-    this {
-        id: this.id,
-        mmio_range: this.range
-    }
-);
-
-/// An id allocator, with the fields that no call returns: the next id and the freed ids.
-struct Ids<'a>(&'a proved::IdAllocator, Option<u32>, Vec<u32>);
-
-impl Ids<'_> {
-    fn of<E: Error>(ids: &proved::IdAllocator) -> Result<Ids<'_>, E> {
-        let value = or_abort(ids.to_value(Global)).map_err(E::custom)?;
-        let freed = value.get("freed_ids").and_then(Value::as_array);
-        let freed = freed.map_or(&[][..], |freed| freed);
-        if freed.len() > MAX_LIST_LEN {
-            return Err(E::custom(TOO_LONG));
-        }
-        let id = |value: &Value| value.as_u64().map(|id| id as u32);
-        let next = value.get("next_id").and_then(id);
-        Ok(Ids(ids, next, freed.iter().filter_map(id).collect()))
-    }
-}
-
-write_fields!(
-    Ids<'_>,
-    "IdAllocator",
-    this {
-        range_base: this.0.range_base(),
-        next_id: this.1,
-        range_end: this.0.range_end(),
-        freed_ids: this.2
-    }
-);
 
 impl Serialize for IdAllocator {
     fn serialize<S: Serializer>(&self, to: S) -> Result<S::Ok, S::Error> {
@@ -105,38 +86,34 @@ impl Serialize for AddressAllocator {
     }
 }
 
-write_fields!(
-    DeviceManager,
-    "DeviceManager",
-    this {
-        version: VERSION,
-        id_allocator: Ids::of::<S::Error>(this.0.ids())?,
-        mmio_allocator: Space(this.0.addresses()),
-        slots: match this.device_count() as usize {
-            0..=MAX_LIST_LEN => this.devices().collect::<Vec<_>>(),
-            _ => return Err(S::Error::custom(TOO_LONG)),
+/// An id allocator, with the fields that only its value has.
+struct Ids<'a> {
+    ids: &'a proved::IdAllocator,
+    next: Option<u32>,
+    freed: Vec<u32>,
+}
+
+impl Ids<'_> {
+    fn of<E: Error>(ids: &proved::IdAllocator) -> Result<Ids<'_>, E> {
+        let value = or_abort(ids.to_value(Global)).map_err(E::custom)?;
+        let id = |value: &Value| value.as_u64().map(|id| id as u32);
+        let next = value.get("next_id").and_then(id);
+        let freed = value.get("freed_ids").and_then(Value::as_array);
+        let freed: Vec<u32> = freed
+            .into_iter()
+            .flat_map(|freed| freed.iter().filter_map(id))
+            .collect();
+        match freed.len() {
+            0..=MAX_LIST_LEN => Ok(Ids { ids, next, freed }),
+            _ => Err(E::custom(TOO_LONG)),
         }
     }
-);
+}
 
+/// An address allocator.
 struct Space<'a>(&'a proved::AddressAllocator);
 
-write_fields!(
-    Space<'_>,
-    "AddressAllocator",
-    this {
-        address_space: valid_range::<S::Error>(this.0.base(), this.0.end())?,
-        interval_tree: Tree(Subtree {
-            blocks: &blocks_of(this.0),
-            end: this.0.end()
-        })
-    }
-);
-
-/// Returns the range from `start` to `end`, which is valid.
-fn valid_range<E: Error>(start: u64, end: u64) -> Result<RangeInclusive, E> {
-    RangeInclusive::new(start, end).map_err(E::custom)
-}
+struct Tree<'a>(Subtree<'a>);
 
 /// The start and the state of a block. It ends right before the next block.
 struct Block(u64, NodeState);
@@ -159,57 +136,33 @@ fn blocks_of(space: &proved::AddressAllocator) -> Vec<Block> {
     blocks
 }
 
-struct Tree<'a>(Subtree<'a>);
-
-write_fields!(Tree<'_>, "IntervalTree", this { root: this.0 });
-
-/// The balanced tree of some blocks, of which the last one ends at `end`. The number of blocks
-/// decides its shape.
-struct Subtree<'a> {
-    blocks: &'a [Block],
-    end: u64,
-}
+/// The balanced tree of some blocks, and the end of the last one. The number of blocks decides its
+/// shape.
+struct Subtree<'a>(&'a [Block], u64);
 
 impl Serialize for Subtree<'_> {
     fn serialize<S: Serializer>(&self, to: S) -> Result<S::Ok, S::Error> {
-        let (before, rest) = self.blocks.split_at(self.blocks.len() / 2);
-        let Some((middle, after)) = rest.split_first() else {
+        let Subtree(blocks, last) = *self;
+        let (before, rest) = blocks.split_at(blocks.len() / 2);
+        let Some((block, after)) = rest.split_first() else {
             return to.serialize_none();
         };
-        let (start, end) = (middle.0, after.first().map_or(self.end, |next| next.0 - 1));
+        let end = after.first().map_or(last, |next| next.0 - 1);
         to.serialize_some(&Node {
-            key: valid_range(start, end)?,
-            state: middle.1,
-            // There is nothing before a block that starts at 0.
-            left: Subtree {
-                blocks: before,
-                end: start.saturating_sub(1),
-            },
-            right: Subtree {
-                blocks: after,
-                end: self.end,
-            },
-            height: u64::from(self.blocks.len().ilog2()) + 1,
+            before,
+            block,
+            end,
+            after,
+            last,
         })
     }
 }
 
+/// A block and its end, the blocks before and after it, and the end of the last one.
 struct Node<'a> {
-    key: RangeInclusive,
-    state: NodeState,
-    left: Subtree<'a>,
-    right: Subtree<'a>,
-    height: u64,
+    before: &'a [Block],
+    block: &'a Block,
+    end: u64,
+    after: &'a [Block],
+    last: u64,
 }
-
-write_fields!(
-    Node<'_>,
-    "InnerNode",
-    this {
-        key: this.key,
-        node_state: this.state,
-        left: this.left,
-        right: this.right,
-        height: this.height
-    }
-);

@@ -3,18 +3,17 @@
 //! The proved strict readers must accept what serde writes. Damaged values are read by serde and by
 //! the proved reader, which must accept the same ones.
 
-use super::reading::{Nodes, OptionalNode};
 use crate::{AddressAllocator, AllocPolicy, DeviceManager, IdAllocator};
 use alloc::format;
 use alloc::string::{String, ToString};
 use alloc::vec::Vec;
 use core::fmt::Debug;
 use rattle::{Fields, Global, Number};
-use serde::de::{DeserializeOwned, DeserializeSeed, Visitor};
-use serde::{Deserializer, Serialize};
+use serde::de::DeserializeOwned;
+use serde::Serialize;
 use serde_json::{json, Value};
 
-#[path = "../../tests/packed/mod.rs"]
+#[path = "../tests/packed/mod.rs"]
 mod packed;
 
 /// Returns the number of address allocators that are damaged: 40,000, or the value of the
@@ -313,30 +312,4 @@ fn device_managers_are_read_as_the_proved_reader_does() {
         let reader = proved_devices::DeviceManager::from_value;
         read_damaged(&devices, reader, DeviceManager, draw)
     });
-}
-
-/// A format that encodes an absent value as a unit, as serde does for the content of untagged
-/// enums.
-struct Unit;
-
-impl<'de> Deserializer<'de> for Unit {
-    type Error = serde::de::value::Error;
-
-    fn deserialize_any<V: Visitor<'de>>(self, visitor: V) -> Result<V::Value, Self::Error> {
-        visitor.visit_unit()
-    }
-
-    serde::forward_to_deserialize_any! {
-        bool i8 i16 i32 i64 u8 u16 u32 u64 f32 f64 char str string bytes byte_buf option unit
-        unit_struct newtype_struct seq tuple tuple_struct map struct enum identifier ignored_any
-    }
-}
-
-#[test]
-fn a_unit_is_no_node() {
-    let nodes = &mut Nodes::default();
-    assert_eq!(
-        OptionalNode { nodes, levels: 1 }.deserialize(Unit),
-        Ok(None)
-    );
 }
