@@ -112,9 +112,10 @@
 //! # Saved values
 //!
 //! With `serde`, the first four types have the fields of `vm-allocator` in the same order, so
-//! either crate reads what the other wrote, in every format. The bytes of an address allocator can
-//! differ, because the same calls can lead to trees of different shapes. A [`DeviceManager`] is
-//! saved as its version, both allocators, and its devices in ascending order of ids.
+//! either crate reads what the other wrote, in every format. The tree of an address allocator is
+//! written balanced. Its shape depends only on the space and the allocated ranges, so equal
+//! address allocators have the same bytes. A [`DeviceManager`] is saved as its version, both
+//! allocators, and its devices in ascending order of ids.
 //!
 //! A value is accepted if and only if it is valid. Any other value is an error of the format. An
 //! address allocator is valid under these conditions:
@@ -131,6 +132,12 @@
 //! Two limits apply before a value is checked. Nodes that are nested more than 50 deep are an
 //! error, and so is a list of more than 2^20 freed ids or devices. Writing a longer list is an
 //! error too.
+//!
+//! An address allocator is written from a list of its blocks, and read into a list of its allocated
+//! ranges, with 16 bytes per item. Ids and devices need a value of their whole content.
+//!
+//! An error names the unknown, missing or duplicate field or the unknown variant, or the condition
+//! that the value violates.
 //!
 //! ```rust
 //! # #[cfg(feature = "serde")]
@@ -149,7 +156,7 @@
 //! # #[cfg(not(feature = "serde"))]
 //! # fn main() {}
 //! ```
-#![no_std]
+#![cfg_attr(not(test), no_std)]
 #![forbid(unsafe_code)]
 #![deny(missing_docs)]
 #![warn(clippy::must_use_candidate)]
@@ -165,6 +172,8 @@ mod layout;
 mod node_state;
 #[cfg(test)]
 mod proved_calls;
+#[cfg(all(test, feature = "serde"))]
+mod proved_readers;
 mod range;
 #[cfg(feature = "serde")]
 mod saved;

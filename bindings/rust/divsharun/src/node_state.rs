@@ -29,12 +29,4 @@ impl NodeState {
             proved::allocation_engine::NodeState::Allocated => NodeState::Allocated,
         }
     }
-    /// Converts to a state of the proved code.
-    #[cfg(feature = "serde")]
-    pub(crate) fn proved(self) -> proved::allocation_engine::NodeState {
-        match self {
-            NodeState::Free => proved::allocation_engine::NodeState::Free,
-            NodeState::Allocated => proved::allocation_engine::NodeState::Allocated,
-        }
-    }
 }

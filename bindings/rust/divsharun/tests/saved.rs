@@ -154,7 +154,10 @@ fn fields_are_known_by_number_name_and_bytes() {
     assert_eq!(range_by(&[(1u64, 19), (0, 16)]), range);
     for wrong in [2, 3, u64::MAX] {
         assert!(range_by(&[(0, 16), (wrong, 19)]).is_err(), "{wrong}");
-        assert!(range_by(&[(0, 16), (1, 19), (wrong, 0)]).is_err(), "{wrong}");
+        assert!(
+            range_by(&[(0, 16), (1, 19), (wrong, 0)]).is_err(),
+            "{wrong}"
+        );
     }
     assert!(range_by(&[(0u64, 16)]).is_err());
     assert!(range_by(&[(0u64, 16), (0, 16), (1, 19)]).is_err());
@@ -162,7 +165,10 @@ fn fields_are_known_by_number_name_and_bytes() {
     assert_eq!(range_by(&[(&b"start"[..], 16), (b"end", 19)]), range);
     for wrong in ["", "en", "ends", "END"] {
         assert!(range_by(&[("start", 16), (wrong, 19)]).is_err(), "{wrong}");
-        assert!(range_by(&[(&b"start"[..], 16), (wrong.as_bytes(), 19)]).is_err(), "{wrong}");
+        assert!(
+            range_by(&[(&b"start"[..], 16), (wrong.as_bytes(), 19)]).is_err(),
+            "{wrong}"
+        );
     }
 }
 
@@ -173,7 +179,14 @@ fn states_and_lists_of_fields_are_whole() {
         assert_eq!(state.is_ok(), place < 2, "{place}");
     }
     assert!(is_read::<NodeState>(r#"{"Free":null}"#));
-    for wrong in ["0", "null", r#""""#, r#"{"Free":0}"#, r#"{"Free":[]}"#, r#"["Free"]"#] {
+    for wrong in [
+        "0",
+        "null",
+        r#""""#,
+        r#"{"Free":0}"#,
+        r#"{"Free":[]}"#,
+        r#"["Free"]"#,
+    ] {
         assert!(!is_read::<NodeState>(wrong), "{wrong}");
     }
     assert!(is_read::<RangeInclusive>("[16,19]"));
@@ -206,15 +219,25 @@ fn written_values_are_read() {
     }
     let all = r#"{"range_base":0,"next_id":null,"range_end":4294967295,"freed_ids":[]}"#;
     let all: IdAllocator = serde_json::from_str(all).unwrap();
-    assert_eq!((all.held_count(), all.is_allocated(u32::MAX)), (1 << 32, true));
+    assert_eq!(
+        (all.held_count(), all.is_allocated(u32::MAX)),
+        (1 << 32, true)
+    );
 }
 
 #[test]
 fn policies_and_slots_have_the_form_of_derives() {
-    let policies = [AllocPolicy::FirstMatch, AllocPolicy::LastMatch, AllocPolicy::ExactMatch(7)];
+    let policies = [
+        AllocPolicy::FirstMatch,
+        AllocPolicy::LastMatch,
+        AllocPolicy::ExactMatch(7),
+    ];
     let text = r#"["FirstMatch","LastMatch",{"ExactMatch":7}]"#;
     assert_eq!(json(&policies), text);
-    assert_eq!(serde_json::from_str::<Vec<AllocPolicy>>(text).unwrap(), policies);
+    assert_eq!(
+        serde_json::from_str::<Vec<AllocPolicy>>(text).unwrap(),
+        policies
+    );
     for wrong in [
         r#""ExactMatch""#,
         r#"{"FirstMatch":7}"#,
@@ -288,7 +311,10 @@ fn states_after_upstream_faults_are_repaired() {
     assert_eq!(read(&node((16, 17), "Free", &second)).unwrap(), fresh);
     // Heights and balance are not checked.
     let wrong_height = FRESH.replace(r#""height":1"#, r#""height":7"#);
-    assert_eq!(serde_json::from_str::<AddressAllocator>(&wrong_height).unwrap(), fresh);
+    assert_eq!(
+        serde_json::from_str::<AddressAllocator>(&wrong_height).unwrap(),
+        fresh
+    );
     // The freed nodes are missing.
     let held = read(&node((17, 17), "Allocated", "null")).unwrap();
     assert!(held
@@ -341,6 +367,59 @@ fn other_fields_are_refused() {
     assert!(!is_read::<RangeInclusive>(
         r#"{"start":0,"end":18446744073709551615}"#
     ));
+}
+
+/// Checks that reading a text returns an error that contains these words.
+fn has_error<T: DeserializeOwned>(text: &str, words: &str) {
+    let error = serde_json::from_str::<T>(text).map(|_| ()).unwrap_err();
+    assert!(error.to_string().contains(words), "{error}");
+}
+
+#[test]
+fn errors_name_what_is_wrong() {
+    let changes = [
+        (
+            r#""height":1"#,
+            r#""height":1,"colour":2"#,
+            "unknown field `colour`",
+        ),
+        (r#""Free""#, r#""Clear""#, "unknown variant `Clear`"),
+        (r#","height":1"#, "", "missing field `height`"),
+        (
+            r#""left":null"#,
+            r#""left":null,"left":null"#,
+            "duplicate field `left`",
+        ),
+        (
+            r#""end":19},"node_state""#,
+            r#""end":20},"node_state""#,
+            "outside the space",
+        ),
+        (r#""end":19"#, r#""end":15"#, "16-15 is not valid"),
+    ];
+    for (old, new, words) in changes {
+        has_error::<AddressAllocator>(&FRESH.replace(old, new), words);
+    }
+    let second = node((18, 19), "Free", "null");
+    has_error::<AddressAllocator>(
+        &space_over(&node((16, 18), "Free", &second)),
+        "do not ascend",
+    );
+    let last = node((16, u64::MAX), "Allocated", "null");
+    has_error::<AddressAllocator>(&space_over(&last), "ends at u64::MAX");
+    has_error::<AddressAllocator>(&chain(51), "more than 50 deep");
+    has_error::<IdAllocator>(&IDS.replace("12", "25"), "next_id");
+    has_error::<IdAllocator>(&IDS.replace("23", "4"), "range_end");
+    has_error::<IdAllocator>(&IDS.replace("[6,9]", "[6,12]"), "a freed id");
+    has_error::<IdAllocator>(&IDS.replace("[6,9]", "[9,6]"), "do not ascend");
+    let devices = json(&manager());
+    let version = devices.replace(r#""version":1"#, r#""version":2"#);
+    has_error::<DeviceManager>(&version, "version");
+    has_error::<DeviceManager>(
+        &devices.replace(r#""slots":[{"id":0"#, r#""slots":[{"id":1"#),
+        "devices",
+    );
+    has_error::<DeviceManager>(&devices.replace(r#""height":2"#, r#""height":3"#), "height");
 }
 
 /// Returns a chain of nodes, each the right child of the one before.

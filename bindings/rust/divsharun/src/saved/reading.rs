@@ -1,137 +1,39 @@
-//! Deserializes a value of a given form.
+//! Reads objects. Fields can come in any order, and are checked as they come.
+//!
+//! Only the allocated keys of an address allocator are kept. A subtree that was read is known by
+//! its first and its last address, so a node can be checked once it has its key and both subtrees.
+//! Ids and devices become values for the proved readers.
 
-use super::form::{
-    Form, Structure, MAX_LIST_LEN, MOST_NESTED, NODE, POLICIES, SLOT, STATE, STATES,
+use super::{MAX_LIST_LEN, POLICIES, STATES, TOO_LONG, VERSION};
+use crate::error::{or_abort, out_of_memory};
+use crate::{
+    AddressAllocator, AllocPolicy, DeviceManager, DeviceSlot, IdAllocator, NodeState,
+    RangeInclusive,
 };
-use crate::AllocPolicy;
+use alloc::string::String;
 use alloc::vec::Vec;
 use core::fmt;
 use core::marker::PhantomData;
-use rattle::{Field, Fields, Value};
+use rattle::{Fields, Global, Value};
 use serde::de::{
     DeserializeSeed, EnumAccess, Error, MapAccess, SeqAccess, Unexpected, VariantAccess, Visitor,
 };
 use serde::{Deserialize, Deserializer};
 
-/// The form of a value to read.
+/// The maximum nesting of nodes in a saved tree. Trees of `vm-allocator` are never higher.
+const MAX_NESTING: u32 = 50;
+
+/// The maximum number of allocated keys, as in the proved reader of these trees.
+const MAX_HELD: u64 = 6_293_134_512;
+
+/// Reads a field or a variant as its index. Some formats write the index instead of the name.
 #[derive(Clone, Copy)]
-pub(super) struct Reading {
-    form: &'static Form,
-    // The number of node levels that can still follow.
-    levels: u32,
+struct Name {
+    names: &'static [&'static str],
+    // A match on literals is faster than a search in `names`.
+    find: fn(&str) -> Option<usize>,
+    is_field: bool,
 }
-
-impl Reading {
-    pub(super) fn new(form: &'static Form) -> Self {
-        Reading {
-            form,
-            levels: MOST_NESTED,
-        }
-    }
-
-    /// Returns the reading of a part of this value.
-    fn part(self, form: &'static Form) -> Self {
-        Reading { form, ..self }
-    }
-}
-
-impl<'de> DeserializeSeed<'de> for Reading {
-    type Value = Value;
-
-    fn deserialize<D: Deserializer<'de>>(self, from: D) -> Result<Value, D::Error> {
-        match self.form {
-            Form::Address => u64::deserialize(from).map(Value::from),
-            Form::Id => u32::deserialize(from).map(Value::from),
-            Form::OptionalId => {
-                Option::<u32>::deserialize(from).map(|id| id.map_or(Value::Null, Value::from))
-            }
-            Form::RisingIds => from.deserialize_seq(RisingList::<u32>(PhantomData)),
-            Form::RisingSlots => from.deserialize_seq(RisingList::<Slot>(PhantomData)),
-            Form::State => from.deserialize_enum(STATE, STATES, State),
-            Form::OptionalNode => from.deserialize_option(OptionalNode(self)),
-            Form::Structure(structure) => {
-                let fields = FieldsOf {
-                    structure,
-                    reading: self,
-                };
-                from.deserialize_struct(structure.name, structure.names, fields)
-            }
-        }
-    }
-}
-
-/// Reads a node with its children, or none.
-struct OptionalNode(Reading);
-
-impl<'de> Visitor<'de> for OptionalNode {
-    type Value = Value;
-
-    fn expecting(&self, f: &mut fmt::Formatter<'_>) -> fmt::Result {
-        f.write_str("a node or none")
-    }
-
-    fn visit_none<E>(self) -> Result<Value, E> {
-        Ok(Value::Null)
-    }
-
-    fn visit_unit<E>(self) -> Result<Value, E> {
-        Ok(Value::Null)
-    }
-
-    fn visit_some<D: Deserializer<'de>>(self, from: D) -> Result<Value, D::Error> {
-        let Some(levels) = self.0.levels.checked_sub(1) else {
-            return Err(D::Error::custom("nodes are nested too deep"));
-        };
-        Reading {
-            form: &NODE,
-            levels,
-        }
-        .deserialize(from)
-    }
-}
-
-/// Reads the fields of a structure, either by name or all of them in order.
-struct FieldsOf {
-    structure: &'static Structure,
-    reading: Reading,
-}
-
-impl<'de> Visitor<'de> for FieldsOf {
-    type Value = Value;
-
-    fn expecting(&self, f: &mut fmt::Formatter<'_>) -> fmt::Result {
-        write!(f, "the fields of {}", self.structure.name)
-    }
-
-    fn visit_seq<A: SeqAccess<'de>>(self, mut from: A) -> Result<Value, A::Error> {
-        let mut fields = Vec::new();
-        for (name, form) in self.structure.fields() {
-            let Some(value) = from.next_element_seed(self.reading.part(form))? else {
-                return Err(A::Error::invalid_length(fields.len(), &self));
-            };
-            fields.push((name.into(), value));
-        }
-        Ok(Value::from(Fields::from(fields)))
-    }
-
-    fn visit_map<A: MapAccess<'de>>(self, mut from: A) -> Result<Value, A::Error> {
-        let mut fields: Vec<Field> = Vec::new();
-        while let Some(place) = from.next_key_seed(Name(self.structure.names))? {
-            let (name, form) = (self.structure.names[place], self.structure.forms[place]);
-            if fields.iter().any(|field| field.0 == name) {
-                return Err(A::Error::duplicate_field(name));
-            }
-            let value = from.next_value_seed(self.reading.part(form))?;
-            fields.push((name.into(), value));
-        }
-        // The proved reader rejects a missing field.
-        Ok(Value::from(Fields::from(fields)))
-    }
-}
-
-/// Reads the name of a field or of a state as its index.
-#[derive(Clone, Copy)]
-struct Name(&'static [&'static str]);
 
 impl<'de> DeserializeSeed<'de> for Name {
     type Value = usize;
@@ -141,153 +43,462 @@ impl<'de> DeserializeSeed<'de> for Name {
     }
 }
 
-impl<'de> Visitor<'de> for Name {
+impl Visitor<'_> for Name {
     type Value = usize;
 
     fn expecting(&self, f: &mut fmt::Formatter<'_>) -> fmt::Result {
-        write!(f, "one of {:?}", self.0)
+        write!(f, "one of {:?}", self.names)
     }
 
     fn visit_u64<E: Error>(self, place: u64) -> Result<usize, E> {
         match usize::try_from(place) {
-            Ok(place) if place < self.0.len() => Ok(place),
+            Ok(place) if place < self.names.len() => Ok(place),
             _ => Err(E::invalid_value(Unexpected::Unsigned(place), &self)),
         }
     }
 
     fn visit_str<E: Error>(self, name: &str) -> Result<usize, E> {
-        self.visit_bytes(name.as_bytes())
+        (self.find)(name).ok_or_else(|| match self.is_field {
+            true => E::unknown_field(name, self.names),
+            false => E::unknown_variant(name, self.names),
+        })
     }
 
     fn visit_bytes<E: Error>(self, name: &[u8]) -> Result<usize, E> {
-        let place = self.0.iter().position(|known| known.as_bytes() == name);
-        place.ok_or_else(|| E::invalid_value(Unexpected::Bytes(name), &self))
+        self.visit_str(&String::from_utf8_lossy(name))
     }
 }
 
-/// Reads the state of a node.
+/// Implements the visitor of a structure: its fields with their seeds, and its value.
+///
+/// A seed and the value use the visitor by the name before the fields. A seed can use the fields
+/// that were read before it, which are options.
+macro_rules! structure {
+    (
+        $visitor:ty, $name:literal => $value:ty, $this:ident
+        { $($field:ident: $seed:expr),* } $build:expr
+    ) => {
+        const _: () = {
+            #[allow(non_camel_case_types)]
+            enum Field { $($field),* }
+
+            const FIELD: Name = Name {
+                names: &[$(stringify!($field)),*],
+                find: |name| match name {
+                    $(stringify!($field) => Some(Field::$field as usize),)*
+                    _ => None,
+                },
+                is_field: true,
+            };
+
+            impl<'de> DeserializeSeed<'de> for $visitor {
+                type Value = $value;
+
+                fn deserialize<D: Deserializer<'de>>(self, from: D) -> Result<$value, D::Error> {
+                    from.deserialize_struct($name, FIELD.names, self)
+                }
+            }
+
+            impl<'de> Visitor<'de> for $visitor {
+                type Value = $value;
+
+                fn expecting(&self, f: &mut fmt::Formatter<'_>) -> fmt::Result {
+                    write!(f, "struct {} with {} elements", $name, FIELD.names.len())
+                }
+
+                fn visit_seq<A: SeqAccess<'de>>(mut self, mut from: A) -> Result<$value, A::Error> {
+                    let $this = &mut self;
+                    $(
+                        let $field = from.next_element_seed($seed)?;
+                        if $field.is_none() {
+                            return Err(A::Error::invalid_length(Field::$field as usize, &self));
+                        }
+                    )*
+                    let wrong = A::Error::missing_field;
+                    $(let $field = $field.ok_or_else(|| wrong(stringify!($field)))?;)*
+                    $build
+                }
+
+                fn visit_map<A: MapAccess<'de>>(mut self, mut from: A) -> Result<$value, A::Error> {
+                    let $this = &mut self;
+                    $(let mut $field = None;)*
+                    while let Some(place) = from.next_key_seed(FIELD)? {
+                        $(if place == Field::$field as usize {
+                            if $field.is_some() {
+                                return Err(A::Error::duplicate_field(stringify!($field)));
+                            }
+                            $field = Some(from.next_value_seed($seed)?);
+                        })*
+                    }
+                    let wrong = A::Error::missing_field;
+                    $(let $field = $field.ok_or_else(|| wrong(stringify!($field)))?;)*
+                    $build
+                }
+            }
+        };
+    };
+}
+
+/// Implements `Deserialize` by a visitor.
+macro_rules! read_by {
+    ($($object:ident, $from:ident: $read:expr;)*) => {$(
+        impl<'de> Deserialize<'de> for $object {
+            fn deserialize<D: Deserializer<'de>>($from: D) -> Result<Self, D::Error> {
+                $read
+            }
+        }
+    )*};
+}
+
+read_by! {
+    RangeInclusive, from: Range.deserialize(from);
+    NodeState, from: from.deserialize_enum("NodeState", STATES, State);
+    AllocPolicy, from: from.deserialize_enum("AllocPolicy", POLICIES, Policy);
+    AddressAllocator, from: Space::default().deserialize(from);
+    IdAllocator, from: Ids.deserialize(from);
+    DeviceSlot, from: Slot.deserialize(from);
+    DeviceManager, from: Devices.deserialize(from);
+}
+
+struct Range;
+
+structure!(Range, "RangeInclusive" => RangeInclusive, _this {
+    start: PhantomData::<u64>,
+    end: PhantomData::<u64>
+} RangeInclusive::new(start, end).map_err(A::Error::custom));
+
+const STATE: Name = Name {
+    names: STATES,
+    find: |name| STATES.iter().position(|state| *state == name),
+    is_field: false,
+};
+
 struct State;
 
 impl<'de> Visitor<'de> for State {
-    type Value = Value;
+    type Value = NodeState;
 
     fn expecting(&self, f: &mut fmt::Formatter<'_>) -> fmt::Result {
-        f.write_str("a state of a node")
+        f.write_str("enum NodeState")
     }
 
-    fn visit_enum<A: EnumAccess<'de>>(self, from: A) -> Result<Value, A::Error> {
-        let (place, content) = from.variant_seed(Name(STATES))?;
+    fn visit_enum<A: EnumAccess<'de>>(self, from: A) -> Result<NodeState, A::Error> {
+        let (place, content) = from.variant_seed(STATE)?;
         content.unit_variant()?;
-        Ok(Value::String(STATES[place].into()))
+        Ok([NodeState::Free, NodeState::Allocated][place])
     }
 }
 
-/// Reads a policy.
-pub(super) struct Policy;
+const POLICY: Name = Name {
+    names: POLICIES,
+    find: |name| POLICIES.iter().position(|policy| *policy == name),
+    is_field: false,
+};
+
+struct Policy;
 
 impl<'de> Visitor<'de> for Policy {
     type Value = AllocPolicy;
 
     fn expecting(&self, f: &mut fmt::Formatter<'_>) -> fmt::Result {
-        f.write_str("a policy")
+        f.write_str("enum AllocPolicy")
     }
 
     fn visit_enum<A: EnumAccess<'de>>(self, from: A) -> Result<AllocPolicy, A::Error> {
-        let (place, content) = from.variant_seed(Name(&POLICIES))?;
-        match place {
-            0 => content.unit_variant().map(|()| AllocPolicy::FirstMatch),
-            1 => content.unit_variant().map(|()| AllocPolicy::LastMatch),
-            _ => content.newtype_variant().map(AllocPolicy::ExactMatch),
+        match from.variant_seed(POLICY)? {
+            (0, content) => content.unit_variant().map(|()| AllocPolicy::FirstMatch),
+            (1, content) => content.unit_variant().map(|()| AllocPolicy::LastMatch),
+            (_, content) => content.newtype_variant().map(AllocPolicy::ExactMatch),
         }
+    }
+}
+
+/// The nodes read so far.
+#[derive(Default)]
+struct Nodes {
+    held: Vec<proved::RangeInclusive>,
+    // The nodes that the current node is nested in.
+    depth: u32,
+    count: u64,
+    // The sum of the lengths of all keys. If they share no address, it does not overflow.
+    len: u64,
+    is_unbalanced: bool,
+}
+
+impl Nodes {
+    /// Takes a key before those of its right subtree, or after them if they came first.
+    fn take<E: Error>(&mut self, key: RangeInclusive, state: NodeState) -> Result<(), E> {
+        self.count += 1;
+        self.len = self.len.wrapping_add(key.len());
+        if state == NodeState::Free {
+            return Ok(());
+        }
+        if key.end() == u64::MAX {
+            return Err(E::custom("an allocated key ends at u64::MAX"));
+        }
+        if self.held.len() as u64 == MAX_HELD {
+            return Err(E::custom("more than 6,293,134,512 keys are allocated"));
+        }
+        self.held.push(key.0);
+        Ok(())
+    }
+
+    /// Returns the subtree of a node.
+    fn join<E: Error>(
+        &mut self,
+        key: RangeInclusive,
+        [left, right]: [Option<Span>; 2],
+        height: u64,
+    ) -> Result<Option<Span>, E> {
+        let [low, high] = [left, right].map(|child| child.map_or(0, |child| child.height));
+        let is_balanced = low.abs_diff(high) <= 1;
+        self.is_unbalanced |= !is_balanced || low.max(high).checked_add(1) != Some(height);
+        let is_before = left.is_none_or(|left| left.last < key.start());
+        if !is_before || right.is_some_and(|right| right.first <= key.end()) {
+            return Err(E::custom("the keys do not ascend or share an address"));
+        }
+        let first = left.map_or(key.start(), |left| left.first);
+        let last = right.map_or(key.end(), |right| right.last);
+        Ok(Some(Span {
+            first,
+            last,
+            height,
+        }))
+    }
+}
+
+/// A subtree without its nodes: its first and its last address, and its height as it was read.
+#[derive(Clone, Copy)]
+struct Span {
+    first: u64,
+    last: u64,
+    height: u64,
+}
+
+/// Reads a node with its children, or none.
+struct OptionalNode<'a>(&'a mut Nodes);
+
+impl<'de> DeserializeSeed<'de> for OptionalNode<'_> {
+    type Value = Option<Span>;
+
+    fn deserialize<D: Deserializer<'de>>(self, from: D) -> Result<Option<Span>, D::Error> {
+        from.deserialize_option(self)
+    }
+}
+
+impl<'de> Visitor<'de> for OptionalNode<'_> {
+    type Value = Option<Span>;
+
+    fn expecting(&self, f: &mut fmt::Formatter<'_>) -> fmt::Result {
+        f.write_str("a node or none")
+    }
+
+    fn visit_none<E>(self) -> Result<Option<Span>, E> {
+        Ok(None)
+    }
+
+    fn visit_unit<E>(self) -> Result<Option<Span>, E> {
+        Ok(None)
+    }
+
+    fn visit_some<D: Deserializer<'de>>(self, from: D) -> Result<Option<Span>, D::Error> {
+        if self.0.depth == MAX_NESTING {
+            return Err(D::Error::custom("nodes are nested more than 50 deep"));
+        }
+        self.0.depth += 1;
+        let root = Node(&mut *self.0, false).deserialize(from)?;
+        self.0.depth -= 1;
+        Ok(root)
+    }
+}
+
+/// Reads a node. Its key can be taken before the others are read.
+struct Node<'a>(&'a mut Nodes, bool);
+
+impl Node<'_> {
+    /// Takes the key once.
+    fn take<E: Error>(&mut self, key: RangeInclusive, state: NodeState) -> Result<(), E> {
+        match core::mem::replace(&mut self.1, true) {
+            true => Ok(()),
+            false => self.0.take(key, state),
+        }
+    }
+}
+
+structure!(Node<'_>, "InnerNode" => Option<Span>, this {
+    key: PhantomData::<RangeInclusive>,
+    node_state: PhantomData::<NodeState>,
+    left: OptionalNode(this.0),
+    right: {
+        if let (Some(key), Some(state), true) = (key, node_state, left.is_some()) {
+            this.take::<A::Error>(key, state)?;
+        }
+        OptionalNode(this.0)
+    },
+    height: PhantomData::<u64>
+} {
+    this.take::<A::Error>(key, node_state)?;
+    this.0.join(key, [left, right], height)
+});
+
+struct Tree<'a>(&'a mut Nodes);
+
+structure!(Tree<'_>, "IntervalTree" => Option<Span>, this {
+    root: OptionalNode(this.0)
+} Ok(root));
+
+/// Reads an address allocator.
+#[derive(Default)]
+struct Space {
+    nodes: Nodes,
+    // Whether the tree must be one that the proved code builds.
+    is_strict: bool,
+}
+
+structure!(Space, "AddressAllocator" => AddressAllocator, this {
+    address_space: PhantomData::<RangeInclusive>,
+    interval_tree: Tree(&mut this.nodes)
+} this.finish(address_space, interval_tree));
+
+impl Space {
+    /// Returns the allocator with the allocated keys.
+    fn finish<E: Error>(
+        &mut self,
+        space: RangeInclusive,
+        root: Option<Span>,
+    ) -> Result<AddressAllocator, E> {
+        if root.is_some_and(|root| root.first < space.start() || root.last > space.end()) {
+            return Err(E::custom("a key is outside the space"));
+        }
+        let nodes = &mut self.nodes;
+        // It takes linear time if the fields of the nodes came in order.
+        nodes.held.sort_unstable();
+        let (base, size) = (space.start(), space.len());
+        let read = proved::AddressAllocator::with_held(Global, base, size, &nodes.held);
+        let read = AddressAllocator(or_abort(read).map_err(E::custom)?);
+        if self.is_strict {
+            let blocks = read.held_count() + read.gaps().count() as u64;
+            if nodes.is_unbalanced {
+                return Err(E::custom("the tree is unbalanced, or a height is wrong"));
+            }
+            if nodes.len != size || nodes.count != blocks {
+                return Err(E::custom("the tree has a gap or free neighbours"));
+            }
+        }
+        Ok(read)
     }
 }
 
 /// Reads a list of items with ascending ids.
 ///
-/// It stores the items in their smallest form, and stops at the first one that makes the list
-/// invalid, so untrusted input costs little memory.
-struct RisingList<T>(PhantomData<T>);
+/// It stops at the first item that makes the list invalid, so untrusted input costs little memory.
+struct RisingList<T>(fn(&T) -> u32);
 
-impl<'de, T: Item> Visitor<'de> for RisingList<T> {
-    type Value = Value;
+impl<'de, T: Deserialize<'de>> DeserializeSeed<'de> for RisingList<T> {
+    type Value = Vec<T>;
+
+    fn deserialize<D: Deserializer<'de>>(self, from: D) -> Result<Vec<T>, D::Error> {
+        from.deserialize_seq(self)
+    }
+}
+
+impl<'de, T: Deserialize<'de>> Visitor<'de> for RisingList<T> {
+    type Value = Vec<T>;
 
     fn expecting(&self, f: &mut fmt::Formatter<'_>) -> fmt::Result {
-        write!(f, "a list of at most {MAX_LIST_LEN} ascending ids")
+        f.write_str("a list")
     }
 
-    fn visit_seq<A: SeqAccess<'de>>(self, mut from: A) -> Result<Value, A::Error> {
-        let of_no_use = || A::Error::invalid_value(Unexpected::Seq, &self);
+    fn visit_seq<A: SeqAccess<'de>>(self, mut from: A) -> Result<Vec<T>, A::Error> {
         let mut items: Vec<T> = Vec::new();
-        while let Some(value) = from.next_element_seed(Reading::new(T::FORM))? {
-            let item = T::decode(&value).ok_or_else(of_no_use)?;
-            let rises = items.last().is_none_or(|last| last.id() < item.id());
-            if !rises || items.len() == MAX_LIST_LEN {
-                return Err(of_no_use());
+        while let Some(item) = from.next_element()? {
+            let last = items.last().map(self.0);
+            if last.is_some_and(|last| last >= self.0(&item)) {
+                return Err(A::Error::custom("the ids of a list do not ascend"));
+            }
+            if items.len() == MAX_LIST_LEN {
+                return Err(A::Error::custom(TOO_LONG));
             }
             items.push(item);
         }
-        let values: Vec<Value> = items.iter().map(T::value).collect();
-        Ok(Value::Array(values.into()))
+        Ok(items)
     }
 }
 
-/// An item of a [`RisingList`] in its smallest form.
-pub(super) trait Item: Sized {
-    const FORM: &'static Form;
-
-    /// Converts a value of this form to an item.
-    fn decode(value: &Value) -> Option<Self>;
-    fn id(&self) -> u32;
-    fn value(&self) -> Value;
+/// Returns the value of a list.
+fn list<T>(items: Vec<T>, value: impl Fn(T) -> Value) -> Value {
+    Value::Array(items.into_iter().map(value).collect::<Vec<_>>().into())
 }
 
-impl Item for u32 {
-    const FORM: &'static Form = &Form::Id;
-
-    fn decode(value: &Value) -> Option<Self> {
-        u32::try_from(value.as_u64()?).ok()
-    }
-
-    fn id(&self) -> u32 {
-        *self
-    }
-
-    fn value(&self) -> Value {
-        Value::from(*self)
-    }
-}
-
-/// A device with its range.
-pub(super) struct Slot {
-    pub(super) id: u32,
-    pub(super) start: u64,
-    pub(super) end: u64,
-}
-
-impl Item for Slot {
-    const FORM: &'static Form = &SLOT;
-
-    fn decode(value: &Value) -> Option<Self> {
-        let range = value.get("mmio_range")?;
-        Some(Slot {
-            id: u32::decode(value.get("id")?)?,
-            start: range.get("start")?.as_u64()?,
-            end: range.get("end")?.as_u64()?,
-        })
-    }
-
-    fn id(&self) -> u32 {
-        self.id
-    }
-
-    fn value(&self) -> Value {
-        let range = [("start", self.start.into()), ("end", self.end.into())];
-        object([("id", self.id.into()), ("mmio_range", object(range))])
-    }
-}
-
-/// Returns the object with these fields.
+/// Returns the value of an object with these fields.
 fn object<const N: usize>(fields: [(&str, Value); N]) -> Value {
     let fields = fields.into_iter().map(|(name, value)| (name.into(), value));
     Value::from(fields.collect::<Fields>())
 }
+
+/// Returns the object of a proved reader, or an error with this reason.
+fn decoded<T, E: Error>(read: Result<T, proved::ValueError>, reason: &str) -> Result<T, E> {
+    read.map_err(|error| match error {
+        proved::ValueError::NotAState => E::custom(reason),
+        proved::ValueError::OutOfMemory => out_of_memory(),
+    })
+}
+
+struct Ids;
+
+structure!(Ids, "IdAllocator" => IdAllocator, _this {
+    range_base: PhantomData::<u32>,
+    next_id: PhantomData::<Option<u32>>,
+    range_end: PhantomData::<u32>,
+    freed_ids: RisingList(|id: &u32| *id)
+} {
+    let end = u64::from(range_end);
+    let next = next_id.map_or(1 << 32, u64::from);
+    let reason = if range_base > range_end {
+        "range_base is past range_end"
+    } else if next < range_base.into() || next > end + 1 {
+        "next_id is neither in the range nor right after it"
+    } else {
+        "a freed id is outside the range or not below next_id"
+    };
+    let value = object([
+        ("range_base", range_base.into()),
+        ("next_id", next_id.map_or(Value::Null, Value::from)),
+        ("range_end", range_end.into()),
+        ("freed_ids", list(freed_ids, Value::from)),
+    ]);
+    decoded(proved::IdAllocator::from_value(Global, &value), reason).map(IdAllocator)
+});
+
+struct Slot;
+
+structure!(Slot, "DeviceSlot" => DeviceSlot, _this {
+    id: PhantomData::<u32>,
+    mmio_range: PhantomData::<RangeInclusive>
+} Ok(DeviceSlot { id, range: mmio_range }));
+
+struct Devices;
+
+structure!(Devices, "DeviceManager" => DeviceManager, _this {
+    version: PhantomData::<u64>,
+    id_allocator: PhantomData::<IdAllocator>,
+    mmio_allocator: Space { is_strict: true, ..Space::default() },
+    slots: RisingList(|slot: &DeviceSlot| slot.id)
+} {
+    let reason = match version {
+        VERSION => "the devices do not pair the allocated ids with the allocated ranges",
+        _ => "the version is not 1",
+    };
+    let slot = |DeviceSlot { id, range }| {
+        let range = object([("start", range.start().into()), ("end", range.end().into())]);
+        object([("id", id.into()), ("mmio_range", range)])
+    };
+    let value = object([
+        ("version", version.into()),
+        ("id_allocator", or_abort(id_allocator.0.to_value(Global)).map_err(A::Error::custom)?),
+        ("mmio_allocator", or_abort(mmio_allocator.0.to_value(Global)).map_err(A::Error::custom)?),
+        ("slots", list(slots, slot)),
+    ]);
+    let read = proved_devices::DeviceManager::from_value(Global, &value);
+    decoded(read, reason).map(DeviceManager)
+});
