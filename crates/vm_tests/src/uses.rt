@@ -8,12 +8,9 @@ ghost use Rattle.vm_allocator.specs.Ids.{IsHeld};
 use crate::fixtures::{expect_true, made, range};
 use crate::plugging::replugged;
 use crate::windows::{restored, windows};
-use serde_json::{Value, error::Category};
 use std::alloc::Global;
 use std::process::Abort;
-use vm_allocator::{
-    AddressAllocator, AllocPolicy, Error, IdAllocator, RangeInclusive, Result, ValueError,
-};
+use vm_allocator::{AddressAllocator, AllocPolicy, Error, IdAllocator, RangeInclusive, Result};
 
 /// Allocates a bar, which must start at a multiple of its size.
 #[tactic(auto, using(vm_allocator::proofs::Callers::callers))]
@@ -41,32 +38,6 @@ fn replug(
     memory.allocate(alloc, slot.len(), 1, AllocPolicy::ExactMatch(slot.start()))
 }
 
-/// Writes an allocator as a text, and reads the allocator of that text. It is the same one, node for
-/// node, and parsing the text fails only out of memory.
-#[tactic(auto, using(vm_allocator::proofs::Callers::callers))]
-fn reread(
-    alloc: Global,
-    gap: &AddressAllocator,
-) -> std::result::Result<AddressAllocator, ValueError>
-    ensures { IfOk result (λ again. again ≡ gap.now) }
-{
-    let Ok(saved) = gap.to_value(alloc) else {
-        return Err(ValueError::OutOfMemory);
-    };
-    let Ok(text) = saved.to_string(alloc) else {
-        return Err(ValueError::OutOfMemory);
-    };
-    match Value::from_str(alloc, &text) {
-        Ok(value) => AddressAllocator::from_value(alloc, &value),
-        Err(error) => {
-            if error.classify() != Category::Memory {
-                unreachable!();
-            }
-            Err(ValueError::OutOfMemory)
-        }
-    }
-}
-
 /// Allocates an interrupt number for a device, which no other device has.
 #[tactic(auto, using(vm_allocator::proofs::Callers::callers))]
 fn take_interrupt(numbers: &mut IdAllocator) -> Result<u32>
@@ -87,18 +58,13 @@ fn use_windows(rt: &(impl Abort + AllocGlobal)) {
     expect_true(rt, are_there, &"both windows");
 }
 
-/// Writes and reads a gap, as a value and as a text.
+/// Writes and reads a gap.
 fn use_restored(rt: &(impl Abort + AllocGlobal), gap: &AddressAllocator) {
     let empty = match restored(rt.alloc(), gap) {
         Ok(empty) => empty,
         Err(_) => restored(rt.alloc(), gap).expect(rt, "memory is refused once"),
     };
     expect_true(rt, empty == *gap, &"the same gap");
-    let again = match reread(rt.alloc(), gap) {
-        Ok(again) => again,
-        Err(_) => reread(rt.alloc(), gap).expect(rt, "memory is refused once"),
-    };
-    expect_true(rt, again == *gap, &"the same gap by its text");
 }
 
 /// Allocates a bar in a gap.

@@ -15,6 +15,7 @@ struct Pair {
     first_id: u32,
     space: AddressAllocator,
     table: BTreeMap<u32, RangeInclusive>,
+    starts: BTreeMap<u64, u32>,
     freed: BTreeSet<u32>,
 }
 
@@ -28,6 +29,7 @@ impl Pair {
             first_id: lo,
             space: space.unwrap(),
             table: BTreeMap::new(Global),
+            starts: BTreeMap::new(Global),
             freed: BTreeSet::new(Global),
         }
     }
@@ -46,7 +48,8 @@ impl Pair {
             .pop_first()
             .unwrap_or(self.first_id + self.table.len() as u32);
         let inserted = cost(|| self.table.insert(id, range).unwrap()).1;
-        let device = at_most(&name, &[placed, inserted], reserve);
+        let started = cost(|| self.starts.insert(range.start(), id).unwrap()).1;
+        let device = at_most(&name, &[placed, inserted, started], reserve);
         assert_eq!(device, Ok(DeviceSlot { id, range }));
     }
 
@@ -56,6 +59,7 @@ impl Pair {
         let freed = cost(|| self.space.free(&range).unwrap()).1;
         let inserted = cost(|| self.freed.insert(id).unwrap()).1;
         self.table.remove(&id);
+        self.starts.remove(&range.start());
         at_most(&id, &[freed, inserted], || self.manager.release(id)).unwrap();
         let again = at_most(&id, &[], || self.manager.release(id));
         assert_eq!(again, Err(NeverAllocated(id)));
@@ -109,13 +113,15 @@ fn saved() {
 
         let counted = cost(|| space.held_count()).1;
         let slots = [map(s.held_ids().zip(space.held_ranges())), 0];
-        let starts = [map(space.held_ranges().map(|range| (range.start(), 0u32))), 0];
+        let starts = || space.held_ranges().map(|range| range.start());
+        let seen = [map(starts().map(|start| (start, ()))), 0];
+        let by_start = [map(starts().map(|start| (start, 0u32))), 0];
         let find = |id| assert!(space.holds(&manager.slot(id).unwrap()));
         let found = cost(|| s.held_ids().for_each(find)).1;
-        let parts = [read_ids, read_space, counted, slots, starts, found];
+        let parts = [read_ids, read_space, counted, slots, seen, found, by_start];
         let last_device = format!("/slots/{}", s.held - 1);
         let rows = [
-            ("/version".into(), 1, 6),
+            ("/version".into(), 1, 7),
             (format!("{last_device}/mmio_range/end"), u32::MAX, 6),
             (format!("{last_device}/id"), 0, 4),
             ("/slots".into(), 0, 0),

@@ -359,7 +359,10 @@ fn saved_ids() {
         let (ids, written) = (s.ids().0, object(4) + list(s.held));
         expect(&s, &Ok(written), || ids.to_value(Global));
         let mut value = ids.to_value(Global).unwrap();
-        at_most(&s, &[[map(s.freed_ids().map(|id| (id, ()))), 0]], || read(&value)).unwrap();
+        at_most(&s, &[[map(s.freed_ids().map(|id| (id, ()))), 0]], || {
+            read(&value)
+        })
+        .unwrap();
         let last = format!("/freed_ids/{}", s.held - 1);
         for path in [&last, "/freed_ids", "/range_base", "/range_end", "/next_id"] {
             with_part(&mut value, path, Value::from(-1), |value| {
