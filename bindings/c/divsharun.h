@@ -36,7 +36,7 @@
  * A thread must not be cancelled asynchronously in a call.
  *
  * Memory. If an allocation fails, a call frees what it has allocated and
- * returns DVS_OUT_OF_MEMORY. No call ends the process for want of memory. This
+ * returns DVS_OUT_OF_MEMORY. No call ends the process when memory runs out. This
  * is the last error, except in a call that reads a text or takes an array.
  *
  * Freeing a range, allocating an id and queries do not allocate memory. Reading
