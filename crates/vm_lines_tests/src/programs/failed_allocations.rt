@@ -25,6 +25,7 @@ const REQUESTS_OF_DEVICES: Columns = &[
     "error memory\nerror no-manager\nerror no-manager\nerror no-manager\nerror no-manager\nerror no-manager\n",
     "done\nerror memory\ndevice 0 16 18\ndone\nerror never-allocated 0\ndevice 0 16 16\n",
     "done\nerror memory\ndevice 0 16 18\ndone\nerror never-allocated 0\ndevice 0 16 16\n",
+    "done\nerror memory\ndevice 0 16 18\ndone\nerror never-allocated 0\ndevice 0 16 16\n",
     "done\ndevice 0 16 16\ndevice 1 17 19\nerror memory\ndone\ndevice 0 16 16\n",
 ];
 
@@ -40,15 +41,17 @@ const SPACES_AGAIN: Columns = &[
     "done\ndone\nrange 16 16\nerror state 16 16\ndone\nrange 32 32\ndone\nerror memory\n",
 ];
 
-/// The same for managers, whose devices allocate twice.
+/// The same for managers, whose devices allocate three times.
 const MANAGERS_AGAIN: Columns = &[
     "done\ndone\ndevice 0 16 16\ndone\nerror never-allocated 0\ndone\ndevice 0 32 32\n",
     "error memory\ndone\ndevice 0 16 16\ndone\nerror never-allocated 0\ndone\ndevice 0 32 32\n",
     "done\nerror memory\ndevice 0 16 16\ndone\nerror never-allocated 0\ndone\ndevice 0 32 32\n",
     "done\ndone\nerror memory\nerror never-allocated 0\nerror never-allocated 0\ndone\ndevice 0 32 32\n",
     "done\ndone\nerror memory\nerror never-allocated 0\nerror never-allocated 0\ndone\ndevice 0 32 32\n",
+    "done\ndone\nerror memory\nerror never-allocated 0\nerror never-allocated 0\ndone\ndevice 0 32 32\n",
     "done\ndone\ndevice 0 16 16\nerror memory\ndone\ndone\ndevice 0 32 32\n",
     "done\ndone\ndevice 0 16 16\ndone\nerror never-allocated 0\nerror memory\ndevice 0 16 16\n",
+    "done\ndone\ndevice 0 16 16\ndone\nerror never-allocated 0\ndone\nerror memory\n",
     "done\ndone\ndevice 0 16 16\ndone\nerror never-allocated 0\ndone\nerror memory\n",
     "done\ndone\ndevice 0 16 16\ndone\nerror never-allocated 0\ndone\nerror memory\n",
 ];

@@ -97,6 +97,12 @@ fn listed_without_memory(rt: HostRuntime) {
     let devices = three(&rt);
     fail_from_here(rt.alloc());
     expect_three(&rt, &devices);
+    // Only this call allocates. Its result shows whether the run is without memory.
+    let is_true = match devices.try_clone(rt.alloc()) {
+        Ok(clone) => clone == devices,
+        Err(error) => error == Error::OutOfMemory,
+    };
+    expect_true(&rt, is_true, &"a clone, or no memory for it");
 }
 
 /// Clones a manager. If memory runs out, it repeats the call.
