@@ -33,6 +33,7 @@ pub(crate) fn has_held(tree: &Child, key: &RangeInclusive) -> bool
 /// follows one path from the root.
 #[tactic(auto, using(crate::proofs::Walking::HeldAtAddresses::held_at_address))]
 pub(crate) fn held_at(tree: &Child, address: u64) -> Option<RangeInclusive>
+    requires { height_of (side tree.now) ≤ MAX_HEIGHT }
     ensures { IsRangeAt (held_of (blocks (side tree.now))) address result }
 {
     let Some(node) = tree else { return None };
