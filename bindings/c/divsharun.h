@@ -76,7 +76,7 @@
 #define DVS_VERSION_NUMBER 20000
 #define DVS_VERSION_TEXT "2.0.0"
 
-/* Marks a call whose status says whether its results are written. */
+/* Marks a call that writes its results only if its status is DVS_OK. */
 #ifdef __GNUC__
 #define DVS_WARN_UNUSED __attribute__((warn_unused_result))
 #else
