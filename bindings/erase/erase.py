@@ -360,10 +360,11 @@ class File(Tokens):
             self.cut(index, behind, f"#[derive({', '.join(rest)})]" if rest else "")
 
     def visibility(self, item, index):
-        if not self.at(index, "pub"):
-            return index
-        item.public = not self.at(index + 1, "(")
-        return index + 1 if item.public else self.matching(index + 1)
+        """Reads `pub`, and the `const` of a function. Returns the index after them."""
+        if self.at(index, "pub"):
+            item.public = not self.at(index + 1, "(")
+            index = index + 1 if item.public else self.matching(index + 1)
+        return index + 1 if self.at(index, "const", "fn") else index
 
     def angles(self, index):
         """Reads the generic parameters of an item: lifetimes, and names with bounds. Returns the index

@@ -33,7 +33,7 @@ EDITS = [
     ("code that runs at the end of a scope", RANGE, "impl PartialOrd for", "impl Drop for", "an impl of 'Drop'"),
     ("a call of a law", RANGE, BODY, f"        law();\n{BODY}\n    }}\n}}\nfn law() {{}}\nimpl RangeInclusive {{\n    fn f() {{",
      "a function 'law'"),
-    ("a requires of what anyone may call", CONSTRAINT, "fn is_start_aligned(", "pub fn is_start_aligned(",
+    ("a requires of what anyone may call", CONSTRAINT, "const fn is_start_aligned(", "pub const fn is_start_aligned(",
      "a 'requires' of 'is_start_aligned'"),
     ("a public field of a type with an invariant", RANGE, "    start: u64,\n    end", "    pub start: u64,\n    end",
      "a public field of 'RangeInclusive'"),

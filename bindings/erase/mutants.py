@@ -1,6 +1,7 @@
 """Reads mutants, and applies them to a copy of a project. The lists are tests/test_mutants, whose head
 describes their form, and tests/count_rule_mutants."""
 import os
+import pathlib
 import shutil
 import sys
 from collections import namedtuple
@@ -14,8 +15,7 @@ NOTHING = Mutant("nothing", [], {})
 
 def read(path):
     """Returns the mutants of a list. Empty lines separate them."""
-    with open(path, encoding="utf-8") as file:
-        entries = file.read().split("\n\n")
+    entries = pathlib.Path(path).read_text(encoding="utf-8").split("\n\n")
     found = [[line for line in entry.split("\n") if line and not line.startswith("#")] for entry in entries]
     return [read_entry([line.partition(": ")[::2] for line in lines]) for lines in found if lines]
 
@@ -48,15 +48,12 @@ def apply(mutant, project, copy):
     """Copies the sources of a project, and applies a mutant to the copy. Each old text must occur exactly
     once."""
     shutil.rmtree(copy, ignore_errors=True)
-    for name in os.listdir(os.path.join(project, "crates")):
-        source = os.path.join("crates", name, "src")
-        if os.path.isdir(os.path.join(project, source)):
-            shutil.copytree(os.path.join(project, source), os.path.join(copy, source))
+    others = shutil.ignore_patterns("must-fail", "out", "proofs", "specs")
+    shutil.copytree(os.path.join(project, "crates"), os.path.join(copy, "crates"), ignore=others)
     shutil.copy(os.path.join(project, "crates.txt"), copy)
     for file, old, new in mutant.edits:
         path = os.path.join(copy, "crates", file)
-        with open(path, encoding="utf-8") as source:
-            text = source.read()
+        text = pathlib.Path(path).read_text(encoding="utf-8")
         if text.count(old) != 1:
             sys.exit(f"{mutant.name}: {file} has {text.count(old)} times instead of once: {old}")
         erase.write(path, text.replace(old, new))

@@ -107,7 +107,7 @@ impl IdAllocator {
 
     /// Returns the lowest id of the range.
     #[tactic(auto, unfolding(crate::specs::Ids::ids_of))]
-    pub fn range_base(&self) -> u32
+    pub const fn range_base(&self) -> u32
         ensures { result ≡ self.now.lo }
     {
         self.range_base
@@ -115,7 +115,7 @@ impl IdAllocator {
 
     /// Returns the highest id of the range.
     #[tactic(auto, unfolding(crate::specs::Ids::ids_of))]
-    pub fn range_end(&self) -> u32
+    pub const fn range_end(&self) -> u32
         ensures { result ≡ self.now.hi }
     {
         self.range_end

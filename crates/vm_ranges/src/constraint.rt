@@ -28,7 +28,7 @@ pub enum AllocPolicy {
 /// Returns whether the start of `ExactMatch` is a multiple of the alignment. Returns `true` for the
 /// other policies.
 #[tactic(auto, unfolding(crate::specs::Request::IsStartAligned), using(crate::proofs::Power::low_bits, crate::proofs::Power::alignment_pos))]
-fn is_start_aligned(align: u64, policy: AllocPolicy) -> bool
+const fn is_start_aligned(align: u64, policy: AllocPolicy) -> bool
     requires { IsAlignment align }
     ensures { IsTestOf result (IsStartAligned align policy) }
 {
@@ -72,7 +72,7 @@ impl Constraint {
     /// - `InvalidAlignment` if `align` is not a power of two.
     /// - `UnalignedAddress` if the start of `ExactMatch` is not a multiple of `align`.
     #[tactic(auto, using(crate::proofs::Requests::constrains, crate::proofs::Power::alignment_if_true))]
-    pub fn new(size: u64, align: u64, policy: AllocPolicy) -> Result<Self>
+    pub const fn new(size: u64, align: u64, policy: AllocPolicy) -> Result<Self>
         ensures { MakesConstraint (request_for size align policy) result }
     {
         if size == 0 {
@@ -92,14 +92,14 @@ impl Constraint {
     }
 
     /// Returns the alignment: the first address of the range is a multiple of it.
-    pub fn align(self) -> u64
+    pub const fn align(self) -> u64
         ensures { result ≡ self.align }
     {
         self.align
     }
 
     /// Returns the number of requested addresses.
-    pub fn size(self) -> u64
+    pub const fn size(self) -> u64
         ensures value { result ≡ self.size }
         ensures valid { IsRequest self }
     {
@@ -107,7 +107,7 @@ impl Constraint {
     }
 
     /// Returns the policy that chooses the range.
-    pub fn policy(self) -> AllocPolicy
+    pub const fn policy(self) -> AllocPolicy
         ensures { result ≡ self.policy }
     {
         self.policy

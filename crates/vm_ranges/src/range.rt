@@ -45,7 +45,7 @@ impl RangeInclusive {
     ///
     /// - `InvalidRange(start, end)` if `start` is past `end`, or if the range would contain all
     ///   2^64 addresses.
-    pub fn new(start: u64, end: u64) -> Result<Self>
+    pub const fn new(start: u64, end: u64) -> Result<Self>
         ensures { MakesRange start end result }
     {
         if start > end || (start == 0 && end == u64::MAX) {
@@ -56,7 +56,7 @@ impl RangeInclusive {
 
     /// Returns the number of addresses in the range.
     #[allow(clippy::len_without_is_empty)]
-    pub fn len(&self) -> u64
+    pub const fn len(&self) -> u64
         ensures { result ≡ address_count self.now }
     {
         1 + (self.end - self.start)
@@ -64,7 +64,7 @@ impl RangeInclusive {
 
     /// Returns whether an address is in both ranges.
     #[tactic(auto, using(crate::proofs::RangeCalls::overlappings))]
-    pub fn overlaps(&self, other: &RangeInclusive) -> bool
+    pub const fn overlaps(&self, other: &RangeInclusive) -> bool
         ensures { IsTrue result ↔ Overlaps self.now other.now }
     {
         other.start <= self.end && self.start <= other.end
@@ -72,14 +72,14 @@ impl RangeInclusive {
 
     /// Returns whether every address of `other` is in this range.
     #[tactic(auto, using(crate::proofs::RangeCalls::coverings))]
-    pub fn contains(&self, other: &RangeInclusive) -> bool
+    pub const fn contains(&self, other: &RangeInclusive) -> bool
         ensures { IsTrue result ↔ Covers self.now other.now }
     {
         other.start >= self.start && other.end <= self.end
     }
 
     /// Returns the first address.
-    pub fn start(&self) -> u64
+    pub const fn start(&self) -> u64
         ensures value { result ≡ self.now.start }
         ensures range { IsRange self.now.start self.now.end }
     {
@@ -87,7 +87,7 @@ impl RangeInclusive {
     }
 
     /// Returns the last address.
-    pub fn end(&self) -> u64
+    pub const fn end(&self) -> u64
         ensures value { result ≡ self.now.end }
         ensures range { IsRange self.now.start self.now.end }
     {
