@@ -1,8 +1,8 @@
 //! The two rounds of `speed.c` as direct calls of the Rust crate.
 
+use core::hint::black_box;
+use core::slice;
 use rattle::Global;
-use std::hint::black_box;
-use std::slice;
 use vm_allocator::{AddressAllocator, AllocPolicy, RangeInclusive, Result};
 
 /// A request, as C has it.

@@ -5,8 +5,8 @@ use crate::ids::write_range;
 use crate::ranges::space_of;
 use crate::texts::{read, save};
 use crate::{dvs_range, dvs_refusal, dvs_status, status_of, CallError, Out};
+use core::ffi::{c_char, c_int, c_void};
 use rattle::Global;
-use std::ffi::{c_char, c_int, c_void};
 use vm_allocator::{AllocPolicy, Error};
 use vm_devices::{DeviceManager, DeviceSlot};
 

@@ -1,9 +1,11 @@
 //! The objects that C has pointers to.
 
 use crate::{CallError, Out};
-use std::cell::UnsafeCell;
-use std::ffi::c_int;
-use std::sync::atomic::{AtomicUsize, Ordering};
+use alloc::boxed::Box;
+use alloc::vec::Vec;
+use core::cell::UnsafeCell;
+use core::ffi::c_int;
+use core::sync::atomic::{AtomicUsize, Ordering};
 use vm_allocator::Result as Answer;
 
 /// An object behind a C pointer.

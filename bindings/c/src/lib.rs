@@ -5,23 +5,27 @@
 //! A pointer argument is an `Option` of a reference, which is `None` if the pointer is null.
 //! Otherwise it is valid, as the header requires. A call writes its result last, so an error leaves
 //! it unchanged.
+#![no_std]
 #![deny(unsafe_op_in_unsafe_fn, clippy::undocumented_unsafe_blocks)]
 // Types have the names of the header.
 #![allow(non_camel_case_types)]
+
+extern crate alloc;
 
 mod devices;
 mod handle;
 mod ids;
 mod lists;
 mod ranges;
+mod runtime;
 mod status;
 mod texts;
 #[cfg(feature = "measured")]
 #[path = "../speed/through_rust.rs"]
 mod through_rust;
 
+use core::mem::MaybeUninit;
 use status::{dvs_refusal, dvs_status, status_of, CallError};
-use std::mem::MaybeUninit;
 use vm_allocator::RangeInclusive;
 
 /// The destination of a result.

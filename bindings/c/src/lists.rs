@@ -3,8 +3,9 @@
 use crate::handle::{create, non_null};
 use crate::ranges::dvs_address_allocator;
 use crate::{dvs_range, dvs_refusal, dvs_status, status_of, CallError, Out};
+use alloc::vec::Vec;
+use core::slice;
 use rattle::Global;
-use std::slice;
 use vm_allocator::{AddressAllocator, AllocPolicy, RangeInclusive};
 
 const DVS_FIRST: u32 = 0;

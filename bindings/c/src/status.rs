@@ -1,8 +1,8 @@
 //! The errors of calls, as statuses and details.
 
 use crate::{dvs_range, Out};
+use core::ffi::{c_char, CStr};
 use rattle::TextError;
-use std::ffi::{c_char, CStr};
 use vm_allocator::{Error, ValueError};
 
 /// The result of a call.

@@ -2,10 +2,12 @@
 
 use crate::handle::{non_null, Handle};
 use crate::{CallError, Out};
+use alloc::ffi::CString;
+use alloc::vec::Vec;
+use core::ffi::c_char;
+use core::fmt::{self, Write};
+use core::{slice, str};
 use rattle::{Global, Value};
-use std::ffi::{c_char, CString};
-use std::fmt::{self, Write};
-use std::{slice, str};
 use vm_allocator::ValueError;
 
 /// Writes the text that encodes an object, and its length.

@@ -1,7 +1,6 @@
 //! Replacements for the items of Rattle's library that Rust does not have or defines differently.
 //!
-//! Boxes, vectors and values report a failed allocation, as in Rattle. Sets and maps end the
-//! process, as in Rust.
+//! Boxes, vectors, values, sets and maps report a failed allocation, as in Rattle.
 #![no_std]
 #![forbid(unsafe_code)]
 #![warn(clippy::must_use_candidate)]

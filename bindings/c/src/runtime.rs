@@ -1,0 +1,66 @@
+//! What Rust's `std` does for other libraries: it allocates, and it ends the process after a panic.
+//!
+//! Without `std`, the libraries have a third of the size and need only the C library.
+
+use core::alloc::{GlobalAlloc, Layout};
+use core::arch::global_asm;
+use core::ffi::c_void;
+use core::panic::PanicInfo;
+use core::ptr::null_mut;
+
+#[link(name = "c")]
+extern "C" {
+    fn malloc(size: usize) -> *mut c_void;
+    fn realloc(block: *mut c_void, size: usize) -> *mut c_void;
+    fn free(block: *mut c_void);
+    fn abort() -> !;
+}
+
+/// The memory of the C library.
+struct Memory;
+
+#[global_allocator]
+static MEMORY: Memory = Memory;
+
+/// The alignment of each block that `malloc` returns. No type of the library has a greater one.
+const ALIGNMENT: usize = 2 * size_of::<usize>();
+
+// SAFETY: the functions of the C library keep the contract for alignments up to `ALIGNMENT`. For
+// others the allocation fails.
+unsafe impl GlobalAlloc for Memory {
+    unsafe fn alloc(&self, layout: Layout) -> *mut u8 {
+        match layout.align() <= ALIGNMENT {
+            // SAFETY: `malloc` accepts each size.
+            true => unsafe { malloc(layout.size()) }.cast(),
+            false => null_mut(),
+        }
+    }
+
+    unsafe fn realloc(&self, block: *mut u8, _layout: Layout, size: usize) -> *mut u8 {
+        // SAFETY: the block is from a call of this allocator, so `ALIGNMENT` is enough for it.
+        unsafe { realloc(block.cast(), size) }.cast()
+    }
+
+    unsafe fn dealloc(&self, block: *mut u8, _layout: Layout) {
+        // SAFETY: the block is from a call of this allocator.
+        unsafe { free(block.cast()) };
+    }
+}
+
+/// Ends the process.
+#[panic_handler]
+fn panic(_: &PanicInfo) -> ! {
+    // SAFETY: `abort` requires nothing.
+    unsafe { abort() }
+}
+
+// Another library in the same program can have a function of this name.
+global_asm!(".hidden rust_eh_personality");
+
+/// Ends the process. The unwinder calls it if an exception, `pthread_exit` or a cancellation leaves
+/// a visitor.
+#[unsafe(no_mangle)]
+extern "C" fn rust_eh_personality() -> ! {
+    // SAFETY: `abort` requires nothing.
+    unsafe { abort() }
+}
