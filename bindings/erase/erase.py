@@ -81,7 +81,7 @@ MACROS = {"json", "unreachable"}
 DERIVES = {"Clone", "Copy", "Debug", "Default", "Drop", "Eq", "Error", "Hash", "Ord", "PartialEq", "PartialOrd"}
 # Names that no item of a crate may have, because the tables mean the items of the libraries.
 TAKEN = (PRELUDE | NAMES | NUMBERS | {path.split("::")[0] for path in ASSOCIATED}) - {"Result"}
-TRAITS = {"Eq", "From", "Iterator", "Ord", "PartialEq", "PartialOrd"}
+TRAITS = {"DoubleEndedIterator", "Eq", "From", "Iterator", "Ord", "PartialEq", "PartialOrd"}
 TRAITS_OF_TESTS = {"Read", "Write"}
 ATTRIBUTES = {"allow", "cold", "default", "derive", "error", "inline"}
 KEYWORDS = set("""_ as bool break const continue crate else enum false fn for if impl in let loop match mod

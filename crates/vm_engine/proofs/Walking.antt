@@ -1,3 +1,4 @@
+pub mod BothEnds
 pub mod WalkPaths
 pub mod HeldInTrees
 pub mod HeldAtAddresses

@@ -1,3 +1,4 @@
+pub mod BothEnds
 pub mod Building
 pub mod Changes
 pub mod Place

@@ -23,7 +23,7 @@ ghost use Rattle.vm_engine.specs.Counts.Steps.{Enters, EntersToFree, IsBalancedT
 ghost use Rattle.vm_engine.specs.Tree.SpaceTree.{tree_state, IsSpaceTree, MakesTree};
 
 use crate::Steps;
-use crate::node::walks::Walk;
+use crate::node::walks::both_ends::Blocks;
 use crate::node::walks::copying::copy;
 use crate::node::{Child, InnerNode};
 use std::alloc::Global;
@@ -92,12 +92,12 @@ impl IntervalTree {
         })
     }
 
-    /// Returns an iterator over the blocks, from the lowest to the highest.
-    fn walk(&self) -> Walk<'_>
+    /// Returns an iterator over the blocks, from both ends.
+    fn blocks(&self) -> Blocks<'_>
         ensures value { result ≡ blocks self.now }
         ensures space { IsSpaceTree self.now }
     {
-        Walk::new(&self.root)
+        Blocks::new(&self.root)
     }
 
     /// Returns the root. A tree is never empty.

@@ -497,7 +497,8 @@ impl fmt::Debug for DebugRanges<'_> {
     }
 }
 
-/// An iterator over the allocated ranges of an [`AddressAllocator`], in ascending order.
+/// An iterator over the allocated ranges of an [`AddressAllocator`], in ascending order or from
+/// both ends.
 ///
 /// It is created by [`held_ranges`](AddressAllocator::held_ranges).
 ///
@@ -510,8 +511,10 @@ impl fmt::Debug for DebugRanges<'_> {
 /// let last = space.allocate(0x10, 1, AllocPolicy::LastMatch)?;
 /// let first = space.allocate(0x10, 1, AllocPolicy::FirstMatch)?;
 /// assert!(space.held_ranges().eq([first, last]));
+/// assert!(space.held_ranges().rev().eq([last, first]));
 /// # Ok::<(), divsharun::Error>(())
 /// ```
+#[derive(Clone)]
 pub struct HeldRanges<'a>(proved::HeldRanges<'a>);
 
 impl Iterator for HeldRanges<'_> {
@@ -519,6 +522,12 @@ impl Iterator for HeldRanges<'_> {
 
     fn next(&mut self) -> Option<RangeInclusive> {
         self.0.next().map(RangeInclusive)
+    }
+}
+
+impl DoubleEndedIterator for HeldRanges<'_> {
+    fn next_back(&mut self) -> Option<RangeInclusive> {
+        self.0.next_back().map(RangeInclusive)
     }
 }
 
@@ -540,8 +549,9 @@ impl<'a> IntoIterator for &'a AddressAllocator {
     }
 }
 
-/// An iterator over the gaps of an [`AddressAllocator`], in ascending order. It is created by
-/// [`gaps`](AddressAllocator::gaps).
+/// An iterator over the gaps of an [`AddressAllocator`], in ascending order or from both ends. It is
+/// created by [`gaps`](AddressAllocator::gaps).
+#[derive(Clone)]
 pub struct Gaps<'a>(proved::Gaps<'a>);
 
 impl Iterator for Gaps<'_> {
@@ -549,6 +559,12 @@ impl Iterator for Gaps<'_> {
 
     fn next(&mut self) -> Option<RangeInclusive> {
         self.0.next().map(RangeInclusive)
+    }
+}
+
+impl DoubleEndedIterator for Gaps<'_> {
+    fn next_back(&mut self) -> Option<RangeInclusive> {
+        self.0.next_back().map(RangeInclusive)
     }
 }
 

@@ -1,5 +1,4 @@
-use crate::error::or_abort;
-use crate::Result;
+use crate::{Error, Result};
 use core::fmt;
 
 /// The range that [`allocate`](crate::AddressAllocator::allocate) chooses if several fit. The
@@ -30,7 +29,7 @@ pub enum AllocPolicy {
 impl AllocPolicy {
     /// Converts a policy of the proved code.
     #[inline(always)]
-    fn of(policy: proved::AllocPolicy) -> AllocPolicy {
+    const fn of(policy: proved::AllocPolicy) -> AllocPolicy {
         match policy {
             proved::AllocPolicy::FirstMatch => AllocPolicy::FirstMatch,
             proved::AllocPolicy::LastMatch => AllocPolicy::LastMatch,
@@ -40,7 +39,7 @@ impl AllocPolicy {
 
     /// Converts to a policy of the proved code.
     #[inline(always)]
-    pub(crate) fn proved(self) -> proved::AllocPolicy {
+    pub(crate) const fn proved(self) -> proved::AllocPolicy {
         match self {
             AllocPolicy::FirstMatch => proved::AllocPolicy::FirstMatch,
             AllocPolicy::LastMatch => proved::AllocPolicy::LastMatch,
@@ -83,25 +82,31 @@ impl Constraint {
     /// - `InvalidSize(0)` if `size` is 0.
     /// - `InvalidAlignment` if `align` is not a power of two.
     /// - `UnalignedAddress` if `policy` is `ExactMatch` and its start is not a multiple of `align`.
-    pub fn new(size: u64, align: u64, policy: AllocPolicy) -> Result<Self> {
-        or_abort(proved::Constraint::new(size, align, policy.proved())).map(Constraint)
+    pub const fn new(size: u64, align: u64, policy: AllocPolicy) -> Result<Self> {
+        match proved::Constraint::new(size, align, policy.proved()) {
+            Ok(request) => Ok(Constraint(request)),
+            Err(proved::Error::InvalidAlignment) => Err(Error::InvalidAlignment),
+            Err(proved::Error::UnalignedAddress) => Err(Error::UnalignedAddress),
+            // The third error of the call.
+            Err(_) => Err(Error::InvalidSize(size)),
+        }
     }
 
     /// Returns the alignment of the first address.
     #[must_use]
-    pub fn align(self) -> u64 {
+    pub const fn align(self) -> u64 {
         self.0.align()
     }
 
     /// Returns the number of requested addresses.
     #[must_use]
-    pub fn size(self) -> u64 {
+    pub const fn size(self) -> u64 {
         self.0.size()
     }
 
     /// Returns the policy that chooses the range.
     #[must_use]
-    pub fn policy(self) -> AllocPolicy {
+    pub const fn policy(self) -> AllocPolicy {
         AllocPolicy::of(self.0.policy())
     }
 }

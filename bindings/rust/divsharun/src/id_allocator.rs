@@ -93,13 +93,13 @@ impl IdAllocator {
 
     /// Returns the first id of the range.
     #[must_use]
-    pub fn range_base(&self) -> u32 {
+    pub const fn range_base(&self) -> u32 {
         self.0.range_base()
     }
 
     /// Returns the last id of the range.
     #[must_use]
-    pub fn range_end(&self) -> u32 {
+    pub const fn range_end(&self) -> u32 {
         self.0.range_end()
     }
 

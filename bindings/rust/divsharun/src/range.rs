@@ -1,4 +1,3 @@
-use crate::error::or_abort;
 use crate::{Error, Result};
 use core::{fmt, ops};
 
@@ -38,31 +37,35 @@ impl RangeInclusive {
     ///
     /// - `InvalidRange(start, end)` if `start` is past `end`, or if the range would have all 2^64
     ///   addresses.
-    pub fn new(start: u64, end: u64) -> Result<Self> {
-        or_abort(proved::RangeInclusive::new(start, end)).map(RangeInclusive)
+    pub const fn new(start: u64, end: u64) -> Result<Self> {
+        match proved::RangeInclusive::new(start, end) {
+            Ok(range) => Ok(RangeInclusive(range)),
+            // The only error of the call.
+            Err(_) => Err(Error::InvalidRange(start, end)),
+        }
     }
 
     /// Returns the number of addresses in the range.
     #[must_use]
-    pub fn len(&self) -> u64 {
+    pub const fn len(&self) -> u64 {
         self.0.len()
     }
 
     /// Returns whether both ranges share an address.
     #[must_use]
-    pub fn overlaps(&self, other: &RangeInclusive) -> bool {
+    pub const fn overlaps(&self, other: &RangeInclusive) -> bool {
         self.0.overlaps(&other.0)
     }
 
     /// Returns whether every address of `other` is in the range.
     #[must_use]
-    pub fn contains(&self, other: &RangeInclusive) -> bool {
+    pub const fn contains(&self, other: &RangeInclusive) -> bool {
         self.0.contains(&other.0)
     }
 
     /// Returns whether the address is in the range.
     #[must_use]
-    pub fn contains_address(&self, address: u64) -> bool {
+    pub const fn contains_address(&self, address: u64) -> bool {
         self.start() <= address && address <= self.end()
     }
 
@@ -75,13 +78,13 @@ impl RangeInclusive {
 
     /// Returns the first address.
     #[must_use]
-    pub fn start(&self) -> u64 {
+    pub const fn start(&self) -> u64 {
         self.0.start()
     }
 
     /// Returns the last address.
     #[must_use]
-    pub fn end(&self) -> u64 {
+    pub const fn end(&self) -> u64 {
         self.0.end()
     }
 }

@@ -39,6 +39,30 @@ impl Model {
     }
 }
 
+/// Takes all items from one end or the other, and returns them in order.
+fn from_both_ends(
+    mut items: impl DoubleEndedIterator<Item = RangeInclusive>,
+    draw: &mut Draw,
+) -> Vec<RangeInclusive> {
+    let (mut lower, mut upper) = (Vec::new(), Vec::new());
+    loop {
+        let from_below = draw.below(2) == 0;
+        let next = if from_below {
+            items.next()
+        } else {
+            items.next_back()
+        };
+        match next {
+            Some(item) if from_below => lower.push(item),
+            Some(item) => upper.push(item),
+            None => break,
+        }
+    }
+    assert_eq!((items.next(), items.next_back()), (None, None));
+    lower.extend(upper.into_iter().rev());
+    lower
+}
+
 #[test]
 fn answers_are_those_of_a_plain_model() {
     let mut draw = Draw(1);
@@ -74,6 +98,11 @@ fn answers_are_those_of_a_plain_model() {
     }
     held.sort();
     assert!(space.held_ranges().eq(held.iter().copied()));
+    let gaps: Vec<_> = space.gaps().collect();
+    for _ in 0..100 {
+        assert_eq!(from_both_ends(space.held_ranges(), &mut draw), held);
+        assert_eq!(from_both_ends(space.gaps(), &mut draw), gaps);
+    }
     let created = AddressAllocator::with_held(BASE, WIDTH as u64, &held);
     assert_eq!(created, Ok(space));
 }
@@ -158,7 +187,10 @@ fn held_ranges_can_be_asked_for() {
     let mut space = AddressAllocator::new(0, 8).unwrap();
     let first = space.allocate(2, 1, AllocPolicy::FirstMatch).unwrap();
     let second = space.allocate(2, 1, AllocPolicy::FirstMatch).unwrap();
-    assert_eq!(space.held_ranges().collect::<Vec<_>>(), [first, second]);
+    let mut ranges = space.held_ranges();
+    assert_eq!(ranges.clone().collect::<Vec<_>>(), [first, second]);
+    assert_eq!(ranges.next(), Some(first));
+    assert_eq!(ranges.clone().collect::<Vec<_>>(), [second]);
     assert!(space.holds(&first));
     for (start, end) in [(0, 0), (0, 3), (4, 7)] {
         assert!(!space.holds(&RangeInclusive::new(start, end).unwrap()));
@@ -324,6 +356,8 @@ fn ranges_convert_and_are_written_in_hexadecimal() {
     assert_eq!(ends, 0xd000_0000..=0xd000_0fff);
     assert_eq!(RangeInclusive::try_from(ends), Ok(range));
 
+    const REFUSED: Result<RangeInclusive, Error> = RangeInclusive::new(8, 7);
+    assert_eq!(REFUSED, Err(Error::InvalidRange(8, 7)));
     let refused = |start, end| Err(Error::InvalidRange(start, end));
     // Clippy finds this range empty, as it is.
     #[allow(clippy::reversed_empty_ranges)]

@@ -1,6 +1,7 @@
 -- The free blocks of a tree: their ranges, the longest one, and the number of their addresses.
 use Rattle.std.proofs.Common.{◌≡◌, ℕ, ◌+◌, ◌<◌, ◌≤◌, max, List, [], ◌∷◌, ◌++◌, refl, sym, ap, ◌∙◌, arith, append_assoc, ⊎_elim}
 use Rattle.std.proofs.lemmas.Bool.{cases_lt}
+use Rattle.std.proofs.lemmas.List.{append-nil}
 use Rattle.vm_ranges.specs.Range.{Range, MAX, address_count}
 use Rattle.vm_engine.specs.Tree.Block.{Block, free_length}
 use Rattle.vm_engine.specs.Tree.Blocks.{Tiles, TilesSpace}
@@ -24,6 +25,14 @@ free_of-append [] ys = refl
 free_of-append (b ∷ bs) ys =
     ap (λ (v : List Range). range_if_free b.state b.key ++ v) (free_of-append bs ys)
     ∙ sym (append_assoc (range_if_free b.state b.key) (free_of bs) (free_of ys))
+
+pub free_of-last_held : (bs : List Block) (b : Block) → b.state ≡ Allocated → free_of (bs ++ b ∷ []) ≡ free_of bs
+free_of-last_held bs b e = free_of-append bs (b ∷ []) ∙ ap (λ (v : List Range). free_of bs ++ v) (free_of-held b [] e) ∙ append-nil (free_of bs)
+
+pub free_of-last_free : (bs : List Block) (b : Block) → b.state ≡ Free → free_of (bs ++ b ∷ []) ≡ free_of bs ++ b.key ∷ []
+free_of-last_free bs b e = free_of-append bs (b ∷ []) ∙ ap (λ (v : List Range). free_of bs ++ v) (free_of-free b [] e)
+
+pub ruleset free_of_last = (free_of-last_held, free_of-last_free)
 
 -- ---- The number of their addresses
 count_of-append : (xs ys : List Range) → count_of (xs ++ ys) ≡ count_of xs + count_of ys

@@ -1,5 +1,6 @@
 -- The held blocks of a tree: the search by a key, and their number.
 use Rattle.std.proofs.Common.{◌≡◌, ◌+◌, ◌^◌, ◌<◌, ◌≤◌, List, [], ◌∷◌, ◌++◌, length, refl, sym, ap, ◌∙◌, arith, append_assoc, length-append, ⊎_elim, ◌↔◌, Bool, IsTrue, Some}
+use Rattle.std.proofs.lemmas.List.{append-nil}
 use Rattle.vm_ranges.specs.Range.{Range}
 use Rattle.vm_engine.specs.Tree.Block.{Block, held_block}
 use Rattle.vm_engine.specs.Tree.Blocks.{range_if_held, held_of}
@@ -16,6 +17,15 @@ held_of-append [] ys = refl
 held_of-append (b ∷ bs) ys =
     ap (λ (v : List Range). range_if_held b.state b.key ++ v) (held_of-append bs ys)
     ∙ sym (append_assoc (range_if_held b.state b.key) (held_of bs) (held_of ys))
+
+-- The last block comes last.
+pub held_of-last_free : (bs : List Block) (b : Block) → b.state ≡ Free → held_of (bs ++ b ∷ []) ≡ held_of bs
+held_of-last_free bs b e = held_of-append bs (b ∷ []) ∙ ap (λ (v : List Range). held_of bs ++ v) (held_of-free b [] e) ∙ append-nil (held_of bs)
+
+pub held_of-last_held : (bs : List Block) (b : Block) → b.state ≡ Allocated → held_of (bs ++ b ∷ []) ≡ held_of bs ++ b.key ∷ []
+held_of-last_held bs b e = held_of-append bs (b ∷ []) ∙ ap (λ (v : List Range). held_of bs ++ v) (held_of-held b [] e)
+
+pub ruleset held_of_last = (held_of-last_free, held_of-last_held)
 
 length-held_of : (xs ys : List Block) → length (held_of (xs ++ ys)) ≡ length (held_of xs) + length (held_of ys)
 length-held_of xs ys = ap length (held_of-append xs ys) ∙ length-append (held_of xs) (held_of ys)

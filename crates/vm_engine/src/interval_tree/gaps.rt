@@ -3,22 +3,22 @@
 //!
 //! A gap is a run of free addresses with no free address next to it. Each free block is a gap.
 ghost use Rattle.std.specs.Prelude.{◌≡◌};
-ghost use Rattle.std.specs.Iterator.{YieldsFirst, item_count};
+ghost use Rattle.std.specs.Iterator.{YieldsFirst, YieldsLast, item_count};
 ghost use Rattle.vm_engine.specs.Queries.{gaps_of, longest_of, count_of};
 ghost use Rattle.vm_engine.specs.Tree.SpaceTree.{tree_state};
 
 use super::IntervalTree;
-use crate::node::walks::Walk;
+use crate::node::walks::both_ends::Blocks;
 use crate::node::walks::gaps::count_clear;
 use std::marker::Model;
 use vm_ranges::{NodeState, RangeInclusive};
 
-/// An iterator over the gaps, from the lowest to the highest. It does not allocate.
+/// An iterator over the gaps, from the lowest to the highest, or backwards. It does not allocate.
 ///
 /// Its model is the list of the gaps that it has not returned yet.
-#[derive(Drop)]
+#[derive(Clone, Drop)]
 pub struct Gaps<'a> {
-    walk: Walk<'a>,
+    blocks: Blocks<'a>,
 }
 
 impl<'a> Model for Gaps<'a> {
@@ -28,7 +28,7 @@ impl<'a> Model for Gaps<'a> {
 
     ghost Value = { List Range };
 
-    ghost view = { λ g. free_of g.walk };
+    ghost view = { λ g. free_of g.blocks };
 }
 
 impl<'a> Iterator for Gaps<'a> {
@@ -38,10 +38,25 @@ impl<'a> Iterator for Gaps<'a> {
 
     ghost remaining = { item_count (λ g. g) };
 
-    /// Returns the next gap.
+    /// Returns the lowest gap that is left.
     #[tactic(auto, using(crate::proofs::Walking::GapsInTrees::free_of_first))]
     fn next(&mut self) -> Option<RangeInclusive> {
-        while let Some(block) = self.walk.next() {
+        while let Some(block) = self.blocks.next() {
+            if block.state == NodeState::Free {
+                return Some(block.key);
+            }
+        }
+        None
+    }
+}
+
+impl<'a> DoubleEndedIterator for Gaps<'a> {
+    ghost next_back_gives = { YieldsLast (λ g. g) };
+
+    /// Returns the highest gap that is left.
+    #[tactic(auto, using(crate::proofs::Walking::GapsInTrees::free_of_last))]
+    fn next_back(&mut self) -> Option<RangeInclusive> {
+        while let Some(block) = self.blocks.next_back() {
             if block.state == NodeState::Free {
                 return Some(block.key);
             }
@@ -56,7 +71,9 @@ impl IntervalTree {
     pub fn gaps(&self) -> Gaps<'_>
         ensures { result ≡ gaps_of (tree_state self.now) }
     {
-        Gaps { walk: self.walk() }
+        Gaps {
+            blocks: self.blocks(),
+        }
     }
 
     /// Returns the length of the longest gap in addresses, or 0 if no address is free.

@@ -4,22 +4,23 @@
 //! them.
 ghost use Rattle.std.specs.Prelude.{◌≡◌, ◌↔◌, IsTrue, length};
 ghost use Rattle.std.specs.List.{Contains};
-ghost use Rattle.std.specs.Iterator.{YieldsFirst, item_count};
+ghost use Rattle.std.specs.Iterator.{YieldsFirst, YieldsLast, item_count};
 ghost use Rattle.vm_engine.specs.Queries.{IsHeldAt};
 ghost use Rattle.vm_engine.specs.Tree.SpaceTree.{tree_state};
 
 use super::IntervalTree;
-use crate::node::walks::Walk;
+use crate::node::walks::both_ends::Blocks;
 use crate::node::walks::held::{count_held, has_held, held_at};
 use std::marker::Model;
 use vm_ranges::{NodeState, RangeInclusive};
 
-/// An iterator over the allocated ranges, from the lowest to the highest. It does not allocate.
+/// An iterator over the allocated ranges, from the lowest to the highest, or backwards. It does not
+/// allocate.
 ///
 /// Its model is the list of the ranges that it has not returned yet.
-#[derive(Drop)]
+#[derive(Clone, Drop)]
 pub struct HeldRanges<'a> {
-    walk: Walk<'a>,
+    blocks: Blocks<'a>,
 }
 
 impl<'a> Model for HeldRanges<'a> {
@@ -29,7 +30,7 @@ impl<'a> Model for HeldRanges<'a> {
 
     ghost Value = { List Range };
 
-    ghost view = { λ h. held_of h.walk };
+    ghost view = { λ h. held_of h.blocks };
 }
 
 impl<'a> Iterator for HeldRanges<'a> {
@@ -39,10 +40,25 @@ impl<'a> Iterator for HeldRanges<'a> {
 
     ghost remaining = { item_count (λ h. h) };
 
-    /// Returns the next allocated range.
+    /// Returns the lowest allocated range that is left.
     #[tactic(auto, using(crate::proofs::Blocks::OneList::held_of_first))]
     fn next(&mut self) -> Option<RangeInclusive> {
-        while let Some(block) = self.walk.next() {
+        while let Some(block) = self.blocks.next() {
+            if block.state == NodeState::Allocated {
+                return Some(block.key);
+            }
+        }
+        None
+    }
+}
+
+impl<'a> DoubleEndedIterator for HeldRanges<'a> {
+    ghost next_back_gives = { YieldsLast (λ h. h) };
+
+    /// Returns the highest allocated range that is left.
+    #[tactic(auto, using(crate::proofs::Walking::HeldInTrees::held_of_last))]
+    fn next_back(&mut self) -> Option<RangeInclusive> {
+        while let Some(block) = self.blocks.next_back() {
             if block.state == NodeState::Allocated {
                 return Some(block.key);
             }
@@ -57,7 +73,9 @@ impl IntervalTree {
     pub fn held_ranges(&self) -> HeldRanges<'_>
         ensures { result ≡ (tree_state self.now).held }
     {
-        HeldRanges { walk: self.walk() }
+        HeldRanges {
+            blocks: self.blocks(),
+        }
     }
 
     /// Returns `true` if exactly this range is allocated.

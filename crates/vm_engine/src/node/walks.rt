@@ -8,7 +8,9 @@ ghost use Rattle.std.specs.Iterator.{YieldsFirst, item_count};
 ghost use Rattle.vm_engine.specs.Tree.Shape.{MAX_HEIGHT, blocks, height_of};
 ghost use Rattle.vm_engine.specs.Engine.NodeFields.{side};
 ghost use Rattle.vm_engine.specs.Engine.Walks.{remaining_blocks, Fits};
+ghost use Rattle.vm_engine.specs.Engine.BothEnds.{first_of};
 
+pub(crate) mod both_ends;
 pub(crate) mod comparing;
 pub(crate) mod copying;
 pub(crate) mod encoding;
@@ -49,7 +51,7 @@ fn descend<'a>(path: &mut [&'a Child; MAX_PATH], mut at: usize, mut tree: &'a Ch
 ///
 /// `path[from..]` has the nodes on the current path whose blocks were not returned yet, the next
 /// one first. The model is the list of all blocks that were not returned yet.
-#[derive(Drop)]
+#[derive(Clone, Drop)]
 pub(crate) struct Walk<'a> {
     path: [&'a Child; MAX_PATH],
     from: usize,
@@ -76,6 +78,18 @@ impl<'a> Walk<'a> {
         let mut path = [tree; MAX_PATH];
         let from = descend(&mut path, MAX_PATH, tree);
         Walk { path, from }
+    }
+
+    /// Returns the next block, and leaves it.
+    fn peek(&self) -> Option<Block>
+        ensures { result ≡ first_of self.now }
+    {
+        let side = *self.path.get(self.from)?;
+        let Some(node) = side else { return None };
+        Some(Block {
+            key: node.key,
+            state: node.node_state,
+        })
     }
 }
 

@@ -68,12 +68,12 @@ impl IdAllocator {
     }
 
     /// Returns the lowest id of the range.
-    pub fn range_base(&self) -> u32 {
+    pub const fn range_base(&self) -> u32 {
         self.range_base
     }
 
     /// Returns the highest id of the range.
-    pub fn range_end(&self) -> u32 {
+    pub const fn range_end(&self) -> u32 {
         self.range_end
     }
 

@@ -17,7 +17,7 @@
 
 use rattle::Box;
 use crate::Steps;
-use crate::node::walks::Walk;
+use crate::node::walks::both_ends::Blocks;
 use crate::node::walks::copying::copy;
 use crate::node::{Child, InnerNode};
 use rattle::Global;
@@ -62,9 +62,9 @@ impl IntervalTree {
         })
     }
 
-    /// Returns an iterator over the blocks, from the lowest to the highest.
-    fn walk(&self) -> Walk<'_> {
-        Walk::new(&self.root)
+    /// Returns an iterator over the blocks, from both ends.
+    fn blocks(&self) -> Blocks<'_> {
+        Blocks::new(&self.root)
     }
 
     /// Returns the root. A tree is never empty.

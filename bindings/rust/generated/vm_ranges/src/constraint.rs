@@ -24,7 +24,7 @@ pub enum AllocPolicy {
 
 /// Returns whether the start of `ExactMatch` is a multiple of the alignment. Returns `true` for the
 /// other policies.
-fn is_start_aligned(align: u64, policy: AllocPolicy) -> bool {
+const fn is_start_aligned(align: u64, policy: AllocPolicy) -> bool {
     match policy {
         AllocPolicy::ExactMatch(start) => start & (align - 1) == 0,
         AllocPolicy::FirstMatch => true,
@@ -52,7 +52,7 @@ impl Constraint {
     /// - `InvalidSize(0)` if `size` is 0.
     /// - `InvalidAlignment` if `align` is not a power of two.
     /// - `UnalignedAddress` if the start of `ExactMatch` is not a multiple of `align`.
-    pub fn new(size: u64, align: u64, policy: AllocPolicy) -> Result<Self> {
+    pub const fn new(size: u64, align: u64, policy: AllocPolicy) -> Result<Self> {
         if size == 0 {
             return Err(Error::InvalidSize(0));
         }
@@ -70,17 +70,17 @@ impl Constraint {
     }
 
     /// Returns the alignment: the first address of the range is a multiple of it.
-    pub fn align(self) -> u64 {
+    pub const fn align(self) -> u64 {
         self.align
     }
 
     /// Returns the number of requested addresses.
-    pub fn size(self) -> u64 {
+    pub const fn size(self) -> u64 {
         self.size
     }
 
     /// Returns the policy that chooses the range.
-    pub fn policy(self) -> AllocPolicy {
+    pub const fn policy(self) -> AllocPolicy {
         self.policy
     }
 }

@@ -24,7 +24,7 @@ impl RangeInclusive {
     ///
     /// - `InvalidRange(start, end)` if `start` is past `end`, or if the range would contain all
     ///   2^64 addresses.
-    pub fn new(start: u64, end: u64) -> Result<Self> {
+    pub const fn new(start: u64, end: u64) -> Result<Self> {
         if start > end || (start == 0 && end == u64::MAX) {
             return Err(Error::InvalidRange(start, end));
         }
@@ -33,27 +33,27 @@ impl RangeInclusive {
 
     /// Returns the number of addresses in the range.
     #[allow(clippy::len_without_is_empty)]
-    pub fn len(&self) -> u64 {
+    pub const fn len(&self) -> u64 {
         1 + (self.end - self.start)
     }
 
     /// Returns whether an address is in both ranges.
-    pub fn overlaps(&self, other: &RangeInclusive) -> bool {
+    pub const fn overlaps(&self, other: &RangeInclusive) -> bool {
         other.start <= self.end && self.start <= other.end
     }
 
     /// Returns whether every address of `other` is in this range.
-    pub fn contains(&self, other: &RangeInclusive) -> bool {
+    pub const fn contains(&self, other: &RangeInclusive) -> bool {
         other.start >= self.start && other.end <= self.end
     }
 
     /// Returns the first address.
-    pub fn start(&self) -> u64 {
+    pub const fn start(&self) -> u64 {
         self.start
     }
 
     /// Returns the last address.
-    pub fn end(&self) -> u64 {
+    pub const fn end(&self) -> u64 {
         self.end
     }
 }

@@ -6,24 +6,37 @@
 //! A gap is a run of free addresses with no free address next to it. Each free block is a gap.
 
 use super::IntervalTree;
-use crate::node::walks::Walk;
+use crate::node::walks::both_ends::Blocks;
 use crate::node::walks::gaps::count_clear;
 use vm_ranges::{NodeState, RangeInclusive};
 
-/// An iterator over the gaps, from the lowest to the highest. It does not allocate.
+/// An iterator over the gaps, from the lowest to the highest, or backwards. It does not allocate.
 ///
 /// Its model is the list of the gaps that it has not returned yet.
+#[derive(Clone)]
 pub struct Gaps<'a> {
-    walk: Walk<'a>,
+    blocks: Blocks<'a>,
 }
 
 impl<'a> Iterator for Gaps<'a> {
     type Item = RangeInclusive;
 
-    /// Returns the next gap.
+    /// Returns the lowest gap that is left.
     #[allow(clippy::while_let_on_iterator)]
     fn next(&mut self) -> Option<RangeInclusive> {
-        while let Some(block) = self.walk.next() {
+        while let Some(block) = self.blocks.next() {
+            if block.state == NodeState::Free {
+                return Some(block.key);
+            }
+        }
+        None
+    }
+}
+
+impl<'a> DoubleEndedIterator for Gaps<'a> {
+    /// Returns the highest gap that is left.
+    fn next_back(&mut self) -> Option<RangeInclusive> {
+        while let Some(block) = self.blocks.next_back() {
             if block.state == NodeState::Free {
                 return Some(block.key);
             }
@@ -35,7 +48,9 @@ impl<'a> Iterator for Gaps<'a> {
 impl IntervalTree {
     /// Returns an iterator over the gaps, from the lowest to the highest. It does not allocate.
     pub fn gaps(&self) -> Gaps<'_> {
-        Gaps { walk: self.walk() }
+        Gaps {
+            blocks: self.blocks(),
+        }
     }
 
     /// Returns the length of the longest gap in addresses, or 0 if no address is free.

@@ -6,24 +6,38 @@
 //! them.
 
 use super::IntervalTree;
-use crate::node::walks::Walk;
+use crate::node::walks::both_ends::Blocks;
 use crate::node::walks::held::{count_held, has_held, held_at};
 use vm_ranges::{NodeState, RangeInclusive};
 
-/// An iterator over the allocated ranges, from the lowest to the highest. It does not allocate.
+/// An iterator over the allocated ranges, from the lowest to the highest, or backwards. It does not
+/// allocate.
 ///
 /// Its model is the list of the ranges that it has not returned yet.
+#[derive(Clone)]
 pub struct HeldRanges<'a> {
-    walk: Walk<'a>,
+    blocks: Blocks<'a>,
 }
 
 impl<'a> Iterator for HeldRanges<'a> {
     type Item = RangeInclusive;
 
-    /// Returns the next allocated range.
+    /// Returns the lowest allocated range that is left.
     #[allow(clippy::while_let_on_iterator)]
     fn next(&mut self) -> Option<RangeInclusive> {
-        while let Some(block) = self.walk.next() {
+        while let Some(block) = self.blocks.next() {
+            if block.state == NodeState::Allocated {
+                return Some(block.key);
+            }
+        }
+        None
+    }
+}
+
+impl<'a> DoubleEndedIterator for HeldRanges<'a> {
+    /// Returns the highest allocated range that is left.
+    fn next_back(&mut self) -> Option<RangeInclusive> {
+        while let Some(block) = self.blocks.next_back() {
             if block.state == NodeState::Allocated {
                 return Some(block.key);
             }
@@ -36,7 +50,9 @@ impl IntervalTree {
     /// Returns an iterator over the allocated ranges, from the lowest to the highest. It does not
     /// allocate.
     pub fn held_ranges(&self) -> HeldRanges<'_> {
-        HeldRanges { walk: self.walk() }
+        HeldRanges {
+            blocks: self.blocks(),
+        }
     }
 
     /// Returns `true` if exactly this range is allocated.

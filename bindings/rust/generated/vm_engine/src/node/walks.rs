@@ -6,6 +6,7 @@
 //! side find the first difference of two trees of different shapes. `copying`, `encoding`, `held` and
 //! `gaps` are recursive. `encoding` is in this folder because it reads the fields of nodes.
 
+pub(crate) mod both_ends;
 pub(crate) mod comparing;
 pub(crate) mod copying;
 pub(crate) mod encoding;
@@ -35,6 +36,7 @@ fn descend<'a>(path: &mut [&'a Child; MAX_PATH], mut at: usize, mut tree: &'a Ch
 ///
 /// `path[from..]` has the nodes on the current path whose blocks were not returned yet, the next
 /// one first. The model is the list of all blocks that were not returned yet.
+#[derive(Clone)]
 pub(crate) struct Walk<'a> {
     path: [&'a Child; MAX_PATH],
     from: usize,
@@ -46,6 +48,16 @@ impl<'a> Walk<'a> {
         let mut path = [tree; MAX_PATH];
         let from = descend(&mut path, MAX_PATH, tree);
         Walk { path, from }
+    }
+
+    /// Returns the next block, and leaves it.
+    fn peek(&self) -> Option<Block> {
+        let side = *self.path.get(self.from)?;
+        let Some(node) = side else { return None };
+        Some(Block {
+            key: node.key,
+            state: node.node_state,
+        })
     }
 }
 

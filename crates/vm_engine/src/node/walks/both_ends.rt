@@ -1,0 +1,174 @@
+//! Iteration over the blocks of a tree from both ends.
+ghost use Rattle.std.specs.Prelude.{◌≡◌, ◌≤◌, ◌++◌, ◌↔◌, [], IsTrue, drop};
+ghost use Rattle.std.specs.Iterator.{YieldsFirst, YieldsLast, item_count};
+ghost use Rattle.vm_engine.specs.Tree.Shape.{MAX_HEIGHT, blocks, height_of};
+ghost use Rattle.vm_engine.specs.Tree.SpaceTree.{IsSpaceTree};
+ghost use Rattle.vm_engine.specs.Engine.NodeFields.{side};
+ghost use Rattle.vm_engine.specs.Engine.Walks.{Fits};
+ghost use Rattle.vm_engine.specs.Engine.BothEnds.{remaining_from_below};
+
+use super::{MAX_PATH, Walk};
+use crate::block::Block;
+use crate::node::{Child, InnerNode};
+use std::marker::Model;
+
+/// Writes the path from the root of `tree` to its highest block into `path`, in front of index
+/// `at`. Returns the index of the last node written.
+#[tactic(auto, using(crate::proofs::Walking::BothEnds::descending))]
+fn descend_to_highest<'a>(
+    path: &mut [&'a Child; MAX_PATH],
+    mut at: usize,
+    mut tree: &'a Child,
+) -> usize
+    requires within { at ≤ MAX_HEIGHT }
+    requires height { height_of (side tree.now) ≤ at }
+    requires fits { Fits (drop at path.old) }
+    ensures within { result ≤ MAX_HEIGHT }
+    ensures ahead { remaining_from_below (drop result path.new)
+        ≡ remaining_from_below (drop at path.old) ++ blocks (side tree.now) }
+    ensures fits { Fits (drop result path.new) }
+{
+    while let Some(node) = tree {
+        let node: &InnerNode = node;
+        let right = &node.right;
+        at -= 1;
+        path[at] = tree;
+        tree = right;
+    }
+    at
+}
+
+/// Returns the blocks of a tree, from the highest to the lowest.
+///
+/// `path[from..]` has the nodes on the current path whose blocks were not returned yet, the next
+/// one first. The model is the list of all blocks that were not returned yet, the lowest first.
+#[derive(Clone, Drop)]
+struct WalkBack<'a> {
+    path: [&'a Child; MAX_PATH],
+    from: usize,
+}
+
+impl<'a> Model for WalkBack<'a> {
+    ghost use Rattle.std.specs.Prelude.{List, drop};
+    ghost use Rattle.vm_engine.specs.Tree.Block.{Block};
+    ghost use Rattle.vm_engine.specs.Engine.BothEnds.{remaining_from_below};
+    ghost use Rattle.vm_engine.specs.Engine.Walks.{IsPath};
+
+    ghost Value = { List Block };
+
+    ghost view = { λ w. remaining_from_below (drop w.from w.path) };
+
+    ghost invariant = { λ w. IsPath w.path w.from };
+}
+
+impl<'a> WalkBack<'a> {
+    /// Begins at the highest block of a tree.
+    fn new(tree: &'a Child) -> WalkBack<'a>
+        requires { height_of (side tree.now) ≤ MAX_HEIGHT }
+        ensures { result ≡ blocks (side tree.now) }
+    {
+        let mut path = [tree; MAX_PATH];
+        let from = descend_to_highest(&mut path, MAX_PATH, tree);
+        WalkBack { path, from }
+    }
+
+    /// Returns the next block.
+    fn next(&mut self) -> Option<Block>
+        ensures { YieldsLast (λ w. w) self.old result self.new }
+    {
+        let from = self.from;
+        let path = &self.path[..];
+        if from == path.len() {
+            return None;
+        }
+        let side = path[from];
+        let Some(node) = side else { return None };
+        let node: &InnerNode = node;
+        self.from = descend_to_highest(&mut self.path, from + 1, &node.left);
+        Some(Block {
+            key: node.key,
+            state: node.node_state,
+        })
+    }
+}
+
+/// An iterator over the blocks of a tree, from both ends.
+///
+/// Its model is the list of the blocks that it has not returned yet.
+#[derive(Clone, Drop)]
+pub(crate) struct Blocks<'a> {
+    lower: Walk<'a>,
+    upper: WalkBack<'a>,
+    // The start of the last block that `upper` returned. Only blocks below it are left.
+    bound: Option<u64>,
+}
+
+impl<'a> Model for Blocks<'a> {
+    ghost use Rattle.std.specs.Prelude.{List};
+    ghost use Rattle.vm_engine.specs.Tree.Block.{Block};
+    ghost use Rattle.vm_engine.specs.Engine.BothEnds.{blocks_left, AreBothEnds};
+
+    ghost Value = { List Block };
+
+    ghost view = { λ b. blocks_left b.bound b.lower };
+
+    ghost invariant = { λ b. AreBothEnds b.lower b.upper b.bound };
+}
+
+impl<'a> Blocks<'a> {
+    /// Creates an iterator over all blocks of a tree.
+    #[tactic(auto, using(crate::proofs::Walking::BothEnds::both_ends_of))]
+    pub(crate) fn new(tree: &'a Child) -> Blocks<'a>
+        requires { IsSpaceTree (side tree.now) }
+        ensures { result ≡ blocks (side tree.now) }
+    {
+        Blocks {
+            lower: Walk::new(tree),
+            upper: WalkBack::new(tree),
+            bound: None,
+        }
+    }
+
+    /// Returns whether no block is left.
+    #[tactic(auto, using(crate::proofs::Walking::BothEnds::emptiness))]
+    fn is_empty(&self) -> bool
+        ensures { IsTrue result ↔ (self.now ≡ []) }
+    {
+        match (self.lower.peek(), self.bound) {
+            (Some(block), Some(bound)) => block.key.start() >= bound,
+            (next, _) => next.is_none(),
+        }
+    }
+}
+
+impl<'a> Iterator for Blocks<'a> {
+    type Item = Block;
+
+    ghost next_gives = { YieldsFirst (λ b. b) };
+
+    ghost remaining = { item_count (λ b. b) };
+
+    /// Returns the lowest block that is left.
+    #[tactic(auto, using(crate::proofs::Walking::BothEnds::from_below))]
+    fn next(&mut self) -> Option<Block> {
+        if self.is_empty() {
+            return None;
+        }
+        self.lower.next()
+    }
+}
+
+impl<'a> DoubleEndedIterator for Blocks<'a> {
+    ghost next_back_gives = { YieldsLast (λ b. b) };
+
+    /// Returns the highest block that is left.
+    #[tactic(auto, using(crate::proofs::Walking::BothEnds::from_above))]
+    fn next_back(&mut self) -> Option<Block> {
+        if self.is_empty() {
+            return None;
+        }
+        let block = self.upper.next()?;
+        self.bound = Some(block.key.start());
+        Some(block)
+    }
+}
