@@ -1,9 +1,9 @@
 //! The two rounds of `speed.c` as direct calls of the Rust crate.
 
-use rattle::Global;
+use crate::proved::vm_allocator::{AddressAllocator, AllocPolicy, RangeInclusive, Result};
+use crate::rattle::Global;
 use std::hint::black_box;
 use std::slice;
-use vm_allocator::{AddressAllocator, AllocPolicy, RangeInclusive, Result};
 
 /// A request, as C has it.
 #[repr(C)]

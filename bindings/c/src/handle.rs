@@ -1,10 +1,10 @@
 //! The objects that C has pointers to.
 
+use crate::proved::vm_allocator::Result as Answer;
 use crate::{CallError, Out};
 use std::cell::UnsafeCell;
 use std::ffi::c_int;
 use std::sync::atomic::{AtomicUsize, Ordering};
-use vm_allocator::Result as Answer;
 
 /// An object behind a C pointer.
 pub struct Handle<T> {

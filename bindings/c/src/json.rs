@@ -1,9 +1,8 @@
 //! A reader of JSON after RFC 8259. It keeps duplicate names of an object.
-use crate::value::add_to;
-use crate::{AllocError, AllocFailed, Field, Global, Number, Value, Vec};
-use alloc::string::String;
-use core::fmt;
-use core::str::FromStr;
+use crate::rattle::{add_to, AllocError, AllocFailed, Field, Global, Number, Value, Vec};
+use std::fmt;
+use std::str::FromStr;
+use std::string::String;
 
 /// The maximum nesting of a text.
 const MOST_NESTED: u32 = 128;
@@ -28,7 +27,7 @@ impl fmt::Display for TextError {
     }
 }
 
-impl core::error::Error for TextError {}
+impl std::error::Error for TextError {}
 
 impl From<AllocError> for TextError {
     fn from(_: AllocError) -> TextError {
@@ -107,7 +106,7 @@ impl Reader<'_> {
     }
 
     fn object(&mut self, levels: u32) -> Result<Value, TextError> {
-        let mut fields: alloc::vec::Vec<Field> = alloc::vec::Vec::new();
+        let mut fields: std::vec::Vec<Field> = std::vec::Vec::new();
         if self.skip_if("}") {
             return Ok(Value::Object(fields.into()));
         }

@@ -9,20 +9,31 @@
 // Types have the names of the header.
 #![allow(non_camel_case_types)]
 
+extern crate alloc;
+
 mod devices;
 mod handle;
 mod ids;
+mod json;
 mod lists;
+// The eraser writes it. The library calls a part of it.
+#[allow(dead_code, unused_imports)]
+#[rustfmt::skip]
+#[path = "../../rust/divsharun/src/proved/mod.rs"]
+mod proved;
 mod ranges;
+#[allow(dead_code, unused_imports)]
+#[path = "../../rust/divsharun/src/rattle/mod.rs"]
+mod rattle;
 mod status;
 mod texts;
 #[cfg(feature = "measured")]
 #[path = "../speed/through_rust.rs"]
 mod through_rust;
 
+use crate::proved::vm_allocator::{self, RangeInclusive};
 use status::{dvs_refusal, dvs_status, status_of, CallError};
 use std::mem::MaybeUninit;
-use vm_allocator::RangeInclusive;
 
 /// The destination of a result.
 type Out<'a, T> = Option<&'a mut MaybeUninit<T>>;

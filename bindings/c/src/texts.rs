@@ -1,12 +1,12 @@
 //! Saving objects as JSON, and reading them.
 
 use crate::handle::{non_null, Handle};
+use crate::proved::vm_allocator::{self, ValueError};
+use crate::rattle::{Global, Value};
 use crate::{CallError, Out};
-use rattle::{Global, Value};
 use std::ffi::{c_char, CString};
 use std::fmt::{self, Write};
 use std::{slice, str};
-use vm_allocator::ValueError;
 
 /// Writes the text that encodes an object, and its length.
 pub(crate) fn save<T>(

@@ -1,11 +1,14 @@
-//! Further items that tests use. They are in scope in every test, as in Rattle's prelude.
-use crate::{Number, Value};
+//! Items that the tests of the sources use. They are in scope in every test, as in Rattle's prelude.
+use crate::rattle::{Number, Value};
 use core::fmt;
 use core::ops::{Deref, Index};
 
+pub use crate::rattle::{AllocError, Box, Global, Vec};
 #[doc(inline)]
 pub use crate::{__assert as assert, __assert_eq as assert_eq};
-pub use crate::{AllocError, Box, Global, HostRuntime, Vec};
+
+/// The argument of a test: the allocator and the environment.
+pub struct HostRuntime;
 
 /// The error of a test. It converts from any error.
 pub struct Fail(alloc::string::String);

@@ -1,4 +1,5 @@
 use crate::error::or_abort;
+use crate::proved::vm_allocator as proved;
 use crate::Result;
 use core::fmt;
 

@@ -1,4 +1,5 @@
 use crate::error::or_abort;
+use crate::proved::vm_allocator as proved;
 use crate::{Error, Result};
 use core::{fmt, ops};
 

@@ -1,7 +1,8 @@
 //! Checks the reader of JSON against the grammar of RFC 8259.
-#![cfg(feature = "json")]
 
-use rattle::{Global, TextError, Value};
+use crate::json::TextError;
+use crate::rattle::{Global, Value};
+use std::string::ToString;
 
 /// Texts, and the output of their values.
 const READ: [(&str, &str); 14] = [

@@ -1,7 +1,8 @@
 //! Compares sets and maps with those of Rust, and values with JSON.
 
-use rattle::{json, BTreeMap, BTreeSet, Global, Number, Value, Vec};
-use std::collections;
+use crate::rattle::{json, BTreeMap, BTreeSet, Global, Number, Value, Vec};
+use std::string::ToString;
+use std::{collections, format};
 
 #[test]
 fn sets() {

@@ -1,4 +1,4 @@
-use crate::{AllocFailed, Global};
+use super::{AllocFailed, Global};
 use core::fmt;
 use core::ops::{Deref, DerefMut};
 
@@ -55,23 +55,23 @@ impl<T: fmt::Debug> fmt::Debug for Box<T> {
     }
 }
 
-#[cfg(not(feature = "count_boxes"))]
+#[cfg(not(count_boxes))]
 #[inline(always)]
 fn follow() {}
 
-#[cfg(feature = "count_boxes")]
+#[cfg(count_boxes)]
 fn follow() {
     FOLLOWED.with(|count| count.set(count.get() + 1));
 }
 
-#[cfg(feature = "count_boxes")]
+#[cfg(count_boxes)]
 std::thread_local! {
     static FOLLOWED: core::cell::Cell<u64> = const { core::cell::Cell::new(0) };
 }
 
 /// Returns the number of boxes that the thread has followed. Each step from a box to its value
 /// counts.
-#[cfg(feature = "count_boxes")]
+#[cfg(count_boxes)]
 pub fn boxes_followed() -> u64 {
     FOLLOWED.with(core::cell::Cell::get)
 }

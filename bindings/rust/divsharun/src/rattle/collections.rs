@@ -7,7 +7,7 @@
 //! Keys descend along a chunk and from chunk to chunk. So the lowest key is at an end, and removing it
 //! moves nothing.
 
-use crate::{AllocError, AllocFailed, Global};
+use super::{AllocError, AllocFailed, Global};
 use alloc::vec::Vec;
 use core::fmt;
 

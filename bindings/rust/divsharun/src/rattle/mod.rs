@@ -1,37 +1,22 @@
 //! Replacements for the items of Rattle's library that Rust does not have or defines differently.
 //!
-//! Boxes, vectors and values report a failed allocation, as in Rattle. Sets and maps end the
-//! process, as in Rust.
-#![no_std]
+//! Boxes, vectors, values, sets and maps report a failed allocation, as in Rattle.
 #![forbid(unsafe_code)]
 #![warn(clippy::must_use_candidate)]
 #![deny(missing_docs)]
-extern crate alloc;
-#[cfg(any(feature = "program", feature = "count_boxes"))]
-extern crate std;
 
 mod boxed;
 mod collections;
-#[cfg(feature = "json")]
-mod json;
-#[cfg(feature = "program")]
-mod program;
 pub mod simd;
-#[cfg(feature = "testing")]
-pub mod testing;
 mod value;
 mod vec;
 
-#[cfg(feature = "count_boxes")]
+#[cfg(count_boxes)]
 pub use boxed::boxes_followed;
 pub use boxed::Box;
 pub use collections::{btree_map, btree_set, BTreeMap, BTreeSet};
-#[cfg(feature = "json")]
-pub use json::TextError;
-#[cfg(feature = "program")]
-pub use program::HostRuntime;
-pub use rattle_derive::Error;
-pub use value::{Field, Fields, Number, Value};
+pub(crate) use value::json;
+pub use value::{add_to, Field, Fields, Number, Value};
 pub use vec::Vec;
 
 use core::fmt;

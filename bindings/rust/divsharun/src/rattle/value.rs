@@ -1,4 +1,4 @@
-use crate::{AllocError, Global, Vec};
+use super::{AllocError, Global, Vec};
 use alloc::string::String;
 use core::fmt;
 use core::slice::{Iter, IterMut};
@@ -168,7 +168,7 @@ fn copy_of(text: &str) -> Result<String, AllocError> {
 }
 
 /// Appends a piece to a string.
-pub(crate) fn add_to(text: &mut String, piece: &str) -> Result<(), AllocError> {
+pub fn add_to(text: &mut String, piece: &str) -> Result<(), AllocError> {
     text.try_reserve(piece.len()).map_err(|_| AllocError)?;
     text.push_str(piece);
     Ok(())
@@ -257,33 +257,24 @@ fn write_text(text: &str, f: &mut fmt::Formatter<'_>) -> fmt::Result {
     f.write_str("\"")
 }
 
-/// Creates an object or a list.
+/// Creates an object.
 ///
-/// `json!(in alloc; {"name": value, ..})` moves the values into the fields of an object. `json!(in
-/// alloc; [value, ..])` is a list.
-#[macro_export]
+/// `json!(in alloc; {"name": value, ..})` moves the values into its fields.
 macro_rules! json {
     (in $alloc:expr; {$($fields:tt)*}) => {{
-        let _: $crate::Global = $alloc;
-        $crate::json!(@object [] $($fields)*)
+        let _: $crate::rattle::Global = $alloc;
+        $crate::rattle::json!(@object [] $($fields)*)
     }};
-    (in $alloc:expr; [$($item:expr),*]) => {{
-        let mut items = $crate::Vec::new($alloc);
-        let mut pushed = Ok(());
-        $(pushed = pushed.and_then(|()| items.push($crate::Value::from($item)));)*
-        match pushed {
-            Ok(()) => Ok($crate::Value::Array(items)),
-            Err(refused) => Err($crate::AllocError::from(refused)),
-        }
-    }};
-    (@object [$($done:tt)*]) => { $crate::Value::object([$($done)*]) };
+    (@object [$($done:tt)*]) => { $crate::rattle::Value::object([$($done)*]) };
     (@object [$($done:tt)*] $name:tt: {$($fields:tt)*} $(, $($rest:tt)*)?) => {
-        $crate::json!(@object [$($done)* ($name, $crate::json!(@object [] $($fields)*)),] $($($rest)*)?)
+        $crate::rattle::json!(@object [$($done)* ($name, $crate::rattle::json!(@object [] $($fields)*)),] $($($rest)*)?)
     };
     (@object [$($done:tt)*] $name:tt: null $(, $($rest:tt)*)?) => {
-        $crate::json!(@object [$($done)* ($name, Ok($crate::Value::Null)),] $($($rest)*)?)
+        $crate::rattle::json!(@object [$($done)* ($name, Ok($crate::rattle::Value::Null)),] $($($rest)*)?)
     };
     (@object [$($done:tt)*] $name:tt: $value:expr $(, $($rest:tt)*)?) => {
-        $crate::json!(@object [$($done)* ($name, Ok($crate::Value::from($value))),] $($($rest)*)?)
+        $crate::rattle::json!(@object [$($done)* ($name, Ok($crate::rattle::Value::from($value))),] $($($rest)*)?)
     };
 }
+
+pub(crate) use json;

@@ -1,4 +1,4 @@
-use crate::{AllocError, AllocFailed, Global};
+use super::{AllocError, AllocFailed, Global};
 use core::fmt;
 use core::ops::{Deref, DerefMut};
 

@@ -2,7 +2,7 @@
 
 use std::alloc::{GlobalAlloc, Layout, System};
 use std::cell::Cell;
-use std::ptr;
+use std::{ptr, thread_local};
 
 thread_local! {
     static REQUESTS: Cell<u64> = const { Cell::new(0) };

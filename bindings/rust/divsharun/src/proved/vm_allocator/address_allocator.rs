@@ -10,9 +10,9 @@
 //! `answer`, and are there because callers rely on them: for example that some calls always
 //! succeed.
 
-use rattle::Global;
-use vm_engine::IntervalTree;
-use vm_ranges::{AllocPolicy, Constraint, Error, RangeInclusive, Result};
+use crate::rattle::Global;
+use crate::proved::vm_engine::IntervalTree;
+use crate::proved::vm_ranges::{AllocPolicy, Constraint, Error, RangeInclusive, Result};
 
 mod comparing;
 mod gaps;
@@ -25,8 +25,8 @@ mod several;
 /// includes both of its ends. Sizes and alignments are numbers of addresses.
 #[derive(Debug)]
 pub struct AddressAllocator {
-    pub(crate) address_space: RangeInclusive,
-    pub(crate) interval_tree: IntervalTree,
+    pub(in crate::proved::vm_allocator) address_space: RangeInclusive,
+    pub(in crate::proved::vm_allocator) interval_tree: IntervalTree,
 }
 
 impl AddressAllocator {

@@ -5,9 +5,9 @@
 //! The ids below the next id were allocated at some time. A set contains the ids that were freed
 //! since. Only freeing and cloning allocate memory.
 
-use rattle::Global;
-use rattle::BTreeSet;
-use vm_ranges::{Error, Result};
+use crate::rattle::Global;
+use crate::rattle::BTreeSet;
+use crate::proved::vm_ranges::{Error, Result};
 
 mod comparing;
 mod held_ids;
@@ -19,12 +19,12 @@ pub use held_ids::HeldIds;
 /// An id is never allocated twice at the same time.
 #[derive(Debug)]
 pub struct IdAllocator {
-    pub(crate) range_base: u32,
+    pub(in crate::proved::vm_allocator) range_base: u32,
     // The lowest id that was never allocated, or `None` if it would be past `u32::MAX`.
-    pub(crate) next_id: Option<u32>,
-    pub(crate) range_end: u32,
+    pub(in crate::proved::vm_allocator) next_id: Option<u32>,
+    pub(in crate::proved::vm_allocator) range_end: u32,
     // The ids that were allocated and are free now.
-    pub(crate) freed_ids: BTreeSet<u32>,
+    pub(in crate::proved::vm_allocator) freed_ids: BTreeSet<u32>,
 }
 
 /// Returns the next id. Returns `Overflow` if there is none, and `ResourceNotAvailable` if it is
@@ -39,7 +39,7 @@ fn next_in_range(next_id: Option<u32>, range_end: u32) -> Result<u32> {
 
 /// Returns the bound of the ids: an id of the range was allocated at some time if and only if it is
 /// below the bound.
-pub(crate) fn bound_of(next: Option<u32>, end: u32) -> u64 {
+pub(in crate::proved::vm_allocator) fn bound_of(next: Option<u32>, end: u32) -> u64 {
     match next {
         None => u64::from(end) + 1,
         Some(next) => u64::from(next),

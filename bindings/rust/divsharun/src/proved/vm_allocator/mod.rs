@@ -5,9 +5,6 @@
 //! - [`AddressAllocator`] allocates ranges of 64-bit addresses from one space.
 //! - [`IdAllocator`] allocates 32-bit ids from a range, the lowest free id first.
 
-#![forbid(unsafe_code)]
-#![no_std]
-
 mod address_allocator;
 pub mod allocation_engine;
 mod id_allocator;
@@ -15,7 +12,7 @@ mod saved;
 
 pub use address_allocator::AddressAllocator;
 pub use id_allocator::{HeldIds, IdAllocator};
-pub use vm_engine::{Gaps, HeldRanges};
-pub use vm_ranges::{
+pub use crate::proved::vm_engine::{Gaps, HeldRanges};
+pub use crate::proved::vm_ranges::{
     AllocPolicy, Constraint, DEFAULT_CONSTRAINT_ALIGN, Error, RangeInclusive, Result, ValueError,
 };

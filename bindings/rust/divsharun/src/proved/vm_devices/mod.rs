@@ -2,9 +2,6 @@
 
 //! Devices of a virtual machine. Each has an id and a range of addresses, both or neither.
 
-#![forbid(unsafe_code)]
-#![no_std]
-
 mod device_manager;
 mod device_slot;
 

@@ -3,15 +3,15 @@
 //! A block of an address space: a range with its state.
 
 use core::cmp::Ordering;
-use vm_ranges::{NodeState, RangeInclusive};
+use crate::proved::vm_ranges::{NodeState, RangeInclusive};
 
 /// A range of addresses with its state, allocated or free.
 ///
 /// Blocks are ordered by start, then by end, then by state.
 #[derive(Clone, Copy, Debug, PartialEq, Eq)]
-pub(crate) struct Block {
-    pub(crate) key: RangeInclusive,
-    pub(crate) state: NodeState,
+pub(in crate::proved::vm_engine) struct Block {
+    pub(in crate::proved::vm_engine) key: RangeInclusive,
+    pub(in crate::proved::vm_engine) state: NodeState,
 }
 
 impl Ord for Block {

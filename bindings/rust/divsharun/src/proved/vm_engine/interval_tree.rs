@@ -15,27 +15,27 @@
 //! than 2^49 nodes, so a counter that starts at 0 never overflows. This is proved once, so callers
 //! have no condition on it.
 
-use rattle::Box;
-use crate::Steps;
-use crate::node::walks::Walk;
-use crate::node::walks::copying::copy;
-use crate::node::{Child, InnerNode};
-use rattle::Global;
-use vm_ranges::{Constraint, NodeState, RangeInclusive, Result};
+use crate::rattle::Box;
+use crate::proved::vm_engine::Steps;
+use crate::proved::vm_engine::node::walks::Walk;
+use crate::proved::vm_engine::node::walks::copying::copy;
+use crate::proved::vm_engine::node::{Child, InnerNode};
+use crate::rattle::Global;
+use crate::proved::vm_ranges::{Constraint, NodeState, RangeInclusive, Result};
 
 mod allocation;
 mod building;
 mod comparing;
-pub(crate) mod counted;
+pub(in crate::proved::vm_engine) mod counted;
 mod deallocation;
-pub(crate) mod gaps;
-pub(crate) mod held_ranges;
-pub(crate) mod placement;
+pub(in crate::proved::vm_engine) mod gaps;
+pub(in crate::proved::vm_engine) mod held_ranges;
+pub(in crate::proved::vm_engine) mod placement;
 
 /// The blocks of an address space, in a balanced tree.
 #[derive(Debug)]
 pub struct IntervalTree {
-    pub(crate) root: Child,
+    pub(in crate::proved::vm_engine) root: Child,
 }
 
 impl IntervalTree {
@@ -68,7 +68,7 @@ impl IntervalTree {
     }
 
     /// Returns the root. A tree is never empty.
-    pub(crate) fn root(&self) -> &InnerNode {
+    pub(in crate::proved::vm_engine) fn root(&self) -> &InnerNode {
         let Some(root) = &self.root else {
             unreachable!()
         };

@@ -8,9 +8,6 @@
 //! - [`IntervalTree`] allocates and frees ranges.
 //! - [`HeldRanges`] iterates over the allocated ranges, and [`Gaps`] over the gaps between them.
 
-#![forbid(unsafe_code)]
-#![no_std]
-
 mod block;
 mod interval_tree;
 mod node;

@@ -8,23 +8,23 @@
 //! The model of a node is a tree without pointers (`Shape`). The blocks, the height and the balance
 //! of a tree are functions of that value, so "unchanged" is an equation.
 
-use rattle::Box;
+use crate::rattle::Box;
 mod balance;
-pub(crate) mod delete;
+pub(in crate::proved::vm_engine) mod delete;
 mod find;
 mod link;
-pub(crate) mod neighbours;
-pub(crate) mod places;
-pub(crate) mod rewrite;
-pub(crate) mod split;
+pub(in crate::proved::vm_engine) mod neighbours;
+pub(in crate::proved::vm_engine) mod places;
+pub(in crate::proved::vm_engine) mod rewrite;
+pub(in crate::proved::vm_engine) mod split;
 mod summary;
-pub(crate) mod walks;
-pub(crate) mod widen;
+pub(in crate::proved::vm_engine) mod walks;
+pub(in crate::proved::vm_engine) mod widen;
 
 use self::balance::fork;
 use self::summary::free_summary_of;
-use rattle::{AllocError, Global};
-use vm_ranges::{NodeState, RangeInclusive};
+use crate::rattle::{AllocError, Global};
+use crate::proved::vm_ranges::{NodeState, RangeInclusive};
 
 /// A node with its subtree.
 ///
@@ -35,7 +35,7 @@ use vm_ranges::{NodeState, RangeInclusive};
 /// - `alignments` is the number of the 64 alignments that have a multiple in a free block of the
 ///   subtree. It is one byte next to the state, so a node has 72 bytes.
 #[derive(Debug)]
-pub(crate) struct InnerNode {
+pub(in crate::proved::vm_engine) struct InnerNode {
     key: RangeInclusive,
     node_state: NodeState,
     alignments: u8,
@@ -46,14 +46,14 @@ pub(crate) struct InnerNode {
 }
 
 /// The height of the highest tree.
-pub(crate) const MAX_HEIGHT: u64 = 49;
+pub(in crate::proved::vm_engine) const MAX_HEIGHT: u64 = 49;
 
 /// A link to a child, or `None` if the child is absent.
-pub(crate) type Child = Option<Box<InnerNode>>;
+pub(in crate::proved::vm_engine) type Child = Option<Box<InnerNode>>;
 
 impl InnerNode {
     /// Creates a node without children.
-    pub(crate) fn new(key: RangeInclusive, node_state: NodeState) -> InnerNode {
+    pub(in crate::proved::vm_engine) fn new(key: RangeInclusive, node_state: NodeState) -> InnerNode {
         let own = free_summary_of(&key, node_state);
         InnerNode {
             key,
@@ -70,7 +70,7 @@ impl InnerNode {
     ///
     /// The heights of the children differ by at most one, and the key lies between their keys. It
     /// returns an error if the allocation fails.
-    pub(crate) fn with_children(
+    pub(in crate::proved::vm_engine) fn with_children(
         alloc: Global,
         left: Child,
         key: RangeInclusive,
@@ -82,29 +82,29 @@ impl InnerNode {
     }
 
     /// Returns the key of this node.
-    pub(crate) fn key(&self) -> RangeInclusive {
+    pub(in crate::proved::vm_engine) fn key(&self) -> RangeInclusive {
         self.key
     }
 
     /// Returns the state of this node.
-    pub(crate) fn state(&self) -> NodeState {
+    pub(in crate::proved::vm_engine) fn state(&self) -> NodeState {
         self.node_state
     }
 
     /// Returns the height of the subtree.
-    pub(crate) fn height(&self) -> u64 {
+    pub(in crate::proved::vm_engine) fn height(&self) -> u64 {
         self.height
     }
 
     /// Returns the length of the longest free block in the subtree, or 0 if there is none.
-    pub(crate) fn max_free(&self) -> u64 {
+    pub(in crate::proved::vm_engine) fn max_free(&self) -> u64 {
         self.max_free
     }
 }
 
 /// Returns the height of a child, or 0 if the child is absent.
 #[inline(always)]
-pub(crate) fn height(child: &Child) -> u64 {
+pub(in crate::proved::vm_engine) fn height(child: &Child) -> u64 {
     match child {
         None => 0,
         Some(node) => node.height,

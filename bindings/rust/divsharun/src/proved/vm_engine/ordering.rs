@@ -3,7 +3,7 @@
 //! Comparisons of the ranges of two blocks, and ranges from ends that are known to be valid.
 
 use core::cmp::Ordering;
-use vm_ranges::RangeInclusive;
+use crate::proved::vm_ranges::RangeInclusive;
 
 /// Compares two ranges by start, then by end.
 #[inline(always)]

@@ -4,6 +4,6 @@
 //!
 //! A value can be untrusted input, so the whole value is checked before the first allocation.
 mod check;
-pub(crate) mod node;
+pub(in crate::proved::vm_engine) mod node;
 mod repaired;
 mod tree;

@@ -5,10 +5,10 @@
 //! A number is written by pairs of digits from a table. It is then copied as twenty bytes whatever
 //! its length, because a fixed length is two moves and no call.
 
-use crate::number::MAX_DIGITS;
+use crate::proved::vm_lines::number::MAX_DIGITS;
 
 /// The capacity of a buffer in bytes.
-pub(crate) const CAPACITY: usize = 4096;
+pub(in crate::proved::vm_lines) const CAPACITY: usize = 4096;
 
 /// The length of the array for the digits of a number, with the same number of bytes after them.
 const DIGITS_LEN: usize = 40;
@@ -22,14 +22,14 @@ static PAIRS: [u8; 200] = *b"\
     8081828384858687888990919293949596979899";
 
 /// Text that is not written yet, in a fixed array.
-pub(crate) struct Buffer {
+pub(in crate::proved::vm_lines) struct Buffer {
     bytes: [u8; CAPACITY],
     length: usize,
 }
 
 impl Buffer {
     /// Creates an empty buffer.
-    pub(crate) fn new() -> Buffer {
+    pub(in crate::proved::vm_lines) fn new() -> Buffer {
         Buffer {
             bytes: [0; CAPACITY],
             length: 0,
@@ -37,35 +37,35 @@ impl Buffer {
     }
 
     /// Returns the number of bytes in the buffer.
-    pub(crate) fn len(&self) -> usize {
+    pub(in crate::proved::vm_lines) fn len(&self) -> usize {
         self.length
     }
 
     /// Returns the text in the buffer.
-    pub(crate) fn as_slice(&self) -> &[u8] {
+    pub(in crate::proved::vm_lines) fn as_slice(&self) -> &[u8] {
         &self.bytes[..self.length]
     }
 
     /// Removes all text.
-    pub(crate) fn clear(&mut self) {
+    pub(in crate::proved::vm_lines) fn clear(&mut self) {
         self.length = 0;
     }
 
     /// Appends one byte.
-    pub(crate) fn push(&mut self, byte: u8) {
+    pub(in crate::proved::vm_lines) fn push(&mut self, byte: u8) {
         self.bytes[self.length] = byte;
         self.length += 1;
     }
 
     /// Appends a text.
-    pub(crate) fn extend_from_slice(&mut self, text: &[u8]) {
+    pub(in crate::proved::vm_lines) fn extend_from_slice(&mut self, text: &[u8]) {
         let end = self.length + text.len();
         self.bytes[self.length..end].copy_from_slice(text);
         self.length = end;
     }
 
     /// Appends a number in decimal.
-    pub(crate) fn push_number(&mut self, number: u64) {
+    pub(in crate::proved::vm_lines) fn push_number(&mut self, number: u64) {
         let mut digits = [0u8; DIGITS_LEN];
         let start = write_digits(number, &mut digits);
         // A fixed length makes this two moves. The bytes after the number are removed again.

@@ -2,14 +2,14 @@
 
 //! Parses lines into commands: for the space, for the ids and for the devices.
 
-use crate::words::{ids_and_numbers, one_id, strip_prefix, three_numbers, two_ids, two_numbers};
+use crate::proved::vm_lines::words::{ids_and_numbers, one_id, strip_prefix, three_numbers, two_ids, two_numbers};
 
 /// The maximum length of a line in bytes.
-pub(crate) const MAX_LINE_LEN: usize = 120;
+pub(in crate::proved::vm_lines) const MAX_LINE_LEN: usize = 120;
 
 /// The command of a line.
 #[derive(Clone, Copy)]
-pub(crate) enum Command {
+pub(in crate::proved::vm_lines) enum Command {
     /// Creates an allocator for the `size` addresses starting at `base`.
     Space {
         base: u64,
@@ -75,7 +75,7 @@ pub(crate) enum Command {
 
 /// Parses a line.
 #[inline(always)]
-pub(crate) fn parse(line: &[u8]) -> Command {
+pub(in crate::proved::vm_lines) fn parse(line: &[u8]) -> Command {
     if line.len() > MAX_LINE_LEN {
         return Command::Malformed;
     }

@@ -2,14 +2,14 @@
 
 //! The space, the ids and the devices of a session, and the effect of each command on them.
 
-use crate::command::Command;
-use crate::reply::{Reply, device_reply, done_reply, id_reply, range_reply};
-use rattle::Global;
-use vm_allocator::{AddressAllocator, AllocPolicy, IdAllocator, RangeInclusive, Result};
-use vm_devices::DeviceManager;
+use crate::proved::vm_lines::command::Command;
+use crate::proved::vm_lines::reply::{Reply, device_reply, done_reply, id_reply, range_reply};
+use crate::rattle::Global;
+use crate::proved::vm_allocator::{AddressAllocator, AllocPolicy, IdAllocator, RangeInclusive, Result};
+use crate::proved::vm_devices::DeviceManager;
 
 /// The space, the ids and the devices that the lines so far have created.
-pub(crate) struct Machine {
+pub(in crate::proved::vm_lines) struct Machine {
     space: Option<AddressAllocator>,
     ids: Option<IdAllocator>,
     devices: Option<DeviceManager>,
@@ -17,7 +17,7 @@ pub(crate) struct Machine {
 
 impl Machine {
     /// Creates a machine without space, ids and devices.
-    pub(crate) fn new() -> Machine {
+    pub(in crate::proved::vm_lines) fn new() -> Machine {
         Machine {
             space: None,
             ids: None,
@@ -26,7 +26,7 @@ impl Machine {
     }
 
     /// Executes a command.
-    pub(crate) fn answer(&mut self, alloc: Global, command: Command) -> Reply {
+    pub(in crate::proved::vm_lines) fn answer(&mut self, alloc: Global, command: Command) -> Reply {
         match command {
             Command::Space { base, size } => self.make_space(alloc, base, size),
             Command::First { size, alignment } => {

@@ -3,8 +3,6 @@
 //! The replay language: each line is a call of an allocator or of a manager of devices, and has one
 //! line of output.
 
-#![forbid(unsafe_code)]
-
 mod buffer;
 mod command;
 mod machine;

@@ -3,13 +3,13 @@
 //! Finds the end of a line. It compares sixteen bytes at the same time, which needs fewer
 //! instructions than one byte at a time.
 
-use rattle::simd::*;
+use crate::rattle::simd::*;
 
 /// The number of bytes that are compared at the same time.
 const LANES: usize = 16;
 
 /// Returns the index of the first newline, or `None` if there is no newline.
-pub(crate) fn newline_at(text: &[u8]) -> Option<usize> {
+pub(in crate::proved::vm_lines) fn newline_at(text: &[u8]) -> Option<usize> {
     let mut start = 0;
     while text.len() - start >= LANES {
         let newlines = u8x16::from_slice(&text[start..])

@@ -6,7 +6,7 @@
 //! check.
 
 /// The maximum number of digits of a number. Every number of 64 bits fits.
-pub(crate) const MAX_DIGITS: usize = 20;
+pub(in crate::proved::vm_lines) const MAX_DIGITS: usize = 20;
 
 /// The number of decimal digits that always fit into a `u64`.
 const SAFE_DIGITS: usize = 19;
@@ -19,7 +19,7 @@ const BASE: u64 = 10;
 /// Returns the number at the beginning of a text and the number of its digits. Returns `None` if
 /// there is no digit, if there are too many, or if the number does not fit.
 #[inline(always)]
-pub(crate) fn leading_number(text: &[u8]) -> Option<(u64, usize)> {
+pub(in crate::proved::vm_lines) fn leading_number(text: &[u8]) -> Option<(u64, usize)> {
     let (value, count) = leading_value(text);
     if count == 0 {
         return None;
@@ -56,7 +56,6 @@ fn chunk_value(text: &[u8]) -> (u64, usize) {
 /// Returns whether all bytes are digits. It checks every byte, so that they can be compared
 /// together.
 #[inline(always)]
-#[allow(clippy::needless_range_loop)]
 fn are_digits(prefix: &[u8; CHUNK]) -> bool {
     let mut all = true;
     for i in 0..CHUNK {
@@ -67,7 +66,6 @@ fn are_digits(prefix: &[u8; CHUNK]) -> bool {
 
 /// Returns the value of the digits.
 #[inline(always)]
-#[allow(clippy::needless_range_loop)]
 fn digits_value(digits: &[u8; CHUNK]) -> u64 {
     let mut value = 0u64;
     for i in 0..CHUNK {

@@ -6,11 +6,11 @@
 //! The two facts in the contract of `run` (`AnswersInput`, `AnswersEndedLines`) are about readers
 //! and writers whose bytes are known.
 
-use crate::buffer::{Buffer, CAPACITY};
-use crate::newline::newline_at;
-use crate::reply::MAX_REPLY_LEN;
-use crate::session::Session;
-use rattle::Global;
+use crate::proved::vm_lines::buffer::{Buffer, CAPACITY};
+use crate::proved::vm_lines::newline::newline_at;
+use crate::proved::vm_lines::reply::MAX_REPLY_LEN;
+use crate::proved::vm_lines::session::Session;
+use crate::rattle::Global;
 use std::io::{Read, Write};
 
 /// The maximum number of bytes of one read.

@@ -2,16 +2,16 @@
 
 //! Replies to lines, and their text.
 
-use crate::buffer::Buffer;
-use vm_allocator::{Error, RangeInclusive, Result};
-use vm_devices::DeviceSlot;
+use crate::proved::vm_lines::buffer::Buffer;
+use crate::proved::vm_allocator::{Error, RangeInclusive, Result};
+use crate::proved::vm_devices::DeviceSlot;
 
 /// The maximum length of a reply in bytes, without its newline: the length of the error for an
 /// invalid range.
-pub(crate) const MAX_REPLY_LEN: usize = 61;
+pub(in crate::proved::vm_lines) const MAX_REPLY_LEN: usize = 61;
 
 /// The reply to a line.
-pub(crate) enum Reply {
+pub(in crate::proved::vm_lines) enum Reply {
     /// The call succeeded and returned nothing.
     Done,
     /// The range was allocated.
@@ -36,7 +36,7 @@ pub(crate) enum Reply {
 
 /// Returns the reply to a call that returns nothing.
 #[inline(always)]
-pub(crate) fn done_reply(answer: Result<()>) -> Reply {
+pub(in crate::proved::vm_lines) fn done_reply(answer: Result<()>) -> Reply {
     match answer {
         Ok(()) => Reply::Done,
         Err(error) => Reply::Failed(error),
@@ -45,7 +45,7 @@ pub(crate) fn done_reply(answer: Result<()>) -> Reply {
 
 /// Returns the reply to a call that returns a range.
 #[inline(always)]
-pub(crate) fn range_reply(answer: Result<RangeInclusive>) -> Reply {
+pub(in crate::proved::vm_lines) fn range_reply(answer: Result<RangeInclusive>) -> Reply {
     match answer {
         Ok(range) => Reply::Given(range),
         Err(error) => Reply::Failed(error),
@@ -54,7 +54,7 @@ pub(crate) fn range_reply(answer: Result<RangeInclusive>) -> Reply {
 
 /// Returns the reply to a call that returns an id.
 #[inline(always)]
-pub(crate) fn id_reply(answer: Result<u32>) -> Reply {
+pub(in crate::proved::vm_lines) fn id_reply(answer: Result<u32>) -> Reply {
     match answer {
         Ok(id) => Reply::Id(id),
         Err(error) => Reply::Failed(error),
@@ -63,7 +63,7 @@ pub(crate) fn id_reply(answer: Result<u32>) -> Reply {
 
 /// Returns the reply to a call that returns a device.
 #[inline(always)]
-pub(crate) fn device_reply(answer: Result<DeviceSlot>) -> Reply {
+pub(in crate::proved::vm_lines) fn device_reply(answer: Result<DeviceSlot>) -> Reply {
     match answer {
         Ok(slot) => Reply::Device(slot),
         Err(error) => Reply::Failed(error),
@@ -71,7 +71,7 @@ pub(crate) fn device_reply(answer: Result<DeviceSlot>) -> Reply {
 }
 
 /// Writes the text of a reply.
-pub(crate) fn write_reply(output: &mut Buffer, reply: Reply) {
+pub(in crate::proved::vm_lines) fn write_reply(output: &mut Buffer, reply: Reply) {
     match reply {
         Reply::Done => output.extend_from_slice(b"done"),
         Reply::Given(range) => write_pair(output, b"range ", range.start(), range.end()),

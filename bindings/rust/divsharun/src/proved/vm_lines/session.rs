@@ -5,14 +5,14 @@
 //! A line is parsed in its piece of the input without a copy. It is copied only if it began in an
 //! earlier piece.
 
-use crate::buffer::Buffer;
-use crate::command::{Command, MAX_LINE_LEN, parse};
-use crate::machine::Machine;
-use crate::reply::write_reply;
-use rattle::Global;
+use crate::proved::vm_lines::buffer::Buffer;
+use crate::proved::vm_lines::command::{Command, MAX_LINE_LEN, parse};
+use crate::proved::vm_lines::machine::Machine;
+use crate::proved::vm_lines::reply::write_reply;
+use crate::rattle::Global;
 
 /// The machine of the lines so far, and the line that has begun.
-pub(crate) struct Session {
+pub(in crate::proved::vm_lines) struct Session {
     machine: Machine,
     line: [u8; MAX_LINE_LEN],
     filled: usize,
@@ -21,7 +21,7 @@ pub(crate) struct Session {
 
 impl Session {
     /// Creates the session before the first byte of the input.
-    pub(crate) fn new() -> Session {
+    pub(in crate::proved::vm_lines) fn new() -> Session {
         Session {
             machine: Machine::new(),
             line: [0; MAX_LINE_LEN],
@@ -31,7 +31,7 @@ impl Session {
     }
 
     /// Ends the line that has begun with its last bytes, executes it, and writes its reply.
-    pub(crate) fn end_line(&mut self, alloc: Global, last: &[u8], output: &mut Buffer) {
+    pub(in crate::proved::vm_lines) fn end_line(&mut self, alloc: Global, last: &[u8], output: &mut Buffer) {
         let command = self.take_line(last);
         let reply = self.machine.answer(alloc, command);
         write_reply(output, reply);
@@ -61,7 +61,7 @@ impl Session {
     }
 
     /// Appends more bytes to the line that has begun.
-    pub(crate) fn append(&mut self, bytes: &[u8]) {
+    pub(in crate::proved::vm_lines) fn append(&mut self, bytes: &[u8]) {
         if self.is_too_long || bytes.len() > MAX_LINE_LEN - self.filled {
             self.is_too_long = true;
             return;
@@ -72,7 +72,7 @@ impl Session {
     }
 
     /// Returns whether a line has begun.
-    pub(crate) fn has_begun(&self) -> bool {
+    pub(in crate::proved::vm_lines) fn has_begun(&self) -> bool {
         self.is_too_long || self.filled > 0
     }
 }

@@ -5,11 +5,11 @@
 //! The four numbers of `manager` are read as one and three numbers, and the first two are converted
 //! to ids.
 
-use crate::number::leading_number;
+use crate::proved::vm_lines::number::leading_number;
 
 /// Returns the text after a prefix, or `None` if the text does not begin with it.
 #[inline(always)]
-pub(crate) fn strip_prefix<'a, const N: usize>(prefix: &[u8; N], text: &'a [u8]) -> Option<&'a [u8]> {
+pub(in crate::proved::vm_lines) fn strip_prefix<'a, const N: usize>(prefix: &[u8; N], text: &'a [u8]) -> Option<&'a [u8]> {
     if text.len() < N {
         return None;
     }
@@ -45,32 +45,32 @@ fn one_number(text: &[u8]) -> Option<u64> {
 }
 
 /// Returns the numbers of a text of two words.
-pub(crate) fn two_numbers(text: &[u8]) -> Option<(u64, u64)> {
+pub(in crate::proved::vm_lines) fn two_numbers(text: &[u8]) -> Option<(u64, u64)> {
     let (first, rest) = first_number(text)?;
     Some((first, one_number(rest?)?))
 }
 
 /// Returns the numbers of a text of three words.
 #[inline(always)]
-pub(crate) fn three_numbers(text: &[u8]) -> Option<(u64, u64, u64)> {
+pub(in crate::proved::vm_lines) fn three_numbers(text: &[u8]) -> Option<(u64, u64, u64)> {
     let (first, rest) = first_number(text)?;
     let (second, third) = two_numbers(rest?)?;
     Some((first, second, third))
 }
 
 /// Returns the id of a text of one word.
-pub(crate) fn one_id(text: &[u8]) -> Option<u32> {
+pub(in crate::proved::vm_lines) fn one_id(text: &[u8]) -> Option<u32> {
     u32::try_from(one_number(text)?).ok()
 }
 
 /// Returns the ids of a text of two words.
-pub(crate) fn two_ids(text: &[u8]) -> Option<(u32, u32)> {
+pub(in crate::proved::vm_lines) fn two_ids(text: &[u8]) -> Option<(u32, u32)> {
     let (first, second) = two_numbers(text)?;
     Some((u32::try_from(first).ok()?, u32::try_from(second).ok()?))
 }
 
 /// Returns the two ids and the two numbers of a text of four words.
-pub(crate) fn ids_and_numbers(text: &[u8]) -> Option<((u32, u32), (u64, u64))> {
+pub(in crate::proved::vm_lines) fn ids_and_numbers(text: &[u8]) -> Option<((u32, u32), (u64, u64))> {
     let (first, rest) = first_number(text)?;
     let (second, third, fourth) = three_numbers(rest?)?;
     let ids = (u32::try_from(first).ok()?, u32::try_from(second).ok()?);

@@ -2,7 +2,7 @@
 
 //! Rounding of addresses to multiples of an alignment.
 
-use crate::error::{Error, Result};
+use crate::proved::vm_ranges::error::{Error, Result};
 
 /// Returns the highest multiple of `alignment` that is at most `address`.
 ///

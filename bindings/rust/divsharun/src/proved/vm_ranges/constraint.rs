@@ -5,7 +5,7 @@
 //! The invariant of `Constraint` is that the request is valid, so functions that take a
 //! `Constraint` need no condition.
 
-use crate::error::{Error, Result};
+use crate::proved::vm_ranges::error::{Error, Result};
 
 /// The alignment for requests that need no particular alignment.
 pub const DEFAULT_CONSTRAINT_ALIGN: u64 = 4;

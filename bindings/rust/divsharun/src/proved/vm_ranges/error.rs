@@ -2,58 +2,66 @@
 
 //! The errors of calls, with the texts of the Rust crate.
 
-use crate::range::RangeInclusive;
-use crate::state::NodeState;
-use rattle::{AllocError, AllocFailed};
-use rattle::Error;
+use crate::proved::vm_ranges::range::RangeInclusive;
+use crate::proved::vm_ranges::state::NodeState;
+use crate::rattle::{AllocError, AllocFailed};
 
 /// The error of a call. A call that returns an error changes nothing.
 ///
 /// Errors are ordered by variant, then by fields.
-#[derive(Clone, Debug, PartialEq, Eq, PartialOrd, Ord, Error)]
+#[derive(Clone, Debug, PartialEq, Eq, PartialOrd, Ord)]
 pub enum Error {
     /// A range would end at or past `u64::MAX`, all ids up to `u32::MAX` are allocated, or the tree
     /// is too high for a split.
-    #[error("Management operations on desired resource resulted in overflow.")]
     Overflow,
     /// The id to free is outside the range of the allocator.
-    #[error("Specified id: {0} is not in the range.")]
     OutOfRange(u32),
     /// The id to free was freed and was not allocated since.
-    #[error("Specified id: {0} is already released.")]
     AlreadyReleased(u32),
     /// The id to free was never allocated, or no device has the id to release.
-    #[error("Specified id: {0} was never allocated, can't release it.")]
     NeverAllocated(u32),
     /// No range is free for the request, the range to free is not allocated, or all ids are
     /// allocated.
-    #[error("The requested resource is not available.")]
     ResourceNotAvailable,
     /// The start is past the end, or the range would contain all 2^64 addresses.
-    #[error("The range specified: {0}-{1} is not valid.")]
     InvalidRange(u64, u64),
     /// The alignment is not a power of two.
-    #[error("Alignment value is invalid.")]
     InvalidAlignment,
     /// The first range overlaps the second, which is already in a tree.
-    #[error("Addresses are overlapping.{0:?} intersects with existing {1:?}")]
     Overlap(RangeInclusive, RangeInclusive),
     /// Exactly the requested range is already allocated.
-    #[error("Invalid state transition for node {0:?} from {1:?} to NodeState::Free")]
     InvalidStateTransition(RangeInclusive, NodeState),
     /// The requested start is not a multiple of the alignment.
-    #[error("The address is not aligned.")]
     UnalignedAddress,
     /// A space without addresses is requested.
-    #[error("Management operations on desired resource resulted in underflow.")]
     Underflow,
     /// The requested size is 0.
-    #[error("The specified size: {0} is not valid.")]
     InvalidSize(u64),
     /// An allocation of memory failed.
-    #[error("There is not enough memory.")]
     OutOfMemory,
 }
+
+impl core::fmt::Display for Error {
+    fn fmt(&self, f: &mut core::fmt::Formatter<'_>) -> core::fmt::Result {
+        match self {
+            Error::Overflow => write!(f, "Management operations on desired resource resulted in overflow."),
+            Error::OutOfRange(field_0) => write!(f, "Specified id: {field_0} is not in the range."),
+            Error::AlreadyReleased(field_0) => write!(f, "Specified id: {field_0} is already released."),
+            Error::NeverAllocated(field_0) => write!(f, "Specified id: {field_0} was never allocated, can't release it."),
+            Error::ResourceNotAvailable => write!(f, "The requested resource is not available."),
+            Error::InvalidRange(field_0, field_1) => write!(f, "The range specified: {field_0}-{field_1} is not valid."),
+            Error::InvalidAlignment => write!(f, "Alignment value is invalid."),
+            Error::Overlap(field_0, field_1) => write!(f, "Addresses are overlapping.{field_0:?} intersects with existing {field_1:?}"),
+            Error::InvalidStateTransition(field_0, field_1) => write!(f, "Invalid state transition for node {field_0:?} from {field_1:?} to NodeState::Free"),
+            Error::UnalignedAddress => write!(f, "The address is not aligned."),
+            Error::Underflow => write!(f, "Management operations on desired resource resulted in underflow."),
+            Error::InvalidSize(field_0) => write!(f, "The specified size: {field_0} is not valid."),
+            Error::OutOfMemory => write!(f, "There is not enough memory."),
+        }
+    }
+}
+
+impl core::error::Error for Error {}
 
 impl From<AllocError> for Error {
     fn from(_error: AllocError) -> Error {

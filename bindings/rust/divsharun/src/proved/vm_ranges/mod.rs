@@ -3,9 +3,6 @@
 //! Ranges of addresses, alignment, requests, errors, states of blocks, and the saved values of
 //! ranges and states.
 
-#![forbid(unsafe_code)]
-#![no_std]
-
 mod alignment;
 mod constraint;
 mod error;

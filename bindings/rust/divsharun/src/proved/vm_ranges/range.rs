@@ -4,7 +4,7 @@
 //!
 //! Their order is written by hand, so that the contract of `cmp` names it: by start, then by end.
 
-use crate::error::{Error, Result};
+use crate::proved::vm_ranges::error::{Error, Result};
 use core::cmp::Ordering;
 
 /// A closed range of addresses: its start, its end and all addresses between them.

@@ -5,24 +5,32 @@
 //! A value can be untrusted input. It is accepted if and only if it encodes an object: it has
 //! exactly the fields of the object, and they are valid. The order of the fields does not matter.
 
-pub(crate) mod fields;
-pub(crate) mod numbers;
-pub(crate) mod range;
-pub(crate) mod state;
+pub(in crate::proved::vm_ranges) mod fields;
+pub(in crate::proved::vm_ranges) mod numbers;
+pub(in crate::proved::vm_ranges) mod range;
+pub(in crate::proved::vm_ranges) mod state;
 
-use rattle::{AllocError, AllocFailed};
-use rattle::Error;
+use crate::rattle::{AllocError, AllocFailed};
 
 /// The error of reading a saved value.
-#[derive(Debug, PartialEq, Eq, Error)]
+#[derive(Debug, PartialEq, Eq)]
 pub enum ValueError {
     /// The value does not encode an object of the type.
-    #[error("The value states no valid object.")]
     NotAState,
     /// An allocation of memory failed.
-    #[error("There is not enough memory.")]
     OutOfMemory,
 }
+
+impl core::fmt::Display for ValueError {
+    fn fmt(&self, f: &mut core::fmt::Formatter<'_>) -> core::fmt::Result {
+        match self {
+            ValueError::NotAState => write!(f, "The value states no valid object."),
+            ValueError::OutOfMemory => write!(f, "There is not enough memory."),
+        }
+    }
+}
+
+impl core::error::Error for ValueError {}
 
 impl From<AllocError> for ValueError {
     fn from(_error: AllocError) -> ValueError {

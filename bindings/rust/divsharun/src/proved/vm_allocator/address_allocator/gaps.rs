@@ -5,7 +5,7 @@
 //! A gap is a run of free addresses with no free address next to it.
 
 use super::AddressAllocator;
-use vm_engine::Gaps;
+use crate::proved::vm_engine::Gaps;
 
 impl AddressAllocator {
     /// Returns an iterator over the gaps, from the lowest to the highest.

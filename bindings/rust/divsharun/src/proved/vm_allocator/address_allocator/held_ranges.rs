@@ -3,8 +3,8 @@
 //! Queries of the allocated ranges: an iterator, a test, a search by an address, and a count.
 
 use super::AddressAllocator;
-use vm_engine::HeldRanges;
-use vm_ranges::RangeInclusive;
+use crate::proved::vm_engine::HeldRanges;
+use crate::proved::vm_ranges::RangeInclusive;
 
 impl AddressAllocator {
     /// Returns an iterator over the allocated ranges, from the lowest to the highest.

@@ -2,11 +2,11 @@
 
 //! Several allocations in one call: all or none.
 
-use rattle::Vec;
+use crate::rattle::Vec;
 use super::AddressAllocator;
-use rattle::Global;
-use vm_engine::IntervalTree;
-use vm_ranges::{Constraint, RangeInclusive, Result};
+use crate::rattle::Global;
+use crate::proved::vm_engine::IntervalTree;
+use crate::proved::vm_ranges::{Constraint, RangeInclusive, Result};
 
 impl AddressAllocator {
     /// Allocates a range for each request, in their order, and returns the ranges. Each range is where

@@ -3,7 +3,7 @@
 //! Equality of id allocators.
 
 use super::IdAllocator;
-use rattle::BTreeSet;
+use crate::rattle::BTreeSet;
 
 impl PartialEq for IdAllocator {
     /// Returns whether both allocators have the same range, the same allocated ids and the same ids

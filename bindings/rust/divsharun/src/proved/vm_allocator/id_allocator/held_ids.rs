@@ -5,7 +5,7 @@
 //! It walks over the ids that were allocated at some time, and beside them over the freed ids.
 
 use super::{IdAllocator, bound_of};
-use rattle::btree_set::Iter;
+use crate::rattle::btree_set::Iter;
 
 /// An iterator over the allocated ids, from the lowest to the highest. It does not allocate.
 ///

@@ -2,11 +2,11 @@
 
 //! The saved value of an address allocator.
 
-use crate::address_allocator::AddressAllocator;
-use rattle::{Value, json};
-use rattle::{AllocError, Global};
-use vm_engine::IntervalTree;
-use vm_ranges::{RangeInclusive, Result, ValueError, has_fields, range_in};
+use crate::proved::vm_allocator::address_allocator::AddressAllocator;
+use crate::rattle::{Value, json};
+use crate::rattle::{AllocError, Global};
+use crate::proved::vm_engine::IntervalTree;
+use crate::proved::vm_ranges::{RangeInclusive, Result, ValueError, has_fields, range_in};
 
 impl AddressAllocator {
     /// Encodes the allocator as a value: its space, and its tree node by node.

@@ -2,12 +2,12 @@
 
 //! The saved value of an id allocator.
 
-use rattle::Vec;
-use crate::id_allocator::{IdAllocator, bound_of};
-use rattle::{Value, json};
-use rattle::{AllocError, Global};
-use rattle::BTreeSet;
-use vm_ranges::{Result, ValueError, has_fields, list_in, u32_from, u32_in};
+use crate::rattle::Vec;
+use crate::proved::vm_allocator::id_allocator::{IdAllocator, bound_of};
+use crate::rattle::{Value, json};
+use crate::rattle::{AllocError, Global};
+use crate::rattle::BTreeSet;
+use crate::proved::vm_ranges::{Result, ValueError, has_fields, list_in, u32_from, u32_in};
 
 impl IdAllocator {
     /// Encodes the allocator as a value: its range, the next id and the freed ids.

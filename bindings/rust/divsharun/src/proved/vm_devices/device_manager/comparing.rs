@@ -3,8 +3,8 @@
 //! Equality of managers.
 
 use super::DeviceManager;
-use rattle::BTreeMap;
-use vm_allocator::RangeInclusive;
+use crate::rattle::BTreeMap;
+use crate::proved::vm_allocator::RangeInclusive;
 
 impl PartialEq for DeviceManager {
     /// Returns whether both managers have equal allocators and the same devices.

@@ -2,9 +2,9 @@
 
 //! The table of the devices. It finds a range by its id, and an id by the start of its range.
 
-use rattle::{AllocError, Global};
-use rattle::BTreeMap;
-use vm_allocator::RangeInclusive;
+use crate::rattle::{AllocError, Global};
+use crate::rattle::BTreeMap;
+use crate::proved::vm_allocator::RangeInclusive;
 
 /// The range of each device by its id, and the id of each device by the start of its range.
 ///

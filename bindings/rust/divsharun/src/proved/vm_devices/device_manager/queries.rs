@@ -4,9 +4,9 @@
 //! allocators.
 
 use super::DeviceManager;
-use crate::device_slot::DeviceSlot;
-use rattle::btree_map::Iter;
-use vm_allocator::{AddressAllocator, IdAllocator, RangeInclusive};
+use crate::proved::vm_devices::device_slot::DeviceSlot;
+use crate::rattle::btree_map::Iter;
+use crate::proved::vm_allocator::{AddressAllocator, IdAllocator, RangeInclusive};
 
 /// An iterator over the devices, by increasing ids. It does not allocate.
 ///

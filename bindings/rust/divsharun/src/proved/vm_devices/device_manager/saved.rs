@@ -2,7 +2,7 @@
 
 //! The saved value of a manager: its version, both allocators, and the list of its devices.
 
-use rattle::Vec;
+use crate::rattle::Vec;
 mod pairing;
 mod slots;
 
@@ -10,10 +10,10 @@ use self::pairing::read_devices;
 use self::slots::encode_slots;
 use super::DeviceManager;
 use super::device_table::DeviceTable;
-use rattle::{Value, json};
-use rattle::{AllocError, Global};
-use vm_allocator::{AddressAllocator, IdAllocator, Result, ValueError};
-use vm_ranges::{has_fields, list_in, number_in};
+use crate::rattle::{Value, json};
+use crate::rattle::{AllocError, Global};
+use crate::proved::vm_allocator::{AddressAllocator, IdAllocator, Result, ValueError};
+use crate::proved::vm_ranges::{has_fields, list_in, number_in};
 
 /// The version of the saved value.
 const VERSION: u64 = 1;

@@ -6,15 +6,15 @@
 //! the block. All memory for a split is allocated before the first change, so an error changes
 //! nothing.
 
-use rattle::Box;
+use crate::rattle::Box;
 use super::IntervalTree;
-use crate::Steps;
-use crate::node::rewrite::rewrite_at;
-use crate::node::split::{Choice, Rest, Split, split_at};
-use crate::node::{Child, InnerNode};
-use crate::ordering::valid_range;
-use rattle::Global;
-use vm_ranges::{Error, NodeState, RangeInclusive, Result};
+use crate::proved::vm_engine::Steps;
+use crate::proved::vm_engine::node::rewrite::rewrite_at;
+use crate::proved::vm_engine::node::split::{Choice, Rest, Split, split_at};
+use crate::proved::vm_engine::node::{Child, InnerNode};
+use crate::proved::vm_engine::ordering::valid_range;
+use crate::rattle::Global;
+use crate::proved::vm_ranges::{Error, NodeState, RangeInclusive, Result};
 
 /// Trees of this height or more are not split, so a split never makes a tree higher than 49.
 const SPLIT_HEIGHT_LIMIT: u64 = 48;

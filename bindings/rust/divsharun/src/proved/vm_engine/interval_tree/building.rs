@@ -6,11 +6,11 @@
 //! from the middle, so no rotation is needed.
 
 use super::IntervalTree;
-use crate::block::Block;
-use crate::node::{Child, InnerNode};
-use crate::ordering::valid_range;
-use rattle::Global;
-use vm_ranges::{Error, NodeState, RangeInclusive, Result};
+use crate::proved::vm_engine::block::Block;
+use crate::proved::vm_engine::node::{Child, InnerNode};
+use crate::proved::vm_engine::ordering::valid_range;
+use crate::rattle::Global;
+use crate::proved::vm_ranges::{Error, NodeState, RangeInclusive, Result};
 
 /// A tree of this many blocks or more is too high.
 const TOO_MANY_BLOCKS: u64 = 1 << 49;

@@ -3,7 +3,7 @@
 //! Equality and order of trees. Both compare the blocks, so the shape of a tree does not matter.
 
 use super::IntervalTree;
-use crate::node::walks::comparing::{compare_blocks, same_blocks};
+use crate::proved::vm_engine::node::walks::comparing::{compare_blocks, same_blocks};
 use core::cmp::Ordering;
 
 impl PartialEq for IntervalTree {

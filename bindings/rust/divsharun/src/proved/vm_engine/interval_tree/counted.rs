@@ -6,19 +6,19 @@
 //! copy one. Code that receives a counter can only count a node, or pass the counter on.
 
 use super::IntervalTree;
-use crate::node::InnerNode;
-use rattle::Global;
-use vm_ranges::{Constraint, RangeInclusive, Result};
+use crate::proved::vm_engine::node::InnerNode;
+use crate::rattle::Global;
+use crate::proved::vm_ranges::{Constraint, RangeInclusive, Result};
 
 /// The number of nodes that a call has entered.
-pub(crate) struct Steps {
+pub(in crate::proved::vm_engine) struct Steps {
     entered: u64,
 }
 
 impl InnerNode {
     /// Counts this node as entered.
     #[inline(always)]
-    pub(crate) fn enter(&self, count: &mut Steps) {
+    pub(in crate::proved::vm_engine) fn enter(&self, count: &mut Steps) {
         count.entered += 1;
     }
 }

@@ -8,13 +8,13 @@
 //! which.
 
 use super::IntervalTree;
-use crate::Steps;
-use crate::node::Child;
-use crate::node::delete::delete_at;
-use crate::node::neighbours::Neighbours;
-use crate::node::widen::widen;
-use crate::ordering::valid_range;
-use vm_ranges::{Error, RangeInclusive, Result};
+use crate::proved::vm_engine::Steps;
+use crate::proved::vm_engine::node::Child;
+use crate::proved::vm_engine::node::delete::delete_at;
+use crate::proved::vm_engine::node::neighbours::Neighbours;
+use crate::proved::vm_engine::node::widen::widen;
+use crate::proved::vm_engine::ordering::valid_range;
+use crate::proved::vm_ranges::{Error, RangeInclusive, Result};
 
 impl IntervalTree {
     /// Frees like `free`, and adds the number of entered nodes to a counter at 0.

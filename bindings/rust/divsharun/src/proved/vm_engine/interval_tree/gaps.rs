@@ -6,9 +6,9 @@
 //! A gap is a run of free addresses with no free address next to it. Each free block is a gap.
 
 use super::IntervalTree;
-use crate::node::walks::Walk;
-use crate::node::walks::gaps::count_clear;
-use vm_ranges::{NodeState, RangeInclusive};
+use crate::proved::vm_engine::node::walks::Walk;
+use crate::proved::vm_engine::node::walks::gaps::count_clear;
+use crate::proved::vm_ranges::{NodeState, RangeInclusive};
 
 /// An iterator over the gaps, from the lowest to the highest. It does not allocate.
 ///
@@ -21,7 +21,6 @@ impl<'a> Iterator for Gaps<'a> {
     type Item = RangeInclusive;
 
     /// Returns the next gap.
-    #[allow(clippy::while_let_on_iterator)]
     fn next(&mut self) -> Option<RangeInclusive> {
         while let Some(block) = self.walk.next() {
             if block.state == NodeState::Free {

@@ -6,9 +6,9 @@
 //! them.
 
 use super::IntervalTree;
-use crate::node::walks::Walk;
-use crate::node::walks::held::{count_held, has_held, held_at};
-use vm_ranges::{NodeState, RangeInclusive};
+use crate::proved::vm_engine::node::walks::Walk;
+use crate::proved::vm_engine::node::walks::held::{count_held, has_held, held_at};
+use crate::proved::vm_ranges::{NodeState, RangeInclusive};
 
 /// An iterator over the allocated ranges, from the lowest to the highest. It does not allocate.
 ///
@@ -21,7 +21,6 @@ impl<'a> Iterator for HeldRanges<'a> {
     type Item = RangeInclusive;
 
     /// Returns the next allocated range.
-    #[allow(clippy::while_let_on_iterator)]
     fn next(&mut self) -> Option<RangeInclusive> {
         while let Some(block) = self.walk.next() {
             if block.state == NodeState::Allocated {

@@ -3,11 +3,11 @@
 //! Chooses the range of a request, and finds the free block that contains it.
 
 use super::IntervalTree;
-use crate::Steps;
-use crate::node::places::{Place, first_place, last_place};
-use crate::node::split::Choice;
-use crate::ordering::valid_range;
-use vm_ranges::{AllocPolicy, Constraint, Error, NodeState, RangeInclusive, Result};
+use crate::proved::vm_engine::Steps;
+use crate::proved::vm_engine::node::places::{Place, first_place, last_place};
+use crate::proved::vm_engine::node::split::Choice;
+use crate::proved::vm_engine::ordering::valid_range;
+use crate::proved::vm_ranges::{AllocPolicy, Constraint, Error, NodeState, RangeInclusive, Result};
 
 impl IntervalTree {
     /// Returns the range that the policy of a request chooses, with its free block, or the error of

@@ -11,12 +11,12 @@
 //! Rotations change nodes in place. This is faster than taking the nodes apart and building them
 //! again.
 
-use rattle::Box;
+use crate::rattle::Box;
 use super::summary::{
     Change, free_summary_of, free_summary_over, refresh_free, summary_of, summary_over,
 };
 use super::{Child, InnerNode, height};
-use vm_ranges::{NodeState, RangeInclusive};
+use crate::proved::vm_ranges::{NodeState, RangeInclusive};
 
 /// The effect of a changed child on its parent.
 pub(super) enum Updated {

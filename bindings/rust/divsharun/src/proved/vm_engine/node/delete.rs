@@ -5,14 +5,14 @@
 //! `delete_root` is a function that is never inlined, because otherwise each level of the descent
 //! would save its registers too.
 
-use rattle::Box;
+use crate::rattle::Box;
 use super::balance::{balance, update};
 use super::summary::Change;
 use super::{Child, InnerNode};
-use crate::Steps;
-use crate::ordering::compare;
+use crate::proved::vm_engine::Steps;
+use crate::proved::vm_engine::ordering::compare;
 use core::cmp::Ordering;
-use vm_ranges::RangeInclusive;
+use crate::proved::vm_ranges::RangeInclusive;
 
 /// Takes the node with the lowest key out of the subtree at a link, and rebalances the path.
 /// Returns that node and the change of the subtree's summary.
@@ -65,7 +65,7 @@ impl InnerNode {
     ///
     /// It does not allocate.
     #[inline(never)]
-    pub(crate) fn delete_root(tree: Box<InnerNode>, count: &mut Steps) -> Option<Box<InnerNode>> {
+    pub(in crate::proved::vm_engine) fn delete_root(tree: Box<InnerNode>, count: &mut Steps) -> Option<Box<InnerNode>> {
         let InnerNode { left, right, .. } = Box::into_inner(tree);
         join(left, right, count)
     }
@@ -73,7 +73,7 @@ impl InnerNode {
 
 /// Removes the node with this key from the subtree at a link, if there is one, and rebalances the
 /// path. Returns the change of the subtree's summary.
-pub(crate) fn delete_at(at: &mut Child, key: &RangeInclusive, count: &mut Steps) -> Change {
+pub(in crate::proved::vm_engine) fn delete_at(at: &mut Child, key: &RangeInclusive, count: &mut Steps) -> Change {
     let Some(tree) = at else {
         return Change::Nothing
     };

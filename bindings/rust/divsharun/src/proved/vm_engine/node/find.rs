@@ -3,13 +3,13 @@
 //! The search for the block that contains a range.
 
 use super::InnerNode;
-use crate::Steps;
-use crate::ordering::ends_before;
-use vm_ranges::RangeInclusive;
+use crate::proved::vm_engine::Steps;
+use crate::proved::vm_engine::ordering::ends_before;
+use crate::proved::vm_ranges::RangeInclusive;
 
 impl InnerNode {
     /// Returns the node whose key contains this range, or `None` if there is no such node.
-    pub(crate) fn search_superset(
+    pub(in crate::proved::vm_engine) fn search_superset(
         &self,
         key: &RangeInclusive,
         count: &mut Steps,

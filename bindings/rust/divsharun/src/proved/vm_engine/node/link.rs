@@ -2,12 +2,12 @@
 
 //! Adds a leaf to a tree, in one descent.
 
-use rattle::Box;
+use crate::rattle::Box;
 use super::balance::update;
 use super::summary::Change;
 use super::{Child, InnerNode};
-use crate::Steps;
-use crate::ordering::starts_before;
+use crate::proved::vm_engine::Steps;
+use crate::proved::vm_engine::ordering::starts_before;
 
 /// Adds a leaf to the subtree at a link, and rebalances the path. Returns the change of the
 /// subtree's summary.

@@ -6,18 +6,18 @@
 //! it found the block. So the recursive call is the last step, and compiles to a loop.
 
 use super::{Child, InnerNode};
-use crate::Steps;
-use crate::ordering::compare;
+use crate::proved::vm_engine::Steps;
+use crate::proved::vm_engine::ordering::compare;
 use core::cmp::Ordering;
-use vm_ranges::{NodeState, RangeInclusive};
+use crate::proved::vm_ranges::{NodeState, RangeInclusive};
 
 /// The free neighbours of an allocated block.
 #[derive(Clone, Copy)]
-pub(crate) struct Neighbours {
+pub(in crate::proved::vm_engine) struct Neighbours {
     /// The free block that ends right before it, if there is one.
-    pub(crate) before: Option<RangeInclusive>,
+    pub(in crate::proved::vm_engine) before: Option<RangeInclusive>,
     /// The free block that starts right after it, if there is one.
-    pub(crate) after: Option<RangeInclusive>,
+    pub(in crate::proved::vm_engine) after: Option<RangeInclusive>,
 }
 
 /// The nodes of the blocks right before and right after a block, if they exist.
@@ -128,7 +128,7 @@ impl InnerNode {
     /// Returns the free neighbours of the allocated block with this key.
     ///
     /// It returns `None` if there is no such block.
-    pub(crate) fn neighbours(&self, key: &RangeInclusive, count: &mut Steps) -> Option<Neighbours> {
+    pub(in crate::proved::vm_engine) fn neighbours(&self, key: &RangeInclusive, count: &mut Steps) -> Option<Neighbours> {
         let mut beside = NeighbourNodes {
             before: None,
             after: None,

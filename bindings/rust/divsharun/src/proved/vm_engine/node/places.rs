@@ -8,16 +8,16 @@
 //! summary fits the request.
 
 use super::{Child, InnerNode};
-use crate::Steps;
-use vm_ranges::{NodeState, RangeInclusive, align_down, align_up};
+use crate::proved::vm_engine::Steps;
+use crate::proved::vm_ranges::{NodeState, RangeInclusive, align_down, align_up};
 
 /// An address in a free block at which a request can start.
 #[derive(Clone, Copy, Debug)]
-pub(crate) struct Place {
+pub(in crate::proved::vm_engine) struct Place {
     /// The free block.
-    pub(crate) key: RangeInclusive,
+    pub(in crate::proved::vm_engine) key: RangeInclusive,
     /// An address of the block.
-    pub(crate) start: u64,
+    pub(in crate::proved::vm_engine) start: u64,
 }
 
 /// Returns the lowest multiple of `alignment` at which `size` addresses fit into the block.
@@ -68,7 +68,7 @@ fn may_fit(tree: &Child, size: u64, alignment: u64) -> Option<&InnerNode> {
 }
 
 /// Returns the lowest place for a request in a tree, or `None` if there is no place.
-pub(crate) fn first_place(
+pub(in crate::proved::vm_engine) fn first_place(
     tree: &Child,
     size: u64,
     alignment: u64,
@@ -82,7 +82,7 @@ pub(crate) fn first_place(
 }
 
 /// Returns the highest place for a request in a tree, or `None` if there is no place.
-pub(crate) fn last_place(
+pub(in crate::proved::vm_engine) fn last_place(
     tree: &Child,
     size: u64,
     alignment: u64,

@@ -4,10 +4,10 @@
 
 use super::summary::{Change, free_summary_over, refresh_free, summary_of};
 use super::{Child, InnerNode};
-use crate::Steps;
-use crate::ordering::compare;
+use crate::proved::vm_engine::Steps;
+use crate::proved::vm_engine::ordering::compare;
 use core::cmp::Ordering;
-use vm_ranges::{NodeState, RangeInclusive};
+use crate::proved::vm_ranges::{NodeState, RangeInclusive};
 
 impl InnerNode {
     /// Changes the key and the state of this node. The new key keeps its position in the order.
@@ -26,7 +26,7 @@ impl InnerNode {
 /// keeps its position in the order.
 ///
 /// It returns the change of the subtree's summary, and does not allocate.
-pub(crate) fn rewrite_at(
+pub(in crate::proved::vm_engine) fn rewrite_at(
     at: &mut Child,
     old: &RangeInclusive,
     key: RangeInclusive,

@@ -14,17 +14,17 @@ use super::balance::update;
 use super::link::link_at;
 use super::summary::{Change, free_summary_over, refresh_free, summary_of};
 use super::{Child, InnerNode};
-use crate::Steps;
-use crate::ordering::compare;
+use crate::proved::vm_engine::Steps;
+use crate::proved::vm_engine::ordering::compare;
 use core::cmp::Ordering;
-use vm_ranges::{NodeState, RangeInclusive};
+use crate::proved::vm_ranges::{NodeState, RangeInclusive};
 
 /// The parts of a free block before and after a range. Each is a leaf, or absent if it is empty.
-pub(crate) struct Rest {
+pub(in crate::proved::vm_engine) struct Rest {
     /// The part that ends right before the range.
-    pub(crate) before: Child,
+    pub(in crate::proved::vm_engine) before: Child,
     /// The part that starts right after the range.
-    pub(crate) after: Child,
+    pub(in crate::proved::vm_engine) after: Child,
 }
 
 /// Links a leaf below a child, if there is a leaf.
@@ -36,19 +36,19 @@ fn link_if_some(child: &mut Child, leaf: Child, count: &mut Steps) {
 
 /// A range to allocate, and the free block that contains it.
 #[derive(Clone, Copy)]
-pub(crate) struct Choice {
+pub(in crate::proved::vm_engine) struct Choice {
     /// The free block.
-    pub(crate) key: RangeInclusive,
+    pub(in crate::proved::vm_engine) key: RangeInclusive,
     /// The range, within that block.
-    pub(crate) range: RangeInclusive,
+    pub(in crate::proved::vm_engine) range: RangeInclusive,
 }
 
 /// A split: the range with its free block, and the leaves that are not linked yet.
-pub(crate) struct Split {
+pub(in crate::proved::vm_engine) struct Split {
     /// The range, and the free block that contains it.
-    pub(crate) choice: Choice,
+    pub(in crate::proved::vm_engine) choice: Choice,
     /// The parts of the block before and after the range.
-    pub(crate) rest: Rest,
+    pub(in crate::proved::vm_engine) rest: Rest,
 }
 
 /// Gives the root of the subtree at a link the range, marks it as allocated, and links the leaves.
@@ -75,7 +75,7 @@ fn split_here(at: &mut Child, split: &mut Split, count: &mut Steps) -> Change {
 
 /// Splits the free block of `split` in the subtree at a link, and rebalances the path. Returns the
 /// change of the subtree's summary.
-pub(crate) fn split_at(at: &mut Child, split: &mut Split, count: &mut Steps) -> Change {
+pub(in crate::proved::vm_engine) fn split_at(at: &mut Child, split: &mut Split, count: &mut Steps) -> Change {
     let Some(tree) = at else { unreachable!() };
     let tree: &mut InnerNode = tree;
     tree.enter(count);

@@ -11,7 +11,7 @@
 //! as one byte next to the state, so a node has 72 bytes.
 
 use super::Child;
-use vm_ranges::{NodeState, RangeInclusive};
+use crate::proved::vm_ranges::{NodeState, RangeInclusive};
 
 /// The free part of a summary, of a subtree or of one block.
 #[derive(Clone, Copy, Debug)]
@@ -24,7 +24,7 @@ pub(super) struct FreeSummary {
 
 /// The parts of a node's summary that a change below it has changed.
 #[derive(Clone, Copy, Debug)]
-pub(crate) enum Change {
+pub(in crate::proved::vm_engine) enum Change {
     /// The summary is the same, so no node above changes either.
     Nothing,
     /// The free part may have changed. The height is the same.

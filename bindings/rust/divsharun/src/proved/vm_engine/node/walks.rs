@@ -6,14 +6,14 @@
 //! side find the first difference of two trees of different shapes. `copying`, `encoding`, `held` and
 //! `gaps` are recursive. `encoding` is in this folder because it reads the fields of nodes.
 
-pub(crate) mod comparing;
-pub(crate) mod copying;
-pub(crate) mod encoding;
-pub(crate) mod gaps;
-pub(crate) mod held;
+pub(in crate::proved::vm_engine) mod comparing;
+pub(in crate::proved::vm_engine) mod copying;
+pub(in crate::proved::vm_engine) mod encoding;
+pub(in crate::proved::vm_engine) mod gaps;
+pub(in crate::proved::vm_engine) mod held;
 
 use super::{Child, InnerNode};
-use crate::block::Block;
+use crate::proved::vm_engine::block::Block;
 
 /// The height of the highest tree, and so the length of the longest path.
 const MAX_PATH: usize = 49;
@@ -35,14 +35,14 @@ fn descend<'a>(path: &mut [&'a Child; MAX_PATH], mut at: usize, mut tree: &'a Ch
 ///
 /// `path[from..]` has the nodes on the current path whose blocks were not returned yet, the next
 /// one first. The model is the list of all blocks that were not returned yet.
-pub(crate) struct Walk<'a> {
+pub(in crate::proved::vm_engine) struct Walk<'a> {
     path: [&'a Child; MAX_PATH],
     from: usize,
 }
 
 impl<'a> Walk<'a> {
     /// Creates an iterator over all blocks of a tree.
-    pub(crate) fn new(tree: &'a Child) -> Walk<'a> {
+    pub(in crate::proved::vm_engine) fn new(tree: &'a Child) -> Walk<'a> {
         let mut path = [tree; MAX_PATH];
         let from = descend(&mut path, MAX_PATH, tree);
         Walk { path, from }

@@ -8,10 +8,10 @@
 
 use super::summary::{FreeSummary, free_summary_of, raise_free};
 use super::{Child, InnerNode};
-use crate::Steps;
-use crate::ordering::compare;
+use crate::proved::vm_engine::Steps;
+use crate::proved::vm_engine::ordering::compare;
 use core::cmp::Ordering;
-use vm_ranges::{NodeState, RangeInclusive};
+use crate::proved::vm_ranges::{NodeState, RangeInclusive};
 
 /// Makes the allocated block with key `held` free and gives it `range`, in the subtree at a link.
 ///
@@ -41,7 +41,7 @@ fn widen_at(
 /// the order.
 ///
 /// It does not allocate.
-pub(crate) fn widen(
+pub(in crate::proved::vm_engine) fn widen(
     root: &mut Child,
     held: &RangeInclusive,
     range: &RangeInclusive,

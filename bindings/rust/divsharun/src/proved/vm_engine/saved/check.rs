@@ -4,9 +4,9 @@
 //! allocate.
 
 use super::node::decode_node;
-use crate::node::MAX_HEIGHT;
-use rattle::Value;
-use vm_ranges::{NodeState, RangeInclusive};
+use crate::proved::vm_engine::node::MAX_HEIGHT;
+use crate::rattle::Value;
+use crate::proved::vm_ranges::{NodeState, RangeInclusive};
 
 /// Returns `true` if a value encodes a tree whose blocks cover the space exactly.
 ///
@@ -63,7 +63,6 @@ struct CheckedTree {
 /// - Nodes are nested deeper than `depth`.
 /// - A height is wrong, or a node is unbalanced.
 /// - A block cannot follow the block before it.
-#[allow(clippy::question_mark)]
 fn check_subtree(value: &Value, depth: u64, cursor: Cursor) -> Option<CheckedTree> {
     if value.is_null() {
         return Some(CheckedTree { height: 0, cursor });

@@ -3,9 +3,9 @@
 //! Reads and writes the fields of a node's value. The names of the fields are only in this file.
 //! Reading does not allocate.
 
-use rattle::{Value, json};
-use rattle::{AllocError, Global};
-use vm_ranges::{NodeState, RangeInclusive, Result, has_fields, number_in, range_in, state_in};
+use crate::rattle::{Value, json};
+use crate::rattle::{AllocError, Global};
+use crate::proved::vm_ranges::{NodeState, RangeInclusive, Result, has_fields, number_in, range_in, state_in};
 
 const KEY: &str = "key";
 
@@ -19,24 +19,24 @@ const HEIGHT: &str = "height";
 
 /// The fields of a node's value.
 #[derive(Clone, Copy)]
-pub(crate) struct SavedNode<'a> {
+pub(in crate::proved::vm_engine) struct SavedNode<'a> {
     /// The range of the block.
-    pub(crate) key: RangeInclusive,
+    pub(in crate::proved::vm_engine) key: RangeInclusive,
     /// The state of the block.
-    pub(crate) state: NodeState,
+    pub(in crate::proved::vm_engine) state: NodeState,
     /// The height that the value has for the subtree.
-    pub(crate) height: u64,
+    pub(in crate::proved::vm_engine) height: u64,
     /// The value of the left child.
-    pub(crate) left: &'a Value,
+    pub(in crate::proved::vm_engine) left: &'a Value,
     /// The value of the right child.
-    pub(crate) right: &'a Value,
+    pub(in crate::proved::vm_engine) right: &'a Value,
 }
 
 /// Returns the fields of a node's value. Returns `None` if the value does not have exactly these
 /// fields, or if the key, the state or the height is not valid.
 ///
 /// It does not allocate, and does not check the values of the children.
-pub(crate) fn decode_node(value: &Value) -> Option<SavedNode<'_>> {
+pub(in crate::proved::vm_engine) fn decode_node(value: &Value) -> Option<SavedNode<'_>> {
     if !has_fields(value, 5) {
         return None;
     }
@@ -53,7 +53,7 @@ pub(crate) fn decode_node(value: &Value) -> Option<SavedNode<'_>> {
 ///
 /// It returns `OutOfMemory` if an allocation fails.
 #[inline(always)]
-pub(crate) fn encode_node(
+pub(in crate::proved::vm_engine) fn encode_node(
     mut left: Value,
     key: &RangeInclusive,
     node_state: NodeState,

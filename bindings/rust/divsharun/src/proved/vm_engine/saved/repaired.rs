@@ -5,12 +5,12 @@
 //! A first pass checks the whole value and does not allocate. A second pass collects the allocated
 //! keys, and a new tree is built of them.
 
-use rattle::Vec;
+use crate::rattle::Vec;
 use super::node::decode_node;
-use crate::IntervalTree;
-use rattle::Value;
-use rattle::{AllocError, Global};
-use vm_ranges::{NodeState, RangeInclusive, ValueError};
+use crate::proved::vm_engine::IntervalTree;
+use crate::rattle::Value;
+use crate::rattle::{AllocError, Global};
+use crate::proved::vm_ranges::{NodeState, RangeInclusive, ValueError};
 
 /// The maximum nesting of nodes. No tree of the Rust crate is higher.
 const MAX_NESTING_REPAIRED: u64 = 50;
@@ -89,7 +89,6 @@ impl KeyCursor {
 ///
 /// Returns `None` if the value is not a tree of nodes, if its nodes are nested deeper than `depth`,
 /// or if a block cannot follow the block before it.
-#[allow(clippy::question_mark)]
 fn check_keys(value: &Value, end: u64, depth: u64, cursor: KeyCursor) -> Option<KeyCursor> {
     if value.is_null() {
         return Some(cursor);
@@ -106,7 +105,6 @@ fn check_keys(value: &Value, end: u64, depth: u64, cursor: KeyCursor) -> Option<
 }
 
 /// Appends the allocated keys of a checked value to a list, in order.
-#[allow(clippy::only_used_in_recursion)]
 fn collect_keys(
     value: &Value,
     depth: u64,

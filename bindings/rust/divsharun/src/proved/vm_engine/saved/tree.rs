@@ -2,14 +2,14 @@
 
 //! Encodes a tree as a value, and decodes it. A value is checked completely before nodes are built.
 
-use crate::IntervalTree;
-use crate::node::walks::encoding::encode;
-use crate::node::{Child, InnerNode, MAX_HEIGHT};
-use crate::saved::check::is_tree_of;
-use crate::saved::node::decode_node;
-use rattle::Value;
-use rattle::{AllocError, Global};
-use vm_ranges::{RangeInclusive, Result, ValueError};
+use crate::proved::vm_engine::IntervalTree;
+use crate::proved::vm_engine::node::walks::encoding::encode;
+use crate::proved::vm_engine::node::{Child, InnerNode, MAX_HEIGHT};
+use crate::proved::vm_engine::saved::check::is_tree_of;
+use crate::proved::vm_engine::saved::node::decode_node;
+use crate::rattle::Value;
+use crate::rattle::{AllocError, Global};
+use crate::proved::vm_ranges::{RangeInclusive, Result, ValueError};
 
 impl IntervalTree {
     /// Returns the value that encodes the tree, with one object for each node.
@@ -46,7 +46,6 @@ impl IntervalTree {
 /// Builds the tree that a checked value encodes, with the same nodes.
 ///
 /// It returns an error if the allocation of a node fails. The nodes built so far are freed.
-#[allow(clippy::only_used_in_recursion)]
 fn build(value: &Value, depth: u64, alloc: Global) -> core::result::Result<Child, AllocError> {
     let Some(node) = decode_node(value) else {
         return Ok(None);

@@ -4,8 +4,8 @@
 //!
 //! If the number is right and each expected field is found, there are no other fields.
 
-use rattle::Vec;
-use rattle::Value;
+use crate::rattle::Vec;
+use crate::rattle::Value;
 
 /// Returns whether the value is an object with exactly `count` fields.
 pub fn has_fields(value: &Value, count: usize) -> bool {

@@ -2,7 +2,7 @@
 
 //! Whole numbers of 64 and of 32 bits in the fields of a value.
 
-use rattle::Value;
+use crate::rattle::Value;
 
 /// Returns the whole number in the field `name`, or `None` if there is no whole number of 64 bits.
 pub fn number_in(value: &Value, name: &str) -> Option<u64> {

@@ -2,13 +2,13 @@
 
 //! The saved value of a range.
 
-use crate::error::Result;
-use crate::range::RangeInclusive;
-use crate::saved::ValueError;
-use crate::saved::fields::has_fields;
-use crate::saved::numbers::number_in;
-use rattle::{Value, json};
-use rattle::Global;
+use crate::proved::vm_ranges::error::Result;
+use crate::proved::vm_ranges::range::RangeInclusive;
+use crate::proved::vm_ranges::saved::ValueError;
+use crate::proved::vm_ranges::saved::fields::has_fields;
+use crate::proved::vm_ranges::saved::numbers::number_in;
+use crate::rattle::{Value, json};
+use crate::rattle::Global;
 
 impl RangeInclusive {
     /// Encodes the range as a value: an object with the fields `start` and `end`.

@@ -3,10 +3,10 @@
 //! The saved value of a state.
 
 use super::ValueError;
-use crate::error::Result;
-use crate::state::NodeState;
-use rattle::Value;
-use rattle::Global;
+use crate::proved::vm_ranges::error::Result;
+use crate::proved::vm_ranges::state::NodeState;
+use crate::rattle::Value;
+use crate::rattle::Global;
 
 impl NodeState {
     /// Encodes the state as a value: the text `Free` or the text `Allocated`.

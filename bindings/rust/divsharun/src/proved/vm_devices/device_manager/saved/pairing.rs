@@ -4,10 +4,10 @@
 //! ranges.
 
 use super::slots::read_slots;
-use rattle::Value;
-use rattle::{AllocError, Global};
-use rattle::{BTreeMap, BTreeSet};
-use vm_allocator::{AddressAllocator, IdAllocator, RangeInclusive, ValueError};
+use crate::rattle::Value;
+use crate::rattle::{AllocError, Global};
+use crate::rattle::{BTreeMap, BTreeSet};
+use crate::proved::vm_allocator::{AddressAllocator, IdAllocator, RangeInclusive, ValueError};
 
 /// Reads the table of the devices of a list. Returns `NotAState` if they do not pair the allocated
 /// ids with the allocated ranges.

@@ -2,13 +2,13 @@
 
 //! The list of devices in a manager's value.
 
-use rattle::Vec;
-use crate::device_slot::DeviceSlot;
-use rattle::{Value, json};
-use rattle::{AllocError, Global};
-use rattle::BTreeMap;
-use vm_allocator::{RangeInclusive, Result, ValueError};
-use vm_ranges::{has_fields, range_in, u32_in};
+use crate::rattle::Vec;
+use crate::proved::vm_devices::device_slot::DeviceSlot;
+use crate::rattle::{Value, json};
+use crate::rattle::{AllocError, Global};
+use crate::rattle::BTreeMap;
+use crate::proved::vm_allocator::{RangeInclusive, Result, ValueError};
+use crate::proved::vm_ranges::{has_fields, range_in, u32_in};
 
 /// Encodes the devices as a list, by increasing ids.
 pub(super) fn encode_slots(alloc: Global, slots: &BTreeMap<u32, RangeInclusive>) -> Result<Value> {

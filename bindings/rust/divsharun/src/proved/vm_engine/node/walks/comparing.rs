@@ -3,12 +3,11 @@
 //! Comparisons of two trees by their blocks. The shape of a tree does not matter.
 
 use super::Walk;
-use crate::node::Child;
+use crate::proved::vm_engine::node::Child;
 use core::cmp::Ordering;
 
 /// Returns `true` if two trees have the same blocks. It stops at the first difference.
-#[allow(clippy::while_let_on_iterator)]
-pub(crate) fn same_blocks(a: &Child, b: &Child) -> bool {
+pub(in crate::proved::vm_engine) fn same_blocks(a: &Child, b: &Child) -> bool {
     let (mut left, mut right) = (Walk::new(a), Walk::new(b));
     while let Some(x) = left.next() {
         let Some(y) = right.next() else {
@@ -23,8 +22,7 @@ pub(crate) fn same_blocks(a: &Child, b: &Child) -> bool {
 
 /// Compares two trees by the first blocks that differ. If the blocks of one tree are a prefix of
 /// the other's, the tree with fewer blocks is less.
-#[allow(clippy::while_let_on_iterator)]
-pub(crate) fn compare_blocks(a: &Child, b: &Child) -> Ordering {
+pub(in crate::proved::vm_engine) fn compare_blocks(a: &Child, b: &Child) -> Ordering {
     let (mut left, mut right) = (Walk::new(a), Walk::new(b));
     while let Some(x) = left.next() {
         let Some(y) = right.next() else {

@@ -2,15 +2,15 @@
 
 //! Copies trees.
 
-use rattle::Box;
-use crate::node::InnerNode;
-use rattle::Global;
-use vm_ranges::Result;
+use crate::rattle::Box;
+use crate::proved::vm_engine::node::InnerNode;
+use crate::rattle::Global;
+use crate::proved::vm_ranges::Result;
 
 /// Returns a copy of a tree with the same nodes and the same cached summaries.
 ///
 /// It returns `OutOfMemory` if the allocation of a node fails. The nodes copied so far are freed.
-pub(crate) fn copy(tree: &InnerNode, alloc: Global) -> Result<Box<InnerNode>> {
+pub(in crate::proved::vm_engine) fn copy(tree: &InnerNode, alloc: Global) -> Result<Box<InnerNode>> {
     let left = match &tree.left {
         None => None,
         Some(left) => Some(copy(left, alloc)?),

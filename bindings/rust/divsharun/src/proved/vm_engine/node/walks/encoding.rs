@@ -2,16 +2,16 @@
 
 //! Encodes trees as values.
 
-use crate::node::{Child, InnerNode};
-use crate::saved::node::encode_node;
-use rattle::Value;
-use rattle::Global;
-use vm_ranges::Result;
+use crate::proved::vm_engine::node::{Child, InnerNode};
+use crate::proved::vm_engine::saved::node::encode_node;
+use crate::rattle::Value;
+use crate::rattle::Global;
+use crate::proved::vm_ranges::Result;
 
 /// Returns the value of a tree: an object for each node, and null for an absent child.
 ///
 /// It returns `OutOfMemory` if an allocation fails.
-pub(crate) fn encode(tree: &Child, alloc: Global) -> Result<Value> {
+pub(in crate::proved::vm_engine) fn encode(tree: &Child, alloc: Global) -> Result<Value> {
     let Some(node) = tree else {
         return Ok(Value::Null);
     };

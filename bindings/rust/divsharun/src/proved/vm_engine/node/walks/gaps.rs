@@ -2,11 +2,11 @@
 
 //! The number of free addresses of a tree.
 
-use crate::node::{Child, InnerNode};
-use vm_ranges::NodeState;
+use crate::proved::vm_engine::node::{Child, InnerNode};
+use crate::proved::vm_ranges::NodeState;
 
 /// Returns the number of addresses in the free blocks.
-pub(crate) fn count_clear(tree: &Child) -> u64 {
+pub(in crate::proved::vm_engine) fn count_clear(tree: &Child) -> u64 {
     let Some(node) = tree else { return 0 };
     let node: &InnerNode = node;
     let beside = count_clear(&node.left) + count_clear(&node.right);

@@ -4,14 +4,14 @@
 //!
 //! No contract promises the number of nodes that they enter, so they do not take a counter.
 
-use crate::node::{Child, InnerNode};
-use crate::ordering::compare;
+use crate::proved::vm_engine::node::{Child, InnerNode};
+use crate::proved::vm_engine::ordering::compare;
 use core::cmp::Ordering;
-use vm_ranges::{NodeState, RangeInclusive};
+use crate::proved::vm_ranges::{NodeState, RangeInclusive};
 
 /// Returns `true` if the tree has an allocated block with this key. It follows one path from the
 /// root.
-pub(crate) fn has_held(tree: &Child, key: &RangeInclusive) -> bool {
+pub(in crate::proved::vm_engine) fn has_held(tree: &Child, key: &RangeInclusive) -> bool {
     let Some(node) = tree else { return false };
     let node: &InnerNode = node;
     match compare(&node.key, key) {
@@ -23,7 +23,7 @@ pub(crate) fn has_held(tree: &Child, key: &RangeInclusive) -> bool {
 
 /// Returns the allocated block that contains an address, or `None` if there is no such block. It
 /// follows one path from the root.
-pub(crate) fn held_at(tree: &Child, address: u64) -> Option<RangeInclusive> {
+pub(in crate::proved::vm_engine) fn held_at(tree: &Child, address: u64) -> Option<RangeInclusive> {
     let Some(node) = tree else { return None };
     let node: &InnerNode = node;
     if address < node.key.start() {
@@ -39,7 +39,7 @@ pub(crate) fn held_at(tree: &Child, address: u64) -> Option<RangeInclusive> {
 }
 
 /// Returns the number of allocated blocks.
-pub(crate) fn count_held(tree: &Child) -> u64 {
+pub(in crate::proved::vm_engine) fn count_held(tree: &Child) -> u64 {
     let Some(node) = tree else { return 0 };
     let node: &InnerNode = node;
     let beside = count_held(&node.left) + count_held(&node.right);
