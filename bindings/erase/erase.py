@@ -59,8 +59,8 @@ METHODS = {
     "and_then", "as_array", "as_object", "as_slice", "as_str", "as_u64", "checked_add", "checked_mul",
     "clone", "cmp", "contains", "copied", "copy_from_slice", "first", "first_chunk", "flush", "get", "ilog2", "insert",
     "into", "is_ascii_digit", "is_empty", "is_none", "is_null", "is_power_of_two", "is_some", "iter", "len", "max",
-    "min", "next", "ok", "ok_or", "pop", "pop_first", "push", "read", "remove", "saturating_add", "simd_eq", "split_first",
-    "take", "to_bitmask", "trailing_zeros", "unwrap", "write_all",
+    "min", "next", "ok", "ok_or", "pop", "pop_first", "push", "read", "remove", "saturating_add", "simd_eq",
+    "split_first", "take", "to_bitmask", "trailing_zeros", "unwrap", "write_all",
 }
 MACROS = {"json", "unreachable"}
 DERIVES = {"Clone", "Copy", "Debug", "Default", "Drop", "Eq", "Error", "Hash", "Ord", "PartialEq", "PartialOrd"}
@@ -277,7 +277,8 @@ class File(Tokens):
         """Reads items up to the end of the file or of the braces of an impl: of a trait, or of "impl"
         itself."""
         while self.tokens[index].text not in ("}", ""):
-            item = types.SimpleNamespace(start=index, owner=owner, of_tests=False, is_test=False, is_error=False, public=False)
+            item = types.SimpleNamespace(start=index, owner=owner, public=False)
+            item.of_tests = item.is_test = item.is_error = False
             index = self.visibility(item, self.attributes(item))
             row = f"{self.path.removeprefix('crates/')} {self.tokens[index + 1].text}"
             if (item.of_tests or row in FOR_TESTS) and not self.crate.project.with_tests:
@@ -387,8 +388,6 @@ class File(Tokens):
     def import_of_crate(self, first, index):
         """Reads an import of one name, of this crate or of a dependency."""
         head = self.tokens[first].text
-        if head in self.crate.stands_on:
-            self.crate.used.add(self.crate.project.crate(head).name)
         if self.of_tests:
             return
         if head not in self.crate.stands_on | self.crate.names | {"crate", "self", "super"}:
@@ -670,7 +669,7 @@ class Crate:
 
     def __init__(self, project, name, of_tests):
         self.project, self.name, self.of_tests = project, name, of_tests
-        self.stands_on, self.used = project.libraries[name], set()
+        self.stands_on = project.libraries[name]
         self.folder = os.path.join(project.folder, "crates", name, "src")
         self.asks_for_std = False
         self.root = os.path.join(self.folder, "lib.rt")
@@ -691,13 +690,8 @@ class Crate:
         return kept
 
     def and_below(self):
-        """Returns the crate and all its dependencies, because a crate can re-export the type of a
-        dependency."""
-        found = [self]
-        for crate in found:
-            below = [self.project.crate(name) for name in sorted(crate.used)]
-            found += [each for each in below if each not in found]
-        return found
+        """Returns the crate and its dependencies, because a crate can re-export the type of a dependency."""
+        return [self, *(self.project.crate(name) for name in sorted(self.stands_on))]
 
     def texts(self):
         """Returns the text of each file, by its path below the folder of modules."""
@@ -709,20 +703,20 @@ class Crate:
 class Project:
     """The crates of a project. The libraries that programs need are written, or with tests all libraries."""
 
-    def __init__(self, folder, with_tests=False, kept=None):
+    def __init__(self, folder, with_tests=False):
         self.folder, self.with_tests = os.path.abspath(folder), with_tests
         table = pathlib.Path(folder, "crates.txt").read_text(encoding="utf-8").splitlines()
         lines = [line.split(":") for line in table if line.strip() and not line.startswith("#")]
         self.libraries = {name.strip(): set(below.split()) - LIBRARIES for name, below in lines}
-        self.kept, self.crates = kept if kept is not None else self.libraries, {}
-        programs = {name for name in self.libraries if os.path.exists(os.path.join(self.folder, "crates", name, "src", "main.rt"))}
-        needed = set(self.libraries) if with_tests else {below for name in programs for below in self.libraries[name]}
-        for name in sorted(needed - programs):
+        programs = {name for name in self.libraries if not os.path.exists(f"{folder}/crates/{name}/src/lib.rt")}
+        direct = {below for name in programs for below in self.libraries[name]}
+        self.needed, self.crates = direct.union(*(self.libraries[name] for name in direct)), {}
+        for name in sorted((set(self.libraries) if with_tests else self.needed) - programs):
             self.crate(name)
 
     def crate(self, name):
         if name not in self.crates:
-            self.crates[name] = Crate(self, name, name not in self.kept)
+            self.crates[name] = Crate(self, name, name not in self.needed)
         return self.crates[name]
 
 
@@ -741,7 +735,7 @@ def write(path, text):
 
 def erase(folder, out, with_tests):
     """Writes the crates of a project as modules, and removes other files of the folder. Returns them."""
-    project = Project(folder, True, set(Project(folder).crates)) if with_tests else Project(folder)
+    project = Project(folder, with_tests)
     texts = {"mod.rs": MODULES + (ATTRIBUTES_WITH_TESTS if with_tests else "") + "\n"}
     for name, crate in sorted(project.crates.items()):
         texts["mod.rs"] += ('#[cfg(feature = "std")]\n' if crate.asks_for_std else "") + f"pub mod {name};\n"

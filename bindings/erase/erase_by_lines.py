@@ -29,9 +29,18 @@ CHANGED = [
     (r"<T: Drop>", "<T>"),
 ]
 PRELUDE = ("Box", "Vec")
-DISPLAY = """impl core::fmt::Display for NAME { fn fmt(&self, f: &mut core::fmt::Formatter<'_>) -> core::fmt::Result {
-    match self { ARMS } } }
-impl core::error::Error for NAME {}"""
+# What the derive of `Error` stands for, with an arm for each variant.
+ARM = r" +\w+::(\w+)(?:\(field_0(?:, field_1)?\))? => write!\(f, (\".*\")\),\n"
+DISPLAY = re.compile(r"""
+impl core::fmt::Display for \w+ \{
+    fn fmt\(&self, f: &mut core::fmt::Formatter<'_>\) -> core::fmt::Result \{
+        match self \{
+((?:ARM)+)        \}
+    \}
+\}
+
+impl core::error::Error for \w+ \{\}
+""".replace("ARM", ARM))
 
 
 def lines_of(path):
@@ -80,23 +89,6 @@ def without_drop(line):
     found = re.match(r"(\s*)#\[derive\((.*)\)\]$", line)
     names = [name for name in found[2].split(", ") if name not in ("Drop", "Error")] if found else []
     return line if not found else f"{found[1]}#[derive({', '.join(names)})]" if names else ""
-
-
-def with_display(lines):
-    """Returns the lines with the implementations that a derive of `Error` stands for, instead of the texts."""
-    kept, name, literal, arms = [], "", None, ""
-    for line in lines:
-        name = line.split()[2] if line.startswith("pub enum ") else name
-        text, variant = re.match(r" *#\[error\((.*)\)\]$", line), re.match(r" *(\w+)(\(.*\))?,$", line)
-        if literal and variant:
-            fields = "" if not variant[2] else "(field_0, field_1)" if "," in variant[2] else "(field_0)"
-            arms += f"{name}::{variant[1]}{fields} => write!(f, {literal}), "
-        literal = text and re.sub(r"\{([01])", r"{field_\1", text[1])
-        kept += [] if literal else [line]
-        if line == "}" and arms:
-            kept += DISPLAY.replace("NAME", name).replace("ARMS", arms).split("\n")
-            arms = ""
-    return kept
 
 
 def drop_front(kept, beginnings):
@@ -165,21 +157,22 @@ def without_imports(text):
 
 
 def expected(name, lines):
-    """Returns the expected tokens of a file of a crate, and the expected imports: from Rattle's prelude, and all
-    others that are used. A file with modules keeps its imports, because the modules can use them."""
-    lines = with_display(lines)
+    """Returns the expected tokens of a file of a crate, its imports from Rattle's prelude, all others that are
+    used, and the texts of errors. A file with modules keeps its imports, because the modules can use them."""
     for old, new in CHANGED:
-        lines = [line if line.strip().startswith("//") else re.sub(old, new.replace("NAME", name), line) for line in lines]
+        new = new.replace("NAME", name)
+        lines = [line if line.strip().startswith("//") else re.sub(old, new, line) for line in lines]
     text, imports = without_imports("\n".join(lines))
+    texts = re.findall(r"#\[error\((.*)\)\]\n *(\w+)", text)
+    text = re.sub(r"#\[error\(.*\)\]\n", "", text)
     code = re.sub(r"//.*", "", text)
     named = set(re.findall(r"\w+", code)) | {"*"}
     imports = [path for path in imports if path.split("::")[-1] in named or "mod" in named]
-    return tokens(text.split("\n")), [name for name in PRELUDE if name in named], imports
+    return tokens(text.split("\n")), [name for name in PRELUDE if name in named], imports, texts
 
 
 def written(path):
-    """Returns the tokens that the first eraser wrote, without the lines that it added, and its imports:
-    from Rattle's prelude, and all others."""
+    """Returns the same of what the first eraser wrote, without the lines that it added."""
     prelude, kept = [], []
     for line in lines_of(path)[1:]:
         found = re.match(r"use crate::rattle::\{?([\w, ]+)\}?;$", line)
@@ -188,7 +181,9 @@ def written(path):
         else:
             kept.append(line)
     text, imports = without_imports("\n".join(kept))
-    return tokens(text.split("\n")), prelude, imports
+    arms = [arm for found in DISPLAY.finditer(text) for arm in re.findall(ARM, found[1])]
+    texts = [(literal.replace("{field_", "{"), variant) for variant, literal in arms]
+    return tokens(DISPLAY.sub("", text).split("\n")), prelude, imports, texts
 
 
 def compare(crate, source, plain):
@@ -204,7 +199,7 @@ def compare(crate, source, plain):
         if want.get(name) != have.get(name):
             differences += 1
             show(name, want.get(name), have.get(name))
-    return len(have), sum(len(tokens) for tokens, _, _ in have.values()), differences
+    return len(have), sum(len(tokens) for tokens, *_ in have.values()), differences
 
 
 def show(name, want, have):

@@ -3,13 +3,12 @@
 
     mutant_tests.py PROJECT SCRATCH
 
-A mutant of tests/test_mutants names a test that must fail, or bindings/rust/box_count. box_count must
-also fail with each mutant of tests/count_rule_mutants, and pass with those that the list accepts. A
-mutant is applied to a copy of the sources, which is erased with its tests and built in the folder
-SCRATCH. A check also fails if it ends the process, or if it uses ten times the processor time that it
-needs without the mutant. Without a mutant every check must pass. Boxes are counted, so that the compiler
-cannot remove a walk without a result. Mutants that the eraser or the compiler rejects are not run. The
-exit status is 1 if a mutant is not noticed, or if an accepted one is."""
+A mutant of tests/test_mutants names a test that must fail, or bindings/rust/box_count. box_count must also fail
+with each mutant of tests/count_rule_mutants, and pass with those that the list accepts. A copy of the sources
+is erased with its tests and built in SCRATCH. A check also fails if it ends the process, or if it uses ten
+times the processor time that it needs without the mutant. Boxes are counted, so that the compiler cannot
+remove a walk without a result. Mutants that the eraser or the compiler rejects are not run. The exit status is
+1 if a mutant is not noticed, or if an accepted one is."""
 import collections
 import itertools
 import json
@@ -62,9 +61,9 @@ class Runner:
         """Returns the program of box_count, or that of all tests, with a mutant applied."""
         mutants.apply(mutant, self.project, self.copy)
         erase.erase(self.copy, os.path.join(self.workspace, mutants.PROVED), True)
-        done = subprocess.run(["cargo", *(("build",) if is_count else BUILD_TESTS), "-q", "--offline", "--message-format=json"],
-                              cwd=os.path.join(self.workspace, "box_count"), env=dict(os.environ, CARGO_TARGET_DIR=self.target),
-                              text=True, capture_output=True, check=False)
+        command = ["cargo", *(("build",) if is_count else BUILD_TESTS), "-q", "--offline", "--message-format=json"]
+        done = subprocess.run(command, cwd=os.path.join(self.workspace, "box_count"), text=True, capture_output=True,
+                              env=dict(os.environ, CARGO_TARGET_DIR=self.target), check=False)
         if done.returncode != 0:
             sys.exit(f"{mutant.name} is not built:\n{done.stderr[-2000:]}")
         messages = [json.loads(line) for line in done.stdout.split("\n") if line.startswith("{")]

@@ -100,8 +100,7 @@
 //!
 //! - `serde` implements `Serialize` and `Deserialize` for [`RangeInclusive`], [`NodeState`],
 //!   [`AddressAllocator`], [`IdAllocator`] and [`DeviceManager`].
-//! - `std`, a default feature, adds the module [`replay`](crate::replay) and the program
-//!   `divsharun-replay`.
+//! - `std`, a default feature, adds the module `replay` and the program `divsharun-replay`.
 //!
 //! # Saved values
 //!
