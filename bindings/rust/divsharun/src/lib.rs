@@ -91,8 +91,8 @@
 //!
 //! The result of each call is proved for every input, for the sources in Rattle. The private module
 //! `proved` is generated from these sources by removing their contracts. The README of this crate
-//! lists the checks that compare both, and what is trusted. The public modules are trusted: they
-//! convert between their types and the generated ones.
+//! lists what is trusted, including the other modules, which convert between their types and the
+//! generated ones.
 //!
 //! # Features
 //!
