@@ -79,6 +79,7 @@ CLAUSES = {"ensures", "requires"}
 
 # Items that only tests use, by file.
 FOR_TESTS = {"vm_engine/src/node.rt search_tree", "vm_ranges/src/state.rt is_free"}
+
 # ---- Text that is added ----
 
 ORIGIN = "// Written by bindings/erase from {}: do not edit.\n"
@@ -734,13 +735,13 @@ def write(path, text):
 
 
 def erase(folder, out, with_tests):
-    """Writes the crates of a project as modules, and removes other files of the folder. Returns them."""
+    """Writes the crates of a project as modules, and removes other files of these modules. Returns the crates."""
     project = Project(folder, with_tests)
     texts = {"mod.rs": MODULES + (ATTRIBUTES_WITH_TESTS if with_tests else "") + "\n"}
     for name, crate in sorted(project.crates.items()):
         texts["mod.rs"] += ('#[cfg(feature = "std")]\n' if crate.asks_for_std else "") + f"pub mod {name};\n"
         texts |= crate.texts()
-    for path in pathlib.Path(out).rglob("*.rs"):
+    for path in [path for name in project.libraries for path in pathlib.Path(out, name).rglob("*.rs")]:
         if str(path.relative_to(out)) not in texts:
             path.unlink()
     for path, text in texts.items():

@@ -29,7 +29,7 @@ CHANGED = [
     (r"<T: Drop>", "<T>"),
 ]
 PRELUDE = ("Box", "Vec")
-# What the derive of `Error` stands for, with an arm for each variant.
+# The code that the derive of `Error` stands for, with an arm for each variant.
 ARM = r" +\w+::(\w+)(?:\(field_0(?:, field_1)?\))? => write!\(f, (\".*\")\),\n"
 DISPLAY = re.compile(r"""
 impl core::fmt::Display for \w+ \{
