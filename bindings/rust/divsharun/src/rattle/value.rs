@@ -71,7 +71,7 @@ impl From<alloc::vec::Vec<Field>> for Fields {
 }
 
 impl FromIterator<Field> for Fields {
-    /// Collects the fields. It ends the process if an allocation fails, so the generated crates do
+    /// Collects the fields. It ends the process if an allocation fails, so the proved code does
     /// not use it.
     fn from_iter<I: IntoIterator<Item = Field>>(fields: I) -> Fields {
         Fields::from(fields.into_iter().collect::<alloc::vec::Vec<Field>>())
