@@ -14,6 +14,7 @@ extern crate alloc;
 mod devices;
 mod handle;
 mod ids;
+#[path = "../../rust/box_count/src/json.rs"]
 mod json;
 mod lists;
 // The eraser writes it. The library calls a part of it.

@@ -5,7 +5,6 @@
 extern crate alloc;
 extern crate std;
 
-#[path = "../../../c/src/json.rs"]
 pub mod json;
 #[rustfmt::skip]
 #[path = "../../divsharun/src/proved/mod.rs"]
