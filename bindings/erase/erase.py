@@ -1,29 +1,15 @@
 #!/usr/bin/env python3
-"""Writes the proved crates of a project as plain Rust crates, by removing everything that only the prover
-uses.
+"""Writes the proved libraries of a project as modules of a plain Rust crate, by removing everything that only
+the prover uses.
 
     erase.py PROJECT OUT [--tests]
 
-PROJECT/crates.txt names the crates and their dependencies. Each program, and each library that it needs,
-is written to OUT/NAME as a package. The workspace has OUT and a folder `rattle` next to it. With
---tests, every crate is written, with its tests.
+PROJECT/crates.txt names the crates and their dependencies. Each library that a program needs is written to
+OUT/NAME, and the module of all of them is OUT/mod.rs. The crate has it as `proved`, and `rattle` next to it.
+With --tests, every library is written, with its tests, and the crate also needs a module `testing`.
 
-The eraser removes
-- clauses, `ghost` items, members and fields, `#[tactic(..)]` and `impl Model`;
-- `Drop` as a derive and as a bound;
-- laws, which are functions without arguments and result, and with an empty body;
-- tests and FOR_TESTS;
-- imports, impls and modules that are unused or empty then.
-
-It adds the origin of a file, the attributes of a crate, and imports of the names that only Rattle's
-prelude has. It replaces the folder of a path by the table FOLDERS. The parameter `rt` of `main` and of
-tests becomes the first statement.
-
-Everything else is kept, and is an error if the tables do not name it: forms of items, paths of
-libraries, functions and methods of other crates, macros, attributes, derives and traits. A public
-function with a `requires` and a public field of a type with ghosts are errors too, because a caller in
-plain Rust could break them. An error names the file, the line and the text. The compiler checks the
-names that tests use."""
+README.md lists what the eraser removes, what it changes, and what it rejects: an error names the file, the
+line and the text. The compiler checks the names that tests use."""
 import collections
 import os
 import pathlib
@@ -33,49 +19,48 @@ import types
 
 # ---- Names that mean the same in Rust ----
 
-# Folders of libraries: the replacement of each, and the names that may be used. None: only for proofs.
+# Folders of libraries: the replacement of each, and the names that may be used. None: imports are removed.
 FOLDERS = {
-    "std::alloc": ("rattle", {"AllocError", "AllocFailed", "Global"}),
+    "std::alloc": ("crate::rattle", {"AllocError", "AllocFailed", "Global"}),
     "std::cmp": ("core::cmp", {"Ordering"}),
-    "std::collections": ("rattle", {"BTreeMap", "BTreeSet"}),
-    "std::collections::btree_map": ("rattle::btree_map", {"Iter"}),
-    "std::collections::btree_set": ("rattle::btree_set", {"Iter"}),
+    "std::collections": ("crate::rattle", {"BTreeMap", "BTreeSet"}),
+    "std::collections::btree_map": ("crate::rattle::btree_map", {"Iter"}),
+    "std::collections::btree_set": ("crate::rattle::btree_set", {"Iter"}),
     "std::io": ("std::io", {"Read", "Write"}),
     "std::marker": (None, {"Model"}),
-    "std::process": ("std::process", {"ExitCode"}),
     "std::result": ("core::result", {"Result"}),
-    "std::simd::prelude": ("rattle::simd", {"*"}),
-    "serde_json": ("rattle", {"Value", "json"}),
-    "thiserror": ("rattle", {"Error"}),
+    "std::simd::prelude": ("crate::rattle::simd", {"*"}),
+    "serde_json": ("crate::rattle", {"Value", "json"}),
+    "thiserror": (None, {"Error"}),
 }
 FOLDERS_OF_TESTS = {
     "std": ("std", {"io"}),
-    "std::env": ("rattle::testing", {"Env"}),
+    "std::env": ("crate::testing", {"Env"}),
     "std::fmt": ("core::fmt", {"Debug", "Display"}),
     "std::io": ("std::io", {"ErrorKind", "Read", "Write"}),
-    "std::process": ("rattle::testing", {"Abort"}),
+    "std::process": ("crate::testing", {"Abort"}),
     "std::str": ("core::str", {"from_utf8"}),
-    "std::test": ("rattle::testing", {"Fail"}),
+    "std::test": ("crate::testing", {"Fail"}),
 }
 LIBRARIES = {folder.split("::")[0] for folder in FOLDERS}
 # Names of Rattle's prelude that Rust's prelude does not have or defines differently. `rattle` has them.
-PRELUDE = {"Box", "HostRuntime", "Vec"}
+PRELUDE = {"Box", "Vec"}
 # Names of both preludes, and further names of libraries.
 NAMES = {"Err", "Iterator", "None", "Ok", "Option", "Result", "Some"}
 NUMBERS = {"u8", "u16", "u32", "u64", "u128", "usize"}
 ASSOCIATED = {
-    "BTreeMap::new", "BTreeSet::new", "Box::into_inner", "Box::new", "ExitCode::from", "Ord::cmp",
+    "BTreeMap::new", "BTreeSet::new", "Box::into_inner", "Box::new", "Ord::cmp",
     "Ordering::Equal", "Ordering::Greater", "Ordering::Less", "Value::Null", "Value::as_u64", "Value::from",
     "Value::try_from_str", "Vec::new", "Vec::with_capacity", "u128::from", "u32::MAX", "u32::from", "u32::try_from", "u64::MAX",
     "u64::from", "u8x16::from_slice", "u8x16::splat",
 }
 # Methods of types of other crates. Each was compared with the method of Rust.
 METHODS = {
-    "alloc", "and_then", "as_array", "as_object", "as_slice", "as_str", "as_u64", "checked_add", "checked_mul",
+    "and_then", "as_array", "as_object", "as_slice", "as_str", "as_u64", "checked_add", "checked_mul",
     "clone", "cmp", "contains", "copied", "copy_from_slice", "first", "first_chunk", "flush", "get", "ilog2", "insert",
     "into", "is_ascii_digit", "is_empty", "is_none", "is_null", "is_power_of_two", "is_some", "iter", "len", "max",
-    "min", "next", "ok", "ok_or", "pop", "pop_first", "push", "read", "remove", "saturating_add", "simd_eq", "split_first", "stdin",
-    "stdout", "take", "to_bitmask", "trailing_zeros", "unwrap", "write_all",
+    "min", "next", "ok", "ok_or", "pop", "pop_first", "push", "read", "remove", "saturating_add", "simd_eq",
+    "split_first", "take", "to_bitmask", "trailing_zeros", "unwrap", "write_all",
 }
 MACROS = {"json", "unreachable"}
 DERIVES = {"Clone", "Copy", "Debug", "Default", "Drop", "Eq", "Error", "Hash", "Ord", "PartialEq", "PartialOrd"}
@@ -94,40 +79,31 @@ CLAUSES = {"ensures", "requires"}
 
 # Items that only tests use, by file.
 FOR_TESTS = {"vm_engine/src/node.rt search_tree", "vm_ranges/src/state.rt is_free"}
-# Lints that a function may violate, because its proof needs its form or a statement for the proof is
-# removed.
-ALLOWED = {
-    "clippy::needless_range_loop": ("vm_lines/src/number.rt are_digits", "vm_lines/src/number.rt digits_value"),
-    "clippy::only_used_in_recursion": (
-        "vm_engine/src/saved/repaired.rt collect_keys", "vm_engine/src/saved/tree.rt build"),
-    "clippy::question_mark": (
-        "vm_engine/src/saved/repaired.rt check_keys",
-        "vm_engine/src/saved/check.rt check_subtree"),
-    "clippy::while_let_on_iterator": (
-        "vm_engine/src/interval_tree/gaps.rt next", "vm_engine/src/interval_tree/held_ranges.rt next",
-        "vm_engine/src/node/walks/comparing.rt compare_blocks",
-        "vm_engine/src/node/walks/comparing.rt same_blocks"),
-}
 
 # ---- Text that is added ----
 
 ORIGIN = "// Written by bindings/erase from {}: do not edit.\n"
-CRATE_ATTRIBUTES = "#![forbid(unsafe_code)]\n"
-ATTRIBUTES_WITH_TESTS = "#![allow(dead_code, unused_assignments, unused_imports, unused_variables)]\n"
-PRELUDE_OF_TESTS = "use rattle::testing::*;\nuse rattle::testing::{assert, assert_eq};\n"
-RUNTIME = "{\n    let rt = HostRuntime;"
-MANIFEST = """# Written by bindings/erase from crates/{name}: do not edit.
-[package]
-name = "{name}"
-version.workspace = true
-edition.workspace = true
-rust-version.workspace = true
-license.workspace = true
-publish.workspace = true
-
-[dependencies]
-rattle = {{ path = "../../rattle"{features} }}
+MODULES = ORIGIN.format("crates.txt") + """
+//! The proved code, without its contracts.
+#![forbid(unsafe_code)]
+// Names are public in Rattle, and some proofs need another form than these lints or a statement that is removed.
+#![allow(clippy::enum_variant_names, clippy::wrong_self_convention)]
+#![allow(clippy::needless_range_loop, clippy::only_used_in_recursion)]
+#![allow(clippy::question_mark, clippy::while_let_on_iterator)]
 """
+ATTRIBUTES_WITH_TESTS = "#![allow(dead_code, unused_assignments, unused_imports, unused_variables)]\n"
+PRELUDE_OF_TESTS = "use crate::testing::*;\nuse crate::testing::{assert, assert_eq};\n"
+RUNTIME = "{\n    let rt = HostRuntime;"
+DISPLAY = """
+
+impl core::fmt::Display for {name} {{
+    fn fmt(&self, f: &mut core::fmt::Formatter<'_>) -> core::fmt::Result {{
+        match self {{
+{arms}        }}
+    }}
+}}
+
+impl core::error::Error for {name} {{}}"""
 
 # ---- Tokens ----
 
@@ -302,9 +278,9 @@ class File(Tokens):
         """Reads items up to the end of the file or of the braces of an impl: of a trait, or of "impl"
         itself."""
         while self.tokens[index].text not in ("}", ""):
-            item = types.SimpleNamespace(start=index, owner=owner, of_tests=False, is_test=False, public=False)
-            head = self.attributes(item)
-            index = self.visibility(item, head)
+            item = types.SimpleNamespace(start=index, owner=owner, public=False)
+            item.of_tests = item.is_test = item.is_error = False
+            index = self.visibility(item, self.attributes(item))
             row = f"{self.path.removeprefix('crates/')} {self.tokens[index + 1].text}"
             if (item.of_tests or row in FOR_TESTS) and not self.crate.project.with_tests:
                 behind, kept = self.matching(self.next_of(index, ";", "{")), False
@@ -314,10 +290,6 @@ class File(Tokens):
                 self.cut(item.start, behind)
             elif self.first_kept is None:
                 self.first_kept = self.start_of(item.start)
-            for lint in [lint for lint, rows in ALLOWED.items() if row in rows]:
-                start = self.start_of(head)
-                indent = self.text[self.text.rfind("\n", 0, start) + 1:start]
-                self.cuts.append((start, start, f"#[allow({lint})]\n{indent}"))
             self.kept += kept
             index = behind
         return index
@@ -348,14 +320,15 @@ class File(Tokens):
         elif words == ["test"] and self.of_tests:
             item.is_test = True
         elif words[:1] == ["derive"]:
-            self.derive([word for word in words[1:] if word not in "(),"], index, behind)
+            self.derive(item, [word for word in words[1:] if word not in "(),"], index, behind)
         else:
             self.refuse_if(not words or words[0] not in ATTRIBUTES, f"an attribute {''.join(words[:1])!r}", index)
 
-    def derive(self, names, index, behind):
+    def derive(self, item, names, index, behind):
         for name in sorted(set(names) - DERIVES):
             self.fail(f"a derive of {name!r}", self.start_of(index))
-        rest = [name for name in names if name != "Drop"]
+        item.is_error = "Error" in names
+        rest = [name for name in names if name not in ("Drop", "Error")]
         if rest != names:
             self.cut(index, behind, f"#[derive({', '.join(rest)})]" if rest else "")
 
@@ -405,7 +378,7 @@ class File(Tokens):
             if folder:
                 self.allow(folder, name, index)
                 self.imported[self.tokens[index].text] = name
-                self.crate.asks_for_std |= bool(folder[0] and folder[0].startswith("std::"))
+                self.crate.asks_for_std |= folder[0] == "std::io"
             else:
                 self.import_of_crate(first, index)
         if folder and folder[0] and folder[0] != name:
@@ -417,8 +390,6 @@ class File(Tokens):
     def import_of_crate(self, first, index):
         """Reads an import of one name, of this crate or of a dependency."""
         head = self.tokens[first].text
-        if head in self.crate.stands_on:
-            self.crate.used.add(self.crate.project.crate(head).name)
         if self.of_tests:
             return
         if head not in self.crate.stands_on | self.crate.names | {"crate", "self", "super"}:
@@ -473,7 +444,23 @@ class File(Tokens):
         if any(self.start_of(index) < cut[0] < self.start_of(behind - 1) for cut in self.cuts):
             self.crate.guarded.add(name)
         self.audit(index, behind, {"pub"})
+        if item.is_error:
+            self.display(name, index, behind)
         return behind, True
+
+    def display(self, name, index, behind):
+        """Turns the texts of the variants of an enum, `#[error("..")]`, into its `Display`."""
+        arms = ""
+        for place in [place for place in range(index, behind) if self.at(place, "#", "[", "error", "(")]:
+            variant, text = place + 7, re.sub(r"\{(?=[0-9])", "{field_", self.tokens[place + 4].text)
+            self.refuse_if(not self.at(place + 5, ")", "]"), "a text of this form", place)
+            fields = self.tokens[variant + 1:self.matching(variant + 1)] if self.at(variant + 1, "(") else []
+            names = [f"field_{number}" for number in range(sum(token.kind == "word" for token in fields))]
+            pattern = self.tokens[variant].text + (f"({', '.join(names)})" if names else "")
+            arms += f"            {name}::{pattern} => write!(f, {text}),\n"
+            self.cut(place, variant)
+        end = self.tokens[behind - 1].end
+        self.cuts.append((end, end, DISPLAY.format(name=name, arms=arms)))
 
     def function(self, item):
         index = self.angles(item.keyword + 2)
@@ -485,9 +472,9 @@ class File(Tokens):
             return behind, False  # a law: only its clauses matter
         name = self.define(item.keyword + 1, self.crate.functions)
         anyone = item.public or item.owner not in (None, "impl")
-        if anyone and item.keyword in self.asking and not self.crate.is_program and not self.of_tests:
+        if anyone and item.keyword in self.asking and not self.of_tests:
             self.fail(f"a 'requires' of {name!r}, which anyone may call", self.asking[item.keyword])
-        if item.is_test or self.is_root and name == "main":
+        if item.is_test:
             self.take_runtime(index, body)
         self.audit(index, body, {"impl"})
         self.audit(body, behind)
@@ -593,7 +580,7 @@ class File(Tokens):
             if not self.is_known(kind, name):
                 self.fail(f"{kind} {name!r} that is in no table", start)
         for start, name in self.public_fields:
-            if name in self.crate.guarded and not (self.crate.is_program or self.of_tests):
+            if name in self.crate.guarded and not self.of_tests:
                 self.fail(f"a public field of {name!r}, which has ghosts", start)
 
     def is_known(self, kind, name):
@@ -631,12 +618,11 @@ class File(Tokens):
 
     def plain(self):
         """Returns the text of the file in Rust."""
-        inserted = self.attributes_of_root() + "\n" if self.is_root else ""
-        if self.of_tests:
-            inserted += PRELUDE_OF_TESTS
-        elif self.from_prelude:
-            inserted += f"use rattle::{in_braces(sorted(self.from_prelude))};\n"
+        inserted = PRELUDE_OF_TESTS if self.of_tests else ""
+        if self.from_prelude and not self.of_tests:
+            inserted = f"use crate::rattle::{in_braces(sorted(self.from_prelude))};\n"
         at = self.first_kept if self.first_kept is not None else len(self.text)
+        self.cuts += self.modules_of_crates()
         text, last = "", 0
         for start, end, instead in sorted(self.outer_cuts() + [(at, at, inserted)]):
             start, end = self.with_lines(start, end, instead, last)
@@ -648,13 +634,14 @@ class File(Tokens):
                 text = text[:-1]
         return ORIGIN.format(self.path) + "\n" + (text + self.text[last:]).strip("\n") + "\n"
 
-    def attributes_of_root(self):
-        """Returns the head of the root of a crate. A crate of tests has `std` without its prelude, because
-        that has another `to_string`."""
-        attributes = CRATE_ATTRIBUTES + (ATTRIBUTES_WITH_TESTS if self.crate.project.with_tests else "")
-        if not self.crate.asks_for_std:
-            return attributes + "#![no_std]\n"
-        return attributes + ("#![no_std]\n\nextern crate std;\n" if self.of_tests else "")
+    def modules_of_crates(self):
+        """Returns the replacements of the names of crates by their modules."""
+        for index, token in enumerate(self.tokens):
+            begins_path = self.at(index - 1, "use") or self.at(index + 1, "::") and not self.at(index - 1, "::")
+            if token.text == "crate":
+                yield token.start, token.end, f"{'' if begins_path else 'in '}crate::proved::{self.crate.name}"
+            elif begins_path and token.text in self.crate.stands_on:
+                yield token.start, token.start, "crate::proved::"
 
     def outer_cuts(self):
         """Returns the cuts that are not inside another one."""
@@ -684,11 +671,10 @@ class Crate:
 
     def __init__(self, project, name, of_tests):
         self.project, self.name, self.of_tests = project, name, of_tests
-        self.stands_on, self.used = project.libraries[name], set()
+        self.stands_on = project.libraries[name]
         self.folder = os.path.join(project.folder, "crates", name, "src")
-        self.is_program = os.path.exists(os.path.join(self.folder, "main.rt"))
-        self.asks_for_std = self.is_program
-        self.root = os.path.join(self.folder, "main.rt" if self.is_program else "lib.rt")
+        self.asks_for_std = False
+        self.root = os.path.join(self.folder, "lib.rt")
         self.names, self.functions, self.guarded = set(), set(), set()  # guarded: types with ghosts
         self.files = {}
         self.files[self.root] = File(self, self.root, of_tests)
@@ -706,50 +692,33 @@ class Crate:
         return kept
 
     def and_below(self):
-        """Returns the crate and all its dependencies, because a crate can re-export the type of a
-        dependency."""
-        found = [self]
-        for crate in found:
-            below = [self.project.crate(name) for name in sorted(crate.used)]
-            found += [each for each in below if each not in found]
-        return found
+        """Returns the crate and its dependencies, because a crate can re-export the type of a dependency."""
+        return [self, *(self.project.crate(name) for name in sorted(self.stands_on))]
 
-    def manifest(self):
-        feature = "testing" if self.project.with_tests else "program" if self.is_program else None
-        text = f', features = ["{feature}"]' if feature else ""
-        lines = [f'{name} = {{ path = "../{name}" }}\n' for name in sorted(self.used)]
-        return MANIFEST.format(name=self.name, features=text) + "".join(lines)
-
-    def write(self, out):
-        texts = {os.path.join(out, "Cargo.toml"): self.manifest()}
-        for path, file in self.files.items():
-            relative = os.path.relpath(path, self.folder)[:-len(".rt")] + ".rs"
-            texts[os.path.join(out, "src", relative)] = file.plain()
-        for folder, _, names in os.walk(os.path.join(out, "src"), topdown=False):
-            for path in {os.path.join(folder, name) for name in names} - set(texts):
-                os.remove(path)
-            if not os.listdir(folder):
-                os.rmdir(folder)
-        for path, text in texts.items():
-            write(path, text)
+    def texts(self):
+        """Returns the text of each file, by its path below the folder of modules."""
+        names = {path: os.path.relpath(path, self.folder)[:-len(".rt")] for path in self.files}
+        names[self.root] = "mod"
+        return {os.path.join(self.name, f"{names[path]}.rs"): file.plain() for path, file in self.files.items()}
 
 
 class Project:
-    """The crates of a project. The programs and their dependencies are written."""
+    """The crates of a project. The libraries that programs need are written, or with tests all libraries."""
 
-    def __init__(self, folder, with_tests=False, kept=None):
+    def __init__(self, folder, with_tests=False):
         self.folder, self.with_tests = os.path.abspath(folder), with_tests
         table = pathlib.Path(folder, "crates.txt").read_text(encoding="utf-8").splitlines()
         lines = [line.split(":") for line in table if line.strip() and not line.startswith("#")]
         self.libraries = {name.strip(): set(below.split()) - LIBRARIES for name, below in lines}
-        self.kept, self.crates = kept if kept is not None else self.libraries, {}
-        for name in self.libraries:
-            if with_tests or os.path.exists(os.path.join(self.folder, "crates", name, "src", "main.rt")):
-                self.crate(name)
+        programs = {name for name in self.libraries if not os.path.exists(f"{folder}/crates/{name}/src/lib.rt")}
+        direct = {below for name in programs for below in self.libraries[name]}
+        self.needed, self.crates = direct.union(*(self.libraries[name] for name in direct)), {}
+        for name in sorted((set(self.libraries) if with_tests else self.needed) - programs):
+            self.crate(name)
 
     def crate(self, name):
         if name not in self.crates:
-            self.crates[name] = Crate(self, name, name not in self.kept)
+            self.crates[name] = Crate(self, name, name not in self.needed)
         return self.crates[name]
 
 
@@ -767,10 +736,17 @@ def write(path, text):
 
 
 def erase(folder, out, with_tests):
-    """Writes the crates of a project. Returns them."""
-    project = Project(folder, True, set(Project(folder).crates)) if with_tests else Project(folder)
-    for name, crate in project.crates.items():
-        crate.write(os.path.join(out, name))
+    """Writes the crates of a project as modules, and removes other files of these modules. Returns the crates."""
+    project = Project(folder, with_tests)
+    texts = {"mod.rs": MODULES + (ATTRIBUTES_WITH_TESTS if with_tests else "") + "\n"}
+    for name, crate in sorted(project.crates.items()):
+        texts["mod.rs"] += ('#[cfg(feature = "std")]\n' if crate.asks_for_std else "") + f"pub mod {name};\n"
+        texts |= crate.texts()
+    for path in [path for name in project.libraries for path in pathlib.Path(out, name).rglob("*.rs")]:
+        if str(path.relative_to(out)) not in texts:
+            path.unlink()
+    for path, text in texts.items():
+        write(os.path.join(out, path), text)
     return project.crates
 
 

@@ -1,11 +1,11 @@
 #!/usr/bin/env python3
 """A second eraser, which shares no code with the first one and checks its output.
 
-    erase_by_lines.py PROJECT GENERATED
+    erase_by_lines.py PROJECT PROVED
 
 It works by lines, on the layout of `rt fmt`, where the first one works by tokens. A line that begins a
 clause, a ghost, a test or a model extends to the line that closes its braces. The rest of each source is
-compared with the output of the first eraser in GENERATED: each token, and each comment line. The exit
+compared with the output of the first eraser in PROVED: each token, and each comment line. The exit
 status is 1 if there is a difference, or if a file is only on one side."""
 import os
 import re
@@ -16,19 +16,31 @@ CLAUSE = ("requires ", "ensures ", "ghost ")
 # Items that only tests use.
 UNUSED = re.compile(r"(pub(\(\w+\))? )?fn is_free\b")
 UNUSED_LINE = re.compile(r"mod search_tree;$")
-ALLOW = re.compile(r"\s*#\[allow\([\w:, ]+\)\]$")
 IMPORT = re.compile(r"^use ((?:\w+::)*)(\w+|\*|\{[^{}]*\});", re.MULTILINE)
-# Replacements, in this order.
+# Replacements, in this order. NAME is the crate.
 CHANGED = [
-    ("use std::marker::Model;", ""),
-    *((front, "rattle::") for front in ("std::alloc::", "std::collections::", "serde_json::", "thiserror::")),
-    ("std::cmp::", "core::cmp::"),
-    ("std::result::", "core::result::"),
-    ("std::simd::prelude::", "rattle::simd::"),
-    ("<T: Drop>", "<T>"),
-    ("fn main(rt: HostRuntime) -> ExitCode {", "fn main() -> ExitCode { let rt = HostRuntime;"),
+    (r"pub\(crate\)", "pub(in crate::proved::NAME)"),
+    (r"\bcrate::(?!proved)", "crate::proved::NAME::"),
+    (r"(?<![\w:])(vm_\w+)::", r"crate::proved::\1::"),
+    (r"use (std::marker::Model|thiserror::Error);", ""),
+    (r"\b(std::alloc|std::collections|serde_json)::", "crate::rattle::"),
+    (r"\bstd::(cmp|result)::", r"core::\1::"),
+    (r"\bstd::simd::prelude::", "crate::rattle::simd::"),
+    (r"<T: Drop>", "<T>"),
 ]
-PRELUDE = ("Box", "HostRuntime", "Vec")
+PRELUDE = ("Box", "Vec")
+# The code that the derive of `Error` stands for, with an arm for each variant.
+ARM = r" +\w+::(\w+)(?:\(field_0(?:, field_1)?\))? => write!\(f, (\".*\")\),\n"
+DISPLAY = re.compile(r"""
+impl core::fmt::Display for \w+ \{
+    fn fmt\(&self, f: &mut core::fmt::Formatter<'_>\) -> core::fmt::Result \{
+        match self \{
+((?:ARM)+)        \}
+    \}
+\}
+
+impl core::error::Error for \w+ \{\}
+""".replace("ARM", ARM))
 
 
 def lines_of(path):
@@ -70,11 +82,12 @@ def law_end(lines, index):
 
 
 def without_drop(line):
-    """Returns a line without `Drop` as a derive or as the bound of a function's parameter."""
+    """Returns a line without `Drop` as a derive or as the bound of a function's parameter, and without `Error` as
+    a derive."""
     if re.match(r"\s*(pub(\(\w+\))? )?fn \w+<", line):
         return re.sub(r": Drop(?=[,>])", "", line)
     found = re.match(r"(\s*)#\[derive\((.*)\)\]$", line)
-    names = [name for name in found[2].split(", ") if name != "Drop"] if found else []
+    names = [name for name in found[2].split(", ") if name not in ("Drop", "Error")] if found else []
     return line if not found else f"{found[1]}#[derive({', '.join(names)})]" if names else ""
 
 
@@ -104,7 +117,7 @@ def erased(lines):
         elif line == "}" and re.match(r"impl \w+ \{$", next(filter(None, reversed(kept)))):
             while not kept.pop():
                 pass
-        elif not line.startswith(("#[tactic", "#![tactic")) and not ALLOW.match(line):
+        elif not line.startswith(("#[tactic", "#![tactic")):
             kept.append(without_drop(lines[index]))
         index = end or index + 1
     return kept
@@ -126,7 +139,7 @@ def modules(folder, name, found):
     """Erases a module and its submodules. `found` receives the lines of each. Returns whether there is any
     code."""
     kept = erased(lines_of(os.path.join(folder, name + ".rt")))
-    inside = folder if name in ("lib", "main") else os.path.join(folder, name)
+    inside = folder if name == "lib" else os.path.join(folder, name)
     for line in list(kept):
         module = re.match(r"(?:pub(?:\(\w+\))? )?mod (\w+);$", line)
         if module and not modules(inside, module[1], found):
@@ -143,38 +156,42 @@ def without_imports(text):
     return IMPORT.sub("", text), sorted(path for path in found if not path.endswith("::"))
 
 
-def expected(lines):
-    """Returns the expected tokens, and the expected imports: from Rattle's prelude, and all others that are
-    used. A file with modules keeps its imports, because the modules can use them."""
-    text = "\n".join(lines)
+def expected(name, lines):
+    """Returns the expected tokens of a file of a crate, its imports from Rattle's prelude, all others that are
+    used, and the texts of errors. A file with modules keeps its imports, because the modules can use them."""
     for old, new in CHANGED:
-        text = text.replace(old, new)
-    text, imports = without_imports(text)
-    code = re.sub(r"//.*", "", text).replace("let rt = HostRuntime", "rt: HostRuntime")
+        new = new.replace("NAME", name)
+        lines = [line if line.strip().startswith("//") else re.sub(old, new, line) for line in lines]
+    text, imports = without_imports("\n".join(lines))
+    texts = re.findall(r"#\[error\((.*)\)\]\n *(\w+)", text)
+    text = re.sub(r"#\[error\(.*\)\]\n", "", text)
+    code = re.sub(r"//.*", "", text)
     named = set(re.findall(r"\w+", code)) | {"*"}
     imports = [path for path in imports if path.split("::")[-1] in named or "mod" in named]
-    return tokens(text.split("\n")), [name for name in PRELUDE if name in named], imports
+    return tokens(text.split("\n")), [name for name in PRELUDE if name in named], imports, texts
 
 
 def written(path):
-    """Returns the tokens that the first eraser wrote, without the lines that it added, and its imports:
-    from Rattle's prelude, and all others."""
+    """Returns the same of what the first eraser wrote, without the lines that it added."""
     prelude, kept = [], []
     for line in lines_of(path)[1:]:
-        found = re.match(r"use rattle::\{?([\w, ]+)\}?;$", line)
+        found = re.match(r"use crate::rattle::\{?([\w, ]+)\}?;$", line)
         if found and not prelude and set(found[1].split(", ")) <= set(PRELUDE):
             prelude = found[1].split(", ")
-        elif line not in ("#![forbid(unsafe_code)]", "#![no_std]") and not ALLOW.match(line):
+        else:
             kept.append(line)
     text, imports = without_imports("\n".join(kept))
-    return tokens(text.split("\n")), prelude, imports
+    arms = [arm for found in DISPLAY.finditer(text) for arm in re.findall(ARM, found[1])]
+    texts = [(literal.replace("{field_", "{"), variant) for variant, literal in arms]
+    return tokens(DISPLAY.sub("", text).split("\n")), prelude, imports, texts
 
 
-def compare(source, plain):
+def compare(crate, source, plain):
     """Compares a crate. Returns the numbers of files, tokens and differences."""
     found = {}
-    modules(source, "main" if os.path.exists(os.path.join(source, "main.rt")) else "lib", found)
-    want = {os.path.relpath(path, source) + ".rs": expected(lines) for path, lines in found.items()}
+    modules(source, "lib", found)
+    found[os.path.join(source, "mod")] = found.pop(os.path.join(source, "lib"))
+    want = {os.path.relpath(path, source) + ".rs": expected(crate, lines) for path, lines in found.items()}
     have = {os.path.relpath(os.path.join(folder, name), plain): written(os.path.join(folder, name))
             for folder, _, names in os.walk(plain) for name in names}
     differences = 0
@@ -182,7 +199,7 @@ def compare(source, plain):
         if want.get(name) != have.get(name):
             differences += 1
             show(name, want.get(name), have.get(name))
-    return len(have), sum(len(tokens) for tokens, _, _ in have.values()), differences
+    return len(have), sum(len(tokens) for tokens, *_ in have.values()), differences
 
 
 def show(name, want, have):
@@ -195,11 +212,11 @@ def show(name, want, have):
 def main():
     if len(sys.argv) != 3:
         sys.exit(__doc__)
-    project, generated = sys.argv[1:]
+    project, proved = sys.argv[1:]
     all_differences = 0
-    for name in sorted(os.listdir(generated)):
+    for name in sorted(set(os.listdir(proved)) - {"mod.rs"}):
         source = os.path.join(project, "crates", name, "src")
-        files, count, differences = compare(source, os.path.join(generated, name, "src"))
+        files, count, differences = compare(name, source, os.path.join(proved, name))
         all_differences += differences
         print(f"{name}: {files} files, {count} tokens, {differences} files differ")
     sys.exit(all_differences > 0)

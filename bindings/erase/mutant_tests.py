@@ -3,13 +3,12 @@
 
     mutant_tests.py PROJECT SCRATCH
 
-A mutant of tests/test_mutants names a test that must fail, or bindings/rust/box_count. box_count must
-also fail with each mutant of tests/count_rule_mutants, and pass with those that the list accepts. A
-mutant is applied to a copy of the sources, which is erased with its tests and built in the folder
-SCRATCH. A check also fails if it ends the process, or if it uses ten times the processor time that it
-needs without the mutant. Without a mutant every check must pass. Boxes are counted, so that the compiler
-cannot remove a walk without a result. Mutants that the eraser or the compiler rejects are not run. The
-exit status is 1 if a mutant is not noticed, or if an accepted one is."""
+A mutant of tests/test_mutants names a test that must fail, or bindings/rust/box_count. box_count must also fail
+with each mutant of tests/count_rule_mutants, and pass with those that the list accepts. A copy of the sources
+is erased with its tests and built in SCRATCH. A check also fails if it ends the process, or if it uses ten
+times the processor time that it needs without the mutant. Boxes are counted, so that the compiler cannot
+remove a walk without a result. Mutants that the eraser or the compiler rejects are not run. The exit status is
+1 if a mutant is not noticed, or if an accepted one is."""
 import collections
 import itertools
 import json
@@ -27,13 +26,12 @@ from processor_time import HANG, limited_to, used_by_children  # noqa: E402
 LISTS = ("count_rule_mutants", "test_mutants")
 # Mutants that no check can distinguish from the original.
 UNSEEN = {"loop_in_a_range": "it follows no box", "raised_twice_in_a_recursion": "it walks as before, and counts more"}
-# The check that must notice a mutant: a test of a crate, run in a certain way, or box_count.
-Check = collections.namedtuple("Check", "crate test how")
-BOX_COUNT = Check("box_count", None, None)
+# The check that must notice a mutant: a test, run in a certain way, or box_count.
+Check = collections.namedtuple("Check", "test how")
+BOX_COUNT = Check("", None)
 # The constant COUNT_ALLOCATION of the tests, and the bytes of a small stack.
 COUNT_ALLOCATION, SMALL_STACK = "1000100", str(256 * 1024)
-BUILD_TESTS = ("test", "--no-run", "-p", "rattle", "--features", "rattle/count_boxes", "--config", "profile.dev.opt-level=1",
-               "--config", "profile.dev.debug=0", "-p")
+BUILD_TESTS = ("test", "--no-run", "--lib", "--profile=dev", "--config=profile.dev.debug=0")
 # Seconds of processor time without a mutant. They only end a test that does not end.
 LONGEST = 600
 # The exit status of a failed test, and a part of its output. A process that is ended has neither.
@@ -44,8 +42,8 @@ def check_of(mutant):
     """Returns the check that must notice a mutant, or None if nothing is run."""
     if mutant.name in UNSEEN or mutant.rest.get("refused", "").startswith("error"):
         return None
-    test = mutant.rest.get("test", BOX_COUNT.crate)
-    return BOX_COUNT if test == BOX_COUNT.crate else Check(*test.split("::", 1), mutant.rest.get("run"))
+    test = mutant.rest.get("test", "box_count")
+    return BOX_COUNT if test == "box_count" else Check(f"proved::{test}", mutant.rest.get("run"))
 
 
 class Runner:
@@ -53,26 +51,23 @@ class Runner:
 
     def __init__(self, project, scratch):
         self.project, self.scratch = project, scratch
-        self.copy, self.workspace, self.target = (os.path.join(scratch, name) for name in ("project", "rust", "target"))
-        mutants.copy_workspace(project, self.workspace)
+        self.copy, self.target = (os.path.join(scratch, name) for name in ("project", "target"))
+        self.workspace = mutants.copy_workspace(project, os.path.join(scratch, "bindings"))
         self.counter = os.path.join(scratch, "refuse.so")
         source = os.path.join(project, "tests", "refuse.c")
         subprocess.run([os.environ.get("CC", "cc"), "-O2", "-shared", "-fPIC", "-o", self.counter, source, "-ldl"], check=True)
 
-    def program(self, mutant, crate):
-        """Returns the test program of this crate, or box_count, with a mutant applied."""
+    def program(self, mutant, is_count):
+        """Returns the program of box_count, or that of all tests, with a mutant applied."""
         mutants.apply(mutant, self.project, self.copy)
-        erase.erase(self.copy, os.path.join(self.workspace, "generated"), True)
-        is_count = crate == BOX_COUNT.crate
-        folder = os.path.join(self.workspace, crate if is_count else "")
-        words = ("build",) if is_count else (*BUILD_TESTS, crate)
-        done = subprocess.run(["cargo", *words, "-q", "--offline", "--message-format=json"], cwd=folder, text=True,
-                              env=dict(os.environ, CARGO_TARGET_DIR=self.target), capture_output=True, check=False)
+        erase.erase(self.copy, os.path.join(self.workspace, mutants.PROVED), True)
+        command = ["cargo", *(("build",) if is_count else BUILD_TESTS), "-q", "--offline", "--message-format=json"]
+        done = subprocess.run(command, cwd=os.path.join(self.workspace, "box_count"), text=True, capture_output=True,
+                              env=dict(os.environ, CARGO_TARGET_DIR=self.target), check=False)
         if done.returncode != 0:
             sys.exit(f"{mutant.name} is not built:\n{done.stderr[-2000:]}")
         messages = [json.loads(line) for line in done.stdout.split("\n") if line.startswith("{")]
-        built = {message["target"]["name"]: message["executable"] for message in messages if message.get("executable")}
-        return built[crate]
+        return next(message["executable"] for message in messages if message.get("executable"))
 
     def passes(self, program, check, seconds=LONGEST):
         """Returns whether a check passes in this number of seconds."""
@@ -111,11 +106,11 @@ class Runner:
 
 def times_without_mutant(runner, checks):
     """Returns ten times the seconds of each check. Each check must pass."""
-    programs = {crate: runner.program(mutants.NOTHING, crate) for crate in sorted({check.crate for check in checks})}
+    programs = {is_count: runner.program(mutants.NOTHING, is_count) for is_count in (False, True)}
     seconds = {}
     for check in sorted(checks, key=str):
         begun = used_by_children()
-        if not runner.passes(programs[check.crate], check):
+        if not runner.passes(programs[check == BOX_COUNT], check):
             sys.exit(f"{check} fails without a mutant")
         seconds[check] = math.ceil(1 + 10 * (used_by_children() - begun))
     return seconds
@@ -125,7 +120,7 @@ def outcome(runner, mutant, check, seconds):
     if not check:
         return "not run"
     try:
-        return "passes" if runner.passes(runner.program(mutant, check.crate), check, seconds) else "noticed"
+        return "passes" if runner.passes(runner.program(mutant, check == BOX_COUNT), check, seconds) else "noticed"
     except erase.Refused:
         return "rejected by the eraser"
 

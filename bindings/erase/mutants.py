@@ -10,6 +10,8 @@ import erase
 
 # An edit is (file, old, new). The rest has the other keys, for example the reason for rejecting the mutant.
 Mutant = namedtuple("Mutant", "name edits rest")
+# The folder of bindings/rust that the eraser writes.
+PROVED = os.path.join("divsharun", "src", "proved")
 NOTHING = Mutant("nothing", [], {})
 
 
@@ -39,9 +41,9 @@ def read_entry(pairs):
 
 
 def copy_workspace(project, folder):
-    """Copies bindings/rust, for the crates of a project with a mutant."""
-    shutil.rmtree(folder, ignore_errors=True)
-    shutil.copytree(os.path.join(project, "bindings", "rust"), folder, ignore=shutil.ignore_patterns("target"))
+    """Copies the bindings, for the modules of a project with a mutant. Returns the workspace."""
+    shutil.copytree(os.path.join(project, "bindings"), folder, ignore=shutil.ignore_patterns("target", "build"))
+    return os.path.join(folder, "rust")
 
 
 def apply(mutant, project, copy):

@@ -1,9 +1,9 @@
 //! The two rounds of `speed.c` as direct calls of the Rust crate.
 
+use crate::proved::vm_allocator::{AddressAllocator, AllocPolicy, RangeInclusive, Result};
+use crate::rattle::Global;
 use core::hint::black_box;
 use core::slice;
-use rattle::Global;
-use vm_allocator::{AddressAllocator, AllocPolicy, RangeInclusive, Result};
 
 /// A request, as C has it.
 #[repr(C)]

@@ -2,13 +2,13 @@
 
 use crate::handle::{create, visit, with_mut, with_mut_unit, with_ref, Handle};
 use crate::ids::write_range;
+use crate::proved::vm_allocator::{AllocPolicy, Error};
+use crate::proved::vm_devices::{DeviceManager, DeviceSlot};
 use crate::ranges::space_of;
+use crate::rattle::Global;
 use crate::texts::{read, save};
 use crate::{dvs_range, dvs_refusal, dvs_status, status_of, CallError, Out};
 use core::ffi::{c_char, c_int, c_void};
-use rattle::Global;
-use vm_allocator::{AllocPolicy, Error};
-use vm_devices::{DeviceManager, DeviceSlot};
 
 /// A device manager behind a C pointer.
 pub type dvs_device_manager = Handle<DeviceManager>;

@@ -1,12 +1,12 @@
 //! The objects that C has pointers to.
 
+use crate::proved::vm_allocator::Result as Answer;
 use crate::{CallError, Out};
 use alloc::boxed::Box;
 use alloc::vec::Vec;
 use core::cell::UnsafeCell;
 use core::ffi::c_int;
 use core::sync::atomic::{AtomicUsize, Ordering};
-use vm_allocator::Result as Answer;
 
 /// An object behind a C pointer.
 pub struct Handle<T> {

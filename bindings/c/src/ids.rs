@@ -1,11 +1,11 @@
 //! The id allocator.
 
 use crate::handle::{create, non_null, visit, with_mut, with_mut_unit, with_ref, Handle};
+use crate::proved::vm_allocator::IdAllocator;
+use crate::rattle::Global;
 use crate::texts::{read, save};
 use crate::{dvs_refusal, dvs_status, status_of, CallError, Out};
 use core::ffi::{c_char, c_int, c_void};
-use rattle::Global;
-use vm_allocator::IdAllocator;
 
 /// An id allocator behind a C pointer.
 pub type dvs_id_allocator = Handle<IdAllocator>;

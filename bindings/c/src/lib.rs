@@ -12,11 +12,23 @@
 
 extern crate alloc;
 
+extern crate alloc;
+
 mod devices;
 mod handle;
 mod ids;
+#[path = "../../rust/box_count/src/json.rs"]
+mod json;
 mod lists;
+// The eraser writes it. The library calls a part of it.
+#[allow(dead_code, unused_imports)]
+#[rustfmt::skip]
+#[path = "../../rust/divsharun/src/proved/mod.rs"]
+mod proved;
 mod ranges;
+#[allow(dead_code, unused_imports)]
+#[path = "../../rust/divsharun/src/rattle/mod.rs"]
+mod rattle;
 mod runtime;
 mod status;
 mod texts;
@@ -24,9 +36,9 @@ mod texts;
 #[path = "../speed/through_rust.rs"]
 mod through_rust;
 
-use core::mem::MaybeUninit;
+use crate::proved::vm_allocator::{self, RangeInclusive};
 use status::{dvs_refusal, dvs_status, status_of, CallError};
-use vm_allocator::RangeInclusive;
+use core::mem::MaybeUninit;
 
 /// The destination of a result.
 type Out<'a, T> = Option<&'a mut MaybeUninit<T>>;

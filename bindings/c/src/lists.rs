@@ -1,12 +1,12 @@
 //! Calls with arrays of ranges and of requests.
 
 use crate::handle::{create, non_null};
+use crate::proved::vm_allocator::{AddressAllocator, AllocPolicy, RangeInclusive};
 use crate::ranges::dvs_address_allocator;
+use crate::rattle::Global;
 use crate::{dvs_range, dvs_refusal, dvs_status, status_of, CallError, Out};
 use alloc::vec::Vec;
 use core::slice;
-use rattle::Global;
-use vm_allocator::{AddressAllocator, AllocPolicy, RangeInclusive};
 
 const DVS_FIRST: u32 = 0;
 const DVS_LAST: u32 = 1;

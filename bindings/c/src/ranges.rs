@@ -1,11 +1,11 @@
 //! The address allocator.
 
 use crate::handle::{create, visit, with_mut, with_mut_unit, with_ref, Handle};
+use crate::proved::vm_allocator::{AddressAllocator, AllocPolicy, Error, RangeInclusive};
+use crate::rattle::Global;
 use crate::texts::{read, save};
 use crate::{dvs_range, dvs_refusal, dvs_status, status_of, CallError, Out};
 use core::ffi::{c_char, c_int, c_void};
-use rattle::Global;
-use vm_allocator::{AddressAllocator, AllocPolicy, Error, RangeInclusive};
 
 /// An address allocator behind a C pointer.
 pub type dvs_address_allocator = Handle<AddressAllocator>;

@@ -1,9 +1,9 @@
 //! The errors of calls, as statuses and details.
 
+use crate::json::TextError;
+use crate::proved::vm_allocator::{Error, ValueError};
 use crate::{dvs_range, Out};
 use core::ffi::{c_char, CStr};
-use rattle::TextError;
-use vm_allocator::{Error, ValueError};
 
 /// The result of a call.
 pub type dvs_status = u32;

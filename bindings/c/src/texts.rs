@@ -1,14 +1,14 @@
 //! Saving objects as JSON, and reading them.
 
 use crate::handle::{non_null, Handle};
+use crate::proved::vm_allocator::{self, ValueError};
+use crate::rattle::{Global, Value};
 use crate::{CallError, Out};
 use alloc::ffi::CString;
 use alloc::vec::Vec;
 use core::ffi::c_char;
 use core::fmt::{self, Write};
 use core::{slice, str};
-use rattle::{Global, Value};
-use vm_allocator::ValueError;
 
 /// Writes the text that encodes an object, and its length.
 pub(crate) fn save<T>(

@@ -8,9 +8,9 @@
 //! - `holds` walks one path, and walks over all blocks visit each once.
 #![forbid(unsafe_code)]
 
-use rattle::{boxes_followed, Global};
+use box_count::proved::vm_allocator::{AddressAllocator, AllocPolicy, RangeInclusive, Result};
+use box_count::rattle::{boxes_followed, Global};
 use std::hint::black_box;
-use vm_allocator::{AddressAllocator, AllocPolicy, RangeInclusive, Result};
 
 /// The maximum number of boxes that a call follows: per node that it counts, and in addition.
 #[derive(Clone, Copy)]

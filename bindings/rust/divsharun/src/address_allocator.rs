@@ -1,9 +1,10 @@
 use crate::error::{or_abort, or_try_error, out_of_memory, unless_out_of_memory};
+use crate::proved::vm_allocator as proved;
+use crate::rattle::Global;
 use crate::{AllocPolicy, Constraint, Layout, RangeInclusive, Result, TryError};
 use alloc::vec::Vec;
 use core::fmt;
 use core::iter::FusedIterator;
-use rattle::Global;
 
 /// Allocates ranges of addresses from one space.
 ///

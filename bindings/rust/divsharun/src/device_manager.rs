@@ -1,9 +1,10 @@
 use crate::address_allocator::ShortDebug;
 use crate::error::{or_abort, or_try_error, out_of_memory};
+use crate::proved::vm_devices as proved_devices;
+use crate::rattle::Global;
 use crate::{AllocPolicy, RangeInclusive, Result, TryError};
 use core::fmt;
 use core::iter::FusedIterator;
-use rattle::Global;
 
 /// The resources of a device: an id and a range of addresses.
 ///

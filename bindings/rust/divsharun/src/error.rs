@@ -1,3 +1,4 @@
+use crate::proved::vm_allocator as proved;
 use crate::{AddressAllocator, NodeState, RangeInclusive};
 use core::fmt;
 

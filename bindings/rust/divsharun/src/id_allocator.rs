@@ -1,8 +1,9 @@
 use crate::error::{or_abort, or_try_error, out_of_memory};
+use crate::proved::vm_allocator as proved;
+use crate::rattle::Global;
 use crate::{Result, TryError};
 use core::fmt;
 use core::iter::FusedIterator;
-use rattle::Global;
 
 /// Allocates ids from a range, the lowest free id first.
 ///

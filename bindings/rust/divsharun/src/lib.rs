@@ -26,13 +26,7 @@
 //!
 //! # Switching from `vm-allocator`
 //!
-//! Change one line of Cargo.toml. No line of Rust changes:
-//!
-//! ```toml
-//! vm-allocator = { package = "divsharun", git = "REPOSITORY" }
-//! ```
-//!
-//! `REPOSITORY` is the URL of the repository.
+//! Change one line of Cargo.toml, as the README shows. No line of Rust changes.
 //!
 //! Results differ where that crate has bugs. `docs/DIFFERENCES.md` in the repository lists each
 //! difference. These items are new:
@@ -95,19 +89,18 @@
 //!
 //! # What is proved
 //!
-//! The result of each call is proved for every input, for the sources in Rattle. The code below
-//! this crate is generated from these sources by removing their contracts. The README of this crate
-//! lists the checks that compare both, and what is trusted. This crate itself is trusted: it
-//! converts between its types and the generated ones.
+//! The result of each call is proved for every input, for the sources in Rattle. The private module
+//! `proved` is generated from these sources by removing their contracts. The README of this crate
+//! lists what is trusted, including the other modules, which convert between their types and the
+//! generated ones.
 //!
 //! # Features
 //!
-//! Without features, the crate has no dependency outside this repository, and it does not need
-//! `std`.
+//! Without features, the crate has no dependency, and it does not need `std`.
 //!
 //! - `serde` implements `Serialize` and `Deserialize` for [`RangeInclusive`], [`NodeState`],
 //!   [`AddressAllocator`], [`IdAllocator`] and [`DeviceManager`].
-//! - `std` does nothing. It exists for manifests that name it.
+//! - `std`, a default feature, adds the module `replay` and the program `divsharun-replay`.
 //!
 //! # Saved values
 //!
@@ -162,6 +155,8 @@
 #![warn(clippy::must_use_candidate)]
 
 extern crate alloc;
+#[cfg(feature = "std")]
+extern crate std;
 
 mod address_allocator;
 mod constraint;
@@ -170,11 +165,19 @@ mod error;
 mod id_allocator;
 mod layout;
 mod node_state;
+// The eraser writes it. This crate calls a part of it, and only by its public names.
+#[allow(dead_code, unused_imports)]
+#[rustfmt::skip]
+mod proved;
 #[cfg(test)]
 mod proved_calls;
 #[cfg(all(test, feature = "serde"))]
 mod proved_readers;
 mod range;
+#[allow(dead_code, unused_imports)]
+mod rattle;
+#[cfg(feature = "std")]
+pub mod replay;
 #[cfg(feature = "serde")]
 mod saved;
 
@@ -211,5 +214,5 @@ const _: () = {
 
 /// Runs the examples of the README as doctests.
 #[cfg(doctest)]
-#[doc = include_str!("../../README.md")]
+#[doc = include_str!("../README.md")]
 mod readme {}

@@ -1,3 +1,5 @@
+use crate::proved::vm_allocator as proved;
+
 /// Whether a block of a space is free or allocated. `Free` is less than `Allocated`.
 ///
 /// # Example

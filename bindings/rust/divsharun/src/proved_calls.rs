@@ -3,13 +3,15 @@
 #[path = "../tests/draw/mod.rs"]
 mod draw;
 
+use crate::proved::vm_allocator as proved;
+use crate::proved::vm_devices as proved_devices;
+use crate::rattle::Global;
 use crate::{
     AddressAllocator, AllocPolicy, Constraint, DeviceManager, IdAllocator, RangeInclusive, TryError,
 };
 use alloc::{format, vec::Vec};
 use core::fmt::Debug;
 use draw::Draw;
-use rattle::Global;
 
 /// Numbers at both ends and between.
 const NUMBERS: [u64; 6] = [0, 1, 2, 16, u64::MAX - 1, u64::MAX];

@@ -3,12 +3,14 @@
 //! The proved strict readers must accept what serde writes. Damaged values are read by serde and by
 //! the proved reader, which must accept the same ones.
 
+use crate::proved::vm_allocator as proved;
+use crate::proved::vm_devices as proved_devices;
+use crate::rattle::{self, Fields, Global, Number};
 use crate::{AddressAllocator, AllocPolicy, DeviceManager, IdAllocator};
 use alloc::format;
 use alloc::string::{String, ToString};
 use alloc::vec::Vec;
 use core::fmt::Debug;
-use rattle::{Fields, Global, Number};
 use serde::de::DeserializeOwned;
 use serde::Serialize;
 use serde_json::{json, Value};

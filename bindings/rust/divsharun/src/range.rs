@@ -1,3 +1,4 @@
+use crate::proved::vm_allocator as proved;
 use crate::{Error, Result};
 use core::{fmt, ops};
 

@@ -3,7 +3,6 @@
 //! If an allocation fails, a `try_` call returns `OutOfMemory` and changes nothing, and any other
 //! call ends the process. The program starts itself again to observe that.
 
-#[path = "../../rattle/tests/refusing/mod.rs"]
 mod refusing;
 
 use divsharun::{

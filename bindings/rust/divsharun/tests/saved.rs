@@ -1,17 +1,16 @@
 //! The feature `serde`: the format of saved objects, in JSON and in a format without names, and the
-//! values that are accepted or rejected. The folder `with_serde` runs it.
-#![cfg(feature = "serde")]
+//! values that are accepted or rejected.
 
 mod packed;
 
+use divsharun::{
+    AddressAllocator, AllocPolicy, DeviceManager, DeviceSlot, IdAllocator, NodeState,
+    RangeInclusive,
+};
 use serde::de::value::{Error, MapDeserializer};
 use serde::de::{DeserializeOwned, IntoDeserializer};
 use serde::{Deserialize, Serialize};
 use std::cell::Cell;
-use vm_allocator::{
-    AddressAllocator, AllocPolicy, DeviceManager, DeviceSlot, IdAllocator, NodeState,
-    RangeInclusive,
-};
 
 const FRESH: &str = concat!(
     r#"{"address_space":{"start":16,"end":19},"interval_tree":{"root":"#,

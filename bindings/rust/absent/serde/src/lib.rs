@@ -1,1 +1,1 @@
-compile_error!("serde is tried in the folder with_serde: this workspace builds without it");
+compile_error!("this workspace builds without serde: the folder `patched` and the packaged crate use it");

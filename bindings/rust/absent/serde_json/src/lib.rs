@@ -1,1 +1,1 @@
-compile_error!("serde is tried in the folder with_serde: this workspace builds without it");
+//! Empty, because cargo builds it for tests, which use it only with the feature `serde`.

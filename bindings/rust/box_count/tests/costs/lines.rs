@@ -1,12 +1,12 @@
 //! A line of the replay language allocates as often as its call, and follows no more boxes.
 use crate::meter::{cost, difference, spent, Cost};
 use crate::objects::{Setting, SETTINGS};
-use rattle::Global;
+use box_count::proved::vm_allocator::AllocPolicy::{ExactMatch, FirstMatch, LastMatch};
+use box_count::proved::vm_allocator::{AddressAllocator, IdAllocator, RangeInclusive};
+use box_count::proved::vm_devices::DeviceManager;
+use box_count::proved::vm_lines::run;
+use box_count::rattle::Global;
 use std::io::Read;
-use vm_allocator::AllocPolicy::{ExactMatch, FirstMatch, LastMatch};
-use vm_allocator::{AddressAllocator, IdAllocator, RangeInclusive};
-use vm_devices::DeviceManager;
-use vm_lines::run;
 
 /// A reader that returns one line at a time. It notes the cost so far before each read.
 struct Lines<'a> {

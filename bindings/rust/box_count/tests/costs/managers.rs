@@ -3,11 +3,11 @@
 use crate::meter::{at_most, cost};
 use crate::objects::{with_part, Setting, SETTINGS};
 use crate::requests::{allocations, list, map, object, DEVICE};
-use rattle::{BTreeMap, BTreeSet, Global, Value};
-use vm_allocator::AllocPolicy::{self, FirstMatch};
-use vm_allocator::Error::NeverAllocated;
-use vm_allocator::{AddressAllocator, IdAllocator, RangeInclusive};
-use vm_devices::{DeviceManager, DeviceSlot};
+use box_count::proved::vm_allocator::AllocPolicy::{self, FirstMatch};
+use box_count::proved::vm_allocator::Error::NeverAllocated;
+use box_count::proved::vm_allocator::{AddressAllocator, IdAllocator, RangeInclusive};
+use box_count::proved::vm_devices::{DeviceManager, DeviceSlot};
+use box_count::rattle::{BTreeMap, BTreeSet, Global, Value};
 
 /// A manager, and separate parts that get the same calls, so their trees are the same.
 struct Pair {

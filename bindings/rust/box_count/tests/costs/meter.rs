@@ -1,5 +1,5 @@
 //! Measures the cost of work in its thread.
-use rattle::boxes_followed;
+use box_count::rattle::boxes_followed;
 use std::alloc::{GlobalAlloc, Layout, System};
 use std::cell::Cell;
 use std::fmt::Debug;

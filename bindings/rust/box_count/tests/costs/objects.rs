@@ -1,8 +1,8 @@
 //! The measured objects.
-use rattle::{BTreeSet, Global, Value};
-use vm_allocator::AllocPolicy::{ExactMatch, FirstMatch};
-use vm_allocator::{AddressAllocator, IdAllocator, RangeInclusive};
-use vm_devices::DeviceManager;
+use box_count::proved::vm_allocator::AllocPolicy::{ExactMatch, FirstMatch};
+use box_count::proved::vm_allocator::{AddressAllocator, IdAllocator, RangeInclusive};
+use box_count::proved::vm_devices::DeviceManager;
+use box_count::rattle::{BTreeSet, Global, Value};
 
 /// The layout of objects with `held` allocated ranges, ids or devices.
 #[derive(Clone, Copy, Debug)]

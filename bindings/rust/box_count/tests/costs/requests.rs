@@ -5,13 +5,13 @@
 //! operations on such an object do.
 use crate::meter::{at_most, cost, with_failing};
 use crate::objects::{last_node, range, with_part, Setting, SETTINGS};
-use rattle::{AllocError, BTreeMap, Global, Value};
+use box_count::proved::vm_allocator::allocation_engine::{IntervalTree, NodeState};
+use box_count::proved::vm_allocator::AllocPolicy::{self, ExactMatch, FirstMatch, LastMatch};
+use box_count::proved::vm_allocator::Error::{self, *};
+use box_count::proved::vm_allocator::ValueError::NotAState;
+use box_count::proved::vm_allocator::{AddressAllocator, Constraint, IdAllocator, RangeInclusive};
+use box_count::rattle::{AllocError, BTreeMap, Global, Value};
 use std::fmt::Debug;
-use vm_allocator::allocation_engine::{IntervalTree, NodeState};
-use vm_allocator::AllocPolicy::{self, ExactMatch, FirstMatch, LastMatch};
-use vm_allocator::Error::{self, *};
-use vm_allocator::ValueError::NotAState;
-use vm_allocator::{AddressAllocator, Constraint, IdAllocator, RangeInclusive};
 
 /// An object allocates its list of fields, and each name.
 pub const fn object(fields: u64) -> u64 {

@@ -2,12 +2,12 @@
 //! time of linear growth.
 use crate::meter::processor_time;
 use crate::objects::{last_node, low};
-use rattle::{Global, Value};
+use box_count::proved::vm_allocator::AllocPolicy::{ExactMatch, FirstMatch};
+use box_count::proved::vm_allocator::{AddressAllocator, Constraint, IdAllocator};
+use box_count::proved::vm_devices::DeviceManager;
+use box_count::proved::vm_lines::run;
+use box_count::rattle::{Global, Value};
 use std::hint::black_box;
-use vm_allocator::AllocPolicy::{ExactMatch, FirstMatch};
-use vm_allocator::{AddressAllocator, Constraint, IdAllocator};
-use vm_devices::DeviceManager;
-use vm_lines::run;
 
 const SMALL: u64 = 2_000;
 const GROWTH: u64 = 8;

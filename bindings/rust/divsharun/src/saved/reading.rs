@@ -6,6 +6,9 @@
 
 use super::{MAX_LIST_LEN, POLICIES, STATES, TOO_LONG, VERSION};
 use crate::error::{or_abort, out_of_memory};
+use crate::proved::vm_allocator as proved;
+use crate::proved::vm_devices as proved_devices;
+use crate::rattle::{Fields, Global, Value};
 use crate::{
     AddressAllocator, AllocPolicy, DeviceManager, DeviceSlot, IdAllocator, NodeState,
     RangeInclusive,
@@ -14,7 +17,6 @@ use alloc::string::String;
 use alloc::vec::Vec;
 use core::fmt;
 use core::marker::PhantomData;
-use rattle::{Fields, Global, Value};
 use serde::de::{
     DeserializeSeed, EnumAccess, Error, MapAccess, SeqAccess, Unexpected, VariantAccess, Visitor,
 };

@@ -2,12 +2,13 @@
 
 use super::{MAX_LIST_LEN, POLICIES, STATES, TOO_LONG, VERSION};
 use crate::error::or_abort;
+use crate::proved::vm_allocator as proved;
+use crate::rattle::{Global, Value};
 use crate::{
     AddressAllocator, AllocPolicy, DeviceManager, DeviceSlot, IdAllocator, NodeState,
     RangeInclusive,
 };
 use alloc::vec::Vec;
-use rattle::{Global, Value};
 use serde::ser::{Error, SerializeStruct};
 use serde::{Serialize, Serializer};
 

@@ -1,0 +1,5 @@
+//! Tests of `rattle`.
+
+mod json;
+mod library;
+mod memory;

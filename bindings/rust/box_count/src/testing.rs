@@ -1,0 +1,173 @@
+//! Items that the tests of the sources use. They are in scope in every test, as in Rattle's prelude.
+use crate::rattle::{Number, Value};
+use core::fmt;
+use core::ops::{Deref, Index};
+
+pub use crate::rattle::{AllocError, Box, Global, Vec};
+#[doc(inline)]
+pub use crate::{__assert as assert, __assert_eq as assert_eq};
+
+/// The argument of a test: the allocator and the environment.
+pub struct HostRuntime;
+
+/// The error of a test. It converts from any error.
+pub struct Fail(alloc::string::String);
+
+impl<E: core::error::Error> From<E> for Fail {
+    fn from(error: E) -> Fail {
+        Fail(alloc::format!("{error}"))
+    }
+}
+
+impl fmt::Debug for Fail {
+    fn fmt(&self, f: &mut fmt::Formatter<'_>) -> fmt::Result {
+        f.write_str(&self.0)
+    }
+}
+
+/// A type whose failed assertion ends the test.
+pub trait Abort {}
+
+impl Abort for HostRuntime {}
+
+/// A type that returns the allocator.
+pub trait AllocGlobal {
+    /// Returns the allocator.
+    fn alloc(&self) -> Global;
+}
+
+impl AllocGlobal for HostRuntime {
+    fn alloc(&self) -> Global {
+        Global
+    }
+}
+
+/// A type that returns the variables of the environment.
+pub trait Env {
+    /// Writes the text of a variable to the buffer, and returns its length.
+    fn var(&self, name: &str, room: &mut [u8]) -> Result<usize, AllocError>;
+}
+
+impl Env for HostRuntime {
+    fn var(&self, name: &str, room: &mut [u8]) -> Result<usize, AllocError> {
+        let text = std::env::var(name).map_err(|_| AllocError)?;
+        let room = room.get_mut(..text.len()).ok_or(AllocError)?;
+        room.copy_from_slice(text.as_bytes());
+        Ok(text.len())
+    }
+}
+
+/// A string that reports a failed allocation.
+#[derive(Debug)]
+pub struct String(alloc::string::String);
+
+impl String {
+    /// Creates an empty string. It does not allocate.
+    pub fn new(_alloc: Global) -> String {
+        String(alloc::string::String::new())
+    }
+
+    /// Creates an empty string with a capacity in bytes.
+    pub fn with_capacity(_alloc: Global, room: usize) -> Result<String, AllocError> {
+        let mut text = alloc::string::String::new();
+        text.try_reserve_exact(room).map_err(|_| AllocError)?;
+        Ok(String(text))
+    }
+
+    /// Appends a character.
+    pub fn push(&mut self, letter: char) -> Result<(), AllocError> {
+        self.0.push(letter);
+        Ok(())
+    }
+
+    /// Appends a text.
+    pub fn push_str(&mut self, text: &str) -> Result<(), AllocError> {
+        self.0.push_str(text);
+        Ok(())
+    }
+
+    /// Returns the text.
+    pub fn as_str(&self) -> &str {
+        &self.0
+    }
+}
+
+impl Deref for String {
+    type Target = str;
+
+    fn deref(&self) -> &str {
+        &self.0
+    }
+}
+
+impl fmt::Display for String {
+    fn fmt(&self, f: &mut fmt::Formatter<'_>) -> fmt::Result {
+        self.0.fmt(f)
+    }
+}
+
+/// A value that can be written as a text.
+pub trait ToString {
+    /// Returns the text of the value.
+    fn to_string(&self, alloc: Global) -> Result<String, AllocError>;
+}
+
+impl<T: fmt::Display> ToString for T {
+    fn to_string(&self, _alloc: Global) -> Result<String, AllocError> {
+        Ok(String(alloc::format!("{self}")))
+    }
+}
+
+/// Returns a number of a test whose type cannot be inferred.
+impl From<i32> for Value {
+    fn from(number: i32) -> Value {
+        Value::Number(match u64::try_from(number) {
+            Ok(number) => Number::Whole(number),
+            Err(_) => Number::Other(number.into()),
+        })
+    }
+}
+
+impl Value {
+    /// Returns the value at a path of field names and list indices, each after a `/`.
+    pub fn pointer_mut(&mut self, path: &str) -> Option<&mut Value> {
+        let mut steps = path.split('/');
+        match steps.next() {
+            Some("") => steps.try_fold(self, |value, step| match value {
+                Value::Object(fields) => {
+                    let mut fields = fields.iter_mut();
+                    fields
+                        .find(|field| field.0 == step)
+                        .map(|field| &mut field.1)
+                }
+                Value::Array(items) => items.get_mut(step.parse::<usize>().ok()?),
+                _ => None,
+            }),
+            _ => None,
+        }
+    }
+}
+
+/// Returns the value of a field, or `null` if the field is absent.
+impl Index<&str> for Value {
+    type Output = Value;
+
+    fn index(&self, name: &str) -> &Value {
+        static NULL: Value = Value::Null;
+        self.get(name).unwrap_or(&NULL)
+    }
+}
+
+/// `assert!(rt; condition, message)`
+#[doc(hidden)]
+#[macro_export]
+macro_rules! __assert {
+    ($runtime:expr; $($rest:tt)*) => { ::core::assert!($($rest)*) };
+}
+
+/// `assert_eq!(rt; one, other, message)`
+#[doc(hidden)]
+#[macro_export]
+macro_rules! __assert_eq {
+    ($runtime:expr; $($rest:tt)*) => { ::core::assert_eq!($($rest)*) };
+}

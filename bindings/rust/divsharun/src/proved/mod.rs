@@ -1,0 +1,15 @@
+// Written by bindings/erase from crates.txt: do not edit.
+
+//! The proved code, without its contracts.
+#![forbid(unsafe_code)]
+// Names are public in Rattle, and some proofs need another form than these lints or a statement that is removed.
+#![allow(clippy::enum_variant_names, clippy::wrong_self_convention)]
+#![allow(clippy::needless_range_loop, clippy::only_used_in_recursion)]
+#![allow(clippy::question_mark, clippy::while_let_on_iterator)]
+
+pub mod vm_allocator;
+pub mod vm_devices;
+pub mod vm_engine;
+#[cfg(feature = "std")]
+pub mod vm_lines;
+pub mod vm_ranges;

@@ -1,0 +1,216 @@
+// Written by bindings/erase from crates/vm_allocator/src/address_allocator.rt: do not edit.
+
+//! An allocator of address ranges.
+//!
+//! The allocator stores its space next to the tree of blocks, so that `base` and `end` are one load
+//! each. The invariant states that the two agree and that the state is valid. The fields are `pub(crate)` because `saved`
+//! builds allocators from values.
+//!
+//! `allocate` and `free` call the counted versions and drop the count. Some clauses follow from
+//! `answer`, and are there because callers rely on them: for example that some calls always
+//! succeed.
+
+use crate::rattle::Global;
+use crate::proved::vm_engine::IntervalTree;
+use crate::proved::vm_ranges::{AllocPolicy, Constraint, Error, RangeInclusive, Result};
+
+mod comparing;
+mod gaps;
+mod held_ranges;
+mod several;
+
+/// Allocates ranges of addresses from one space.
+///
+/// Allocated ranges never overlap, each lies in the space, and none contains `u64::MAX`. A range
+/// includes both of its ends. Sizes and alignments are numbers of addresses.
+#[derive(Debug)]
+pub struct AddressAllocator {
+    pub(in crate::proved::vm_allocator) address_space: RangeInclusive,
+    pub(in crate::proved::vm_allocator) interval_tree: IntervalTree,
+}
+
+impl AddressAllocator {
+    /// Creates an allocator for the `size` addresses starting at `base`. All of them are free.
+    ///
+    /// It allocates one node.
+    ///
+    /// # Errors
+    ///
+    /// In this order:
+    /// - `Underflow` if `size` is 0.
+    /// - `Overflow` if the last address would be past `u64::MAX`.
+    /// - `OutOfMemory` if the allocation of the node fails.
+    pub fn new(alloc: Global, base: u64, size: u64) -> Result<Self> {
+        let address_space = space_from(base, size)?;
+        let interval_tree = IntervalTree::new(alloc, address_space)?;
+        Ok(AddressAllocator {
+            address_space,
+            interval_tree,
+        })
+    }
+
+    /// Creates an allocator of the `size` addresses that start at `base`, with these ranges allocated.
+    /// They must be in increasing order.
+    ///
+    /// Its tree is as low as possible. It takes time linear in the number of ranges.
+    ///
+    /// # Errors
+    ///
+    /// In this order:
+    /// - `Underflow` if `size` is 0.
+    /// - `Overflow` if the space would end past `u64::MAX`.
+    /// - For the first range that cannot be allocated:
+    ///   - `ResourceNotAvailable` if it does not start after the end of the range before it.
+    ///   - `Overflow` if it starts at `u64::MAX`.
+    ///   - `ResourceNotAvailable` if it is outside the space.
+    ///   - `Overflow` if it ends at `u64::MAX`.
+    /// - `Overflow` if the ranges and the gaps together are 2^49 or more.
+    /// - `OutOfMemory` if the allocation of a node fails.
+    pub fn with_held(alloc: Global, base: u64, size: u64, held: &[RangeInclusive]) -> Result<Self> {
+        let address_space = space_from(base, size)?;
+        let interval_tree = IntervalTree::with_held(alloc, address_space, held)?;
+        Ok(AddressAllocator {
+            address_space,
+            interval_tree,
+        })
+    }
+
+    /// Returns a copy. Its tree has the same nodes, so both allocators have the same height.
+    ///
+    /// # Errors
+    ///
+    /// - `OutOfMemory` if the allocation of a node fails. The nodes copied so far are freed.
+    pub fn try_clone(&self, alloc: Global) -> Result<Self> {
+        Ok(AddressAllocator {
+            address_space: self.address_space,
+            interval_tree: self.interval_tree.try_clone(alloc)?,
+        })
+    }
+
+    /// Allocates `size` free addresses that start at a multiple of `alignment`, and returns their
+    /// range.
+    ///
+    /// `FirstMatch` chooses the lowest such range and `LastMatch` the highest. `ExactMatch(start)`
+    /// chooses the range that starts at `start`.
+    ///
+    /// A gap is a run of free addresses with no free address next to it. A range that fills its gap
+    /// is allocated without memory, and always succeeds if it ends below `u64::MAX`. A range that
+    /// leaves a part of its gap free splits the gap, which allocates one or two nodes.
+    ///
+    /// # Errors
+    ///
+    /// An error changes nothing. In this order:
+    /// - `InvalidSize(0)` if `size` is 0.
+    /// - `InvalidAlignment` if `alignment` is not a power of two.
+    /// - For `ExactMatch(start)`:
+    ///   - `UnalignedAddress` if `start` is not a multiple of `alignment`.
+    ///   - `Overflow` if `start` is `u64::MAX`.
+    ///   - `ResourceNotAvailable` if `start` is outside the space.
+    ///   - `Overflow` if the range would end past `u64::MAX`.
+    ///   - `InvalidStateTransition` if exactly this range is already allocated.
+    /// - `ResourceNotAvailable` if there is no such range.
+    /// - `Overflow` if the chosen range ends at `u64::MAX`, even if another range is free.
+    /// - Only if the range splits its gap:
+    ///   - `Overflow` if the height of the tree is 48 or more. This takes more than 6 * 10^9
+    ///     allocated ranges.
+    ///   - `OutOfMemory` if the allocation of a node fails.
+    pub fn allocate(
+        &mut self,
+        alloc: Global,
+        size: u64,
+        alignment: u64,
+        policy: AllocPolicy,
+    ) -> Result<RangeInclusive> {
+        let tree = &mut self.interval_tree;
+        let constraint = Constraint::new(size, alignment, policy)?;
+        tree.allocate(alloc, constraint)
+    }
+
+    /// Allocates like [`allocate`](Self::allocate), and also returns the number of tree nodes that
+    /// the call entered.
+    ///
+    /// Let h be the [`height`](Self::height) and k the number of allocated ranges before the call.
+    /// The count is
+    /// - at most 3h for `ExactMatch`.
+    /// - at most 2k + 1 + 2h for `FirstMatch` and `LastMatch`.
+    /// - at least 1 for a success, and at least h / 2 for a success that splits its gap.
+    /// - 0 for `InvalidSize`, `InvalidAlignment` and `UnalignedAddress`.
+    ///
+    /// A search enters a subtree only if one of its gaps is long enough and one has a multiple of
+    /// `alignment`. So `FirstMatch` and `LastMatch` enter at most h(v + 1) + 2h nodes, and at
+    /// most hv if they return `ResourceNotAvailable`. Here v is the lesser of two numbers:
+    /// - The gaps that are long enough but misaligned. This number is 0 if `alignment` is 1.
+    /// - The gaps that have a multiple of `alignment` but are too short after it. There are at most
+    ///   as many as multiples of `alignment` in the space.
+    ///
+    /// # Errors
+    ///
+    /// Those of [`allocate`](Self::allocate), in the same order.
+    pub fn allocate_counted(
+        &mut self,
+        alloc: Global,
+        size: u64,
+        alignment: u64,
+        policy: AllocPolicy,
+    ) -> (Result<RangeInclusive>, u64) {
+        match Constraint::new(size, alignment, policy) {
+            Err(error) => (Err(error), 0),
+            Ok(constraint) => self.interval_tree.allocate_counted(alloc, constraint),
+        }
+    }
+
+    /// Frees an allocated range.
+    ///
+    /// It does not allocate, and always succeeds for an allocated range.
+    ///
+    /// # Errors
+    ///
+    /// An error changes nothing.
+    /// - `ResourceNotAvailable` if exactly this range is not allocated. A part of an allocated
+    ///   range cannot be freed.
+    pub fn free(&mut self, key: &RangeInclusive) -> Result<()> {
+        self.free_counted(key).0
+    }
+
+    /// Frees like [`free`](Self::free), and also returns the number of tree nodes that the call
+    /// entered.
+    ///
+    /// The count is at least 1, and at most 5h if h is the [`height`](Self::height) before the
+    /// call.
+    ///
+    /// # Errors
+    ///
+    /// Those of [`free`](Self::free).
+    pub fn free_counted(&mut self, key: &RangeInclusive) -> (Result<()>, u64) {
+        self.interval_tree.free_counted(key)
+    }
+
+    /// Returns the height of the tree: the number of nodes on its longest path, at most 49.
+    ///
+    /// The tree is balanced. With k allocated ranges its height h satisfies F(h + 2) <= 2k + 2,
+    /// where F is the Fibonacci sequence 1, 1, 2, 3, 5.
+    pub fn height(&self) -> u64 {
+        self.interval_tree.height()
+    }
+
+    /// Returns the first address of the space.
+    pub fn base(&self) -> u64 {
+        self.address_space.start()
+    }
+
+    /// Returns the last address of the space.
+    pub fn end(&self) -> u64 {
+        self.address_space.end()
+    }
+}
+
+/// Returns the range of the `size` addresses that start at `base`.
+///
+/// Its errors are `Underflow` for size 0, and `Overflow` if the range would end past `u64::MAX`.
+fn space_from(base: u64, size: u64) -> Result<RangeInclusive> {
+    if size == 0 {
+        return Err(Error::Underflow);
+    }
+    let end = base.checked_add(size - 1).ok_or(Error::Overflow)?;
+    RangeInclusive::new(base, end)
+}

@@ -1,0 +1,39 @@
+// Written by bindings/erase from crates/vm_allocator/src/address_allocator/held_ranges.rt: do not edit.
+
+//! Queries of the allocated ranges: an iterator, a test, a search by an address, and a count.
+
+use super::AddressAllocator;
+use crate::proved::vm_engine::HeldRanges;
+use crate::proved::vm_ranges::RangeInclusive;
+
+impl AddressAllocator {
+    /// Returns an iterator over the allocated ranges, from the lowest to the highest.
+    ///
+    /// It does not allocate.
+    pub fn held_ranges(&self) -> HeldRanges<'_> {
+        self.interval_tree.held_ranges()
+    }
+
+    /// Returns whether exactly this range is allocated.
+    ///
+    /// Returns `false` for a part of an allocated range and for a free range. It descends one path
+    /// of the tree and does not allocate.
+    pub fn holds(&self, key: &RangeInclusive) -> bool {
+        self.interval_tree.holds(key)
+    }
+
+    /// Returns the allocated range that contains an address, or `None` if the address is free or
+    /// outside the space.
+    ///
+    /// It descends one path of the tree and does not allocate.
+    pub fn held_at(&self, address: u64) -> Option<RangeInclusive> {
+        self.interval_tree.held_at(address)
+    }
+
+    /// Returns the number of allocated ranges.
+    ///
+    /// It walks the whole tree and does not allocate.
+    pub fn held_count(&self) -> u64 {
+        self.interval_tree.held_count()
+    }
+}

@@ -1,0 +1,51 @@
+// Written by bindings/erase from crates/vm_allocator/src/address_allocator/several.rt: do not edit.
+
+//! Several allocations in one call: all or none.
+
+use crate::rattle::Vec;
+use super::AddressAllocator;
+use crate::rattle::Global;
+use crate::proved::vm_engine::IntervalTree;
+use crate::proved::vm_ranges::{Constraint, RangeInclusive, Result};
+
+impl AddressAllocator {
+    /// Allocates a range for each request, in their order, and returns the ranges. Each range is where
+    /// [`allocate`](Self::allocate) places it after the requests before it.
+    ///
+    /// # Errors
+    ///
+    /// An error changes nothing: the ranges that were allocated so far are freed again. The height of
+    /// the tree can differ afterwards.
+    /// - `OutOfMemory` if the allocation of the list fails. This is checked first.
+    /// - The error of the first request that fails.
+    pub fn allocate_all(
+        &mut self,
+        alloc: Global,
+        requests: &[Constraint],
+    ) -> Result<Vec<RangeInclusive>> {
+        let tree = &mut self.interval_tree;
+        let mut ranges = Vec::with_capacity(alloc, requests.len())?;
+        for request in requests {
+            match tree.allocate(alloc, *request) {
+                Ok(range) => {
+                    let Ok(()) = ranges.push(range) else {
+                        unreachable!()
+                    };
+                }
+                Err(error) => {
+                    free_all(tree, &mut ranges);
+                    return Err(error);
+                }
+            }
+        }
+        Ok(ranges)
+    }
+}
+
+/// Frees ranges that were allocated one after the other, the last one first. This leads back to the
+/// state before their allocation.
+fn free_all(tree: &mut IntervalTree, ranges: &mut Vec<RangeInclusive>) {
+    while let Some(range) = ranges.pop() {
+        let _ = tree.free(&range);
+    }
+}

@@ -1,0 +1,18 @@
+// Written by bindings/erase from crates/vm_allocator/src/lib.rt: do not edit.
+
+//! Allocators of address ranges and of ids.
+//!
+//! - [`AddressAllocator`] allocates ranges of 64-bit addresses from one space.
+//! - [`IdAllocator`] allocates 32-bit ids from a range, the lowest free id first.
+
+mod address_allocator;
+pub mod allocation_engine;
+mod id_allocator;
+mod saved;
+
+pub use address_allocator::AddressAllocator;
+pub use id_allocator::{HeldIds, IdAllocator};
+pub use crate::proved::vm_engine::{Gaps, HeldRanges};
+pub use crate::proved::vm_ranges::{
+    AllocPolicy, Constraint, DEFAULT_CONSTRAINT_ALIGN, Error, RangeInclusive, Result, ValueError,
+};

@@ -1,0 +1,120 @@
+// Written by bindings/erase from crates/vm_allocator/src/saved/allocator.rt: do not edit.
+
+//! The saved value of an address allocator.
+
+use crate::proved::vm_allocator::address_allocator::AddressAllocator;
+use crate::rattle::{Value, json};
+use crate::rattle::{AllocError, Global};
+use crate::proved::vm_engine::IntervalTree;
+use crate::proved::vm_ranges::{RangeInclusive, Result, ValueError, has_fields, range_in};
+
+impl AddressAllocator {
+    /// Encodes the allocator as a value: its space, and its tree node by node.
+    ///
+    /// # Errors
+    ///
+    /// - `OutOfMemory` if an allocation fails.
+    pub fn to_value(&self, alloc: Global) -> Result<Value> {
+        let root = self.interval_tree.to_root_value(alloc)?;
+        let space = self.address_space.to_value(alloc)?;
+        Ok(allocator_object(alloc, space, root)?)
+    }
+
+    /// Decodes an allocator from a value: its space and its allocated ranges, in a tree with the
+    /// same nodes.
+    ///
+    /// The value can be untrusted input. All of it is checked before anything is allocated, and the
+    /// check descends at most 50 levels.
+    ///
+    /// # Errors
+    ///
+    /// In this order:
+    /// - `NotAState` if the value does not encode an allocator.
+    /// - `OutOfMemory` if an allocation fails.
+    pub fn from_value(alloc: Global, value: &Value) -> core::result::Result<Self, ValueError> {
+        let Some(parts) = decode_parts(value) else {
+            return Err(ValueError::NotAState);
+        };
+        let interval_tree = IntervalTree::from_root_value(alloc, &parts.space, parts.root)?;
+        Ok(AddressAllocator {
+            address_space: parts.space,
+            interval_tree,
+        })
+    }
+
+    /// Decodes an allocator from a value that the Rust crate saved, and repairs the effects of its
+    /// bugs.
+    ///
+    /// The keys that are `Allocated` are the allocated ranges, and all other addresses of the space
+    /// are free. The tree can have no nodes, gaps between keys, free neighbours, no balance and any
+    /// heights.
+    ///
+    /// A value that [`from_value`](Self::from_value) reads is read to an equal allocator, if at
+    /// most 6,293,134,512 ranges are allocated.
+    ///
+    /// The value can be untrusted input. All of it is checked before anything is allocated, and the
+    /// check descends at most 51 levels.
+    ///
+    /// # Errors
+    ///
+    /// In this order:
+    /// - `NotAState` if one of these is true:
+    ///   - The fields are not those of an allocator and of its nodes.
+    ///   - Nodes are nested more than 50 deep.
+    ///   - The keys are not in increasing order, overlap, or are not in the space.
+    ///   - An allocated key ends at `u64::MAX`.
+    ///   - More than 6,293,134,512 keys are allocated.
+    /// - `OutOfMemory` if the allocation of a node fails.
+    pub fn from_value_repaired(
+        alloc: Global,
+        value: &Value,
+    ) -> core::result::Result<Self, ValueError> {
+        let Some(parts) = decode_parts(value) else {
+            return Err(ValueError::NotAState);
+        };
+        let interval_tree = IntervalTree::from_root_value_repaired(
+            alloc,
+            &parts.space,
+            parts.root,
+        )?;
+        Ok(AddressAllocator {
+            address_space: parts.space,
+            interval_tree,
+        })
+    }
+}
+
+/// Builds the object with the fields of an allocator.
+fn allocator_object(
+    alloc: Global,
+    space: Value,
+    root: Value,
+) -> core::result::Result<Value, AllocError> {
+    json!(in alloc; {"address_space": space, "interval_tree": {"root": root}})
+}
+
+/// The space in an allocator's value, and the value of the root of its tree.
+#[derive(Clone, Copy)]
+pub(super) struct SavedAllocator<'a> {
+    pub(super) space: RangeInclusive,
+    pub(super) root: &'a Value,
+}
+
+/// Decodes the fields of an allocator's value. Returns `None` if it has other fields or its space
+/// is invalid. The root is not checked.
+pub(super) fn decode_parts(value: &Value) -> Option<SavedAllocator<'_>> {
+    if !has_fields(value, 2) {
+        return None;
+    }
+    let space = range_in(value, "address_space")?;
+    let root = decode_root(value.get("interval_tree")?)?;
+    Some(SavedAllocator { space, root })
+}
+
+/// Returns the root in a tree's value, or `None` if it has other fields.
+fn decode_root(tree: &Value) -> Option<&Value> {
+    if !has_fields(tree, 1) {
+        return None;
+    }
+    tree.get("root")
+}

@@ -1,0 +1,158 @@
+// Written by bindings/erase from crates/vm_allocator/src/saved/ids.rt: do not edit.
+
+//! The saved value of an id allocator.
+
+use crate::rattle::Vec;
+use crate::proved::vm_allocator::id_allocator::{IdAllocator, bound_of};
+use crate::rattle::{Value, json};
+use crate::rattle::{AllocError, Global};
+use crate::rattle::BTreeSet;
+use crate::proved::vm_ranges::{Result, ValueError, has_fields, list_in, u32_from, u32_in};
+
+impl IdAllocator {
+    /// Encodes the allocator as a value: its range, the next id and the freed ids.
+    ///
+    /// # Errors
+    ///
+    /// - `OutOfMemory` if an allocation of memory fails.
+    pub fn to_value(&self, alloc: Global) -> Result<Value> {
+        let next = encode_next(self.next_id);
+        let freed = encode_ids(alloc, &self.freed_ids)?;
+        Ok(ids_object(alloc, self.range_base, next, self.range_end, freed)?)
+    }
+
+    /// Decodes an allocator from a value: its range, the ids that were allocated at some time, and
+    /// the ids that are allocated now.
+    ///
+    /// The value can be untrusted input. All of it is checked before memory is allocated.
+    ///
+    /// # Errors
+    ///
+    /// In this order:
+    /// - `NotAState` if the value does not encode an allocator.
+    /// - `OutOfMemory` if an allocation of memory fails.
+    pub fn from_value(alloc: Global, value: &Value) -> core::result::Result<Self, ValueError> {
+        let Some(ids) = check_ids(value) else {
+            return Err(ValueError::NotAState);
+        };
+        let freed_ids = collect_ids(alloc, &ids)?;
+        Ok(IdAllocator {
+            range_base: ids.base,
+            next_id: ids.next,
+            range_end: ids.end,
+            freed_ids,
+        })
+    }
+}
+
+/// Encodes the next id as a number, or as null if there is none.
+fn encode_next(next: Option<u32>) -> Value {
+    match next {
+        None => Value::Null,
+        Some(next) => Value::from(next),
+    }
+}
+
+/// Encodes the freed ids as a list, in increasing order.
+fn encode_ids(alloc: Global, ids: &BTreeSet<u32>) -> core::result::Result<Value, AllocError> {
+    let mut list = Vec::new(alloc);
+    for id in ids.iter() {
+        list.push(Value::from(*id))?;
+    }
+    Ok(Value::from(list))
+}
+
+/// Builds the object with the fields of an id allocator.
+fn ids_object(
+    alloc: Global,
+    base: u32,
+    next: Value,
+    end: u32,
+    freed: Value,
+) -> core::result::Result<Value, AllocError> {
+    // The numbers are last: if an allocation for them fails, only the object has to be dropped.
+    json!(in alloc; {"next_id": next, "freed_ids": freed, "range_base": base, "range_end": end})
+}
+
+/// The decoded fields of an id allocator's value. All of them are checked.
+struct CheckedIds<'a> {
+    base: u32,
+    next: Option<u32>,
+    end: u32,
+    freed: &'a Vec<Value>,
+}
+
+/// Decodes and checks the fields of a value. Returns `None` if it does not encode an id allocator.
+fn check_ids(value: &Value) -> Option<CheckedIds<'_>> {
+    if !has_fields(value, 4) {
+        return None;
+    }
+    let base = u32_in(value, "range_base")?;
+    let end = u32_in(value, "range_end")?;
+    let next = next_in(value, "next_id")?;
+    let freed = list_in(value, "freed_ids")?;
+    if base <= end
+        && is_next(next, base, end)
+        && are_increasing(freed, base.into(), bound_of(next, end))
+    {
+        return Some(CheckedIds {
+            base,
+            next,
+            end,
+            freed,
+        });
+    }
+    None
+}
+
+/// Decodes a next id. Returns `Some(None)` for null, and `None` if the value is not a 32-bit
+/// number.
+fn decode_next(value: &Value) -> Option<Option<u32>> {
+    if value.is_null() {
+        return Some(None);
+    }
+    Some(Some(u32_from(value.as_u64()?)?))
+}
+
+/// Decodes the next id in the field `name`.
+fn next_in(value: &Value, name: &str) -> Option<Option<u32>> {
+    decode_next(value.get(name)?)
+}
+
+/// Returns whether `next` can be the next id of the range from `base` to `end`.
+fn is_next(next: Option<u32>, base: u32, end: u32) -> bool {
+    match next {
+        None => end == u32::MAX,
+        Some(next) => base <= next && u64::from(next) <= u64::from(end) + 1,
+    }
+}
+
+/// Returns whether the items are whole numbers in strictly increasing order, at least `lowest` and
+/// below `bound`.
+fn are_increasing(list: &[Value], lowest: u64, bound: u64) -> bool {
+    let mut next = lowest;
+    for item in list {
+        let Some(id) = item.as_u64() else {
+            return false;
+        };
+        if id < next || id >= bound {
+            return false;
+        }
+        next = id + 1;
+    }
+    true
+}
+
+/// Collects the freed ids of a checked value into a set.
+fn collect_ids(
+    alloc: Global,
+    checked: &CheckedIds<'_>,
+) -> core::result::Result<BTreeSet<u32>, AllocError> {
+    let list: &[Value] = checked.freed;
+    let mut ids = BTreeSet::new(alloc);
+    for item in list {
+        let id = item.as_u64().unwrap();
+        ids.insert(id as u32)?;
+    }
+    Ok(ids)
+}

@@ -1,0 +1,123 @@
+// Written by bindings/erase from crates/vm_devices/src/device_manager.rt: do not edit.
+
+//! The manager of devices.
+//!
+//! Ids, ranges and the table of devices change together or not at all. Calls that can fail are
+//! first. The calls after them, and the call that undoes an allocation, always succeed.
+
+use crate::proved::vm_devices::device_slot::DeviceSlot;
+use crate::rattle::Global;
+use crate::proved::vm_allocator::{AddressAllocator, AllocPolicy, Error, IdAllocator, RangeInclusive, Result};
+
+mod comparing;
+mod device_table;
+mod queries;
+mod saved;
+
+use self::device_table::DeviceTable;
+pub use self::queries::Devices;
+
+/// Reserves an id and a range of addresses for each device, both or neither.
+///
+/// No two devices share an id or an address.
+#[derive(Debug)]
+pub struct DeviceManager {
+    id_allocator: IdAllocator,
+    mmio_allocator: AddressAllocator,
+    // The range of each device, by its id.
+    slots: DeviceTable,
+}
+
+impl DeviceManager {
+    /// Creates a manager without devices. It has the ids from `id_lo` to `id_hi`, both included,
+    /// and the `size` addresses starting at `base`.
+    ///
+    /// # Errors
+    ///
+    /// In this order:
+    /// - `InvalidRange(id_lo, id_hi)` if `id_hi` is below `id_lo`.
+    /// - `Underflow` if `size` is 0.
+    /// - `Overflow` if the last address would be past `u64::MAX`.
+    /// - `OutOfMemory` if an allocation fails.
+    pub fn new(alloc: Global, id_lo: u32, id_hi: u32, base: u64, size: u64) -> Result<Self> {
+        let id_allocator = IdAllocator::new(alloc, id_lo, id_hi)?;
+        let mmio_allocator = AddressAllocator::new(alloc, base, size)?;
+        Ok(DeviceManager {
+            id_allocator,
+            mmio_allocator,
+            slots: DeviceTable::new(alloc),
+        })
+    }
+
+    /// Returns a copy. It has equal allocators and the same devices.
+    ///
+    /// # Errors
+    ///
+    /// - `OutOfMemory` if an allocation fails.
+    pub fn try_clone(&self, alloc: Global) -> Result<Self> {
+        let id_allocator = self.id_allocator.try_clone(alloc)?;
+        let mmio_allocator = self.mmio_allocator.try_clone(alloc)?;
+        let slots = self.slots.try_clone()?;
+        Ok(DeviceManager {
+            id_allocator,
+            mmio_allocator,
+            slots,
+        })
+    }
+
+    /// Reserves the lowest free id and `size` free addresses for a new device, and returns both.
+    ///
+    /// The addresses start at a multiple of `align`, and `policy` chooses them as in
+    /// `AddressAllocator::allocate`.
+    ///
+    /// # Errors
+    ///
+    /// An error leaves ids, ranges and devices unchanged. In this order:
+    /// - `Overflow` if all ids are allocated and their range ends at `u32::MAX`.
+    /// - `ResourceNotAvailable` if all ids are allocated and their range ends below `u32::MAX`.
+    /// - The errors of `AddressAllocator::allocate`, in the order of its documentation.
+    /// - `OutOfMemory` if an allocation for the table of devices fails.
+    pub fn reserve(
+        &mut self,
+        alloc: Global,
+        size: u64,
+        align: u64,
+        policy: AllocPolicy,
+    ) -> Result<DeviceSlot> {
+        let id = self.id_allocator.peek_id()?;
+        let range = self.mmio_allocator.allocate(alloc, size, align, policy)?;
+        if let Err(refused) = self.slots.insert(id, range) {
+            // Freeing an allocated range always succeeds.
+            let _ = self.mmio_allocator.free(&range);
+            return Err(refused.into());
+        }
+        // `peek_id` returned this id, so this succeeds.
+        let _ = self.id_allocator.allocate_id();
+        Ok(DeviceSlot { id, range })
+    }
+
+    /// Releases a device: frees its id and its range.
+    ///
+    /// # Errors
+    ///
+    /// An error leaves ids, ranges and devices unchanged. In this order:
+    /// - `NeverAllocated(id)` if no device has the id.
+    /// - `OutOfMemory` if an allocation of memory fails.
+    pub fn release(&mut self, id: u32) -> Result<()> {
+        let Some(range) = self.slot(id) else {
+            return Err(Error::NeverAllocated(id));
+        };
+        // Only this call can fail (out of memory), so it is first.
+        self.id_allocator.free_id(id)?;
+        let _ = self.mmio_allocator.free(&range);
+        self.slots.remove(id);
+        Ok(())
+    }
+
+    /// Returns the range of the device with this id, or `None` if no device has it.
+    ///
+    /// It does not allocate.
+    pub fn slot(&self, id: u32) -> Option<RangeInclusive> {
+        self.slots.slots().get(&id).copied()
+    }
+}

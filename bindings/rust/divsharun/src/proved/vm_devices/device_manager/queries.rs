@@ -1,0 +1,66 @@
+// Written by bindings/erase from crates/vm_devices/src/device_manager/queries.rt: do not edit.
+
+//! Queries of the devices: an iterator, their number, the device at an address, and both
+//! allocators.
+
+use super::DeviceManager;
+use crate::proved::vm_devices::device_slot::DeviceSlot;
+use crate::rattle::btree_map::Iter;
+use crate::proved::vm_allocator::{AddressAllocator, IdAllocator, RangeInclusive};
+
+/// An iterator over the devices, by increasing ids. It does not allocate.
+///
+/// Its model is the list of the devices that it has not returned yet.
+pub struct Devices<'a> {
+    slots: Iter<'a, u32, RangeInclusive>,
+}
+
+impl<'a> Iterator for Devices<'a> {
+    type Item = DeviceSlot;
+
+    /// Returns the next device.
+    fn next(&mut self) -> Option<DeviceSlot> {
+        let (id, range) = self.slots.next()?;
+        Some(DeviceSlot {
+            id: *id,
+            range: *range,
+        })
+    }
+}
+
+impl DeviceManager {
+    /// Returns an iterator over the devices, by increasing ids.
+    ///
+    /// It does not allocate.
+    pub fn devices(&self) -> Devices<'_> {
+        Devices {
+            slots: self.slots.slots().iter(),
+        }
+    }
+
+    /// Returns the number of devices.
+    ///
+    /// It does not visit the devices, and does not allocate.
+    pub fn device_count(&self) -> u64 {
+        self.slots.slots().len() as u64
+    }
+
+    /// Returns the device whose range contains the address, or `None` if no device has it.
+    ///
+    /// It descends one path of the tree, looks the range up in a table, and does not allocate.
+    pub fn device_at(&self, address: u64) -> Option<DeviceSlot> {
+        let range = self.mmio_allocator.held_at(address)?;
+        let id = self.slots.id_at(range.start())?;
+        Some(DeviceSlot { id, range })
+    }
+
+    /// Returns the allocator of the addresses, to look at.
+    pub fn addresses(&self) -> &AddressAllocator {
+        &self.mmio_allocator
+    }
+
+    /// Returns the allocator of the ids, to look at.
+    pub fn ids(&self) -> &IdAllocator {
+        &self.id_allocator
+    }
+}

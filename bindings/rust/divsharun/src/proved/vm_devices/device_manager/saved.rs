@@ -1,0 +1,93 @@
+// Written by bindings/erase from crates/vm_devices/src/device_manager/saved.rt: do not edit.
+
+//! The saved value of a manager: its version, both allocators, and the list of its devices.
+
+use crate::rattle::Vec;
+mod pairing;
+mod slots;
+
+use self::pairing::read_devices;
+use self::slots::encode_slots;
+use super::DeviceManager;
+use super::device_table::DeviceTable;
+use crate::rattle::{Value, json};
+use crate::rattle::{AllocError, Global};
+use crate::proved::vm_allocator::{AddressAllocator, IdAllocator, Result, ValueError};
+use crate::proved::vm_ranges::{has_fields, list_in, number_in};
+
+/// The version of the saved value.
+const VERSION: u64 = 1;
+
+impl DeviceManager {
+    /// Encodes the manager as a value: its version, its ids, its space and its devices, by
+    /// increasing ids.
+    ///
+    /// # Errors
+    ///
+    /// - `OutOfMemory` if an allocation fails.
+    pub fn to_value(&self, alloc: Global) -> Result<Value> {
+        let ids = self.id_allocator.to_value(alloc)?;
+        let space = self.mmio_allocator.to_value(alloc)?;
+        let slots = encode_slots(alloc, self.slots.slots())?;
+        Ok(manager_object(alloc, ids, space, slots)?)
+    }
+
+    /// Decodes a manager from a value: its ids, its space and its devices.
+    ///
+    /// The value can be untrusted input. Its parts are read one after the other, so `OutOfMemory`
+    /// is possible for every value.
+    ///
+    /// # Errors
+    ///
+    /// - `NotAState` if one of these is true:
+    ///   - The fields or the version are not those of a manager.
+    ///   - A part of the value is not valid.
+    ///   - The ids of the devices are not in increasing order.
+    ///   - The id or the range of a device is not allocated.
+    ///   - An allocated id or range has no device.
+    ///   - Two devices have the same range.
+    /// - `OutOfMemory` if an allocation fails.
+    pub fn from_value(alloc: Global, value: &Value) -> core::result::Result<Self, ValueError> {
+        let Some(fields) = decode_fields(value) else {
+            return Err(ValueError::NotAState);
+        };
+        let id_allocator = IdAllocator::from_value(alloc, fields.ids)?;
+        let mmio_allocator = AddressAllocator::from_value(alloc, fields.space)?;
+        let listed = read_devices(alloc, &id_allocator, &mmio_allocator, fields.slots)?;
+        let slots = DeviceTable::from_slots(alloc, listed)?;
+        Ok(DeviceManager {
+            id_allocator,
+            mmio_allocator,
+            slots,
+        })
+    }
+}
+
+/// Builds the object with the fields of a manager.
+fn manager_object(
+    alloc: Global,
+    ids: Value,
+    space: Value,
+    slots: Value,
+) -> core::result::Result<Value, AllocError> {
+    // The version is last: if an allocation for it fails, only the object has to be dropped.
+    json!(in alloc; {"id_allocator": ids, "mmio_allocator": space, "slots": slots, "version": VERSION})
+}
+
+/// The values of the fields of a manager's value.
+struct Fields<'a> {
+    ids: &'a Value,
+    space: &'a Value,
+    slots: &'a Vec<Value>,
+}
+
+/// Returns the fields of a value, or `None` if they are not those of a manager of this version.
+fn decode_fields(value: &Value) -> Option<Fields<'_>> {
+    if !has_fields(value, 4) || number_in(value, "version")? != VERSION {
+        return None;
+    }
+    let ids = value.get("id_allocator")?;
+    let space = value.get("mmio_allocator")?;
+    let slots = list_in(value, "slots")?;
+    Some(Fields { ids, space, slots })
+}

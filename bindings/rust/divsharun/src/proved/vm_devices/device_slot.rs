@@ -1,0 +1,11 @@
+// Written by bindings/erase from crates/vm_devices/src/device_slot.rt: do not edit.
+
+//! The id and the range of a device.
+use crate::proved::vm_allocator::RangeInclusive;
+
+/// The id and the range of addresses of a device.
+#[derive(Clone, Copy, Debug, PartialEq, Eq)]
+pub struct DeviceSlot {
+    pub id: u32,
+    pub range: RangeInclusive,
+}

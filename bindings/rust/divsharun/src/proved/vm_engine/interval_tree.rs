@@ -1,0 +1,131 @@
+// Written by bindings/erase from crates/vm_engine/src/interval_tree.rt: do not edit.
+
+//! The blocks of an address space in a balanced tree.
+//!
+//! - `placement` chooses the range of a request.
+//! - `allocation` allocates the chosen range.
+//! - `deallocation` frees an allocated range.
+//! - `held_ranges` has queries about the allocated ranges.
+//! - `gaps` has queries about the free addresses.
+//! - `comparing` compares two trees.
+//! - `counted` has the calls that count the nodes that they enter.
+//!
+//! A counted call passes a counter at 0 to `allocate_inner` or `free_inner`, and returns the final
+//! count. A plain call makes the counted call and drops the count. A tree of height 49 has fewer
+//! than 2^49 nodes, so a counter that starts at 0 never overflows. This is proved once, so callers
+//! have no condition on it.
+
+use crate::rattle::Box;
+use crate::proved::vm_engine::Steps;
+use crate::proved::vm_engine::node::walks::both_ends::Blocks;
+use crate::proved::vm_engine::node::walks::copying::copy;
+use crate::proved::vm_engine::node::{Child, InnerNode};
+use crate::rattle::Global;
+use crate::proved::vm_ranges::{Constraint, NodeState, RangeInclusive, Result};
+
+mod allocation;
+mod building;
+mod comparing;
+pub(in crate::proved::vm_engine) mod counted;
+mod deallocation;
+pub(in crate::proved::vm_engine) mod gaps;
+pub(in crate::proved::vm_engine) mod held_ranges;
+pub(in crate::proved::vm_engine) mod placement;
+
+/// The blocks of an address space, in a balanced tree.
+#[derive(Debug)]
+pub struct IntervalTree {
+    pub(in crate::proved::vm_engine) root: Child,
+}
+
+impl IntervalTree {
+    /// Creates the tree of the space `key`. The whole space is free.
+    ///
+    /// It allocates one node.
+    ///
+    /// # Errors
+    ///
+    /// - `OutOfMemory` if the allocation of the node fails.
+    pub fn new(alloc: Global, key: RangeInclusive) -> Result<Self> {
+        let node = Box::new(alloc, InnerNode::new(key, NodeState::Free))?;
+        Ok(IntervalTree { root: Some(node) })
+    }
+
+    /// Returns a copy with the same nodes.
+    ///
+    /// # Errors
+    ///
+    /// - `OutOfMemory` if the allocation of a node fails. The nodes copied so far are freed.
+    pub fn try_clone(&self, alloc: Global) -> Result<Self> {
+        Ok(IntervalTree {
+            root: Some(copy(self.root(), alloc)?),
+        })
+    }
+
+    /// Returns an iterator over the blocks, from both ends.
+    fn blocks(&self) -> Blocks<'_> {
+        Blocks::new(&self.root)
+    }
+
+    /// Returns the root. A tree is never empty.
+    pub(in crate::proved::vm_engine) fn root(&self) -> &InnerNode {
+        let Some(root) = &self.root else {
+            unreachable!()
+        };
+        root
+    }
+
+    /// Returns the height of the tree: the number of nodes on its longest path. It is at most 49.
+    pub fn height(&self) -> u64 {
+        self.root().height()
+    }
+
+    /// Allocates like `allocate`, and adds the number of entered nodes to a counter at 0.
+    fn allocate_inner(
+        &mut self,
+        alloc: Global,
+        constraint: Constraint,
+        count: &mut Steps,
+    ) -> Result<RangeInclusive> {
+        let choice = self.choose_place(constraint, count)?;
+        self.allocate_chosen(alloc, choice, count)
+    }
+
+    /// Allocates `size` free addresses that start at a multiple of the constraint's alignment, and
+    /// returns their range.
+    ///
+    /// `FirstMatch` chooses the lowest range that fits and `LastMatch` the highest.
+    /// `ExactMatch(start)` chooses the range at `start`.
+    ///
+    /// A range that fills its free block is allocated without memory. Any other range splits its
+    /// free block, which allocates one or two nodes.
+    ///
+    /// # Errors
+    ///
+    /// An error changes nothing. In this order:
+    /// - For `ExactMatch(start)`:
+    ///   - `Overflow` if `start` is `u64::MAX`.
+    ///   - `ResourceNotAvailable` if `start` is outside the space.
+    ///   - `Overflow` if the range would end past `u64::MAX`.
+    ///   - `InvalidStateTransition` if exactly this range is already allocated.
+    /// - `ResourceNotAvailable` if there is no free range that fits.
+    /// - `Overflow` if the chosen range ends at `u64::MAX`.
+    /// - Only if the range splits its free block:
+    ///   - `Overflow` if the height of the tree is 48 or more.
+    ///   - `OutOfMemory` if the allocation of a node fails.
+    pub fn allocate(&mut self, alloc: Global, constraint: Constraint) -> Result<RangeInclusive> {
+        self.allocate_counted(alloc, constraint).0
+    }
+
+    /// Frees an allocated range, and joins it with the free blocks on both sides.
+    ///
+    /// It does not allocate.
+    ///
+    /// # Errors
+    ///
+    /// An error changes nothing.
+    /// - `ResourceNotAvailable` if exactly this range is not allocated.
+    pub fn free(&mut self, key: &RangeInclusive) -> Result<()> {
+        self.free_counted(key).0
+    }
+}

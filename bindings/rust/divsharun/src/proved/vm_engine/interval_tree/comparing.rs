@@ -1,0 +1,32 @@
+// Written by bindings/erase from crates/vm_engine/src/interval_tree/comparing.rt: do not edit.
+
+//! Equality and order of trees. Both compare the blocks, so the shape of a tree does not matter.
+
+use super::IntervalTree;
+use crate::proved::vm_engine::node::walks::comparing::{compare_blocks, same_blocks};
+use core::cmp::Ordering;
+
+impl PartialEq for IntervalTree {
+    /// Returns `true` if both trees have the same blocks. It stops at the first difference.
+    fn eq(&self, other: &IntervalTree) -> bool {
+        same_blocks(&self.root, &other.root)
+    }
+}
+
+impl Eq for IntervalTree {
+}
+
+impl PartialOrd for IntervalTree {
+    /// Compares like `cmp`.
+    fn partial_cmp(&self, other: &IntervalTree) -> Option<Ordering> {
+        Some(self.cmp(other))
+    }
+}
+
+impl Ord for IntervalTree {
+    /// Compares the first blocks that differ, by start, then by end, then by state. If the blocks
+    /// of one tree are a prefix of the other's, the tree with fewer blocks is less.
+    fn cmp(&self, other: &IntervalTree) -> Ordering {
+        compare_blocks(&self.root, &other.root)
+    }
+}

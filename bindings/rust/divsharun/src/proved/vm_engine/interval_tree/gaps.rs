@@ -1,0 +1,66 @@
+// Written by bindings/erase from crates/vm_engine/src/interval_tree/gaps.rt: do not edit.
+
+//! Queries about the free addresses: the gaps, the length of the longest gap, and the number of
+//! free addresses.
+//!
+//! A gap is a run of free addresses with no free address next to it. Each free block is a gap.
+
+use super::IntervalTree;
+use crate::proved::vm_engine::node::walks::both_ends::Blocks;
+use crate::proved::vm_engine::node::walks::gaps::count_clear;
+use crate::proved::vm_ranges::{NodeState, RangeInclusive};
+
+/// An iterator over the gaps, from the lowest to the highest, or backwards. It does not allocate.
+///
+/// Its model is the list of the gaps that it has not returned yet.
+#[derive(Clone)]
+pub struct Gaps<'a> {
+    blocks: Blocks<'a>,
+}
+
+impl<'a> Iterator for Gaps<'a> {
+    type Item = RangeInclusive;
+
+    /// Returns the lowest gap that is left.
+    fn next(&mut self) -> Option<RangeInclusive> {
+        while let Some(block) = self.blocks.next() {
+            if block.state == NodeState::Free {
+                return Some(block.key);
+            }
+        }
+        None
+    }
+}
+
+impl<'a> DoubleEndedIterator for Gaps<'a> {
+    /// Returns the highest gap that is left.
+    fn next_back(&mut self) -> Option<RangeInclusive> {
+        while let Some(block) = self.blocks.next_back() {
+            if block.state == NodeState::Free {
+                return Some(block.key);
+            }
+        }
+        None
+    }
+}
+
+impl IntervalTree {
+    /// Returns an iterator over the gaps, from the lowest to the highest. It does not allocate.
+    pub fn gaps(&self) -> Gaps<'_> {
+        Gaps {
+            blocks: self.blocks(),
+        }
+    }
+
+    /// Returns the length of the longest gap in addresses, or 0 if no address is free.
+    ///
+    /// It reads the root only and does not allocate.
+    pub fn longest_gap(&self) -> u64 {
+        self.root().max_free()
+    }
+
+    /// Returns the number of free addresses. It visits every node and does not allocate.
+    pub fn clear_count(&self) -> u64 {
+        count_clear(&self.root)
+    }
+}

@@ -1,0 +1,77 @@
+// Written by bindings/erase from crates/vm_engine/src/interval_tree/held_ranges.rt: do not edit.
+
+//! Queries about the allocated ranges.
+//!
+//! Their number is not stored, because each change would have to update it. `held_count` counts
+//! them.
+
+use super::IntervalTree;
+use crate::proved::vm_engine::node::walks::both_ends::Blocks;
+use crate::proved::vm_engine::node::walks::held::{count_held, has_held, held_at};
+use crate::proved::vm_ranges::{NodeState, RangeInclusive};
+
+/// An iterator over the allocated ranges, from the lowest to the highest, or backwards. It does not
+/// allocate.
+///
+/// Its model is the list of the ranges that it has not returned yet.
+#[derive(Clone)]
+pub struct HeldRanges<'a> {
+    blocks: Blocks<'a>,
+}
+
+impl<'a> Iterator for HeldRanges<'a> {
+    type Item = RangeInclusive;
+
+    /// Returns the lowest allocated range that is left.
+    fn next(&mut self) -> Option<RangeInclusive> {
+        while let Some(block) = self.blocks.next() {
+            if block.state == NodeState::Allocated {
+                return Some(block.key);
+            }
+        }
+        None
+    }
+}
+
+impl<'a> DoubleEndedIterator for HeldRanges<'a> {
+    /// Returns the highest allocated range that is left.
+    fn next_back(&mut self) -> Option<RangeInclusive> {
+        while let Some(block) = self.blocks.next_back() {
+            if block.state == NodeState::Allocated {
+                return Some(block.key);
+            }
+        }
+        None
+    }
+}
+
+impl IntervalTree {
+    /// Returns an iterator over the allocated ranges, from the lowest to the highest. It does not
+    /// allocate.
+    pub fn held_ranges(&self) -> HeldRanges<'_> {
+        HeldRanges {
+            blocks: self.blocks(),
+        }
+    }
+
+    /// Returns `true` if exactly this range is allocated.
+    ///
+    /// It returns `false` for a part of an allocated range and for a free range. It follows one
+    /// path from the root and does not allocate.
+    pub fn holds(&self, key: &RangeInclusive) -> bool {
+        has_held(&self.root, key)
+    }
+
+    /// Returns the allocated range that contains an address, or `None` if the address is free or
+    /// outside the space.
+    ///
+    /// It follows one path from the root and does not allocate.
+    pub fn held_at(&self, address: u64) -> Option<RangeInclusive> {
+        held_at(&self.root, address)
+    }
+
+    /// Returns the number of allocated ranges. It visits every node and does not allocate.
+    pub fn held_count(&self) -> u64 {
+        count_held(&self.root)
+    }
+}

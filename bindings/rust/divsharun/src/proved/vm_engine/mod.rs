@@ -1,0 +1,20 @@
+// Written by bindings/erase from crates/vm_engine/src/lib.rt: do not edit.
+
+//! A balanced tree of the blocks of an address space.
+//!
+//! A block is a range of addresses that is allocated as a whole, or free as a whole. The blocks of
+//! a tree cover the whole space, and two neighbours are never both free.
+//!
+//! - [`IntervalTree`] allocates and frees ranges.
+//! - [`HeldRanges`] iterates over the allocated ranges, and [`Gaps`] over the gaps between them.
+
+mod block;
+mod interval_tree;
+mod node;
+mod ordering;
+mod saved;
+
+pub use interval_tree::IntervalTree;
+use interval_tree::counted::Steps;
+pub use interval_tree::gaps::Gaps;
+pub use interval_tree::held_ranges::HeldRanges;

@@ -1,0 +1,112 @@
+// Written by bindings/erase from crates/vm_engine/src/node.rt: do not edit.
+
+//! An AVL tree of blocks.
+//!
+//! Each recursive function in this module that takes a counter counts the nodes that it enters,
+//! with one call of `enter` for each node.
+//!
+//! The model of a node is a tree without pointers (`Shape`). The blocks, the height and the balance
+//! of a tree are functions of that value, so "unchanged" is an equation.
+
+use crate::rattle::Box;
+mod balance;
+pub(in crate::proved::vm_engine) mod delete;
+mod find;
+mod link;
+pub(in crate::proved::vm_engine) mod neighbours;
+pub(in crate::proved::vm_engine) mod places;
+pub(in crate::proved::vm_engine) mod rewrite;
+pub(in crate::proved::vm_engine) mod split;
+mod summary;
+pub(in crate::proved::vm_engine) mod walks;
+pub(in crate::proved::vm_engine) mod widen;
+
+use self::balance::fork;
+use self::summary::free_summary_of;
+use crate::rattle::{AllocError, Global};
+use crate::proved::vm_ranges::{NodeState, RangeInclusive};
+
+/// A node with its subtree.
+///
+/// - The keys of the subtree are in order and do not overlap.
+/// - The heights of both children differ by at most one.
+/// - `height` is the height of the subtree.
+/// - `max_free` is the length of the longest free block in the subtree, or 0 if there is none.
+/// - `alignments` is the number of the 64 alignments that have a multiple in a free block of the
+///   subtree. It is one byte next to the state, so a node has 72 bytes.
+#[derive(Debug)]
+pub(in crate::proved::vm_engine) struct InnerNode {
+    key: RangeInclusive,
+    node_state: NodeState,
+    alignments: u8,
+    left: Option<Box<InnerNode>>,
+    right: Option<Box<InnerNode>>,
+    height: u64,
+    max_free: u64,
+}
+
+/// The height of the highest tree.
+pub(in crate::proved::vm_engine) const MAX_HEIGHT: u64 = 49;
+
+/// A link to a child, or `None` if the child is absent.
+pub(in crate::proved::vm_engine) type Child = Option<Box<InnerNode>>;
+
+impl InnerNode {
+    /// Creates a node without children.
+    pub(in crate::proved::vm_engine) fn new(key: RangeInclusive, node_state: NodeState) -> InnerNode {
+        let own = free_summary_of(&key, node_state);
+        InnerNode {
+            key,
+            node_state,
+            alignments: own.alignments,
+            left: None,
+            right: None,
+            height: 1,
+            max_free: own.max_free,
+        }
+    }
+
+    /// Allocates a node with these children, and computes its cached summary.
+    ///
+    /// The heights of the children differ by at most one, and the key lies between their keys. It
+    /// returns an error if the allocation fails.
+    pub(in crate::proved::vm_engine) fn with_children(
+        alloc: Global,
+        left: Child,
+        key: RangeInclusive,
+        node_state: NodeState,
+        right: Child,
+    ) -> Result<Box<InnerNode>, AllocError> {
+        let middle = Box::new(alloc, InnerNode::new(key, node_state))?;
+        Ok(fork(left, middle, right))
+    }
+
+    /// Returns the key of this node.
+    pub(in crate::proved::vm_engine) fn key(&self) -> RangeInclusive {
+        self.key
+    }
+
+    /// Returns the state of this node.
+    pub(in crate::proved::vm_engine) fn state(&self) -> NodeState {
+        self.node_state
+    }
+
+    /// Returns the height of the subtree.
+    pub(in crate::proved::vm_engine) fn height(&self) -> u64 {
+        self.height
+    }
+
+    /// Returns the length of the longest free block in the subtree, or 0 if there is none.
+    pub(in crate::proved::vm_engine) fn max_free(&self) -> u64 {
+        self.max_free
+    }
+}
+
+/// Returns the height of a child, or 0 if the child is absent.
+#[inline(always)]
+pub(in crate::proved::vm_engine) fn height(child: &Child) -> u64 {
+    match child {
+        None => 0,
+        Some(node) => node.height,
+    }
+}

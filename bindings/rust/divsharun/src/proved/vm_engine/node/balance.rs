@@ -1,0 +1,209 @@
+// Written by bindings/erase from crates/vm_engine/src/node/balance.rt: do not edit.
+
+//! Rotations, and the update of a node after one of its children has changed. Nothing here is
+//! recursive or allocates.
+//!
+//! `update` takes the fields of a node one by one, because a node whose cached summary is stale
+//! violates the invariant and cannot be passed whole. For the same reason it does not rotate: it
+//! returns an `Updated`, and the caller calls `rebalance` when the node is whole again. `update` is
+//! always inlined, because otherwise the fields are passed by address at every level.
+//!
+//! Rotations change nodes in place. This is faster than taking the nodes apart and building them
+//! again.
+
+use crate::rattle::Box;
+use super::summary::{
+    Change, free_summary_of, free_summary_over, refresh_free, summary_of, summary_over,
+};
+use super::{Child, InnerNode, height};
+use crate::proved::vm_ranges::{NodeState, RangeInclusive};
+
+/// The effect of a changed child on its parent.
+pub(super) enum Updated {
+    /// The heights of the children differ by at most one. The summary of the parent changed like
+    /// this.
+    Balanced(Change),
+    /// The heights of the children differ by two. Both children, left and right, were taken out of
+    /// the parent.
+    Unbalanced(Child, Child),
+}
+
+impl Updated {
+    /// Rebalances the node at a link if it is unbalanced. Returns the change of its summary.
+    #[inline(always)]
+    pub(super) fn rebalance(self, at: &mut Child) -> Change {
+        match self {
+            Updated::Balanced(change) => change,
+            Updated::Unbalanced(left, right) => balance_at(at, left, right),
+        }
+    }
+}
+
+/// Updates the cached summary of a node, or takes its children out if the node is unbalanced.
+#[inline(always)]
+pub(super) fn update(
+    left: &mut Child,
+    right: &mut Child,
+    key: &RangeInclusive,
+    node_state: NodeState,
+    cached_height: &mut u64,
+    max_free: &mut u64,
+    alignments: &mut u8,
+) -> Updated {
+    let first = summary_of(left);
+    let second = summary_of(right);
+    if first.height > second.height + 1 || second.height > first.height + 1 {
+        let own = free_summary_of(key, node_state);
+        *cached_height = 1;
+        *max_free = own.max_free;
+        *alignments = own.alignments;
+        return Updated::Unbalanced(left.take(), right.take());
+    }
+    let free = free_summary_over(first.free, second.free, key, node_state);
+    let change = refresh_free(free, max_free, alignments);
+    let height = first.height.max(second.height) + 1;
+    if height == *cached_height {
+        return Updated::Balanced(change);
+    }
+    *cached_height = height;
+    Updated::Balanced(Change::Height)
+}
+
+impl InnerNode {
+    /// Takes both children out of the node and returns them, left and right.
+    #[inline(always)]
+    pub(super) fn take_children(&mut self) -> (Child, Child) {
+        let sides = (self.left.take(), self.right.take());
+        let own = free_summary_of(&self.key, self.node_state);
+        self.height = 1;
+        self.max_free = own.max_free;
+        self.alignments = own.alignments;
+        sides
+    }
+}
+
+/// Returns a node with these children, whose heights differ by at most one.
+pub(super) fn fork(left: Child, mut middle: Box<InnerNode>, right: Child) -> Box<InnerNode> {
+    let open = &mut *middle;
+    open.left = left;
+    open.right = right;
+    let summary = summary_over(&open.left, &open.right, &open.key, open.node_state);
+    open.height = summary.height;
+    open.max_free = summary.free.max_free;
+    open.alignments = summary.free.alignments;
+    middle
+}
+
+/// Rotates right. The left child, which is two levels higher than the right one, becomes the root
+/// of the subtree.
+fn rotate_right(mut left: Box<InnerNode>, middle: Box<InnerNode>, right: Child) -> Box<InnerNode> {
+    let top = &mut *left;
+    let inner = top.right.take();
+    top.right = Some(fork(inner, middle, right));
+    let summary = summary_over(&top.left, &top.right, &top.key, top.node_state);
+    top.height = summary.height;
+    top.max_free = summary.free.max_free;
+    top.alignments = summary.free.alignments;
+    left
+}
+
+/// Rotates left at the left child, which is two levels higher, and then right. The right child of
+/// the left child becomes the root of the subtree.
+fn rotate_left_right(
+    mut left: Box<InnerNode>,
+    middle: Box<InnerNode>,
+    right: Child,
+) -> Box<InnerNode> {
+    let lower = &mut *left;
+    let Some(mut inner) = lower.right.take() else {
+        unreachable!()
+    };
+    let top = &mut *inner;
+    lower.right = top.left.take();
+    let summary = summary_over(&lower.left, &lower.right, &lower.key, lower.node_state);
+    lower.height = summary.height;
+    lower.max_free = summary.free.max_free;
+    lower.alignments = summary.free.alignments;
+    let after = top.right.take();
+    top.left = Some(left);
+    top.right = Some(fork(after, middle, right));
+    let summary = summary_over(&top.left, &top.right, &top.key, top.node_state);
+    top.height = summary.height;
+    top.max_free = summary.free.max_free;
+    top.alignments = summary.free.alignments;
+    inner
+}
+
+/// Rotates left. The right child, which is two levels higher than the left one, becomes the root of
+/// the subtree.
+fn rotate_left(left: Child, middle: Box<InnerNode>, mut right: Box<InnerNode>) -> Box<InnerNode> {
+    let top = &mut *right;
+    let inner = top.left.take();
+    top.left = Some(fork(left, middle, inner));
+    let summary = summary_over(&top.left, &top.right, &top.key, top.node_state);
+    top.height = summary.height;
+    top.max_free = summary.free.max_free;
+    top.alignments = summary.free.alignments;
+    right
+}
+
+/// Rotates right at the right child, which is two levels higher, and then left. The left child of
+/// the right child becomes the root of the subtree.
+fn rotate_right_left(
+    left: Child,
+    middle: Box<InnerNode>,
+    mut right: Box<InnerNode>,
+) -> Box<InnerNode> {
+    let lower = &mut *right;
+    let Some(mut inner) = lower.left.take() else {
+        unreachable!()
+    };
+    let top = &mut *inner;
+    lower.left = top.right.take();
+    let summary = summary_over(&lower.left, &lower.right, &lower.key, lower.node_state);
+    lower.height = summary.height;
+    lower.max_free = summary.free.max_free;
+    lower.alignments = summary.free.alignments;
+    let before = top.left.take();
+    top.right = Some(right);
+    top.left = Some(fork(left, middle, before));
+    let summary = summary_over(&top.left, &top.right, &top.key, top.node_state);
+    top.height = summary.height;
+    top.max_free = summary.free.max_free;
+    top.alignments = summary.free.alignments;
+    inner
+}
+
+/// Returns a balanced subtree of these children and this node. The heights of the children differ
+/// by at most two.
+pub(super) fn balance(left: Child, middle: Box<InnerNode>, right: Child) -> Box<InnerNode> {
+    let left_height = height(&left);
+    let right_height = height(&right);
+    if left_height > right_height + 1 {
+        let Some(left) = left else { unreachable!() };
+        if height(&left.left) >= height(&left.right) {
+            return rotate_right(left, middle, right);
+        }
+        return rotate_left_right(left, middle, right);
+    }
+    if right_height > left_height + 1 {
+        let Some(right) = right else { unreachable!() };
+        if height(&right.right) >= height(&right.left) {
+            return rotate_left(left, middle, right);
+        }
+        return rotate_right_left(left, middle, right);
+    }
+    fork(left, middle, right)
+}
+
+/// Replaces the leaf at a link by a balanced subtree of that leaf and these children, whose heights
+/// differ by at most two.
+///
+/// It returns `Change::Height`, because the height at the link can change.
+fn balance_at(at: &mut Child, left: Child, right: Child) -> Change {
+    let Some(middle) = at.take() else {
+        unreachable!()
+    };
+    *at = Some(balance(left, middle, right));
+    Change::Height
+}

@@ -1,0 +1,140 @@
+// Written by bindings/erase from crates/vm_engine/src/node/places.rt: do not edit.
+
+//! The searches for the lowest and for the highest place of a request.
+//!
+//! They are two functions, because a common one would branch on the direction at every node. They
+//! write the place into an `Option` of their caller, because returning it would copy 32 bytes at
+//! every level. Before a call enters a child, `may_fit` checks that the child exists and that its
+//! summary fits the request.
+
+use super::{Child, InnerNode};
+use crate::proved::vm_engine::Steps;
+use crate::proved::vm_ranges::{NodeState, RangeInclusive, align_down, align_up};
+
+/// An address in a free block at which a request can start.
+#[derive(Clone, Copy, Debug)]
+pub(in crate::proved::vm_engine) struct Place {
+    /// The free block.
+    pub(in crate::proved::vm_engine) key: RangeInclusive,
+    /// An address of the block.
+    pub(in crate::proved::vm_engine) start: u64,
+}
+
+/// Returns the lowest multiple of `alignment` at which `size` addresses fit into the block.
+///
+/// It returns `None` if there is no such multiple, or if the block is allocated.
+fn lowest_fit(key: &RangeInclusive, state: NodeState, size: u64, alignment: u64) -> Option<u64> {
+    if state == NodeState::Allocated {
+        return None;
+    }
+    let Ok(start) = align_up(key.start(), alignment) else {
+        return None;
+    };
+    let end = key.end();
+    if start <= end && size - 1 <= end - start {
+        Some(start)
+    } else {
+        None
+    }
+}
+
+/// Returns the highest multiple of `alignment` at which `size` addresses fit into the block.
+///
+/// It returns `None` if there is no such multiple, or if the block is allocated.
+fn highest_fit(key: &RangeInclusive, state: NodeState, size: u64, alignment: u64) -> Option<u64> {
+    let (start, end) = (key.start(), key.end());
+    if state == NodeState::Allocated || end - start < size - 1 {
+        return None;
+    }
+    let Ok(place) = align_down(end - (size - 1), alignment) else {
+        return None;
+    };
+    if start <= place { Some(place) } else { None }
+}
+
+/// Returns the root of the subtree if a request may fit into it.
+///
+/// This is true if one of its free blocks has at least `size` addresses, and one of them has a
+/// multiple of `alignment`. These can be different blocks.
+#[inline(always)]
+fn may_fit(tree: &Child, size: u64, alignment: u64) -> Option<&InnerNode> {
+    let Some(node) = tree else { return None };
+    let node: &InnerNode = node;
+    if node.max_free < size || u32::from(node.alignments) <= alignment.trailing_zeros() {
+        None
+    } else {
+        Some(node)
+    }
+}
+
+/// Returns the lowest place for a request in a tree, or `None` if there is no place.
+pub(in crate::proved::vm_engine) fn first_place(
+    tree: &Child,
+    size: u64,
+    alignment: u64,
+    count: &mut Steps,
+) -> Option<Place> {
+    let mut found = None;
+    if let Some(node) = may_fit(tree, size, alignment) {
+        node.first_place(size, alignment, &mut found, count);
+    }
+    found
+}
+
+/// Returns the highest place for a request in a tree, or `None` if there is no place.
+pub(in crate::proved::vm_engine) fn last_place(
+    tree: &Child,
+    size: u64,
+    alignment: u64,
+    count: &mut Steps,
+) -> Option<Place> {
+    let mut found = None;
+    if let Some(node) = may_fit(tree, size, alignment) {
+        node.last_place(size, alignment, &mut found, count);
+    }
+    found
+}
+
+impl InnerNode {
+    /// Writes the lowest place in the subtree to `found`, if there is a place.
+    fn first_place(&self, size: u64, alignment: u64, found: &mut Option<Place>, count: &mut Steps) {
+        self.enter(count);
+        if let Some(left) = may_fit(&self.left, size, alignment) {
+            left.first_place(size, alignment, found, count);
+            if found.is_some() {
+                return;
+            }
+        }
+        if let Some(start) = lowest_fit(&self.key, self.node_state, size, alignment) {
+            *found = Some(Place {
+                key: self.key,
+                start,
+            });
+            return;
+        }
+        if let Some(right) = may_fit(&self.right, size, alignment) {
+            right.first_place(size, alignment, found, count);
+        }
+    }
+
+    /// Writes the highest place in the subtree to `found`, if there is a place.
+    fn last_place(&self, size: u64, alignment: u64, found: &mut Option<Place>, count: &mut Steps) {
+        self.enter(count);
+        if let Some(right) = may_fit(&self.right, size, alignment) {
+            right.last_place(size, alignment, found, count);
+            if found.is_some() {
+                return;
+            }
+        }
+        if let Some(start) = highest_fit(&self.key, self.node_state, size, alignment) {
+            *found = Some(Place {
+                key: self.key,
+                start,
+            });
+            return;
+        }
+        if let Some(left) = may_fit(&self.left, size, alignment) {
+            left.last_place(size, alignment, found, count);
+        }
+    }
+}

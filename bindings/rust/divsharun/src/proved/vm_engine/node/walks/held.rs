@@ -1,0 +1,50 @@
+// Written by bindings/erase from crates/vm_engine/src/node/walks/held.rt: do not edit.
+
+//! Queries about the allocated blocks of a tree.
+//!
+//! No contract promises the number of nodes that they enter, so they do not take a counter.
+
+use crate::proved::vm_engine::node::{Child, InnerNode};
+use crate::proved::vm_engine::ordering::compare;
+use core::cmp::Ordering;
+use crate::proved::vm_ranges::{NodeState, RangeInclusive};
+
+/// Returns `true` if the tree has an allocated block with this key. It follows one path from the
+/// root.
+pub(in crate::proved::vm_engine) fn has_held(tree: &Child, key: &RangeInclusive) -> bool {
+    let Some(node) = tree else { return false };
+    let node: &InnerNode = node;
+    match compare(&node.key, key) {
+        Ordering::Greater => has_held(&node.left, key),
+        Ordering::Less => has_held(&node.right, key),
+        Ordering::Equal => node.node_state == NodeState::Allocated,
+    }
+}
+
+/// Returns the allocated block that contains an address, or `None` if there is no such block. It
+/// follows one path from the root.
+pub(in crate::proved::vm_engine) fn held_at(tree: &Child, address: u64) -> Option<RangeInclusive> {
+    let Some(node) = tree else { return None };
+    let node: &InnerNode = node;
+    if address < node.key.start() {
+        return held_at(&node.left, address);
+    }
+    if node.key.end() < address {
+        return held_at(&node.right, address);
+    }
+    match node.node_state {
+        NodeState::Free => None,
+        NodeState::Allocated => Some(node.key),
+    }
+}
+
+/// Returns the number of allocated blocks.
+pub(in crate::proved::vm_engine) fn count_held(tree: &Child) -> u64 {
+    let Some(node) = tree else { return 0 };
+    let node: &InnerNode = node;
+    let beside = count_held(&node.left) + count_held(&node.right);
+    match node.node_state {
+        NodeState::Free => beside,
+        NodeState::Allocated => beside + 1,
+    }
+}

@@ -1,0 +1,9 @@
+// Written by bindings/erase from crates/vm_engine/src/saved.rt: do not edit.
+
+//! Saved trees.
+//!
+//! A value can be untrusted input, so the whole value is checked before the first allocation.
+mod check;
+pub(in crate::proved::vm_engine) mod node;
+mod repaired;
+mod tree;

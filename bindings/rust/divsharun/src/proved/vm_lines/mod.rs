@@ -1,0 +1,16 @@
+// Written by bindings/erase from crates/vm_lines/src/lib.rt: do not edit.
+
+//! The replay language: each line is a call of an allocator or of a manager of devices, and has one
+//! line of output.
+
+mod buffer;
+mod command;
+mod machine;
+mod newline;
+mod number;
+mod replay;
+mod reply;
+mod session;
+mod words;
+
+pub use replay::{RunError, run};

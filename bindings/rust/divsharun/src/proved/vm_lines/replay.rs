@@ -1,0 +1,134 @@
+// Written by bindings/erase from crates/vm_lines/src/replay.rt: do not edit.
+
+//! Runs the replay language: reads pieces of the input, splits them into lines, and writes the
+//! replies through a buffer.
+//!
+//! The two facts in the contract of `run` (`AnswersInput`, `AnswersEndedLines`) are about readers
+//! and writers whose bytes are known.
+
+use crate::proved::vm_lines::buffer::{Buffer, CAPACITY};
+use crate::proved::vm_lines::newline::newline_at;
+use crate::proved::vm_lines::reply::MAX_REPLY_LEN;
+use crate::proved::vm_lines::session::Session;
+use crate::rattle::Global;
+use std::io::{Read, Write};
+
+/// The maximum number of bytes of one read.
+const READ_SIZE: usize = 4096;
+
+/// The reason why a run ended before the end of its input.
+#[derive(Clone, Copy, Debug, PartialEq, Eq)]
+pub enum RunError {
+    /// A read failed, or `u64::MAX` reads did not reach the end.
+    Read,
+    /// A write failed, or the flush at the end failed.
+    Write,
+}
+
+/// Executes each line of the input, and writes one line of output for each.
+///
+/// Only the calls of the lines allocate.
+///
+/// # Errors
+///
+/// - `Read` if a read fails, or if `u64::MAX` reads do not reach the end. The output for the lines
+///   that end with a newline is written, and nothing is flushed.
+/// - `Write` if a write or the last flush fails. It is then not known which output was written.
+pub fn run<R: Read, W: Write>(alloc: Global, reader: &mut R, writer: &mut W) -> Result<(), RunError> {
+    let mut session = Session::new();
+    let mut output = Buffer::new();
+    answer_pieces(alloc, reader, writer, &mut session, &mut output)
+}
+
+/// Reads the input piece by piece, and writes the output for its lines.
+///
+/// Proof: `run` owns the session and the buffer, and this function borrows them. One function for
+/// both is slow to prove.
+fn answer_pieces<R: Read, W: Write>(
+    alloc: Global,
+    reader: &mut R,
+    writer: &mut W,
+    session: &mut Session,
+    output: &mut Buffer,
+) -> Result<(), RunError> {
+    let mut bytes = [0u8; READ_SIZE];
+    for _ in 0..u64::MAX {
+        match reader.read(&mut bytes) {
+            Ok(0) => {
+                answer_end(alloc, session, output, writer)?;
+                return Ok(());
+            }
+            Ok(count) => feed(alloc, session, &bytes[..count], output, writer)?,
+            Err(_) => break,
+        }
+    }
+    flush_buffer(output, writer)?;
+    Err(RunError::Read)
+}
+
+/// Executes the lines that end in a piece of the input, and keeps the bytes after them.
+fn feed<W: Write>(
+    alloc: Global,
+    session: &mut Session,
+    piece: &[u8],
+    output: &mut Buffer,
+    writer: &mut W,
+) -> Result<(), RunError> {
+    let mut rest = piece;
+    while let Some(end) = newline_at(rest) {
+        make_room(output, writer)?;
+        session.end_line(alloc, &rest[..end], output);
+        rest = &rest[end + 1..];
+    }
+    session.append(rest);
+    Ok(())
+}
+
+/// Executes the last line at the end of the input, and flushes the writer.
+fn answer_end<W: Write>(
+    alloc: Global,
+    session: &mut Session,
+    output: &mut Buffer,
+    writer: &mut W,
+) -> Result<(), RunError> {
+    answer_last_line(alloc, session, output, writer)?;
+    flush_buffer(output, writer)?;
+    match writer.flush() {
+        Ok(()) => Ok(()),
+        Err(_) => Err(RunError::Write),
+    }
+}
+
+/// Executes the last line if no newline ended it.
+fn answer_last_line<W: Write>(
+    alloc: Global,
+    session: &mut Session,
+    output: &mut Buffer,
+    writer: &mut W,
+) -> Result<(), RunError> {
+    if !session.has_begun() {
+        return Ok(());
+    }
+    make_room(output, writer)?;
+    session.end_line(alloc, b"", output);
+    Ok(())
+}
+
+/// Makes room in the buffer for one reply and its newline.
+fn make_room<W: Write>(output: &mut Buffer, writer: &mut W) -> Result<(), RunError> {
+    if output.len() >= CAPACITY - MAX_REPLY_LEN {
+        flush_buffer(output, writer)?;
+    }
+    Ok(())
+}
+
+/// Writes the text in the buffer.
+fn flush_buffer<W: Write>(output: &mut Buffer, writer: &mut W) -> Result<(), RunError> {
+    match writer.write_all(output.as_slice()) {
+        Ok(()) => {
+            output.clear();
+            Ok(())
+        }
+        Err(_) => Err(RunError::Write),
+    }
+}

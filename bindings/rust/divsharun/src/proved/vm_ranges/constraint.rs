@@ -1,0 +1,86 @@
+// Written by bindings/erase from crates/vm_ranges/src/constraint.rt: do not edit.
+
+//! Requests for a range of addresses.
+//!
+//! The invariant of `Constraint` is that the request is valid, so functions that take a
+//! `Constraint` need no condition.
+
+use crate::proved::vm_ranges::error::{Error, Result};
+
+/// The alignment for requests that need no particular alignment.
+pub const DEFAULT_CONSTRAINT_ALIGN: u64 = 4;
+
+/// The policy that chooses a free range for a request.
+#[derive(Clone, Copy, Debug, Default, PartialEq, Eq)]
+pub enum AllocPolicy {
+    /// Chooses the lowest range.
+    #[default]
+    FirstMatch,
+    /// Chooses the highest range.
+    LastMatch,
+    /// Chooses the range with this start.
+    ExactMatch(u64),
+}
+
+/// Returns whether the start of `ExactMatch` is a multiple of the alignment. Returns `true` for the
+/// other policies.
+const fn is_start_aligned(align: u64, policy: AllocPolicy) -> bool {
+    match policy {
+        AllocPolicy::ExactMatch(start) => start & (align - 1) == 0,
+        AllocPolicy::FirstMatch => true,
+        AllocPolicy::LastMatch => true,
+    }
+}
+
+/// A valid request for a range of addresses.
+///
+/// Its size is at least 1, its alignment is a power of two, and the start of `ExactMatch` is a
+/// multiple of the alignment.
+#[derive(Clone, Copy, Debug, PartialEq, Eq)]
+pub struct Constraint {
+    size: u64,
+    align: u64,
+    policy: AllocPolicy,
+}
+
+impl Constraint {
+    /// Creates a request for `size` addresses that start at a multiple of `align`.
+    ///
+    /// # Errors
+    ///
+    /// In this order:
+    /// - `InvalidSize(0)` if `size` is 0.
+    /// - `InvalidAlignment` if `align` is not a power of two.
+    /// - `UnalignedAddress` if the start of `ExactMatch` is not a multiple of `align`.
+    pub const fn new(size: u64, align: u64, policy: AllocPolicy) -> Result<Self> {
+        if size == 0 {
+            return Err(Error::InvalidSize(0));
+        }
+        if !align.is_power_of_two() {
+            return Err(Error::InvalidAlignment);
+        }
+        if !is_start_aligned(align, policy) {
+            return Err(Error::UnalignedAddress);
+        }
+        Ok(Constraint {
+            size,
+            align,
+            policy,
+        })
+    }
+
+    /// Returns the alignment: the first address of the range is a multiple of it.
+    pub const fn align(self) -> u64 {
+        self.align
+    }
+
+    /// Returns the number of requested addresses.
+    pub const fn size(self) -> u64 {
+        self.size
+    }
+
+    /// Returns the policy that chooses the range.
+    pub const fn policy(self) -> AllocPolicy {
+        self.policy
+    }
+}

@@ -1,0 +1,22 @@
+// Written by bindings/erase from crates/vm_ranges/src/lib.rt: do not edit.
+
+//! Ranges of addresses, alignment, requests, errors, states of blocks, and the saved values of
+//! ranges and states.
+
+mod alignment;
+mod constraint;
+mod error;
+mod range;
+mod saved;
+mod state;
+
+pub use alignment::{align_down, align_up};
+pub use constraint::{AllocPolicy, Constraint, DEFAULT_CONSTRAINT_ALIGN};
+pub use error::{Error, Result};
+pub use range::RangeInclusive;
+pub use saved::ValueError;
+pub use saved::fields::{has_fields, list_in};
+pub use saved::numbers::{number_in, u32_from, u32_in};
+pub use saved::range::range_in;
+pub use saved::state::state_in;
+pub use state::NodeState;

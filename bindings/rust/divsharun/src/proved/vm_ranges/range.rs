@@ -1,0 +1,79 @@
+// Written by bindings/erase from crates/vm_ranges/src/range.rt: do not edit.
+
+//! Closed ranges of addresses.
+//!
+//! Their order is written by hand, so that the contract of `cmp` names it: by start, then by end.
+
+use crate::proved::vm_ranges::error::{Error, Result};
+use core::cmp::Ordering;
+
+/// A closed range of addresses: its start, its end and all addresses between them.
+///
+/// A range is never empty and never contains all 2^64 addresses, so its length fits into a `u64`.
+/// Ranges are ordered by start, then by end.
+#[derive(Clone, Copy, Debug, PartialEq, Eq, Hash)]
+pub struct RangeInclusive {
+    start: u64,
+    end: u64,
+}
+
+impl RangeInclusive {
+    /// Creates the range from `start` to `end`, both included.
+    ///
+    /// # Errors
+    ///
+    /// - `InvalidRange(start, end)` if `start` is past `end`, or if the range would contain all
+    ///   2^64 addresses.
+    pub const fn new(start: u64, end: u64) -> Result<Self> {
+        if start > end || (start == 0 && end == u64::MAX) {
+            return Err(Error::InvalidRange(start, end));
+        }
+        Ok(RangeInclusive { start, end })
+    }
+
+    /// Returns the number of addresses in the range.
+    #[allow(clippy::len_without_is_empty)]
+    pub const fn len(&self) -> u64 {
+        1 + (self.end - self.start)
+    }
+
+    /// Returns whether an address is in both ranges.
+    pub const fn overlaps(&self, other: &RangeInclusive) -> bool {
+        other.start <= self.end && self.start <= other.end
+    }
+
+    /// Returns whether every address of `other` is in this range.
+    pub const fn contains(&self, other: &RangeInclusive) -> bool {
+        other.start >= self.start && other.end <= self.end
+    }
+
+    /// Returns the first address.
+    pub const fn start(&self) -> u64 {
+        self.start
+    }
+
+    /// Returns the last address.
+    pub const fn end(&self) -> u64 {
+        self.end
+    }
+}
+
+impl Ord for RangeInclusive {
+    /// Compares by start, then by end. It stops at the first difference.
+    fn cmp(&self, other: &RangeInclusive) -> Ordering {
+        if self.start < other.start {
+            return Ordering::Less;
+        }
+        if other.start < self.start {
+            return Ordering::Greater;
+        }
+        Ord::cmp(&self.end, &other.end)
+    }
+}
+
+impl PartialOrd for RangeInclusive {
+    /// Compares like `cmp`.
+    fn partial_cmp(&self, other: &RangeInclusive) -> Option<Ordering> {
+        Some(self.cmp(other))
+    }
+}

@@ -1,0 +1,361 @@
+//! An ordered set and an ordered map that report a failed allocation. Those of Rust end the process.
+//!
+//! The entries are in chunks of at most 1 KiB, and the chunks in a list. A look-up finds the chunk in
+//! a list of bounds, and then the entry in the chunk, so it takes logarithmic time. A change also moves
+//! at most 1 KiB, and a few changes in a hundred create or remove a chunk.
+//!
+//! Keys descend along a chunk and from chunk to chunk. So the lowest key is at an end, and removing it
+//! moves nothing.
+
+use super::{AllocError, AllocFailed, Global};
+use alloc::vec::Vec;
+use core::fmt;
+
+/// The maximum size of a chunk in bytes, unless its entries are large.
+const CHUNK_BYTES: usize = 1024;
+
+/// Returns the maximum number of entries of a chunk.
+const fn max_entries<E>() -> usize {
+    match CHUNK_BYTES.checked_div(size_of::<E>()) {
+        Some(entries) if entries < 8 => 8,
+        Some(entries) => entries,
+        None => CHUNK_BYTES,
+    }
+}
+
+/// An ordered map.
+pub struct BTreeMap<K, V> {
+    // If there are several chunks, none of them is empty, and each has capacity for `MAX_ENTRIES`.
+    chunks: Vec<Vec<(K, V)>>,
+    // A bound for each chunk but the first: no key of the chunk is greater, and all keys of the chunk
+    // before it are greater.
+    bounds: Vec<K>,
+    len: usize,
+}
+
+/// The place of a key: the index of its chunk, and its index there.
+#[derive(Clone, Copy)]
+struct Place {
+    chunk: usize,
+    entry: usize,
+}
+
+impl<K: Ord + Copy, V> BTreeMap<K, V> {
+    const MAX_ENTRIES: usize = max_entries::<(K, V)>();
+
+    /// Creates an empty map. It does not allocate.
+    #[must_use]
+    pub fn new(_alloc: Global) -> Self {
+        BTreeMap {
+            chunks: Vec::new(),
+            bounds: Vec::new(),
+            len: 0,
+        }
+    }
+
+    /// Returns a copy of the map, or an error if an allocation fails.
+    #[allow(clippy::should_implement_trait)]
+    pub fn clone(&self) -> Result<Self, AllocError>
+    where
+        V: Copy,
+    {
+        let mut copy = BTreeMap::new(Global);
+        reserve(&mut copy.chunks, self.chunks.len())?;
+        reserve(&mut copy.bounds, self.bounds.len())?;
+        for chunk in &self.chunks {
+            let mut entries = Vec::new();
+            let capacity = match self.chunks.len() {
+                1 => chunk.len(),
+                _ => Self::MAX_ENTRIES,
+            };
+            reserve(&mut entries, capacity)?;
+            entries.extend_from_slice(chunk);
+            copy.chunks.push(entries);
+        }
+        copy.bounds.extend_from_slice(&self.bounds);
+        copy.len = self.len;
+        Ok(copy)
+    }
+
+    /// Returns the place of a key, or the place where it would be inserted.
+    fn place_of(&self, key: &K) -> Result<Place, Place> {
+        let at = self.bounds.partition_point(|bound| bound >= key);
+        let Some(chunk) = self.chunks.get(at) else {
+            return Err(Place {
+                chunk: at,
+                entry: 0,
+            });
+        };
+        let in_chunk = |entry| Place { chunk: at, entry };
+        let found = chunk.binary_search_by(|entry| key.cmp(&entry.0));
+        found.map(in_chunk).map_err(in_chunk)
+    }
+
+    fn find(&self, key: &K) -> Option<&(K, V)> {
+        let place = self.place_of(key).ok()?;
+        self.chunks.get(place.chunk)?.get(place.entry)
+    }
+
+    /// Inserts an entry, and returns the previous value of the key. Only a new key allocates. An error
+    /// changes nothing and returns the entry.
+    pub fn insert(&mut self, key: K, value: V) -> Result<Option<V>, AllocFailed<(K, V)>> {
+        match self.place_of(&key) {
+            Ok(place) => {
+                let entry = &mut self.chunks[place.chunk][place.entry];
+                Ok(Some(core::mem::replace(&mut entry.1, value)))
+            }
+            Err(place) => {
+                let Ok(place) = self.make_room(place, key) else {
+                    return Err(AllocFailed((key, value)));
+                };
+                self.chunks[place.chunk].insert(place.entry, (key, value));
+                self.len += 1;
+                Ok(None)
+            }
+        }
+    }
+
+    /// Makes room for a new key at a place, and returns the place that it has then. An error changes no
+    /// entry.
+    fn make_room(&mut self, place: Place, key: K) -> Result<Place, AllocError> {
+        let Some(chunk) = self.chunks.get_mut(place.chunk) else {
+            let mut chunk = Vec::new();
+            reserve(&mut chunk, 1)?;
+            try_reserve(&mut self.chunks)?;
+            self.chunks.push(chunk);
+            return Ok(place);
+        };
+        if chunk.len() < Self::MAX_ENTRIES {
+            try_reserve(chunk)?;
+            return Ok(place);
+        }
+        self.split(place, key)
+    }
+
+    /// Moves a part of a full chunk to a new chunk after it, and returns the place of the new key.
+    ///
+    /// Half of the chunk is moved. If keys come in order, all of it or nothing is moved.
+    fn split(&mut self, place: Place, key: K) -> Result<Place, AllocError> {
+        let mut lower = Vec::new();
+        reserve(&mut lower, Self::MAX_ENTRIES)?;
+        try_reserve(&mut self.chunks)?;
+        try_reserve(&mut self.bounds)?;
+        let is_last = place.chunk + 1 == self.chunks.len();
+        let chunk = &mut self.chunks[place.chunk];
+        let kept = match place {
+            Place { chunk: 0, entry: 0 } => 0,
+            _ if is_last && place.entry == chunk.len() => chunk.len(),
+            _ => chunk.len() / 2,
+        };
+        let goes_lower = place.entry > kept || kept == chunk.len();
+        lower.extend(chunk.drain(kept..));
+        let bound = lower.first().map_or(key, |entry: &(K, V)| entry.0);
+        self.chunks.insert(place.chunk + 1, lower);
+        self.bounds.insert(place.chunk, bound);
+        if !goes_lower {
+            return Ok(place);
+        }
+        Ok(Place {
+            chunk: place.chunk + 1,
+            entry: place.entry - kept,
+        })
+    }
+
+    /// Removes a key, and returns its value. It does not allocate.
+    pub fn remove(&mut self, key: &K) -> Option<V> {
+        let place = self.place_of(key).ok()?;
+        let (_, value) = self.chunks[place.chunk].remove(place.entry);
+        self.len -= 1;
+        self.join(place.chunk);
+        Some(value)
+    }
+
+    /// Joins a chunk with one next to it, if both are small or one is empty. It does not allocate,
+    /// because each chunk has the capacity for it.
+    fn join(&mut self, at: usize) {
+        let Some(last) = self.chunks.len().checked_sub(2) else {
+            return;
+        };
+        let at = at.min(last);
+        let (before, after) = self.chunks.split_at_mut(at + 1);
+        let (upper, lower) = (&mut before[at], &mut after[0]);
+        let are_small = upper.len() + lower.len() <= Self::MAX_ENTRIES / 2;
+        if are_small || upper.is_empty() || lower.is_empty() {
+            upper.append(lower);
+            self.chunks.remove(at + 1);
+            self.bounds.remove(at);
+        }
+    }
+
+    /// Removes and returns the entry with the lowest key. It does not allocate.
+    fn pop_first(&mut self) -> Option<(K, V)> {
+        let chunk = self.chunks.last_mut()?;
+        let entry = chunk.pop()?;
+        self.len -= 1;
+        if chunk.is_empty() && self.bounds.pop().is_some() {
+            self.chunks.pop();
+        }
+        Some(entry)
+    }
+
+    /// Returns the value of the key.
+    #[must_use]
+    pub fn get(&self, key: &K) -> Option<&V> {
+        self.find(key).map(|entry| &entry.1)
+    }
+
+    /// Returns the number of keys.
+    #[must_use]
+    pub fn len(&self) -> usize {
+        self.len
+    }
+
+    /// Returns whether the map is empty.
+    #[must_use]
+    pub fn is_empty(&self) -> bool {
+        self.len == 0
+    }
+
+    /// Returns an iterator over the entries in ascending order of keys.
+    #[must_use]
+    pub fn iter(&self) -> btree_map::Iter<'_, K, V> {
+        btree_map::Iter {
+            chunks: &self.chunks,
+            entries: &[],
+        }
+    }
+}
+
+/// Allocates capacity for exactly this number of values in an empty list.
+fn reserve<T>(list: &mut Vec<T>, length: usize) -> Result<(), AllocError> {
+    list.try_reserve_exact(length).map_err(|_| AllocError)
+}
+
+/// Allocates capacity for one more value.
+fn try_reserve<T>(list: &mut Vec<T>) -> Result<(), AllocError> {
+    list.try_reserve(1).map_err(|_| AllocError)
+}
+
+impl<K: Ord + Copy, V: PartialEq> PartialEq for BTreeMap<K, V> {
+    fn eq(&self, other: &Self) -> bool {
+        self.len == other.len && self.iter().eq(other.iter())
+    }
+}
+
+impl<K: Ord + Copy, V: Eq> Eq for BTreeMap<K, V> {}
+
+impl<K: Ord + Copy + fmt::Debug, V: fmt::Debug> fmt::Debug for BTreeMap<K, V> {
+    fn fmt(&self, f: &mut fmt::Formatter<'_>) -> fmt::Result {
+        f.debug_map().entries(self.iter()).finish()
+    }
+}
+
+/// The iterator of a map.
+pub mod btree_map {
+    use alloc::vec::Vec;
+
+    /// An iterator over the entries of a map in ascending order of keys.
+    pub struct Iter<'a, K, V> {
+        // The chunks that were not begun yet, and the entries that are left of the current one.
+        pub(super) chunks: &'a [Vec<(K, V)>],
+        pub(super) entries: &'a [(K, V)],
+    }
+
+    impl<'a, K, V> Iterator for Iter<'a, K, V> {
+        type Item = (&'a K, &'a V);
+
+        fn next(&mut self) -> Option<Self::Item> {
+            while self.entries.is_empty() {
+                let (lowest, rest) = self.chunks.split_last()?;
+                (self.chunks, self.entries) = (rest, lowest);
+            }
+            let ((key, value), rest) = self.entries.split_last()?;
+            self.entries = rest;
+            Some((key, value))
+        }
+    }
+}
+
+/// An ordered set.
+#[derive(PartialEq, Eq)]
+pub struct BTreeSet<T: Ord + Copy>(BTreeMap<T, ()>);
+
+impl<T: Ord + Copy> BTreeSet<T> {
+    /// Creates an empty set. It does not allocate.
+    #[must_use]
+    pub fn new(alloc: Global) -> Self {
+        BTreeSet(BTreeMap::new(alloc))
+    }
+
+    /// Returns a copy of the set, or an error if an allocation fails.
+    #[allow(clippy::should_implement_trait)]
+    pub fn clone(&self) -> Result<Self, AllocError> {
+        self.0.clone().map(BTreeSet)
+    }
+
+    /// Inserts a value, and returns whether it is new. Only a new value allocates. An error changes
+    /// nothing and returns the value.
+    pub fn insert(&mut self, value: T) -> Result<bool, AllocFailed<T>> {
+        match self.0.insert(value, ()) {
+            Ok(previous) => Ok(previous.is_none()),
+            Err(AllocFailed((value, ()))) => Err(AllocFailed(value)),
+        }
+    }
+
+    /// Removes and returns the lowest value. It does not allocate.
+    pub fn pop_first(&mut self) -> Option<T> {
+        self.0.pop_first().map(|(value, ())| value)
+    }
+
+    /// Returns the lowest value.
+    #[must_use]
+    pub fn first(&self) -> Option<&T> {
+        self.0.chunks.last()?.last().map(|(value, ())| value)
+    }
+
+    /// Returns whether the set has the value.
+    #[must_use]
+    pub fn contains(&self, value: &T) -> bool {
+        self.0.find(value).is_some()
+    }
+
+    /// Returns the number of values.
+    #[must_use]
+    pub fn len(&self) -> usize {
+        self.0.len()
+    }
+
+    /// Returns whether the set is empty.
+    #[must_use]
+    pub fn is_empty(&self) -> bool {
+        self.0.is_empty()
+    }
+
+    /// Returns an iterator over the values in ascending order.
+    #[must_use]
+    pub fn iter(&self) -> btree_set::Iter<'_, T> {
+        btree_set::Iter(self.0.iter())
+    }
+}
+
+impl<T: Ord + Copy + fmt::Debug> fmt::Debug for BTreeSet<T> {
+    fn fmt(&self, f: &mut fmt::Formatter<'_>) -> fmt::Result {
+        f.debug_set().entries(self.iter()).finish()
+    }
+}
+
+/// The iterator of a set.
+pub mod btree_set {
+    use super::btree_map;
+
+    /// An iterator over the values of a set in ascending order.
+    pub struct Iter<'a, T>(pub(super) btree_map::Iter<'a, T, ()>);
+
+    impl<'a, T> Iterator for Iter<'a, T> {
+        type Item = &'a T;
+
+        fn next(&mut self) -> Option<&'a T> {
+            self.0.next().map(|(value, ())| value)
+        }
+    }
+}

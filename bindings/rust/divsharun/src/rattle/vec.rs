@@ -1,0 +1,69 @@
+use super::{AllocError, AllocFailed, Global};
+use core::fmt;
+use core::ops::{Deref, DerefMut};
+
+/// A vector that reports a failed allocation.
+#[derive(PartialEq, Eq)]
+pub struct Vec<T>(alloc::vec::Vec<T>);
+
+impl<T> Vec<T> {
+    /// Creates an empty vector. It does not allocate.
+    #[must_use]
+    pub fn new(_alloc: Global) -> Self {
+        Vec(alloc::vec::Vec::new())
+    }
+
+    /// Creates an empty vector with this capacity. Tests mark a point by this allocation, so a
+    /// compiler must not remove it.
+    pub fn with_capacity(_alloc: Global, capacity: usize) -> Result<Self, AllocError> {
+        let mut list = alloc::vec::Vec::new();
+        list.try_reserve_exact(capacity).map_err(|_| AllocError)?;
+        Ok(Vec(core::hint::black_box(list)))
+    }
+
+    /// Appends a value, or returns it if the allocation fails.
+    pub fn push(&mut self, value: T) -> Result<(), AllocFailed<T>> {
+        if self.0.try_reserve(1).is_err() {
+            return Err(AllocFailed(value));
+        }
+        self.0.push(value);
+        Ok(())
+    }
+
+    /// Removes the last value and returns it, or `None` if there is none.
+    pub fn pop(&mut self) -> Option<T> {
+        self.0.pop()
+    }
+
+    /// Returns the values.
+    #[must_use]
+    pub fn as_slice(&self) -> &[T] {
+        &self.0
+    }
+}
+
+impl<T> From<alloc::vec::Vec<T>> for Vec<T> {
+    fn from(list: alloc::vec::Vec<T>) -> Self {
+        Vec(list)
+    }
+}
+
+impl<T> Deref for Vec<T> {
+    type Target = [T];
+
+    fn deref(&self) -> &[T] {
+        &self.0
+    }
+}
+
+impl<T> DerefMut for Vec<T> {
+    fn deref_mut(&mut self) -> &mut [T] {
+        &mut self.0
+    }
+}
+
+impl<T: fmt::Debug> fmt::Debug for Vec<T> {
+    fn fmt(&self, f: &mut fmt::Formatter<'_>) -> fmt::Result {
+        self.0.fmt(f)
+    }
+}

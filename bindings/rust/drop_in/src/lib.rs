@@ -1,1 +1,0 @@
-//! Compiles code for `vm-allocator` 0.1.4 with divsharun.

@@ -1,9 +1,0 @@
-// Written by bindings/erase from crates/vm_engine/src/saved.rt: do not edit.
-
-//! Saved trees.
-//!
-//! A value can be untrusted input, so the whole value is checked before the first allocation.
-mod check;
-pub(crate) mod node;
-mod repaired;
-mod tree;

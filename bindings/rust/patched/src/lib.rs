@@ -1,0 +1,9 @@
+//! Two crates with one `vm-allocator`, and the tests of its API with the feature `serde`.
+
+#[test]
+fn a_dependency_uses_the_same_allocator() {
+    let mut space = vm_allocator::AddressAllocator::new(0x1000, 0x1000).unwrap();
+    let window = bus::plug(&mut space).unwrap();
+    // Only divsharun lists the allocated ranges.
+    assert!(space.held_ranges().eq([window]));
+}

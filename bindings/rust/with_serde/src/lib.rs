@@ -1,1 +1,0 @@
-//! Runs the tests of the feature `serde`, and the examples that use it.
