@@ -37,8 +37,8 @@ mod texts;
 mod through_rust;
 
 use crate::proved::vm_allocator::{self, RangeInclusive};
-use status::{dvs_refusal, dvs_status, status_of, CallError};
 use core::mem::MaybeUninit;
+use status::{dvs_refusal, dvs_status, status_of, CallError};
 
 /// The destination of a result.
 type Out<'a, T> = Option<&'a mut MaybeUninit<T>>;
