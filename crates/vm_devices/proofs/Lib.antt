@@ -11,6 +11,8 @@ pub mod Callers
 pub mod Entries
 pub mod AllHeld
 pub mod SavedDevices
+pub mod ListedDevices
+pub mod ListedManagers
 pub mod Apart
 pub mod IncreasingIds
 pub mod ManagerFields

@@ -75,7 +75,7 @@ unfolding IsStrictlySortedBy
 increases_from e [] a s = tt
 increases_from e (f ∷ es) a s = let l = less_is e.0 f.0 a.0 in (omega arith, increases_from f es s.0 s.1)
 
-from_sorted : (es : List (ℕ × Range)) → IsStrictlySortedBy nat_cmp (keys_of es) → IncreaseFrom 0 es
+pub from_sorted : (es : List (ℕ × Range)) → IsStrictlySortedBy nat_cmp (keys_of es) → IncreaseFrom 0 es
 unfolding IsStrictlySortedBy
 from_sorted [] s = tt
 from_sorted (e ∷ es) s = (omega arith, increases_from e es s.0 s.1)
@@ -107,13 +107,13 @@ abbrev pub AreBelow : ℕ → List (ℕ × Range) → Type 0
 AreBelow n [] = Unit {0}
 AreBelow n (e ∷ es) = (e.0 < n) × AreBelow n es
 
-put_last : (lowest : ℕ) (f : ℕ × Range) (es : List (ℕ × Range)) → AreBelow lowest es → lowest ≤ f.0 → insert_entry nat_cmp es f.0 f.1 ≡ es ++ f ∷ []
+pub put_last : (lowest : ℕ) (f : ℕ × Range) (es : List (ℕ × Range)) → AreBelow lowest es → lowest ≤ f.0 → insert_entry nat_cmp es f.0 f.1 ≡ es ++ f ∷ []
 put_last lowest f [] a p = refl
 put_last lowest f (e ∷ es) a p =
     let g : nat_cmp f.0 e.0 ≡ Greater = sym (nat_cmp_is f.0 e.0 Greater (omega arith)) in
     rw (g, put_last lowest f es a.1 p) refl
 
-last_below : (lowest : ℕ) (f : ℕ × Range) (es : List (ℕ × Range)) → AreBelow lowest es → lowest ≤ f.0 → AreBelow (f.0 + 1) (es ++ f ∷ [])
+pub last_below : (lowest : ℕ) (f : ℕ × Range) (es : List (ℕ × Range)) → AreBelow lowest es → lowest ≤ f.0 → AreBelow (f.0 + 1) (es ++ f ∷ [])
 last_below lowest f [] a p = (omega arith, tt)
 last_below lowest f (e ∷ es) a p = (omega arith, last_below lowest f es a.1 p)
 

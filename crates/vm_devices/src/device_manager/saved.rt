@@ -6,6 +6,7 @@ ghost use Rattle.vm_devices.specs.Devices.{IsDeviceState};
 ghost use Rattle.vm_devices.specs.Saved.{EncodesManager, ReadsInParts};
 ghost use Rattle.vm_devices.specs.SavedChecks.{decoded_manager, ManagerParts};
 
+mod listed;
 mod pairing;
 mod slots;
 

@@ -44,7 +44,7 @@ fn counts_match(ids: &IdAllocator, space: &AddressAllocator, items: &[Value]) ->
 
 /// Returns whether the id and the range of each device are allocated, and no two ranges have the
 /// same start.
-fn are_held_and_distinct(
+pub(super) fn are_held_and_distinct(
     alloc: Global,
     ids: &IdAllocator,
     space: &AddressAllocator,

@@ -3,6 +3,7 @@
 //! The saved value of a manager: its version, both allocators, and the list of its devices.
 
 use rattle::Vec;
+mod listed;
 mod pairing;
 mod slots;
 

@@ -1,0 +1,82 @@
+// Written by bindings/erase from crates/vm_devices/src/device_manager/saved/listed.rt: do not edit.
+
+//! Creates a manager of both allocators and the list of its devices.
+
+use super::pairing::are_held_and_distinct;
+use crate::device_manager::DeviceManager;
+use crate::device_manager::device_table::DeviceTable;
+use crate::device_slot::DeviceSlot;
+use rattle::Global;
+use rattle::BTreeMap;
+use vm_allocator::{AddressAllocator, IdAllocator, RangeInclusive, ValueError};
+
+impl DeviceManager {
+    /// Creates a manager of these ids, this space and these devices, which are by increasing ids.
+    ///
+    /// The parts can be untrusted input. They are checked one after the other, so `OutOfMemory` is
+    /// possible for all parts.
+    ///
+    /// # Errors
+    ///
+    /// - `NotAState` if one of these is true:
+    ///   - The ids of the devices are not in increasing order.
+    ///   - The id or the range of a device is not allocated.
+    ///   - An allocated id or range has no device.
+    ///   - Two devices have the same range.
+    /// - `OutOfMemory` if an allocation fails.
+    pub fn with_devices(
+        alloc: Global,
+        ids: IdAllocator,
+        space: AddressAllocator,
+        devices: &[DeviceSlot],
+    ) -> core::result::Result<Self, ValueError> {
+        // Proof: the clauses `state` of these calls.
+        let _ = ids.peek_id();
+        let _ = space.base();
+        let listed = pair_devices(alloc, &ids, &space, devices)?;
+        let slots = DeviceTable::from_slots(alloc, listed)?;
+        Ok(DeviceManager {
+            id_allocator: ids,
+            mmio_allocator: space,
+            slots,
+        })
+    }
+}
+
+/// Returns the table of the devices. Returns `NotAState` if they do not pair the allocated ids with
+/// the allocated ranges.
+fn pair_devices(
+    alloc: Global,
+    ids: &IdAllocator,
+    space: &AddressAllocator,
+    devices: &[DeviceSlot],
+) -> core::result::Result<BTreeMap<u32, RangeInclusive>, ValueError> {
+    // The devices can be untrusted input, so they are counted before memory is allocated for them.
+    let count = devices.len() as u64;
+    if ids.held_count() != count || space.held_count() != count {
+        return Err(ValueError::NotAState);
+    }
+    let slots = collect_devices(alloc, devices)?;
+    if !are_held_and_distinct(alloc, ids, space, &slots)? {
+        return Err(ValueError::NotAState);
+    }
+    Ok(slots)
+}
+
+/// Collects the devices into a table. Returns `NotAState` if their ids are not in strictly increasing
+/// order.
+fn collect_devices(
+    alloc: Global,
+    devices: &[DeviceSlot],
+) -> core::result::Result<BTreeMap<u32, RangeInclusive>, ValueError> {
+    let mut slots = BTreeMap::new(alloc);
+    let mut lowest = 0u64;
+    for device in devices {
+        if u64::from(device.id) < lowest {
+            return Err(ValueError::NotAState);
+        }
+        slots.insert(device.id, device.range)?;
+        lowest = u64::from(device.id) + 1;
+    }
+    Ok(slots)
+}
