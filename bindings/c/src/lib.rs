@@ -9,10 +9,20 @@
 // Types have the names of the header.
 #![allow(non_camel_case_types)]
 
+extern crate alloc;
+// The names that the files of divsharun use.
+extern crate vm_allocator as proved;
+extern crate vm_devices as proved_devices;
+
+#[path = "../../rust/divsharun/src/saved/blocks.rs"]
+mod blocks;
 mod devices;
 mod handle;
 mod ids;
+mod json;
 mod lists;
+#[path = "../../rust/divsharun/src/saved/parts.rs"]
+mod parts;
 mod ranges;
 mod status;
 mod texts;
