@@ -3,7 +3,9 @@
 use crate::blocks::{Blocks, FreedIds, Tree};
 use crate::handle::{non_null, Handle};
 use crate::json::{dvs_text_limits, Read, Reader, TextFault};
-use crate::parts::{device_manager, id_allocator, Ascending, Fault, Node, Nodes, Span, VERSION};
+use crate::parts::{
+    device_manager, id_allocator, push_ascending, Fault, Node, Nodes, Span, VERSION,
+};
 use crate::status::{
     dvs_status, dvs_status_text, DVS_LIMIT_EXCEEDED, DVS_NOT_A_STATE, DVS_NOT_JSON, DVS_NULL,
     DVS_OK, DVS_OUT_OF_MEMORY,
@@ -359,7 +361,7 @@ fn read_id(from: &mut Reader<'_>) -> Read<u32> {
 }
 
 pub(crate) fn read_ids(from: &mut Reader<'_>) -> Read<IdAllocator> {
-    let (mut ends, mut next, mut freed) = ([0; 2], None, Ascending::new());
+    let (mut ends, mut next, mut freed) = ([0; 2], None, Vec::new());
     let names = [c"range_base", c"range_end", c"next_id", c"freed_ids"];
     from.object(names, |from, at| {
         match at {
@@ -368,7 +370,7 @@ pub(crate) fn read_ids(from: &mut Reader<'_>) -> Read<IdAllocator> {
             2 => next = Some(read_id(from)?),
             _ => from.list(|from| {
                 let id = read_id(from)?;
-                freed.push(id, id).map_err(|fault| from.of_parts(fault))
+                push_ascending(&mut freed, id, |id| *id).map_err(|fault| from.of_parts(fault))
             })?,
         }
         Ok(())
@@ -390,7 +392,7 @@ fn read_slot(from: &mut Reader<'_>) -> Read<DeviceSlot> {
 }
 
 pub(crate) fn read_devices(from: &mut Reader<'_>) -> Read<DeviceManager> {
-    let (mut version, mut ids, mut space, mut slots) = (0, None, None, Ascending::new());
+    let (mut version, mut ids, mut space, mut slots) = (0, None, None, Vec::new());
     let names = [c"version", c"id_allocator", c"mmio_allocator", c"slots"];
     from.object(names, |from, at| {
         match at {
@@ -399,8 +401,7 @@ pub(crate) fn read_devices(from: &mut Reader<'_>) -> Read<DeviceManager> {
             2 => space = Some(read_space(from, true)?),
             _ => from.list(|from| {
                 let slot = read_slot(from)?;
-                slots
-                    .push(slot.id, slot)
+                push_ascending(&mut slots, slot, |slot| slot.id)
                     .map_err(|fault| from.of_parts(fault))
             })?,
         }

@@ -178,32 +178,19 @@ pub(super) fn try_reserve<T>(list: &mut Vec<T>) -> Result<(), Fault> {
     list.try_reserve(1).map_err(|_| Fault::OutOfMemory)
 }
 
-/// A list of items with ascending ids. It ends at the first item that makes it invalid, so untrusted
+/// Appends an item to a list with ascending ids. Each item is checked when it comes, so untrusted
 /// input costs little memory.
-pub(super) struct Ascending<T> {
-    items: Vec<T>,
-    // The lowest id that the next item can have.
-    next: u64,
-}
-
-impl<T> Ascending<T> {
-    pub(super) fn new() -> Self {
-        Ascending {
-            items: Vec::new(),
-            next: 0,
-        }
+pub(super) fn push_ascending<T>(
+    list: &mut Vec<T>,
+    item: T,
+    id: impl Fn(&T) -> u32,
+) -> Result<(), Fault> {
+    if list.last().is_some_and(|last| id(last) >= id(&item)) {
+        return Err(Fault::Invalid(c"the ids of a list do not ascend"));
     }
-
-    /// Appends an item with an id.
-    pub(super) fn push(&mut self, id: u32, item: T) -> Result<(), Fault> {
-        if u64::from(id) < self.next {
-            return Err(Fault::Invalid(c"the ids of a list do not ascend"));
-        }
-        try_reserve(&mut self.items)?;
-        self.next = u64::from(id) + 1;
-        self.items.push(item);
-        Ok(())
-    }
+    try_reserve(list)?;
+    list.push(item);
+    Ok(())
 }
 
 /// Returns an id allocator with its range, the lowest id that was never allocated, and the freed ids.
@@ -214,7 +201,7 @@ impl<T> Ascending<T> {
 pub(super) fn id_allocator(
     [base, end]: [u32; 2],
     next: Option<u32>,
-    freed: &Ascending<u32>,
+    freed: &[u32],
 ) -> Result<IdAllocator, Fault> {
     let value = Value::object([
         ("range_base", Ok(base.into())),
@@ -228,7 +215,7 @@ pub(super) fn id_allocator(
         false => Fault::of_value(error, c"next_id is neither in the range nor right after it"),
     })?;
     // From the highest id to the lowest, the set of freed ids is filled in linear time.
-    for id in freed.items.iter().rev() {
+    for id in freed.iter().rev() {
         ids.free_id(*id).map_err(|error| match error {
             proved::Error::OutOfMemory => Fault::OutOfMemory,
             _ => Fault::Invalid(c"a freed id is outside the range or not below next_id"),
@@ -243,12 +230,12 @@ pub(super) fn device_manager(
     version: u64,
     ids: IdAllocator,
     space: AddressAllocator,
-    slots: &Ascending<DeviceSlot>,
+    slots: &[DeviceSlot],
 ) -> Result<DeviceManager, Fault> {
     if version != VERSION {
         return Err(Fault::Invalid(c"the version is not 1"));
     }
     let not_paired = c"the devices do not pair the allocated ids with the allocated ranges";
-    let manager = DeviceManager::with_devices(Global, ids, space, &slots.items);
+    let manager = DeviceManager::with_devices(Global, ids, space, slots);
     manager.map_err(|error| Fault::of_value(error, not_paired))
 }

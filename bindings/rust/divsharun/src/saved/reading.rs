@@ -1,12 +1,13 @@
 //! Reads objects with serde. Fields can come in any order, and are checked as they come.
 
-use super::parts::{device_manager, id_allocator, Ascending, Fault, Node, Nodes, Span};
+use super::parts::{device_manager, id_allocator, push_ascending, Fault, Node, Nodes, Span};
 use super::{text_of, POLICIES, STATES};
 use crate::{
     AddressAllocator, AllocPolicy, DeviceManager, DeviceSlot, IdAllocator, NodeState,
     RangeInclusive,
 };
 use alloc::string::String;
+use alloc::vec::Vec;
 use core::fmt;
 use core::marker::PhantomData;
 use proved::allocation_engine::NodeState as ProvedState;
@@ -282,7 +283,7 @@ structure!(Ids, "IdAllocator" => proved::IdAllocator, _this {
     range_base: PhantomData::<u32>,
     next_id: PhantomData::<Option<u32>>,
     range_end: PhantomData::<u32>,
-    freed_ids: List(|id: u32| (id, id))
+    freed_ids: List(|id: u32| id, |id| *id)
 } id_allocator([range_base, range_end], next_id, &freed_ids).map_err(invalid));
 
 struct Slot;
@@ -298,32 +299,31 @@ structure!(Devices, "DeviceManager" => proved_devices::DeviceManager, _this {
     version: PhantomData::<u64>,
     id_allocator: Ids,
     mmio_allocator: Space { is_strict: true, ..Space::default() },
-    slots: List(|slot: DeviceSlot| (slot.id, slot.proved()))
+    slots: List(DeviceSlot::proved, |slot| slot.id)
 } device_manager(version, id_allocator, mmio_allocator, &slots).map_err(invalid));
 
-/// Reads a list with ascending ids. The function returns the id of an item, and what is kept of it.
-struct List<T, K>(fn(T) -> (u32, K));
+/// Reads a list with ascending ids. The functions return what is kept of an item, and its id.
+struct List<T, K>(fn(T) -> K, fn(&K) -> u32);
 
 impl<'de, T: Deserialize<'de>, K> DeserializeSeed<'de> for List<T, K> {
-    type Value = Ascending<K>;
+    type Value = Vec<K>;
 
-    fn deserialize<D: Deserializer<'de>>(self, from: D) -> Result<Ascending<K>, D::Error> {
+    fn deserialize<D: Deserializer<'de>>(self, from: D) -> Result<Vec<K>, D::Error> {
         from.deserialize_seq(self)
     }
 }
 
 impl<'de, T: Deserialize<'de>, K> Visitor<'de> for List<T, K> {
-    type Value = Ascending<K>;
+    type Value = Vec<K>;
 
     fn expecting(&self, f: &mut fmt::Formatter<'_>) -> fmt::Result {
         f.write_str("a list")
     }
 
-    fn visit_seq<A: SeqAccess<'de>>(self, mut from: A) -> Result<Ascending<K>, A::Error> {
-        let mut list = Ascending::new();
+    fn visit_seq<A: SeqAccess<'de>>(self, mut from: A) -> Result<Vec<K>, A::Error> {
+        let mut list = Vec::new();
         while let Some(item) = from.next_element()? {
-            let (id, kept) = (self.0)(item);
-            list.push(id, kept).map_err(invalid)?;
+            push_ascending(&mut list, (self.0)(item), self.1).map_err(invalid)?;
         }
         Ok(list)
     }
