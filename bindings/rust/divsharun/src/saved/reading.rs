@@ -12,7 +12,8 @@ use core::fmt;
 use core::marker::PhantomData;
 use proved::allocation_engine::NodeState as ProvedState;
 use serde::de::{
-    DeserializeSeed, EnumAccess, Error, MapAccess, SeqAccess, Unexpected, VariantAccess, Visitor,
+    DeserializeSeed, EnumAccess, Error, IgnoredAny, MapAccess, SeqAccess, Unexpected,
+    VariantAccess, Visitor,
 };
 use serde::{Deserialize, Deserializer};
 
@@ -113,6 +114,10 @@ macro_rules! structure {
                             return Err(A::Error::invalid_length(Field::$field as usize, &self));
                         };
                     )*
+                    // A list that goes on is an error before anything is built.
+                    if from.next_element::<IgnoredAny>()?.is_some() {
+                        return Err(A::Error::invalid_length(Field::NAMES.len() + 1, &self));
+                    }
                     $build
                 }
 
