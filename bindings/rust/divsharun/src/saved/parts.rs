@@ -9,7 +9,7 @@
 use alloc::vec::Vec;
 use core::ffi::CStr;
 use proved::allocation_engine::NodeState;
-use proved::{AddressAllocator, IdAllocator, RangeInclusive, ValueError};
+use proved::{AddressAllocator, Error, IdAllocator, RangeInclusive, ValueError};
 use proved_devices::{DeviceManager, DeviceSlot};
 use rattle::{Global, Value};
 
@@ -31,23 +31,28 @@ pub(super) enum Fault {
     OutOfMemory,
 }
 
-impl From<proved::Error> for Fault {
-    fn from(error: proved::Error) -> Fault {
-        match error {
-            proved::Error::OutOfMemory => Fault::OutOfMemory,
-            _ => Fault::Invalid(c"a range or an id is not valid"),
+impl Fault {
+    /// Returns the fault of parts that violate a condition, unless an allocation failed.
+    fn new(is_out_of_memory: bool, condition: &'static CStr) -> Fault {
+        match is_out_of_memory {
+            true => Fault::OutOfMemory,
+            false => Fault::Invalid(condition),
         }
     }
 }
 
-impl Fault {
-    /// Returns the fault of a value that violates a condition, unless an allocation failed.
-    fn of_value(error: ValueError, condition: &'static CStr) -> Fault {
-        match error {
-            ValueError::NotAState => Fault::Invalid(condition),
-            ValueError::OutOfMemory => Fault::OutOfMemory,
-        }
+impl From<Error> for Fault {
+    fn from(error: Error) -> Fault {
+        Fault::new(
+            error == Error::OutOfMemory,
+            c"a range or an id is not valid",
+        )
     }
+}
+
+/// Returns the error of parts that violate a condition.
+fn violate<T>(condition: &'static CStr) -> Result<T, Fault> {
+    Err(Fault::Invalid(condition))
 }
 
 /// A node with its two subtrees.
@@ -87,7 +92,7 @@ impl Nodes {
     /// Begins a node. It is nested in the nodes that were begun and did not end.
     pub(super) fn begin(&mut self) -> Result<(), Fault> {
         if self.depth == MAX_NESTING {
-            return Err(Fault::Invalid(c"nodes are nested more than 50 deep"));
+            return violate(c"nodes are nested more than 50 deep");
         }
         self.depth += 1;
         Ok(())
@@ -103,9 +108,7 @@ impl Nodes {
         let [before, after] = [left.map(|left| left.last), right.map(|right| right.first)];
         let is_before = before.is_none_or(|before| before.0 < first.0);
         if !is_before || after.is_some_and(|after| after.0 <= last.0) {
-            return Err(Fault::Invalid(
-                c"the keys do not ascend or share an address",
-            ));
+            return violate(c"the keys do not ascend or share an address");
         }
         let is_next_free =
             before.is_some_and(|before| before.1) || after.is_some_and(|after| after.1);
@@ -130,12 +133,10 @@ impl Nodes {
     /// Inserts an allocated key.
     fn insert(&mut self, place: usize, key: RangeInclusive) -> Result<(), Fault> {
         if key.end() == u64::MAX {
-            return Err(Fault::Invalid(c"an allocated key ends at u64::MAX"));
+            return violate(c"an allocated key ends at u64::MAX");
         }
         if self.held.len() as u64 == MAX_HELD {
-            return Err(Fault::Invalid(
-                c"more than 6,293,134,512 keys are allocated",
-            ));
+            return violate(c"more than 6,293,134,512 keys are allocated");
         }
         try_reserve(&mut self.held)?;
         self.held.insert(place, key);
@@ -152,15 +153,13 @@ impl Nodes {
     ) -> Result<AddressAllocator, Fault> {
         let is_inside = |root: Span| space.start() <= root.first.0 && root.last.0 <= space.end();
         if !root.is_none_or(is_inside) {
-            return Err(Fault::Invalid(c"a key is outside the space"));
+            return violate(c"a key is outside the space");
         }
         if is_strict && self.is_unbalanced {
-            return Err(Fault::Invalid(
-                c"the tree is unbalanced, or a height is wrong",
-            ));
+            return violate(c"the tree is unbalanced, or a height is wrong");
         }
         if is_strict && (self.len != space.len() || self.has_free_neighbours) {
-            return Err(Fault::Invalid(c"the tree has a gap or free neighbours"));
+            return violate(c"the tree has a gap or free neighbours");
         }
         // It takes linear time if the keys ascend.
         self.held.sort_unstable();
@@ -186,7 +185,7 @@ pub(super) fn push_ascending<T>(
     id: impl Fn(&T) -> u32,
 ) -> Result<(), Fault> {
     if list.last().is_some_and(|last| id(last) >= id(&item)) {
-        return Err(Fault::Invalid(c"the ids of a list do not ascend"));
+        return violate(c"the ids of a list do not ascend");
     }
     try_reserve(list)?;
     list.push(item);
@@ -210,16 +209,16 @@ pub(super) fn id_allocator(
         ("freed_ids", Ok(rattle::Vec::new(Global).into())),
     ]);
     let ids = IdAllocator::from_value(Global, &value.map_err(|_| Fault::OutOfMemory)?);
-    let mut ids = ids.map_err(|error| match base > end {
-        true => Fault::of_value(error, c"range_base is past range_end"),
-        false => Fault::of_value(error, c"next_id is neither in the range nor right after it"),
-    })?;
+    let wrong_end = match base > end {
+        true => c"range_base is past range_end",
+        false => c"next_id is neither in the range nor right after it",
+    };
+    let mut ids = ids.map_err(|error| Fault::new(error == ValueError::OutOfMemory, wrong_end))?;
     // From the highest id to the lowest, the set of freed ids is filled in linear time.
+    let wrong_id = c"a freed id is outside the range or not below next_id";
     for id in freed.iter().rev() {
-        ids.free_id(*id).map_err(|error| match error {
-            proved::Error::OutOfMemory => Fault::OutOfMemory,
-            _ => Fault::Invalid(c"a freed id is outside the range or not below next_id"),
-        })?;
+        let freed = ids.free_id(*id);
+        freed.map_err(|error| Fault::new(error == Error::OutOfMemory, wrong_id))?;
     }
     Ok(ids)
 }
@@ -233,9 +232,9 @@ pub(super) fn device_manager(
     slots: &[DeviceSlot],
 ) -> Result<DeviceManager, Fault> {
     if version != VERSION {
-        return Err(Fault::Invalid(c"the version is not 1"));
+        return violate(c"the version is not 1");
     }
     let not_paired = c"the devices do not pair the allocated ids with the allocated ranges";
     let manager = DeviceManager::with_devices(Global, ids, space, slots);
-    manager.map_err(|error| Fault::of_value(error, not_paired))
+    manager.map_err(|error| Fault::new(error == ValueError::OutOfMemory, not_paired))
 }
