@@ -39,9 +39,10 @@
  * returns DVS_OUT_OF_MEMORY. No call ends the process when memory runs out. This
  * is the last error, except in a call that reads a text or takes an array.
  *
- * Freeing a range, allocating an id and queries do not allocate memory. Reading
- * a text allocates less than 80 times its length, even if the text is
- * untrusted. This includes the overhead of glibc's malloc for each block.
+ * Freeing a range, allocating an id and queries do not allocate memory. Saving
+ * and reading allocate less than 100 bytes for each allocated range, freed id
+ * and device, beyond the text and the object. This is also true for an untrusted
+ * text, and its part after the first fault allocates nothing.
  *
  * Cost. Let k be the number of allocated ranges. Allocating and freeing a range
  * takes time of the order of log k, and so do dvs_range_is_held() and
@@ -71,10 +72,10 @@
  * 10000 * major + 100 * minor + patch.
  */
 #define DVS_VERSION_MAJOR 2
-#define DVS_VERSION_MINOR 0
+#define DVS_VERSION_MINOR 1
 #define DVS_VERSION_PATCH 0
-#define DVS_VERSION_NUMBER 20000
-#define DVS_VERSION_TEXT "2.0.0"
+#define DVS_VERSION_NUMBER 20100
+#define DVS_VERSION_TEXT "2.1.0"
 
 /* Marks a call that writes its results only if its status is DVS_OK. */
 #ifdef __GNUC__
@@ -131,7 +132,9 @@ enum {
     /* The text is JSON, but does not encode an object of the type. */
     DVS_NOT_A_STATE = 17,
     /* The policy of a request is not one of the constants. */
-    DVS_INVALID_POLICY = 18
+    DVS_INVALID_POLICY = 18,
+    /* The text is longer or nested deeper than the caller allows. */
+    DVS_LIMIT_EXCEEDED = 19
 };
 
 /* The addresses from start to end, both included. */
@@ -181,6 +184,31 @@ typedef struct dvs_request {
     uint64_t start;
     uint32_t policy;
 } dvs_request;
+
+/* Limits for a text that is read. 0 is no limit. */
+typedef struct dvs_text_limits {
+    /* The maximum number of bytes. */
+    size_t length;
+    /* The maximum nesting. A value without brackets counts as a level. */
+    uint32_t depth;
+} dvs_text_limits;
+
+/*
+ * The reason why a text was not read. A call that returns an error writes all
+ * members of the dvs_text_fault that it was given. A call that returns DVS_OK
+ * writes none. The pointer can be null.
+ */
+typedef struct dvs_text_fault {
+    /* The number of bytes before the place of the fault. */
+    size_t offset;
+    /* The condition that is violated, with static storage duration. */
+    const char *reason;
+    /*
+     * DVS_NOT_A_STATE: the innermost field whose value is wrong, or which is
+     * missing or duplicate, with static storage duration. Otherwise NULL.
+     */
+    const char *field;
+} dvs_text_fault;
 
 /* Allocates ranges of addresses from one space. Allocated ranges never share an address. */
 typedef struct dvs_address_allocator dvs_address_allocator;
@@ -421,6 +449,20 @@ dvs_status dvs_address_allocator_read(const char *text, size_t length,
                                       dvs_address_allocator **allocator);
 
 /*
+ * Reads like dvs_address_allocator_read(), within `limits`, and writes to `fault`
+ * why a text was not read. Both pointers can be null.
+ *
+ * Errors: DVS_LIMIT_EXCEEDED if the text is longer than the limit. Otherwise
+ * those of dvs_address_allocator_read(), with DVS_LIMIT_EXCEEDED instead of
+ * DVS_NOT_JSON if the text first exceeds the limit of nesting.
+ */
+DVS_WARN_UNUSED
+dvs_status dvs_address_allocator_read_within(const char *text, size_t length,
+                                             const dvs_text_limits *limits,
+                                             dvs_address_allocator **allocator,
+                                             dvs_text_fault *fault);
+
+/*
  * Reads like dvs_address_allocator_read(), and also accepts what the Rust crate
  * vm-allocator 0.1.4 wrote after one of its bugs. The ranges that the text
  * marks as allocated are allocated, and all other addresses are free.
@@ -433,6 +475,13 @@ dvs_status dvs_address_allocator_read(const char *text, size_t length,
 DVS_WARN_UNUSED
 dvs_status dvs_address_allocator_read_repaired(const char *text, size_t length,
                                                dvs_address_allocator **allocator);
+
+/* Reads like dvs_address_allocator_read_repaired() and dvs_address_allocator_read_within(). */
+DVS_WARN_UNUSED
+dvs_status dvs_address_allocator_read_repaired_within(const char *text, size_t length,
+                                                      const dvs_text_limits *limits,
+                                                      dvs_address_allocator **allocator,
+                                                      dvs_text_fault *fault);
 
 /* ---- Ids ---- */
 
@@ -508,6 +557,12 @@ dvs_status dvs_id_allocator_save(const dvs_id_allocator *allocator, char **text,
 /* Reads like dvs_address_allocator_read(). */
 DVS_WARN_UNUSED
 dvs_status dvs_id_allocator_read(const char *text, size_t length, dvs_id_allocator **allocator);
+
+/* Reads like dvs_address_allocator_read_within(). */
+DVS_WARN_UNUSED
+dvs_status dvs_id_allocator_read_within(const char *text, size_t length,
+                                        const dvs_text_limits *limits, dvs_id_allocator **allocator,
+                                        dvs_text_fault *fault);
 
 /* ---- Devices ---- */
 
@@ -609,6 +664,12 @@ dvs_status dvs_device_manager_save(const dvs_device_manager *manager, char **tex
 /* Reads like dvs_address_allocator_read(). */
 DVS_WARN_UNUSED
 dvs_status dvs_device_manager_read(const char *text, size_t length, dvs_device_manager **manager);
+
+/* Reads like dvs_address_allocator_read_within(). */
+DVS_WARN_UNUSED
+dvs_status dvs_device_manager_read_within(const char *text, size_t length,
+                                          const dvs_text_limits *limits,
+                                          dvs_device_manager **manager, dvs_text_fault *fault);
 
 /* ---- Texts ---- */
 

@@ -65,6 +65,12 @@ template <typename T, void (*Destroy)(T *)> class owner {
         return create([&](T **out) { return call(text.data(), text.size(), out); });
     }
 
+    template <typename Read>
+    error read_by(Read call, const std::string &text, dvs_text_fault *fault,
+                  const dvs_text_limits *limits) {
+        return create([&](T **out) { return call(text.data(), text.size(), limits, out, fault); });
+    }
+
     template <typename Save> error save_by(Save call, std::string &text) const {
         char *saved = nullptr;
         std::size_t length = 0;
@@ -119,6 +125,10 @@ class address_allocator : public owner<dvs_address_allocator, dvs_address_alloca
         });
     }
     error read(const std::string &text) { return read_by(dvs_address_allocator_read, text); }
+    error read(const std::string &text, dvs_text_fault *fault,
+               const dvs_text_limits *limits = nullptr) {
+        return read_by(dvs_address_allocator_read_within, text, fault, limits);
+    }
     error save(std::string &text) const { return save_by(dvs_address_allocator_save, text); }
     error allocate_first(uint64_t size, uint64_t alignment, dvs_range &range) {
         return code(dvs_range_allocate_first(get(), size, alignment, &range, nullptr));
@@ -157,6 +167,10 @@ class id_allocator : public owner<dvs_id_allocator, dvs_id_allocator_destroy> {
             [=](object **out) { return dvs_id_allocator_new(first, last, out, nullptr); });
     }
     error read(const std::string &text) { return read_by(dvs_id_allocator_read, text); }
+    error read(const std::string &text, dvs_text_fault *fault,
+               const dvs_text_limits *limits = nullptr) {
+        return read_by(dvs_id_allocator_read_within, text, fault, limits);
+    }
     error save(std::string &text) const { return save_by(dvs_id_allocator_save, text); }
     error allocate(uint32_t &id) { return code(dvs_id_allocate(get(), &id)); }
     error free(uint32_t id) { return code(dvs_id_free(get(), id, nullptr)); }
@@ -173,6 +187,10 @@ class device_manager : public owner<dvs_device_manager, dvs_device_manager_destr
         });
     }
     error read(const std::string &text) { return read_by(dvs_device_manager_read, text); }
+    error read(const std::string &text, dvs_text_fault *fault,
+               const dvs_text_limits *limits = nullptr) {
+        return read_by(dvs_device_manager_read_within, text, fault, limits);
+    }
     error save(std::string &text) const { return save_by(dvs_device_manager_save, text); }
     error reserve_first(uint64_t size, uint64_t alignment, dvs_device &device) {
         return code(dvs_device_reserve_first(get(), size, alignment, &device, nullptr));

@@ -2,11 +2,12 @@
 
 use crate::handle::{create, visit, with_mut, with_mut_unit, with_ref, Handle};
 use crate::ids::write_range;
+use crate::json::dvs_text_limits;
 use crate::proved::vm_allocator::{AllocPolicy, Error};
 use crate::proved::vm_devices::{DeviceManager, DeviceSlot};
 use crate::ranges::space_of;
 use crate::rattle::Global;
-use crate::texts::{read, save};
+use crate::texts::{dvs_text_fault, read, read_devices, save};
 use crate::{dvs_range, dvs_refusal, dvs_status, status_of, CallError, Out};
 use core::ffi::{c_char, c_int, c_void};
 
@@ -190,8 +191,7 @@ pub extern "C" fn dvs_device_manager_save(
     text: Out<*mut c_char>,
     length: Out<usize>,
 ) -> dvs_status {
-    let saved = save(manager, text, length, DeviceManager::to_value);
-    status_of(saved, None)
+    status_of(save(manager, text, length), None)
 }
 
 /// # Safety
@@ -204,6 +204,20 @@ pub unsafe extern "C" fn dvs_device_manager_read(
     manager: Out<*mut dvs_device_manager>,
 ) -> dvs_status {
     // SAFETY: the caller's contract.
-    let read = unsafe { read(text, length, manager, DeviceManager::from_value) };
-    status_of(read, None)
+    unsafe { dvs_device_manager_read_within(text, length, None, manager, None) }
+}
+
+/// # Safety
+///
+/// The text is null or points to `length` readable bytes.
+#[unsafe(no_mangle)]
+pub unsafe extern "C" fn dvs_device_manager_read_within(
+    text: *const c_char,
+    length: usize,
+    limits: Option<&dvs_text_limits>,
+    manager: Out<*mut dvs_device_manager>,
+    fault: Out<dvs_text_fault>,
+) -> dvs_status {
+    // SAFETY: the caller's contract.
+    unsafe { read(text, length, limits, manager, fault, read_devices) }
 }

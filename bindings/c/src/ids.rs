@@ -1,9 +1,10 @@
 //! The id allocator.
 
 use crate::handle::{create, non_null, visit, with_mut, with_mut_unit, with_ref, Handle};
+use crate::json::dvs_text_limits;
 use crate::proved::vm_allocator::IdAllocator;
 use crate::rattle::Global;
-use crate::texts::{read, save};
+use crate::texts::{dvs_text_fault, read, read_ids, save};
 use crate::{dvs_refusal, dvs_status, status_of, CallError, Out};
 use core::ffi::{c_char, c_int, c_void};
 
@@ -118,8 +119,7 @@ pub extern "C" fn dvs_id_allocator_save(
     text: Out<*mut c_char>,
     length: Out<usize>,
 ) -> dvs_status {
-    let saved = save(allocator, text, length, IdAllocator::to_value);
-    status_of(saved, None)
+    status_of(save(allocator, text, length), None)
 }
 
 /// # Safety
@@ -132,6 +132,20 @@ pub unsafe extern "C" fn dvs_id_allocator_read(
     allocator: Out<*mut dvs_id_allocator>,
 ) -> dvs_status {
     // SAFETY: the caller's contract.
-    let read = unsafe { read(text, length, allocator, IdAllocator::from_value) };
-    status_of(read, None)
+    unsafe { dvs_id_allocator_read_within(text, length, None, allocator, None) }
+}
+
+/// # Safety
+///
+/// The text is null or points to `length` readable bytes.
+#[unsafe(no_mangle)]
+pub unsafe extern "C" fn dvs_id_allocator_read_within(
+    text: *const c_char,
+    length: usize,
+    limits: Option<&dvs_text_limits>,
+    allocator: Out<*mut dvs_id_allocator>,
+    fault: Out<dvs_text_fault>,
+) -> dvs_status {
+    // SAFETY: the caller's contract.
+    unsafe { read(text, length, limits, allocator, fault, read_ids) }
 }

@@ -12,14 +12,15 @@
 
 extern crate alloc;
 
-extern crate alloc;
-
+#[path = "../../rust/divsharun/src/saved/blocks.rs"]
+mod blocks;
 mod devices;
 mod handle;
 mod ids;
-#[path = "../../rust/box_count/src/json.rs"]
 mod json;
 mod lists;
+#[path = "../../rust/divsharun/src/saved/parts.rs"]
+mod parts;
 // The eraser writes it. The library calls a part of it.
 #[allow(dead_code, unused_imports)]
 #[rustfmt::skip]
@@ -61,7 +62,7 @@ impl From<RangeInclusive> for dvs_range {
 }
 
 impl TryFrom<dvs_range> for RangeInclusive {
-    type Error = vm_allocator::Error;
+    type Error = proved::vm_allocator::Error;
 
     fn try_from(range: dvs_range) -> Result<Self, Self::Error> {
         RangeInclusive::new(range.start, range.end)

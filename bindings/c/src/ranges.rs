@@ -1,9 +1,10 @@
 //! The address allocator.
 
 use crate::handle::{create, visit, with_mut, with_mut_unit, with_ref, Handle};
+use crate::json::dvs_text_limits;
 use crate::proved::vm_allocator::{AddressAllocator, AllocPolicy, Error, RangeInclusive};
 use crate::rattle::Global;
-use crate::texts::{read, save};
+use crate::texts::{dvs_text_fault, read, read_space, save};
 use crate::{dvs_range, dvs_refusal, dvs_status, status_of, CallError, Out};
 use core::ffi::{c_char, c_int, c_void};
 
@@ -194,8 +195,7 @@ pub extern "C" fn dvs_address_allocator_save(
     text: Out<*mut c_char>,
     length: Out<usize>,
 ) -> dvs_status {
-    let saved = save(allocator, text, length, AddressAllocator::to_value);
-    status_of(saved, None)
+    status_of(save(allocator, text, length), None)
 }
 
 /// # Safety
@@ -208,8 +208,26 @@ pub unsafe extern "C" fn dvs_address_allocator_read(
     allocator: Out<*mut dvs_address_allocator>,
 ) -> dvs_status {
     // SAFETY: the caller's contract.
-    let read = unsafe { read(text, length, allocator, AddressAllocator::from_value) };
-    status_of(read, None)
+    unsafe { dvs_address_allocator_read_within(text, length, None, allocator, None) }
+}
+
+/// # Safety
+///
+/// The text is null or points to `length` readable bytes.
+#[unsafe(no_mangle)]
+pub unsafe extern "C" fn dvs_address_allocator_read_within(
+    text: *const c_char,
+    length: usize,
+    limits: Option<&dvs_text_limits>,
+    allocator: Out<*mut dvs_address_allocator>,
+    fault: Out<dvs_text_fault>,
+) -> dvs_status {
+    // SAFETY: the caller's contract.
+    unsafe {
+        read(text, length, limits, allocator, fault, |from| {
+            read_space(from, true)
+        })
+    }
 }
 
 /// # Safety
@@ -221,8 +239,25 @@ pub unsafe extern "C" fn dvs_address_allocator_read_repaired(
     length: usize,
     allocator: Out<*mut dvs_address_allocator>,
 ) -> dvs_status {
-    let from_value = AddressAllocator::from_value_repaired;
     // SAFETY: the caller's contract.
-    let read = unsafe { read(text, length, allocator, from_value) };
-    status_of(read, None)
+    unsafe { dvs_address_allocator_read_repaired_within(text, length, None, allocator, None) }
+}
+
+/// # Safety
+///
+/// The text is null or points to `length` readable bytes.
+#[unsafe(no_mangle)]
+pub unsafe extern "C" fn dvs_address_allocator_read_repaired_within(
+    text: *const c_char,
+    length: usize,
+    limits: Option<&dvs_text_limits>,
+    allocator: Out<*mut dvs_address_allocator>,
+    fault: Out<dvs_text_fault>,
+) -> dvs_status {
+    // SAFETY: the caller's contract.
+    unsafe {
+        read(text, length, limits, allocator, fault, |from| {
+            read_space(from, false)
+        })
+    }
 }

@@ -1,14 +1,13 @@
 //! The errors of calls, as statuses and details.
 
-use crate::json::TextError;
-use crate::proved::vm_allocator::{Error, ValueError};
+use crate::proved::vm_allocator::Error;
 use crate::{dvs_range, Out};
 use core::ffi::{c_char, CStr};
 
 /// The result of a call.
 pub type dvs_status = u32;
 
-const DVS_OK: dvs_status = 0;
+pub(crate) const DVS_OK: dvs_status = 0;
 const DVS_OVERFLOW: dvs_status = 1;
 const DVS_OUT_OF_RANGE: dvs_status = 2;
 const DVS_ALREADY_RELEASED: dvs_status = 3;
@@ -21,15 +20,16 @@ const DVS_INVALID_STATE_TRANSITION: dvs_status = 9;
 const DVS_UNALIGNED_ADDRESS: dvs_status = 10;
 const DVS_UNDERFLOW: dvs_status = 11;
 const DVS_INVALID_SIZE: dvs_status = 12;
-const DVS_OUT_OF_MEMORY: dvs_status = 13;
-const DVS_NULL: dvs_status = 14;
+pub(crate) const DVS_OUT_OF_MEMORY: dvs_status = 13;
+pub(crate) const DVS_NULL: dvs_status = 14;
 const DVS_BUSY: dvs_status = 15;
-const DVS_NOT_JSON: dvs_status = 16;
-const DVS_NOT_A_STATE: dvs_status = 17;
+pub(crate) const DVS_NOT_JSON: dvs_status = 16;
+pub(crate) const DVS_NOT_A_STATE: dvs_status = 17;
 const DVS_INVALID_POLICY: dvs_status = 18;
+pub(crate) const DVS_LIMIT_EXCEEDED: dvs_status = 19;
 
 /// The text of each status, at the index of its number.
-const TEXTS: [&CStr; 19] = [
+const TEXTS: [&CStr; 20] = [
     c"The call succeeded.",
     c"Management operations on desired resource resulted in overflow.",
     c"The id is not in the range.",
@@ -49,6 +49,7 @@ const TEXTS: [&CStr; 19] = [
     c"The text is not JSON.",
     c"The value does not encode a valid object.",
     c"The policy is not valid.",
+    c"The text exceeds a limit.",
 ];
 
 /// The details of an error.
@@ -66,8 +67,6 @@ pub(crate) enum CallError {
     Null,
     Busy,
     OutOfMemory,
-    NotJson,
-    NotAState,
     InvalidPolicy,
     Call(Error),
 }
@@ -81,32 +80,12 @@ impl From<Error> for CallError {
     }
 }
 
-impl From<ValueError> for CallError {
-    fn from(error: ValueError) -> Self {
-        match error {
-            ValueError::NotAState => CallError::NotAState,
-            ValueError::OutOfMemory => CallError::OutOfMemory,
-        }
-    }
-}
-
-impl From<TextError> for CallError {
-    fn from(error: TextError) -> Self {
-        match error {
-            TextError::NotJson => CallError::NotJson,
-            TextError::OutOfMemory => CallError::OutOfMemory,
-        }
-    }
-}
-
 impl CallError {
     fn status(&self) -> dvs_status {
         match self {
             CallError::Null => DVS_NULL,
             CallError::Busy => DVS_BUSY,
             CallError::OutOfMemory => DVS_OUT_OF_MEMORY,
-            CallError::NotJson => DVS_NOT_JSON,
-            CallError::NotAState => DVS_NOT_A_STATE,
             CallError::InvalidPolicy => DVS_INVALID_POLICY,
             CallError::Call(error) => status_of_error(error),
         }

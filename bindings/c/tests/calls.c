@@ -6,7 +6,7 @@
 
 #include <limits.h>
 
-enum { STATUSES = DVS_INVALID_POLICY + 1 };
+enum { STATUSES = DVS_LIMIT_EXCEEDED + 1 };
 
 /* The value of a byte that a call must not write. */
 enum { UNTOUCHED = 0xa5 };
@@ -424,11 +424,12 @@ static void reserve_many_devices(uint32_t first) {
 /* ---- Texts ---- */
 
 static const char SPACE[] =
-    "{\"address_space\":{\"end\":19,\"start\":16},\"interval_tree\":{\"root\":{\"height\":1,"
-    "\"key\":{\"end\":19,\"start\":16},\"left\":null,\"node_state\":\"Free\",\"right\":null}}}";
+    "{\"address_space\":{\"start\":16,\"end\":19},\"interval_tree\":{\"root\":"
+    "{\"key\":{\"start\":16,\"end\":19},\"node_state\":\"Free\",\"left\":null,\"right\":null,"
+    "\"height\":1}}}";
 static const char EMPTY[] =
     "{\"address_space\":{\"end\":19,\"start\":16},\"interval_tree\":{\"root\":null}}";
-static const char IDS[] = "{\"freed_ids\":[5],\"next_id\":7,\"range_base\":5,\"range_end\":23}";
+static const char IDS[] = "{\"range_base\":5,\"next_id\":7,\"range_end\":23,\"freed_ids\":[5]}";
 
 static void save_spaces(void) {
     dvs_address_allocator *space, *again;
@@ -481,6 +482,92 @@ static void save_devices(void) {
     dvs_device_manager_destroy(manager);
     REFUSED(DVS_NOT_JSON, dvs_device_manager *, dvs_device_manager_read(text, length - 1, &answer));
     dvs_text_destroy(text);
+}
+
+/* ---- Texts that are not read ---- */
+
+/* Checks why a text was not read. */
+static void check_fault(dvs_text_fault fault, size_t offset, const char *field,
+                        const char *reason) {
+    CHECK(fault.offset == offset && strstr(fault.reason, reason) != NULL);
+    CHECK((field == NULL) == (fault.field == NULL));
+    CHECK(field == NULL || strcmp(field, fault.field) == 0);
+}
+
+/* Texts of ids, each with its status and the fault. */
+static const struct {
+    const char *text;
+    dvs_status status;
+    size_t offset;
+    const char *field, *reason;
+} faults[] = {
+    {"", DVS_NOT_JSON, 0, NULL, "a value"},
+    {"[", DVS_NOT_JSON, 1, NULL, "a value"},
+    {"{\"next_id\":01}", DVS_NOT_JSON, 12, NULL, "a comma"},
+    {"{\"next_id\":\"\\ud800\"}", DVS_NOT_JSON, 13, NULL, "an escape"},
+    {"{\"base\":1e999}", DVS_NOT_JSON, 8, NULL, "greater than any double"},
+    {"{\"base\" 5}", DVS_NOT_JSON, 8, NULL, "a colon"},
+    {"{\"range_base\":5 \xff}", DVS_NOT_JSON, 16, NULL, "UTF-8"},
+    {"{\"range_base\":5} x", DVS_NOT_JSON, 17, NULL, "the end"},
+    {"7", DVS_NOT_A_STATE, 0, NULL, "an object"},
+    {" {\"range_base\":5, \"base\":5}", DVS_NOT_A_STATE, 18, NULL, "unknown"},
+    {"{\"range_base\":5}", DVS_NOT_A_STATE, 16, "range_end", "missing"},
+    {"{\"range_base\":5,\"range_base\":5}", DVS_NOT_A_STATE, 16, "range_base", "duplicate"},
+    {"{\"range_base\":null}", DVS_NOT_A_STATE, 14, "range_base", "a whole number"},
+    {"{\"range_base\":4294967296}", DVS_NOT_A_STATE, 14, "range_base", "in its range"},
+    {"{\"freed_ids\":{}}", DVS_NOT_A_STATE, 13, "freed_ids", "a list"},
+    {"{\"freed_ids\":[6,6]}", DVS_NOT_A_STATE, 17, "freed_ids", "ascend"},
+    {"{\"range_base\":5,\"next_id\":7,\"range_end\":4,\"freed_ids\":[]}", DVS_NOT_A_STATE, 57, NULL,
+     "range_base is past range_end"},
+};
+
+static void tell_faults(void) {
+    static const char unknown[] = "{\"address_space\":{\"start\":1,\"end\":0}}";
+    dvs_address_allocator *space;
+    dvs_text_fault fault;
+    size_t i;
+
+    for (i = 0; i < sizeof faults / sizeof faults[0]; i++) {
+        const char *text = faults[i].text;
+
+        REFUSED(faults[i].status, dvs_id_allocator *,
+                dvs_id_allocator_read_within(text, strlen(text), NULL, &answer, &fault));
+        check_fault(fault, faults[i].offset, faults[i].field, faults[i].reason);
+        REFUSED(faults[i].status, dvs_id_allocator *,
+                dvs_id_allocator_read(text, strlen(text), &answer));
+    }
+    REFUSED(DVS_NOT_A_STATE, dvs_address_allocator *,
+            dvs_address_allocator_read_within(unknown, strlen(unknown), NULL, &answer, &fault));
+    check_fault(fault, 36, "address_space", "range");
+    REFUSED(DVS_NOT_A_STATE, dvs_device_manager *,
+            dvs_device_manager_read_within(SPACE, strlen(SPACE), NULL, &answer, &fault));
+    check_fault(fault, 1, NULL, "unknown");
+    memset(&fault, UNTOUCHED, sizeof fault);
+    CHECK(dvs_address_allocator_read_repaired_within(EMPTY, strlen(EMPTY), NULL, &space, &fault) ==
+          DVS_OK);
+    CHECK(is_untouched(&fault, sizeof fault));
+    dvs_address_allocator_destroy(space);
+}
+
+/* A value of the space is nested five deep: the object, the tree, the root, the key and a number.
+ */
+static void keep_limits(void) {
+    dvs_text_limits limits = {0, 0};
+    dvs_address_allocator *space;
+    dvs_text_fault fault;
+
+    limits.length = strlen(SPACE);
+    limits.depth = 5;
+    CHECK(dvs_address_allocator_read_within(SPACE, strlen(SPACE), &limits, &space, NULL) == DVS_OK);
+    dvs_address_allocator_destroy(space);
+    limits.depth = 4;
+    REFUSED(DVS_LIMIT_EXCEEDED, dvs_address_allocator *,
+            dvs_address_allocator_read_within(SPACE, strlen(SPACE), &limits, &answer, &fault));
+    check_fault(fault, 79, NULL, "nested");
+    limits.length--;
+    REFUSED(DVS_LIMIT_EXCEEDED, dvs_address_allocator *,
+            dvs_address_allocator_read_within(SPACE, strlen(SPACE), &limits, &answer, &fault));
+    check_fault(fault, limits.length, NULL, "long");
 }
 
 /* Checks lengths that no object can have. The library must not read past the text. */
@@ -539,6 +626,10 @@ static void give_null_spaces(void) {
     IS_NULL(dvs_address_allocator_save(space, &text, NULL));
     IS_NULL(dvs_address_allocator_read(NULL, 0, &space));
     IS_NULL(dvs_address_allocator_read("", 0, NULL));
+    IS_NULL(dvs_address_allocator_read_within(NULL, 0, NULL, &space, NULL));
+    IS_NULL(dvs_address_allocator_read_within("", 0, NULL, NULL, NULL));
+    IS_NULL(dvs_address_allocator_read_repaired_within(NULL, 0, NULL, &space, NULL));
+    IS_NULL(dvs_address_allocator_read_repaired_within("", 0, NULL, NULL, NULL));
     IS_NULL(dvs_address_allocator_read_repaired(NULL, 0, &space));
     IS_NULL(dvs_address_allocator_read_repaired("", 0, NULL));
     CHECK(dvs_range_count(space, &count) == DVS_OK && count == 0);
@@ -570,6 +661,8 @@ static void give_null_ids(void) {
     IS_NULL(dvs_id_allocator_save(ids, &text, NULL));
     IS_NULL(dvs_id_allocator_read(NULL, 0, &ids));
     IS_NULL(dvs_id_allocator_read("", 0, NULL));
+    IS_NULL(dvs_id_allocator_read_within(NULL, 0, NULL, &ids, NULL));
+    IS_NULL(dvs_id_allocator_read_within("", 0, NULL, NULL, NULL));
     CHECK(dvs_id_count(ids, &count) == DVS_OK && count == 0);
     dvs_id_allocator_destroy(ids);
 }
@@ -599,6 +692,8 @@ static void give_null_managers(void) {
     IS_NULL(dvs_device_manager_save(manager, &text, NULL));
     IS_NULL(dvs_device_manager_read(NULL, 0, &manager));
     IS_NULL(dvs_device_manager_read("", 0, NULL));
+    IS_NULL(dvs_device_manager_read_within(NULL, 0, NULL, &manager, NULL));
+    IS_NULL(dvs_device_manager_read_within("", 0, NULL, NULL, NULL));
     dvs_text_destroy(NULL);
     CHECK(dvs_device_reserve_first(manager, 10, 1, &device, NULL) == DVS_OK && device.id == 0);
     dvs_device_manager_destroy(manager);
@@ -629,6 +724,7 @@ static const struct text {
     {DVS_NOT_JSON, "The text is not JSON."},
     {DVS_NOT_A_STATE, "The value does not encode a valid object."},
     {DVS_INVALID_POLICY, "The policy is not valid."},
+    {DVS_LIMIT_EXCEEDED, "The text exceeds a limit."},
     /* Numbers that are not a status. */
     {(dvs_status)STATUSES, "Unknown status."},
     {(dvs_status)99, "Unknown status."},
@@ -671,6 +767,8 @@ int main(void) {
     save_spaces();
     save_ids();
     save_devices();
+    tell_faults();
+    keep_limits();
     give_great_lengths();
     give_null_spaces();
     give_null_ids();

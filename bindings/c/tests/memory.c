@@ -1,7 +1,7 @@
 /*
  * Fails each allocation of each call in turn. The call must return
  * DVS_OUT_OF_MEMORY, free what it has allocated, and change nothing. It also
- * measures the memory that reading a text allocates.
+ * measures the memory that texts allocate.
  *
  * The linker option --wrap directs all allocations to this file.
  */
@@ -362,11 +362,11 @@ static const struct call {
     {"first", allocate_first, 2},
     {"last", allocate_last, 2},
     {"exact", allocate_exact, 2},
-    {"save a space", save_space, 40},
-    {"save ids", save_ids, 2},
-    {"save a manager", save_manager, 10},
-    {"read a space", read_space, 40},
-    {"repair a space", read_space_repaired, 40},
+    {"save a space", save_space, 3},
+    {"save ids", save_ids, 4},
+    {"save a manager", save_manager, 2},
+    {"read a space", read_space, 15},
+    {"repair a space", read_space_repaired, 15},
     {"with ranges", make_with_held, 7},
     {"several requests", allocate_all, 5},
     {"free an id", free_id, 1},
@@ -375,7 +375,7 @@ static const struct call {
     {"reserve first", reserve_first, 1},
     {"reserve last", reserve_last, 1},
     {"reserve exactly", reserve_exact, 1},
-    {"read a manager", read_manager, 40},
+    {"read a manager", read_manager, 15},
 };
 
 /* Fails each allocation of a call in turn, until a run has no failed allocation. */
@@ -402,61 +402,70 @@ static void refuse_in_turn(const struct call *call) {
     CHECK(number > call->requests);
 }
 
-/* ---- The memory for reading ---- */
+/* ---- The memory for texts ---- */
 
-/*
- * The limit of the header: reading a text allocates less than this number times
- * its length. A level of brackets has two bytes and allocates 128. With the
- * word that glibc adds, and its rounding, it allocates 144, or 160 if the rest
- * of a block would be too small.
- */
-enum { TIMES = 80 };
+/* The number of ranges of a space, each with a gap after it. */
+enum { RANGES = 20000 };
 
-/* The values that allocate the most memory for their length. */
-static const struct nesting {
-    const char *open, *inmost, *close;
-} nestings[] = {
-    {"[", "0", "]"},      {"[", "[]", "]"},          {"[", "\"a\"", "]"},
-    {"{\"\":", "0", "}"}, {"{\"a\":", "\"a\"", "}"},
-};
+/* The maximum number of bytes for each range, which is below the limit of the header. */
+enum { BYTES_OF_RANGE = 60 };
 
-/* Reads an array of `count` nested values. Returns the allocated bytes per byte of the text. */
-static double read_nested(const struct nesting *nesting, int depth, int count) {
-    static char text[1 << 16];
-    dvs_address_allocator *made;
-    size_t length, before = bytes;
-    char *end = text;
-    int i, level;
+/* Returns the space with all ranges. */
+static dvs_address_allocator *many_ranges(void) {
+    dvs_address_allocator *many;
+    dvs_range range;
+    int i;
 
-    for (i = 0; i < count; i++) {
-        *end++ = i == 0 ? '[' : ',';
-        for (level = 0; level < depth; level++)
-            end += sprintf(end, "%s", nesting->open);
-        end += sprintf(end, "%s", nesting->inmost);
-        for (level = 0; level < depth; level++)
-            end += sprintf(end, "%s", nesting->close);
-    }
-    *end++ = ']';
-    length = (size_t)(end - text);
-    most_bytes = bytes;
-    CHECK(dvs_address_allocator_read(text, length, &made) == DVS_NOT_A_STATE);
-    CHECK(bytes == before && most_bytes - before < TIMES * length);
-    return (double)(most_bytes - before) / (double)length;
+    CHECK(dvs_address_allocator_new(0, 8 * RANGES, &many) == DVS_OK);
+    for (i = 0; i < RANGES; i++)
+        CHECK(dvs_range_allocate_first(many, 3, 8, &range, NULL) == DVS_OK);
+    return many;
 }
 
-static void measure_reading(void) {
-    static const int depths[] = {0, 1, 2, 126}, counts[] = {1, 2, 5, 9, 33, 65};
-    double most = 0;
-    size_t i, j, k;
+/* Measures the bytes for each range, beyond the text and the object. */
+static void measure_texts(void) {
+    dvs_address_allocator *many = many_ranges(), *again;
+    size_t before = bytes, length, saving, reading, refusing;
+    char *text;
 
-    for (i = 0; i < sizeof nestings / sizeof nestings[0]; i++)
-        for (j = 0; j < sizeof depths / sizeof depths[0]; j++)
-            for (k = 0; k < sizeof counts / sizeof counts[0]; k++) {
-                double times = read_nested(&nestings[i], depths[j], counts[k]);
+    most_bytes = bytes;
+    text = saved_space(many, &length);
+    saving = (most_bytes - bytes) / RANGES;
+    dvs_address_allocator_destroy(many);
+    before = bytes;
+    most_bytes = bytes;
+    CHECK(dvs_address_allocator_read(text, length, &again) == DVS_OK);
+    reading = (most_bytes - bytes) / RANGES;
+    dvs_address_allocator_destroy(again);
+    CHECK(bytes == before);
+    /* The height of the root is the last number of the text. */
+    text[length - 4] = text[length - 4] == '1' ? '2' : '1';
+    most_bytes = bytes;
+    CHECK(dvs_address_allocator_read(text, length, &again) == DVS_NOT_A_STATE);
+    refusing = (most_bytes - before) / RANGES;
+    CHECK(bytes == before);
+    dvs_text_destroy(text);
+    printf("memory: bytes for each range: saving %lu, reading %lu, refusing %lu\n",
+           (unsigned long)saving, (unsigned long)reading, (unsigned long)refusing);
+    CHECK(saving <= BYTES_OF_RANGE && reading <= BYTES_OF_RANGE && refusing <= BYTES_OF_RANGE);
+}
 
-                most = times > most ? times : most;
-            }
-    printf("memory: reading allocates up to %.2f times the length of a text\n", most);
+/* Values of which each allocates memory for its length, if values are made of a text. */
+static const char *const deep[] = {"[[[[[[0]]]]]]", "{\"a\":{\"\":[{}]}}", "[[],[],[\"a\"]]"};
+
+/* Checks that a text that encodes no object is refused without an allocation. */
+static void refuse_without_memory(void) {
+    dvs_address_allocator *made;
+    unsigned long number;
+    size_t i;
+
+    for (i = 0; i < sizeof deep / sizeof deep[0]; i++) {
+        until_refused = 1;
+        CHECK(dvs_address_allocator_read(deep[i], strlen(deep[i]), &made) == DVS_NOT_A_STATE);
+        number = until_refused;
+        until_refused = 0;
+        CHECK(number == 1);
+    }
 }
 
 int main(void) {
@@ -467,7 +476,8 @@ int main(void) {
     for (i = 0; i < sizeof calls / sizeof calls[0]; i++)
         refuse_in_turn(&calls[i]);
     tear_down();
-    measure_reading();
+    measure_texts();
+    refuse_without_memory();
     CHECK(blocks == before);
     puts("memory: each allocation of each call failed in turn");
     return 0;

@@ -41,6 +41,11 @@ static void save() {
     CHECK(!space.make_with_held(0, 16, {range_of(1, 2), range_of(4, 4)}) && !space.save(text));
     CHECK(!copy.read(text) && copy.ranges().size() == 2);
     CHECK(copy.read("{}") == dvs::code(DVS_NOT_A_STATE) && copy.ranges().size() == 2);
+    dvs_text_fault fault;
+    dvs_text_limits limits = {text.size() - 1, 0};
+    CHECK(copy.read("{}", &fault) && fault.offset == 2 &&
+          fault.field == std::string("address_space"));
+    CHECK(copy.read(text, &fault, &limits) == dvs::code(DVS_LIMIT_EXCEEDED));
     CHECK(!ids.make(5, 9) && !ids.allocate(id) && id == 5 && !ids.allocate(id) && !ids.free(5));
     CHECK(!ids.save(text) && !ids.read(text) && ids.ids() == std::vector<uint32_t>{6});
     CHECK(!devices.make(1, 9, 0, 64) && !devices.reserve_first(8, 8, device) && device.id == 1);

@@ -281,12 +281,14 @@ class Texts:
 
 def fault(reader, text, answer):
     """Returns a description of a wrong result for a text, or None."""
-    status, saved = answer.split(b" ", 1)
+    status, offset, field, saved = answer.split(b" ", 3)
     value = parsed(text)
     state = stated(reader, value[0]) if value else None
     expected = NOT_JSON if value is None else NOT_A_STATE if state is None else OK
     if int(status) != expected:
         return f"status {int(status)} instead of {expected}"
+    if int(offset) > len(text) or expected == NOT_JSON and field != b"-":
+        return f"a fault at {int(offset)} in the field {field!r}"
     if expected == OK and stated("s" if reader == "r" else reader, parsed(saved)[0]) != state:
         return f"another object is read, and saved as {saved!r}"
     return None

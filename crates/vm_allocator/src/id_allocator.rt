@@ -202,7 +202,8 @@ impl IdAllocator {
     /// It does not visit the ids, and does not allocate memory.
     #[tactic(auto, using(crate::proofs::Ids::IdCounts::counts))]
     pub fn held_count(&self) -> u64
-        ensures { result ≡ held_count self.now }
+        ensures value { result ≡ held_count self.now }
+        ensures state { IsIdState self.now }
     {
         let ever_allocated = bound_of(self.next_id, self.range_end) - u64::from(self.range_base);
         ever_allocated - self.freed_ids.len() as u64

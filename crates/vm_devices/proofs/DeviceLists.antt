@@ -1,19 +1,20 @@
 -- The list of the devices.
-use Rattle.std.proofs.Common.{◌≡◌, ℕ, map as map_list, length, sym, ap, ◌∙◌}
-use Rattle.std.specs.Ordering.{nat_cmp}
-use Rattle.std.specs.BTreeMap.{BTreeMap, IsOrdered, btree_map_len}
+use Rattle.std.proofs.Common.{◌≡◌, ℕ, List, [], ◌∷◌, length, map as map_list, refl, sym, ap, ◌∙◌}
 use Rattle.std.specs.FinMap as map
+use Rattle.vm_allocator.proofs.Callers.{keys_rise}
+use Rattle.vm_allocator.specs.Ids.{held_count}
 use Rattle.vm_ranges.specs.Range.{Range}
-use Rattle.vm_allocator.proofs.Callers.{entries_of_sorted}
-use Rattle.vm_devices.specs.Queries.{device_of}
+use Rattle.vm_devices.specs.Devices.{DeviceState, IsDeviceState}
+use Rattle.vm_devices.specs.Queries.{device_of, entry_of}
+use Rattle.vm_devices.proofs.AllHeld.{all_paired}
+use Rattle.vm_devices.proofs.StartTables.{whole_map}
 
--- ---- A table
-pub slots_listed : (slots : BTreeMap ℕ Range) (devices : map.FinMap nat_cmp Range) → IsOrdered nat_cmp slots → map.from_entries slots.entries ≡ devices →
-    map_list device_of slots.entries ≡ map_list device_of (map.entries devices)
-slots_listed slots devices o e = ap (map_list device_of) (sym (entries_of_sorted slots.entries o) ∙ ap map.entries e)
+pub entries_again : (es : List (ℕ × Range)) → map_list entry_of (map_list device_of es) ≡ es
+entries_again [] = refl
+entries_again (e ∷ es) = ap (λ (v : List (ℕ × Range)). e ∷ v) (entries_again es)
 
-pub slots_counted : (slots : BTreeMap ℕ Range) (devices : map.FinMap nat_cmp Range) → IsOrdered nat_cmp slots → map.from_entries slots.entries ≡ devices →
-    btree_map_len slots ≡ map.len devices
-slots_counted slots devices o e = ap length (sym (entries_of_sorted slots.entries o) ∙ ap map.entries e) ∙ sym (map.len-entries devices)
-
-pub ruleset lists = (slots_listed, slots_counted)
+-- There are as many devices as held ids.
+pub devices_counted : (state : DeviceState) → IsDeviceState state → held_count state.ids ≡ map.len state.devices
+devices_counted state i =
+    let all = all_paired state (map.entries state.devices) (sym (whole_map state.devices)) (keys_rise state.devices) i.space i.pairs in
+    sym (map.len-entries state.devices ∙ all.ids_counted)

@@ -37,10 +37,10 @@ pub rest_increases : (e : ℕ × Range) (es : List (ℕ × Range)) → Rise (e �
 unfolding IsStrictlySortedBy
 rest_increases e es s = s.1
 
-tied : (q k : ℕ) → q ≡ k → eq_by_cmp nat_cmp q k ≡ true
+pub tied : (q k : ℕ) → q ≡ k → eq_by_cmp nat_cmp q k ≡ true
 tied q k e = unsigned_tied q k ∙ eq-eqb q k e
 
-not_tied : (q k : ℕ) → ¬ (q ≡ k) → eq_by_cmp nat_cmp q k ≡ false
+pub not_tied : (q k : ℕ) → ¬ (q ≡ k) → eq_by_cmp nat_cmp q k ≡ false
 not_tied q k n = unsigned_tied q k ∙ ne_eqb q k n
 
 pub found_entry : (es : List (ℕ × Range)) (id : ℕ) (r : Range) → map.find nat_cmp id es ≡ Some r → IsEntry es id r

@@ -25,7 +25,7 @@ above : (n lowest : ℕ) (es : List (ℕ × Range)) → n + 1 ≤ lowest → Inc
 above n lowest [] p r = tt
 above n lowest (e ∷ es) p r = let l = r.0 in (less n e.0 (omega arith), above n (e.0 + 1) es (omega arith) r.1)
 
-sorted : (lowest : ℕ) (es : List (ℕ × Range)) → IncreaseFrom lowest es → IsStrictlySortedBy nat_cmp (keys_of es)
+pub sorted : (lowest : ℕ) (es : List (ℕ × Range)) → IncreaseFrom lowest es → IsStrictlySortedBy nat_cmp (keys_of es)
 unfolding IsStrictlySortedBy
 sorted lowest [] r = tt
 sorted lowest (e ∷ es) r = (above e.0 (e.0 + 1) es (omega arith) r.1, sorted (e.0 + 1) es r.1)

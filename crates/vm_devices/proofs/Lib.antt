@@ -24,3 +24,6 @@ pub mod DeviceStarts
 pub mod ComparedManagers
 pub mod DeviceAtAddress
 pub mod DeviceQueries
+pub mod Slots
+pub mod ListedDevices
+pub mod ListedManagers

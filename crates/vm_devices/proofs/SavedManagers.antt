@@ -2,7 +2,6 @@
 use Rattle.std.proofs.Common.{◌≡◌, ℕ, ◌==◌, List, Some, Result, Ok, Err, inl, inr, ◌⊎◌, option_and_then, codes, refl, sym, ap, ◌∙◌}
 use Rattle.std.proofs.lemmas.Bool.{eqb-true}
 use Rattle.std.proofs.lemmas.Option.{same_Some}
-use Rattle.std.specs.BTreeMap.{BTreeMap}
 use Rattle.std.specs.List.Sorted.{IsStrictlySortedBy}
 use Rattle.std.specs.Map.{keys_of}
 use Rattle.std.specs.Ordering.{nat_cmp}
@@ -21,14 +20,14 @@ use Rattle.vm_allocator.specs.Values.AllocatorValues.{EncodesAllocator, EncodesA
 use Rattle.vm_allocator.specs.Values.IdValues.{EncodesIds}
 use Rattle.vm_ranges.specs.declared.saved.ValueError.{ValueError}
 use Rattle.vm_ranges.specs.declared.saved.ValueError.TheVariants.{NotAState, OutOfMemory}
-use Rattle.vm_allocator.proofs.Callers.{ids_again, ids_encoded, addresses_again, addresses_encoded}
+use Rattle.vm_allocator.proofs.Callers.{ids_again, ids_encoded, addresses_again, addresses_encoded, keys_rise}
 use Rattle.vm_devices.specs.Devices.{DeviceState, IsDeviceState, devices_of}
 use Rattle.vm_devices.specs.Saved.{EncodesDevice, EncodesList, EncodesManager, ReadsInParts}
 use Rattle.vm_devices.specs.Laws.{ManagerIsReadAgain}
 use Rattle.vm_devices.specs.SavedChecks.{AreAllHeld, FindsPaired, ManagerParts}
 use Rattle.vm_devices.proofs.AllHeld.{pairs_all, all_paired}
 use Rattle.vm_devices.proofs.SavedDevices.{increasing-states}
-use Rattle.vm_devices.proofs.IncreasingIds.{increasing_sorted}
+use Rattle.vm_devices.proofs.StartTables.{whole_map}
 use Rattle.vm_devices.proofs.ManagerFields.{parts_of, fields_found, ReadOf, its_ids, its_space, its_slots}
 
 -- ---- Both allocators were read
@@ -48,20 +47,20 @@ module _ {d : Data} (r : ReadOf d) where
   devices_refused OutOfMemory found = tt
 
   -- The manager that is read is the manager that the value encodes.
-  module _ (table : BTreeMap ℕ Range) (paired : FindsPaired r.ids r.space r.fields.slots (Ok table)) where
-    increasing : IsStrictlySortedBy nat_cmp (keys_of table.entries)
-    increasing = increasing_sorted r.fields.slots table.entries paired.0
+  module _ (table : map.FinMap nat_cmp Range) (paired : FindsPaired r.ids r.space r.fields.slots (Ok table)) where
+    increasing : IsStrictlySortedBy nat_cmp (keys_of (map.entries table))
+    increasing = keys_rise table
 
-    pub read_state : IsDeviceState (devices_of r.ids r.space (map.from_entries table.entries))
+    pub read_state : IsDeviceState (devices_of r.ids r.space table)
     read_state =
         let space = addresses_encoded r.fields.space r.space r.space_encoded in
         record {
           ids = ids_encoded r.fields.ids r.ids r.ids_encoded;
           space = space;
-          pairs = pairs_all (devices_of r.ids r.space (map.from_entries table.entries)) table.entries refl increasing space paired.1;
+          pairs = pairs_all (devices_of r.ids r.space table) (map.entries table) (sym (whole_map table)) increasing space paired.1;
         }
 
-    pub manager_read : EncodesManager d (devices_of r.ids r.space (map.from_entries table.entries))
+    pub manager_read : EncodesManager d (devices_of r.ids r.space table)
     manager_read =
         let f = r.fields in
         let found : Data × Data × Items = (f.ids, f.space, f.slots) in
@@ -75,16 +74,16 @@ module _ {d : Data} (r : ReadOf d) where
         let at_ids : x.0 ≡ f.ids = ap (λ (p : Data × Data × Items). p.0) z.2 in
         let at_space : y.0 ≡ f.space = ap (λ (p : Data × Data × Items). p.1) z.2 in
         let at_slots : z.0 ≡ f.slots = ap (λ (p : Data × Data × Items). p.2) z.2 in
-        let devices = list_encoded EncodesDevice list.0 f.slots table.entries (list.2 ∙ ap Some at_slots) (increasing-states 0 f.slots table.entries paired.0) in
+        let devices = list_encoded EncodesDevice list.0 f.slots (map.entries table) (list.2 ∙ ap Some at_slots) (increasing-states 0 f.slots (map.entries table) paired.0) in
         record {
           four_fields = count-true 4 (field_count d) four.0;
           version = version.1 ∙ ap Some (eqb-true version.0 1 one.0);
           id_allocator = field_is (codes "id_allocator") d f.ids (λ v. EncodesIds v r.ids) (x.1 ∙ ap Some at_ids) r.ids_encoded;
           mmio_allocator = field_is (codes "mmio_allocator") d f.space (λ v. EncodesAddresses v r.space) (y.1 ∙ ap Some at_space) r.space_encoded;
-          listed = table.entries;
-          slots = field_is (codes "slots") d list.0 (λ v. EncodesList v table.entries) list.1 devices;
+          listed = map.entries table;
+          slots = field_is (codes "slots") d list.0 (λ v. EncodesList v (map.entries table)) list.1 devices;
           increasing = increasing;
-          devices = refl;
+          devices = sym (whole_map table);
           pairs = read_state.pairs;
         }
 
@@ -115,17 +114,17 @@ pub manager_again : ManagerIsReadAgain
 manager_again = record { one = one_manager; again = read_again }
 
 -- ---- A written value encodes the manager
-pub manager_written : {d ids space slots : Data} {i : IdState} {a : SpaceInTree} (table : BTreeMap ℕ Range) → ManagerParts d ids space slots →
-    EncodesIds ids i → EncodesAllocator space a → EncodesList slots table.entries → IsStrictlySortedBy nat_cmp (keys_of table.entries) →
-    IsDeviceState (devices_of i (state_of a) (map.from_entries table.entries)) → EncodesManager d (devices_of i (state_of a) (map.from_entries table.entries))
-manager_written {d} {ids} {space} {slots} {i} {a} table p is held ss rise state = record {
+pub manager_written : {d ids space slots : Data} {i : IdState} {a : SpaceInTree} (table : map.FinMap nat_cmp Range) → ManagerParts d ids space slots →
+    EncodesIds ids i → EncodesAllocator space a → EncodesList slots (map.entries table) →
+    IsDeviceState (devices_of i (state_of a) table) → EncodesManager d (devices_of i (state_of a) table)
+manager_written {d} {ids} {space} {slots} {i} {a} table p is held ss state = record {
   four_fields = p.four_fields;
   version = p.version_is;
   id_allocator = field_is (codes "id_allocator") d ids (λ v. EncodesIds v i) p.ids_is is;
   mmio_allocator = field_is (codes "mmio_allocator") d space (λ v. EncodesAddresses v (state_of a)) p.space_is (record { allocator = a; encoded = held; is = refl });
-  listed = table.entries;
-  slots = field_is (codes "slots") d slots (λ v. EncodesList v table.entries) p.slots_is ss;
-  increasing = rise;
-  devices = refl;
+  listed = map.entries table;
+  slots = field_is (codes "slots") d slots (λ v. EncodesList v (map.entries table)) p.slots_is ss;
+  increasing = keys_rise table;
+  devices = sym (whole_map table);
   pairs = state.pairs;
 }

@@ -8,6 +8,7 @@ use Rattle.std.specs.Map.{lookup}
 use Rattle.std.specs.BTreeMap.{BTreeMap, is_at, IsEmpty, IsUnchanged, Updates}
 use Rattle.std.specs.FinMap as map
 use Rattle.vm_ranges.specs.Range.{Range}
+use Rattle.vm_allocator.proofs.Callers.{keys_rise, entries_of_sorted}
 use Rattle.vm_devices.specs.Checks.{StartsAt, AreIdsByStart, IsNew, HaveDifferentStarts}
 use Rattle.vm_devices.proofs.Tables.{table, seen, table_with, table_without, no_entries, with_here, with_other, without_here, without_other}
 use Rattle.vm_devices.proofs.Entries.{IsEntry, Rise, found_entry, entry_found}
@@ -17,6 +18,9 @@ one_value {x = x} {y = y} e f = same_Some x y (sym e ∙ f)
 
 no_value : {X : Type 0} {x : X} {o : Option X} → o ≡ None → ¬ (o ≡ Some x)
 no_value {X} {x} e f = let n : None ≡ Some x = sym e ∙ f in absurd (cc (n))
+
+pub whole_map : (m : map.FinMap nat_cmp Range) → map.from_entries (map.entries m) ≡ m
+whole_map m = map.same_entries_map _ _ (entries_of_sorted (map.entries m) (keys_rise m))
 
 -- ---- No devices
 pub no_starts : AreIdsByStart map.empty map.empty
@@ -104,55 +108,44 @@ module _ (devices : map.FinMap nat_cmp Range) (ids : map.FinMap nat_cmp ℕ) (id
       ))
       (cases_eq start r.start)
 
--- A map without this key does not change.
-pub none_removed : {X : Type 0} (m : map.FinMap nat_cmp X) (k : ℕ) → map.get m k ≡ None → map.remove m k ≡ m
-none_removed m k n =
-    map.same_map nat_cmp_total map.nat_cmp-IsAntisymmetric (map.remove m k) m (λ q.
-    ⊎_elim
-    (λ (e : q ≡ k). subst (λ (v : ℕ). map.get (map.remove m k) v ≡ map.get m v) (sym e) (without_here m k ∙ sym n))
-    (λ (o : q ≡ k → ⊥). without_other m k q o)
-    (cases_eq q k))
-
 -- ---- The two tables of the code
 -- The ids are those of the table by the starts of its ranges.
-abbrev pub Match : BTreeMap ℕ Range → BTreeMap ℕ ℕ → Type 0
-Match slots ids = AreIdsByStart (table slots) (table ids)
+abbrev pub Match : map.FinMap nat_cmp Range → BTreeMap ℕ ℕ → Type 0
+Match slots ids = AreIdsByStart slots (table ids)
 
 same_entries : {X : Type 0} (old new : BTreeMap ℕ X) → IsUnchanged old new → table new ≡ table old
 same_entries {X} old new e = ap (λ (es : List (ℕ × X)). map.from_entries {R = nat_cmp} es) e
 
-pub new_match : (slots : BTreeMap ℕ Range) (ids : BTreeMap ℕ ℕ) → IsEmpty slots → IsEmpty ids → Match slots ids
-new_match slots ids e f = rw (no_entries slots e, no_entries ids f) no_starts
+pub new_match : (slots : map.FinMap nat_cmp Range) (ids : BTreeMap ℕ ℕ) → slots ≡ map.empty → IsEmpty ids → Match slots ids
+new_match slots ids e f = rw (e, no_entries ids f) no_starts
 
-pub kept_match : (slots left : BTreeMap ℕ Range) (ids later : BTreeMap ℕ ℕ) → Match slots ids → IsUnchanged slots left → IsUnchanged ids later → Match left later
-kept_match slots left ids later a e f = rw (same_entries slots left e, same_entries ids later f) a
+pub kept_match : (slots left : map.FinMap nat_cmp Range) (ids later : BTreeMap ℕ ℕ) → Match slots ids → left ≡ slots → IsUnchanged ids later → Match left later
+kept_match slots left ids later a e f = rw (e, same_entries ids later f) a
 
 -- A table before a call, and the device that the call inserts.
-pub record IsEntering (slots : BTreeMap ℕ Range) (ids : BTreeMap ℕ ℕ) (id start : ℕ) (r : Range) : Type 0 where
+pub record IsEntering (slots : map.FinMap nat_cmp Range) (ids : BTreeMap ℕ ℕ) (id start : ℕ) (r : Range) : Type 0 where
   pub now : map.FinMap nat_cmp Range
-  pub seen_as : table slots ≡ now
+  pub seen_as : slots ≡ now
   pub start_is : start ≡ r.start
   pub matched : Match slots ids
   pub new : IsNew now id r.start
 
-new_start : {slots : BTreeMap ℕ Range} {ids : BTreeMap ℕ ℕ} {id start : ℕ} {r : Range} → IsEntering slots ids id start r → IsNew (table slots) id start
+new_start : {slots : map.FinMap nat_cmp Range} {ids : BTreeMap ℕ ℕ} {id start : ℕ} {r : Range} → IsEntering slots ids id start r → IsNew slots id start
 new_start {id = id} h = rw (h.seen_as, h.start_is) h.new
 
-pub entered_match : {slots : BTreeMap ℕ Range} {ids : BTreeMap ℕ ℕ} {id start : ℕ} {r : Range} (with_it : BTreeMap ℕ Range) (with_id : BTreeMap ℕ ℕ) → IsEntering slots ids id start r →
-    Updates nat_cmp slots with_it id (Some r) → Updates nat_cmp ids with_id start (Some id) → Match with_it with_id
+pub entered_match : {slots : map.FinMap nat_cmp Range} {ids : BTreeMap ℕ ℕ} {id start : ℕ} {r : Range} (with_it : map.FinMap nat_cmp Range) (with_id : BTreeMap ℕ ℕ) → IsEntering slots ids id start r →
+    with_it ≡ map.insert slots id r → Updates nat_cmp ids with_id start (Some id) → Match with_it with_id
 entered_match {slots} {ids} {id} {start} {r} with_it with_id h u v =
-    rw (table_with slots with_it id r u, table_with ids with_id start id v, h.start_is)
-    (ids_with (table slots) (table ids) id h.matched r (rw (h.seen_as) h.new))
+    rw (u, table_with ids with_id start id v, h.start_is) (ids_with slots (table ids) id h.matched r (rw (h.seen_as) h.new))
 
-pub undone_match : {slots : BTreeMap ℕ Range} {ids : BTreeMap ℕ ℕ} {id start : ℕ} {r : Range} (left : BTreeMap ℕ Range) (mid later : BTreeMap ℕ ℕ) → IsEntering slots ids id start r →
-    IsUnchanged slots left → Updates nat_cmp ids mid start (Some id) → Updates nat_cmp mid later start None → Match left later
+pub undone_match : {slots : map.FinMap nat_cmp Range} {ids : BTreeMap ℕ ℕ} {id start : ℕ} {r : Range} (left : map.FinMap nat_cmp Range) (mid later : BTreeMap ℕ ℕ) → IsEntering slots ids id start r →
+    left ≡ slots → Updates nat_cmp ids mid start (Some id) → Updates nat_cmp mid later start None → Match left later
 undone_match {slots} {ids} {id} {start} {r} left mid later h e u v =
-    rw (same_entries slots left e, table_without mid later start v, table_with ids mid start id u, start_removed (table slots) (table ids) id h.matched start (new_start h)) h.matched
+    rw (e, table_without mid later start v, table_with ids mid start id u, start_removed slots (table ids) id h.matched start (new_start h)) h.matched
 
-pub left_match : (slots without : BTreeMap ℕ Range) (ids later : BTreeMap ℕ ℕ) (id start : ℕ) (r : Range) → Match slots ids → Some r ≡ lookup (is_at (nat_cmp id)) slots.entries → start ≡ r.start →
-    Updates nat_cmp slots without id None → Updates nat_cmp ids later start None → Match without later
-left_match slots without ids later id start r a d e u v =
-    rw (table_without slots without id u, table_without ids later start v, e) (ids_without (table slots) (table ids) id r a (seen slots id ∙ sym d))
+pub left_match : (slots without : map.FinMap nat_cmp Range) (ids later : BTreeMap ℕ ℕ) (id start : ℕ) (r : Range) → Match slots ids → map.get slots id ≡ Some r → start ≡ r.start →
+    without ≡ map.remove slots id → Updates nat_cmp ids later start None → Match without later
+left_match slots without ids later id start r a d e u v = rw (u, table_without ids later start v, e) (ids_without slots (table ids) id r a d)
 
 -- ---- The ids of a list of entries
 -- The ids are those of the entries, by the starts of their ranges.
@@ -218,12 +211,13 @@ more_ids {all} {es} {rest} {e} old new start n s u h q id =
     ))
     (cases_eq q start))
 
-pub all_ids : (slots : BTreeMap ℕ Range) (ids : BTreeMap ℕ ℕ) (es : List (ℕ × Range)) → Rise slots.entries → es ≡ slots.entries → IdsOf es (table ids) → Match slots ids
-all_ids slots ids es s e h start id = (
+pub all_ids : (slots : map.FinMap nat_cmp Range) (ids : BTreeMap ℕ ℕ) (es : List (ℕ × Range)) → es ≡ map.entries slots → IdsOf es (table ids) → Match slots ids
+all_ids slots ids es e h start id = (
   λ g.
       let f = (h start id).0 g in
-      subst (StartsAt (table slots) id) f.2 (entry_start slots.entries id f.0 s (subst (λ (l : List (ℕ × Range)). IsEntry l id f.0) e f.1)),
+      let starts = entry_start (map.entries slots) id f.0 (keys_rise slots) (subst (λ (l : List (ℕ × Range)). IsEntry l id f.0) e f.1) in
+      subst (StartsAt slots id) f.2 (subst (λ (m : map.FinMap nat_cmp Range). StartsAt m id f.0.start) (whole_map slots) starts),
   λ g.
-      (h start id).1
-      (g.range, subst (λ (l : List (ℕ × Range)). IsEntry l id g.range) (sym e) (found_entry slots.entries id g.range (sym (map.get-from_entries nat_cmp_total slots.entries id) ∙ g.found)), g.start_is),
+      let found = sym (map.get-from_entries nat_cmp_total (map.entries slots) id) ∙ ap (λ (m : map.FinMap nat_cmp Range). map.get m id) (whole_map slots) ∙ g.found in
+      (h start id).1 (g.range, subst (λ (l : List (ℕ × Range)). IsEntry l id g.range) (sym e) (found_entry (map.entries slots) id g.range found), g.start_is),
 )

@@ -5,3 +5,5 @@ pub mod Saved
 pub mod SavedChecks
 pub mod Queries
 pub mod Checks
+pub mod Slots
+pub mod Listed

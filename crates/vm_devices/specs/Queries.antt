@@ -17,6 +17,10 @@ use Rattle.vm_devices.specs.Devices.{DeviceState, IsDevice}
 abbrev pub device_of : ℕ × Range → DeviceSlot
 device_of entry = record { id = entry.0; range = entry.1 }
 
+-- The id and the range of a device, as a pair.
+abbrev pub entry_of : DeviceSlot → ℕ × Range
+entry_of device = (device.id, device.range)
+
 -- The devices, by increasing ids.
 abbrev pub device_list : DeviceState → List DeviceSlot
 device_list state = map_list device_of (map.entries state.devices)

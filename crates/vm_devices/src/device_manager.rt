@@ -26,11 +26,12 @@ use vm_allocator::{AddressAllocator, AllocPolicy, Error, IdAllocator, RangeInclu
 
 mod comparing;
 mod device_table;
+mod slots;
 mod queries;
 mod saved;
 
 use self::device_table::DeviceTable;
-pub use self::queries::Devices;
+pub use self::slots::Devices;
 
 /// Reserves an id and a range of addresses for each device, both or neither.
 ///
@@ -136,7 +137,7 @@ impl DeviceManager {
     {
         let id = self.id_allocator.peek_id()?;
         let range = self.mmio_allocator.allocate(alloc, size, align, policy)?;
-        if let Err(refused) = self.slots.insert(id, range) {
+        if let Err(refused) = self.slots.insert(alloc, id, range) {
             // Freeing an allocated range always succeeds.
             let _ = self.mmio_allocator.free(&range);
             return Err(refused.into());
@@ -182,6 +183,6 @@ impl DeviceManager {
         ensures value { result ≡ map.get self.now.devices id }
         ensures state { IsDeviceState self.now }
     {
-        self.slots.slots().get(&id).copied()
+        self.slots.get(id)
     }
 }

@@ -34,6 +34,15 @@ impl DeviceSlot {
             range: RangeInclusive(slot.range),
         }
     }
+
+    /// Converts to a slot of the proved code.
+    #[cfg(feature = "serde")]
+    pub(crate) fn proved(self) -> proved_devices::DeviceSlot {
+        proved_devices::DeviceSlot {
+            id: self.id,
+            range: self.range.0,
+        }
+    }
 }
 
 /// Allocates an id and a range of addresses for each device. If it cannot have both, it gets

@@ -122,12 +122,10 @@
 //! the allocated ranges of a new tree. The space of a [`DeviceManager`] is read more strictly:
 //! heights must be correct, and the tree must be balanced, without gaps and free neighbours.
 //!
-//! Two limits apply before a value is checked. Nodes that are nested more than 50 deep are an
-//! error, and so is a list of more than 2^20 freed ids or devices. Writing a longer list is an
-//! error too.
+//! Nodes that are nested more than 50 deep are an error before they are checked.
 //!
-//! An address allocator is written from a list of its blocks, and read into a list of its allocated
-//! ranges, with 16 bytes per item. Ids and devices need a value of their whole content.
+//! An object is written from a list of its blocks and its freed ids, and read into lists of its
+//! allocated ranges, freed ids and devices. An item has at most 24 bytes.
 //!
 //! An error names the unknown, missing or duplicate field or the unknown variant, or the condition
 //! that the value violates.

@@ -18,11 +18,11 @@ use serde_json::{json, Value};
 #[path = "../tests/packed/mod.rs"]
 mod packed;
 
-/// Returns the number of address allocators that are damaged: 40,000, or the value of the
+/// Returns the number of objects of each kind that are damaged: 15,000, or the value of the
 /// environment variable `SAVED_ROUNDS`.
 fn rounds() -> u32 {
     let rounds = std::env::var("SAVED_ROUNDS");
-    rounds.map_or(40_000, |rounds| rounds.parse().unwrap())
+    rounds.map_or(15_000, |rounds| rounds.parse().unwrap())
 }
 
 /// A generator of pseudo-random numbers.
@@ -107,96 +107,181 @@ fn other(value: &Value, draw: &mut Draw) -> Value {
 /// Writes a value with the fields of each object in random order. Returns whether it wrote a field
 /// twice, which no value has.
 fn write_shuffled(value: &Value, draw: &mut Draw, text: &mut String) -> bool {
-    let Value::Object(fields) = value else {
-        text.push_str(&value.to_string());
-        return false;
+    let (mut parts, brackets): (Vec<(String, &Value)>, _) = match value {
+        Value::Object(fields) => {
+            let named = fields
+                .iter()
+                .map(|(name, value)| (format!("{name:?}:"), value));
+            (named.collect(), ['{', '}'])
+        }
+        Value::Array(items) => {
+            let items = items.iter().map(|item| (String::new(), item));
+            (items.collect(), ['[', ']'])
+        }
+        other => {
+            text.push_str(&other.to_string());
+            return false;
+        }
     };
-    let mut fields: Vec<_> = fields.iter().collect();
-    for place in 1..fields.len() {
-        fields.swap(place, draw.below(place as u64 + 1) as usize);
+    let mut is_twice = false;
+    if value.is_object() {
+        for place in 1..parts.len() {
+            parts.swap(place, draw.below(place as u64 + 1) as usize);
+        }
+        is_twice = draw.below(100) == 0 && !parts.is_empty();
+        if is_twice {
+            parts.push(parts[draw.below(parts.len() as u64) as usize].clone());
+        }
     }
-    let mut is_twice = draw.below(100) == 0 && !fields.is_empty();
-    if is_twice {
-        fields.push(fields[draw.below(fields.len() as u64) as usize]);
-    }
-    let mut separator = '{';
-    for (name, value) in &fields {
-        text.push_str(&format!("{separator}{name:?}:"));
+    text.push(brackets[0]);
+    for (place, (name, value)) in parts.iter().enumerate() {
+        text.push_str(if place > 0 { "," } else { "" });
+        text.push_str(name);
         is_twice |= write_shuffled(value, draw, text);
-        separator = ',';
     }
-    text.push_str(if fields.is_empty() { "{}" } else { "}" });
+    text.push(brackets[1]);
     is_twice
 }
 
-/// Checks that two readers accept the same value as the same object. Returns whether they do.
-fn is_read_by_both<T: PartialEq + Debug>(serde: Option<T>, proved: Option<T>, from: &str) -> bool {
-    assert_eq!(serde, proved, "{from}");
-    serde.is_some()
+/// A type with a proved reader.
+trait Saved: Serialize + DeserializeOwned + PartialEq + Debug {
+    /// Returns an object after some calls.
+    fn after_calls(draw: &mut Draw) -> Self;
+    /// Reads a value by the proved reader.
+    fn read(value: &rattle::Value) -> Option<Self>;
+    /// Writes a value by the proved writer.
+    fn write(&self) -> rattle::Value;
+    /// Returns the value that the next bytes encode.
+    fn value_of(bytes: &mut dyn Iterator<Item = u8>) -> Option<Value>;
 }
 
-/// Runs the rounds of one kind. At least a fifth of the values must be accepted, and a fifth
-/// rejected.
-fn damage_each(rounds: u32, mut round: impl FnMut(&mut Draw) -> bool) {
-    let mut draw = Draw(88_172_645_463_325_252);
-    let read = (0..rounds).filter(|_| round(&mut draw)).count() as u32;
-    assert!(rounds / 5 < read && read < rounds * 4 / 5, "{read}");
-}
-
-/// Returns a space of 32 addresses after some calls.
-fn some_space(draw: &mut Draw) -> AddressAllocator {
-    let base = [0, 1, 100, u64::MAX - 31][draw.below(4) as usize];
-    let mut space = AddressAllocator::new(base, 32).unwrap();
-    for _ in 0..draw.below(8) {
-        let _ = space.allocate(1 + draw.below(6), 1, AllocPolicy::FirstMatch);
-    }
-    for range in space.held_ranges().collect::<Vec<_>>() {
-        if draw.below(2) == 0 {
-            space.free(&range).unwrap();
+impl Saved for AddressAllocator {
+    /// Returns a space of 32 addresses.
+    fn after_calls(draw: &mut Draw) -> Self {
+        let base = [0, 1, 100, u64::MAX - 31][draw.below(4) as usize];
+        let mut space = AddressAllocator::new(base, 32).unwrap();
+        for _ in 0..draw.below(8) {
+            let _ = space.allocate(1 + draw.below(6), 1, AllocPolicy::FirstMatch);
         }
-    }
-    space
-}
-
-/// Reads a value by the proved reader of address allocators.
-fn read_space(value: &rattle::Value) -> Option<AddressAllocator> {
-    let read = proved::AddressAllocator::from_value_repaired(Global, value);
-    read.ok().map(AddressAllocator)
-}
-
-#[test]
-fn address_allocators_are_read_from_text_as_the_proved_reader_does() {
-    damage_each(rounds(), |draw| {
-        let space = some_space(draw);
-        let mut value = match draw.below(2) {
-            0 => serde_json::to_value(&space).unwrap(),
-            _ => serde_json::from_str(&space.0.to_value(Global).unwrap().to_string()).unwrap(),
-        };
-        for _ in 0..draw.below(4) {
-            damage(&mut value, draw);
+        for range in space.held_ranges().collect::<Vec<_>>() {
+            if draw.below(2) == 0 {
+                space.free(&range).unwrap();
+            }
         }
-        let mut text = String::new();
-        let is_twice = write_shuffled(&value, draw, &mut text);
-        let proved = read_space(&to_proved_value(&value)).filter(|_| !is_twice);
-        is_read_by_both(serde_json::from_str(&text).ok(), proved, &text)
-    });
+        space
+    }
+
+    fn read(value: &rattle::Value) -> Option<Self> {
+        let read = proved::AddressAllocator::from_value_repaired(Global, value);
+        read.ok().map(AddressAllocator)
+    }
+
+    fn write(&self) -> rattle::Value {
+        self.0.to_value(Global).unwrap()
+    }
+
+    fn value_of(bytes: &mut dyn Iterator<Item = u8>) -> Option<Value> {
+        let (space, root) = (range_of(bytes)?, subtree_of(bytes)?);
+        Some(json!({"address_space": space, "interval_tree": {"root": root}}))
+    }
 }
 
-/// Returns the range that the next bytes encode.
-fn range_of(bytes: &mut impl Iterator<Item = u8>) -> Option<Value> {
-    let [start, end] = [(); 2].map(|()| number_of(8, bytes));
-    Some(json!({"start": start?, "end": end?}))
+impl Saved for IdAllocator {
+    /// Returns an allocator of seven ids.
+    fn after_calls(draw: &mut Draw) -> Self {
+        let base = [0, 5, u32::MAX - 6][draw.below(3) as usize];
+        let mut ids = IdAllocator::new(base, base + 6).unwrap();
+        for _ in 0..draw.below(9) {
+            let _ = ids.allocate_id();
+        }
+        for _ in 0..draw.below(6) {
+            let _ = ids.free_id(base + draw.below(7) as u32);
+        }
+        ids
+    }
+
+    fn read(value: &rattle::Value) -> Option<Self> {
+        let read = proved::IdAllocator::from_value(Global, value);
+        read.ok().map(IdAllocator)
+    }
+
+    fn write(&self) -> rattle::Value {
+        self.0.to_value(Global).unwrap()
+    }
+
+    fn value_of(bytes: &mut dyn Iterator<Item = u8>) -> Option<Value> {
+        Some(json!({
+            "range_base": number_of(4, bytes)?,
+            "next_id": match bytes.next()? {
+                0 => Value::Null,
+                1 => json!(number_of(4, bytes)?),
+                _ => return None,
+            },
+            "range_end": number_of(4, bytes)?,
+            "freed_ids": list_of(bytes, |bytes| number_of(4, bytes).map(Value::from))?
+        }))
+    }
+}
+
+impl Saved for DeviceManager {
+    fn after_calls(draw: &mut Draw) -> Self {
+        let mut devices = DeviceManager::new(3, 9, 64, 64).unwrap();
+        for _ in 0..draw.below(6) {
+            let _ = devices.reserve(1 + draw.below(20), 1, AllocPolicy::FirstMatch);
+        }
+        for id in 3..9 {
+            if draw.below(3) == 0 {
+                let _ = devices.release(id);
+            }
+        }
+        devices
+    }
+
+    fn read(value: &rattle::Value) -> Option<Self> {
+        let read = proved_devices::DeviceManager::from_value(Global, value);
+        read.ok().map(DeviceManager)
+    }
+
+    fn write(&self) -> rattle::Value {
+        self.0.to_value(Global).unwrap()
+    }
+
+    fn value_of(bytes: &mut dyn Iterator<Item = u8>) -> Option<Value> {
+        Some(json!({
+            "version": number_of(8, bytes)?,
+            "id_allocator": IdAllocator::value_of(bytes)?,
+            "mmio_allocator": AddressAllocator::value_of(bytes)?,
+            "slots": list_of(bytes, |bytes| {
+                Some(json!({"id": number_of(4, bytes)?, "mmio_range": range_of(bytes)?}))
+            })?
+        }))
+    }
 }
 
 /// Returns the number that the next bytes encode.
-fn number_of(count: u32, bytes: &mut impl Iterator<Item = u8>) -> Option<u64> {
+fn number_of(count: u32, bytes: &mut dyn Iterator<Item = u8>) -> Option<u64> {
     (0..count).try_fold(0, |number, place| {
         Some(number | u64::from(bytes.next()?) << (8 * place))
     })
 }
 
+/// Returns the list that the next bytes encode.
+fn list_of(
+    bytes: &mut dyn Iterator<Item = u8>,
+    item: fn(&mut dyn Iterator<Item = u8>) -> Option<Value>,
+) -> Option<Value> {
+    let count = number_of(8, bytes)?;
+    (0..count).map(|_| item(bytes)).collect()
+}
+
+/// Returns the range that the next bytes encode.
+fn range_of(bytes: &mut dyn Iterator<Item = u8>) -> Option<Value> {
+    let [start, end] = [(); 2].map(|()| number_of(8, bytes));
+    Some(json!({"start": start?, "end": end?}))
+}
+
 /// Returns the subtree that the next bytes encode.
-fn subtree_of(bytes: &mut impl Iterator<Item = u8>) -> Option<Value> {
+fn subtree_of(bytes: &mut dyn Iterator<Item = u8>) -> Option<Value> {
     match bytes.next()? {
         0 => Some(Value::Null),
         1 => Some(json!({
@@ -210,35 +295,86 @@ fn subtree_of(bytes: &mut impl Iterator<Item = u8>) -> Option<Value> {
     }
 }
 
-#[test]
-fn address_allocators_are_read_from_bytes_as_the_proved_reader_does() {
-    damage_each(rounds(), |draw| {
-        let mut bytes = packed::to_bytes(&some_space(draw)).unwrap();
-        for _ in 0..draw.below(3) {
-            let place = draw.below(bytes.len() as u64) as usize;
-            match draw.below(16) {
-                0 => bytes.truncate(place),
-                1 => bytes[place] ^= 1 << draw.below(8),
-                _ => bytes[place] = bytes[place].wrapping_add(1 + 254 * draw.below(2) as u8),
-            }
-            bytes.push(0);
+/// Reads damaged values of one kind. At least a fifth of them must be accepted, and a fifth
+/// rejected.
+fn damage_each(mut is_read: impl FnMut(&mut Draw) -> bool) {
+    let (rounds, mut draw) = (rounds(), Draw(88_172_645_463_325_252));
+    let read = (0..rounds).filter(|_| is_read(&mut draw)).count() as u32;
+    assert!(rounds / 5 < read && read < rounds * 4 / 5, "{read}");
+}
+
+/// Damages the text of an object, and reads it with both readers, which must read the same. Returns
+/// whether it is accepted.
+fn read_text<T: Saved>(draw: &mut Draw) -> bool {
+    let object = T::after_calls(draw);
+    let mut value = match draw.below(2) {
+        0 => serde_json::to_value(&object).unwrap(),
+        _ => serde_json::from_str(&object.write().to_string()).unwrap(),
+    };
+    for _ in 0..draw.below(4) {
+        damage(&mut value, draw);
+    }
+    let mut text = String::new();
+    let is_twice = write_shuffled(&value, draw, &mut text);
+    let serde: Option<T> = serde_json::from_str(&text).ok();
+    let proved = T::read(&to_proved_value(&value)).filter(|_| !is_twice);
+    assert_eq!(serde, proved, "{text}");
+    serde.is_some()
+}
+
+/// Damages the bytes of an object, and reads them with both readers, like [`read_text`].
+fn read_bytes<T: Saved>(draw: &mut Draw) -> bool {
+    let mut bytes = packed::to_bytes(&T::after_calls(draw)).unwrap();
+    for _ in 0..draw.below(3) {
+        let place = draw.below(bytes.len() as u64) as usize;
+        match draw.below(16) {
+            0 => bytes.truncate(place),
+            1 => bytes[place] ^= 1 << draw.below(8),
+            _ => bytes[place] = bytes[place].wrapping_add(1 + 254 * draw.below(2) as u8),
         }
-        let from = &mut bytes.iter().copied();
-        let value = (|| {
-            let (space, root) = (range_of(from)?, subtree_of(from)?);
-            Some(json!({"address_space": space, "interval_tree": {"root": root}}))
-        })();
-        let proved = value.and_then(|value| read_space(&to_proved_value(&value)));
-        let text = format!("{bytes:?}");
-        is_read_by_both(packed::from_bytes(bytes).ok(), proved, &text)
-    });
+        bytes.push(0);
+    }
+    let value = T::value_of(&mut bytes.iter().copied());
+    let proved = value.and_then(|value| T::read(&to_proved_value(&value)));
+    let serde: Option<T> = packed::from_bytes(bytes.iter().copied()).ok();
+    assert_eq!(serde, proved, "{bytes:?}");
+    serde.is_some()
+}
+
+#[test]
+fn texts_are_read_as_the_proved_readers_do() {
+    damage_each(read_text::<AddressAllocator>);
+    damage_each(read_text::<IdAllocator>);
+    damage_each(read_text::<DeviceManager>);
+}
+
+#[test]
+fn bytes_are_read_as_the_proved_readers_do() {
+    damage_each(read_bytes::<AddressAllocator>);
+    damage_each(read_bytes::<IdAllocator>);
+    damage_each(read_bytes::<DeviceManager>);
+}
+
+#[test]
+fn written_ids_and_devices_are_valid() {
+    let mut draw = Draw(1);
+    for _ in 0..600 {
+        let ids = IdAllocator::after_calls(&mut draw);
+        let devices = DeviceManager::after_calls(&mut draw);
+        assert_eq!(
+            to_proved_value(&serde_json::to_value(&ids).unwrap()),
+            ids.write()
+        );
+        let value = to_proved_value(&serde_json::to_value(&devices).unwrap());
+        assert_eq!(DeviceManager::read(&value), Some(devices));
+    }
 }
 
 #[test]
 fn written_spaces_are_valid_and_depend_on_the_state_alone() {
     let mut draw = Draw(1);
     for round in 0..600 {
-        let mut space = some_space(&mut draw);
+        let mut space = AddressAllocator::after_calls(&mut draw);
         if round >= 300 {
             // More blocks, and a tree of another shape.
             space = AddressAllocator::new(0, 1 << 20).unwrap();
@@ -257,61 +393,4 @@ fn written_spaces_are_valid_and_depend_on_the_state_alone() {
         let other = AddressAllocator::with_held(space.base(), size, &held).unwrap();
         assert_eq!(serde_json::to_string(&other).unwrap(), text);
     }
-}
-
-/// Damages the value of an object up to twice, and reads it with both readers.
-fn read_damaged<T, P>(
-    object: &T,
-    proved: fn(Global, &rattle::Value) -> Result<P, proved::ValueError>,
-    again: fn(P) -> T,
-    draw: &mut Draw,
-) -> bool
-where
-    T: Serialize + DeserializeOwned + PartialEq + Debug,
-{
-    let mut value = serde_json::to_value(object).unwrap();
-    assert_eq!(
-        again(proved(Global, &to_proved_value(&value)).unwrap()),
-        *object
-    );
-    for _ in 0..draw.below(3) {
-        damage(&mut value, draw);
-    }
-    let by_serde: Option<T> = serde_json::from_value(value.clone()).ok();
-    let by_proved = proved(Global, &to_proved_value(&value)).ok().map(again);
-    is_read_by_both(by_serde, by_proved, &value.to_string())
-}
-
-#[test]
-fn id_allocators_are_read_as_the_proved_reader_does() {
-    damage_each(20_000, |draw| {
-        let base = [0, 5, u32::MAX - 6][draw.below(3) as usize];
-        let mut ids = IdAllocator::new(base, base + 6).unwrap();
-        for _ in 0..draw.below(9) {
-            let _ = ids.allocate_id();
-        }
-        for _ in 0..draw.below(6) {
-            let _ = ids.free_id(base + draw.below(7) as u32);
-        }
-        let value = to_proved_value(&serde_json::to_value(&ids).unwrap());
-        assert_eq!(value, ids.0.to_value(Global).unwrap());
-        read_damaged(&ids, proved::IdAllocator::from_value, IdAllocator, draw)
-    });
-}
-
-#[test]
-fn device_managers_are_read_as_the_proved_reader_does() {
-    damage_each(20_000, |draw| {
-        let mut devices = DeviceManager::new(3, 9, 64, 64).unwrap();
-        for _ in 0..draw.below(6) {
-            let _ = devices.reserve(1 + draw.below(20), 1, AllocPolicy::FirstMatch);
-        }
-        for id in 3..9 {
-            if draw.below(3) == 0 {
-                let _ = devices.release(id);
-            }
-        }
-        let reader = proved_devices::DeviceManager::from_value;
-        read_damaged(&devices, reader, DeviceManager, draw)
-    });
 }

@@ -3,11 +3,16 @@
 //! Ranges, states and allocators have the names and fields that the derives of `vm-allocator`
 //! write, in the same order. A tree is written balanced, so equal allocators have equal bytes.
 //!
-//! The proved readers decide whether ids and devices are valid. An address allocator is checked
-//! while it is read, and `with_held` of the proved crate checks the result again.
+//! `parts` decides whether a value is valid, and `blocks` decides what is written of an object. The C
+//! library also has these two files.
 
+mod blocks;
+mod parts;
 mod reading;
 mod writing;
+
+use crate::error::out_of_memory;
+use parts::Fault;
 
 /// The states of a node in the order of their declaration.
 const STATES: &[&str] = &["Free", "Allocated"];
@@ -15,12 +20,10 @@ const STATES: &[&str] = &["Free", "Allocated"];
 /// The policies in the order of their declaration.
 const POLICIES: &[&str] = &["FirstMatch", "LastMatch", "ExactMatch"];
 
-/// The maximum length of a list that is read or written: the number of 20-bit ids, more than a
-/// monitor uses.
-const MAX_LIST_LEN: usize = 1 << 20;
-
-/// The error of a longer list.
-const TOO_LONG: &str = "a list has more than 1,048,576 items";
-
-/// The version of a saved device manager.
-const VERSION: u64 = 1;
+/// Returns the condition that a value violates. Ends the process if an allocation failed.
+fn text_of(fault: Fault) -> &'static str {
+    match fault {
+        Fault::Invalid(text) => text.to_str().unwrap_or_default(),
+        Fault::OutOfMemory => out_of_memory(),
+    }
+}

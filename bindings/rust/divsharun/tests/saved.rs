@@ -2,11 +2,13 @@
 //! values that are accepted or rejected.
 
 mod packed;
+mod refusing;
 
 use divsharun::{
     AddressAllocator, AllocPolicy, DeviceManager, DeviceSlot, IdAllocator, NodeState,
     RangeInclusive,
 };
+use refusing::peak_of;
 use serde::de::value::{Error, MapDeserializer};
 use serde::de::{DeserializeOwned, IntoDeserializer};
 use serde::{Deserialize, Serialize};
@@ -465,49 +467,94 @@ fn ids_freed(count: u64, ids: impl Iterator<Item = u32>) -> impl Iterator<Item =
 }
 
 #[test]
-fn long_lists_are_refused_early() {
+fn lists_are_refused_at_their_first_fault() {
     let count = 100_000_000;
     let asked = Cell::new(0);
-    let bytes = ids_freed(count, 0..count as u32);
-    assert!(packed::from_bytes::<IdAllocator>(counted(bytes, &asked)).is_err());
-    assert!(asked.get() <= 4 * ((1 << 20) + 1) + 21);
-
-    asked.set(0);
     let bytes = ids_freed(count, std::iter::repeat(7));
     assert!(packed::from_bytes::<IdAllocator>(counted(bytes, &asked)).is_err());
     assert_eq!(asked.get(), 21 + 8);
 
+    // The announced length allocates nothing.
     asked.set(0);
-    let bytes = ids_freed(u64::MAX, 0..3);
-    assert!(packed::from_bytes::<IdAllocator>(counted(bytes, &asked)).is_err());
+    let bytes = counted(ids_freed(u64::MAX, 0..3), &asked);
+    let (read, most) = peak_of(|| packed::from_bytes::<IdAllocator>(bytes).map(drop));
+    assert!(read.is_err() && most < 1000, "{most}");
     assert_eq!(asked.get(), 21 + 12);
 }
 
 #[test]
-fn long_lists_of_devices_are_refused_early() {
-    // The list of devices is the last field, and is removed here.
-    let mut head = packed::to_bytes(&manager()).unwrap();
-    head.truncate(head.len() - 8 - 20);
-    head.extend(100_000_000u64.to_le_bytes());
-    let length = head.len() as u64;
-    let slot = |id: u32| [id.to_le_bytes().as_slice(), &[0; 16]].concat();
-    let asked = Cell::new(0);
-    let bytes = head.into_iter().chain((0..).flat_map(slot));
-    assert!(packed::from_bytes::<DeviceManager>(counted(bytes, &asked)).is_err());
-    assert!(asked.get() > length && asked.get() <= length + 20 * ((1 << 20) + 1));
-}
-
-#[test]
-fn the_longest_list_is_written_and_read() {
-    let mut ids = IdAllocator::new(0, 1 << 20).unwrap();
-    for id in 0..=1 << 20 {
+fn lists_have_any_length() {
+    const LONG: u32 = (1 << 20) + 8;
+    let mut ids = IdAllocator::new(0, LONG).unwrap();
+    for id in 0..=LONG {
         assert_eq!(ids.allocate_id(), Ok(id));
     }
-    for id in 1..=1 << 20 {
+    for id in 1..=LONG {
         assert_eq!(ids.free_id(id), Ok(id));
     }
     let again: IdAllocator = packed::from_bytes(packed::to_bytes(&ids).unwrap()).unwrap();
     assert_eq!((again.held_count(), again.is_allocated(0)), (1, true));
-    ids.free_id(0).unwrap();
-    assert!(packed::to_bytes(&ids).is_err());
+    assert!(again == ids);
+}
+
+/// Appends the bytes of a balanced tree in which the first of every `stride` addresses are allocated.
+fn put_sparse(keys: std::ops::Range<u64>, stride: u64, bytes: &mut Vec<u8>) {
+    let middle = keys.start + (keys.end - keys.start) / 2;
+    bytes.push(u8::from(!keys.is_empty()));
+    if !keys.is_empty() {
+        bytes.extend([(middle * stride).to_le_bytes(); 2].concat());
+        bytes.extend(1u32.to_le_bytes());
+        put_sparse(keys.start..middle, stride, bytes);
+        put_sparse(middle + 1..keys.end, stride, bytes);
+        bytes.extend(u64::from((keys.end - keys.start).ilog2() + 1).to_le_bytes());
+    }
+}
+
+/// Returns the bytes of a space with this number of allocated addresses.
+fn sparse(count: u64, stride: u64) -> Vec<u8> {
+    let mut bytes = [[0; 8], (count * stride - 1).to_le_bytes()].concat();
+    put_sparse(0..count, stride, &mut bytes);
+    bytes
+}
+
+/// Reads bytes, which must be accepted or not. Checks the memory that this allocates, for each byte
+/// of the input.
+fn costs<T: DeserializeOwned>(bytes: &[u8], is_accepted: bool, most: f64) {
+    let read = || packed::from_bytes::<T>(bytes.iter().copied());
+    let (read, peak) = peak_of(read);
+    assert_eq!(read.is_ok(), is_accepted);
+    let times = peak as f64 / bytes.len() as f64;
+    assert!(times <= most, "{times} of {most}");
+}
+
+#[test]
+fn hostile_bytes_cost_memory_of_their_length() {
+    // A gap without a node in the saved tree gets one. A node has 30 bytes, and then 72.
+    let mut bytes = sparse(1 << 16, 2);
+    costs::<AddressAllocator>(&bytes, true, 5.5);
+    bytes.pop();
+    costs::<AddressAllocator>(&bytes, false, 0.6);
+
+    let mut bytes: Vec<u8> = ids_freed(1 << 20, 0..1 << 20).collect();
+    costs::<IdAllocator>(&bytes, true, 2.2);
+    bytes.pop();
+    costs::<IdAllocator>(&bytes, false, 1.1);
+
+    let count = 1 << 16;
+    let mut bytes = [&1u64.to_le_bytes()[..], &[0; 4], &[1]].concat();
+    bytes.extend(
+        [count as u32, count as u32 - 1]
+            .map(u32::to_le_bytes)
+            .concat(),
+    );
+    bytes.extend(0u64.to_le_bytes());
+    bytes.extend(sparse(count, 1));
+    bytes.extend(count.to_le_bytes());
+    for id in 0..count {
+        bytes.extend((id as u32).to_le_bytes());
+        bytes.extend([id.to_le_bytes(); 2].concat());
+    }
+    costs::<DeviceManager>(&bytes, true, 5.0);
+    bytes.pop();
+    costs::<DeviceManager>(&bytes, false, 2.5);
 }

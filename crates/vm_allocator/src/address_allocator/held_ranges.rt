@@ -1,6 +1,7 @@
 //! Queries of the allocated ranges: an iterator, a test, a search by an address, and a count.
 ghost use Rattle.std.specs.Prelude.{◌≡◌, ◌↔◌, IsTrue, length};
 ghost use Rattle.std.specs.List.{Contains};
+ghost use Rattle.vm_engine.specs.Address.{IsAddressState};
 ghost use Rattle.vm_engine.specs.Queries.{IsHeldAt};
 ghost use Rattle.vm_allocator.specs.Allocator.{state_of};
 
@@ -42,7 +43,8 @@ impl AddressAllocator {
     ///
     /// It walks the whole tree and does not allocate.
     pub fn held_count(&self) -> u64
-        ensures { result ≡ length (state_of self.now).held }
+        ensures value { result ≡ length (state_of self.now).held }
+        ensures state { IsAddressState (state_of self.now) }
     {
         self.interval_tree.held_count()
     }

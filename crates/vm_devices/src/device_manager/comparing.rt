@@ -2,14 +2,13 @@
 ghost use Rattle.std.specs.Prelude.{◌≡◌, ◌↔◌, IsTrue};
 ghost use Rattle.std.proofs.Common.{rules};
 ghost use Rattle.std.specs.Cmp.Rules.{comparing};
-ghost use Rattle.std.specs.Ordering.{eq_by_cmp, nat_cmp};
-ghost use Rattle.std.specs.BTreeMap.{IsOrdered};
+ghost use Rattle.std.specs.Ordering.{eq_by_cmp};
 ghost use Rattle.vm_devices.specs.Checks.{HaveSameAllocators};
+ghost use Rattle.vm_devices.specs.Devices.{IsDeviceState};
 ghost use Rattle.vm_devices.specs.Queries.{device_state_cmp, device_state_cmp-total};
 
 use super::DeviceManager;
-use std::collections::BTreeMap;
-use vm_allocator::RangeInclusive;
+use super::slots::Devices;
 
 impl PartialEq for DeviceManager {
     ghost eq = { eq_by_cmp device_state_cmp };
@@ -23,7 +22,7 @@ impl PartialEq for DeviceManager {
         ensures equal { IsTrue result ↔ (self.now ≡ other.now) }
         ensures order { result ≡ eq_by_cmp device_state_cmp self.now other.now }
     {
-        self.has_allocators_of(other) && same_slots(self.slots.slots(), other.slots.slots())
+        self.has_allocators_of(other) && same_devices(self.devices(), other.devices())
     }
 }
 
@@ -35,18 +34,24 @@ impl DeviceManager {
     /// Returns whether both managers have equal allocators.
     #[tactic(auto, using(crate::proofs::ComparedManagers::spaces))]
     fn has_allocators_of(&self, other: &DeviceManager) -> bool
-        ensures { IsTrue result ↔ HaveSameAllocators self.now other.now }
+        ensures same { IsTrue result ↔ HaveSameAllocators self.now other.now }
+        ensures valid { IsDeviceState self.now × IsDeviceState other.now }
     {
         self.id_allocator == other.id_allocator && self.mmio_allocator == other.mmio_allocator
     }
 }
 
-/// Returns whether both tables have the same devices.
-fn same_slots(a: &BTreeMap<u32, RangeInclusive>, b: &BTreeMap<u32, RangeInclusive>) -> bool
-    ensures same { IsTrue result ↔ (a.now.entries ≡ b.now.entries) }
-    ensures ordered { IsOrdered nat_cmp a.now × IsOrdered nat_cmp b.now }
+/// Returns whether both iterators return the same devices.
+fn same_devices(mut a: Devices<'_>, mut b: Devices<'_>) -> bool
+    ensures { IsTrue result ↔ (a.entry ≡ b.entry) }
 {
-    // Tables of different lengths differ, and no walk over them is needed.
-    let same_length = a.len() == b.len();
-    same_length && a == b
+    while let Some(x) = a.next() {
+        let Some(y) = b.next() else {
+            return false;
+        };
+        if x != y {
+            return false;
+        }
+    }
+    b.next().is_none()
 }

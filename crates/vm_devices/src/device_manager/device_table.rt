@@ -1,8 +1,10 @@
 //! The table of the devices. It finds a range by its id, and an id by the start of its range.
-ghost use Rattle.std.specs.Prelude.{◌≡◌, ◌↔◌, ℕ, Some, IfOk, OnOk, OnErr};
+ghost use Rattle.std.specs.Prelude.{◌≡◌, ◌↔◌, ℕ, Some, map as map_list, IfOk, OnOk, OnErr};
 ghost use Rattle.std.specs.FinMap as map;
 ghost use Rattle.vm_devices.specs.Checks.{StartsAt, IsNew, HaveDifferentStarts};
+ghost use Rattle.vm_devices.specs.Queries.{device_of};
 
+use super::slots::{Devices, Slots};
 use std::alloc::{AllocError, Global};
 use std::collections::BTreeMap;
 use std::marker::Model;
@@ -13,7 +15,7 @@ use vm_allocator::RangeInclusive;
 /// Its model is the table by ids.
 #[derive(Debug, Drop)]
 pub(super) struct DeviceTable {
-    slots: BTreeMap<u32, RangeInclusive>,
+    slots: Slots,
     ids_by_start: BTreeMap<u64, u32>,
 }
 
@@ -28,9 +30,9 @@ impl Model for DeviceTable {
 
     ghost coded = { map.code coded_ℕ range_code };
 
-    ghost view = { λ t. map.from_entries t.slots.entries };
+    ghost view = { λ t. t.slots };
 
-    ghost invariant = { λ t. AreIdsByStart (map.from_entries t.slots.entries) (map.from_entries t.ids_by_start.entries) };
+    ghost invariant = { λ t. AreIdsByStart t.slots (map.from_entries t.ids_by_start.entries) };
 }
 
 impl DeviceTable {
@@ -39,22 +41,19 @@ impl DeviceTable {
         ensures { result ≡ map.empty }
     {
         DeviceTable {
-            slots: BTreeMap::new(alloc),
+            slots: Slots::new(alloc),
             ids_by_start: BTreeMap::new(alloc),
         }
     }
 
     /// Creates a table from the ranges by ids.
-    pub(super) fn from_slots(
-        alloc: Global,
-        slots: BTreeMap<u32, RangeInclusive>,
-    ) -> Result<DeviceTable, AllocError>
-        requires { HaveDifferentStarts (map.from_entries slots.entries) }
-        ensures { IfOk result (λ table. table ≡ map.from_entries slots.entries) }
+    pub(super) fn from_slots(alloc: Global, slots: Slots) -> Result<DeviceTable, AllocError>
+        requires { HaveDifferentStarts slots }
+        ensures { IfOk result (λ table. table ≡ slots) }
     {
         let mut ids_by_start = BTreeMap::new(alloc);
-        for (id, range) in slots.iter() {
-            ids_by_start.insert(range.start(), *id)?;
+        for device in slots.iter() {
+            ids_by_start.insert(device.range.start(), device.id)?;
         }
         Ok(DeviceTable {
             slots,
@@ -66,7 +65,7 @@ impl DeviceTable {
     pub(super) fn try_clone(&self) -> Result<DeviceTable, AllocError>
         ensures { IfOk result (λ table. table ≡ self.now) }
     {
-        let slots = self.slots.clone()?;
+        let slots = self.slots.try_clone()?;
         let ids_by_start = self.ids_by_start.clone()?;
         Ok(DeviceTable {
             slots,
@@ -74,11 +73,18 @@ impl DeviceTable {
         })
     }
 
-    /// Returns the ranges by ids.
-    pub(super) fn slots(&self) -> &BTreeMap<u32, RangeInclusive>
-        ensures { map.from_entries result.now.entries ≡ self.now }
+    /// Returns the range of the device with this id, or `None` if there is none.
+    pub(super) fn get(&self, id: u32) -> Option<RangeInclusive>
+        ensures { result ≡ map.get self.now id }
     {
-        &self.slots
+        self.slots.get(id)
+    }
+
+    /// Returns an iterator over the devices, by increasing ids.
+    pub(super) fn iter(&self) -> Devices<'_>
+        ensures { result ≡ map_list device_of (map.entries self.now) }
+    {
+        self.slots.iter()
     }
 
     /// Returns the id of the device whose range starts at `start`, or `None` if there is none.
@@ -89,16 +95,21 @@ impl DeviceTable {
     }
 
     /// Inserts a device. An error changes nothing.
-    pub(super) fn insert(&mut self, id: u32, range: RangeInclusive) -> Result<(), AllocError>
+    pub(super) fn insert(
+        &mut self,
+        alloc: Global,
+        id: u32,
+        range: RangeInclusive,
+    ) -> Result<(), AllocError>
         requires { IsNew self.old id range.start }
         ensures inserted { OnOk result (self.new ≡ map.insert self.old id range) }
         ensures err { OnErr result (self.new ≡ self.old) }
     {
         let start = range.start();
         self.ids_by_start.insert(start, id)?;
-        if let Err(refused) = self.slots.insert(id, range) {
+        if let Err(refused) = self.slots.insert(alloc, id, range) {
             self.ids_by_start.remove(&start);
-            return Err(refused.into());
+            return Err(refused);
         }
         Ok(())
     }
@@ -107,7 +118,7 @@ impl DeviceTable {
     pub(super) fn remove(&mut self, id: u32)
         ensures { self.new ≡ map.remove self.old id }
     {
-        if let Some(range) = self.slots.remove(&id) {
+        if let Some(range) = self.slots.remove(id) {
             self.ids_by_start.remove(&range.start());
         }
     }

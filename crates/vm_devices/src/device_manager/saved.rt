@@ -6,6 +6,7 @@ ghost use Rattle.vm_devices.specs.Devices.{IsDeviceState};
 ghost use Rattle.vm_devices.specs.Saved.{EncodesManager, ReadsInParts};
 ghost use Rattle.vm_devices.specs.SavedChecks.{decoded_manager, ManagerParts};
 
+mod listed;
 mod pairing;
 mod slots;
 
@@ -33,7 +34,7 @@ impl DeviceManager {
     {
         let ids = self.id_allocator.to_value(alloc)?;
         let space = self.mmio_allocator.to_value(alloc)?;
-        let slots = encode_slots(alloc, self.slots.slots())?;
+        let slots = encode_slots(alloc, self.devices())?;
         Ok(manager_object(alloc, ids, space, slots)?)
     }
 

@@ -6,10 +6,13 @@
 //! It counts each difference by its number in docs/DIFFERENCES.md. A difference without a number is
 //! printed, and the exit status is 1.
 
+mod costs;
 mod difference;
 mod histories;
 #[path = "../../tests/packed/mod.rs"]
 mod packed;
+#[path = "../../../rattle/tests/refusing/mod.rs"]
+mod refusing;
 mod saved;
 #[path = "../../benches/workload/mod.rs"]
 mod workload;
@@ -39,6 +42,7 @@ fn main() -> ExitCode {
     }
     saved::compare_damaged(&mut tally);
     println!("{tally}");
+    costs::measure();
     measure(&mut tally);
     match tally.unnamed() {
         0 => ExitCode::SUCCESS,

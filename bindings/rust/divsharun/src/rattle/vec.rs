@@ -30,6 +30,18 @@ impl<T> Vec<T> {
         Ok(())
     }
 
+    /// Returns a copy.
+    pub fn clone(&self) -> Result<Self, AllocError>
+    where
+        T: Clone,
+    {
+        let mut list = alloc::vec::Vec::new();
+        list.try_reserve_exact(self.0.len())
+            .map_err(|_| AllocError)?;
+        list.extend_from_slice(&self.0);
+        Ok(Vec(list))
+    }
+
     /// Removes the last value and returns it, or `None` if there is none.
     pub fn pop(&mut self) -> Option<T> {
         self.0.pop()

@@ -1,21 +1,24 @@
-//! Writes objects. Only the ids are a value first.
+//! Writes objects with serde.
 
-use super::{MAX_LIST_LEN, POLICIES, STATES, TOO_LONG, VERSION};
-use crate::error::or_abort;
+use super::blocks::{Blocks, FreedIds, Key, Tree};
+use super::parts::{Fault, Node, VERSION};
+use super::{text_of, POLICIES, STATES};
 use crate::proved::vm_allocator as proved;
-use crate::rattle::{Global, Value};
 use crate::{
     AddressAllocator, AllocPolicy, DeviceManager, DeviceSlot, IdAllocator, NodeState,
     RangeInclusive,
 };
-use alloc::vec::Vec;
-use serde::ser::{Error, SerializeStruct};
+use serde::ser::{Error, SerializeSeq, SerializeStruct};
 use serde::{Serialize, Serializer};
 
 /// Implements `Serialize` for structures with these fields.
 macro_rules! write_fields {
-    ($($object:ty as $name:literal, $this:ident: $($field:ident = $value:expr),*;)*) => {$(
+    ($(
+        $(#[$attribute:meta])?
+        $object:ty as $name:literal, $this:ident: $($field:ident = $value:expr),*;
+    )*) => {$(
         impl Serialize for $object {
+            $(#[$attribute])?
             fn serialize<S: Serializer>(&self, to: S) -> Result<S::Ok, S::Error> {
                 let $this = self;
                 let mut fields = to.serialize_struct($name, [$(stringify!($field)),*].len())?;
@@ -30,29 +33,35 @@ write_fields! {
     RangeInclusive as "RangeInclusive", this: start = this.start(), end = this.end();
     DeviceSlot as "DeviceSlot", this: id = this.id, mmio_range = this.range;
     Ids<'_> as "IdAllocator", this:
-        range_base = this.ids.range_base(),
-        next_id = this.next,
-        range_end = this.ids.range_end(),
-        freed_ids = this.freed;
+        range_base = this.0.range_base(),
+        next_id = this.1.next,
+        range_end = this.0.range_end(),
+        freed_ids = this.1.freed;
     DeviceManager as "DeviceManager", this:
         version = VERSION,
-        id_allocator = Ids::of::<S::Error>(this.0.ids())?,
+        id_allocator = Ids(this.0.ids(), freed_ids(this.0.ids())?),
         mmio_allocator = Space(this.0.addresses()),
-        slots = match this.device_count() as usize {
-            0..=MAX_LIST_LEN => this.devices().collect::<Vec<_>>(),
-            _ => return Err(S::Error::custom(TOO_LONG)),
-        };
+        slots = Slots(this);
     Space<'_> as "AddressAllocator", this:
-        address_space = RangeInclusive::new(this.0.base(), this.0.end()).map_err(Error::custom)?,
-        interval_tree = Tree(Subtree(&blocks_of(this.0), this.0.end()));
-    Tree<'_> as "IntervalTree", this: root = this.0;
-    Node<'_> as "InnerNode", this:
-        key = RangeInclusive::new(this.block.0, this.end).map_err(Error::custom)?,
-        node_state = this.block.1,
-        // No block is before one that starts at 0.
-        left = Subtree(this.before, this.block.0.saturating_sub(1)),
-        right = Subtree(this.after, this.last),
-        height = u64::from((this.before.len() + 1 + this.after.len()).ilog2()) + 1;
+        address_space = Key { start: this.0.base(), end: this.0.end() },
+        interval_tree = Root(Blocks::of(this.0).map_err(invalid)?);
+    Key as "RangeInclusive", this: start = this.start, end = this.end;
+    Root as "IntervalTree", this: root = this.0.tree();
+    // A call for each node is faster than one for each link, of which there are twice as many.
+    #[inline(never)]
+    Node<Key, Tree<'_>> as "InnerNode", this:
+        key = this.key,
+        node_state = NodeState::of(this.state),
+        left = this.left,
+        right = this.right,
+        height = this.height;
+}
+
+impl Serialize for Tree<'_> {
+    #[inline]
+    fn serialize<S: Serializer>(&self, to: S) -> Result<S::Ok, S::Error> {
+        self.root().serialize(to)
+    }
 }
 
 impl Serialize for NodeState {
@@ -77,7 +86,7 @@ impl Serialize for AllocPolicy {
 
 impl Serialize for IdAllocator {
     fn serialize<S: Serializer>(&self, to: S) -> Result<S::Ok, S::Error> {
-        Ids::of::<S::Error>(&self.0)?.serialize(to)
+        Ids(&self.0, freed_ids(&self.0)?).serialize(to)
     }
 }
 
@@ -87,83 +96,31 @@ impl Serialize for AddressAllocator {
     }
 }
 
-/// An id allocator, with the fields that only its value has.
-struct Ids<'a> {
-    ids: &'a proved::IdAllocator,
-    next: Option<u32>,
-    freed: Vec<u32>,
+/// Returns the error of a format for a fault. Ends the process if an allocation failed.
+fn invalid<E: Error>(fault: Fault) -> E {
+    E::custom(text_of(fault))
 }
 
-impl Ids<'_> {
-    fn of<E: Error>(ids: &proved::IdAllocator) -> Result<Ids<'_>, E> {
-        let value = or_abort(ids.to_value(Global)).map_err(E::custom)?;
-        let id = |value: &Value| value.as_u64().map(|id| id as u32);
-        let next = value.get("next_id").and_then(id);
-        let freed = value.get("freed_ids").and_then(Value::as_array);
-        let freed: Vec<u32> = freed
-            .into_iter()
-            .flat_map(|freed| freed.iter().filter_map(id))
-            .collect();
-        match freed.len() {
-            0..=MAX_LIST_LEN => Ok(Ids { ids, next, freed }),
-            _ => Err(E::custom(TOO_LONG)),
-        }
-    }
+fn freed_ids<E: Error>(ids: &proved::IdAllocator) -> Result<FreedIds, E> {
+    FreedIds::of(ids).map_err(invalid)
 }
 
-/// An address allocator.
+struct Ids<'a>(&'a proved::IdAllocator, FreedIds);
+
 struct Space<'a>(&'a proved::AddressAllocator);
 
-struct Tree<'a>(Subtree<'a>);
+struct Root(Blocks);
 
-/// The start and the state of a block. It ends right before the next block.
-struct Block(u64, NodeState);
+/// The list of the devices of a manager.
+struct Slots<'a>(&'a DeviceManager);
 
-/// Returns the blocks of a space in ascending order.
-fn blocks_of(space: &proved::AddressAllocator) -> Vec<Block> {
-    let mut blocks = Vec::new();
-    let mut next = space.base();
-    for range in space.held_ranges() {
-        if next < range.start() {
-            blocks.push(Block(next, NodeState::Free));
-        }
-        blocks.push(Block(range.start(), NodeState::Allocated));
-        // An allocated range never ends at `u64::MAX`.
-        next = range.end() + 1;
-    }
-    if next <= space.end() {
-        blocks.push(Block(next, NodeState::Free));
-    }
-    blocks
-}
-
-/// The balanced tree of some blocks, and the end of the last one. The number of blocks decides its
-/// shape.
-struct Subtree<'a>(&'a [Block], u64);
-
-impl Serialize for Subtree<'_> {
+impl Serialize for Slots<'_> {
     fn serialize<S: Serializer>(&self, to: S) -> Result<S::Ok, S::Error> {
-        let Subtree(blocks, last) = *self;
-        let (before, rest) = blocks.split_at(blocks.len() / 2);
-        let Some((block, after)) = rest.split_first() else {
-            return to.serialize_none();
-        };
-        let end = after.first().map_or(last, |next| next.0 - 1);
-        to.serialize_some(&Node {
-            before,
-            block,
-            end,
-            after,
-            last,
-        })
+        let count = self.0.device_count() as usize;
+        let mut list = to.serialize_seq(Some(count))?;
+        for slot in self.0 {
+            list.serialize_element(&slot)?;
+        }
+        list.end()
     }
-}
-
-/// A block and its end, the blocks before and after it, and the end of the last one.
-struct Node<'a> {
-    before: &'a [Block],
-    block: &'a Block,
-    end: u64,
-    after: &'a [Block],
-    last: u64,
 }

@@ -12,19 +12,20 @@ use std::cell::RefCell;
 use std::fmt::{self, Display};
 
 thread_local! {
-    static NAMES: RefCell<Vec<&'static str>> = const { RefCell::new(Vec::new()) };
+    // The names of the current call of `names_in`.
+    static NAMES: RefCell<Option<Vec<&'static str>>> = const { RefCell::new(None) };
 }
 
 /// Runs a call. Returns the names of the structures and states that it wrote or read, in order. A
 /// name comes before those of its parts.
 pub fn names_in<T>(call: impl FnOnce() -> T) -> Vec<&'static str> {
-    NAMES.take();
+    NAMES.set(Some(Vec::new()));
     call();
-    NAMES.take()
+    NAMES.take().expect("no call of it is nested in another")
 }
 
 fn note(name: &'static str) {
-    NAMES.with_borrow_mut(|names| names.push(name));
+    NAMES.with_borrow_mut(|names| names.iter_mut().for_each(|names| names.push(name)));
 }
 
 /// Returns the bytes of an object.

@@ -1,4 +1,6 @@
-//! A global allocator that counts the allocations of a thread and can fail one of them.
+//! A global allocator that counts the allocations of a thread and their bytes, and can fail one of
+//! them.
+#![allow(dead_code)]
 
 use std::alloc::{GlobalAlloc, Layout, System};
 use std::cell::Cell;
@@ -8,6 +10,8 @@ thread_local! {
     static REQUESTS: Cell<u64> = const { Cell::new(0) };
     static REFUSED: Cell<u64> = const { Cell::new(0) };
     static BLOCKS: Cell<i64> = const { Cell::new(0) };
+    static BYTES: Cell<i64> = const { Cell::new(0) };
+    static MOST_BYTES: Cell<i64> = const { Cell::new(0) };
 }
 
 /// The system allocator, except for the allocation that a test fails.
@@ -31,16 +35,31 @@ pub fn blocks() -> i64 {
     BLOCKS.get()
 }
 
+/// Makes a call. Returns its result, and the maximum of the bytes that are allocated in the call.
+pub fn peak_of<T>(call: impl FnOnce() -> T) -> (T, usize) {
+    let before = BYTES.get();
+    MOST_BYTES.set(before);
+    let result = call();
+    (result, (MOST_BYTES.get() - before) as usize)
+}
+
 /// Counts an allocation, and returns whether it must fail.
 fn is_refused() -> bool {
     REQUESTS.set(REQUESTS.get() + 1);
     REQUESTS.get() == REFUSED.get()
 }
 
-fn count_block(block: *mut u8, change: i64) {
+/// Counts a block and its bytes, which are negative if it is freed.
+fn count_block(block: *mut u8, bytes: i64) {
     if !block.is_null() {
-        BLOCKS.set(BLOCKS.get() + change);
+        BLOCKS.set(BLOCKS.get() + bytes.signum());
+        count_bytes(bytes);
     }
+}
+
+fn count_bytes(bytes: i64) {
+    BYTES.set(BYTES.get() + bytes);
+    MOST_BYTES.set(MOST_BYTES.get().max(BYTES.get()));
 }
 
 // SAFETY: each call is passed on to the system allocator, or fails with a null pointer, which
@@ -51,12 +70,12 @@ unsafe impl GlobalAlloc for Refusing {
             return ptr::null_mut();
         }
         let block = System.alloc(layout);
-        count_block(block, 1);
+        count_block(block, layout.size() as i64);
         block
     }
 
     unsafe fn dealloc(&self, block: *mut u8, layout: Layout) {
-        count_block(block, -1);
+        count_block(block, -(layout.size() as i64));
         System.dealloc(block, layout);
     }
 
@@ -64,6 +83,10 @@ unsafe impl GlobalAlloc for Refusing {
         if is_refused() {
             return ptr::null_mut();
         }
-        System.realloc(block, layout, size)
+        let moved = System.realloc(block, layout, size);
+        if !moved.is_null() {
+            count_bytes(size as i64 - layout.size() as i64);
+        }
+        moved
     }
 }

@@ -1,6 +1,7 @@
 //! Reads the devices of a list, and checks that they pair the allocated ids with the allocated
 //! ranges.
 ghost use Rattle.std.specs.Prelude.{IfOk};
+ghost use Rattle.std.specs.FinMap as map;
 ghost use Rattle.std.specs.FinSet as set;
 ghost use Rattle.serde_json.specs.View.{items_view};
 ghost use Rattle.vm_allocator.specs.Allocator.{state_of};
@@ -8,10 +9,11 @@ ghost use Rattle.vm_ranges.specs.Cases.{IsTestOf};
 ghost use Rattle.vm_devices.specs.SavedChecks.{CountsMatch, AreHeldAndDistinct, FindsPaired};
 
 use super::slots::read_slots;
+use crate::device_manager::slots::Slots;
 use serde_json::Value;
 use std::alloc::{AllocError, Global};
-use std::collections::{BTreeMap, BTreeSet};
-use vm_allocator::{AddressAllocator, IdAllocator, RangeInclusive, ValueError};
+use std::collections::BTreeSet;
+use vm_allocator::{AddressAllocator, IdAllocator, ValueError};
 
 /// Reads the table of the devices of a list. Returns `NotAState` if they do not pair the allocated
 /// ids with the allocated ranges.
@@ -20,7 +22,7 @@ pub(super) fn read_devices(
     ids: &IdAllocator,
     space: &AddressAllocator,
     list: &[Value],
-) -> std::result::Result<BTreeMap<u32, RangeInclusive>, ValueError>
+) -> std::result::Result<Slots, ValueError>
     ensures { FindsPaired ids.now (state_of space.now) (items_view list.now) result }
 {
     // The list can be untrusted input, so it is counted before memory is allocated for it.
@@ -44,20 +46,20 @@ fn counts_match(ids: &IdAllocator, space: &AddressAllocator, items: &[Value]) ->
 
 /// Returns whether the id and the range of each device are allocated, and no two ranges have the
 /// same start.
-fn are_held_and_distinct(
+pub(super) fn are_held_and_distinct(
     alloc: Global,
     ids: &IdAllocator,
     space: &AddressAllocator,
-    slots: &BTreeMap<u32, RangeInclusive>,
+    slots: &Slots,
 ) -> std::result::Result<bool, AllocError>
-    ensures { IfOk result (λ all. IsTestOf all (AreHeldAndDistinct ids.now (state_of space.now) set.empty slots.now.entries)) }
+    ensures { IfOk result (λ all. IsTestOf all (AreHeldAndDistinct ids.now (state_of space.now) set.empty (map.entries slots.now))) }
 {
     let mut starts = BTreeSet::new(alloc);
-    for (id, range) in slots.iter() {
-        if !ids.is_allocated(*id) || !space.holds(range) {
+    for device in slots.iter() {
+        if !ids.is_allocated(device.id) || !space.holds(&device.range) {
             return Ok(false);
         }
-        if !starts.insert(range.start())? {
+        if !starts.insert(device.range.start())? {
             return Ok(false);
         }
     }

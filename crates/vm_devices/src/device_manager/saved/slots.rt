@@ -1,39 +1,36 @@
 //! The list of devices in a manager's value.
-ghost use Rattle.std.specs.Prelude.{◌≡◌, IfOk, option_map};
-ghost use Rattle.std.specs.List.Sorted.{IsStrictlySortedBy};
-ghost use Rattle.std.specs.Map.{keys_of};
-ghost use Rattle.std.specs.Ordering.{nat_cmp};
+ghost use Rattle.std.specs.Prelude.{◌≡◌, map, IfOk, option_map};
 ghost use Rattle.serde_json.specs.View.{view, items_view};
 ghost use Rattle.vm_ranges.specs.Saving.{Saves};
+ghost use Rattle.vm_devices.specs.Queries.{entry_of};
 ghost use Rattle.vm_devices.specs.Saved.{EncodesDevice, EncodesList};
 ghost use Rattle.vm_devices.specs.SavedChecks.{decoded_device, FindsDevices, DeviceParts};
 
+use crate::device_manager::slots::{Devices, Slots};
 use crate::device_slot::DeviceSlot;
 use serde_json::{Value, json};
 use std::alloc::{AllocError, Global};
-use std::collections::BTreeMap;
-use vm_allocator::{RangeInclusive, Result, ValueError};
+use vm_allocator::{Result, ValueError};
 use vm_ranges::{has_fields, range_in, u32_in};
 
-/// Encodes the devices as a list, by increasing ids.
-pub(super) fn encode_slots(alloc: Global, slots: &BTreeMap<u32, RangeInclusive>) -> Result<Value>
-    ensures answer { Saves (λ d. EncodesList d slots.now.entries) result }
-    ensures increasing { IsStrictlySortedBy nat_cmp (keys_of slots.now.entries) }
+/// Encodes the devices as a list.
+pub(super) fn encode_slots(alloc: Global, devices: Devices<'_>) -> Result<Value>
+    ensures { Saves (λ d. EncodesList d (map entry_of devices.entry)) result }
 {
     let mut list = Vec::new(alloc);
-    for (id, range) in slots.iter() {
-        let slot = encode_slot(alloc, *id, range)?;
+    for device in devices {
+        let slot = encode_slot(alloc, &device)?;
         list.push(slot)?;
     }
     Ok(Value::from(list))
 }
 
 /// Encodes one device.
-fn encode_slot(alloc: Global, id: u32, range: &RangeInclusive) -> Result<Value>
-    ensures { Saves (λ d. EncodesDevice d (id, range.now)) result }
+fn encode_slot(alloc: Global, device: &DeviceSlot) -> Result<Value>
+    ensures { Saves (λ d. EncodesDevice d (entry_of device.now)) result }
 {
-    let range = range.to_value(alloc)?;
-    Ok(slot_object(alloc, id, range)?)
+    let range = device.range.to_value(alloc)?;
+    Ok(slot_object(alloc, device.id, range)?)
 }
 
 /// Builds the object with the fields of a device.
@@ -49,10 +46,10 @@ fn slot_object(alloc: Global, id: u32, range: Value) -> std::result::Result<Valu
 pub(super) fn read_slots(
     alloc: Global,
     list: &[Value],
-) -> std::result::Result<BTreeMap<u32, RangeInclusive>, ValueError>
+) -> std::result::Result<Slots, ValueError>
     ensures { FindsDevices (items_view list.now) result }
 {
-    let mut slots = BTreeMap::new(alloc);
+    let mut slots = Slots::new(alloc);
     let mut lowest = 0u64;
     for item in list {
         let Some(slot) = decode_slot(item) else {
@@ -61,7 +58,7 @@ pub(super) fn read_slots(
         if u64::from(slot.id) < lowest {
             return Err(ValueError::NotAState);
         }
-        slots.insert(slot.id, slot.range)?;
+        slots.insert(alloc, slot.id, slot.range)?;
         lowest = u64::from(slot.id) + 1;
     }
     Ok(slots)

@@ -11,11 +11,12 @@ use crate::proved::vm_allocator::{AddressAllocator, AllocPolicy, Error, IdAlloca
 
 mod comparing;
 mod device_table;
+mod slots;
 mod queries;
 mod saved;
 
 use self::device_table::DeviceTable;
-pub use self::queries::Devices;
+pub use self::slots::Devices;
 
 /// Reserves an id and a range of addresses for each device, both or neither.
 ///
@@ -86,7 +87,7 @@ impl DeviceManager {
     ) -> Result<DeviceSlot> {
         let id = self.id_allocator.peek_id()?;
         let range = self.mmio_allocator.allocate(alloc, size, align, policy)?;
-        if let Err(refused) = self.slots.insert(id, range) {
+        if let Err(refused) = self.slots.insert(alloc, id, range) {
             // Freeing an allocated range always succeeds.
             let _ = self.mmio_allocator.free(&range);
             return Err(refused.into());
@@ -118,6 +119,6 @@ impl DeviceManager {
     ///
     /// It does not allocate.
     pub fn slot(&self, id: u32) -> Option<RangeInclusive> {
-        self.slots.slots().get(&id).copied()
+        self.slots.get(id)
     }
 }

@@ -3,15 +3,14 @@
 //! Equality of managers.
 
 use super::DeviceManager;
-use crate::rattle::BTreeMap;
-use crate::proved::vm_allocator::RangeInclusive;
+use super::slots::Devices;
 
 impl PartialEq for DeviceManager {
     /// Returns whether both managers have equal allocators and the same devices.
     ///
     /// It stops at the first difference and does not allocate.
     fn eq(&self, other: &DeviceManager) -> bool {
-        self.has_allocators_of(other) && same_slots(self.slots.slots(), other.slots.slots())
+        self.has_allocators_of(other) && same_devices(self.devices(), other.devices())
     }
 }
 
@@ -25,9 +24,15 @@ impl DeviceManager {
     }
 }
 
-/// Returns whether both tables have the same devices.
-fn same_slots(a: &BTreeMap<u32, RangeInclusive>, b: &BTreeMap<u32, RangeInclusive>) -> bool {
-    // Tables of different lengths differ, and no walk over them is needed.
-    let same_length = a.len() == b.len();
-    same_length && a == b
+/// Returns whether both iterators return the same devices.
+fn same_devices(mut a: Devices<'_>, mut b: Devices<'_>) -> bool {
+    while let Some(x) = a.next() {
+        let Some(y) = b.next() else {
+            return false;
+        };
+        if x != y {
+            return false;
+        }
+    }
+    b.next().is_none()
 }

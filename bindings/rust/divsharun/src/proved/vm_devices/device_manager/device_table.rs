@@ -2,6 +2,7 @@
 
 //! The table of the devices. It finds a range by its id, and an id by the start of its range.
 
+use super::slots::{Devices, Slots};
 use crate::rattle::{AllocError, Global};
 use crate::rattle::BTreeMap;
 use crate::proved::vm_allocator::RangeInclusive;
@@ -11,7 +12,7 @@ use crate::proved::vm_allocator::RangeInclusive;
 /// Its model is the table by ids.
 #[derive(Debug)]
 pub(super) struct DeviceTable {
-    slots: BTreeMap<u32, RangeInclusive>,
+    slots: Slots,
     ids_by_start: BTreeMap<u64, u32>,
 }
 
@@ -19,19 +20,16 @@ impl DeviceTable {
     /// Creates a table without devices. It does not allocate.
     pub(super) fn new(alloc: Global) -> DeviceTable {
         DeviceTable {
-            slots: BTreeMap::new(alloc),
+            slots: Slots::new(alloc),
             ids_by_start: BTreeMap::new(alloc),
         }
     }
 
     /// Creates a table from the ranges by ids.
-    pub(super) fn from_slots(
-        alloc: Global,
-        slots: BTreeMap<u32, RangeInclusive>,
-    ) -> Result<DeviceTable, AllocError> {
+    pub(super) fn from_slots(alloc: Global, slots: Slots) -> Result<DeviceTable, AllocError> {
         let mut ids_by_start = BTreeMap::new(alloc);
-        for (id, range) in slots.iter() {
-            ids_by_start.insert(range.start(), *id)?;
+        for device in slots.iter() {
+            ids_by_start.insert(device.range.start(), device.id)?;
         }
         Ok(DeviceTable {
             slots,
@@ -41,7 +39,7 @@ impl DeviceTable {
 
     /// Returns a copy.
     pub(super) fn try_clone(&self) -> Result<DeviceTable, AllocError> {
-        let slots = self.slots.clone()?;
+        let slots = self.slots.try_clone()?;
         let ids_by_start = self.ids_by_start.clone()?;
         Ok(DeviceTable {
             slots,
@@ -49,9 +47,14 @@ impl DeviceTable {
         })
     }
 
-    /// Returns the ranges by ids.
-    pub(super) fn slots(&self) -> &BTreeMap<u32, RangeInclusive> {
-        &self.slots
+    /// Returns the range of the device with this id, or `None` if there is none.
+    pub(super) fn get(&self, id: u32) -> Option<RangeInclusive> {
+        self.slots.get(id)
+    }
+
+    /// Returns an iterator over the devices, by increasing ids.
+    pub(super) fn iter(&self) -> Devices<'_> {
+        self.slots.iter()
     }
 
     /// Returns the id of the device whose range starts at `start`, or `None` if there is none.
@@ -60,19 +63,24 @@ impl DeviceTable {
     }
 
     /// Inserts a device. An error changes nothing.
-    pub(super) fn insert(&mut self, id: u32, range: RangeInclusive) -> Result<(), AllocError> {
+    pub(super) fn insert(
+        &mut self,
+        alloc: Global,
+        id: u32,
+        range: RangeInclusive,
+    ) -> Result<(), AllocError> {
         let start = range.start();
         self.ids_by_start.insert(start, id)?;
-        if let Err(refused) = self.slots.insert(id, range) {
+        if let Err(refused) = self.slots.insert(alloc, id, range) {
             self.ids_by_start.remove(&start);
-            return Err(refused.into());
+            return Err(refused);
         }
         Ok(())
     }
 
     /// Removes the device with this id, if there is one.
     pub(super) fn remove(&mut self, id: u32) {
-        if let Some(range) = self.slots.remove(&id) {
+        if let Some(range) = self.slots.remove(id) {
             self.ids_by_start.remove(&range.start());
         }
     }

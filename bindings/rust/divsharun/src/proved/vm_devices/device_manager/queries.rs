@@ -4,45 +4,23 @@
 //! allocators.
 
 use super::DeviceManager;
+use super::slots::Devices;
 use crate::proved::vm_devices::device_slot::DeviceSlot;
-use crate::rattle::btree_map::Iter;
-use crate::proved::vm_allocator::{AddressAllocator, IdAllocator, RangeInclusive};
-
-/// An iterator over the devices, by increasing ids. It does not allocate.
-///
-/// Its model is the list of the devices that it has not returned yet.
-pub struct Devices<'a> {
-    slots: Iter<'a, u32, RangeInclusive>,
-}
-
-impl<'a> Iterator for Devices<'a> {
-    type Item = DeviceSlot;
-
-    /// Returns the next device.
-    fn next(&mut self) -> Option<DeviceSlot> {
-        let (id, range) = self.slots.next()?;
-        Some(DeviceSlot {
-            id: *id,
-            range: *range,
-        })
-    }
-}
+use crate::proved::vm_allocator::{AddressAllocator, IdAllocator};
 
 impl DeviceManager {
     /// Returns an iterator over the devices, by increasing ids.
     ///
     /// It does not allocate.
     pub fn devices(&self) -> Devices<'_> {
-        Devices {
-            slots: self.slots.slots().iter(),
-        }
+        self.slots.iter()
     }
 
     /// Returns the number of devices.
     ///
     /// It does not visit the devices, and does not allocate.
     pub fn device_count(&self) -> u64 {
-        self.slots.slots().len() as u64
+        self.id_allocator.held_count()
     }
 
     /// Returns the device whose range contains the address, or `None` if no device has it.

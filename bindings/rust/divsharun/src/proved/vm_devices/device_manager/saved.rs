@@ -3,6 +3,7 @@
 //! The saved value of a manager: its version, both allocators, and the list of its devices.
 
 use crate::rattle::Vec;
+mod listed;
 mod pairing;
 mod slots;
 
@@ -28,7 +29,7 @@ impl DeviceManager {
     pub fn to_value(&self, alloc: Global) -> Result<Value> {
         let ids = self.id_allocator.to_value(alloc)?;
         let space = self.mmio_allocator.to_value(alloc)?;
-        let slots = encode_slots(alloc, self.slots.slots())?;
+        let slots = encode_slots(alloc, self.devices())?;
         Ok(manager_object(alloc, ids, space, slots)?)
     }
 

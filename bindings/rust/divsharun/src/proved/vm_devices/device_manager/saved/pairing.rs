@@ -4,10 +4,11 @@
 //! ranges.
 
 use super::slots::read_slots;
+use crate::proved::vm_devices::device_manager::slots::Slots;
 use crate::rattle::Value;
 use crate::rattle::{AllocError, Global};
-use crate::rattle::{BTreeMap, BTreeSet};
-use crate::proved::vm_allocator::{AddressAllocator, IdAllocator, RangeInclusive, ValueError};
+use crate::rattle::BTreeSet;
+use crate::proved::vm_allocator::{AddressAllocator, IdAllocator, ValueError};
 
 /// Reads the table of the devices of a list. Returns `NotAState` if they do not pair the allocated
 /// ids with the allocated ranges.
@@ -16,7 +17,7 @@ pub(super) fn read_devices(
     ids: &IdAllocator,
     space: &AddressAllocator,
     list: &[Value],
-) -> core::result::Result<BTreeMap<u32, RangeInclusive>, ValueError> {
+) -> core::result::Result<Slots, ValueError> {
     // The list can be untrusted input, so it is counted before memory is allocated for it.
     if !counts_match(ids, space, list) {
         return Err(ValueError::NotAState);
@@ -36,18 +37,18 @@ fn counts_match(ids: &IdAllocator, space: &AddressAllocator, items: &[Value]) ->
 
 /// Returns whether the id and the range of each device are allocated, and no two ranges have the
 /// same start.
-fn are_held_and_distinct(
+pub(super) fn are_held_and_distinct(
     alloc: Global,
     ids: &IdAllocator,
     space: &AddressAllocator,
-    slots: &BTreeMap<u32, RangeInclusive>,
+    slots: &Slots,
 ) -> core::result::Result<bool, AllocError> {
     let mut starts = BTreeSet::new(alloc);
-    for (id, range) in slots.iter() {
-        if !ids.is_allocated(*id) || !space.holds(range) {
+    for device in slots.iter() {
+        if !ids.is_allocated(device.id) || !space.holds(&device.range) {
             return Ok(false);
         }
-        if !starts.insert(range.start())? {
+        if !starts.insert(device.range.start())? {
             return Ok(false);
         }
     }

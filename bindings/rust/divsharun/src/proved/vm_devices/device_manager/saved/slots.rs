@@ -3,27 +3,27 @@
 //! The list of devices in a manager's value.
 
 use crate::rattle::Vec;
+use crate::proved::vm_devices::device_manager::slots::{Devices, Slots};
 use crate::proved::vm_devices::device_slot::DeviceSlot;
 use crate::rattle::{Value, json};
 use crate::rattle::{AllocError, Global};
-use crate::rattle::BTreeMap;
-use crate::proved::vm_allocator::{RangeInclusive, Result, ValueError};
+use crate::proved::vm_allocator::{Result, ValueError};
 use crate::proved::vm_ranges::{has_fields, range_in, u32_in};
 
-/// Encodes the devices as a list, by increasing ids.
-pub(super) fn encode_slots(alloc: Global, slots: &BTreeMap<u32, RangeInclusive>) -> Result<Value> {
+/// Encodes the devices as a list.
+pub(super) fn encode_slots(alloc: Global, devices: Devices<'_>) -> Result<Value> {
     let mut list = Vec::new(alloc);
-    for (id, range) in slots.iter() {
-        let slot = encode_slot(alloc, *id, range)?;
+    for device in devices {
+        let slot = encode_slot(alloc, &device)?;
         list.push(slot)?;
     }
     Ok(Value::from(list))
 }
 
 /// Encodes one device.
-fn encode_slot(alloc: Global, id: u32, range: &RangeInclusive) -> Result<Value> {
-    let range = range.to_value(alloc)?;
-    Ok(slot_object(alloc, id, range)?)
+fn encode_slot(alloc: Global, device: &DeviceSlot) -> Result<Value> {
+    let range = device.range.to_value(alloc)?;
+    Ok(slot_object(alloc, device.id, range)?)
 }
 
 /// Builds the object with the fields of a device.
@@ -36,8 +36,8 @@ fn slot_object(alloc: Global, id: u32, range: Value) -> core::result::Result<Val
 pub(super) fn read_slots(
     alloc: Global,
     list: &[Value],
-) -> core::result::Result<BTreeMap<u32, RangeInclusive>, ValueError> {
-    let mut slots = BTreeMap::new(alloc);
+) -> core::result::Result<Slots, ValueError> {
+    let mut slots = Slots::new(alloc);
     let mut lowest = 0u64;
     for item in list {
         let Some(slot) = decode_slot(item) else {
@@ -46,7 +46,7 @@ pub(super) fn read_slots(
         if u64::from(slot.id) < lowest {
             return Err(ValueError::NotAState);
         }
-        slots.insert(slot.id, slot.range)?;
+        slots.insert(alloc, slot.id, slot.range)?;
         lowest = u64::from(slot.id) + 1;
     }
     Ok(slots)

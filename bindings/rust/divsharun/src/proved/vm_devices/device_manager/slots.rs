@@ -1,0 +1,140 @@
+// Written by bindings/erase from crates/vm_devices/src/device_manager/slots.rt: do not edit.
+
+//! The ranges of the devices by their ids, in a vector.
+//!
+//! The lowest free id is always allocated first, so the ids are close together, and a vector takes
+//! less time than a map.
+
+use crate::rattle::Vec;
+use crate::proved::vm_devices::device_slot::DeviceSlot;
+use crate::rattle::{AllocError, Global};
+use crate::proved::vm_allocator::RangeInclusive;
+
+/// The ranges of the devices by their ids.
+#[derive(Debug)]
+pub(super) struct Slots {
+    // The device with the id `first_id + i` has the range `ranges[i]`, if there is one.
+    first_id: u32,
+    ranges: Vec<Option<RangeInclusive>>,
+}
+
+impl Slots {
+    /// Creates a table without devices. It does not allocate.
+    pub(super) fn new(alloc: Global) -> Slots {
+        Slots {
+            first_id: 0,
+            ranges: Vec::new(alloc),
+        }
+    }
+
+    /// Returns the range of the device with this id.
+    pub(super) fn get(&self, id: u32) -> Option<RangeInclusive> {
+        if id < self.first_id {
+            return None;
+        }
+        let index = (id - self.first_id) as usize;
+        if index >= self.ranges.len() {
+            return None;
+        }
+        self.ranges[index]
+    }
+
+    /// Removes the device with this id, and returns its range.
+    pub(super) fn remove(&mut self, id: u32) -> Option<RangeInclusive> {
+        if id < self.first_id {
+            return None;
+        }
+        let index = (id - self.first_id) as usize;
+        if index >= self.ranges.len() {
+            return None;
+        }
+        let removed = self.ranges[index];
+        self.ranges[index] = None;
+        removed
+    }
+
+    /// Inserts a device, or changes its range. An error changes nothing.
+    pub(super) fn insert(
+        &mut self,
+        alloc: Global,
+        id: u32,
+        range: RangeInclusive,
+    ) -> Result<(), AllocError> {
+        if self.ranges.is_empty() {
+            self.first_id = id;
+        }
+        if id < self.first_id {
+            self.ranges = with_empty_first(alloc, self.first_id - id, &self.ranges)?;
+            self.first_id = id;
+        }
+        let index = (id - self.first_id) as usize;
+        extend_to(&mut self.ranges, index)?;
+        self.ranges[index] = Some(range);
+        Ok(())
+    }
+
+    /// Returns a copy.
+    pub(super) fn try_clone(&self) -> Result<Slots, AllocError> {
+        Ok(Slots {
+            first_id: self.first_id,
+            ranges: self.ranges.clone()?,
+        })
+    }
+
+    /// Returns an iterator over the devices, by increasing ids.
+    pub(super) fn iter(&self) -> Devices<'_> {
+        Devices {
+            next_id: u64::from(self.first_id),
+            slots: &self.ranges,
+        }
+    }
+}
+
+/// Returns the slots behind `count` empty ones.
+fn with_empty_first(
+    alloc: Global,
+    count: u32,
+    slots: &[Option<RangeInclusive>],
+) -> Result<Vec<Option<RangeInclusive>>, AllocError> {
+    let mut all = Vec::new(alloc);
+    for _ in 0..count {
+        all.push(None)?;
+    }
+    for slot in slots {
+        all.push(*slot)?;
+    }
+    Ok(all)
+}
+
+/// Appends empty slots until there is one at `index`.
+fn extend_to(slots: &mut Vec<Option<RangeInclusive>>, index: usize) -> Result<(), AllocError> {
+    while slots.len() <= index {
+        slots.push(None)?;
+    }
+    Ok(())
+}
+
+/// An iterator over the devices, by increasing ids. It does not allocate.
+///
+/// Its model is the list of the devices that it has not returned yet.
+pub struct Devices<'a> {
+    next_id: u64,
+    slots: &'a [Option<RangeInclusive>],
+}
+
+impl<'a> Iterator for Devices<'a> {
+    type Item = DeviceSlot;
+
+    /// Returns the next device.
+    fn next(&mut self) -> Option<DeviceSlot> {
+        while let Some((slot, rest)) = self.slots.split_first() {
+            let id = self.next_id as u32;
+            self.next_id += 1;
+            self.slots = rest;
+            if let Some(range) = slot {
+                return Some(DeviceSlot { id, range: *range });
+            }
+        }
+        None
+    }
+}

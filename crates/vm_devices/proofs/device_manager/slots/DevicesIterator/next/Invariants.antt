@@ -1,0 +1,13 @@
+use Rattle.std.proofs.Common.{◌≡◌, ◌+◌, ◌≤◌, ◌^◌, length, map}
+use Rattle.vm_devices.specs.Queries.{device_of}
+use Rattle.vm_devices.specs.Slots.{slot_entries}
+use Rattle.vm_devices.proofs.device_manager.slots.DevicesIterator.next.Given as goal
+
+abbrev pub invariant-loop-slot : goal.invariant-loop-slot
+invariant-loop-slot l = record {
+  left : map device_of (slot_entries l.self-inside.next_id l.self-inside.slots.now) ≡ map device_of (slot_entries l.initial.self-inside.next_id l.initial.self-inside.slots.now);
+  ids : l.self-inside.next_id + length l.self-inside.slots.now ≤ 2 ^ 32;
+}
+
+abbrev pub decreases-loop-slot : goal.decreases-loop-slot
+decreases-loop-slot l = length l.self-inside.slots.now
