@@ -37,7 +37,7 @@ mod texts;
 #[path = "../speed/through_rust.rs"]
 mod through_rust;
 
-use crate::proved::vm_allocator::{self, RangeInclusive};
+use crate::proved::vm_allocator::RangeInclusive;
 use core::mem::MaybeUninit;
 use status::{dvs_refusal, dvs_status, status_of, CallError};
 

@@ -200,7 +200,7 @@ impl IdAllocator {
     /// Returns the number of allocated ids.
     ///
     /// It does not visit the ids, and does not allocate memory.
-    #[tactic(auto, using(crate::proofs::Ids::IdCounts::counts))]
+    #[tactic(auto, using(crate::proofs::Ids::IdCounts::counts, crate::proofs::Ids::IdFields::states))]
     pub fn held_count(&self) -> u64
         ensures value { result ≡ held_count self.now }
         ensures state { IsIdState self.now }

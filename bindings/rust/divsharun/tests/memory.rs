@@ -58,12 +58,12 @@ const TRIED: [(u64, TriedCall); 20] = [
     (0, |_| refused(one_held_id().try_free_id(1))),
     (0, |_| one_held_id().try_clone().map(drop)),
     (1, |_| DeviceManager::try_new(0, 0, 0, 64).map(drop)),
-    (8, |_| {
+    (7, |_| {
         let mut devices = DeviceManager::try_new(0, 0, 0, 64)?;
         devices.try_reserve(1, 1, FirstMatch)?;
         devices.try_release(0)
     }),
-    (1 + 1 + 4 + 2 + 4, |_| {
+    (1 + 1 + 3 + 2 + 3, |_| {
         let mut devices = DeviceManager::try_new(0, 0, 0, 64)?;
         devices.try_reserve(1, 1, FirstMatch)?;
         devices.try_clone().map(drop)
@@ -88,7 +88,7 @@ const ENDED: [(u64, EndedCall); 10] = [
     (2, |_| drop(one_free_id())),
     (4, |_| drop(one_free_id().clone())),
     (1, |_| assert!(DeviceManager::new(0, 0, 0, 64).is_ok())),
-    (8, |_| reserve_and_release()),
+    (7, |_| reserve_and_release()),
 ];
 
 fn main() {
@@ -155,8 +155,8 @@ fn one_free_id() -> IdAllocator {
     ids
 }
 
-/// Makes an allocation for the space and one for the rest of its gap, and two each for both maps of
-/// devices and for the set of freed ids.
+/// Makes an allocation for the space, one for the rest of its gap, one for the list of devices, and
+/// two each for the map of devices and for the set of freed ids.
 fn reserve_and_release() {
     let mut devices = DeviceManager::new(0, 0, 0, 64).expect("a manager");
     assert!(devices.reserve(1, 1, FirstMatch).is_ok());

@@ -30,7 +30,8 @@ impl<T> Vec<T> {
         Ok(())
     }
 
-    /// Returns a copy.
+    /// Returns a copy, or an error if an allocation fails.
+    #[allow(clippy::should_implement_trait)]
     pub fn clone(&self) -> Result<Self, AllocError>
     where
         T: Clone,
