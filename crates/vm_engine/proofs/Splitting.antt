@@ -1,3 +1,4 @@
 pub mod TakenRanges
 pub mod SplitTrees
 pub mod SplitStates
+pub mod OnlyGaps

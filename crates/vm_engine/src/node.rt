@@ -16,6 +16,7 @@ mod find;
 mod laws;
 mod link;
 pub(crate) mod neighbours;
+pub(crate) mod outermost;
 pub(crate) mod places;
 pub(crate) mod rewrite;
 mod search_tree;

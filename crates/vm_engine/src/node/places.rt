@@ -9,10 +9,12 @@ ghost use Rattle.vm_ranges.specs.Range.{MAX};
 ghost use Rattle.vm_ranges.specs.Alignment.{IsAlignment};
 ghost use Rattle.vm_engine.specs.Tree.Fit.{FindsLowestFit, FindsHighestFit};
 ghost use Rattle.vm_engine.specs.Engine.Place.{FindsFirst, FindsLast};
+ghost use Rattle.vm_engine.specs.Engine.OnlyGap.{KnowsOthers};
 ghost use Rattle.vm_engine.specs.Tree.Shape.{MAX_HEIGHT, blocks, height_of, node_count, IsTree};
 ghost use Rattle.vm_engine.specs.Counts.NodeCounts.{may_fit_in, nodes_of_first, nodes_of_last};
 ghost use Rattle.vm_engine.specs.Engine.NodeFields.{side};
 
+use super::outermost::Edge;
 use super::{Child, InnerNode};
 use crate::Steps;
 use vm_ranges::{NodeState, RangeInclusive, align_down, align_up};
@@ -74,7 +76,7 @@ fn highest_fit(key: &RangeInclusive, state: NodeState, size: u64, alignment: u64
 /// multiple of `alignment`. These can be different blocks.
 #[inline(always)]
 #[tactic(auto, using(crate::proofs::Counts::Entering::searched))]
-fn may_fit(tree: &Child, size: u64, alignment: u64) -> Option<&InnerNode>
+pub(super) fn may_fit(tree: &Child, size: u64, alignment: u64) -> Option<&InnerNode>
     requires sized { 0 < size }
     requires aligned { IsAlignment alignment }
     ensures { MatchOption result
@@ -96,19 +98,21 @@ pub(crate) fn first_place(
     tree: &Child,
     size: u64,
     alignment: u64,
+    edge: &mut Edge,
     count: &mut Steps,
 ) -> Option<Place>
-    requires sized { 0 < size }
-    requires aligned { IsAlignment alignment }
+    requires request { (0 < size) × IsAlignment alignment }
+    requires new { edge.old.reached ≡ false }
     requires count_fits { count.old + node_count (side tree.now) < MAX }
     requires depth { height_of (side tree.now) ≤ MAX_HEIGHT }
     ensures place { FindsFirst size alignment (blocks (side tree.now)) result }
+    ensures others { KnowsOthers size edge.new result (blocks (side tree.now)) }
     ensures tree { IfSome result (λ _. IsTree (side tree.now)) }
     ensures count { count.new ≡ count.old + nodes_of_first size alignment (side tree.now) }
 {
     let mut found = None;
     if let Some(node) = may_fit(tree, size, alignment) {
-        node.first_place(size, alignment, &mut found, count);
+        node.first_on_edge(size, alignment, edge, &mut found, count);
     }
     found
 }
@@ -119,19 +123,21 @@ pub(crate) fn last_place(
     tree: &Child,
     size: u64,
     alignment: u64,
+    edge: &mut Edge,
     count: &mut Steps,
 ) -> Option<Place>
-    requires sized { 0 < size }
-    requires aligned { IsAlignment alignment }
+    requires request { (0 < size) × IsAlignment alignment }
+    requires new { edge.old.reached ≡ false }
     requires count_fits { count.old + node_count (side tree.now) < MAX }
     requires depth { height_of (side tree.now) ≤ MAX_HEIGHT }
     ensures place { FindsLast size alignment (blocks (side tree.now)) result }
+    ensures others { KnowsOthers size edge.new result (blocks (side tree.now)) }
     ensures tree { IfSome result (λ _. IsTree (side tree.now)) }
     ensures count { count.new ≡ count.old + nodes_of_last size alignment (side tree.now) }
 {
     let mut found = None;
     if let Some(node) = may_fit(tree, size, alignment) {
-        node.last_place(size, alignment, &mut found, count);
+        node.last_on_edge(size, alignment, edge, &mut found, count);
     }
     found
 }
@@ -139,7 +145,7 @@ pub(crate) fn last_place(
 impl InnerNode {
     /// Writes the lowest place in the subtree to `found`, if there is a place.
     #[tactic(auto, using(crate::proofs::Choosing::PlaceSearch::firsts, crate::proofs::Counts::Searching::firsts))]
-    fn first_place(&self, size: u64, alignment: u64, found: &mut Option<Place>, count: &mut Steps)
+    pub(super) fn first_place(&self, size: u64, alignment: u64, found: &mut Option<Place>, count: &mut Steps)
         requires request { (0 < size) × IsAlignment alignment }
         requires may_fit { may_fit_in size alignment self.now ≡ true }
         requires none_yet { found.old ≡ None }
@@ -170,7 +176,7 @@ impl InnerNode {
 
     /// Writes the highest place in the subtree to `found`, if there is a place.
     #[tactic(auto, using(crate::proofs::Choosing::PlaceSearch::lasts, crate::proofs::Counts::Searching::lasts))]
-    fn last_place(&self, size: u64, alignment: u64, found: &mut Option<Place>, count: &mut Steps)
+    pub(super) fn last_place(&self, size: u64, alignment: u64, found: &mut Option<Place>, count: &mut Steps)
         requires request { (0 < size) × IsAlignment alignment }
         requires may_fit { may_fit_in size alignment self.now ≡ true }
         requires none_yet { found.old ≡ None }

@@ -73,7 +73,7 @@ pub(crate) struct Split {
 /// Returns the change of the subtree's summary.
 #[tactic(auto, using(crate::proofs::Splitting::SplitTrees::split_steps, crate::proofs::Counts::SplitCounts::nodes_to_split_cases, crate::proofs::Counts::SplitCounts::link_bounds))]
 #[inline(never)]
-fn split_here(at: &mut Child, split: &mut Split, count: &mut Steps) -> Change
+pub(super) fn split_here(at: &mut Child, split: &mut Split, count: &mut Steps) -> Change
     requires some { IsSome at.old }
     requires leaves { AreLeaves split.old.rest }
     requires can_be_split { CanSplit (blocks (side at.old)) (root_block (side at.old)).key split.old.choice.range split.old.rest }

@@ -14,6 +14,7 @@ pub(crate) mod delete;
 mod find;
 mod link;
 pub(crate) mod neighbours;
+pub(crate) mod outermost;
 pub(crate) mod places;
 pub(crate) mod rewrite;
 pub(crate) mod split;

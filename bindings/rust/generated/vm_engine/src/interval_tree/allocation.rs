@@ -9,8 +9,9 @@
 use rattle::Box;
 use super::IntervalTree;
 use crate::Steps;
+use crate::node::outermost::{Edge, split_gap};
 use crate::node::rewrite::rewrite_at;
-use crate::node::split::{Choice, Rest, Split, split_at};
+use crate::node::split::{Choice, Rest, Split};
 use crate::node::{Child, InnerNode};
 use crate::ordering::valid_range;
 use rattle::Global;
@@ -28,6 +29,7 @@ impl IntervalTree {
         &mut self,
         alloc: Global,
         choice: Choice,
+        edge: &Edge,
         count: &mut Steps,
     ) -> Result<RangeInclusive> {
         if !needs_split(&choice) {
@@ -45,7 +47,7 @@ impl IntervalTree {
         }
         let rest = rest_of(alloc, &choice)?;
         let mut split = Split { choice, rest };
-        split_at(&mut self.root, &mut split, count);
+        split_gap(&mut self.root, &mut split, edge, count);
         Ok(choice.range)
     }
 }

@@ -7,6 +7,7 @@
 //! every level. Before a call enters a child, `may_fit` checks that the child exists and that its
 //! summary fits the request.
 
+use super::outermost::Edge;
 use super::{Child, InnerNode};
 use crate::Steps;
 use vm_ranges::{NodeState, RangeInclusive, align_down, align_up};
@@ -57,7 +58,7 @@ fn highest_fit(key: &RangeInclusive, state: NodeState, size: u64, alignment: u64
 /// This is true if one of its free blocks has at least `size` addresses, and one of them has a
 /// multiple of `alignment`. These can be different blocks.
 #[inline(always)]
-fn may_fit(tree: &Child, size: u64, alignment: u64) -> Option<&InnerNode> {
+pub(super) fn may_fit(tree: &Child, size: u64, alignment: u64) -> Option<&InnerNode> {
     let Some(node) = tree else { return None };
     let node: &InnerNode = node;
     if node.max_free < size || u32::from(node.alignments) <= alignment.trailing_zeros() {
@@ -72,11 +73,12 @@ pub(crate) fn first_place(
     tree: &Child,
     size: u64,
     alignment: u64,
+    edge: &mut Edge,
     count: &mut Steps,
 ) -> Option<Place> {
     let mut found = None;
     if let Some(node) = may_fit(tree, size, alignment) {
-        node.first_place(size, alignment, &mut found, count);
+        node.first_on_edge(size, alignment, edge, &mut found, count);
     }
     found
 }
@@ -86,18 +88,19 @@ pub(crate) fn last_place(
     tree: &Child,
     size: u64,
     alignment: u64,
+    edge: &mut Edge,
     count: &mut Steps,
 ) -> Option<Place> {
     let mut found = None;
     if let Some(node) = may_fit(tree, size, alignment) {
-        node.last_place(size, alignment, &mut found, count);
+        node.last_on_edge(size, alignment, edge, &mut found, count);
     }
     found
 }
 
 impl InnerNode {
     /// Writes the lowest place in the subtree to `found`, if there is a place.
-    fn first_place(&self, size: u64, alignment: u64, found: &mut Option<Place>, count: &mut Steps) {
+    pub(super) fn first_place(&self, size: u64, alignment: u64, found: &mut Option<Place>, count: &mut Steps) {
         self.enter(count);
         if let Some(left) = may_fit(&self.left, size, alignment) {
             left.first_place(size, alignment, found, count);
@@ -118,7 +121,7 @@ impl InnerNode {
     }
 
     /// Writes the highest place in the subtree to `found`, if there is a place.
-    fn last_place(&self, size: u64, alignment: u64, found: &mut Option<Place>, count: &mut Steps) {
+    pub(super) fn last_place(&self, size: u64, alignment: u64, found: &mut Option<Place>, count: &mut Steps) {
         self.enter(count);
         if let Some(right) = may_fit(&self.right, size, alignment) {
             right.last_place(size, alignment, found, count);

@@ -54,7 +54,7 @@ pub(crate) struct Split {
 /// Gives the root of the subtree at a link the range, marks it as allocated, and links the leaves.
 /// Returns the change of the subtree's summary.
 #[inline(never)]
-fn split_here(at: &mut Child, split: &mut Split, count: &mut Steps) -> Change {
+pub(super) fn split_here(at: &mut Child, split: &mut Split, count: &mut Steps) -> Change {
     let Some(tree) = at else { unreachable!() };
     let tree: &mut InnerNode = tree;
     tree.key = split.choice.range;
