@@ -9,7 +9,7 @@ ghost use Rattle.vm_ranges.specs.Range.{MAX};
 ghost use Rattle.vm_ranges.specs.Alignment.{IsAlignment};
 ghost use Rattle.vm_engine.specs.Tree.Fit.{FindsLowestFit, FindsHighestFit};
 ghost use Rattle.vm_engine.specs.Engine.Place.{FindsFirst, FindsLast};
-ghost use Rattle.vm_engine.specs.Engine.OnlyGap.{KnowsOthers};
+ghost use Rattle.vm_engine.specs.Engine.OnlyGap.{IsNewEdge, KnowsGap};
 ghost use Rattle.vm_engine.specs.Tree.Shape.{MAX_HEIGHT, blocks, height_of, node_count, IsTree};
 ghost use Rattle.vm_engine.specs.Counts.NodeCounts.{may_fit_in, nodes_of_first, nodes_of_last};
 ghost use Rattle.vm_engine.specs.Engine.NodeFields.{side};
@@ -102,11 +102,11 @@ pub(crate) fn first_place(
     count: &mut Steps,
 ) -> Option<Place>
     requires request { (0 < size) × IsAlignment alignment }
-    requires new { edge.old.reached ≡ false }
+    requires new { IsNewEdge edge.old }
     requires count_fits { count.old + node_count (side tree.now) < MAX }
     requires depth { height_of (side tree.now) ≤ MAX_HEIGHT }
     ensures place { FindsFirst size alignment (blocks (side tree.now)) result }
-    ensures others { KnowsOthers size edge.new result (blocks (side tree.now)) }
+    ensures gap { KnowsGap size edge.old edge.new result (side tree.now) }
     ensures tree { IfSome result (λ _. IsTree (side tree.now)) }
     ensures count { count.new ≡ count.old + nodes_of_first size alignment (side tree.now) }
 {
@@ -127,11 +127,11 @@ pub(crate) fn last_place(
     count: &mut Steps,
 ) -> Option<Place>
     requires request { (0 < size) × IsAlignment alignment }
-    requires new { edge.old.reached ≡ false }
+    requires new { IsNewEdge edge.old }
     requires count_fits { count.old + node_count (side tree.now) < MAX }
     requires depth { height_of (side tree.now) ≤ MAX_HEIGHT }
     ensures place { FindsLast size alignment (blocks (side tree.now)) result }
-    ensures others { KnowsOthers size edge.new result (blocks (side tree.now)) }
+    ensures gap { KnowsGap size edge.old edge.new result (side tree.now) }
     ensures tree { IfSome result (λ _. IsTree (side tree.now)) }
     ensures count { count.new ≡ count.old + nodes_of_last size alignment (side tree.now) }
 {
