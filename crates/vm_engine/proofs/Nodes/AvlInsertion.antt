@@ -27,13 +27,13 @@ two_nodes (Fork (Fork x y z) b r) e =
     (omega (arith, height_at_most x, height_at_most z, height_at_most r), λ d. omega (arith, d, height_at_most r))
 
 -- ---- The path to a leaf
-not_both : (a b : Range) → Before a b → ¬ Before b a
+pub not_both : (a b : Range) → Before a b → ¬ Before b a
 not_both a b p q = let f = before_first a b p in let g = after_first a b q in cc
 
-not_itself : (k b : Range) → k ≡ b → ¬ Before k b
+pub not_itself : (k b : Range) → k ≡ b → ¬ Before k b
 not_itself k b e p = let q : Before b b = rw e at p in not_both b b q q
 
-not_itself_after : (k b : Range) → k ≡ b → ¬ Before b k
+pub not_itself_after : (k b : Range) → k ≡ b → ¬ Before b k
 not_itself_after k b e p = let q : Before b b = rw e at p in not_both b b q q
 
 module _ (k : Range) (l : Shape) (b : Block) (r : Shape) where

@@ -1,5 +1,5 @@
 -- The split of a leaf into two blocks, which adds one leaf.
-use Rattle.std.proofs.Common.{◌≡◌, ◌+◌, Option, Some, None, IfSome, List, [], ◌∷◌, ◌++◌, length, refl, ap, ◌∙◌, sym, arith, inr, length-append}
+use Rattle.std.proofs.Common.{◌≡◌, ◌≢◌, ◌+◌, ◌≤◌, Option, Some, None, IfSome, List, [], ◌∷◌, ◌++◌, length, refl, ap, ◌∙◌, sym, arith, inr, length-append}
 use Rattle.std.specs.Global.{Box}
 use Rattle.vm_ranges.specs.Range.{Range}
 use Rattle.vm_engine.specs.Tree.Block.{Block, held_block}
@@ -17,6 +17,15 @@ use Rattle.vm_engine.proofs.Nodes.MinNodes.{node_count-blocks}
 leaf_nodes : (leaf : Option (Box InnerNode)) → IfSome leaf (λ n. IsLeaf n.value) → length (blocks (side leaf)) ≡ height_of (side leaf)
 leaf_nodes None h = refl
 leaf_nodes (Some n) h = let e : n.value ≡ single (root_block n.value) = h in rw e refl
+
+leaf_height : (leaf : Option (Box InnerNode)) → IfSome leaf (λ n. IsLeaf n.value) → height_of (side leaf) ≤ 1
+leaf_height None h = omega arith
+leaf_height (Some n) h = let e : n.value ≡ single (root_block n.value) = h in rw e (omega arith)
+
+pub one_part_if : (rest : Rest) → AreLeaves rest → height_of (side rest.before) ≢ height_of (side rest.after) → HasOnePart rest
+one_part_if rest leaves u = omega (arith, leaf_height rest.before leaves.before, leaf_height rest.after leaves.after, u)
+
+pub ruleset one_part = (one_part_if)
 
 pub leaf_split : (s n l : Shape) (b : Block) (r : Shape) (key range : Range) (rest : Rest) → s ≡ Fork l b r → key ≡ b.key → IsTree s → IsLeafAt key s → AreLeaves rest → HasOnePart rest
     → blocks n ≡ with_split key range rest (blocks s) → AddsLeaf s n

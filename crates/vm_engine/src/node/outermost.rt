@@ -5,7 +5,7 @@
 //! each subtree on the path keeps just what a split leaves of the gap, unless a block that the search
 //! passed has more alignments. A node whose children differ in height keeps its height when a leaf is
 //! added below it. So the split knows all summaries above the last such node on its way down.
-ghost use Rattle.std.specs.Prelude.{◌≡◌, ◌+◌, ◌*◌, ◌<◌, ◌≤◌, false, None, IfSome};
+ghost use Rattle.std.specs.Prelude.{◌≡◌, ◌+◌, ◌*◌, ◌<◌, ◌≤◌, true, false, None, IfSome};
 ghost use Rattle.vm_ranges.specs.Range.{MAX};
 ghost use Rattle.vm_ranges.specs.Alignment.{IsAlignment};
 ghost use Rattle.vm_engine.specs.Engine.Place.{FindsFirst, FindsLast};
@@ -15,7 +15,7 @@ ghost use Rattle.vm_engine.specs.Engine.SplitBlocks.{with_split, AreLeaves, CanS
 ghost use Rattle.vm_engine.specs.Tree.Shape.{MAX_HEIGHT, blocks, height_of, node_count, IsTree};
 ghost use Rattle.vm_engine.specs.Counts.NodeCounts.{may_fit_in, nodes_of_first, nodes_of_last, nodes_to_split};
 
-use super::places::{Place, may_fit};
+use super::places::{Place, highest_fit, lowest_fit, with_multiple};
 use super::split::{Split, split_at};
 use super::summary::{FreeSummary, Summary, free_summary_over, summary_of};
 use super::{Child, InnerNode};
@@ -53,6 +53,7 @@ impl Edge {
     /// Notes a passed node: the summary of the child that the search passes, and the height of the
     /// child that it enters.
     #[inline(always)]
+    #[tactic(auto, using(std::proofs::lemmas::Nat::le_or_l, std::proofs::lemmas::Nat::le_or_r))]
     fn pass(&mut self, passed: Summary, entered_height: u64)
         requires { self.old.depth < MAX_HEIGHT }
         ensures { Passes passed entered_height self.old self.new }
@@ -86,13 +87,26 @@ impl InnerNode {
         ensures count { count.new ≡ count.old + nodes_of_first size alignment self.now }
         ensures tree { IsTree self.now }
     {
+        if self.node_state == NodeState::Free {
+            if self.left.is_some() || self.right.is_some() {
+                return self.first_place(size, alignment, found, count);
+            }
+            self.enter(count);
+            edge.reached = true;
+            if let Some(start) = lowest_fit(&self.key, self.node_state, size, alignment) {
+                *found = Some(Place {
+                    key: self.key,
+                    start,
+                });
+            }
+            return;
+        }
         let left = summary_of(&self.left);
-        if self.node_state == NodeState::Free || left.free.max_free >= size {
-            edge.reached = self.left.is_none() && self.right.is_none();
+        if left.free.max_free >= size {
             return self.first_place(size, alignment, found, count);
         }
         self.enter(count);
-        if let Some(right) = may_fit(&self.right, size, alignment) {
+        if let Some(right) = with_multiple(&self.right, alignment) {
             edge.pass(left, right.height);
             right.first_on_edge(size, alignment, edge, found, count);
         }
@@ -118,13 +132,26 @@ impl InnerNode {
         ensures count { count.new ≡ count.old + nodes_of_last size alignment self.now }
         ensures tree { IsTree self.now }
     {
+        if self.node_state == NodeState::Free {
+            if self.left.is_some() || self.right.is_some() {
+                return self.last_place(size, alignment, found, count);
+            }
+            self.enter(count);
+            edge.reached = true;
+            if let Some(start) = highest_fit(&self.key, self.node_state, size, alignment) {
+                *found = Some(Place {
+                    key: self.key,
+                    start,
+                });
+            }
+            return;
+        }
         let right = summary_of(&self.right);
-        if self.node_state == NodeState::Free || right.free.max_free >= size {
-            edge.reached = self.left.is_none() && self.right.is_none();
+        if right.free.max_free >= size {
             return self.last_place(size, alignment, found, count);
         }
         self.enter(count);
-        if let Some(left) = may_fit(&self.left, size, alignment) {
+        if let Some(left) = with_multiple(&self.left, alignment) {
             edge.pass(right, left.height);
             left.last_on_edge(size, alignment, edge, found, count);
         }
@@ -155,7 +182,9 @@ pub(crate) fn split_gap(at: &mut Child, split: &mut Split, edge: &Edge, count: &
 
 /// Returns the free summary of the rest of a gap, if it is one part, and the search knows that no other
 /// block is longer or has more alignments.
+#[tactic(auto, using(crate::proofs::Splitting::SplitLeaves::one_part))]
 fn only_rest(split: &Split, edge: &Edge) -> Option<FreeSummary>
+    requires { AreLeaves split.now.rest }
     ensures { IfSome result (IsOnlyRest edge.now split.now) }
 {
     if !edge.reached || edge.steady == 0 {

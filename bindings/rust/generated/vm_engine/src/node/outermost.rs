@@ -8,7 +8,7 @@
 //! passed has more alignments. A node whose children differ in height keeps its height when a leaf is
 //! added below it. So the split knows all summaries above the last such node on its way down.
 
-use super::places::{Place, may_fit};
+use super::places::{Place, has_multiple, highest_fit, lowest_fit};
 use super::split::{Split, split_at};
 use super::summary::{FreeSummary, Summary, free_summary_over, summary_of};
 use super::{Child, InnerNode};
@@ -64,13 +64,26 @@ impl InnerNode {
         found: &mut Option<Place>,
         count: &mut Steps,
     ) {
+        if self.node_state == NodeState::Free {
+            if self.left.is_some() || self.right.is_some() {
+                return self.first_place(size, alignment, found, count);
+            }
+            self.enter(count);
+            edge.reached = true;
+            if let Some(start) = lowest_fit(&self.key, self.node_state, size, alignment) {
+                *found = Some(Place {
+                    key: self.key,
+                    start,
+                });
+            }
+            return;
+        }
         let left = summary_of(&self.left);
-        if self.node_state == NodeState::Free || left.free.max_free >= size {
-            edge.reached = self.left.is_none() && self.right.is_none();
+        if left.free.max_free >= size {
             return self.first_place(size, alignment, found, count);
         }
         self.enter(count);
-        if let Some(right) = may_fit(&self.right, size, alignment) {
+        if let Some(right) = has_multiple(&self.right, alignment) {
             edge.pass(left, right.height);
             right.first_on_edge(size, alignment, edge, found, count);
         }
@@ -86,13 +99,26 @@ impl InnerNode {
         found: &mut Option<Place>,
         count: &mut Steps,
     ) {
+        if self.node_state == NodeState::Free {
+            if self.left.is_some() || self.right.is_some() {
+                return self.last_place(size, alignment, found, count);
+            }
+            self.enter(count);
+            edge.reached = true;
+            if let Some(start) = highest_fit(&self.key, self.node_state, size, alignment) {
+                *found = Some(Place {
+                    key: self.key,
+                    start,
+                });
+            }
+            return;
+        }
         let right = summary_of(&self.right);
-        if self.node_state == NodeState::Free || right.free.max_free >= size {
-            edge.reached = self.left.is_none() && self.right.is_none();
+        if right.free.max_free >= size {
             return self.last_place(size, alignment, found, count);
         }
         self.enter(count);
-        if let Some(left) = may_fit(&self.left, size, alignment) {
+        if let Some(left) = has_multiple(&self.left, alignment) {
             edge.pass(right, left.height);
             left.last_on_edge(size, alignment, edge, found, count);
         }
