@@ -23,6 +23,7 @@ ghost use Rattle.vm_engine.specs.Counts.Steps.{Enters, EntersToFree, IsBalancedT
 ghost use Rattle.vm_engine.specs.Tree.SpaceTree.{tree_state, IsSpaceTree, MakesTree};
 
 use crate::Steps;
+use crate::node::edge::Edge;
 use crate::node::walks::both_ends::Blocks;
 use crate::node::walks::copying::copy;
 use crate::node::{Child, InnerNode};
@@ -139,8 +140,9 @@ impl IntervalTree {
         ensures space { IsSpaceTree self.old }
         ensures tree { OnOk result (IsTree self.old) }
     {
-        let choice = self.choose_place(constraint, count)?;
-        self.allocate_chosen(alloc, choice, count)
+        let mut edge = Edge::new();
+        let choice = self.choose_place(constraint, &mut edge, count)?;
+        self.allocate_chosen(alloc, choice, &edge, count)
     }
 
     /// Allocates `size` free addresses that start at a multiple of the constraint's alignment, and

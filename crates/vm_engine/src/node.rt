@@ -12,10 +12,12 @@ ghost use Rattle.vm_engine.specs.Engine.NodeFields.{side};
 
 mod balance;
 pub(crate) mod delete;
+pub(crate) mod edge;
 mod find;
 mod laws;
 mod link;
 pub(crate) mod neighbours;
+pub(crate) mod outermost;
 pub(crate) mod places;
 pub(crate) mod rewrite;
 mod search_tree;

@@ -60,7 +60,7 @@ address_missed x (y ∷ bs) e =
     ] refl e
 
 -- Each block of an ordered list starts at lo or above.
-starts_from : (lo : ℕ) (g : Block) (us vs : List Block) → IsOrderedFrom lo (us ++ g ∷ vs) → lo ≤ g.key.start
+pub starts_from : (lo : ℕ) (g : Block) (us vs : List Block) → IsOrderedFrom lo (us ++ g ∷ vs) → lo ≤ g.key.start
 starts_from lo g [] vs o = o.0
 starts_from lo g (u ∷ us) vs o = omega (arith, starts_from (u.key.end + 1) g us vs o.2, o.0, o.1)
 

@@ -14,14 +14,17 @@ ghost use Rattle.vm_engine.specs.Tree.Shape.{blocks, height_of, single, leaf_of}
 ghost use Rattle.vm_engine.specs.Engine.Changes.{IsLeaf};
 ghost use Rattle.vm_engine.specs.Engine.NodeFields.{side};
 ghost use Rattle.vm_engine.specs.Engine.Choosing.{IsChoice};
+ghost use Rattle.vm_engine.specs.Engine.Outermost.{KnowsChoice};
 ghost use Rattle.vm_engine.specs.Tree.SpaceTree.{tree_state};
 ghost use Rattle.vm_engine.specs.Counts.Steps.{SPLIT_HEIGHT_LIMIT};
 ghost use Rattle.vm_engine.specs.Counts.NodeCounts.{nodes_if_allocated};
 
 use super::IntervalTree;
 use crate::Steps;
+use crate::node::edge::Edge;
+use crate::node::outermost::split_gap;
 use crate::node::rewrite::rewrite_at;
-use crate::node::split::{Choice, Rest, Split, split_at};
+use crate::node::split::{Choice, Rest, Split};
 use crate::node::{Child, InnerNode};
 use crate::ordering::valid_range;
 use std::alloc::Global;
@@ -40,15 +43,17 @@ impl IntervalTree {
         &mut self,
         alloc: Global,
         choice: Choice,
+        edge: &Edge,
         count: &mut Steps,
     ) -> Result<RangeInclusive>
         requires choice { IsChoice (blocks self.old) choice }
+        requires gap { KnowsChoice edge.now choice self.old }
         requires count_fits { count.old + 2 * height_of self.old < MAX }
         ensures answer { AllocatesAt (tree_state self.old) choice.range result (tree_state self.new) }
         ensures unchanged { OnErr result (self.new ≡ self.old) }
         ensures low { NeedsSplit choice.key choice.range → OnOk result (height_of self.old < SPLIT_HEIGHT_LIMIT) }
-        ensures memory { result ≡ Err Error.OutOfMemory → height_of self.old < SPLIT_HEIGHT_LIMIT }
-        ensures high { result ≡ Err Error.Overflow → SPLIT_HEIGHT_LIMIT ≤ height_of self.old }
+        ensures errors { (result ≡ Err Error.OutOfMemory → height_of self.old < SPLIT_HEIGHT_LIMIT)
+            × (result ≡ Err Error.Overflow → SPLIT_HEIGHT_LIMIT ≤ height_of self.old) }
         ensures count { count.new ≡ count.old + nodes_if_allocated choice.key result self.old }
     {
         if !needs_split(&choice) {
@@ -66,7 +71,7 @@ impl IntervalTree {
         }
         let rest = rest_of(alloc, &choice)?;
         let mut split = Split { choice, rest };
-        split_at(&mut self.root, &mut split, count);
+        split_gap(&mut self.root, &mut split, edge, count);
         Ok(choice.range)
     }
 }

@@ -1,5 +1,5 @@
 //! Chooses the range of a request, and finds the free block that contains it.
-ghost use Rattle.std.specs.Prelude.{◌≡◌, ◌≢◌, ◌+◌, ◌<◌, ◌≤◌, IfErr, OnOk, IfSome};
+ghost use Rattle.std.specs.Prelude.{◌≡◌, ◌≢◌, ◌+◌, ◌<◌, ◌≤◌, IfErr, IfOk, OnOk, IfSome};
 ghost use Rattle.vm_ranges.specs.Range.{MAX};
 ghost use Rattle.vm_ranges.specs.Request.{IsRequest};
 ghost use Rattle.vm_engine.specs.Tree.Block.{free_block};
@@ -7,6 +7,7 @@ ghost use Rattle.vm_engine.specs.Tree.BlockEdits.{HasLength};
 ghost use Rattle.vm_engine.specs.Tree.Shape.{height_of, IsTree};
 ghost use Rattle.vm_engine.specs.Tree.SpaceTree.{IsSpaceTree};
 ghost use Rattle.vm_engine.specs.Engine.Choosing.{Chooses, ChoosesAt, ExactChoice};
+ghost use Rattle.vm_engine.specs.Engine.Outermost.{IsNewEdge, KnowsChoice};
 ghost use Rattle.vm_engine.specs.Counts.NodeCounts.{nodes_of_search};
 ghost use Rattle.vm_engine.specs.Counts.Steps.{NoneEndsBelowMax};
 ghost use Rattle.vm_engine.specs.Tree.SpaceTree.{tree_state};
@@ -14,6 +15,7 @@ ghost use Rattle.vm_ranges.specs.declared.constraint.AllocPolicy.TheVariants.{Ex
 
 use super::IntervalTree;
 use crate::Steps;
+use crate::node::edge::Edge;
 use crate::node::places::{Place, first_place, last_place};
 use crate::node::split::Choice;
 use crate::ordering::valid_range;
@@ -23,26 +25,31 @@ impl IntervalTree {
     /// Returns the range that the policy of a request chooses, with its free block, or the error of
     /// the request.
     #[tactic(auto, using(crate::proofs::Choosing::Searched::choices))]
-    pub(super) fn choose_place(&self, constraint: Constraint, count: &mut Steps) -> Result<Choice>
-        requires { count.old ≡ 0 }
+    pub(super) fn choose_place(
+        &self,
+        constraint: Constraint,
+        edge: &mut Edge,
+        count: &mut Steps,
+    ) -> Result<Choice>
+        requires start { (count.old ≡ 0) × IsNewEdge edge.old }
         ensures valid { IsRequest constraint }
         ensures answer { Chooses self.now constraint result }
         ensures over { IfErr result (λ error.
             error ≡ Error.Overflow → NoneEndsBelowMax (tree_state self.now) constraint) }
         ensures no_memory { IfErr result (λ error. error ≢ Error.OutOfMemory) }
         ensures count { count.new ≡ count.old + nodes_of_search constraint self.now }
-        ensures space { IsSpaceTree self.now }
-        ensures tree { OnOk result (IsTree self.now) }
+        ensures gap { IfOk result (λ choice. KnowsChoice edge.new choice self.now) }
+        ensures space { IsSpaceTree self.now × OnOk result (IsTree self.now) }
     {
         let root = &self.root;
         let (size, align) = (constraint.size(), constraint.align());
         match constraint.policy() {
             AllocPolicy::FirstMatch => {
-                let found = first_place(root, size, align, count);
+                let found = first_place(root, size, align, edge, count);
                 choice_at(found, size)
             }
             AllocPolicy::LastMatch => {
-                let found = last_place(root, size, align, count);
+                let found = last_place(root, size, align, edge, count);
                 choice_at(found, size)
             }
             AllocPolicy::ExactMatch(start) => self.exact_place(constraint, start, count),

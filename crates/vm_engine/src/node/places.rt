@@ -3,16 +3,19 @@
 //! They are two functions, because a common one would branch on the direction at every node. They
 //! write the place into an `Option` of their caller, because returning it would copy 32 bytes at
 //! every level. Before a call enters a child, `may_fit` checks that the child exists and that its
-//! summary fits the request.
-ghost use Rattle.std.specs.Prelude.{◌≡◌, ◌+◌, ◌<◌, ◌≤◌, true, false, None, IfSome, MatchOption};
+//! summary fits the request. They begin in `edge`.
+ghost use Rattle.std.specs.Prelude.{◌≡◌, ℕ, ◌+◌, ◌<◌, ◌≤◌, true, false, None, IfSome, MatchOption};
 ghost use Rattle.vm_ranges.specs.Range.{MAX};
 ghost use Rattle.vm_ranges.specs.Alignment.{IsAlignment};
+ghost use Rattle.vm_engine.specs.Tree.Block.{free_block};
 ghost use Rattle.vm_engine.specs.Tree.Fit.{FindsLowestFit, FindsHighestFit};
 ghost use Rattle.vm_engine.specs.Engine.Place.{FindsFirst, FindsLast};
-ghost use Rattle.vm_engine.specs.Tree.Shape.{MAX_HEIGHT, blocks, height_of, node_count, IsTree};
+ghost use Rattle.vm_engine.specs.Engine.Outermost.{IsNewEdge, KnowsGap};
+ghost use Rattle.vm_engine.specs.Tree.Shape.{MAX_HEIGHT, blocks, height_of, max_free_of, node_count, IsTree};
 ghost use Rattle.vm_engine.specs.Counts.NodeCounts.{may_fit_in, nodes_of_first, nodes_of_last};
 ghost use Rattle.vm_engine.specs.Engine.NodeFields.{side};
 
+use super::edge::Edge;
 use super::{Child, InnerNode};
 use crate::Steps;
 use vm_ranges::{NodeState, RangeInclusive, align_down, align_up};
@@ -29,15 +32,34 @@ pub(crate) struct Place {
 /// Returns the lowest multiple of `alignment` at which `size` addresses fit into the block.
 ///
 /// It returns `None` if there is no such multiple, or if the block is allocated.
-#[tactic(auto, using(crate::proofs::Choosing::Fits::lowest_fits_by_key))]
-fn lowest_fit(key: &RangeInclusive, state: NodeState, size: u64, alignment: u64) -> Option<u64>
+#[inline(always)]
+#[tactic(auto, using(crate::proofs::Choosing::Fits::no_fit_held))]
+pub(super) fn lowest_fit(
+    key: &RangeInclusive,
+    state: NodeState,
+    size: u64,
+    alignment: u64,
+) -> Option<u64>
     requires sized { 0 < size }
     requires aligned { IsAlignment alignment }
     ensures { FindsLowestFit size alignment (record { key = key.now; state = state }) result }
 {
-    if state == NodeState::Allocated {
-        return None;
+    match state {
+        NodeState::Allocated => None,
+        NodeState::Free => lowest_in_free(key, size, alignment),
     }
+}
+
+/// Returns the lowest multiple of `alignment` at which `size` addresses fit into a free block.
+///
+/// It is never inlined, so that a search saves fewer registers at each node.
+#[tactic(auto, using(crate::proofs::Choosing::Fits::lowest_fits_by_key))]
+#[inline(never)]
+fn lowest_in_free(key: &RangeInclusive, size: u64, alignment: u64) -> Option<u64>
+    requires sized { 0 < size }
+    requires aligned { IsAlignment alignment }
+    ensures { FindsLowestFit size alignment (free_block key.now) result }
+{
     let Ok(start) = align_up(key.start(), alignment) else {
         return None;
     };
@@ -52,14 +74,34 @@ fn lowest_fit(key: &RangeInclusive, state: NodeState, size: u64, alignment: u64)
 /// Returns the highest multiple of `alignment` at which `size` addresses fit into the block.
 ///
 /// It returns `None` if there is no such multiple, or if the block is allocated.
-#[tactic(auto, using(crate::proofs::Choosing::Fits::highest_fits))]
-fn highest_fit(key: &RangeInclusive, state: NodeState, size: u64, alignment: u64) -> Option<u64>
+#[inline(always)]
+#[tactic(auto, using(crate::proofs::Choosing::Fits::no_fit_held))]
+pub(super) fn highest_fit(
+    key: &RangeInclusive,
+    state: NodeState,
+    size: u64,
+    alignment: u64,
+) -> Option<u64>
     requires sized { 0 < size }
     requires aligned { IsAlignment alignment }
     ensures { FindsHighestFit size alignment (record { key = key.now; state = state }) result }
 {
+    match state {
+        NodeState::Allocated => None,
+        NodeState::Free => highest_in_free(key, size, alignment),
+    }
+}
+
+/// Returns the highest multiple of `alignment` at which `size` addresses fit into a free block.
+#[tactic(auto, using(crate::proofs::Choosing::Fits::highest_fits))]
+#[inline(never)]
+fn highest_in_free(key: &RangeInclusive, size: u64, alignment: u64) -> Option<u64>
+    requires sized { 0 < size }
+    requires aligned { IsAlignment alignment }
+    ensures { FindsHighestFit size alignment (free_block key.now) result }
+{
     let (start, end) = (key.start(), key.end());
-    if state == NodeState::Allocated || end - start < size - 1 {
+    if end - start < size - 1 {
         return None;
     }
     let Ok(place) = align_down(end - (size - 1), alignment) else {
@@ -90,25 +132,46 @@ fn may_fit(tree: &Child, size: u64, alignment: u64) -> Option<&InnerNode>
     }
 }
 
+/// Returns the root of the subtree if one of its free blocks has a multiple of `alignment`.
+#[inline(always)]
+#[tactic(auto, using(crate::proofs::Counts::Entering::aligned))]
+pub(super) fn with_multiple(tree: &Child, alignment: u64) -> Option<&InnerNode>
+    requires aligned { IsAlignment alignment }
+    ensures { MatchOption result
+        ((n : ℕ) → may_fit_in n alignment (side tree.now) ≡ false)
+        (λ node. (side tree.now ≡ node.now)
+        × ((n : ℕ) → n ≤ max_free_of node.now → may_fit_in n alignment node.now ≡ true)) }
+{
+    let Some(node) = tree else { return None };
+    let node: &InnerNode = node;
+    if u32::from(node.alignments) <= alignment.trailing_zeros() {
+        None
+    } else {
+        Some(node)
+    }
+}
+
 /// Returns the lowest place for a request in a tree, or `None` if there is no place.
 #[tactic(auto, using(crate::proofs::Counts::Searching::firsts))]
 pub(crate) fn first_place(
     tree: &Child,
     size: u64,
     alignment: u64,
+    edge: &mut Edge,
     count: &mut Steps,
 ) -> Option<Place>
-    requires sized { 0 < size }
-    requires aligned { IsAlignment alignment }
+    requires request { (0 < size) × IsAlignment alignment }
+    requires new { IsNewEdge edge.old }
     requires count_fits { count.old + node_count (side tree.now) < MAX }
     requires depth { height_of (side tree.now) ≤ MAX_HEIGHT }
     ensures place { FindsFirst size alignment (blocks (side tree.now)) result }
+    ensures gap { KnowsGap size edge.old edge.new result (side tree.now) }
     ensures tree { IfSome result (λ _. IsTree (side tree.now)) }
     ensures count { count.new ≡ count.old + nodes_of_first size alignment (side tree.now) }
 {
     let mut found = None;
     if let Some(node) = may_fit(tree, size, alignment) {
-        node.first_place(size, alignment, &mut found, count);
+        node.first_on_edge(size, alignment, edge, &mut found, count);
     }
     found
 }
@@ -119,19 +182,21 @@ pub(crate) fn last_place(
     tree: &Child,
     size: u64,
     alignment: u64,
+    edge: &mut Edge,
     count: &mut Steps,
 ) -> Option<Place>
-    requires sized { 0 < size }
-    requires aligned { IsAlignment alignment }
+    requires request { (0 < size) × IsAlignment alignment }
+    requires new { IsNewEdge edge.old }
     requires count_fits { count.old + node_count (side tree.now) < MAX }
     requires depth { height_of (side tree.now) ≤ MAX_HEIGHT }
     ensures place { FindsLast size alignment (blocks (side tree.now)) result }
+    ensures gap { KnowsGap size edge.old edge.new result (side tree.now) }
     ensures tree { IfSome result (λ _. IsTree (side tree.now)) }
     ensures count { count.new ≡ count.old + nodes_of_last size alignment (side tree.now) }
 {
     let mut found = None;
     if let Some(node) = may_fit(tree, size, alignment) {
-        node.last_place(size, alignment, &mut found, count);
+        node.last_on_edge(size, alignment, edge, &mut found, count);
     }
     found
 }
@@ -139,7 +204,13 @@ pub(crate) fn last_place(
 impl InnerNode {
     /// Writes the lowest place in the subtree to `found`, if there is a place.
     #[tactic(auto, using(crate::proofs::Choosing::PlaceSearch::firsts, crate::proofs::Counts::Searching::firsts))]
-    fn first_place(&self, size: u64, alignment: u64, found: &mut Option<Place>, count: &mut Steps)
+    pub(super) fn first_place(
+        &self,
+        size: u64,
+        alignment: u64,
+        found: &mut Option<Place>,
+        count: &mut Steps,
+    )
         requires request { (0 < size) × IsAlignment alignment }
         requires may_fit { may_fit_in size alignment self.now ≡ true }
         requires none_yet { found.old ≡ None }
@@ -170,7 +241,13 @@ impl InnerNode {
 
     /// Writes the highest place in the subtree to `found`, if there is a place.
     #[tactic(auto, using(crate::proofs::Choosing::PlaceSearch::lasts, crate::proofs::Counts::Searching::lasts))]
-    fn last_place(&self, size: u64, alignment: u64, found: &mut Option<Place>, count: &mut Steps)
+    pub(super) fn last_place(
+        &self,
+        size: u64,
+        alignment: u64,
+        found: &mut Option<Place>,
+        count: &mut Steps,
+    )
         requires request { (0 < size) × IsAlignment alignment }
         requires may_fit { may_fit_in size alignment self.now ≡ true }
         requires none_yet { found.old ≡ None }

@@ -17,6 +17,7 @@
 
 use crate::rattle::Box;
 use crate::proved::vm_engine::Steps;
+use crate::proved::vm_engine::node::edge::Edge;
 use crate::proved::vm_engine::node::walks::both_ends::Blocks;
 use crate::proved::vm_engine::node::walks::copying::copy;
 use crate::proved::vm_engine::node::{Child, InnerNode};
@@ -87,8 +88,9 @@ impl IntervalTree {
         constraint: Constraint,
         count: &mut Steps,
     ) -> Result<RangeInclusive> {
-        let choice = self.choose_place(constraint, count)?;
-        self.allocate_chosen(alloc, choice, count)
+        let mut edge = Edge::new();
+        let choice = self.choose_place(constraint, &mut edge, count)?;
+        self.allocate_chosen(alloc, choice, &edge, count)
     }
 
     /// Allocates `size` free addresses that start at a multiple of the constraint's alignment, and

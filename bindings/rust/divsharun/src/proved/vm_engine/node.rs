@@ -11,9 +11,11 @@
 use crate::rattle::Box;
 mod balance;
 pub(in crate::proved::vm_engine) mod delete;
+pub(in crate::proved::vm_engine) mod edge;
 mod find;
 mod link;
 pub(in crate::proved::vm_engine) mod neighbours;
+pub(in crate::proved::vm_engine) mod outermost;
 pub(in crate::proved::vm_engine) mod places;
 pub(in crate::proved::vm_engine) mod rewrite;
 pub(in crate::proved::vm_engine) mod split;

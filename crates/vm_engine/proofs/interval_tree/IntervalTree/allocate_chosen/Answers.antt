@@ -15,20 +15,20 @@ invariant_of-self c =
     let split_states = whole_split _ _ _ _ (cut_of _ c.args.choice c.self.invariant choice) c.if-not-needs_split.ensures c.rewrite_at.ensures.blocks in
     space_taken _ _ c.args.choice c.self.invariant choice split_states (omega (arith, c.rewrite_at.ensures.keeps.height, c.self.invariant.height))
 
-pub split_at-requires-clause-can_be_split : goal.split_at-requires-clause-can_be_split
-split_at-requires-clause-can_be_split c =
+pub split_gap-requires-clause-can_be_split : goal.split_gap-requires-clause-can_be_split
+split_gap-requires-clause-can_be_split c =
     let can = can_split _ _ _ _ (cut_of _ c.args.choice c.self.invariant (rw (← c.self.view_is) at c.requires.choice)) c.in_ok-rest.ensures.rest in
     search rules
 
 pub invariant_of-self-2 : goal.invariant_of-self-2
 invariant_of-self-2 c =
     let choice = rw (← c.self.view_is) at c.requires.choice in
-    let split_states = rest_split _ (blocks (side c.split_at.new.at)) _ _ _ (cut_of _ c.args.choice c.self.invariant choice) c.in_ok-rest.ensures.rest (search rules) in
+    let split_states = rest_split _ (blocks (side c.split_gap.new.at)) _ _ _ (cut_of _ c.args.choice c.self.invariant choice) c.in_ok-rest.ensures.rest (search rules) in
     let height = rw (← c.self.view_is) at c.height.ensures.value in
     space_taken _ _ c.args.choice c.self.invariant choice split_states (grind (arith, common_steps))
 
 pub returns-clause-answer : goal.returns-clause-answer
 returns-clause-answer c =
     let choice = rw (← c.self.view_is) at c.requires.choice in
-    let split_states = rest_split _ (blocks (side c.split_at.new.at)) _ _ _ (cut_of _ c.args.choice c.self.invariant choice) c.in_ok-rest.ensures.rest (search rules) in
-    rw (← c.self.view_is) (taken_in _ (side c.split_at.new.at) c.args.choice c.args.choice.range c.self.invariant choice split_states refl)
+    let split_states = rest_split _ (blocks (side c.split_gap.new.at)) _ _ _ (cut_of _ c.args.choice c.self.invariant choice) c.in_ok-rest.ensures.rest (search rules) in
+    rw (← c.self.view_is) (taken_in _ (side c.split_gap.new.at) c.args.choice c.args.choice.range c.self.invariant choice split_states refl)

@@ -9,8 +9,10 @@
 use crate::rattle::Box;
 use super::IntervalTree;
 use crate::proved::vm_engine::Steps;
+use crate::proved::vm_engine::node::edge::Edge;
+use crate::proved::vm_engine::node::outermost::split_gap;
 use crate::proved::vm_engine::node::rewrite::rewrite_at;
-use crate::proved::vm_engine::node::split::{Choice, Rest, Split, split_at};
+use crate::proved::vm_engine::node::split::{Choice, Rest, Split};
 use crate::proved::vm_engine::node::{Child, InnerNode};
 use crate::proved::vm_engine::ordering::valid_range;
 use crate::rattle::Global;
@@ -28,6 +30,7 @@ impl IntervalTree {
         &mut self,
         alloc: Global,
         choice: Choice,
+        edge: &Edge,
         count: &mut Steps,
     ) -> Result<RangeInclusive> {
         if !needs_split(&choice) {
@@ -45,7 +48,7 @@ impl IntervalTree {
         }
         let rest = rest_of(alloc, &choice)?;
         let mut split = Split { choice, rest };
-        split_at(&mut self.root, &mut split, count);
+        split_gap(&mut self.root, &mut split, edge, count);
         Ok(choice.range)
     }
 }

@@ -4,6 +4,7 @@
 
 use super::IntervalTree;
 use crate::proved::vm_engine::Steps;
+use crate::proved::vm_engine::node::edge::Edge;
 use crate::proved::vm_engine::node::places::{Place, first_place, last_place};
 use crate::proved::vm_engine::node::split::Choice;
 use crate::proved::vm_engine::ordering::valid_range;
@@ -12,16 +13,21 @@ use crate::proved::vm_ranges::{AllocPolicy, Constraint, Error, NodeState, RangeI
 impl IntervalTree {
     /// Returns the range that the policy of a request chooses, with its free block, or the error of
     /// the request.
-    pub(super) fn choose_place(&self, constraint: Constraint, count: &mut Steps) -> Result<Choice> {
+    pub(super) fn choose_place(
+        &self,
+        constraint: Constraint,
+        edge: &mut Edge,
+        count: &mut Steps,
+    ) -> Result<Choice> {
         let root = &self.root;
         let (size, align) = (constraint.size(), constraint.align());
         match constraint.policy() {
             AllocPolicy::FirstMatch => {
-                let found = first_place(root, size, align, count);
+                let found = first_place(root, size, align, edge, count);
                 choice_at(found, size)
             }
             AllocPolicy::LastMatch => {
-                let found = last_place(root, size, align, count);
+                let found = last_place(root, size, align, edge, count);
                 choice_at(found, size)
             }
             AllocPolicy::ExactMatch(start) => self.exact_place(constraint, start, count),

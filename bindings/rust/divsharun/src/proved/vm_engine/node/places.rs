@@ -5,8 +5,9 @@
 //! They are two functions, because a common one would branch on the direction at every node. They
 //! write the place into an `Option` of their caller, because returning it would copy 32 bytes at
 //! every level. Before a call enters a child, `may_fit` checks that the child exists and that its
-//! summary fits the request.
+//! summary fits the request. They begin in `edge`.
 
+use super::edge::Edge;
 use super::{Child, InnerNode};
 use crate::proved::vm_engine::Steps;
 use crate::proved::vm_ranges::{NodeState, RangeInclusive, align_down, align_up};
@@ -23,10 +24,24 @@ pub(in crate::proved::vm_engine) struct Place {
 /// Returns the lowest multiple of `alignment` at which `size` addresses fit into the block.
 ///
 /// It returns `None` if there is no such multiple, or if the block is allocated.
-fn lowest_fit(key: &RangeInclusive, state: NodeState, size: u64, alignment: u64) -> Option<u64> {
-    if state == NodeState::Allocated {
-        return None;
+#[inline(always)]
+pub(super) fn lowest_fit(
+    key: &RangeInclusive,
+    state: NodeState,
+    size: u64,
+    alignment: u64,
+) -> Option<u64> {
+    match state {
+        NodeState::Allocated => None,
+        NodeState::Free => lowest_in_free(key, size, alignment),
     }
+}
+
+/// Returns the lowest multiple of `alignment` at which `size` addresses fit into a free block.
+///
+/// It is never inlined, so that a search saves fewer registers at each node.
+#[inline(never)]
+fn lowest_in_free(key: &RangeInclusive, size: u64, alignment: u64) -> Option<u64> {
     let Ok(start) = align_up(key.start(), alignment) else {
         return None;
     };
@@ -41,9 +56,24 @@ fn lowest_fit(key: &RangeInclusive, state: NodeState, size: u64, alignment: u64)
 /// Returns the highest multiple of `alignment` at which `size` addresses fit into the block.
 ///
 /// It returns `None` if there is no such multiple, or if the block is allocated.
-fn highest_fit(key: &RangeInclusive, state: NodeState, size: u64, alignment: u64) -> Option<u64> {
+#[inline(always)]
+pub(super) fn highest_fit(
+    key: &RangeInclusive,
+    state: NodeState,
+    size: u64,
+    alignment: u64,
+) -> Option<u64> {
+    match state {
+        NodeState::Allocated => None,
+        NodeState::Free => highest_in_free(key, size, alignment),
+    }
+}
+
+/// Returns the highest multiple of `alignment` at which `size` addresses fit into a free block.
+#[inline(never)]
+fn highest_in_free(key: &RangeInclusive, size: u64, alignment: u64) -> Option<u64> {
     let (start, end) = (key.start(), key.end());
-    if state == NodeState::Allocated || end - start < size - 1 {
+    if end - start < size - 1 {
         return None;
     }
     let Ok(place) = align_down(end - (size - 1), alignment) else {
@@ -67,16 +97,29 @@ fn may_fit(tree: &Child, size: u64, alignment: u64) -> Option<&InnerNode> {
     }
 }
 
+/// Returns the root of the subtree if one of its free blocks has a multiple of `alignment`.
+#[inline(always)]
+pub(super) fn with_multiple(tree: &Child, alignment: u64) -> Option<&InnerNode> {
+    let Some(node) = tree else { return None };
+    let node: &InnerNode = node;
+    if u32::from(node.alignments) <= alignment.trailing_zeros() {
+        None
+    } else {
+        Some(node)
+    }
+}
+
 /// Returns the lowest place for a request in a tree, or `None` if there is no place.
 pub(in crate::proved::vm_engine) fn first_place(
     tree: &Child,
     size: u64,
     alignment: u64,
+    edge: &mut Edge,
     count: &mut Steps,
 ) -> Option<Place> {
     let mut found = None;
     if let Some(node) = may_fit(tree, size, alignment) {
-        node.first_place(size, alignment, &mut found, count);
+        node.first_on_edge(size, alignment, edge, &mut found, count);
     }
     found
 }
@@ -86,18 +129,25 @@ pub(in crate::proved::vm_engine) fn last_place(
     tree: &Child,
     size: u64,
     alignment: u64,
+    edge: &mut Edge,
     count: &mut Steps,
 ) -> Option<Place> {
     let mut found = None;
     if let Some(node) = may_fit(tree, size, alignment) {
-        node.last_place(size, alignment, &mut found, count);
+        node.last_on_edge(size, alignment, edge, &mut found, count);
     }
     found
 }
 
 impl InnerNode {
     /// Writes the lowest place in the subtree to `found`, if there is a place.
-    fn first_place(&self, size: u64, alignment: u64, found: &mut Option<Place>, count: &mut Steps) {
+    pub(super) fn first_place(
+        &self,
+        size: u64,
+        alignment: u64,
+        found: &mut Option<Place>,
+        count: &mut Steps,
+    ) {
         self.enter(count);
         if let Some(left) = may_fit(&self.left, size, alignment) {
             left.first_place(size, alignment, found, count);
@@ -118,7 +168,13 @@ impl InnerNode {
     }
 
     /// Writes the highest place in the subtree to `found`, if there is a place.
-    fn last_place(&self, size: u64, alignment: u64, found: &mut Option<Place>, count: &mut Steps) {
+    pub(super) fn last_place(
+        &self,
+        size: u64,
+        alignment: u64,
+        found: &mut Option<Place>,
+        count: &mut Steps,
+    ) {
         self.enter(count);
         if let Some(right) = may_fit(&self.right, size, alignment) {
             right.last_place(size, alignment, found, count);
