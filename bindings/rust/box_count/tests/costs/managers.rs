@@ -1,5 +1,5 @@
 //! A call of a manager costs at most as much as its parts: the calls of its space and of its ids,
-//! and the operations on a map.
+//! and the operations on a list of ranges and on a map.
 use crate::meter::{at_most, cost};
 use crate::objects::{with_part, Setting, SETTINGS};
 use crate::requests::{allocations, list, map, object, DEVICE};
@@ -14,7 +14,7 @@ struct Pair {
     manager: DeviceManager,
     first_id: u32,
     space: AddressAllocator,
-    table: BTreeMap<u32, RangeInclusive>,
+    table: Vec<Option<RangeInclusive>>,
     starts: BTreeMap<u64, u32>,
     freed: BTreeSet<u32>,
 }
@@ -28,7 +28,7 @@ impl Pair {
             manager: at_most(&s, &[made], new).unwrap(),
             first_id: lo,
             space: space.unwrap(),
-            table: BTreeMap::new(Global),
+            table: Vec::new(),
             starts: BTreeMap::new(Global),
             freed: BTreeSet::new(Global),
         }
@@ -47,7 +47,9 @@ impl Pair {
             .freed
             .pop_first()
             .unwrap_or(self.first_id + self.table.len() as u32);
-        let inserted = cost(|| self.table.insert(id, range).unwrap()).1;
+        let index = (id - self.first_id) as usize;
+        let inserted = cost(|| self.table.resize(self.table.len().max(index + 1), None)).1;
+        self.table[index] = Some(range);
         let started = cost(|| self.starts.insert(range.start(), id).unwrap()).1;
         let device = at_most(&name, &[placed, inserted, started], reserve);
         assert_eq!(device, Ok(DeviceSlot { id, range }));
@@ -58,7 +60,7 @@ impl Pair {
         let range = at_most(&id, &[], || self.manager.slot(id)).unwrap();
         let freed = cost(|| self.space.free(&range).unwrap()).1;
         let inserted = cost(|| self.freed.insert(id).unwrap()).1;
-        self.table.remove(&id);
+        self.table[(id - self.first_id) as usize] = None;
         self.starts.remove(&range.start());
         at_most(&id, &[freed, inserted], || self.manager.release(id)).unwrap();
         let again = at_most(&id, &[], || self.manager.release(id));
@@ -79,8 +81,8 @@ fn calls() {
         for (size, align, policy, _) in allocations(s) {
             pair.reserve(size, align, policy);
         }
-        while let Some(id) = pair.table.iter().next().map(|entry| *entry.0) {
-            pair.release(id);
+        while let Some(index) = pair.table.iter().position(Option::is_some) {
+            pair.release(pair.first_id + index as u32);
         }
         let refused = [(9, 0, 0, 1), (0, 9, 0, 0), (0, 9, u64::MAX, 2)];
         for (lo, hi, base, size) in refused {
@@ -112,7 +114,8 @@ fn saved() {
         at_most(&s, &parts, || manager.to_value(Global)).unwrap();
 
         let counted = cost(|| space.held_count()).1;
-        let slots = [map(s.held_ids().zip(space.held_ranges())), 0];
+        let (first, last) = (s.held_ids().min().unwrap(), s.held_ids().max().unwrap());
+        let slots = [list(u64::from(last - first) + 1), 0];
         let starts = || space.held_ranges().map(|range| range.start());
         let seen = [map(starts().map(|start| (start, ()))), 0];
         let by_start = [map(starts().map(|start| (start, 0u32))), 0];
