@@ -1,7 +1,7 @@
 -- The list of devices: its table has exactly its entries if the ids are increasing.
 use Rattle.std.proofs.Common.{◌≡◌, ℕ, ◌+◌, ◌<◌, ◌≤◌, ◌↔◌, List, [], ◌∷◌, ◌++◌, length, get_or, drop, sym, ap, ◌∙◌, subst, arith, append_assoc, append-nil}
 use Rattle.std.proofs.lemmas.List.{drop_more, drop_all}
-use Rattle.std.specs.FinMap.Entries.{put}
+use Rattle.std.specs.BTreeMap.{insert_entry}
 use Rattle.std.specs.List.Sorted.{IsStrictlySortedBy}
 use Rattle.std.specs.Map.{keys_of}
 use Rattle.std.specs.Ordering.{nat_cmp}
@@ -22,10 +22,10 @@ next_entry : (ds : List DeviceSlot) (i : ℕ) (d : DeviceSlot) → i < length ds
 next_entry ds i d h e = ap (λ (l : List DeviceSlot). entries_of l) (drop_more ds i d h ∙ ap (λ (x : DeviceSlot). x ∷ drop (i + 1) ds) (sym e))
 
 pub one_listed : (ds : List DeviceSlot) (i lowest : ℕ) (es fs : List (ℕ × Range)) (d : DeviceSlot) → i < length ds → d ≡ get_or ds i d → lowest ≤ d.id →
-    AreListedSoFar ds i lowest es → fs ≡ put nat_cmp d.id d.range es → AreListedSoFar ds (i + 1) (d.id + 1) fs
-one_listed ds i lowest es fs d h e p s with_it =
+    AreListedSoFar ds i lowest es → fs ≡ insert_entry nat_cmp es d.id d.range → AreListedSoFar ds (i + 1) (d.id + 1) fs
+one_listed ds i lowest es fs d h e p s put =
     let f : ℕ × Range = entry_of d in
-    let is : fs ≡ es ++ f ∷ [] = with_it ∙ put_last lowest f es s.below p in
+    let is : fs ≡ es ++ f ∷ [] = put ∙ put_last lowest f es s.below p in
     let next = next_entry ds i d h e in
     let rest = entries_of (drop (i + 1) ds) in
     record {

@@ -1,7 +1,7 @@
 -- Managers of both allocators and listed devices: the errors are right, and what is created is valid.
 use Rattle.std.proofs.Common.{◌≡◌, ℕ, List, length, Ok, Err, refl, sym, ap, ◌∙◌, subst}
 use Rattle.std.proofs.lemmas.List.{length-map}
-use Rattle.std.specs.Ordering.{nat_cmp}
+use Rattle.std.specs.BTreeMap.{BTreeMap}
 use Rattle.std.specs.FinMap as map
 use Rattle.std.specs.FinSet as set
 use Rattle.vm_ranges.specs.Range.{Range}
@@ -14,7 +14,6 @@ use Rattle.vm_devices.specs.Devices.{IsDeviceState, devices_of}
 use Rattle.vm_devices.specs.Listed.{entries_of, listed_state, MakesListed, FindsTable, FindsPairedTable}
 use Rattle.vm_devices.specs.Queries.{entry_of}
 use Rattle.vm_devices.specs.SavedChecks.{AreHeldAndDistinct}
-use Rattle.vm_devices.proofs.StartTables.{whole_map}
 use Rattle.vm_devices.proofs.AllHeld.{pairs_all, all_paired}
 
 module _ (ids : IdState) (space : AddressState) (ds : List DeviceSlot) where
@@ -29,11 +28,11 @@ module _ (ids : IdState) (space : AddressState) (ds : List DeviceSlot) where
   table_refused NotAState none = λ h. none h.0
   table_refused OutOfMemory found = tt
 
-  module _ (table : map.FinMap nat_cmp Range) (found : FindsTable ds (Ok table)) where
-    pub none_paired : ¬ AreHeldAndDistinct ids space set.empty (map.entries table) → FindsPairedTable ids space ds (Err NotAState)
+  module _ (table : BTreeMap ℕ Range) (found : FindsTable ds (Ok table)) where
+    pub none_paired : ¬ AreHeldAndDistinct ids space set.empty table.entries → FindsPairedTable ids space ds (Err NotAState)
     none_paired none h = none (subst (AreHeldAndDistinct ids space set.empty) (sym found.1) h.1.apart)
 
-    pub all_in_table : held_count ids ≡ length ds → length space.held ≡ length ds → AreHeldAndDistinct ids space set.empty (map.entries table) → FindsPairedTable ids space ds (Ok table)
+    pub all_in_table : held_count ids ≡ length ds → length space.held ≡ length ds → AreHeldAndDistinct ids space set.empty table.entries → FindsPairedTable ids space ds (Ok table)
     all_in_table i r apart = (
       found.0,
       found.1,
@@ -52,18 +51,18 @@ module _ (ids : IdState) (space : AddressState) (ds : List DeviceSlot) where
         none (d.increasing, all)
     listed_refused OutOfMemory found = tt
 
-    module _ (table : map.FinMap nat_cmp Range) (found : FindsPairedTable ids space ds (Ok table)) where
-      same_state : devices_of ids space table ≡ listed_state ids space ds
-      same_state = ap (devices_of ids space) (sym (whole_map table) ∙ ap (λ (es : List (ℕ × Range)). map.from_entries es) found.1)
+    module _ (table : BTreeMap ℕ Range) (found : FindsPairedTable ids space ds (Ok table)) where
+      same_state : devices_of ids space (map.from_entries table.entries) ≡ listed_state ids space ds
+      same_state = ap (λ (es : List (ℕ × Range)). devices_of ids space (map.from_entries es)) found.1
 
-      pub listed_valid : IsDeviceState (devices_of ids space table)
+      pub listed_valid : IsDeviceState (devices_of ids space (map.from_entries table.entries))
       listed_valid = subst IsDeviceState (sym same_state) (record {
         ids = i;
         space = s;
         pairs = pairs_all (listed_state ids space ds) (entries_of ds) refl found.0 s found.2;
       })
 
-      pub listed_made : MakesListed ids space ds (Ok (devices_of ids space table))
+      pub listed_made : MakesListed ids space ds (Ok (devices_of ids space (map.from_entries table.entries)))
       listed_made = (
         record { increasing = found.0; pairs = pairs_all (listed_state ids space ds) (entries_of ds) refl found.0 s found.2 },
         same_state,

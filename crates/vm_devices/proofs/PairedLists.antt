@@ -2,8 +2,7 @@
 -- ranges.
 use Rattle.std.proofs.Common.{◌≡◌, ℕ, Some, None, Ok, Err, sym, ◌∙◌, subst}
 use Rattle.std.proofs.lemmas.Option.{same_Some}
-use Rattle.std.specs.Ordering.{nat_cmp}
-use Rattle.std.specs.FinMap as map
+use Rattle.std.specs.BTreeMap.{BTreeMap}
 use Rattle.std.specs.FinSet as set
 use Rattle.serde_json.specs.Data.{Items}
 use Rattle.vm_ranges.specs.Range.{Range}
@@ -25,13 +24,13 @@ module _ (ids : IdState) (space : AddressState) (ds : Items) where
   slots_refused OutOfMemory found = tt
 
   -- The table that was read.
-  module _ (table : map.FinMap nat_cmp Range) (rise : increasing_devices 0 ds ≡ Some (map.entries table)) where
-    pub not_paired : ¬ AreHeldAndDistinct ids space set.empty (map.entries table) → FindsPaired ids space ds (Err NotAState)
+  module _ (table : BTreeMap ℕ Range) (rise : increasing_devices 0 ds ≡ Some table.entries) where
+    pub not_paired : ¬ AreHeldAndDistinct ids space set.empty table.entries → FindsPaired ids space ds (Err NotAState)
     not_paired none h =
-        let same : h.0 ≡ map.entries table = same_Some h.0 (map.entries table) (sym h.1 ∙ rise) in
+        let same : h.0 ≡ table.entries = same_Some h.0 table.entries (sym h.1 ∙ rise) in
         none (subst (AreHeldAndDistinct ids space set.empty) same h.2.apart)
 
-    pub devices_read : CountsMatch ids space ds → AreHeldAndDistinct ids space set.empty (map.entries table) → FindsPaired ids space ds (Ok table)
+    pub devices_read : CountsMatch ids space ds → AreHeldAndDistinct ids space set.empty table.entries → FindsPaired ids space ds (Ok table)
     devices_read many apart =
-        let long = increasing-length 0 ds (map.entries table) rise in
+        let long = increasing-length 0 ds table.entries rise in
         (rise, record { ids_counted = long ∙ many.ids_counted; ranges_counted = long ∙ many.ranges_counted; apart = apart })

@@ -2,7 +2,7 @@
 use Rattle.std.proofs.Common.{◌≡◌, ℕ, suc, ◌+◌, ◌<◌, ◌≤◌, leb, List, [], ◌∷◌, ◌++◌, length, get_or, drop, Option, Some, None, option_map, option_and_then, refl, sym, ap, ◌∙◌, subst, arith, append_assoc, Greater, Less, codes}
 use Rattle.std.proofs.lemmas.Bool.{le-leb, lt-leb}
 use Rattle.std.specs.Cmp.{nat_cmp_is}
-use Rattle.std.specs.FinMap.Entries.{put}
+use Rattle.std.specs.BTreeMap.{insert_entry}
 use Rattle.std.specs.List.{AllByRecursion}
 use Rattle.std.specs.List.Sorted.{IsStrictlySortedBy}
 use Rattle.std.specs.Map.{keys_of}
@@ -107,7 +107,7 @@ abbrev pub AreBelow : ℕ → List (ℕ × Range) → Type 0
 AreBelow n [] = Unit {0}
 AreBelow n (e ∷ es) = (e.0 < n) × AreBelow n es
 
-pub put_last : (lowest : ℕ) (f : ℕ × Range) (es : List (ℕ × Range)) → AreBelow lowest es → lowest ≤ f.0 → put nat_cmp f.0 f.1 es ≡ es ++ f ∷ []
+pub put_last : (lowest : ℕ) (f : ℕ × Range) (es : List (ℕ × Range)) → AreBelow lowest es → lowest ≤ f.0 → insert_entry nat_cmp es f.0 f.1 ≡ es ++ f ∷ []
 put_last lowest f [] a p = refl
 put_last lowest f (e ∷ es) a p =
     let g : nat_cmp f.0 e.0 ≡ Greater = sym (nat_cmp_is f.0 e.0 Greater (omega arith)) in
@@ -127,7 +127,7 @@ pub record IsSoFar (vs : List Value) (i lowest : ℕ) (es : List (ℕ × Range))
   pub below : AreBelow lowest es
 
 pub one_more : (vs : List Value) (i lowest : ℕ) (es fs : List (ℕ × Range)) (v : Value) (f : ℕ × Range) → i < length vs → v ≡ get_or vs i v → decoded_device (view v) ≡ Some f →
-    lowest ≤ f.0 → IsSoFar vs i lowest es → fs ≡ put nat_cmp f.0 f.1 es → IsSoFar vs (i + 1) (f.0 + 1) fs
+    lowest ≤ f.0 → IsSoFar vs i lowest es → fs ≡ insert_entry nat_cmp es f.0 f.1 → IsSoFar vs (i + 1) (f.0 + 1) fs
 one_more vs i lowest es fs v f h e w p s put =
     let is : fs ≡ es ++ f ∷ [] = put ∙ put_last lowest f es s.below p in
     let rest = increasing_devices (f.0 + 1) (items_view (drop (i + 1) vs)) in

@@ -2,6 +2,7 @@
 use Rattle.std.proofs.Common.{◌≡◌, ℕ, ◌==◌, List, Some, Result, Ok, Err, inl, inr, ◌⊎◌, option_and_then, codes, refl, sym, ap, ◌∙◌}
 use Rattle.std.proofs.lemmas.Bool.{eqb-true}
 use Rattle.std.proofs.lemmas.Option.{same_Some}
+use Rattle.std.specs.BTreeMap.{BTreeMap}
 use Rattle.std.specs.List.Sorted.{IsStrictlySortedBy}
 use Rattle.std.specs.Map.{keys_of}
 use Rattle.std.specs.Ordering.{nat_cmp}
@@ -28,6 +29,7 @@ use Rattle.vm_devices.specs.SavedChecks.{AreAllHeld, FindsPaired, ManagerParts}
 use Rattle.vm_devices.proofs.AllHeld.{pairs_all, all_paired}
 use Rattle.vm_devices.proofs.SavedDevices.{increasing-states}
 use Rattle.vm_devices.proofs.StartTables.{whole_map}
+use Rattle.vm_devices.proofs.IncreasingIds.{increasing_sorted}
 use Rattle.vm_devices.proofs.ManagerFields.{parts_of, fields_found, ReadOf, its_ids, its_space, its_slots}
 
 -- ---- Both allocators were read
@@ -47,20 +49,20 @@ module _ {d : Data} (r : ReadOf d) where
   devices_refused OutOfMemory found = tt
 
   -- The manager that is read is the manager that the value encodes.
-  module _ (table : map.FinMap nat_cmp Range) (paired : FindsPaired r.ids r.space r.fields.slots (Ok table)) where
-    increasing : IsStrictlySortedBy nat_cmp (keys_of (map.entries table))
-    increasing = keys_rise table
+  module _ (table : BTreeMap ℕ Range) (paired : FindsPaired r.ids r.space r.fields.slots (Ok table)) where
+    increasing : IsStrictlySortedBy nat_cmp (keys_of table.entries)
+    increasing = increasing_sorted r.fields.slots table.entries paired.0
 
-    pub read_state : IsDeviceState (devices_of r.ids r.space table)
+    pub read_state : IsDeviceState (devices_of r.ids r.space (map.from_entries table.entries))
     read_state =
         let space = addresses_encoded r.fields.space r.space r.space_encoded in
         record {
           ids = ids_encoded r.fields.ids r.ids r.ids_encoded;
           space = space;
-          pairs = pairs_all (devices_of r.ids r.space table) (map.entries table) (sym (whole_map table)) increasing space paired.1;
+          pairs = pairs_all (devices_of r.ids r.space (map.from_entries table.entries)) table.entries refl increasing space paired.1;
         }
 
-    pub manager_read : EncodesManager d (devices_of r.ids r.space table)
+    pub manager_read : EncodesManager d (devices_of r.ids r.space (map.from_entries table.entries))
     manager_read =
         let f = r.fields in
         let found : Data × Data × Items = (f.ids, f.space, f.slots) in
@@ -74,16 +76,16 @@ module _ {d : Data} (r : ReadOf d) where
         let at_ids : x.0 ≡ f.ids = ap (λ (p : Data × Data × Items). p.0) z.2 in
         let at_space : y.0 ≡ f.space = ap (λ (p : Data × Data × Items). p.1) z.2 in
         let at_slots : z.0 ≡ f.slots = ap (λ (p : Data × Data × Items). p.2) z.2 in
-        let devices = list_encoded EncodesDevice list.0 f.slots (map.entries table) (list.2 ∙ ap Some at_slots) (increasing-states 0 f.slots (map.entries table) paired.0) in
+        let devices = list_encoded EncodesDevice list.0 f.slots table.entries (list.2 ∙ ap Some at_slots) (increasing-states 0 f.slots table.entries paired.0) in
         record {
           four_fields = count-true 4 (field_count d) four.0;
           version = version.1 ∙ ap Some (eqb-true version.0 1 one.0);
           id_allocator = field_is (codes "id_allocator") d f.ids (λ v. EncodesIds v r.ids) (x.1 ∙ ap Some at_ids) r.ids_encoded;
           mmio_allocator = field_is (codes "mmio_allocator") d f.space (λ v. EncodesAddresses v r.space) (y.1 ∙ ap Some at_space) r.space_encoded;
-          listed = map.entries table;
-          slots = field_is (codes "slots") d list.0 (λ v. EncodesList v (map.entries table)) list.1 devices;
+          listed = table.entries;
+          slots = field_is (codes "slots") d list.0 (λ v. EncodesList v table.entries) list.1 devices;
           increasing = increasing;
-          devices = sym (whole_map table);
+          devices = refl;
           pairs = read_state.pairs;
         }
 

@@ -62,17 +62,17 @@ found_after f slots k w q l =
     (λ (n : q ≡ f + k → ⊥). others f slots k q n ∙ sym (ap (λ t. cond t w (map.find nat_cmp q (slot_entries f slots))) (not_tied q (f + k) n)))
     (cases_eq q (f + k))
   where
-  others : (g : ℕ) (ss : List (Option Range)) (i : ℕ) (p : ℕ) → (p ≡ g + i → ⊥) → map.find nat_cmp p (slot_entries g (set ss i w)) ≡ map.find nat_cmp p (slot_entries g ss)
-  others g [] i p n = refl
-  others g (s ∷ ss) zero p n =
-      let other : p ≡ g → ⊥ = λ e. n (omega (arith, e)) in
-      skip w p g ss other ∙ sym (skip s p g ss other)
-    where
-    skip : (o : Option Range) (p g : ℕ) (ss : List (Option Range)) → (p ≡ g → ⊥) → map.find nat_cmp p (slot_entries g (o ∷ ss)) ≡ map.find nat_cmp p (slot_entries (g + 1) ss)
-    skip None p g ss other = refl
-    skip (Some r) p g ss other = ap (λ t. cond t (Some r) (map.find nat_cmp p (slot_entries (g + 1) ss))) (not_tied p g other)
-  others g (None ∷ ss) (suc i) p n = others (g + 1) ss i p (λ e. n (omega (arith, e)))
-  others g (Some r ∷ ss) (suc i) p n = ap (cond (eq_by_cmp nat_cmp p g) (Some r)) (others (g + 1) ss i p (λ e. n (omega (arith, e))))
+    others : (g : ℕ) (ss : List (Option Range)) (i : ℕ) (p : ℕ) → (p ≡ g + i → ⊥) → map.find nat_cmp p (slot_entries g (set ss i w)) ≡ map.find nat_cmp p (slot_entries g ss)
+    others g [] i p n = refl
+    others g (s ∷ ss) zero p n =
+        let other : p ≡ g → ⊥ = λ e. n (omega (arith, e)) in
+        skip w p g ss other ∙ sym (skip s p g ss other)
+      where
+        skip : (o : Option Range) (p g : ℕ) (ss : List (Option Range)) → (p ≡ g → ⊥) → map.find nat_cmp p (slot_entries g (o ∷ ss)) ≡ map.find nat_cmp p (slot_entries (g + 1) ss)
+        skip None p g ss other = refl
+        skip (Some r) p g ss other = ap (λ t. cond t (Some r) (map.find nat_cmp p (slot_entries (g + 1) ss))) (not_tied p g other)
+    others g (None ∷ ss) (suc i) p n = others (g + 1) ss i p (λ e. n (omega (arith, e)))
+    others g (Some r ∷ ss) (suc i) p n = ap (cond (eq_by_cmp nat_cmp p g) (Some r)) (others (g + 1) ss i p (λ e. n (omega (arith, e))))
 
 module _ (f : ℕ) (slots : List (Option Range)) (k : ℕ) (l : k < length slots) where
   pub slot_taken : (r : Range) → slot_map f (set slots k (Some r)) ≡ map.insert (slot_map f slots) (f + k) r

@@ -1,5 +1,5 @@
 -- The ids by starts, after a device is inserted or removed.
-use Rattle.std.proofs.Common.{◌≡◌, ◌↔◌, ℕ, ◌⊎◌, List, [], ◌∷◌, ◌++◌, refl, sym, ap, ◌∙◌, inl, inr, ⊎_elim, subst, Option, Some, None}
+use Rattle.std.proofs.Common.{◌≡◌, ◌↔◌, ℕ, ◌⊎◌, List, [], ◌∷◌, ◌++◌, refl, sym, ap, ◌∙◌, inl, inr, ⊎_elim, subst, cond, arith, Option, Some, None}
 use Rattle.std.proofs.lemmas.Bool.{cases_eq}
 use Rattle.std.proofs.lemmas.Option.{same_Some}
 use Rattle.std.specs.Ordering.{nat_cmp}
@@ -11,7 +11,7 @@ use Rattle.vm_ranges.specs.Range.{Range}
 use Rattle.vm_allocator.proofs.Callers.{keys_rise, entries_of_sorted}
 use Rattle.vm_devices.specs.Checks.{StartsAt, AreIdsByStart, IsNew, HaveDifferentStarts}
 use Rattle.vm_devices.proofs.Tables.{table, seen, table_with, table_without, no_entries, with_here, with_other, without_here, without_other}
-use Rattle.vm_devices.proofs.Entries.{IsEntry, Rise, found_entry, entry_found}
+use Rattle.vm_devices.proofs.Entries.{IsEntry, Rise, found_entry, entry_found, head_below, rest_increases, not_tied}
 
 one_value : {X : Type 0} {x y : X} {o : Option X} → o ≡ Some x → o ≡ Some y → x ≡ y
 one_value {x = x} {y = y} e f = same_Some x y (sym e ∙ f)
@@ -182,6 +182,18 @@ pub record IsNext (all es rest : List (ℕ × Range)) (e : ℕ × Range) : Type 
   pub apart : HaveDifferentStarts (map.from_entries all)
   pub whole : es ++ e ∷ rest ≡ all
 
+-- The next entry is new.
+not_before : (es rest : List (ℕ × Range)) (e : ℕ × Range) → Rise (es ++ e ∷ rest) → map.find nat_cmp e.0 es ≡ None
+not_before [] rest e s = refl
+not_before (f ∷ es) rest e s =
+    let above = head_below f (es ++ e ∷ rest) e.0 e.1 s (entry_at es rest e) in
+    ap (λ t. cond t (Some f.1) (map.find nat_cmp e.0 es)) (not_tied e.0 f.0 (λ k. omega (arith, above, k)))
+    ∙ not_before es rest e (rest_increases f (es ++ e ∷ rest) s)
+
+pub pushed_entry : {all : List (ℕ × Range)} (es rest : List (ℕ × Range)) (e : ℕ × Range) → IsNext all es rest e
+    → map.from_entries {R = nat_cmp} (es ++ e ∷ []) ≡ map.insert (map.from_entries es) e.0 e.1
+pushed_entry es rest e n = map.from_entries_push nat_cmp_total map.nat_cmp-IsAntisymmetric es e.0 e.1 (not_before es rest e (rw n.whole n.rises))
+
 pub more_ids : {all es rest : List (ℕ × Range)} {e : ℕ × Range} (old new : BTreeMap ℕ ℕ) (start : ℕ) → IsNext all es rest e → start ≡ e.1.start →
     Updates nat_cmp old new start (Some e.0) → IdsOf es (table old) → IdsOf (es ++ e ∷ []) (table new)
 more_ids {all} {es} {rest} {e} old new start n s u h q id =
@@ -211,13 +223,8 @@ more_ids {all} {es} {rest} {e} old new start n s u h q id =
     ))
     (cases_eq q start))
 
-pub all_ids : (slots : map.FinMap nat_cmp Range) (ids : BTreeMap ℕ ℕ) (es : List (ℕ × Range)) → es ≡ map.entries slots → IdsOf es (table ids) → Match slots ids
-all_ids slots ids es e h start id = (
-  λ g.
-      let f = (h start id).0 g in
-      let starts = entry_start (map.entries slots) id f.0 (keys_rise slots) (subst (λ (l : List (ℕ × Range)). IsEntry l id f.0) e f.1) in
-      subst (StartsAt slots id) f.2 (subst (λ (m : map.FinMap nat_cmp Range). StartsAt m id f.0.start) (whole_map slots) starts),
-  λ g.
-      let found = sym (map.get-from_entries nat_cmp_total (map.entries slots) id) ∙ ap (λ (m : map.FinMap nat_cmp Range). map.get m id) (whole_map slots) ∙ g.found in
-      (h start id).1 (g.range, subst (λ (l : List (ℕ × Range)). IsEntry l id g.range) (sym e) (found_entry (map.entries slots) id g.range found), g.start_is),
+pub all_ids : (es : List (ℕ × Range)) (ids : BTreeMap ℕ ℕ) → Rise es → IdsOf es (table ids) → Match (map.from_entries es) ids
+all_ids es ids s h start id = (
+  λ g. let f = (h start id).0 g in subst (StartsAt (map.from_entries es) id) f.2 (entry_start es id f.0 s f.1),
+  λ g. (h start id).1 (g.range, found_entry es id g.range (sym (map.get-from_entries nat_cmp_total es id) ∙ g.found), g.start_is),
 )

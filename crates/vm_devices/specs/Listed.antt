@@ -1,5 +1,6 @@
 -- Managers that are created of both allocators and the list of their devices.
 use Rattle.std.specs.Prelude.{◌≡◌, ℕ, List, map as map_list, Result, Ok, Err}
+use Rattle.std.specs.BTreeMap.{BTreeMap}
 use Rattle.std.specs.List.Sorted.{IsStrictlySortedBy}
 use Rattle.std.specs.Map.{keys_of}
 use Rattle.std.specs.Ordering.{nat_cmp}
@@ -36,14 +37,14 @@ MakesListed ids space devices (Err OutOfMemory) = Unit {0}
 
 -- The result of collecting devices: their table, or NotAState if their ids are not strictly increasing. Only private
 -- functions cite it and the next definition.
-abbrev pub FindsTable : List DeviceSlot → Result (map.FinMap nat_cmp Range) ValueError → Type 0
-FindsTable devices (Ok slots) = IsStrictlySortedBy nat_cmp (keys_of (entries_of devices)) × (map.entries slots ≡ entries_of devices)
+abbrev pub FindsTable : List DeviceSlot → Result (BTreeMap ℕ Range) ValueError → Type 0
+FindsTable devices (Ok slots) = IsStrictlySortedBy nat_cmp (keys_of (entries_of devices)) × (slots.entries ≡ entries_of devices)
 FindsTable devices (Err NotAState) = ¬ IsStrictlySortedBy nat_cmp (keys_of (entries_of devices))
 FindsTable devices (Err OutOfMemory) = Unit {0}
 
 -- The result of pairing devices: their table if they pair the held ids with the held ranges, otherwise NotAState.
-abbrev pub FindsPairedTable : IdState → AddressState → List DeviceSlot → Result (map.FinMap nat_cmp Range) ValueError → Type 0
+abbrev pub FindsPairedTable : IdState → AddressState → List DeviceSlot → Result (BTreeMap ℕ Range) ValueError → Type 0
 FindsPairedTable ids space devices (Ok slots) =
-    IsStrictlySortedBy nat_cmp (keys_of (entries_of devices)) × (map.entries slots ≡ entries_of devices) × AreAllHeld ids space (entries_of devices)
+    IsStrictlySortedBy nat_cmp (keys_of (entries_of devices)) × (slots.entries ≡ entries_of devices) × AreAllHeld ids space (entries_of devices)
 FindsPairedTable ids space devices (Err NotAState) = ¬ (IsStrictlySortedBy nat_cmp (keys_of (entries_of devices)) × AreAllHeld ids space (entries_of devices))
 FindsPairedTable ids space devices (Err OutOfMemory) = Unit {0}

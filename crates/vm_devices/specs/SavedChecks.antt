@@ -3,7 +3,7 @@
 use Rattle.std.specs.Prelude.{◌≡◌, ℕ, ◌+◌, ◌==◌, nat_le, if◌then◌else◌, List, [], ◌∷◌, length, Option, Some, None, option_map, option_and_then, Result, Ok, Err, IsTrue, codes}
 use Rattle.std.specs.List.{Contains}
 use Rattle.std.specs.Ordering.{nat_cmp}
-use Rattle.std.specs.FinMap as map
+use Rattle.std.specs.BTreeMap.{BTreeMap}
 use Rattle.std.specs.FinSet as set
 use Rattle.serde_json.specs.Data.{Data, Items, no_items, item}
 use Rattle.serde_json.specs.Find.{get, as_array}
@@ -34,8 +34,8 @@ increasing_devices lowest (item d ds) =
     (decoded_device d)
 
 -- The result of reading the items: their devices by increasing ids, or NotAState if an item or the order is not valid.
-abbrev pub FindsDevices : Items → Result (map.FinMap nat_cmp Range) ValueError → Type 0
-FindsDevices ds (Ok slots) = increasing_devices 0 ds ≡ Some (map.entries slots)
+abbrev pub FindsDevices : Items → Result (BTreeMap ℕ Range) ValueError → Type 0
+FindsDevices ds (Ok slots) = increasing_devices 0 ds ≡ Some slots.entries
 FindsDevices ds (Err NotAState) = increasing_devices 0 ds ≡ None
 FindsDevices ds (Err OutOfMemory) = Unit {0}
 
@@ -72,8 +72,8 @@ pub record AreAllHeld (ids : IdState) (space : AddressState) (es : List (ℕ × 
   pub apart : AreHeldAndDistinct ids space set.empty es
 
 -- The result of reading the list: its devices if they pair the held ids with the held ranges, otherwise NotAState.
-abbrev pub FindsPaired : IdState → AddressState → Items → Result (map.FinMap nat_cmp Range) ValueError → Type 0
-FindsPaired ids space ds (Ok slots) = (increasing_devices 0 ds ≡ Some (map.entries slots)) × AreAllHeld ids space (map.entries slots)
+abbrev pub FindsPaired : IdState → AddressState → Items → Result (BTreeMap ℕ Range) ValueError → Type 0
+FindsPaired ids space ds (Ok slots) = (increasing_devices 0 ds ≡ Some slots.entries) × AreAllHeld ids space slots.entries
 FindsPaired ids space ds (Err NotAState) = ¬ ((es : List (ℕ × Range)) × (increasing_devices 0 ds ≡ Some es) × AreAllHeld ids space es)
 FindsPaired ids space ds (Err OutOfMemory) = Unit {0}
 

@@ -26,9 +26,9 @@ use vm_allocator::{AddressAllocator, AllocPolicy, Error, IdAllocator, RangeInclu
 
 mod comparing;
 mod device_table;
-mod slots;
 mod queries;
 mod saved;
+mod slots;
 
 use self::device_table::DeviceTable;
 pub use self::slots::Devices;

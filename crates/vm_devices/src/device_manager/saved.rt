@@ -64,7 +64,7 @@ impl DeviceManager {
         let id_allocator = IdAllocator::from_value(alloc, fields.ids)?;
         let mmio_allocator = AddressAllocator::from_value(alloc, fields.space)?;
         let listed = read_devices(alloc, &id_allocator, &mmio_allocator, fields.slots)?;
-        let slots = DeviceTable::from_slots(alloc, listed)?;
+        let slots = DeviceTable::from_map(alloc, listed)?;
         Ok(DeviceManager {
             id_allocator,
             mmio_allocator,

@@ -141,9 +141,9 @@ first_is_left bound (c ∷ bs) b e l =
     let k : c.key.start < bound = subst (λ (v : Block). v.key.start < bound) (sym (ap (λ (v : Option Block). option_or b v) e)) l in
     rw (lt-ltb c.key.start bound k) (λ none. absurd (cc (none)))
   where
-  option_or : Block → Option Block → Block
-  option_or d None = d
-  option_or d (Some x) = x
+    option_or : Block → Option Block → Block
+    option_or d None = d
+    option_or d (Some x) = x
 
 pub first_is_past : (bound : ℕ) (bs : List Block) (b : Block) → first_of bs ≡ Some b → bound ≤ b.key.start → blocks_left (Some bound) bs ≡ []
 first_is_past bound [] b e l = refl
@@ -151,9 +151,9 @@ first_is_past bound (c ∷ bs) b e l =
     let k : bound ≤ c.key.start = subst (λ (v : Block). bound ≤ v.key.start) (sym (ap (λ (v : Option Block). option_or b v) e)) l in
     rw (le-ltb c.key.start bound k) refl
   where
-  option_or : Block → Option Block → Block
-  option_or d None = d
-  option_or d (Some x) = x
+    option_or : Block → Option Block → Block
+    option_or d None = d
+    option_or d (Some x) = x
 
 -- ---- All blocks of a tree
 pub both_ends_of : (s : Shape) → IsSpaceTree s → AreBothEnds (blocks s) (blocks s) None

@@ -9,10 +9,10 @@ ghost use Rattle.vm_devices.specs.Listed.{MakesListed, FindsTable, FindsPairedTa
 use super::pairing::are_held_and_distinct;
 use crate::device_manager::DeviceManager;
 use crate::device_manager::device_table::DeviceTable;
-use crate::device_manager::slots::Slots;
 use crate::device_slot::DeviceSlot;
 use std::alloc::Global;
-use vm_allocator::{AddressAllocator, IdAllocator, ValueError};
+use std::collections::BTreeMap;
+use vm_allocator::{AddressAllocator, IdAllocator, RangeInclusive, ValueError};
 
 impl DeviceManager {
     /// Creates a manager of these ids, this space and these devices, which are by increasing ids.
@@ -38,7 +38,7 @@ impl DeviceManager {
         ensures state { IfOk result IsDeviceState }
     {
         let listed = pair_devices(alloc, &ids, &space, devices)?;
-        let slots = DeviceTable::from_slots(alloc, listed)?;
+        let slots = DeviceTable::from_map(alloc, listed)?;
         Ok(DeviceManager {
             id_allocator: ids,
             mmio_allocator: space,
@@ -54,7 +54,7 @@ fn pair_devices(
     ids: &IdAllocator,
     space: &AddressAllocator,
     devices: &[DeviceSlot],
-) -> std::result::Result<Slots, ValueError>
+) -> std::result::Result<BTreeMap<u32, RangeInclusive>, ValueError>
     ensures answer { FindsPairedTable ids.now (state_of space.now) devices.now result }
     ensures valid { IsIdState ids.now × IsAddressState (state_of space.now) }
 {
@@ -77,16 +77,16 @@ fn pair_devices(
 fn collect_devices(
     alloc: Global,
     devices: &[DeviceSlot],
-) -> std::result::Result<Slots, ValueError>
+) -> std::result::Result<BTreeMap<u32, RangeInclusive>, ValueError>
     ensures { FindsTable devices.now result }
 {
-    let mut slots = Slots::new(alloc);
+    let mut slots = BTreeMap::new(alloc);
     let mut lowest = 0u64;
     for device in devices {
         if u64::from(device.id) < lowest {
             return Err(ValueError::NotAState);
         }
-        slots.insert(alloc, device.id, device.range)?;
+        slots.insert(device.id, device.range)?;
         lowest = u64::from(device.id) + 1;
     }
     Ok(slots)

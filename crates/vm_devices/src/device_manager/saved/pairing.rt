@@ -1,7 +1,6 @@
 //! Reads the devices of a list, and checks that they pair the allocated ids with the allocated
 //! ranges.
 ghost use Rattle.std.specs.Prelude.{IfOk};
-ghost use Rattle.std.specs.FinMap as map;
 ghost use Rattle.std.specs.FinSet as set;
 ghost use Rattle.serde_json.specs.View.{items_view};
 ghost use Rattle.vm_allocator.specs.Allocator.{state_of};
@@ -9,11 +8,10 @@ ghost use Rattle.vm_ranges.specs.Cases.{IsTestOf};
 ghost use Rattle.vm_devices.specs.SavedChecks.{CountsMatch, AreHeldAndDistinct, FindsPaired};
 
 use super::slots::read_slots;
-use crate::device_manager::slots::Slots;
 use serde_json::Value;
 use std::alloc::{AllocError, Global};
-use std::collections::BTreeSet;
-use vm_allocator::{AddressAllocator, IdAllocator, ValueError};
+use std::collections::{BTreeMap, BTreeSet};
+use vm_allocator::{AddressAllocator, IdAllocator, RangeInclusive, ValueError};
 
 /// Reads the table of the devices of a list. Returns `NotAState` if they do not pair the allocated
 /// ids with the allocated ranges.
@@ -22,7 +20,7 @@ pub(super) fn read_devices(
     ids: &IdAllocator,
     space: &AddressAllocator,
     list: &[Value],
-) -> std::result::Result<Slots, ValueError>
+) -> std::result::Result<BTreeMap<u32, RangeInclusive>, ValueError>
     ensures { FindsPaired ids.now (state_of space.now) (items_view list.now) result }
 {
     // The list can be untrusted input, so it is counted before memory is allocated for it.
@@ -50,16 +48,16 @@ pub(super) fn are_held_and_distinct(
     alloc: Global,
     ids: &IdAllocator,
     space: &AddressAllocator,
-    slots: &Slots,
+    slots: &BTreeMap<u32, RangeInclusive>,
 ) -> std::result::Result<bool, AllocError>
-    ensures { IfOk result (λ all. IsTestOf all (AreHeldAndDistinct ids.now (state_of space.now) set.empty (map.entries slots.now))) }
+    ensures { IfOk result (λ all. IsTestOf all (AreHeldAndDistinct ids.now (state_of space.now) set.empty slots.now.entries)) }
 {
     let mut starts = BTreeSet::new(alloc);
-    for device in slots.iter() {
-        if !ids.is_allocated(device.id) || !space.holds(&device.range) {
+    for (id, range) in slots.iter() {
+        if !ids.is_allocated(*id) || !space.holds(range) {
             return Ok(false);
         }
-        if !starts.insert(device.range.start())? {
+        if !starts.insert(range.start())? {
             return Ok(false);
         }
     }

@@ -6,11 +6,12 @@ ghost use Rattle.vm_devices.specs.Queries.{entry_of};
 ghost use Rattle.vm_devices.specs.Saved.{EncodesDevice, EncodesList};
 ghost use Rattle.vm_devices.specs.SavedChecks.{decoded_device, FindsDevices, DeviceParts};
 
-use crate::device_manager::slots::{Devices, Slots};
+use crate::device_manager::slots::Devices;
 use crate::device_slot::DeviceSlot;
 use serde_json::{Value, json};
 use std::alloc::{AllocError, Global};
-use vm_allocator::{Result, ValueError};
+use std::collections::BTreeMap;
+use vm_allocator::{RangeInclusive, Result, ValueError};
 use vm_ranges::{has_fields, range_in, u32_in};
 
 /// Encodes the devices as a list.
@@ -46,10 +47,10 @@ fn slot_object(alloc: Global, id: u32, range: Value) -> std::result::Result<Valu
 pub(super) fn read_slots(
     alloc: Global,
     list: &[Value],
-) -> std::result::Result<Slots, ValueError>
+) -> std::result::Result<BTreeMap<u32, RangeInclusive>, ValueError>
     ensures { FindsDevices (items_view list.now) result }
 {
-    let mut slots = Slots::new(alloc);
+    let mut slots = BTreeMap::new(alloc);
     let mut lowest = 0u64;
     for item in list {
         let Some(slot) = decode_slot(item) else {
@@ -58,7 +59,7 @@ pub(super) fn read_slots(
         if u64::from(slot.id) < lowest {
             return Err(ValueError::NotAState);
         }
-        slots.insert(alloc, slot.id, slot.range)?;
+        slots.insert(slot.id, slot.range)?;
         lowest = u64::from(slot.id) + 1;
     }
     Ok(slots)

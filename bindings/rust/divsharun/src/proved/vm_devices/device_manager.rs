@@ -11,9 +11,9 @@ use crate::proved::vm_allocator::{AddressAllocator, AllocPolicy, Error, IdAlloca
 
 mod comparing;
 mod device_table;
-mod slots;
 mod queries;
 mod saved;
+mod slots;
 
 use self::device_table::DeviceTable;
 pub use self::slots::Devices;

@@ -28,8 +28,8 @@ returns-in_err-listed-clause-answer c =
     let refused = subst (λ (list : List Value). FindsPaired read.ids read.space (items_view list) (Err e)) c.deref.ensures.value c.in_err-listed.ensures in
     rw is (devices_refused read e refused)
 
-pub from_slots-requires : goal.from_slots-requires
-from_slots-requires c =
+pub from_map-requires : goal.from_map-requires
+from_map-requires c =
     let fields = fields_found (view c.args.value.now) _ _ _ (sym c.in-Some.ensures) in
     let read = read_of _ fields _ _ c.in_ok-id_allocator.ensures.answer c.in_ok-mmio_allocator.ensures.answer in
     devices_start_apart _ (read_state read c.in_ok-listed.listed (rw (← c.deref.ensures.value) c.in_ok-listed.ensures))

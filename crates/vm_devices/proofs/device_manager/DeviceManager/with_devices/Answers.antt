@@ -10,8 +10,8 @@ returns-in_err-listed-clause-answer c =
     let is : c.from_residual.result ≡ Err e = search rules in
     rw is (listed_refused c.args.ids (state_of c.args.space) c.args.devices.now c.pair_devices.ensures.valid.0 c.pair_devices.ensures.valid.1 e c.in_err-listed.ensures.answer)
 
-pub from_slots-requires : goal.from_slots-requires
-from_slots-requires c =
+pub from_map-requires : goal.from_map-requires
+from_map-requires c =
     devices_start_apart _ (listed_valid c.args.ids (state_of c.args.space) c.args.devices.now c.pair_devices.ensures.valid.0 c.pair_devices.ensures.valid.1 c.in_ok-listed.listed c.in_ok-listed.ensures.answer)
 
 pub invariant_of-result : goal.invariant_of-result

@@ -25,11 +25,17 @@ impl DeviceTable {
         }
     }
 
-    /// Creates a table from the ranges by ids.
-    pub(super) fn from_slots(alloc: Global, slots: Slots) -> Result<DeviceTable, AllocError> {
+    /// Creates a table from the ranges by ids. It has a slot for each id between the lowest and the
+    /// highest, so the ids must be checked first.
+    pub(super) fn from_map(
+        alloc: Global,
+        ranges: BTreeMap<u32, RangeInclusive>,
+    ) -> Result<DeviceTable, AllocError> {
+        let mut slots = Slots::new(alloc);
         let mut ids_by_start = BTreeMap::new(alloc);
-        for device in slots.iter() {
-            ids_by_start.insert(device.range.start(), device.id)?;
+        for (id, range) in ranges.iter() {
+            slots.insert(alloc, *id, *range)?;
+            ids_by_start.insert(range.start(), *id)?;
         }
         Ok(DeviceTable {
             slots,

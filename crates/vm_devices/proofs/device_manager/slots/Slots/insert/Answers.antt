@@ -13,15 +13,15 @@ returns-clause-inserted c =
     let within : c.args.id - first < length slots = search rules in
     let begun : slot_entries c.if-is_empty.self-inside.first_id c.if-is_empty.self-inside.ranges.items ≡ slot_entries c.self.inside.first_id c.self.inside.ranges.items =
     elim c.if-is_empty.branch [
-      then-is_empty w ↦ rw w.self-inside-is (no_slots c.args.id c.self.inside.first_id c.self.inside.ranges.items (search rules))
-    | else-is_empty w ↦ rw w.self-inside-is refl
+      | then-is_empty w ↦ rw w.self-inside-is (no_slots c.args.id c.self.inside.first_id c.self.inside.ranges.items (search rules))
+      | else-is_empty w ↦ rw w.self-inside-is refl
     ] in
     let lower : slot_entries first c.if-id-self.self-inside.ranges.items ≡ slot_entries c.if-is_empty.self-inside.first_id c.if-is_empty.self-inside.ranges.items =
     elim c.if-id-self.branch [
-      then-id-self+in_ok-self-inside w ↦
-        rw w.self-inside-is
-        (w.in_ok-self-inside.ensures.entries c.args.id ∙ rw w.deref.ensures.value (ap (λ (v : ℕ). slot_entries v c.if-is_empty.self-inside.ranges.items) (omega (arith, w.if-id-self.true))))
-    | else-id-self w ↦ rw w.self-inside-is refl
+      | then-id-self+in_ok-self-inside w ↦
+          rw w.self-inside-is
+          (w.in_ok-self-inside.ensures.entries c.args.id ∙ rw w.deref.ensures.value (ap (λ (v : ℕ). slot_entries v c.if-is_empty.self-inside.ranges.items) (omega (arith, w.if-id-self.true))))
+      | else-id-self w ↦ rw w.self-inside-is refl
     ] in
     let same = lower ∙ begun in
     inserted_here first slots c.args.id c.args.range below within

@@ -5,10 +5,10 @@
 use super::pairing::are_held_and_distinct;
 use crate::proved::vm_devices::device_manager::DeviceManager;
 use crate::proved::vm_devices::device_manager::device_table::DeviceTable;
-use crate::proved::vm_devices::device_manager::slots::Slots;
 use crate::proved::vm_devices::device_slot::DeviceSlot;
 use crate::rattle::Global;
-use crate::proved::vm_allocator::{AddressAllocator, IdAllocator, ValueError};
+use crate::rattle::BTreeMap;
+use crate::proved::vm_allocator::{AddressAllocator, IdAllocator, RangeInclusive, ValueError};
 
 impl DeviceManager {
     /// Creates a manager of these ids, this space and these devices, which are by increasing ids.
@@ -31,7 +31,7 @@ impl DeviceManager {
         devices: &[DeviceSlot],
     ) -> core::result::Result<Self, ValueError> {
         let listed = pair_devices(alloc, &ids, &space, devices)?;
-        let slots = DeviceTable::from_slots(alloc, listed)?;
+        let slots = DeviceTable::from_map(alloc, listed)?;
         Ok(DeviceManager {
             id_allocator: ids,
             mmio_allocator: space,
@@ -47,7 +47,7 @@ fn pair_devices(
     ids: &IdAllocator,
     space: &AddressAllocator,
     devices: &[DeviceSlot],
-) -> core::result::Result<Slots, ValueError> {
+) -> core::result::Result<BTreeMap<u32, RangeInclusive>, ValueError> {
     // The devices can be untrusted input, so they are counted before memory is allocated for them.
     let count = devices.len() as u64;
     let (held_ids, held_ranges) = (ids.held_count(), space.held_count());
@@ -66,14 +66,14 @@ fn pair_devices(
 fn collect_devices(
     alloc: Global,
     devices: &[DeviceSlot],
-) -> core::result::Result<Slots, ValueError> {
-    let mut slots = Slots::new(alloc);
+) -> core::result::Result<BTreeMap<u32, RangeInclusive>, ValueError> {
+    let mut slots = BTreeMap::new(alloc);
     let mut lowest = 0u64;
     for device in devices {
         if u64::from(device.id) < lowest {
             return Err(ValueError::NotAState);
         }
-        slots.insert(alloc, device.id, device.range)?;
+        slots.insert(device.id, device.range)?;
         lowest = u64::from(device.id) + 1;
     }
     Ok(slots)

@@ -4,11 +4,10 @@
 //! ranges.
 
 use super::slots::read_slots;
-use crate::proved::vm_devices::device_manager::slots::Slots;
 use crate::rattle::Value;
 use crate::rattle::{AllocError, Global};
-use crate::rattle::BTreeSet;
-use crate::proved::vm_allocator::{AddressAllocator, IdAllocator, ValueError};
+use crate::rattle::{BTreeMap, BTreeSet};
+use crate::proved::vm_allocator::{AddressAllocator, IdAllocator, RangeInclusive, ValueError};
 
 /// Reads the table of the devices of a list. Returns `NotAState` if they do not pair the allocated
 /// ids with the allocated ranges.
@@ -17,7 +16,7 @@ pub(super) fn read_devices(
     ids: &IdAllocator,
     space: &AddressAllocator,
     list: &[Value],
-) -> core::result::Result<Slots, ValueError> {
+) -> core::result::Result<BTreeMap<u32, RangeInclusive>, ValueError> {
     // The list can be untrusted input, so it is counted before memory is allocated for it.
     if !counts_match(ids, space, list) {
         return Err(ValueError::NotAState);
@@ -41,14 +40,14 @@ pub(super) fn are_held_and_distinct(
     alloc: Global,
     ids: &IdAllocator,
     space: &AddressAllocator,
-    slots: &Slots,
+    slots: &BTreeMap<u32, RangeInclusive>,
 ) -> core::result::Result<bool, AllocError> {
     let mut starts = BTreeSet::new(alloc);
-    for device in slots.iter() {
-        if !ids.is_allocated(device.id) || !space.holds(&device.range) {
+    for (id, range) in slots.iter() {
+        if !ids.is_allocated(*id) || !space.holds(range) {
             return Ok(false);
         }
-        if !starts.insert(device.range.start())? {
+        if !starts.insert(range.start())? {
             return Ok(false);
         }
     }

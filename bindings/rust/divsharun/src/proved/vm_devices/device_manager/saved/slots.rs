@@ -3,11 +3,12 @@
 //! The list of devices in a manager's value.
 
 use crate::rattle::Vec;
-use crate::proved::vm_devices::device_manager::slots::{Devices, Slots};
+use crate::proved::vm_devices::device_manager::slots::Devices;
 use crate::proved::vm_devices::device_slot::DeviceSlot;
 use crate::rattle::{Value, json};
 use crate::rattle::{AllocError, Global};
-use crate::proved::vm_allocator::{Result, ValueError};
+use crate::rattle::BTreeMap;
+use crate::proved::vm_allocator::{RangeInclusive, Result, ValueError};
 use crate::proved::vm_ranges::{has_fields, range_in, u32_in};
 
 /// Encodes the devices as a list.
@@ -36,8 +37,8 @@ fn slot_object(alloc: Global, id: u32, range: Value) -> core::result::Result<Val
 pub(super) fn read_slots(
     alloc: Global,
     list: &[Value],
-) -> core::result::Result<Slots, ValueError> {
-    let mut slots = Slots::new(alloc);
+) -> core::result::Result<BTreeMap<u32, RangeInclusive>, ValueError> {
+    let mut slots = BTreeMap::new(alloc);
     let mut lowest = 0u64;
     for item in list {
         let Some(slot) = decode_slot(item) else {
@@ -46,7 +47,7 @@ pub(super) fn read_slots(
         if u64::from(slot.id) < lowest {
             return Err(ValueError::NotAState);
         }
-        slots.insert(alloc, slot.id, slot.range)?;
+        slots.insert(slot.id, slot.range)?;
         lowest = u64::from(slot.id) + 1;
     }
     Ok(slots)
