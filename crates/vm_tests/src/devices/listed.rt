@@ -1,6 +1,7 @@
 //! Tests of the list of devices, of the device at an address, of equality and of copies.
 use super::*;
 use crate::fixtures::{fail_from_here, holds_exactly};
+use vm_allocator::ValueError;
 use vm_devices::DeviceSlot;
 
 /// Returns the id of a device, and the ends of its range.
@@ -141,4 +142,50 @@ fn equal_and_cloned(rt: HostRuntime) {
     );
     let same_parts = clone.ids() == devices.ids() && clone.addresses() == devices.addresses();
     expect_true(&rt, same_parts && clone != devices, &"other pairs");
+}
+
+/// Creates a manager of the allocators of another one, and of its devices with these ids.
+fn of_parts(
+    alloc: Global,
+    devices: &DeviceManager,
+    listed: &[u32],
+) -> std::result::Result<DeviceManager, ValueError> {
+    let Ok(ids) = devices.ids().try_clone(alloc) else {
+        return Err(ValueError::OutOfMemory);
+    };
+    let Ok(space) = devices.addresses().try_clone(alloc) else {
+        return Err(ValueError::OutOfMemory);
+    };
+    let mut slots = Vec::new(alloc);
+    for id in listed {
+        let Some(range) = devices.slot(*id) else {
+            return Err(ValueError::NotAState);
+        };
+        slots.push(DeviceSlot { id: *id, range })?;
+    }
+    DeviceManager::with_devices(alloc, ids, space, &slots)
+}
+
+/// Creates a manager of parts. If memory runs out, it repeats the call.
+fn made_of_parts(
+    alloc: Global,
+    devices: &DeviceManager,
+    listed: &[u32],
+) -> std::result::Result<DeviceManager, ValueError> {
+    match of_parts(alloc, devices, listed) {
+        Err(ValueError::OutOfMemory) => of_parts(alloc, devices, listed),
+        answer => answer,
+    }
+}
+
+#[test]
+fn created_of_parts(rt: HostRuntime) {
+    let devices = three(&rt);
+    let again = made_of_parts(rt.alloc(), &devices, &[3, 4, 5]).expect(&rt, "the same parts");
+    expect_true(&rt, again == devices, &"the same manager");
+    expect_three(&rt, &again);
+    let too_few = made_of_parts(rt.alloc(), &devices, &[3, 4]).is_err();
+    let wrong_order = made_of_parts(rt.alloc(), &devices, &[3, 5, 4]).is_err();
+    let twice = made_of_parts(rt.alloc(), &devices, &[3, 4, 4]).is_err();
+    expect_true(&rt, too_few && wrong_order && twice, &"other lists");
 }
