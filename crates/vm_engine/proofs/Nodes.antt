@@ -6,3 +6,4 @@ pub mod TreeEdits
 pub mod MinNodes
 pub mod Spaces
 pub mod UpdatedNodes
+pub mod AvlInsertion

@@ -1,4 +1,5 @@
 pub mod TakenRanges
 pub mod SplitTrees
 pub mod SplitStates
+pub mod SplitLeaves
 pub mod OnlyGaps

@@ -81,6 +81,15 @@ searched_parts n a s e =
     let parts = and_parts (leb n (max_free_of s)) (list_any (has_aligned a) (blocks s)) e in
     (leb-true _ _ parts.0, parts.1)
 
+-- The test of the alignments alone, for every length.
+pub aligned_if : (a : ℕ) (s : Shape) → IsAlignment a → trailing_zeros w64 a < alignments_of s → (n : ℕ) → n ≤ max_free_of s → may_fit_in n a s ≡ true
+aligned_if a s u q n p = searched_if n a s u p q
+
+pub never_aligned : (a : ℕ) (s : Shape) → IsAlignment a → alignments_of s ≤ trailing_zeros w64 a → (n : ℕ) → may_fit_in n a s ≡ false
+never_aligned a s u q n = not_if_unaligned n a s u q
+
+pub ruleset aligned = (aligned_if, never_aligned, searched_if, not_if_unaligned)
+
 pub ruleset searched = (searched_if, not_if_short, not_if_unaligned)
 
 -- ---- There is no place in the others

@@ -1,12 +1,12 @@
 -- The summary of a node after an update, and the reported change.
-use Rattle.std.proofs.Common.{◌≡◌, ℕ, ◌∷◌, ◌++◌, Option, max, refl, ap, arith}
+use Rattle.std.proofs.Common.{◌≡◌, ℕ, ◌+◌, ◌∷◌, ◌++◌, Option, max, refl, ap, arith}
 use Rattle.std.proofs.lemmas.Grind.{common_steps}
 use Rattle.std.specs.Global.{Box}
 use Rattle.vm_engine.specs.Tree.Block.{Block, free_length}
 use Rattle.vm_engine.specs.Tree.BlockList.{IsOrderedFrom}
 use Rattle.vm_engine.specs.Tree.Multiples.{free_alignments}
-use Rattle.vm_engine.specs.Tree.Shape.{Shape, Fork, blocks, height_of, max_free_of, alignments_of, IsTree}
-use Rattle.vm_engine.specs.Engine.Changes.{IsHeightAfterBalance, KeepsHeight, KeepsFreeSummary, KeepsSummary, Grows, Shrinks}
+use Rattle.vm_engine.specs.Tree.Shape.{Shape, Fork, blocks, height_of, max_free_of, alignments_of, DifferByAtMost, IsTree}
+use Rattle.vm_engine.specs.Engine.Changes.{IsHeightAfterBalance, IsUneven, KeepsHeight, KeepsFreeSummary, KeepsSummary, Grows, Shrinks}
 use Rattle.vm_engine.specs.Engine.NodeFields.{side, shape_of, IsNode}
 use Rattle.vm_engine.specs.Engine.NodeUpdate.{RawNode, IsUpdated, Rebalances}
 use Rattle.vm_engine.specs.declared.node.InnerNode.{InnerNode}
@@ -30,6 +30,9 @@ pub record IsRebalanced (own : Block) (old : RawNode) (n : Shape) (reported : Ch
   pub tree : IsTree n
   pub blocks : blocks n ≡ blocks (side old.left) ++ own ∷ blocks (side old.right)
   pub height : IsHeightAfterBalance (height_of (side old.left)) (height_of (side old.right)) (height_of n)
+  pub node : DifferByAtMost 1 (height_of (side old.left)) (height_of (side old.right)) → n ≡ Fork (side old.left) own (side old.right)
+  pub over_left : height_of (side old.left) ≡ height_of (side old.right) + 2 → IsUneven (side old.left) → height_of n ≡ height_of (side old.left)
+  pub over_right : height_of (side old.right) ≡ height_of (side old.left) + 2 → IsUneven (side old.right) → height_of n ≡ height_of (side old.right)
   pub keeps_height : KeepsHeight reported old.height (height_of n)
   pub preserves_max_free : KeepsFreeSummary reported old.max_free (max_free_of n)
   pub keeps_alignments : KeepsFreeSummary reported old.alignments (alignments_of n)
@@ -44,6 +47,9 @@ rebalanced own old (Balanced change) new at after reported o l r s e f =
       tree = rw n (record { ordered = o; balanced = (l.balanced, r.balanced, s.2) });
       blocks = ap blocks n;
       height = rw n (omega arith, omega arith, λ d. refl);
+      node = λ d. n;
+      over_left = λ h u. absurd (omega (arith, s.2.0, s.2.1));
+      over_right = λ h u. absurd (omega (arith, s.2.0, s.2.1));
       keeps_height = rw (f.1, n, ← s.3) s.6;
       preserves_max_free = rw (f.1, n, ← s.4) s.7;
       keeps_alignments = rw (f.1, n, ← s.5) s.8;
@@ -52,6 +58,9 @@ rebalanced own old (Unbalanced first second) new at after reported o l r s e f =
   tree = f.1.tree;
   blocks = rw f.1.blocks (rw e refl);
   height = f.1.height;
+  node = rw e at f.1.node;
+  over_left = f.1.over_left;
+  over_right = f.1.over_right;
   keeps_height = tt;
   preserves_max_free = tt;
   keeps_alignments = tt;

@@ -1,26 +1,25 @@
 -- The split of a gap that is longer than the other gaps of its tree.
-use Rattle.std.proofs.Common.{◌≡◌, ◌≢◌, ℕ, ◌≤◌, max, true, false, cond, Option, Some, IsSome, List, [], ◌∷◌, ◌++◌, refl, sym, ap, ◌∙◌, arith}
+use Rattle.std.proofs.Common.{◌≡◌, ℕ, suc, ◌-◌, ◌<◌, ◌≤◌, ⊎_elim, max, true, false, cond, Option, Some, IsSome, List, [], ◌∷◌, ◌++◌, refl, sym, ap, ◌∙◌, arith}
 use Rattle.std.specs.Global.{Box}
 use Rattle.vm_ranges.specs.Range.{Range}
 use Rattle.vm_ranges.specs.RangeOrder.{Before, same_range}
 use Rattle.vm_engine.specs.Tree.Block.{Block, free_length, held_block}
 use Rattle.vm_engine.specs.Tree.BlockList.{replace_block, find_key}
 use Rattle.vm_engine.specs.Tree.Multiples.{free_alignments}
-use Rattle.vm_engine.specs.Tree.Shape.{Shape, Tip, Fork, blocks, max_free_of, alignments_of, IsTree}
-use Rattle.vm_engine.specs.Engine.Changes.{Grows}
+use Rattle.vm_engine.specs.Tree.Shape.{Shape, Tip, Fork, blocks, height_of, max_free_of, alignments_of, IsTree}
+use Rattle.vm_engine.specs.Engine.Changes.{IsUneven, AddsLeaf}
 use Rattle.vm_engine.specs.Engine.NodeFields.{side, shape_of, IsNode}
-use Rattle.vm_engine.specs.Engine.OnlyGap.{most_by, OthersAreLess, KnowsShorter, IsFreeOf, IsOnlyRest, IsOnlySplit}
-use Rattle.vm_engine.specs.Engine.SplitBlocks.{with_split, AreLeaves, CanSplit}
+use Rattle.vm_engine.specs.Engine.OnlyGap.{most_by, OthersAreLess, IsUnevenAt, KnowsChoice, IsFreeOf, IsOnlyRest, IsOnlySplit, IsSteadySplit}
+use Rattle.vm_engine.specs.Engine.SplitBlocks.{with_split, AreLeaves, CanSplit, HasOnePart, IsLeafAt}
 use Rattle.vm_engine.specs.declared.node.InnerNode.{InnerNode}
 use Rattle.vm_engine.specs.declared.node.InnerNode.TheInside.{Inside}
 use Rattle.vm_engine.specs.declared.node.outermost.Edge.{Edge}
 use Rattle.vm_engine.specs.declared.node.split.Split.{Split}
-use Rattle.vm_engine.specs.declared.node.summary.Change.{Change}
-use Rattle.vm_engine.specs.declared.node.summary.Change.TheVariants.{Nothing, FreeOnly, Height}
 use Rattle.vm_engine.specs.declared.node.summary.FreeSummary.{FreeSummary}
 use Rattle.vm_engine.proofs.Blocks.Replacement.{replace_in_left, replace_in_right}
 use Rattle.vm_engine.proofs.Nodes.Rewriting.{known_left, known_right, rewritten_left, rewritten_right}
-use Rattle.vm_engine.proofs.Nodes.UpdatedNodes.{own_of, refreshed_left, refreshed_right}
+use Rattle.vm_engine.proofs.Nodes.AvlInsertion.{not_both, not_itself, not_itself_after, leaf_left, leaf_right}
+use Rattle.vm_engine.proofs.Nodes.UpdatedNodes.{own_of}
 use Rattle.vm_engine.proofs.Splitting.SplitTrees.{ordered_split_left, ordered_split_right}
 
 -- ---- The free summary of a tree, by its blocks
@@ -101,37 +100,94 @@ module _ (s l : Shape) (b : Block) (r : Shape) (split : Split) (free : FreeSumma
     };
   }
 
--- If the height of the child is unchanged, the node keeps its height, and just the free summary of the rest.
-grows_free : (change : Change) (s n : Shape) → change ≢ Height → Grows s n change → Grows s n FreeOnly
-grows_free Height s n u g = absurd (u refl)
-grows_free Nothing s n u g = record { tree = g.tree; not_lower = g.not_lower; at_most_one_higher = g.at_most_one_higher; keeps = record { height = g.keeps.height; max_free = tt; alignments = tt } }
-grows_free FreeOnly s n u g = g
-
-module _ (i : Inside) (child : Option (Box InnerNode)) (change : Change) (split : Split) (free : FreeSummary) (v : IsNode i) (u : change ≢ Height) (o : IsOnlySplit (shape_of i) split free) where
-  pub kept_over_left : Before split.choice.key i.key → blocks (side child) ≡ with_split split.choice.key split.choice.range split.rest (blocks (side i.left)) → Grows (side i.left) (side child) change
-      → IsNode (record i { left = child; max_free = free.max_free; alignments = free.alignments }) × Grows (shape_of i) (shape_of (record i { left = child })) FreeOnly
-  kept_over_left p e g =
+-- ---- A node on the path whose child keeps its height
+module _ (i : Inside) (child : Option (Box InnerNode)) (split : Split) (free : FreeSummary) (v : IsNode i) (o : IsOnlySplit (shape_of i) split free) where
+  pub kept_over_left : Before split.choice.key i.key → blocks (side child) ≡ with_split split.choice.key split.choice.range split.rest (blocks (side i.left)) → IsTree (side child) → height_of (side child) ≡ height_of (side i.left)
+      → IsNode (record i { left = child; max_free = free.max_free; alignments = free.alignments })
+  kept_over_left p e t h =
       let n = shape_of (record i { left = child }) in
       let keeps = keeps_rest (shape_of i) n split free o (rw e (sym (replace_in_left (shape_of i) (side i.left) (own_of i) (side i.right) split.choice.key _ refl p v.tree))) in
-      refreshed_left i child FreeOnly free.max_free free.alignments v (ordered_split_left (side i.left) (side child) (own_of i) (side i.right) split.choice.key _ p v.tree o.can_be_split.ordered e) (grows_free change _ _ u g) (sym keeps.0) (sym keeps.1) tt tt
+      record {
+        tree = record { ordered = ordered_split_left (side i.left) (side child) (own_of i) (side i.right) split.choice.key _ p v.tree o.can_be_split.ordered e; balanced = (t.balanced, v.tree.balanced.1, rw h v.tree.balanced.2) };
+        height = rw h v.height;
+        max_free = sym keeps.0;
+        alignments = sym keeps.1;
+      }
 
-  pub kept_over_right : Before i.key split.choice.key → blocks (side child) ≡ with_split split.choice.key split.choice.range split.rest (blocks (side i.right)) → Grows (side i.right) (side child) change
-      → IsNode (record i { right = child; max_free = free.max_free; alignments = free.alignments }) × Grows (shape_of i) (shape_of (record i { right = child })) FreeOnly
-  kept_over_right p e g =
+  pub kept_over_right : Before i.key split.choice.key → blocks (side child) ≡ with_split split.choice.key split.choice.range split.rest (blocks (side i.right)) → IsTree (side child) → height_of (side child) ≡ height_of (side i.right)
+      → IsNode (record i { right = child; max_free = free.max_free; alignments = free.alignments })
+  kept_over_right p e t h =
       let n = shape_of (record i { right = child }) in
       let keeps = keeps_rest (shape_of i) n split free o (rw e (sym (replace_in_right (shape_of i) (side i.left) (own_of i) (side i.right) split.choice.key _ refl p v.tree))) in
-      refreshed_right i child FreeOnly free.max_free free.alignments v (ordered_split_right (side i.left) (side child) (own_of i) (side i.right) split.choice.key _ p v.tree o.can_be_split.ordered e) (grows_free change _ _ u g) (sym keeps.0) (sym keeps.1) tt tt
+      record {
+        tree = record { ordered = ordered_split_right (side i.left) (side child) (own_of i) (side i.right) split.choice.key _ p v.tree o.can_be_split.ordered e; balanced = (v.tree.balanced.0, t.balanced, rw h v.tree.balanced.2) };
+        height = rw h v.height;
+        max_free = sym keeps.0;
+        alignments = sym keeps.1;
+      }
+
+-- The path below an uneven node.
+module _ (j : ℕ) (k : Range) (l : Shape) (b : Block) (r : Shape) where
+  pub uneven_here : IsUnevenAt 0 k (Fork l b r) → IsUneven (Fork l b r)
+  unfolding IsUnevenAt
+  uneven_here u = u
+
+  pub uneven_not_here : 0 < j → k ≡ b.key → ¬ IsUnevenAt j k (Fork l b r)
+  unfolding IsUnevenAt
+  uneven_not_here p e u =
+      let s : j ≡ suc (j - 1) = omega arith in
+      let v : IsUnevenAt (suc (j - 1)) k (Fork l b r) = rw s at u in
+      ⊎_elim (λ h. not_itself k b.key e h.0) (λ h. not_itself_after k b.key e h.0) v
+
+  pub uneven_left : 0 < j → Before k b.key → IsUnevenAt j k (Fork l b r) → IsUnevenAt (j - 1) k l
+  unfolding IsUnevenAt
+  uneven_left p q u =
+      let s : j ≡ suc (j - 1) = omega arith in
+      let v : IsUnevenAt (suc (j - 1)) k (Fork l b r) = rw s at u in
+      ⊎_elim (λ h. h.1) (λ h. absurd (not_both k b.key q h.0)) v
+
+  pub uneven_right : 0 < j → Before b.key k → IsUnevenAt j k (Fork l b r) → IsUnevenAt (j - 1) k r
+  unfolding IsUnevenAt
+  uneven_right p q u =
+      let s : j ≡ suc (j - 1) = omega arith in
+      let v : IsUnevenAt (suc (j - 1)) k (Fork l b r) = rw s at u in
+      ⊎_elim (λ h. absurd (not_both k b.key h.0 q)) (λ h. h.1) v
+
+-- The split of a tree is the split of the child with the gap.
+module _ (s l : Shape) (b : Block) (r : Shape) (split : Split) (free : FreeSummary) (j : ℕ) (e : s ≡ Fork l b r) (t : IsTree s) (o : IsSteadySplit s split free j) where
+  pub steady_left : 0 < j → Before split.choice.key b.key → IsSteadySplit l split free (j - 1)
+  steady_left q p = record { only = only_in_left s l b r split free e t o.only p; one = o.one; leaf = leaf_left split.choice.key l b r p (rw e at o.leaf); uneven = uneven_left j split.choice.key l b r q p (rw e at o.uneven) }
+
+  pub steady_right : 0 < j → Before b.key split.choice.key → IsSteadySplit r split free (j - 1)
+  steady_right q p = record { only = only_in_right s l b r split free e t o.only p; one = o.one; leaf = leaf_right split.choice.key l b r p (rw e at o.leaf); uneven = uneven_right j split.choice.key l b r q p (rw e at o.uneven) }
 
 -- The split of the gap at which a search ended.
-pub only_by_search : (s : Shape) (edge : Edge) (split : Split) (free : FreeSummary) → AreLeaves split.rest → CanSplit (blocks s) split.choice.key split.choice.range split.rest
-    → KnowsShorter edge split.choice (blocks s) → IsOnlyRest edge split free → IsOnlySplit s split free
-only_by_search s edge split free leaves can knows rest =
-    let others = knows rest.reached in
+pub steady_by_search : (s : Shape) (edge : Edge) (split : Split) (free : FreeSummary) → AreLeaves split.rest → CanSplit (blocks s) split.choice.key split.choice.range split.rest
+    → KnowsChoice edge split.choice s → IsOnlyRest edge split free → IsSteadySplit s split free edge.steady
+steady_by_search s edge split free leaves can knows rest =
+    let gap = knows rest.reached in
     record {
-      leaves = leaves;
-      can_be_split = can;
-      rest = rest.rest;
-      others = record { max_free = omega (arith, others.max_free, rest.max_free); alignments = omega (arith, others.alignments, rest.alignments) };
+      only = record {
+        leaves = leaves;
+        can_be_split = can;
+        rest = rest.rest;
+        others = record { max_free = omega (arith, gap.others.max_free, rest.max_free); alignments = omega (arith, gap.others.alignments, rest.alignments) };
+      };
+      one = rest.one;
+      leaf = gap.leaf;
+      uneven = ⊎_elim (λ z. absurd (rest.steady z)) (λ u. u) gap.uneven;
     }
 
-pub ruleset only_splits = (only_by_search)
+no_tip : (k : Range) → ¬ IsLeafAt k Tip
+unfolding IsLeafAt
+no_tip k f = f
+
+-- The uneven node keeps its height.
+pub steady_height : (s n : Shape) (split : Split) (free : FreeSummary) → IsSteadySplit s split free 0 → (IsLeafAt split.choice.key s → HasOnePart split.rest → AddsLeaf s n) → height_of n ≡ height_of s
+steady_height Tip n split free o h = absurd (no_tip split.choice.key o.leaf)
+steady_height (Fork l b r) n split free o h =
+    ⊎_elim (λ same. same) (λ grown. absurd (grown.1 (uneven_here 0 split.choice.key l b r o.uneven))) (h o.leaf o.one)
+
+pub ruleset steady_splits = (steady_by_search)
+
+pub ruleset steady_paths = (replace_in_left, replace_in_right, steady_left, steady_right, steady_height, kept_over_left, kept_over_right, uneven_not_here)

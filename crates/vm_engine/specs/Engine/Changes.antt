@@ -1,5 +1,5 @@
 -- The effects of changes on a tree.
-use Rattle.std.specs.Prelude.{◌≡◌, ℕ, ◌+◌, ◌^◌, ◌<◌, ◌≤◌, max, ◌∷◌, ◌++◌, None}
+use Rattle.std.specs.Prelude.{◌≡◌, ◌≢◌, ℕ, ◌+◌, ◌^◌, ◌<◌, ◌≤◌, ◌⊎◌, max, ◌∷◌, ◌++◌, None}
 use Rattle.vm_ranges.specs.Range.{Range}
 use Rattle.vm_engine.specs.Tree.Block.{Block}
 use Rattle.vm_engine.specs.Tree.BlockList.{IsOrderedFrom, find_key}
@@ -26,17 +26,26 @@ abbrev pub IsRightNotLower : Shape → Type 0
 IsRightNotLower Tip = ⊥
 IsRightNotLower (Fork l b r) = height_of l ≤ height_of r
 
+-- The children of the root differ in height.
+abbrev pub IsUneven : Shape → Type 0
+IsUneven Tip = ⊥
+IsUneven (Fork l b r) = height_of l ≢ height_of r
+
 -- A balanced tree of these children and this block exists: they are in order, and the heights are at most two apart.
 pub record CanBalance (left : Shape) (middle : Block) (right : Shape) : Type 0 where
   pub ordered : IsOrderedFrom 0 (blocks left ++ middle ∷ blocks right)
   pub near : DifferByAtMost 2 (height_of left) (height_of right)
   pub height_fits : max (height_of left) (height_of right) + 1 < 2 ^ 64
 
--- `balanced` is a balanced tree of the blocks of both children and the block between them.
+-- `balanced` is a balanced tree of the blocks of both children and the block between them. It is their node if no rotation
+-- is needed. A rotation over an uneven child makes it as high as that child.
 pub record Balances (left : Shape) (middle : Block) (right balanced : Shape) : Type 0 where
   pub tree : IsTree balanced
   pub blocks : blocks balanced ≡ blocks left ++ middle ∷ blocks right
   pub height : IsHeightAfterBalance (height_of left) (height_of right) (height_of balanced)
+  pub node : DifferByAtMost 1 (height_of left) (height_of right) → balanced ≡ Fork left middle right
+  pub over_left : height_of left ≡ height_of right + 2 → IsUneven left → height_of balanced ≡ height_of left
+  pub over_right : height_of right ≡ height_of left + 2 → IsUneven right → height_of balanced ≡ height_of right
 
 -- The height is unchanged, unless the reported change includes it.
 abbrev pub KeepsHeight : Change → ℕ → ℕ → Type 0
@@ -62,6 +71,12 @@ pub record Grows (old new : Shape) (reported : Change) : Type 0 where
   pub not_lower : height_of old ≤ height_of new
   pub at_most_one_higher : height_of new ≤ height_of old + 1
   pub keeps : KeepsSummary old new reported
+
+-- A leaf was added below a leaf: the tree is as high as before, or the root had children of equal heights, and the tree
+-- is one higher and uneven.
+abbrev pub AddsLeaf : Shape → Shape → Type 0
+AddsLeaf old new =
+    (height_of new ≡ height_of old) ⊎ ((height_of new ≡ height_of old + 1) × ¬ IsUneven old × IsUneven new)
 
 -- The new tree is as high as the old one or one lower. Its summary is unchanged, except for the reported change.
 pub record Shrinks (old new : Shape) (reported : Change) : Type 0 where

@@ -1,18 +1,21 @@
--- A gap that is longer than the other gaps of its tree.
-use Rattle.std.specs.Prelude.{◌≡◌, ℕ, ◌-◌, ◌≤◌, max, true, List, [], ◌∷◌, Option, IfSome}
+-- The outermost gap of a tree, if it is longer than the other gaps.
+use Rattle.std.specs.Prelude.{◌≡◌, ◌≢◌, ℕ, suc, zero, ◌+◌, ◌-◌, ◌≤◌, ◌⊎◌, max, true, false, List, [], ◌∷◌, Option, IfSome}
 use Rattle.vm_ranges.specs.Range.{Range}
+use Rattle.vm_ranges.specs.RangeOrder.{Before}
 use Rattle.vm_engine.specs.Tree.Block.{Block, free_length}
 use Rattle.vm_engine.specs.Tree.BlockList.{replace_block}
 use Rattle.vm_engine.specs.Tree.Multiples.{free_alignments}
-use Rattle.vm_engine.specs.Tree.Shape.{Shape, blocks, max_free_of, alignments_of}
+use Rattle.vm_engine.specs.Tree.Shape.{Shape, Tip, Fork, blocks, height_of, max_free_of, alignments_of}
+use Rattle.vm_engine.specs.Engine.Changes.{IsUneven}
 use Rattle.vm_engine.specs.Engine.NodeFields.{side}
-use Rattle.vm_engine.specs.Engine.SplitBlocks.{AreLeaves, CanSplit}
+use Rattle.vm_engine.specs.Engine.SplitBlocks.{AreLeaves, CanSplit, HasOnePart, IsLeafAt}
 use Rattle.vm_engine.specs.declared.node.outermost.Edge.{Edge}
 use Rattle.vm_engine.specs.declared.node.places.Place.{Place}
 use Rattle.vm_engine.specs.declared.node.split.Choice.{Choice}
 use Rattle.vm_engine.specs.declared.node.split.Rest.{Rest}
 use Rattle.vm_engine.specs.declared.node.split.Split.{Split}
 use Rattle.vm_engine.specs.declared.node.summary.FreeSummary.{FreeSummary}
+use Rattle.vm_engine.specs.declared.node.summary.Summary.{Summary}
 
 -- The greatest value of f among the blocks, or 0 if there is no block.
 abbrev pub most_by : (Block → ℕ) → List Block → ℕ
@@ -24,17 +27,46 @@ pub record OthersAreLess (n k : ℕ) (key : Range) (bs : List Block) : Type 0 wh
   pub max_free : most_by free_length (replace_block key [] bs) ≤ n
   pub alignments : most_by free_alignments (replace_block key [] bs) ≤ k
 
--- If the search for n addresses ended at the end of the edge, the blocks other than that of its place are shorter than n,
--- and have no more alignments than the search noted.
-abbrev pub KnowsOthers : ℕ → Edge → Option Place → List Block → Type 0
-KnowsOthers n edge found bs =
-    edge.reached ≡ true → IfSome found (λ place. OthersAreLess (n - 1) edge.alignments place.key bs)
+-- The node at depth j of the path to the block `key` is uneven.
+unfoldable pub IsUnevenAt : ℕ → Range → Shape → Type 0
+IsUnevenAt j key Tip = ⊥
+IsUnevenAt zero key (Fork l b r) = IsUneven (Fork l b r)
+IsUnevenAt (suc j) key (Fork l b r) =
+    (Before key b.key × IsUnevenAt j key l) ⊎ (Before b.key key × IsUnevenAt j key r)
 
--- If the search ended at the end of the edge, the blocks other than the chosen one are shorter than the range, and have
--- no more alignments than the search noted.
-abbrev pub KnowsShorter : Edge → Choice → List Block → Type 0
-KnowsShorter edge choice bs =
-    edge.reached ≡ true → OthersAreLess (choice.range.end - choice.range.start) edge.alignments choice.key bs
+-- The notes of a search that has passed nothing.
+abbrev pub IsNewEdge : Edge → Type 0
+IsNewEdge edge = (edge.depth ≡ 0) × (edge.steady ≡ 0) × (edge.reached ≡ false)
+
+-- The notes after a node is passed: its child `beside` is left out, and the other child has this height.
+pub record Passes (beside : Summary) (entered : ℕ) (old new : Edge) : Type 0 where
+  pub kept : old.alignments ≤ new.alignments
+  pub alignments : beside.free.alignments ≤ new.alignments
+  pub depth : new.depth ≡ old.depth + 1
+  pub steady : ((new.steady ≡ old.depth) × (beside.height ≢ entered)) ⊎ (new.steady ≡ old.steady)
+  pub reached : new.reached ≡ old.reached
+
+-- The gap `key` at which a search for n addresses ended, with the notes `old` before the tree and `new` after it. The gap
+-- is a leaf. The other blocks are shorter than n, and have no more alignments than noted. A node that is noted as steady
+-- is uneven.
+pub record IsEdgeGap (n : ℕ) (old new : Edge) (key : Range) (s : Shape) : Type 0 where
+  pub others : OthersAreLess (n - 1) new.alignments key (blocks s)
+  pub leaf : IsLeafAt key s
+  pub uneven : (new.steady ≡ old.steady) ⊎ ((j : ℕ) × (new.steady ≡ old.depth + j) × IsUnevenAt j key s)
+
+-- If the search reached the end of the edge, its place is in the gap there.
+abbrev pub KnowsGap : ℕ → Edge → Edge → Option Place → Shape → Type 0
+KnowsGap n old new found s =
+    new.reached ≡ true → IfSome found (λ place. IsEdgeGap n old new place.key s)
+
+-- The same for the chosen range, and the notes of the whole search.
+pub record IsChosenGap (edge : Edge) (choice : Choice) (s : Shape) : Type 0 where
+  pub others : OthersAreLess (choice.range.end - choice.range.start) edge.alignments choice.key (blocks s)
+  pub leaf : IsLeafAt choice.key s
+  pub uneven : (edge.steady ≡ 0) ⊎ IsUnevenAt edge.steady choice.key s
+
+abbrev pub KnowsChoice : Edge → Choice → Shape → Type 0
+KnowsChoice edge choice s = edge.reached ≡ true → IsChosenGap edge choice s
 
 -- The free summary of the rest of a gap.
 abbrev pub IsFreeOf : FreeSummary → Rest → Type 0
@@ -42,10 +74,12 @@ IsFreeOf free rest =
     (free.max_free ≡ max (max_free_of (side rest.before)) (max_free_of (side rest.after)))
     × (free.alignments ≡ max (alignments_of (side rest.before)) (alignments_of (side rest.after)))
 
--- The search ended at the end of the edge. The rest of its gap has the free summary `free`. It is as long as any other
--- block that is shorter than the range, and has as many alignments as the search noted.
+-- The search ended at the end of the edge and noted a steady node. The rest of its gap is one part with the free summary
+-- `free`, as long as any other block can be, and with as many alignments as noted.
 pub record IsOnlyRest (edge : Edge) (split : Split) (free : FreeSummary) : Type 0 where
   pub reached : edge.reached ≡ true
+  pub steady : edge.steady ≢ 0
+  pub one : HasOnePart split.rest
   pub rest : IsFreeOf free split.rest
   pub max_free : split.choice.range.end - split.choice.range.start ≤ free.max_free
   pub alignments : edge.alignments ≤ free.alignments
@@ -57,3 +91,10 @@ pub record IsOnlySplit (s : Shape) (split : Split) (free : FreeSummary) : Type 0
   pub can_be_split : CanSplit (blocks s) split.choice.key split.choice.range split.rest
   pub rest : IsFreeOf free split.rest
   pub others : OthersAreLess free.max_free free.alignments split.choice.key (blocks s)
+
+-- The split also adds one leaf below a leaf, and the node at depth `steady` of its path is uneven.
+pub record IsSteadySplit (s : Shape) (split : Split) (free : FreeSummary) (steady : ℕ) : Type 0 where
+  pub only : IsOnlySplit s split free
+  pub one : HasOnePart split.rest
+  pub leaf : IsLeafAt split.choice.key s
+  pub uneven : IsUnevenAt steady split.choice.key s

@@ -14,7 +14,7 @@ ghost use Rattle.vm_engine.specs.Tree.Shape.{blocks, height_of, single, leaf_of}
 ghost use Rattle.vm_engine.specs.Engine.Changes.{IsLeaf};
 ghost use Rattle.vm_engine.specs.Engine.NodeFields.{side};
 ghost use Rattle.vm_engine.specs.Engine.Choosing.{IsChoice};
-ghost use Rattle.vm_engine.specs.Engine.OnlyGap.{KnowsShorter};
+ghost use Rattle.vm_engine.specs.Engine.OnlyGap.{KnowsChoice};
 ghost use Rattle.vm_engine.specs.Tree.SpaceTree.{tree_state};
 ghost use Rattle.vm_engine.specs.Counts.Steps.{SPLIT_HEIGHT_LIMIT};
 ghost use Rattle.vm_engine.specs.Counts.NodeCounts.{nodes_if_allocated};
@@ -46,7 +46,7 @@ impl IntervalTree {
         count: &mut Steps,
     ) -> Result<RangeInclusive>
         requires choice { IsChoice (blocks self.old) choice }
-        requires others { KnowsShorter edge.now choice (blocks self.old) }
+        requires gap { KnowsChoice edge.now choice self.old }
         requires count_fits { count.old + 2 * height_of self.old < MAX }
         ensures answer { AllocatesAt (tree_state self.old) choice.range result (tree_state self.new) }
         ensures unchanged { OnErr result (self.new ≡ self.old) }

@@ -1,13 +1,13 @@
 //! Chooses the range of a request, and finds the free block that contains it.
-ghost use Rattle.std.specs.Prelude.{◌≡◌, ◌≢◌, ◌+◌, ◌<◌, ◌≤◌, false, IfErr, IfOk, OnOk, IfSome};
+ghost use Rattle.std.specs.Prelude.{◌≡◌, ◌≢◌, ◌+◌, ◌<◌, ◌≤◌, IfErr, IfOk, OnOk, IfSome};
 ghost use Rattle.vm_ranges.specs.Range.{MAX};
 ghost use Rattle.vm_ranges.specs.Request.{IsRequest};
 ghost use Rattle.vm_engine.specs.Tree.Block.{free_block};
 ghost use Rattle.vm_engine.specs.Tree.BlockEdits.{HasLength};
-ghost use Rattle.vm_engine.specs.Tree.Shape.{blocks, height_of, IsTree};
+ghost use Rattle.vm_engine.specs.Tree.Shape.{height_of, IsTree};
 ghost use Rattle.vm_engine.specs.Tree.SpaceTree.{IsSpaceTree};
 ghost use Rattle.vm_engine.specs.Engine.Choosing.{Chooses, ChoosesAt, ExactChoice};
-ghost use Rattle.vm_engine.specs.Engine.OnlyGap.{KnowsShorter};
+ghost use Rattle.vm_engine.specs.Engine.OnlyGap.{IsNewEdge, KnowsChoice};
 ghost use Rattle.vm_engine.specs.Counts.NodeCounts.{nodes_of_search};
 ghost use Rattle.vm_engine.specs.Counts.Steps.{NoneEndsBelowMax};
 ghost use Rattle.vm_engine.specs.Tree.SpaceTree.{tree_state};
@@ -31,14 +31,14 @@ impl IntervalTree {
         edge: &mut Edge,
         count: &mut Steps,
     ) -> Result<Choice>
-        requires start { (count.old ≡ 0) × (edge.old.reached ≡ false) }
+        requires start { (count.old ≡ 0) × IsNewEdge edge.old }
         ensures valid { IsRequest constraint }
         ensures answer { Chooses self.now constraint result }
         ensures over { IfErr result (λ error.
             error ≡ Error.Overflow → NoneEndsBelowMax (tree_state self.now) constraint) }
         ensures no_memory { IfErr result (λ error. error ≢ Error.OutOfMemory) }
         ensures count { count.new ≡ count.old + nodes_of_search constraint self.now }
-        ensures others { IfOk result (λ choice. KnowsShorter edge.new choice (blocks self.now)) }
+        ensures gap { IfOk result (λ choice. KnowsChoice edge.new choice self.now) }
         ensures space { IsSpaceTree self.now }
         ensures tree { OnOk result (IsTree self.now) }
     {

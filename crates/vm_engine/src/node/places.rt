@@ -4,13 +4,13 @@
 //! write the place into an `Option` of their caller, because returning it would copy 32 bytes at
 //! every level. Before a call enters a child, `may_fit` checks that the child exists and that its
 //! summary fits the request.
-ghost use Rattle.std.specs.Prelude.{◌≡◌, ◌+◌, ◌<◌, ◌≤◌, true, false, None, IfSome, MatchOption};
+ghost use Rattle.std.specs.Prelude.{◌≡◌, ℕ, ◌+◌, ◌<◌, ◌≤◌, true, false, None, IfSome, MatchOption};
 ghost use Rattle.vm_ranges.specs.Range.{MAX};
 ghost use Rattle.vm_ranges.specs.Alignment.{IsAlignment};
 ghost use Rattle.vm_engine.specs.Tree.Fit.{FindsLowestFit, FindsHighestFit};
 ghost use Rattle.vm_engine.specs.Engine.Place.{FindsFirst, FindsLast};
-ghost use Rattle.vm_engine.specs.Engine.OnlyGap.{KnowsOthers};
-ghost use Rattle.vm_engine.specs.Tree.Shape.{MAX_HEIGHT, blocks, height_of, node_count, IsTree};
+ghost use Rattle.vm_engine.specs.Engine.OnlyGap.{IsNewEdge, KnowsGap};
+ghost use Rattle.vm_engine.specs.Tree.Shape.{MAX_HEIGHT, blocks, height_of, max_free_of, node_count, IsTree};
 ghost use Rattle.vm_engine.specs.Counts.NodeCounts.{may_fit_in, nodes_of_first, nodes_of_last};
 ghost use Rattle.vm_engine.specs.Engine.NodeFields.{side};
 
@@ -32,7 +32,7 @@ pub(crate) struct Place {
 ///
 /// It returns `None` if there is no such multiple, or if the block is allocated.
 #[tactic(auto, using(crate::proofs::Choosing::Fits::lowest_fits_by_key))]
-fn lowest_fit(key: &RangeInclusive, state: NodeState, size: u64, alignment: u64) -> Option<u64>
+pub(super) fn lowest_fit(key: &RangeInclusive, state: NodeState, size: u64, alignment: u64) -> Option<u64>
     requires sized { 0 < size }
     requires aligned { IsAlignment alignment }
     ensures { FindsLowestFit size alignment (record { key = key.now; state = state }) result }
@@ -55,7 +55,7 @@ fn lowest_fit(key: &RangeInclusive, state: NodeState, size: u64, alignment: u64)
 ///
 /// It returns `None` if there is no such multiple, or if the block is allocated.
 #[tactic(auto, using(crate::proofs::Choosing::Fits::highest_fits))]
-fn highest_fit(key: &RangeInclusive, state: NodeState, size: u64, alignment: u64) -> Option<u64>
+pub(super) fn highest_fit(key: &RangeInclusive, state: NodeState, size: u64, alignment: u64) -> Option<u64>
     requires sized { 0 < size }
     requires aligned { IsAlignment alignment }
     ensures { FindsHighestFit size alignment (record { key = key.now; state = state }) result }
@@ -76,7 +76,7 @@ fn highest_fit(key: &RangeInclusive, state: NodeState, size: u64, alignment: u64
 /// multiple of `alignment`. These can be different blocks.
 #[inline(always)]
 #[tactic(auto, using(crate::proofs::Counts::Entering::searched))]
-pub(super) fn may_fit(tree: &Child, size: u64, alignment: u64) -> Option<&InnerNode>
+fn may_fit(tree: &Child, size: u64, alignment: u64) -> Option<&InnerNode>
     requires sized { 0 < size }
     requires aligned { IsAlignment alignment }
     ensures { MatchOption result
@@ -86,6 +86,25 @@ pub(super) fn may_fit(tree: &Child, size: u64, alignment: u64) -> Option<&InnerN
     let Some(node) = tree else { return None };
     let node: &InnerNode = node;
     if node.max_free < size || u32::from(node.alignments) <= alignment.trailing_zeros() {
+        None
+    } else {
+        Some(node)
+    }
+}
+
+/// Returns the root of the subtree if one of its free blocks has a multiple of `alignment`.
+#[inline(always)]
+#[tactic(auto, using(crate::proofs::Counts::Entering::aligned))]
+pub(super) fn with_multiple(tree: &Child, alignment: u64) -> Option<&InnerNode>
+    requires aligned { IsAlignment alignment }
+    ensures { MatchOption result
+        ((n : ℕ) → may_fit_in n alignment (side tree.now) ≡ false)
+        (λ node. (side tree.now ≡ node.now)
+            × ((n : ℕ) → n ≤ max_free_of node.now → may_fit_in n alignment node.now ≡ true)) }
+{
+    let Some(node) = tree else { return None };
+    let node: &InnerNode = node;
+    if u32::from(node.alignments) <= alignment.trailing_zeros() {
         None
     } else {
         Some(node)
@@ -102,11 +121,11 @@ pub(crate) fn first_place(
     count: &mut Steps,
 ) -> Option<Place>
     requires request { (0 < size) × IsAlignment alignment }
-    requires new { edge.old.reached ≡ false }
+    requires new { IsNewEdge edge.old }
     requires count_fits { count.old + node_count (side tree.now) < MAX }
     requires depth { height_of (side tree.now) ≤ MAX_HEIGHT }
     ensures place { FindsFirst size alignment (blocks (side tree.now)) result }
-    ensures others { KnowsOthers size edge.new result (blocks (side tree.now)) }
+    ensures gap { KnowsGap size edge.old edge.new result (side tree.now) }
     ensures tree { IfSome result (λ _. IsTree (side tree.now)) }
     ensures count { count.new ≡ count.old + nodes_of_first size alignment (side tree.now) }
 {
@@ -127,11 +146,11 @@ pub(crate) fn last_place(
     count: &mut Steps,
 ) -> Option<Place>
     requires request { (0 < size) × IsAlignment alignment }
-    requires new { edge.old.reached ≡ false }
+    requires new { IsNewEdge edge.old }
     requires count_fits { count.old + node_count (side tree.now) < MAX }
     requires depth { height_of (side tree.now) ≤ MAX_HEIGHT }
     ensures place { FindsLast size alignment (blocks (side tree.now)) result }
-    ensures others { KnowsOthers size edge.new result (blocks (side tree.now)) }
+    ensures gap { KnowsGap size edge.old edge.new result (side tree.now) }
     ensures tree { IfSome result (λ _. IsTree (side tree.now)) }
     ensures count { count.new ≡ count.old + nodes_of_last size alignment (side tree.now) }
 {

@@ -10,9 +10,9 @@
 ghost use Rattle.std.specs.Prelude.{◌≡◌, ◌+◌, ◌*◌, ◌<◌, ◌≤◌, IfSome, IsSome};
 ghost use Rattle.vm_ranges.specs.Range.{MAX};
 ghost use Rattle.vm_engine.specs.Tree.BlockList.{insert_all, AreClearOf};
-ghost use Rattle.vm_engine.specs.Engine.SplitBlocks.{with_split, AreLeaves, CanSplit};
+ghost use Rattle.vm_engine.specs.Engine.SplitBlocks.{with_split, AreLeaves, CanSplit, HasOnePart, IsLeafAt};
 ghost use Rattle.vm_engine.specs.Tree.Shape.{MAX_HEIGHT, blocks, height_of, root_block, IsTree};
-ghost use Rattle.vm_engine.specs.Engine.Changes.{IsLeaf, Grows};
+ghost use Rattle.vm_engine.specs.Engine.Changes.{IsLeaf, Grows, AddsLeaf};
 ghost use Rattle.vm_engine.specs.Counts.NodeCounts.{nodes_to_link, nodes_to_link_both, nodes_to_split};
 ghost use Rattle.vm_engine.specs.Engine.NodeFields.{side};
 
@@ -73,7 +73,7 @@ pub(crate) struct Split {
 /// Returns the change of the subtree's summary.
 #[tactic(auto, using(crate::proofs::Splitting::SplitTrees::split_steps, crate::proofs::Counts::SplitCounts::nodes_to_split_cases, crate::proofs::Counts::SplitCounts::link_bounds))]
 #[inline(never)]
-pub(super) fn split_here(at: &mut Child, split: &mut Split, count: &mut Steps) -> Change
+fn split_here(at: &mut Child, split: &mut Split, count: &mut Steps) -> Change
     requires some { IsSome at.old }
     requires leaves { AreLeaves split.old.rest }
     requires can_be_split { CanSplit (blocks (side at.old)) (root_block (side at.old)).key split.old.choice.range split.old.rest }
@@ -105,6 +105,8 @@ pub(super) fn split_here(at: &mut Child, split: &mut Split, count: &mut Steps) -
 
 /// Splits the free block of `split` in the subtree at a link, and rebalances the path. Returns the
 /// change of the subtree's summary.
+///
+/// If the block is a leaf and leaves one part, the path grows like that of an added leaf.
 #[tactic(auto, using(crate::proofs::Splitting::SplitTrees::split_steps, crate::proofs::Counts::SplitCounts::nodes_to_split_cases))]
 pub(crate) fn split_at(at: &mut Child, split: &mut Split, count: &mut Steps) -> Change
     requires leaves { AreLeaves split.old.rest }
@@ -114,6 +116,7 @@ pub(crate) fn split_at(at: &mut Child, split: &mut Split, count: &mut Steps) -> 
     ensures blocks { blocks (side at.new)
         ≡ with_split split.old.choice.key split.old.choice.range split.old.rest (blocks (side at.old)) }
     ensures grows { Grows (side at.old) (side at.new) result }
+    ensures adds_leaf { IsLeafAt split.old.choice.key (side at.old) → HasOnePart split.old.rest → AddsLeaf (side at.old) (side at.new) }
     ensures count { count.new ≡ count.old
         + nodes_to_split split.old.choice.key (side split.old.rest.before) (side split.old.rest.after) (side at.old) }
 {

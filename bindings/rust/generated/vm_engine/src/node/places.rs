@@ -24,7 +24,7 @@ pub(crate) struct Place {
 /// Returns the lowest multiple of `alignment` at which `size` addresses fit into the block.
 ///
 /// It returns `None` if there is no such multiple, or if the block is allocated.
-fn lowest_fit(key: &RangeInclusive, state: NodeState, size: u64, alignment: u64) -> Option<u64> {
+pub(super) fn lowest_fit(key: &RangeInclusive, state: NodeState, size: u64, alignment: u64) -> Option<u64> {
     if state == NodeState::Allocated {
         return None;
     }
@@ -42,7 +42,7 @@ fn lowest_fit(key: &RangeInclusive, state: NodeState, size: u64, alignment: u64)
 /// Returns the highest multiple of `alignment` at which `size` addresses fit into the block.
 ///
 /// It returns `None` if there is no such multiple, or if the block is allocated.
-fn highest_fit(key: &RangeInclusive, state: NodeState, size: u64, alignment: u64) -> Option<u64> {
+pub(super) fn highest_fit(key: &RangeInclusive, state: NodeState, size: u64, alignment: u64) -> Option<u64> {
     let (start, end) = (key.start(), key.end());
     if state == NodeState::Allocated || end - start < size - 1 {
         return None;
@@ -58,10 +58,22 @@ fn highest_fit(key: &RangeInclusive, state: NodeState, size: u64, alignment: u64
 /// This is true if one of its free blocks has at least `size` addresses, and one of them has a
 /// multiple of `alignment`. These can be different blocks.
 #[inline(always)]
-pub(super) fn may_fit(tree: &Child, size: u64, alignment: u64) -> Option<&InnerNode> {
+fn may_fit(tree: &Child, size: u64, alignment: u64) -> Option<&InnerNode> {
     let Some(node) = tree else { return None };
     let node: &InnerNode = node;
     if node.max_free < size || u32::from(node.alignments) <= alignment.trailing_zeros() {
+        None
+    } else {
+        Some(node)
+    }
+}
+
+#[inline(always)]
+pub(super) fn has_multiple(tree: &Child, alignment: u64) -> Option<&InnerNode>
+{
+    let Some(node) = tree else { return None };
+    let node: &InnerNode = node;
+    if u32::from(node.alignments) <= alignment.trailing_zeros() {
         None
     } else {
         Some(node)

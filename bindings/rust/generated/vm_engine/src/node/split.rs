@@ -54,7 +54,7 @@ pub(crate) struct Split {
 /// Gives the root of the subtree at a link the range, marks it as allocated, and links the leaves.
 /// Returns the change of the subtree's summary.
 #[inline(never)]
-pub(super) fn split_here(at: &mut Child, split: &mut Split, count: &mut Steps) -> Change {
+fn split_here(at: &mut Child, split: &mut Split, count: &mut Steps) -> Change {
     let Some(tree) = at else { unreachable!() };
     let tree: &mut InnerNode = tree;
     tree.key = split.choice.range;
@@ -75,6 +75,8 @@ pub(super) fn split_here(at: &mut Child, split: &mut Split, count: &mut Steps) -
 
 /// Splits the free block of `split` in the subtree at a link, and rebalances the path. Returns the
 /// change of the subtree's summary.
+///
+/// If the block is a leaf and leaves one part, the path grows like that of an added leaf.
 pub(crate) fn split_at(at: &mut Child, split: &mut Split, count: &mut Steps) -> Change {
     let Some(tree) = at else { unreachable!() };
     let tree: &mut InnerNode = tree;

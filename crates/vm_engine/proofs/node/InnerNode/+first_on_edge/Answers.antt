@@ -1,41 +1,62 @@
-use Rattle.std.proofs.Common.{◌≡◌, sym, arith}
-use Rattle.std.specs.List.{All}
+use Rattle.std.proofs.Common.{◌≡◌, ◌<◌, ◌≤◌, Option, Some, None, sym, arith, refl, rules}
 use Rattle.std.proofs.lemmas.Grind.{common_steps}
-use Rattle.vm_engine.specs.Tree.Fit.{HasNoFit}
-use Rattle.vm_engine.specs.Tree.Shape.{blocks}
+use Rattle.vm_engine.specs.Tree.Shape.{Tip, single, max_free_of}
 use Rattle.vm_engine.specs.Engine.NodeFields.{side}
-use Rattle.vm_engine.proofs.Choosing.Outermost.{held_without_fit}
-use Rattle.vm_engine.proofs.Choosing.PlaceSearch.{none_of, first_through_right}
-use Rattle.vm_engine.proofs.Counts.Entering.{not_if_short, none_unless_searched}
-use Rattle.vm_engine.proofs.Counts.Searching.{first_nodes_passed, first_nodes_right}
-use Rattle.vm_ranges.specs.declared.state.NodeState.TheVariants.{Allocated}
+use Rattle.vm_engine.proofs.Choosing.Outermost.{first_past, first_nodes_past, gap_at_leaf, gap_through_right}
+use Rattle.vm_engine.proofs.Counts.Entering.{searched_parts, none_unless_searched}
+use Rattle.vm_engine.proofs.Counts.Searching.{first_nodes_passed, height_at_most_nodes}
+use Rattle.vm_ranges.specs.declared.state.NodeState.TheVariants.{Free, Allocated}
 use Rattle.vm_engine.proofs.node.InnerNode.+first_on_edge.Goals as goal
 
-pub returns-in-Some-clause-place : goal.returns-in-Some-clause-place
-returns-in-Some-clause-place t c =
-    let held : c.self.inside.node_state ≡ Allocated = grind (arith, common_steps) in
-    let short = not_if_short c.args.size c.args.alignment (side c.self.inside.left) (grind (arith, common_steps)) in
-    let none = none_unless_searched _ _ _ c.requires.request.0 c.requires.request.1 short in
-    first_through_right c.args.size c.args.alignment _ _ _ _ c.first_on_edge.new.found (sym c.self.view_is) none (held_without_fit _ _ _ held) (rw c.in-Some.ensures.0 c.first_on_edge.ensures.place)
+pub returns-in-Some-clause-gap : goal.returns-in-Some-clause-gap
+returns-in-Some-clause-gap t c =
+    let left : side c.self.inside.left ≡ Tip = grind (arith, common_steps) in
+    let right : side c.self.inside.right ≡ Tip = grind (arith, common_steps) in
+    let free : c.self.inside.node_state ≡ Free = grind (arith, common_steps) in
+    (omega arith, gap_at_leaf c.args.size c.in-Some.start _ _ _ _ (sym (rw (left, right) at c.self.view_is)) refl free)
 
-pub returns-in-Some-clause-count : goal.returns-in-Some-clause-count
-returns-in-Some-clause-count t c =
+pub first_on_edge-requires : goal.first_on_edge-requires
+first_on_edge-requires t c =
     let held : c.self.inside.node_state ≡ Allocated = grind (arith, common_steps) in
-    let short = not_if_short c.args.size c.args.alignment (side c.self.inside.left) (grind (arith, common_steps)) in
-    let none = none_unless_searched _ _ _ c.requires.request.0 c.requires.request.1 short in
-    grind (arith, common_steps, first_nodes_passed, first_nodes_right, held_without_fit)
+    let long = (searched_parts _ _ _ c.requires.may_fit).0 in
+    let fits = c.in-Some-with_multiple.ensures.1 c.args.size (grind (arith, common_steps)) in
+    (search rules, (c.requires.request, (fits, ((c.requires.none_yet.0, grind (arith, common_steps)), (grind (arith, common_steps), grind (arith, common_steps))))))
 
-pub returns-in_default-clause-place : goal.returns-in_default-clause-place
-returns-in_default-clause-place t c =
+pub returns-in-Some-with_multiple-clause-place : goal.returns-in-Some-with_multiple-clause-place
+returns-in-Some-with_multiple-clause-place t c =
     let held : c.self.inside.node_state ≡ Allocated = grind (arith, common_steps) in
-    let short = not_if_short c.args.size c.args.alignment (side c.self.inside.left) (grind (arith, common_steps)) in
-    let none = none_unless_searched _ _ _ c.requires.request.0 c.requires.request.1 short in
-    let right = none_unless_searched _ _ _ c.requires.request.0 c.requires.request.1 c.in_default.ensures in
-    rw c.requires.none_yet.0 (none_of c.args.size c.args.alignment _ _ _ _ (sym c.self.view_is) none (held_without_fit _ _ _ held) right)
+    let short : max_free_of (side c.self.inside.left) < c.args.size = grind (arith, common_steps) in
+    first_past _ _ _ (side c.self.inside.left) _ (side c.self.inside.right) (sym c.self.view_is) c.requires.request.0 c.requires.request.1 held short _ (rw c.in-Some-with_multiple.ensures.0 c.first_on_edge.ensures.place)
 
-pub returns-in_default-clause-count : goal.returns-in_default-clause-count
-returns-in_default-clause-count t c =
+pub returns-in-Some-with_multiple-clause-gap : goal.returns-in-Some-with_multiple-clause-gap
+returns-in-Some-with_multiple-clause-gap t c =
     let held : c.self.inside.node_state ≡ Allocated = grind (arith, common_steps) in
-    let short = not_if_short c.args.size c.args.alignment (side c.self.inside.left) (grind (arith, common_steps)) in
-    let none = none_unless_searched _ _ _ c.requires.request.0 c.requires.request.1 short in
-    grind (arith, common_steps, first_nodes_passed, first_nodes_right, held_without_fit)
+    let short : max_free_of (side c.self.inside.left) < c.args.size = grind (arith, common_steps) in
+    let place = rw (← c.in-Some-with_multiple.ensures.0) at c.first_on_edge.ensures.place in
+    let gap = rw (← c.in-Some-with_multiple.ensures.0) at c.first_on_edge.ensures.gap.1 in
+    (
+      omega (arith, c.pass.ensures.kept, c.first_on_edge.ensures.gap.0),
+      gap_through_right _ _ _ _ _ _ (side c.self.inside.left) _ (side c.self.inside.right) c.summary_of-left.result (sym c.self.view_is) (rw (← c.self.view_is) c.self.invariant.tree) held c.summary_of-left.ensures.value (grind (arith, common_steps)) c.first_on_edge.ensures.gap.0 short _ place gap,
+    )
+
+pub returns-in-Some-with_multiple-clause-count : goal.returns-in-Some-with_multiple-clause-count
+returns-in-Some-with_multiple-clause-count t c =
+    let held : c.self.inside.node_state ≡ Allocated = grind (arith, common_steps) in
+    let short : max_free_of (side c.self.inside.left) < c.args.size = grind (arith, common_steps) in
+    let nodes = first_nodes_past _ _ _ (side c.self.inside.left) _ (side c.self.inside.right) (sym c.self.view_is) c.requires.request.0 c.requires.request.1 held short c.requires.may_fit in
+    grind (arith, common_steps)
+
+pub returns-in_default-with_multiple-clause-place : goal.returns-in_default-with_multiple-clause-place
+returns-in_default-with_multiple-clause-place t c =
+    let held : c.self.inside.node_state ≡ Allocated = grind (arith, common_steps) in
+    let short : max_free_of (side c.self.inside.left) < c.args.size = grind (arith, common_steps) in
+    let none = none_unless_searched _ _ _ c.requires.request.0 c.requires.request.1 (c.in_default-with_multiple.ensures c.args.size) in
+    rw c.requires.none_yet.0 (first_past _ _ _ (side c.self.inside.left) _ (side c.self.inside.right) (sym c.self.view_is) c.requires.request.0 c.requires.request.1 held short None none)
+
+pub returns-in_default-with_multiple-clause-count : goal.returns-in_default-with_multiple-clause-count
+returns-in_default-with_multiple-clause-count t c =
+    let held : c.self.inside.node_state ≡ Allocated = grind (arith, common_steps) in
+    let short : max_free_of (side c.self.inside.left) < c.args.size = grind (arith, common_steps) in
+    let nodes = first_nodes_past _ _ _ (side c.self.inside.left) _ (side c.self.inside.right) (sym c.self.view_is) c.requires.request.0 c.requires.request.1 held short c.requires.may_fit in
+    let right = first_nodes_passed _ _ _ (c.in_default-with_multiple.ensures c.args.size) in
+    omega (arith, nodes, right, c.enter-2.ensures)

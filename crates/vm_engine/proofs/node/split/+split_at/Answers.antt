@@ -1,12 +1,15 @@
-use Rattle.std.proofs.Common.{◌≡◌, ℕ, ◌++◌, ◌∷◌, ◌∙◌, sym, arith, refl, rules}
+use Rattle.std.proofs.Common.{◌≡◌, ℕ, ◌++◌, ◌∷◌, ◌∙◌, sym, arith, inl, refl, rules}
 use Rattle.std.proofs.lemmas.Grind.{common_steps}
 use Rattle.vm_engine.proofs.Nodes.UpdatedNodes.{own_of, rebalanced, updated_node, grown_left, grown_right, unchanged_left, unchanged_right, unchanged_grows, refreshed_left, refreshed_right}
 use Rattle.vm_engine.proofs.Splitting.SplitTrees.{ordered_split_left, ordered_split_right}
 use Rattle.vm_engine.proofs.Blocks.Replacement.{replace_in_left, replace_in_right}
 use Rattle.vm_engine.proofs.Counts.SplitCounts.{nodes_to_split_cases}
-use Rattle.vm_engine.specs.Tree.Shape.{IsTree, blocks}
+use Rattle.vm_engine.proofs.Nodes.AvlInsertion.{added_left, added_right, leaf_left, leaf_right}
+use Rattle.vm_engine.proofs.Splitting.SplitLeaves.{leaf_split}
+use Rattle.vm_engine.specs.Engine.SplitBlocks.{with_split, HasOnePart, IsLeafAt}
+use Rattle.vm_engine.specs.Tree.Shape.{IsTree, blocks, height_of}
 use Rattle.vm_engine.specs.Tree.BlockList.{IsOrderedFrom}
-use Rattle.vm_engine.specs.Engine.Changes.{KeepsSummary, Grows}
+use Rattle.vm_engine.specs.Engine.Changes.{KeepsSummary, Grows, AddsLeaf}
 use Rattle.vm_engine.specs.declared.node.summary.Change.TheVariants.{Nothing}
 use Rattle.vm_engine.specs.Engine.NodeFields.{side, shape_of, IsNode}
 use Rattle.vm_engine.proofs.Nodes.Rewriting.{known_left, known_right, rewritten_left, rewritten_right}
@@ -70,6 +73,13 @@ refreshed_over_side t c =
           rw w.tree-inside-is (refreshed_right c.tree.inside r.new.at c.refresh_free.result max_free count c.tree.invariant (ordered_split_right _ (side r.new.at) _ _ _ _ w.in-Less.ensures c.tree.invariant.tree (rw e at c.requires.can_be_split.ordered) r.ensures.blocks) grew (rw w.tree-inside-is at longest) (rw w.tree-inside-is at reached) (rw w.tree-inside-is at c.refresh_free.ensures.same_max_free) (rw w.tree-inside-is at c.refresh_free.ensures.same_alignments))
     ]
 
+height_over_side : (t : ℕ) (c : After-refresh_free t) → height_of (shape_of c.match-compare.tree-inside) ≡ height_of (shape_of c.tree.inside)
+height_over_side t c =
+    elim c.match-compare.branch [
+      | in-Greater w ↦ let grew = rw (sym w.change-is ∙ c.in-FreeOnly.is) at w.split_at-change.ensures.grows in rw w.tree-inside-is (rw grew.keeps.height refl)
+      | in-Less w ↦ let grew = rw (sym w.change-is ∙ c.in-FreeOnly.is) at w.split_at-change-in-Less.ensures.grows in rw w.tree-inside-is (rw grew.keeps.height refl)
+    ]
+
 pub invariant_of-tree-in-FreeOnly : goal.invariant_of-tree-in-FreeOnly
 invariant_of-tree-in-FreeOnly t c = (refreshed_over_side t (goal.at.invariant_of-tree-in-FreeOnly t c).After-refresh_free).0
 
@@ -91,6 +101,14 @@ pub invariant_of-tree-in-Height : goal.invariant_of-tree-in-Height
 invariant_of-tree-in-Height t c =
     updated_node c.match-compare.tree-inside c.update-updated.result _ (ordered_over_side t (goal.at.invariant_of-tree-in-Height t c).After-update-updated) c.update-updated.ensures.left c.update-updated.ensures.right c.update-updated.ensures.updated
 
+pub returns-in-Equal-clause-adds_leaf : goal.returns-in-Equal-clause-adds_leaf
+returns-in-Equal-clause-adds_leaf t c =
+    let i = c.tree.inside in
+    let e : side c.args.at.now ≡ shape_of i = search rules in
+    let key : i.key ≡ c.args.split.now.choice.key = c.in-Equal.ensures in
+    let new : blocks (side c.split_here.new.at) ≡ with_split c.args.split.now.choice.key c.args.split.now.choice.range c.args.split.now.rest (blocks (side c.args.at.now)) = grind (arith, common_steps) in
+    λ leaf one. leaf_split _ _ (side i.left) _ (side i.right) _ _ _ e (sym key) (rw e c.tree.invariant.tree) leaf c.requires.leaves one new
+
 pub returns-in-Nothing-clause-blocks : goal.returns-in-Nothing-clause-blocks
 returns-in-Nothing-clause-blocks t c = grind (arith, common_steps, replace_in_left, replace_in_right)
 
@@ -99,6 +117,12 @@ returns-in-Nothing-clause-grows t c =
     let e : side c.args.at.now ≡ shape_of c.tree.inside = cc in
     let summary = summary_over_side t (goal.at.returns-in-Nothing-clause-grows t c).In-Nothing in
     rw e (unchanged_grows _ _ summary.0.tree summary.1)
+
+pub returns-in-Nothing-clause-adds_leaf : goal.returns-in-Nothing-clause-adds_leaf
+returns-in-Nothing-clause-adds_leaf t c =
+    let e : side c.args.at.now ≡ shape_of c.tree.inside = cc in
+    let summary = summary_over_side t (goal.at.returns-in-Nothing-clause-adds_leaf t c).In-Nothing in
+    λ leaf one. rw e (inl summary.1.height)
 
 pub returns-in-Nothing-clause-count : goal.returns-in-Nothing-clause-count
 returns-in-Nothing-clause-count t c = grind (arith, common_steps, nodes_to_split_cases)
@@ -110,6 +134,12 @@ pub returns-in-FreeOnly-clause-grows : goal.returns-in-FreeOnly-clause-grows
 returns-in-FreeOnly-clause-grows t c =
     let e : side c.args.at.now ≡ shape_of c.tree.inside = cc in
     rw e (refreshed_over_side t (goal.at.returns-in-FreeOnly-clause-grows t c).After-refresh_free).1
+
+pub returns-in-FreeOnly-clause-adds_leaf : goal.returns-in-FreeOnly-clause-adds_leaf
+returns-in-FreeOnly-clause-adds_leaf t c =
+    let e : side c.args.at.now ≡ shape_of c.tree.inside = cc in
+    let same = height_over_side t (goal.at.returns-in-FreeOnly-clause-adds_leaf t c).After-refresh_free in
+    λ leaf one. rw e (inl same)
 
 pub returns-in-FreeOnly-clause-count : goal.returns-in-FreeOnly-clause-count
 returns-in-FreeOnly-clause-count t c = grind (arith, common_steps, nodes_to_split_cases)
@@ -126,8 +156,17 @@ returns-in-Height t c =
           let r = w.split_at-change-in-Less in
           grown_right c.tree.inside r.new.at r.result _ _ c.tree.invariant r.ensures.grows (rw w.tree-inside-is at f)
     ]) in
+    let adds : IsLeafAt c.args.split.now.choice.key (side c.args.at.now) → HasOnePart c.args.split.now.rest → AddsLeaf (side c.args.at.now) (side c.rebalance.new.at) = rw e (elim c.match-compare.branch [
+      | in-Greater w ↦
+          let l = w.split_at-change in
+          λ leaf one. added_left _ _ _ _ (rw w.tree-inside-is at f) (side c.tree.inside.left) c.tree.invariant.tree.balanced.2 (l.ensures.adds_leaf (leaf_left _ _ _ _ w.in-Greater.ensures leaf) one)
+      | in-Less w ↦
+          let r = w.split_at-change-in-Less in
+          λ leaf one. added_right _ _ _ _ (rw w.tree-inside-is at f) (side c.tree.inside.right) c.tree.invariant.tree.balanced.2 (r.ensures.adds_leaf (leaf_right _ _ _ _ w.in-Less.ensures leaf) one)
+    ]) in
     record {
       blocks = grind (arith, common_steps, replace_in_left, replace_in_right);
       grows = grows;
+      adds_leaf = adds;
       count = grind (arith, common_steps, nodes_to_split_cases);
     }
