@@ -26,15 +26,12 @@ use Rattle.vm_ranges.proofs.RangeCalls.{before_by_start}
 use Rattle.vm_engine.proofs.Blocks.BlockOrder.{ordered_middle}
 use Rattle.vm_engine.proofs.Blocks.OneList.{same_block}
 use Rattle.vm_engine.proofs.Blocks.Replacement.{same_range_self}
+use Rattle.vm_engine.proofs.Choosing.Fits.{no_fit_held}
 use Rattle.vm_engine.proofs.Choosing.PlaceSearch.{first_through_right, last_through_left}
 use Rattle.vm_engine.proofs.Counts.Entering.{not_if_short, none_unless_searched}
 use Rattle.vm_engine.proofs.Counts.Searching.{first_nodes_passed, first_nodes_right, last_nodes_passed, last_nodes_left}
 use Rattle.vm_engine.proofs.Nodes.TreeEdits.{starts_from}
 use Rattle.vm_engine.proofs.Splitting.OnlyGaps.{max_free_by_blocks, alignments_by_blocks, others_in_left, others_in_right}
-
-pub held_without_fit : (n a : ℕ) (b : Block) → b.state ≡ Allocated → HasNoFit n a b
-unfolding HasNoFit
-held_without_fit n a b e = λ t f. absurd (cc (e, f.0))
 
 -- A block of the right child is above the block of the node, and a block of the left child is below it.
 right_above : (s l : Shape) (b : Block) (r : Shape) (k : Range) (us vs : List Block) → s ≡ Fork l b r → IsTree s → blocks r ≡ us ++ free_block k ∷ vs → Before b.key k
@@ -58,19 +55,19 @@ module _ (n a : ℕ) (s l : Shape) (b : Block) (r : Shape) (e : s ≡ Fork l b r
   none_in_child c p = none_unless_searched n a c z u (not_if_short n a c p)
 
   pub first_past : max_free_of l < n → (found : Option Place) → FindsFirst n a (blocks r) found → FindsFirst n a (blocks s) found
-  first_past p found f = first_through_right n a s l b r found e (none_in_child l p) (held_without_fit n a b h) f
+  first_past p found f = first_through_right n a s l b r found e (none_in_child l p) (no_fit_held n a b h) f
 
   pub first_nodes_past : max_free_of l < n → may_fit_in n a s ≡ true → nodes_of_first n a s ≡ nodes_of_first n a r + 1
   first_nodes_past p m =
-      let nodes = first_nodes_right n a l b r u (rw e at m) (none_in_child l p) (held_without_fit n a b h) in
+      let nodes = first_nodes_right n a l b r u (rw e at m) (none_in_child l p) (no_fit_held n a b h) in
       rw e (omega (arith, nodes, first_nodes_passed n a l (not_if_short n a l p)))
 
   pub last_past : max_free_of r < n → (found : Option Place) → FindsLast n a (blocks l) found → FindsLast n a (blocks s) found
-  last_past p found f = last_through_left n a s l b r found e (none_in_child r p) (held_without_fit n a b h) f
+  last_past p found f = last_through_left n a s l b r found e (none_in_child r p) (no_fit_held n a b h) f
 
   pub last_nodes_past : max_free_of r < n → may_fit_in n a s ≡ true → nodes_of_last n a s ≡ nodes_of_last n a l + 1
   last_nodes_past p m =
-      let nodes = last_nodes_left n a l b r u (rw e at m) (none_in_child r p) (held_without_fit n a b h) in
+      let nodes = last_nodes_left n a l b r u (rw e at m) (none_in_child r p) (no_fit_held n a b h) in
       rw e (omega (arith, nodes, last_nodes_passed n a r (not_if_short n a r p)))
 
 -- ---- The path to the gap
@@ -156,9 +153,9 @@ module _ (n a : ℕ) (old mid new : Edge) (s l : Shape) (b : Block) (r : Shape) 
         uneven = rw e (uneven_over place.key l (Fork l b r) old mid new passed _ (λ j u. uneven_in_left j place.key l b r below u) (λ u. uneven_root place.key l b r (λ d. u (z.0 ∙ sym d))) p gap.uneven);
       }
 
-pub ruleset firsts = (held_without_fit, gap_at_leaf, gap_through_right)
+pub ruleset firsts = (no_fit_held, gap_at_leaf, gap_through_right)
 
-pub ruleset lasts = (held_without_fit, gap_at_leaf, gap_through_left)
+pub ruleset lasts = (no_fit_held, gap_at_leaf, gap_through_left)
 
 -- The range that is chosen at the place.
 chosen_gap : (edge old : Edge) (s : Shape) (k : Range) (t n : ℕ) → 0 < n → IsNewEdge old → IsEdgeGap n old edge k s → IsChosenGap edge (record { key = k; range = span t n }) s

@@ -3,10 +3,11 @@
 //! They are two functions, because a common one would branch on the direction at every node. They
 //! write the place into an `Option` of their caller, because returning it would copy 32 bytes at
 //! every level. Before a call enters a child, `may_fit` checks that the child exists and that its
-//! summary fits the request.
+//! summary fits the request. They begin in `outermost`, along the edge of the tree.
 ghost use Rattle.std.specs.Prelude.{◌≡◌, ℕ, ◌+◌, ◌<◌, ◌≤◌, true, false, None, IfSome, MatchOption};
 ghost use Rattle.vm_ranges.specs.Range.{MAX};
 ghost use Rattle.vm_ranges.specs.Alignment.{IsAlignment};
+ghost use Rattle.vm_engine.specs.Tree.Block.{free_block};
 ghost use Rattle.vm_engine.specs.Tree.Fit.{FindsLowestFit, FindsHighestFit};
 ghost use Rattle.vm_engine.specs.Engine.Place.{FindsFirst, FindsLast};
 ghost use Rattle.vm_engine.specs.Engine.OnlyGap.{IsNewEdge, KnowsGap};
@@ -31,15 +32,34 @@ pub(crate) struct Place {
 /// Returns the lowest multiple of `alignment` at which `size` addresses fit into the block.
 ///
 /// It returns `None` if there is no such multiple, or if the block is allocated.
-#[tactic(auto, using(crate::proofs::Choosing::Fits::lowest_fits_by_key))]
-pub(super) fn lowest_fit(key: &RangeInclusive, state: NodeState, size: u64, alignment: u64) -> Option<u64>
+#[inline(always)]
+#[tactic(auto, using(crate::proofs::Choosing::Fits::no_fit_held))]
+pub(super) fn lowest_fit(
+    key: &RangeInclusive,
+    state: NodeState,
+    size: u64,
+    alignment: u64,
+) -> Option<u64>
     requires sized { 0 < size }
     requires aligned { IsAlignment alignment }
     ensures { FindsLowestFit size alignment (record { key = key.now; state = state }) result }
 {
-    if state == NodeState::Allocated {
-        return None;
+    match state {
+        NodeState::Allocated => None,
+        NodeState::Free => lowest_in_free(key, size, alignment),
     }
+}
+
+/// Returns the lowest multiple of `alignment` at which `size` addresses fit into a free block.
+///
+/// It is never inlined, so that a search saves fewer registers at each node.
+#[tactic(auto, using(crate::proofs::Choosing::Fits::lowest_fits_by_key))]
+#[inline(never)]
+fn lowest_in_free(key: &RangeInclusive, size: u64, alignment: u64) -> Option<u64>
+    requires sized { 0 < size }
+    requires aligned { IsAlignment alignment }
+    ensures { FindsLowestFit size alignment (free_block key.now) result }
+{
     let Ok(start) = align_up(key.start(), alignment) else {
         return None;
     };
@@ -54,14 +74,34 @@ pub(super) fn lowest_fit(key: &RangeInclusive, state: NodeState, size: u64, alig
 /// Returns the highest multiple of `alignment` at which `size` addresses fit into the block.
 ///
 /// It returns `None` if there is no such multiple, or if the block is allocated.
-#[tactic(auto, using(crate::proofs::Choosing::Fits::highest_fits))]
-pub(super) fn highest_fit(key: &RangeInclusive, state: NodeState, size: u64, alignment: u64) -> Option<u64>
+#[inline(always)]
+#[tactic(auto, using(crate::proofs::Choosing::Fits::no_fit_held))]
+pub(super) fn highest_fit(
+    key: &RangeInclusive,
+    state: NodeState,
+    size: u64,
+    alignment: u64,
+) -> Option<u64>
     requires sized { 0 < size }
     requires aligned { IsAlignment alignment }
     ensures { FindsHighestFit size alignment (record { key = key.now; state = state }) result }
 {
+    match state {
+        NodeState::Allocated => None,
+        NodeState::Free => highest_in_free(key, size, alignment),
+    }
+}
+
+/// Returns the highest multiple of `alignment` at which `size` addresses fit into a free block.
+#[tactic(auto, using(crate::proofs::Choosing::Fits::highest_fits))]
+#[inline(never)]
+fn highest_in_free(key: &RangeInclusive, size: u64, alignment: u64) -> Option<u64>
+    requires sized { 0 < size }
+    requires aligned { IsAlignment alignment }
+    ensures { FindsHighestFit size alignment (free_block key.now) result }
+{
     let (start, end) = (key.start(), key.end());
-    if state == NodeState::Allocated || end - start < size - 1 {
+    if end - start < size - 1 {
         return None;
     }
     let Ok(place) = align_down(end - (size - 1), alignment) else {
