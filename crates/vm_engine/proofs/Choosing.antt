@@ -4,4 +4,4 @@ pub mod PlaceSearch
 pub mod Searched
 pub mod ExactStart
 pub mod ExactPlaces
-pub mod Outermost
+pub mod EdgeSearch

@@ -2,4 +2,4 @@ pub mod TakenRanges
 pub mod SplitTrees
 pub mod SplitStates
 pub mod SplitLeaves
-pub mod OnlyGaps
+pub mod OutermostGaps

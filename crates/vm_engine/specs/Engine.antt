@@ -8,6 +8,6 @@ pub mod NodeUpdate
 pub mod NodeAnswer
 pub mod Widening
 pub mod SplitBlocks
-pub mod OnlyGap
+pub mod Outermost
 pub mod Walks
 pub mod Choosing

@@ -23,7 +23,7 @@ ghost use Rattle.vm_engine.specs.Counts.Steps.{Enters, EntersToFree, IsBalancedT
 ghost use Rattle.vm_engine.specs.Tree.SpaceTree.{tree_state, IsSpaceTree, MakesTree};
 
 use crate::Steps;
-use crate::node::outermost::Edge;
+use crate::node::edge::Edge;
 use crate::node::walks::Walk;
 use crate::node::walks::copying::copy;
 use crate::node::{Child, InnerNode};

@@ -12,6 +12,7 @@ ghost use Rattle.vm_engine.specs.Engine.NodeFields.{side};
 
 mod balance;
 pub(crate) mod delete;
+pub(crate) mod edge;
 mod find;
 mod laws;
 mod link;

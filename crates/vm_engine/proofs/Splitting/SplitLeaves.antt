@@ -1,10 +1,9 @@
 -- The split of a leaf into two blocks, which adds one leaf.
-use Rattle.std.proofs.Common.{◌≡◌, ◌≢◌, ◌+◌, ◌≤◌, Option, Some, None, IfSome, List, [], ◌∷◌, ◌++◌, length, refl, ap, ◌∙◌, sym, arith, inr, length-append}
+use Rattle.std.proofs.Common.{◌≡◌, ◌≢◌, ◌≤◌, Option, Some, None, IfSome, ◌∷◌, ◌++◌, length, refl, ap, ◌∙◌, arith, inr, length-append}
 use Rattle.std.specs.Global.{Box}
 use Rattle.vm_ranges.specs.Range.{Range}
 use Rattle.vm_engine.specs.Tree.Block.{Block, held_block}
-use Rattle.vm_engine.specs.Tree.BlockList.{replace_block}
-use Rattle.vm_engine.specs.Tree.Shape.{Shape, Tip, Fork, blocks, height_of, node_count, root_block, single, IsTree}
+use Rattle.vm_engine.specs.Tree.Shape.{Shape, Fork, blocks, height_of, root_block, single, IsTree}
 use Rattle.vm_engine.specs.Engine.Changes.{IsLeaf, AddsLeaf}
 use Rattle.vm_engine.specs.Engine.NodeFields.{side}
 use Rattle.vm_engine.specs.Engine.SplitBlocks.{with_split, AreLeaves, HasOnePart, IsLeafAt}

@@ -37,8 +37,8 @@ pub record CanBalance (left : Shape) (middle : Block) (right : Shape) : Type 0 w
   pub near : DifferByAtMost 2 (height_of left) (height_of right)
   pub height_fits : max (height_of left) (height_of right) + 1 < 2 ^ 64
 
--- `balanced` is a balanced tree of the blocks of both children and the block between them. It is their node if no rotation
--- is needed. A rotation over an uneven child makes it as high as that child.
+-- `balanced` is a balanced tree of the blocks of both children and the block between them. Without a rotation it is the
+-- node over both children. A rotation towards an uneven child makes it as high as that child.
 pub record Balances (left : Shape) (middle : Block) (right balanced : Shape) : Type 0 where
   pub tree : IsTree balanced
   pub blocks : blocks balanced ≡ blocks left ++ middle ∷ blocks right

@@ -14,14 +14,15 @@ ghost use Rattle.vm_engine.specs.Tree.Shape.{blocks, height_of, single, leaf_of}
 ghost use Rattle.vm_engine.specs.Engine.Changes.{IsLeaf};
 ghost use Rattle.vm_engine.specs.Engine.NodeFields.{side};
 ghost use Rattle.vm_engine.specs.Engine.Choosing.{IsChoice};
-ghost use Rattle.vm_engine.specs.Engine.OnlyGap.{KnowsChoice};
+ghost use Rattle.vm_engine.specs.Engine.Outermost.{KnowsChoice};
 ghost use Rattle.vm_engine.specs.Tree.SpaceTree.{tree_state};
 ghost use Rattle.vm_engine.specs.Counts.Steps.{SPLIT_HEIGHT_LIMIT};
 ghost use Rattle.vm_engine.specs.Counts.NodeCounts.{nodes_if_allocated};
 
 use super::IntervalTree;
 use crate::Steps;
-use crate::node::outermost::{Edge, split_gap};
+use crate::node::edge::Edge;
+use crate::node::outermost::split_gap;
 use crate::node::rewrite::rewrite_at;
 use crate::node::split::{Choice, Rest, Split};
 use crate::node::{Child, InnerNode};
@@ -51,8 +52,8 @@ impl IntervalTree {
         ensures answer { AllocatesAt (tree_state self.old) choice.range result (tree_state self.new) }
         ensures unchanged { OnErr result (self.new ≡ self.old) }
         ensures low { NeedsSplit choice.key choice.range → OnOk result (height_of self.old < SPLIT_HEIGHT_LIMIT) }
-        ensures memory { result ≡ Err Error.OutOfMemory → height_of self.old < SPLIT_HEIGHT_LIMIT }
-        ensures high { result ≡ Err Error.Overflow → SPLIT_HEIGHT_LIMIT ≤ height_of self.old }
+        ensures errors { (result ≡ Err Error.OutOfMemory → height_of self.old < SPLIT_HEIGHT_LIMIT)
+            × (result ≡ Err Error.Overflow → SPLIT_HEIGHT_LIMIT ≤ height_of self.old) }
         ensures count { count.new ≡ count.old + nodes_if_allocated choice.key result self.old }
     {
         if !needs_split(&choice) {

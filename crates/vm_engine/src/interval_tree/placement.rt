@@ -7,7 +7,7 @@ ghost use Rattle.vm_engine.specs.Tree.BlockEdits.{HasLength};
 ghost use Rattle.vm_engine.specs.Tree.Shape.{height_of, IsTree};
 ghost use Rattle.vm_engine.specs.Tree.SpaceTree.{IsSpaceTree};
 ghost use Rattle.vm_engine.specs.Engine.Choosing.{Chooses, ChoosesAt, ExactChoice};
-ghost use Rattle.vm_engine.specs.Engine.OnlyGap.{IsNewEdge, KnowsChoice};
+ghost use Rattle.vm_engine.specs.Engine.Outermost.{IsNewEdge, KnowsChoice};
 ghost use Rattle.vm_engine.specs.Counts.NodeCounts.{nodes_of_search};
 ghost use Rattle.vm_engine.specs.Counts.Steps.{NoneEndsBelowMax};
 ghost use Rattle.vm_engine.specs.Tree.SpaceTree.{tree_state};
@@ -15,7 +15,7 @@ ghost use Rattle.vm_ranges.specs.declared.constraint.AllocPolicy.TheVariants.{Ex
 
 use super::IntervalTree;
 use crate::Steps;
-use crate::node::outermost::Edge;
+use crate::node::edge::Edge;
 use crate::node::places::{Place, first_place, last_place};
 use crate::node::split::Choice;
 use crate::ordering::valid_range;
@@ -39,8 +39,7 @@ impl IntervalTree {
         ensures no_memory { IfErr result (λ error. error ≢ Error.OutOfMemory) }
         ensures count { count.new ≡ count.old + nodes_of_search constraint self.now }
         ensures gap { IfOk result (λ choice. KnowsChoice edge.new choice self.now) }
-        ensures space { IsSpaceTree self.now }
-        ensures tree { OnOk result (IsTree self.now) }
+        ensures space { IsSpaceTree self.now × OnOk result (IsTree self.now) }
     {
         let root = &self.root;
         let (size, align) = (constraint.size(), constraint.align());

@@ -3,19 +3,19 @@
 //! They are two functions, because a common one would branch on the direction at every node. They
 //! write the place into an `Option` of their caller, because returning it would copy 32 bytes at
 //! every level. Before a call enters a child, `may_fit` checks that the child exists and that its
-//! summary fits the request. They begin in `outermost`, along the edge of the tree.
+//! summary fits the request. They begin in `edge`.
 ghost use Rattle.std.specs.Prelude.{◌≡◌, ℕ, ◌+◌, ◌<◌, ◌≤◌, true, false, None, IfSome, MatchOption};
 ghost use Rattle.vm_ranges.specs.Range.{MAX};
 ghost use Rattle.vm_ranges.specs.Alignment.{IsAlignment};
 ghost use Rattle.vm_engine.specs.Tree.Block.{free_block};
 ghost use Rattle.vm_engine.specs.Tree.Fit.{FindsLowestFit, FindsHighestFit};
 ghost use Rattle.vm_engine.specs.Engine.Place.{FindsFirst, FindsLast};
-ghost use Rattle.vm_engine.specs.Engine.OnlyGap.{IsNewEdge, KnowsGap};
+ghost use Rattle.vm_engine.specs.Engine.Outermost.{IsNewEdge, KnowsGap};
 ghost use Rattle.vm_engine.specs.Tree.Shape.{MAX_HEIGHT, blocks, height_of, max_free_of, node_count, IsTree};
 ghost use Rattle.vm_engine.specs.Counts.NodeCounts.{may_fit_in, nodes_of_first, nodes_of_last};
 ghost use Rattle.vm_engine.specs.Engine.NodeFields.{side};
 
-use super::outermost::Edge;
+use super::edge::Edge;
 use super::{Child, InnerNode};
 use crate::Steps;
 use vm_ranges::{NodeState, RangeInclusive, align_down, align_up};
@@ -140,7 +140,7 @@ pub(super) fn with_multiple(tree: &Child, alignment: u64) -> Option<&InnerNode>
     ensures { MatchOption result
         ((n : ℕ) → may_fit_in n alignment (side tree.now) ≡ false)
         (λ node. (side tree.now ≡ node.now)
-            × ((n : ℕ) → n ≤ max_free_of node.now → may_fit_in n alignment node.now ≡ true)) }
+        × ((n : ℕ) → n ≤ max_free_of node.now → may_fit_in n alignment node.now ≡ true)) }
 {
     let Some(node) = tree else { return None };
     let node: &InnerNode = node;
@@ -204,7 +204,13 @@ pub(crate) fn last_place(
 impl InnerNode {
     /// Writes the lowest place in the subtree to `found`, if there is a place.
     #[tactic(auto, using(crate::proofs::Choosing::PlaceSearch::firsts, crate::proofs::Counts::Searching::firsts))]
-    pub(super) fn first_place(&self, size: u64, alignment: u64, found: &mut Option<Place>, count: &mut Steps)
+    pub(super) fn first_place(
+        &self,
+        size: u64,
+        alignment: u64,
+        found: &mut Option<Place>,
+        count: &mut Steps,
+    )
         requires request { (0 < size) × IsAlignment alignment }
         requires may_fit { may_fit_in size alignment self.now ≡ true }
         requires none_yet { found.old ≡ None }
@@ -235,7 +241,13 @@ impl InnerNode {
 
     /// Writes the highest place in the subtree to `found`, if there is a place.
     #[tactic(auto, using(crate::proofs::Choosing::PlaceSearch::lasts, crate::proofs::Counts::Searching::lasts))]
-    pub(super) fn last_place(&self, size: u64, alignment: u64, found: &mut Option<Place>, count: &mut Steps)
+    pub(super) fn last_place(
+        &self,
+        size: u64,
+        alignment: u64,
+        found: &mut Option<Place>,
+        count: &mut Steps,
+    )
         requires request { (0 < size) × IsAlignment alignment }
         requires may_fit { may_fit_in size alignment self.now ≡ true }
         requires none_yet { found.old ≡ None }

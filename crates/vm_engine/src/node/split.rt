@@ -106,7 +106,7 @@ fn split_here(at: &mut Child, split: &mut Split, count: &mut Steps) -> Change
 /// Splits the free block of `split` in the subtree at a link, and rebalances the path. Returns the
 /// change of the subtree's summary.
 ///
-/// If the block is a leaf and leaves one part, the path grows like that of an added leaf.
+/// If the block is a leaf and one part of it is left, the heights change as by an added leaf.
 #[tactic(auto, using(crate::proofs::Splitting::SplitTrees::split_steps, crate::proofs::Counts::SplitCounts::nodes_to_split_cases))]
 pub(crate) fn split_at(at: &mut Child, split: &mut Split, count: &mut Steps) -> Change
     requires leaves { AreLeaves split.old.rest }
@@ -116,7 +116,8 @@ pub(crate) fn split_at(at: &mut Child, split: &mut Split, count: &mut Steps) -> 
     ensures blocks { blocks (side at.new)
         ≡ with_split split.old.choice.key split.old.choice.range split.old.rest (blocks (side at.old)) }
     ensures grows { Grows (side at.old) (side at.new) result }
-    ensures adds_leaf { IsLeafAt split.old.choice.key (side at.old) → HasOnePart split.old.rest → AddsLeaf (side at.old) (side at.new) }
+    ensures adds_leaf { IsLeafAt split.old.choice.key (side at.old) → HasOnePart split.old.rest
+        → AddsLeaf (side at.old) (side at.new) }
     ensures count { count.new ≡ count.old
         + nodes_to_split split.old.choice.key (side split.old.rest.before) (side split.old.rest.after) (side at.old) }
 {

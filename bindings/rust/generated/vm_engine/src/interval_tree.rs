@@ -17,7 +17,7 @@
 
 use rattle::Box;
 use crate::Steps;
-use crate::node::outermost::Edge;
+use crate::node::edge::Edge;
 use crate::node::walks::Walk;
 use crate::node::walks::copying::copy;
 use crate::node::{Child, InnerNode};

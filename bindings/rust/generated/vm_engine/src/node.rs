@@ -11,6 +11,7 @@
 use rattle::Box;
 mod balance;
 pub(crate) mod delete;
+pub(crate) mod edge;
 mod find;
 mod link;
 pub(crate) mod neighbours;

@@ -9,7 +9,8 @@
 use rattle::Box;
 use super::IntervalTree;
 use crate::Steps;
-use crate::node::outermost::{Edge, split_gap};
+use crate::node::edge::Edge;
+use crate::node::outermost::split_gap;
 use crate::node::rewrite::rewrite_at;
 use crate::node::split::{Choice, Rest, Split};
 use crate::node::{Child, InnerNode};

@@ -4,7 +4,7 @@
 
 use super::IntervalTree;
 use crate::Steps;
-use crate::node::outermost::Edge;
+use crate::node::edge::Edge;
 use crate::node::places::{Place, first_place, last_place};
 use crate::node::split::Choice;
 use crate::ordering::valid_range;

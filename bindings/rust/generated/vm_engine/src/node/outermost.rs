@@ -1,129 +1,20 @@
 // Written by bindings/erase from crates/vm_engine/src/node/outermost.rt: do not edit.
 
-//! The outermost gap of a tree: the search for it, and its split.
+//! The split of the outermost gap of a tree.
 //!
-//! A search follows the edge of the tree as long as it passes only allocated nodes and subtrees that
-//! are too short. If it ends there at a free leaf, every other block is shorter than the request. Then
-//! each subtree on the path keeps just what a split leaves of the gap, unless a block that the search
-//! passed has more alignments. A node whose children differ in height keeps its height when a leaf is
-//! added below it. So the split knows all summaries above the last such node on its way down.
+//! Every other block is shorter than the request. If it has no more alignments than what is left of the
+//! gap, each subtree on the path keeps just what is left. A node whose children differ in height keeps
+//! its height when a leaf is added below it. So all summaries above the last such node of the path are
+//! written on the way down.
 
-use super::places::{Place, has_multiple, highest_fit, lowest_fit};
+use super::edge::Edge;
 use super::split::{Split, split_at};
-use super::summary::{FreeSummary, Summary, free_summary_over, summary_of};
+use super::summary::{FreeSummary, free_summary_over, summary_of};
 use super::{Child, InnerNode};
 use crate::Steps;
 use crate::ordering::compare;
 use core::cmp::Ordering;
 use vm_ranges::NodeState;
-
-/// What a search notes along the edge of a tree.
-#[derive(Clone, Copy, Debug)]
-pub(crate) struct Edge {
-    /// No subtree that the search passed has more alignments.
-    alignments: u8,
-    /// The number of nodes that the search passed.
-    depth: u64,
-    /// The depth of the last passed node whose children differ in height, or 0.
-    steady: u64,
-    /// `true` if the search ended at a leaf, which is the outermost gap.
-    reached: bool,
-}
-
-impl Edge {
-    /// Creates the notes of a search that has passed nothing.
-    pub(crate) fn new() -> Edge {
-        Edge {
-            alignments: 0,
-            depth: 0,
-            steady: 0,
-            reached: false,
-        }
-    }
-
-    /// Notes a passed node: the summary of the child that the search passes, and the height of the
-    /// child that it enters.
-    #[inline(always)]
-    fn pass(&mut self, passed: Summary, entered_height: u64) {
-        self.alignments |= passed.free.alignments;
-        if passed.height != entered_height {
-            self.steady = self.depth;
-        }
-        self.depth += 1;
-    }
-}
-
-impl InnerNode {
-    /// Writes the lowest place in the subtree to `found`, if there is a place. It follows the right
-    /// edge as long as possible, and then searches like `first_place`.
-    pub(super) fn first_on_edge(
-        &self,
-        size: u64,
-        alignment: u64,
-        edge: &mut Edge,
-        found: &mut Option<Place>,
-        count: &mut Steps,
-    ) {
-        if self.node_state == NodeState::Free {
-            if self.left.is_some() || self.right.is_some() {
-                return self.first_place(size, alignment, found, count);
-            }
-            self.enter(count);
-            edge.reached = true;
-            if let Some(start) = lowest_fit(&self.key, self.node_state, size, alignment) {
-                *found = Some(Place {
-                    key: self.key,
-                    start,
-                });
-            }
-            return;
-        }
-        let left = summary_of(&self.left);
-        if left.free.max_free >= size {
-            return self.first_place(size, alignment, found, count);
-        }
-        self.enter(count);
-        if let Some(right) = has_multiple(&self.right, alignment) {
-            edge.pass(left, right.height);
-            right.first_on_edge(size, alignment, edge, found, count);
-        }
-    }
-
-    /// Writes the highest place in the subtree to `found`, if there is a place. It follows the left
-    /// edge as long as possible, and then searches like `last_place`.
-    pub(super) fn last_on_edge(
-        &self,
-        size: u64,
-        alignment: u64,
-        edge: &mut Edge,
-        found: &mut Option<Place>,
-        count: &mut Steps,
-    ) {
-        if self.node_state == NodeState::Free {
-            if self.left.is_some() || self.right.is_some() {
-                return self.last_place(size, alignment, found, count);
-            }
-            self.enter(count);
-            edge.reached = true;
-            if let Some(start) = highest_fit(&self.key, self.node_state, size, alignment) {
-                *found = Some(Place {
-                    key: self.key,
-                    start,
-                });
-            }
-            return;
-        }
-        let right = summary_of(&self.right);
-        if right.free.max_free >= size {
-            return self.last_place(size, alignment, found, count);
-        }
-        self.enter(count);
-        if let Some(left) = has_multiple(&self.left, alignment) {
-            edge.pass(right, left.height);
-            left.last_on_edge(size, alignment, edge, found, count);
-        }
-    }
-}
 
 /// Splits the free block of `split` in the tree at a link, and rebalances the path.
 pub(crate) fn split_gap(at: &mut Child, split: &mut Split, edge: &Edge, count: &mut Steps) {

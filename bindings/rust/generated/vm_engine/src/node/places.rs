@@ -5,9 +5,9 @@
 //! They are two functions, because a common one would branch on the direction at every node. They
 //! write the place into an `Option` of their caller, because returning it would copy 32 bytes at
 //! every level. Before a call enters a child, `may_fit` checks that the child exists and that its
-//! summary fits the request.
+//! summary fits the request. They begin in `edge`.
 
-use super::outermost::Edge;
+use super::edge::Edge;
 use super::{Child, InnerNode};
 use crate::Steps;
 use vm_ranges::{NodeState, RangeInclusive, align_down, align_up};
@@ -24,10 +24,24 @@ pub(crate) struct Place {
 /// Returns the lowest multiple of `alignment` at which `size` addresses fit into the block.
 ///
 /// It returns `None` if there is no such multiple, or if the block is allocated.
-pub(super) fn lowest_fit(key: &RangeInclusive, state: NodeState, size: u64, alignment: u64) -> Option<u64> {
-    if state == NodeState::Allocated {
-        return None;
+#[inline(always)]
+pub(super) fn lowest_fit(
+    key: &RangeInclusive,
+    state: NodeState,
+    size: u64,
+    alignment: u64,
+) -> Option<u64> {
+    match state {
+        NodeState::Allocated => None,
+        NodeState::Free => lowest_in_free(key, size, alignment),
     }
+}
+
+/// Returns the lowest multiple of `alignment` at which `size` addresses fit into a free block.
+///
+/// It is never inlined, so that a search saves fewer registers at each node.
+#[inline(never)]
+fn lowest_in_free(key: &RangeInclusive, size: u64, alignment: u64) -> Option<u64> {
     let Ok(start) = align_up(key.start(), alignment) else {
         return None;
     };
@@ -42,9 +56,24 @@ pub(super) fn lowest_fit(key: &RangeInclusive, state: NodeState, size: u64, alig
 /// Returns the highest multiple of `alignment` at which `size` addresses fit into the block.
 ///
 /// It returns `None` if there is no such multiple, or if the block is allocated.
-pub(super) fn highest_fit(key: &RangeInclusive, state: NodeState, size: u64, alignment: u64) -> Option<u64> {
+#[inline(always)]
+pub(super) fn highest_fit(
+    key: &RangeInclusive,
+    state: NodeState,
+    size: u64,
+    alignment: u64,
+) -> Option<u64> {
+    match state {
+        NodeState::Allocated => None,
+        NodeState::Free => highest_in_free(key, size, alignment),
+    }
+}
+
+/// Returns the highest multiple of `alignment` at which `size` addresses fit into a free block.
+#[inline(never)]
+fn highest_in_free(key: &RangeInclusive, size: u64, alignment: u64) -> Option<u64> {
     let (start, end) = (key.start(), key.end());
-    if state == NodeState::Allocated || end - start < size - 1 {
+    if end - start < size - 1 {
         return None;
     }
     let Ok(place) = align_down(end - (size - 1), alignment) else {
@@ -68,9 +97,9 @@ fn may_fit(tree: &Child, size: u64, alignment: u64) -> Option<&InnerNode> {
     }
 }
 
+/// Returns the root of the subtree if one of its free blocks has a multiple of `alignment`.
 #[inline(always)]
-pub(super) fn has_multiple(tree: &Child, alignment: u64) -> Option<&InnerNode>
-{
+pub(super) fn with_multiple(tree: &Child, alignment: u64) -> Option<&InnerNode> {
     let Some(node) = tree else { return None };
     let node: &InnerNode = node;
     if u32::from(node.alignments) <= alignment.trailing_zeros() {
@@ -112,7 +141,13 @@ pub(crate) fn last_place(
 
 impl InnerNode {
     /// Writes the lowest place in the subtree to `found`, if there is a place.
-    pub(super) fn first_place(&self, size: u64, alignment: u64, found: &mut Option<Place>, count: &mut Steps) {
+    pub(super) fn first_place(
+        &self,
+        size: u64,
+        alignment: u64,
+        found: &mut Option<Place>,
+        count: &mut Steps,
+    ) {
         self.enter(count);
         if let Some(left) = may_fit(&self.left, size, alignment) {
             left.first_place(size, alignment, found, count);
@@ -133,7 +168,13 @@ impl InnerNode {
     }
 
     /// Writes the highest place in the subtree to `found`, if there is a place.
-    pub(super) fn last_place(&self, size: u64, alignment: u64, found: &mut Option<Place>, count: &mut Steps) {
+    pub(super) fn last_place(
+        &self,
+        size: u64,
+        alignment: u64,
+        found: &mut Option<Place>,
+        count: &mut Steps,
+    ) {
         self.enter(count);
         if let Some(right) = may_fit(&self.right, size, alignment) {
             right.last_place(size, alignment, found, count);

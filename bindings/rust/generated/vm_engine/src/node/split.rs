@@ -76,7 +76,7 @@ fn split_here(at: &mut Child, split: &mut Split, count: &mut Steps) -> Change {
 /// Splits the free block of `split` in the subtree at a link, and rebalances the path. Returns the
 /// change of the subtree's summary.
 ///
-/// If the block is a leaf and leaves one part, the path grows like that of an added leaf.
+/// If the block is a leaf and one part of it is left, the heights change as by an added leaf.
 pub(crate) fn split_at(at: &mut Child, split: &mut Split, count: &mut Steps) -> Change {
     let Some(tree) = at else { unreachable!() };
     let tree: &mut InnerNode = tree;

@@ -10,7 +10,7 @@ allocate_chosen-requires-clause-choice c = is_choice _ _ _ c.in_ok-choice.ensure
 pub returns-clause-depth : goal.returns-clause-depth
 returns-clause-depth c =
     let held = c.allocate_chosen.ensures in
-    split_low c.args.self.now _ c.in_ok-choice.choice _ _ c.in_ok-choice.ensures.space (is_choice _ _ _ c.in_ok-choice.ensures.answer) held.answer held.low held.memory held.high
+    split_low c.args.self.now _ c.in_ok-choice.choice _ _ c.in_ok-choice.ensures.space.0 (is_choice _ _ _ c.in_ok-choice.ensures.answer) held.answer held.low held.errors.0 held.errors.1
 
 pub returns-clause-count : goal.returns-clause-count
 returns-clause-count c =

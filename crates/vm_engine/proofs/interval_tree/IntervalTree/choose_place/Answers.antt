@@ -1,7 +1,7 @@
 use Rattle.std.proofs.Common.{arith}
 use Rattle.std.proofs.lemmas.Grind.{common_steps}
 use Rattle.vm_engine.specs.Engine.NodeFields.{side}
-use Rattle.vm_engine.proofs.Choosing.Outermost.{knows_choice}
+use Rattle.vm_engine.proofs.Choosing.EdgeSearch.{knows_choice}
 use Rattle.vm_engine.proofs.Nodes.Spaces.{few_nodes}
 use Rattle.vm_engine.proofs.interval_tree.IntervalTree.choose_place.Goals as goal
 

@@ -1,10 +1,10 @@
-use Rattle.std.proofs.Common.{◌≡◌, ◌<◌, ◌≤◌, Option, Some, None, sym, arith, refl, rules}
+use Rattle.std.proofs.Common.{◌≡◌, ◌<◌, None, sym, arith, refl, rules}
 use Rattle.std.proofs.lemmas.Grind.{common_steps}
-use Rattle.vm_engine.specs.Tree.Shape.{Tip, single, max_free_of}
+use Rattle.vm_engine.specs.Tree.Shape.{Tip, max_free_of}
 use Rattle.vm_engine.specs.Engine.NodeFields.{side}
-use Rattle.vm_engine.proofs.Choosing.Outermost.{last_past, last_nodes_past, gap_at_leaf, gap_through_left}
+use Rattle.vm_engine.proofs.Choosing.EdgeSearch.{last_past, last_nodes_past, gap_at_leaf, gap_through_left}
 use Rattle.vm_engine.proofs.Counts.Entering.{searched_parts, none_unless_searched}
-use Rattle.vm_engine.proofs.Counts.Searching.{last_nodes_passed, height_at_most_nodes}
+use Rattle.vm_engine.proofs.Counts.Searching.{last_nodes_passed}
 use Rattle.vm_ranges.specs.declared.state.NodeState.TheVariants.{Free, Allocated}
 use Rattle.vm_engine.proofs.node.InnerNode.+last_on_edge.Goals as goal
 
@@ -33,8 +33,7 @@ returns-in-Some-with_multiple-clause-gap t c =
     let held : c.self.inside.node_state ≡ Allocated = grind (arith, common_steps) in
     let short : max_free_of (side c.self.inside.right) < c.args.size = grind (arith, common_steps) in
     let place = rw (← c.in-Some-with_multiple.ensures.0) at c.last_on_edge.ensures.place in
-    let gap = rw (← c.in-Some-with_multiple.ensures.0) at c.last_on_edge.ensures.gap.1 in
-    (
+    let gap = rw (← c.in-Some-with_multiple.ensures.0) at c.last_on_edge.ensures.gap.1 in (
       omega (arith, c.pass.ensures.kept, c.last_on_edge.ensures.gap.0),
       gap_through_left _ _ _ _ _ _ (side c.self.inside.left) _ (side c.self.inside.right) c.summary_of-right.result (sym c.self.view_is) (rw (← c.self.view_is) c.self.invariant.tree) held c.summary_of-right.ensures.value (grind (arith, common_steps)) c.last_on_edge.ensures.gap.0 short _ place gap,
     )

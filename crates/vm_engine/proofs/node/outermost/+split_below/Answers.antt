@@ -1,8 +1,7 @@
-use Rattle.std.proofs.Common.{◌≡◌, ℕ, ◌<◌, sym, arith, rules}
+use Rattle.std.proofs.Common.{◌≡◌, arith, rules}
 use Rattle.vm_engine.specs.Tree.Shape.{IsTree}
 use Rattle.vm_engine.specs.Engine.NodeFields.{side, shape_of}
-use Rattle.vm_engine.specs.Engine.OnlyGap.{IsSteadySplit}
-use Rattle.vm_engine.proofs.Splitting.OnlyGaps.{steady_left, steady_right, steady_height, kept_over_left, kept_over_right}
+use Rattle.vm_engine.proofs.Splitting.OutermostGaps.{steady_left, steady_right, steady_height, kept_over_left, kept_over_right}
 use Rattle.vm_engine.proofs.node.outermost.+split_below.Goals as goal
 
 pub returns-then-steady-eq0-clause-height : goal.returns-then-steady-eq0-clause-height

@@ -1,26 +1,25 @@
 -- A search that ends at the outermost gap of a tree.
-use Rattle.std.proofs.Common.{◌≡◌, ◌≢◌, ℕ, suc, ◌+◌, ◌-◌, ◌<◌, ◌≤◌, ◌⊎◌, inl, inr, true, Option, Some, None, List, [], ◌∷◌, ◌++◌, refl, sym, ap, ◌∙◌, subst, append_assoc, arith, ⊎_elim, Result, IfOk}
+use Rattle.std.proofs.Common.{◌≡◌, ◌≢◌, ℕ, suc, ◌+◌, ◌<◌, ◌≤◌, ◌⊎◌, inl, inr, true, Option, Some, None, List, [], ◌∷◌, ◌++◌, refl, sym, ap, ◌∙◌, subst, append_assoc, arith, ⊎_elim, Result, IfOk}
 use Rattle.vm_ranges.specs.Range.{Range, span}
 use Rattle.vm_ranges.specs.RangeOrder.{Before}
 use Rattle.vm_engine.specs.Tree.Block.{Block, free_block, free_length}
 use Rattle.vm_engine.specs.Tree.BlockList.{IsOrderedFrom, replace_block}
 use Rattle.vm_engine.specs.Tree.Fit.{HasNoFit}
 use Rattle.vm_engine.specs.Tree.Multiples.{free_alignments}
-use Rattle.vm_engine.specs.Tree.Shape.{Shape, Tip, Fork, blocks, height_of, max_free_of, alignments_of, single, IsTree}
+use Rattle.vm_engine.specs.Tree.Shape.{Shape, Fork, blocks, height_of, max_free_of, single, IsTree}
 use Rattle.vm_engine.specs.Engine.Choosing.{ChoosesAt, ChoosesBelowMax}
 use Rattle.vm_engine.specs.Engine.NodeUpdate.{IsSummaryOf}
-use Rattle.vm_engine.specs.Engine.OnlyGap.{OthersAreLess, IsUnevenAt, IsNewEdge, Passes, IsEdgeGap, KnowsGap, IsChosenGap, KnowsChoice}
+use Rattle.vm_engine.specs.Engine.Outermost.{IsUnevenAt, IsNewEdge, Passes, IsEdgeGap, KnowsGap, IsChosenGap, KnowsChoice}
 use Rattle.vm_engine.specs.Engine.Place.{FindsFirst, FindsLast}
 use Rattle.vm_engine.specs.Engine.SplitBlocks.{IsLeafAt}
 use Rattle.vm_engine.specs.Counts.NodeCounts.{may_fit_in, nodes_of_first, nodes_of_last}
 use Rattle.vm_ranges.specs.Alignment.{IsAlignment}
 use Rattle.std.specs.List.{All}
-use Rattle.vm_engine.specs.declared.node.outermost.Edge.{Edge}
+use Rattle.vm_engine.specs.declared.node.edge.Edge.{Edge}
 use Rattle.vm_engine.specs.declared.node.places.Place.{Place}
 use Rattle.vm_engine.specs.declared.node.split.Choice.{Choice}
 use Rattle.vm_engine.specs.declared.node.summary.Summary.{Summary}
 use Rattle.vm_ranges.specs.declared.error.Error.{Error}
-use Rattle.vm_ranges.specs.declared.state.NodeState.{NodeState}
 use Rattle.vm_ranges.specs.declared.state.NodeState.TheVariants.{Free, Allocated}
 use Rattle.vm_ranges.proofs.RangeCalls.{before_by_start}
 use Rattle.vm_engine.proofs.Blocks.BlockOrder.{ordered_middle}
@@ -31,7 +30,7 @@ use Rattle.vm_engine.proofs.Choosing.PlaceSearch.{first_through_right, last_thro
 use Rattle.vm_engine.proofs.Counts.Entering.{not_if_short, none_unless_searched}
 use Rattle.vm_engine.proofs.Counts.Searching.{first_nodes_passed, first_nodes_right, last_nodes_passed, last_nodes_left}
 use Rattle.vm_engine.proofs.Nodes.TreeEdits.{starts_from}
-use Rattle.vm_engine.proofs.Splitting.OnlyGaps.{max_free_by_blocks, alignments_by_blocks, others_in_left, others_in_right}
+use Rattle.vm_engine.proofs.Splitting.OutermostGaps.{max_free_by_blocks, alignments_by_blocks, others_in_left, others_in_right}
 
 -- A block of the right child is above the block of the node, and a block of the left child is below it.
 right_above : (s l : Shape) (b : Block) (r : Shape) (k : Range) (us vs : List Block) → s ≡ Fork l b r → IsTree s → blocks r ≡ us ++ free_block k ∷ vs → Before b.key k

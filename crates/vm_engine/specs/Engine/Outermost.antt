@@ -1,15 +1,15 @@
--- The outermost gap of a tree, if it is longer than the other gaps.
+-- The search for the outermost gap of a tree, and the split of that gap.
 use Rattle.std.specs.Prelude.{◌≡◌, ◌≢◌, ℕ, suc, zero, ◌+◌, ◌-◌, ◌≤◌, ◌⊎◌, max, true, false, List, [], ◌∷◌, Option, IfSome}
 use Rattle.vm_ranges.specs.Range.{Range}
 use Rattle.vm_ranges.specs.RangeOrder.{Before}
 use Rattle.vm_engine.specs.Tree.Block.{Block, free_length}
 use Rattle.vm_engine.specs.Tree.BlockList.{replace_block}
 use Rattle.vm_engine.specs.Tree.Multiples.{free_alignments}
-use Rattle.vm_engine.specs.Tree.Shape.{Shape, Tip, Fork, blocks, height_of, max_free_of, alignments_of}
+use Rattle.vm_engine.specs.Tree.Shape.{Shape, Tip, Fork, blocks, max_free_of, alignments_of}
 use Rattle.vm_engine.specs.Engine.Changes.{IsUneven}
 use Rattle.vm_engine.specs.Engine.NodeFields.{side}
 use Rattle.vm_engine.specs.Engine.SplitBlocks.{AreLeaves, CanSplit, HasOnePart, IsLeafAt}
-use Rattle.vm_engine.specs.declared.node.outermost.Edge.{Edge}
+use Rattle.vm_engine.specs.declared.node.edge.Edge.{Edge}
 use Rattle.vm_engine.specs.declared.node.places.Place.{Place}
 use Rattle.vm_engine.specs.declared.node.split.Choice.{Choice}
 use Rattle.vm_engine.specs.declared.node.split.Rest.{Rest}
@@ -38,17 +38,19 @@ IsUnevenAt (suc j) key (Fork l b r) =
 abbrev pub IsNewEdge : Edge → Type 0
 IsNewEdge edge = (edge.depth ≡ 0) × (edge.steady ≡ 0) × (edge.reached ≡ false)
 
--- The notes after a node is passed: its child `beside` is left out, and the other child has this height.
-pub record Passes (beside : Summary) (entered : ℕ) (old new : Edge) : Type 0 where
+-- The notes of a search that passes a node: its child with this summary is left out, and its other child is `entered`
+-- levels high.
+pub record Passes (passed : Summary) (entered : ℕ) (old new : Edge) : Type 0 where
   pub kept : old.alignments ≤ new.alignments
-  pub alignments : beside.free.alignments ≤ new.alignments
+  pub alignments : passed.free.alignments ≤ new.alignments
   pub depth : new.depth ≡ old.depth + 1
-  pub steady : ((new.steady ≡ old.depth) × (beside.height ≢ entered)) ⊎ (new.steady ≡ old.steady)
+  pub steady : ((new.steady ≡ old.depth) × (passed.height ≢ entered)) ⊎ (new.steady ≡ old.steady)
   pub reached : new.reached ≡ old.reached
 
--- The gap `key` at which a search for n addresses ended, with the notes `old` before the tree and `new` after it. The gap
--- is a leaf. The other blocks are shorter than n, and have no more alignments than noted. A node that is noted as steady
--- is uneven.
+-- The gap `key` at which a search for n addresses ended. Its notes were `old` when it entered the tree.
+-- - The other blocks are shorter than n, and have no more alignments than noted.
+-- - The gap is a leaf.
+-- - The node at the noted depth is uneven, if it was noted in this tree.
 pub record IsEdgeGap (n : ℕ) (old new : Edge) (key : Range) (s : Shape) : Type 0 where
   pub others : OthersAreLess (n - 1) new.alignments key (blocks s)
   pub leaf : IsLeafAt key s
@@ -59,12 +61,13 @@ abbrev pub KnowsGap : ℕ → Edge → Edge → Option Place → Shape → Type 
 KnowsGap n old new found s =
     new.reached ≡ true → IfSome found (λ place. IsEdgeGap n old new place.key s)
 
--- The same for the chosen range, and the notes of the whole search.
+-- The gap of the chosen range, after a search from the root.
 pub record IsChosenGap (edge : Edge) (choice : Choice) (s : Shape) : Type 0 where
   pub others : OthersAreLess (choice.range.end - choice.range.start) edge.alignments choice.key (blocks s)
   pub leaf : IsLeafAt choice.key s
   pub uneven : (edge.steady ≡ 0) ⊎ IsUnevenAt edge.steady choice.key s
 
+-- If the search reached the end of the edge, the chosen range is in the gap there.
 abbrev pub KnowsChoice : Edge → Choice → Shape → Type 0
 KnowsChoice edge choice s = edge.reached ≡ true → IsChosenGap edge choice s
 
@@ -74,8 +77,8 @@ IsFreeOf free rest =
     (free.max_free ≡ max (max_free_of (side rest.before)) (max_free_of (side rest.after)))
     × (free.alignments ≡ max (alignments_of (side rest.before)) (alignments_of (side rest.after)))
 
--- The search ended at the end of the edge and noted a steady node. The rest of its gap is one part with the free summary
--- `free`, as long as any other block can be, and with as many alignments as noted.
+-- The search reached the end of the edge, and noted an uneven node. The rest of its gap is one part, as long as any other
+-- block can be, and has as many alignments as noted.
 pub record IsOnlyRest (edge : Edge) (split : Split) (free : FreeSummary) : Type 0 where
   pub reached : edge.reached ≡ true
   pub steady : edge.steady ≢ 0

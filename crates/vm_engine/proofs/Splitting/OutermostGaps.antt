@@ -9,11 +9,11 @@ use Rattle.vm_engine.specs.Tree.Multiples.{free_alignments}
 use Rattle.vm_engine.specs.Tree.Shape.{Shape, Tip, Fork, blocks, height_of, max_free_of, alignments_of, IsTree}
 use Rattle.vm_engine.specs.Engine.Changes.{IsUneven, AddsLeaf}
 use Rattle.vm_engine.specs.Engine.NodeFields.{side, shape_of, IsNode}
-use Rattle.vm_engine.specs.Engine.OnlyGap.{most_by, OthersAreLess, IsUnevenAt, KnowsChoice, IsFreeOf, IsOnlyRest, IsOnlySplit, IsSteadySplit}
+use Rattle.vm_engine.specs.Engine.Outermost.{most_by, IsUnevenAt, KnowsChoice, IsOnlyRest, IsOnlySplit, IsSteadySplit}
 use Rattle.vm_engine.specs.Engine.SplitBlocks.{with_split, AreLeaves, CanSplit, HasOnePart, IsLeafAt}
 use Rattle.vm_engine.specs.declared.node.InnerNode.{InnerNode}
 use Rattle.vm_engine.specs.declared.node.InnerNode.TheInside.{Inside}
-use Rattle.vm_engine.specs.declared.node.outermost.Edge.{Edge}
+use Rattle.vm_engine.specs.declared.node.edge.Edge.{Edge}
 use Rattle.vm_engine.specs.declared.node.split.Split.{Split}
 use Rattle.vm_engine.specs.declared.node.summary.FreeSummary.{FreeSummary}
 use Rattle.vm_engine.proofs.Blocks.Replacement.{replace_in_left, replace_in_right}
@@ -53,8 +53,7 @@ keeps_rest s n split free o e =
     let after = side split.rest.after in
     let ys = blocks before ++ held_block split.choice.range ∷ blocks after in
     let long : most_by free_length ys ≡ free.max_free = omega (arith, most_append free_length (blocks before) (held_block split.choice.range ∷ blocks after), max_free_by_blocks before, max_free_by_blocks after, o.rest.0) in
-    let many : most_by free_alignments ys ≡ free.alignments = omega (arith, most_append free_alignments (blocks before) (held_block split.choice.range ∷ blocks after), alignments_by_blocks before, alignments_by_blocks after, o.rest.1) in
-    (
+    let many : most_by free_alignments ys ≡ free.alignments = omega (arith, most_append free_alignments (blocks before) (held_block split.choice.range ∷ blocks after), alignments_by_blocks before, alignments_by_blocks after, o.rest.1) in (
       max_free_by_blocks n ∙ ap (most_by free_length) e ∙ most_replaced free_length free.max_free split.choice.key ys (blocks s) long o.others.max_free o.can_be_split.known,
       alignments_by_blocks n ∙ ap (most_by free_alignments) e ∙ most_replaced free_alignments free.alignments split.choice.key ys (blocks s) many o.others.alignments o.can_be_split.known,
     )

@@ -1,0 +1,152 @@
+//! The search for a place along the edge of a tree.
+//!
+//! A search follows the edge as long as it passes only allocated nodes, and children that are too
+//! short. If it ends there at a free leaf, that is the outermost gap, and every other block is shorter
+//! than the request. `outermost` then splits it faster. At any other node the search of `places` goes on.
+ghost use Rattle.std.specs.Prelude.{◌≡◌, ◌+◌, ◌<◌, ◌≤◌, true, false, None};
+ghost use Rattle.vm_ranges.specs.Range.{MAX};
+ghost use Rattle.vm_ranges.specs.Alignment.{IsAlignment};
+ghost use Rattle.vm_engine.specs.Engine.Place.{FindsFirst, FindsLast};
+ghost use Rattle.vm_engine.specs.Engine.Outermost.{IsNewEdge, Passes, KnowsGap};
+ghost use Rattle.vm_engine.specs.Tree.Shape.{MAX_HEIGHT, blocks, height_of, node_count, IsTree};
+ghost use Rattle.vm_engine.specs.Counts.NodeCounts.{may_fit_in, nodes_of_first, nodes_of_last};
+
+use super::InnerNode;
+use super::places::{Place, highest_fit, lowest_fit, with_multiple};
+use super::summary::{Summary, summary_of};
+use crate::Steps;
+use vm_ranges::NodeState;
+
+/// What a search notes along the edge of a tree.
+#[derive(Clone, Copy, Debug)]
+pub(crate) struct Edge {
+    /// No passed child has more alignments.
+    pub(super) alignments: u8,
+    /// The number of passed nodes.
+    depth: u64,
+    /// The depth of the last passed node whose children differ in height, or 0.
+    pub(super) steady: u64,
+    /// `true` if the search ended at a free leaf, which is the outermost gap.
+    pub(super) reached: bool,
+}
+
+impl Edge {
+    /// Creates the notes of a search that has passed nothing.
+    pub(crate) fn new() -> Edge
+        ensures { IsNewEdge result }
+    {
+        Edge {
+            alignments: 0,
+            depth: 0,
+            steady: 0,
+            reached: false,
+        }
+    }
+
+    /// Notes a passed node: the summary of the passed child, and the height of the child that the search
+    /// enters.
+    #[inline(always)]
+    #[tactic(auto, using(std::proofs::lemmas::Nat::le_or_l, std::proofs::lemmas::Nat::le_or_r))]
+    fn pass(&mut self, passed: Summary, entered_height: u64)
+        requires { self.old.depth < MAX_HEIGHT }
+        ensures { Passes passed entered_height self.old self.new }
+    {
+        self.alignments |= passed.free.alignments;
+        if passed.height != entered_height {
+            self.steady = self.depth;
+        }
+        self.depth += 1;
+    }
+}
+
+impl InnerNode {
+    /// Writes the lowest place in the subtree to `found`, if there is a place. It follows the right
+    /// edge as long as possible, and then searches like `first_place`.
+    #[tactic(auto, using(crate::proofs::Choosing::EdgeSearch::firsts, crate::proofs::Counts::Searching::firsts))]
+    pub(super) fn first_on_edge(
+        &self,
+        size: u64,
+        alignment: u64,
+        edge: &mut Edge,
+        found: &mut Option<Place>,
+        count: &mut Steps,
+    )
+        requires request { (0 < size) × IsAlignment alignment }
+        requires may_fit { may_fit_in size alignment self.now ≡ true }
+        requires none_yet { (found.old ≡ None) × (edge.old.reached ≡ false) }
+        requires fits { (count.old + node_count self.now < MAX) × (edge.old.depth + height_of self.now ≤ MAX_HEIGHT) }
+        ensures place { FindsFirst size alignment (blocks self.now) found.new }
+        ensures gap { (edge.old.alignments ≤ edge.new.alignments) × KnowsGap size edge.old edge.new found.new self.now }
+        ensures count { count.new ≡ count.old + nodes_of_first size alignment self.now }
+        ensures tree { IsTree self.now }
+    {
+        if self.node_state == NodeState::Free {
+            if self.left.is_some() || self.right.is_some() {
+                return self.first_place(size, alignment, found, count);
+            }
+            self.enter(count);
+            edge.reached = true;
+            if let Some(start) = lowest_fit(&self.key, self.node_state, size, alignment) {
+                *found = Some(Place {
+                    key: self.key,
+                    start,
+                });
+            }
+            return;
+        }
+        let left = summary_of(&self.left);
+        if left.free.max_free >= size {
+            return self.first_place(size, alignment, found, count);
+        }
+        self.enter(count);
+        if let Some(right) = with_multiple(&self.right, alignment) {
+            edge.pass(left, right.height);
+            right.first_on_edge(size, alignment, edge, found, count);
+        }
+    }
+
+    /// Writes the highest place in the subtree to `found`, if there is a place. It follows the left
+    /// edge as long as possible, and then searches like `last_place`.
+    #[tactic(auto, using(crate::proofs::Choosing::EdgeSearch::lasts, crate::proofs::Counts::Searching::lasts))]
+    pub(super) fn last_on_edge(
+        &self,
+        size: u64,
+        alignment: u64,
+        edge: &mut Edge,
+        found: &mut Option<Place>,
+        count: &mut Steps,
+    )
+        requires request { (0 < size) × IsAlignment alignment }
+        requires may_fit { may_fit_in size alignment self.now ≡ true }
+        requires none_yet { (found.old ≡ None) × (edge.old.reached ≡ false) }
+        requires fits { (count.old + node_count self.now < MAX) × (edge.old.depth + height_of self.now ≤ MAX_HEIGHT) }
+        ensures place { FindsLast size alignment (blocks self.now) found.new }
+        ensures gap { (edge.old.alignments ≤ edge.new.alignments) × KnowsGap size edge.old edge.new found.new self.now }
+        ensures count { count.new ≡ count.old + nodes_of_last size alignment self.now }
+        ensures tree { IsTree self.now }
+    {
+        if self.node_state == NodeState::Free {
+            if self.left.is_some() || self.right.is_some() {
+                return self.last_place(size, alignment, found, count);
+            }
+            self.enter(count);
+            edge.reached = true;
+            if let Some(start) = highest_fit(&self.key, self.node_state, size, alignment) {
+                *found = Some(Place {
+                    key: self.key,
+                    start,
+                });
+            }
+            return;
+        }
+        let right = summary_of(&self.right);
+        if right.free.max_free >= size {
+            return self.last_place(size, alignment, found, count);
+        }
+        self.enter(count);
+        if let Some(left) = with_multiple(&self.left, alignment) {
+            edge.pass(right, left.height);
+            left.last_on_edge(size, alignment, edge, found, count);
+        }
+    }
+}
