@@ -11,20 +11,17 @@ use Rattle.vm_engine.specs.Engine.NodeFields.{side}
 use Rattle.vm_engine.specs.Engine.SplitBlocks.{IsLeafAt}
 use Rattle.vm_engine.specs.Engine.NodeUpdate.{RawNode}
 use Rattle.vm_engine.specs.declared.node.summary.Change.{Change}
+use Rattle.vm_engine.proofs.Counts.Searching.{height_at_most_nodes}
 use Rattle.vm_engine.proofs.Counts.NodeCountCases.{before_first, after_first}
 use Rattle.vm_engine.proofs.Nodes.UpdatedNodes.{IsRebalanced}
 
 -- A tree of two nodes.
-height_at_most : (s : Shape) → height_of s ≤ node_count s
-height_at_most Tip = omega arith
-height_at_most (Fork l b r) = omega (arith, height_at_most l, height_at_most r)
-
 pub two_nodes : (s : Shape) → node_count s ≡ 2 → (height_of s ≡ 2) × IsUneven s
 two_nodes Tip e = absurd (omega arith)
 two_nodes (Fork Tip b Tip) e = absurd (omega arith)
-two_nodes (Fork Tip b (Fork x y z)) e = (omega (arith, height_at_most x, height_at_most z), λ d. omega (arith, d))
+two_nodes (Fork Tip b (Fork x y z)) e = (omega (arith, height_at_most_nodes x, height_at_most_nodes z), λ d. omega (arith, d))
 two_nodes (Fork (Fork x y z) b r) e =
-    (omega (arith, height_at_most x, height_at_most z, height_at_most r), λ d. omega (arith, d, height_at_most r))
+    (omega (arith, height_at_most_nodes x, height_at_most_nodes z, height_at_most_nodes r), λ d. omega (arith, d, height_at_most_nodes r))
 
 -- ---- The path to a leaf
 pub not_both : (a b : Range) → Before a b → ¬ Before b a

@@ -15,7 +15,7 @@ ghost use Rattle.vm_engine.specs.Engine.Changes.{KeepsFreeSummary};
 ghost use Rattle.vm_engine.specs.Engine.NodeFields.{side};
 ghost use Rattle.vm_engine.specs.Engine.NodeUpdate.{IsSummaryOf};
 
-use super::Child;
+use super::{Child, InnerNode};
 use vm_ranges::{NodeState, RangeInclusive};
 
 /// The free part of a summary, of a subtree or of one block.
@@ -99,13 +99,16 @@ pub(super) fn summary_of(child: &Child) -> Summary
                 alignments: 0,
             },
         },
-        Some(node) => Summary {
-            height: node.height,
-            free: FreeSummary {
-                max_free: node.max_free,
-                alignments: node.alignments,
-            },
-        },
+        Some(node) => {
+            let node: &InnerNode = node;
+            Summary {
+                height: node.height,
+                free: FreeSummary {
+                    max_free: node.max_free,
+                    alignments: node.alignments,
+                },
+            }
+        }
     }
 }
 

@@ -10,7 +10,7 @@
 //! each smaller one, so the number of alignments determines which alignments they are. It is stored
 //! as one byte next to the state, so a node has 72 bytes.
 
-use super::Child;
+use super::{Child, InnerNode};
 use crate::proved::vm_ranges::{NodeState, RangeInclusive};
 
 /// The free part of a summary, of a subtree or of one block.
@@ -85,13 +85,16 @@ pub(super) fn summary_of(child: &Child) -> Summary {
                 alignments: 0,
             },
         },
-        Some(node) => Summary {
-            height: node.height,
-            free: FreeSummary {
-                max_free: node.max_free,
-                alignments: node.alignments,
-            },
-        },
+        Some(node) => {
+            let node: &InnerNode = node;
+            Summary {
+                height: node.height,
+                free: FreeSummary {
+                    max_free: node.max_free,
+                    alignments: node.alignments,
+                },
+            }
+        }
     }
 }
 
