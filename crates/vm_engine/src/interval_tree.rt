@@ -24,7 +24,7 @@ ghost use Rattle.vm_engine.specs.Tree.SpaceTree.{tree_state, IsSpaceTree, MakesT
 
 use crate::Steps;
 use crate::node::edge::Edge;
-use crate::node::walks::Walk;
+use crate::node::walks::both_ends::Blocks;
 use crate::node::walks::copying::copy;
 use crate::node::{Child, InnerNode};
 use std::alloc::Global;

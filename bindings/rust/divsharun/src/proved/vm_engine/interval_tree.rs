@@ -18,7 +18,7 @@
 use crate::rattle::Box;
 use crate::proved::vm_engine::Steps;
 use crate::proved::vm_engine::node::edge::Edge;
-use crate::proved::vm_engine::node::walks::Walk;
+use crate::proved::vm_engine::node::walks::both_ends::Blocks;
 use crate::proved::vm_engine::node::walks::copying::copy;
 use crate::proved::vm_engine::node::{Child, InnerNode};
 use crate::rattle::Global;

@@ -23,7 +23,7 @@ loop-id-preserved c =
     record {
       whole = ap (λ (es : List (ℕ × Range)). es ++ c.next.new.self) pushed ∙ append_assoc so_far (entry ∷ []) c.next.new.self ∙ whole;
       slots = rw pushed (c.in_ok-insert.ensures.inserted ∙ ap (λ m. map.insert m entry.0 entry.1) c.loop-id.invariant.slots ∙ sym (pushed_entry so_far c.next.new.self entry next));
-      ids = rw pushed (more_ids c.loop-id.ids_by_start c.insert.new.self c.start.result next c.start.ensures.value c.in_ok-insert.ensures.updates c.loop-id.invariant.ids);
+      ids = rw pushed (more_ids c.loop-id.ids_by_start c.insert-in-loop-id.new.self c.start.result next c.start.ensures.value c.in_ok-insert-2.ensures.updates c.loop-id.invariant.ids);
     }
 
 pub invariant_of-result : goal.invariant_of-result
