@@ -155,8 +155,8 @@ fn one_free_id() -> IdAllocator {
     ids
 }
 
-/// Makes an allocation for the space, one for the rest of its gap, one for the list of devices, and
-/// two each for the map of devices and for the set of freed ids.
+/// Makes one allocation for the space, one for the rest of its gap and one for the list of devices.
+/// The map of devices and the set of freed ids take two each.
 fn reserve_and_release() {
     let mut devices = DeviceManager::new(0, 0, 0, 64).expect("a manager");
     assert!(devices.reserve(1, 1, FirstMatch).is_ok());
