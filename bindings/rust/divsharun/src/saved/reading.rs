@@ -4,6 +4,7 @@ use super::parts::{device_manager, id_allocator, push_ascending, Fault, Node, No
 use super::{text_of, POLICIES, STATES};
 use crate::proved::vm_allocator as proved;
 use crate::proved::vm_allocator::allocation_engine::NodeState as ProvedState;
+use crate::proved::vm_devices as proved_devices;
 use crate::{
     AddressAllocator, AllocPolicy, DeviceManager, DeviceSlot, IdAllocator, NodeState,
     RangeInclusive,
