@@ -11,7 +11,7 @@ mod difference;
 mod histories;
 #[path = "../../tests/packed/mod.rs"]
 mod packed;
-#[path = "../../../rattle/tests/refusing/mod.rs"]
+#[path = "../../tests/refusing/mod.rs"]
 mod refusing;
 mod saved;
 #[path = "../../benches/workload/mod.rs"]
