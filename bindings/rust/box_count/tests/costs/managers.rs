@@ -114,6 +114,7 @@ fn saved() {
         at_most(&s, &parts, || manager.to_value(Global)).unwrap();
 
         let counted = cost(|| space.held_count()).1;
+        let table = [map(s.held_ids().zip(space.held_ranges())), 0];
         let (first, last) = (s.held_ids().min().unwrap(), s.held_ids().max().unwrap());
         let slots = [list(u64::from(last - first) + 1), 0];
         let starts = || space.held_ranges().map(|range| range.start());
@@ -121,10 +122,12 @@ fn saved() {
         let by_start = [map(starts().map(|start| (start, 0u32))), 0];
         let find = |id| assert!(space.holds(&manager.slot(id).unwrap()));
         let found = cost(|| s.held_ids().for_each(find)).1;
-        let parts = [read_ids, read_space, counted, slots, seen, found, by_start];
+        let parts = [
+            read_ids, read_space, counted, table, seen, found, slots, by_start,
+        ];
         let last_device = format!("/slots/{}", s.held - 1);
         let rows = [
-            ("/version".into(), 1, 7),
+            ("/version".into(), 1, 8),
             (format!("{last_device}/mmio_range/end"), u32::MAX, 6),
             (format!("{last_device}/id"), 0, 4),
             ("/slots".into(), 0, 0),
