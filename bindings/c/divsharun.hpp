@@ -61,10 +61,6 @@ template <typename T, void (*Destroy)(T *)> class owner {
         return code(status);
     }
 
-    template <typename Read> error read_by(Read call, const std::string &text) {
-        return create([&](T **out) { return call(text.data(), text.size(), out); });
-    }
-
     template <typename Read>
     error read_by(Read call, const std::string &text, dvs_text_fault *fault,
                   const dvs_text_limits *limits) {
@@ -124,8 +120,7 @@ class address_allocator : public owner<dvs_address_allocator, dvs_address_alloca
                                                    refusal);
         });
     }
-    error read(const std::string &text) { return read_by(dvs_address_allocator_read, text); }
-    error read(const std::string &text, dvs_text_fault *fault,
+    error read(const std::string &text, dvs_text_fault *fault = nullptr,
                const dvs_text_limits *limits = nullptr) {
         return read_by(dvs_address_allocator_read_within, text, fault, limits);
     }
@@ -166,8 +161,7 @@ class id_allocator : public owner<dvs_id_allocator, dvs_id_allocator_destroy> {
         return create(
             [=](object **out) { return dvs_id_allocator_new(first, last, out, nullptr); });
     }
-    error read(const std::string &text) { return read_by(dvs_id_allocator_read, text); }
-    error read(const std::string &text, dvs_text_fault *fault,
+    error read(const std::string &text, dvs_text_fault *fault = nullptr,
                const dvs_text_limits *limits = nullptr) {
         return read_by(dvs_id_allocator_read_within, text, fault, limits);
     }
@@ -186,8 +180,7 @@ class device_manager : public owner<dvs_device_manager, dvs_device_manager_destr
             return dvs_device_manager_new(first_id, last_id, base, size, out, nullptr);
         });
     }
-    error read(const std::string &text) { return read_by(dvs_device_manager_read, text); }
-    error read(const std::string &text, dvs_text_fault *fault,
+    error read(const std::string &text, dvs_text_fault *fault = nullptr,
                const dvs_text_limits *limits = nullptr) {
         return read_by(dvs_device_manager_read_within, text, fault, limits);
     }
