@@ -1,4 +1,4 @@
-//! What Rust's `std` does for other libraries: it allocates, and it ends the process after a panic.
+//! Memory from the C library, and the end of the process after a panic: what `std` does otherwise.
 //!
 //! Without `std`, the libraries have a third of the size and need only the C library.
 

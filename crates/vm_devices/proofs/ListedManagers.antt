@@ -11,9 +11,9 @@ use Rattle.vm_engine.specs.Address.{AddressState, IsAddressState}
 use Rattle.vm_allocator.specs.Ids.{IdState, IsIdState, held_count}
 use Rattle.vm_devices.specs.declared.device_slot.DeviceSlot.{DeviceSlot}
 use Rattle.vm_devices.specs.Devices.{IsDeviceState, devices_of}
-use Rattle.vm_devices.specs.Listed.{entries_of, listed_state, MakesListed, FindsTable, FindsPairedTable}
+use Rattle.vm_devices.specs.Listed.{entries_of, listed_state, MakesListed}
 use Rattle.vm_devices.specs.Queries.{entry_of}
-use Rattle.vm_devices.specs.SavedChecks.{AreHeldAndDistinct}
+use Rattle.vm_devices.specs.SavedChecks.{AreHeldAndDistinct, FindsTable, FindsPairedTable}
 use Rattle.vm_devices.proofs.AllHeld.{pairs_all, all_paired}
 
 module _ (ids : IdState) (space : AddressState) (ds : List DeviceSlot) where

@@ -1,6 +1,5 @@
 -- Managers that are created of both allocators and the list of their devices.
 use Rattle.std.specs.Prelude.{◌≡◌, ℕ, List, map as map_list, Result, Ok, Err}
-use Rattle.std.specs.BTreeMap.{BTreeMap}
 use Rattle.std.specs.List.Sorted.{IsStrictlySortedBy}
 use Rattle.std.specs.Map.{keys_of}
 use Rattle.std.specs.Ordering.{nat_cmp}
@@ -13,7 +12,6 @@ use Rattle.vm_allocator.specs.Ids.{IdState}
 use Rattle.vm_devices.specs.declared.device_slot.DeviceSlot.{DeviceSlot}
 use Rattle.vm_devices.specs.Devices.{DeviceState, ArePaired, devices_of}
 use Rattle.vm_devices.specs.Queries.{entry_of}
-use Rattle.vm_devices.specs.SavedChecks.{AreAllHeld}
 
 -- The ids and the ranges of devices, in their order.
 abbrev pub entries_of : List DeviceSlot → List (ℕ × Range)
@@ -34,17 +32,3 @@ abbrev pub MakesListed : IdState → AddressState → List DeviceSlot → Result
 MakesListed ids space devices (Ok state) = AreDevicesOf ids space devices × (state ≡ listed_state ids space devices)
 MakesListed ids space devices (Err NotAState) = ¬ AreDevicesOf ids space devices
 MakesListed ids space devices (Err OutOfMemory) = Unit {0}
-
--- The result of collecting devices: their table, or NotAState if their ids are not strictly increasing. Only private
--- functions cite it and the next definition.
-abbrev pub FindsTable : List DeviceSlot → Result (BTreeMap ℕ Range) ValueError → Type 0
-FindsTable devices (Ok slots) = IsStrictlySortedBy nat_cmp (keys_of (entries_of devices)) × (slots.entries ≡ entries_of devices)
-FindsTable devices (Err NotAState) = ¬ IsStrictlySortedBy nat_cmp (keys_of (entries_of devices))
-FindsTable devices (Err OutOfMemory) = Unit {0}
-
--- The result of pairing devices: their table if they pair the held ids with the held ranges, otherwise NotAState.
-abbrev pub FindsPairedTable : IdState → AddressState → List DeviceSlot → Result (BTreeMap ℕ Range) ValueError → Type 0
-FindsPairedTable ids space devices (Ok slots) =
-    IsStrictlySortedBy nat_cmp (keys_of (entries_of devices)) × (slots.entries ≡ entries_of devices) × AreAllHeld ids space (entries_of devices)
-FindsPairedTable ids space devices (Err NotAState) = ¬ (IsStrictlySortedBy nat_cmp (keys_of (entries_of devices)) × AreAllHeld ids space (entries_of devices))
-FindsPairedTable ids space devices (Err OutOfMemory) = Unit {0}

@@ -1,7 +1,9 @@
--- The checks of a manager's value, part by part, in the order of the code, and the objects that encoding builds. Only
--- private functions cite them.
+-- The checks of a manager's value and of its parts, in the order of the code, and the objects that encoding builds.
+-- Only private functions cite them.
 use Rattle.std.specs.Prelude.{◌≡◌, ℕ, ◌+◌, ◌==◌, nat_le, if◌then◌else◌, List, [], ◌∷◌, length, Option, Some, None, option_map, option_and_then, Result, Ok, Err, IsTrue, codes}
 use Rattle.std.specs.List.{Contains}
+use Rattle.std.specs.List.Sorted.{IsStrictlySortedBy}
+use Rattle.std.specs.Map.{keys_of}
 use Rattle.std.specs.Ordering.{nat_cmp}
 use Rattle.std.specs.BTreeMap.{BTreeMap}
 use Rattle.std.specs.FinSet as set
@@ -16,6 +18,8 @@ use Rattle.vm_allocator.specs.Ids.{IdState, IsHeld, held_count}
 use Rattle.vm_ranges.specs.declared.saved.ValueError.{ValueError}
 use Rattle.vm_ranges.specs.declared.saved.ValueError.TheVariants.{NotAState, OutOfMemory}
 use Rattle.vm_ranges.specs.RangeValues.{decoded_range}
+use Rattle.vm_devices.specs.declared.device_slot.DeviceSlot.{DeviceSlot}
+use Rattle.vm_devices.specs.Listed.{entries_of}
 
 -- The device that a value encodes.
 abbrev pub decoded_device : Data → Option (ℕ × Range)
@@ -76,6 +80,19 @@ abbrev pub FindsPaired : IdState → AddressState → Items → Result (BTreeMap
 FindsPaired ids space ds (Ok slots) = (increasing_devices 0 ds ≡ Some slots.entries) × AreAllHeld ids space slots.entries
 FindsPaired ids space ds (Err NotAState) = ¬ ((es : List (ℕ × Range)) × (increasing_devices 0 ds ≡ Some es) × AreAllHeld ids space es)
 FindsPaired ids space ds (Err OutOfMemory) = Unit {0}
+
+-- The result of collecting devices: their table, or NotAState if their ids are not strictly increasing.
+abbrev pub FindsTable : List DeviceSlot → Result (BTreeMap ℕ Range) ValueError → Type 0
+FindsTable devices (Ok slots) = IsStrictlySortedBy nat_cmp (keys_of (entries_of devices)) × (slots.entries ≡ entries_of devices)
+FindsTable devices (Err NotAState) = ¬ IsStrictlySortedBy nat_cmp (keys_of (entries_of devices))
+FindsTable devices (Err OutOfMemory) = Unit {0}
+
+-- The result of pairing devices: their table if they pair the held ids with the held ranges, otherwise NotAState.
+abbrev pub FindsPairedTable : IdState → AddressState → List DeviceSlot → Result (BTreeMap ℕ Range) ValueError → Type 0
+FindsPairedTable ids space devices (Ok slots) =
+    IsStrictlySortedBy nat_cmp (keys_of (entries_of devices)) × (slots.entries ≡ entries_of devices) × AreAllHeld ids space (entries_of devices)
+FindsPairedTable ids space devices (Err NotAState) = ¬ (IsStrictlySortedBy nat_cmp (keys_of (entries_of devices)) × AreAllHeld ids space (entries_of devices))
+FindsPairedTable ids space devices (Err OutOfMemory) = Unit {0}
 
 -- The value is an object with exactly the two fields of a device.
 pub record DeviceParts (d : Data) (id : ℕ) (range : Data) : Type 0 where

@@ -54,14 +54,8 @@ impl Slots {
     pub(super) fn get(&self, id: u32) -> Option<RangeInclusive>
         ensures { result ≡ map.get self.now id }
     {
-        if id < self.first_id {
-            return None;
-        }
-        let index = (id - self.first_id) as usize;
-        if index >= self.ranges.len() {
-            return None;
-        }
-        self.ranges[index]
+        let index = id.checked_sub(self.first_id)? as usize;
+        *self.ranges.get(index)?
     }
 
     /// Removes the device with this id, and returns its range.
@@ -70,16 +64,8 @@ impl Slots {
         ensures removed { self.new ≡ map.remove self.old id }
         ensures value { result ≡ map.get self.old id }
     {
-        if id < self.first_id {
-            return None;
-        }
-        let index = (id - self.first_id) as usize;
-        if index >= self.ranges.len() {
-            return None;
-        }
-        let removed = self.ranges[index];
-        self.ranges[index] = None;
-        removed
+        let index = id.checked_sub(self.first_id)? as usize;
+        self.ranges.get_mut(index)?.take()
     }
 
     /// Inserts a device, or changes its range. An error changes nothing.
@@ -134,7 +120,8 @@ fn with_empty_first(
     count: u32,
     slots: &[Option<RangeInclusive>],
 ) -> Result<Vec<Option<RangeInclusive>>, AllocError>
-    ensures entries { IfOk result (λ all. (id : ℕ) → slot_entries id all.items ≡ slot_entries (id + count) slots.now) }
+    ensures entries { IfOk result (λ all.
+        (id : ℕ) → slot_entries id all.items ≡ slot_entries (id + count) slots.now) }
     ensures long { IfOk result (λ all. length all.items ≡ count + length slots.now) }
 {
     let mut all = Vec::new(alloc);
@@ -162,7 +149,8 @@ fn extend_to(slots: &mut Vec<Option<RangeInclusive>>, index: usize) -> Result<()
 
 /// An iterator over the devices, by increasing ids. It does not allocate.
 ///
-/// Its model is the list of the devices that it has not returned yet.
+/// It visits each id between the lowest and the highest that had a device. Its model is the list of
+/// the devices that it has not returned yet.
 #[derive(Drop)]
 pub struct Devices<'a> {
     next_id: u64,

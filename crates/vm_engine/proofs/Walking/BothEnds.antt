@@ -4,7 +4,7 @@ use Rattle.std.proofs.lemmas.Bool.{cases_lt, lt-ltb, le-ltb}
 use Rattle.std.proofs.lemmas.List.{drop-set, append-nil}
 use Rattle.vm_engine.specs.Engine.NodeFields.{side}
 use Rattle.vm_engine.specs.Engine.Walks.{Stop, Fits}
-use Rattle.vm_engine.specs.Engine.BothEnds.{remaining_from_below, first_of, blocks_below, blocks_left, AreBothEnds}
+use Rattle.vm_engine.specs.Engine.BothEnds.{remaining_from_above, first_of, blocks_below, blocks_left, AreBothEnds}
 use Rattle.vm_engine.specs.Tree.Block.{Block}
 use Rattle.vm_engine.specs.Tree.Blocks.{Tiles, TilesSpace}
 use Rattle.vm_engine.specs.Tree.Shape.{Shape, Fork, MAX_HEIGHT, blocks, height_of}
@@ -16,9 +16,9 @@ use Rattle.vm_engine.proofs.Walking.WalkPaths.{descend_fits}
 -- ---- The path to the highest block
 -- The blocks that are left after a node is added to the path.
 pub higher_blocks : (path : List Stop) (k : ℕ) (n : Stop) (l : Shape) (b : Block) (r : Shape) → side n.now ≡ Fork l b r → k < length path
-    → remaining_from_below (drop k (set path k n)) ++ blocks r ≡ remaining_from_below (drop (k + 1) path) ++ blocks (side n.now)
+    → remaining_from_above (drop k (set path k n)) ++ blocks r ≡ remaining_from_above (drop (k + 1) path) ++ blocks (side n.now)
 higher_blocks path k n l b r e h =
-    let more = remaining_from_below (drop (k + 1) path) in
+    let more = remaining_from_above (drop (k + 1) path) in
     rw (drop-set path k n h, e) (append_assoc (more ++ blocks l) (b ∷ []) (blocks r) ∙ append_assoc more (blocks l) (b ∷ blocks r))
 
 pub ruleset descending = (higher_blocks, descend_fits)

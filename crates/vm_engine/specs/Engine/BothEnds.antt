@@ -12,11 +12,11 @@ abbrev pub blocks_up_to : Shape → List Block → List Block
 blocks_up_to Tip more = []
 blocks_up_to (Fork l b r) more = more ++ blocks l ++ b ∷ []
 
--- The blocks that are not returned yet, from the highest to the lowest: for each node on the path its block and those
--- of its left child. The list has the lowest first.
-abbrev pub remaining_from_below : List Stop → List Block
-remaining_from_below [] = []
-remaining_from_below (s ∷ stops) = blocks_up_to (side s.now) (remaining_from_below stops)
+-- The blocks that an iteration from above has left, the lowest first: for each node on the path its block and those of
+-- its left child.
+abbrev pub remaining_from_above : List Stop → List Block
+remaining_from_above [] = []
+remaining_from_above (s ∷ stops) = blocks_up_to (side s.now) (remaining_from_above stops)
 
 -- The first block, if there is one.
 abbrev pub first_of : List Block → Option Block

@@ -145,7 +145,8 @@ fn build(alloc: Global, count: u64, cursor: &mut BlockCursor<'_>) -> Result<Chil
     requires cursor { IsBlockCursor cursor.old }
     requires enough { count ≤ length (remaining_blocks cursor.old) }
     requires few { count < TOO_MANY_BLOCKS }
-    ensures built { IfOk result (λ tree. IsBuilt count (remaining_blocks cursor.old) (side tree) (remaining_blocks cursor.new)) }
+    ensures built { IfOk result (λ tree.
+        IsBuilt count (remaining_blocks cursor.old) (side tree) (remaining_blocks cursor.new)) }
     ensures cursor { IfOk result (λ tree. IsBlockCursor cursor.new) }
     ensures error { IfErr result (λ error. error ≡ Error.OutOfMemory) }
 {

@@ -17,7 +17,7 @@ use super::summary::{Summary, summary_of};
 use crate::Steps;
 use vm_ranges::NodeState;
 
-/// What a search notes along the edge of a tree.
+/// The notes of a search along the edge of a tree.
 #[derive(Clone, Copy, Debug)]
 pub(crate) struct Edge {
     /// No passed child has more alignments.

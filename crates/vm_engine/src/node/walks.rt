@@ -34,7 +34,8 @@ fn descend<'a>(path: &mut [&'a Child; MAX_PATH], mut at: usize, mut tree: &'a Ch
     requires height { height_of (side tree.now) ≤ at }
     requires fits { Fits (drop at path.old) }
     ensures within { result ≤ MAX_HEIGHT }
-    ensures ahead { remaining_blocks (drop result path.new) ≡ blocks (side tree.now) ++ remaining_blocks (drop at path.old) }
+    ensures ahead { remaining_blocks (drop result path.new)
+        ≡ blocks (side tree.now) ++ remaining_blocks (drop at path.old) }
     ensures fits { Fits (drop result path.new) }
 {
     while let Some(node) = tree {

@@ -4,7 +4,8 @@ ghost use Rattle.vm_engine.specs.Address.{IsAddressState};
 ghost use Rattle.vm_allocator.specs.Allocator.{state_of};
 ghost use Rattle.vm_allocator.specs.Ids.{IsIdState};
 ghost use Rattle.vm_devices.specs.Devices.{IsDeviceState};
-ghost use Rattle.vm_devices.specs.Listed.{MakesListed, FindsTable, FindsPairedTable};
+ghost use Rattle.vm_devices.specs.Listed.{MakesListed};
+ghost use Rattle.vm_devices.specs.SavedChecks.{FindsTable, FindsPairedTable};
 
 use super::pairing::are_held_and_distinct;
 use crate::device_manager::DeviceManager;
@@ -15,7 +16,7 @@ use std::collections::BTreeMap;
 use vm_allocator::{AddressAllocator, IdAllocator, RangeInclusive, ValueError};
 
 impl DeviceManager {
-    /// Creates a manager of these ids, this space and these devices, which are by increasing ids.
+    /// Creates a manager of these ids, this space and these devices, in the order of their ids.
     ///
     /// The parts can be untrusted input. They are checked one after the other, so `OutOfMemory` is
     /// possible for all parts.

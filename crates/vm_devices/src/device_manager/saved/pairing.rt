@@ -50,7 +50,8 @@ pub(super) fn are_held_and_distinct(
     space: &AddressAllocator,
     slots: &BTreeMap<u32, RangeInclusive>,
 ) -> std::result::Result<bool, AllocError>
-    ensures { IfOk result (λ all. IsTestOf all (AreHeldAndDistinct ids.now (state_of space.now) set.empty slots.now.entries)) }
+    ensures { IfOk result (λ all.
+        IsTestOf all (AreHeldAndDistinct ids.now (state_of space.now) set.empty slots.now.entries)) }
 {
     let mut starts = BTreeSet::new(alloc);
     for (id, range) in slots.iter() {

@@ -5,7 +5,7 @@ ghost use Rattle.vm_engine.specs.Tree.Shape.{MAX_HEIGHT, blocks, height_of};
 ghost use Rattle.vm_engine.specs.Tree.SpaceTree.{IsSpaceTree};
 ghost use Rattle.vm_engine.specs.Engine.NodeFields.{side};
 ghost use Rattle.vm_engine.specs.Engine.Walks.{Fits};
-ghost use Rattle.vm_engine.specs.Engine.BothEnds.{remaining_from_below};
+ghost use Rattle.vm_engine.specs.Engine.BothEnds.{remaining_from_above};
 
 use super::{MAX_PATH, Walk};
 use crate::block::Block;
@@ -24,8 +24,8 @@ fn descend_to_highest<'a>(
     requires height { height_of (side tree.now) ≤ at }
     requires fits { Fits (drop at path.old) }
     ensures within { result ≤ MAX_HEIGHT }
-    ensures ahead { remaining_from_below (drop result path.new)
-        ≡ remaining_from_below (drop at path.old) ++ blocks (side tree.now) }
+    ensures ahead { remaining_from_above (drop result path.new)
+        ≡ remaining_from_above (drop at path.old) ++ blocks (side tree.now) }
     ensures fits { Fits (drop result path.new) }
 {
     while let Some(node) = tree {
@@ -51,12 +51,12 @@ struct WalkBack<'a> {
 impl<'a> Model for WalkBack<'a> {
     ghost use Rattle.std.specs.Prelude.{List, drop};
     ghost use Rattle.vm_engine.specs.Tree.Block.{Block};
-    ghost use Rattle.vm_engine.specs.Engine.BothEnds.{remaining_from_below};
+    ghost use Rattle.vm_engine.specs.Engine.BothEnds.{remaining_from_above};
     ghost use Rattle.vm_engine.specs.Engine.Walks.{IsPath};
 
     ghost Value = { List Block };
 
-    ghost view = { λ w. remaining_from_below (drop w.from w.path) };
+    ghost view = { λ w. remaining_from_above (drop w.from w.path) };
 
     ghost invariant = { λ w. IsPath w.path w.from };
 }
