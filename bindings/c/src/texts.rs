@@ -1,6 +1,6 @@
 //! Saving objects as JSON, and reading them.
 
-use crate::blocks::{Blocks, FreedIds, Tree};
+use crate::blocks::{Blocks, Tree};
 use crate::handle::{non_null, Handle};
 use crate::json::{dvs_text_limits, Read, Reader, TextFault};
 use crate::parts::{
@@ -150,40 +150,40 @@ impl Saved for AddressAllocator {
 }
 
 impl Saved for IdAllocator {
-    type Parts = FreedIds;
+    type Parts = ();
 
-    fn parts(&self) -> Result<FreedIds, Fault> {
-        FreedIds::of(self)
+    fn parts(&self) -> Result<(), Fault> {
+        Ok(())
     }
 
-    fn write(&self, ids: &FreedIds, to: &mut impl Sink) {
+    fn write(&self, (): &(), to: &mut impl Sink) {
         to.text(r#"{"range_base":"#);
         to.number(self.range_base().into());
         to.text(r#","next_id":"#);
-        match ids.next {
+        match self.next_id() {
             Some(next) => to.number(next.into()),
             None => to.text("null"),
         }
         to.text(r#","range_end":"#);
         to.number(self.range_end().into());
         to.text(r#","freed_ids":"#);
-        write_list(ids.freed.iter(), to, |id, to| to.number((*id).into()));
+        write_list(self.freed_ids(), to, |id, to| to.number(id.into()));
         to.text("}");
     }
 }
 
 impl Saved for DeviceManager {
-    type Parts = (FreedIds, Blocks);
+    type Parts = Blocks;
 
-    fn parts(&self) -> Result<(FreedIds, Blocks), Fault> {
-        Ok((self.ids().parts()?, self.addresses().parts()?))
+    fn parts(&self) -> Result<Blocks, Fault> {
+        Blocks::of(self.addresses())
     }
 
-    fn write(&self, (ids, blocks): &(FreedIds, Blocks), to: &mut impl Sink) {
+    fn write(&self, blocks: &Blocks, to: &mut impl Sink) {
         to.text(r#"{"version":"#);
         to.number(VERSION);
         to.text(r#","id_allocator":"#);
-        self.ids().write(ids, to);
+        self.ids().write(&(), to);
         to.text(r#","mmio_allocator":"#);
         self.addresses().write(blocks, to);
         to.text(r#","slots":"#);

@@ -32,6 +32,11 @@ use core::iter::FusedIterator;
 /// # Ok::<(), Error>(())
 /// ```
 #[derive(PartialEq, Eq, PartialOrd, Ord)]
+#[cfg_attr(
+    feature = "serde",
+    derive(serde::Serialize, serde::Deserialize),
+    serde(transparent)
+)]
 pub struct AddressAllocator(pub(crate) proved::AddressAllocator);
 
 impl AddressAllocator {

@@ -17,6 +17,7 @@ use core::fmt;
 /// # Ok::<(), divsharun::Error>(())
 /// ```
 #[derive(Clone, Copy, Debug, Default, PartialEq, Eq, Hash)]
+#[cfg_attr(feature = "serde", derive(serde::Serialize, serde::Deserialize))]
 pub enum AllocPolicy {
     /// Chooses the lowest range.
     #[default]

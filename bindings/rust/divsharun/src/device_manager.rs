@@ -19,16 +19,22 @@ use core::iter::FusedIterator;
 /// # Ok::<(), divsharun::Error>(())
 /// ```
 #[derive(Clone, Copy, Debug, PartialEq, Eq)]
+#[cfg_attr(
+    feature = "serde",
+    derive(serde::Serialize, serde::Deserialize),
+    serde(deny_unknown_fields)
+)]
 pub struct DeviceSlot {
     /// The id of the device.
     pub id: u32,
     /// The addresses of the device.
+    #[cfg_attr(feature = "serde", serde(rename = "mmio_range"))]
     pub range: RangeInclusive,
 }
 
 impl DeviceSlot {
     /// Converts a slot of the proved code.
-    fn of(slot: proved_devices::DeviceSlot) -> DeviceSlot {
+    pub(crate) fn of(slot: proved_devices::DeviceSlot) -> DeviceSlot {
         DeviceSlot {
             id: slot.id,
             range: RangeInclusive(slot.range),
@@ -69,6 +75,11 @@ impl DeviceSlot {
 /// # Ok::<(), Error>(())
 /// ```
 #[derive(PartialEq, Eq)]
+#[cfg_attr(
+    feature = "serde",
+    derive(serde::Serialize, serde::Deserialize),
+    serde(transparent)
+)]
 pub struct DeviceManager(pub(crate) proved_devices::DeviceManager);
 
 impl DeviceManager {

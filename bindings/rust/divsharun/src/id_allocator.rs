@@ -26,6 +26,11 @@ use core::iter::FusedIterator;
 /// # Ok::<(), Error>(())
 /// ```
 #[derive(PartialEq, Eq)]
+#[cfg_attr(
+    feature = "serde",
+    derive(serde::Serialize, serde::Deserialize),
+    serde(transparent)
+)]
 pub struct IdAllocator(pub(crate) proved::IdAllocator);
 
 impl IdAllocator {

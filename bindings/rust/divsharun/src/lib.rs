@@ -99,7 +99,7 @@
 //! Without features, the crate has no dependency, and it does not need `std`.
 //!
 //! - `serde` implements `Serialize` and `Deserialize` for [`RangeInclusive`], [`NodeState`],
-//!   [`AddressAllocator`], [`IdAllocator`] and [`DeviceManager`].
+//!   [`AddressAllocator`], [`IdAllocator`], [`DeviceManager`], [`DeviceSlot`] and [`AllocPolicy`].
 //! - `std`, a default feature, adds the module `replay` and the program `divsharun-replay`.
 //!
 //! # Saved values
@@ -124,8 +124,9 @@
 //!
 //! Nodes that are nested more than 50 deep are an error before they are checked.
 //!
-//! An object is written from a list of its blocks and its freed ids, and read into lists of its
-//! allocated ranges, freed ids and devices. An item has at most 24 bytes.
+//! An address allocator is written from a list of its blocks. An object is read into lists of its
+//! allocated ranges, freed ids and devices. An item has at most 24 bytes, and a list has at most an
+//! eighth more capacity than it needs.
 //!
 //! An error names the unknown, missing or duplicate field or the unknown variant, or the condition
 //! that the value violates.

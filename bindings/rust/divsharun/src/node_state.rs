@@ -16,6 +16,7 @@ use crate::proved::vm_allocator as proved;
 /// # Ok::<(), Error>(())
 /// ```
 #[derive(Clone, Copy, Debug, PartialEq, Eq, PartialOrd, Ord, Hash)]
+#[cfg_attr(feature = "serde", derive(serde::Serialize, serde::Deserialize))]
 pub enum NodeState {
     /// The block is free.
     Free,
@@ -29,6 +30,15 @@ impl NodeState {
         match state {
             proved::allocation_engine::NodeState::Free => NodeState::Free,
             proved::allocation_engine::NodeState::Allocated => NodeState::Allocated,
+        }
+    }
+
+    /// Converts to a state of the proved code.
+    #[cfg(feature = "serde")]
+    pub(crate) fn proved(self) -> proved::allocation_engine::NodeState {
+        match self {
+            NodeState::Free => proved::allocation_engine::NodeState::Free,
+            NodeState::Allocated => proved::allocation_engine::NodeState::Allocated,
         }
     }
 }

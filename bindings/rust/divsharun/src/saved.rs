@@ -14,12 +14,6 @@ mod writing;
 use crate::error::out_of_memory;
 use parts::Fault;
 
-/// The states of a node in the order of their declaration.
-const STATES: &[&str] = &["Free", "Allocated"];
-
-/// The policies in the order of their declaration.
-const POLICIES: &[&str] = &["FirstMatch", "LastMatch", "ExactMatch"];
-
 /// Returns the condition that a value violates. Ends the process if an allocation failed.
 fn text_of(fault: Fault) -> &'static str {
     match fault {

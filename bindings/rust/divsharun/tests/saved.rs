@@ -538,7 +538,7 @@ fn hostile_bytes_cost_memory_of_their_length() {
     let mut bytes: Vec<u8> = ids_freed(1 << 20, 0..1 << 20).collect();
     costs::<IdAllocator>(&bytes, true, 2.2);
     bytes.pop();
-    costs::<IdAllocator>(&bytes, false, 1.1);
+    costs::<IdAllocator>(&bytes, false, 1.2);
 
     let count = 1 << 16;
     let mut bytes = [&1u64.to_le_bytes()[..], &[0; 4], &[1]].concat();

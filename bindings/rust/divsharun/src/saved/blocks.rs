@@ -1,12 +1,10 @@
-//! The parts in which objects are written: the balanced tree of the blocks of a space, and the ids
-//! that were freed.
+//! The balanced tree of the blocks of a space, as it is written.
 //!
 //! serde and the C library write with this code. It reports failed allocations.
 
-use super::parts::{try_reserve, Fault, Node};
+use super::parts::{Fault, Node};
 use crate::proved::vm_allocator::allocation_engine::NodeState;
-use crate::proved::vm_allocator::{AddressAllocator, Error, IdAllocator};
-use crate::rattle::Global;
+use crate::proved::vm_allocator::AddressAllocator;
 use alloc::vec::Vec;
 
 /// The start and the state of a block. It ends right before the next block.
@@ -71,34 +69,6 @@ impl<'a> Tree<'a> {
             left: Tree(before, start.saturating_sub(1)),
             right: Tree(after, last),
             height: u64::from(blocks.len().ilog2()) + 1,
-        })
-    }
-}
-
-/// The fields of an id allocator that no call returns.
-pub(super) struct FreedIds {
-    /// The lowest id that was never allocated, or `None` if it would be past `u32::MAX`.
-    pub(super) next: Option<u32>,
-    /// The ids that were allocated and are free, in ascending order.
-    pub(super) freed: Vec<u32>,
-}
-
-impl FreedIds {
-    /// Finds the fields by calls of a copy. It allocates the freed ids, and then the next id.
-    pub(super) fn of(ids: &IdAllocator) -> Result<Self, Fault> {
-        let mut copy = ids.try_clone(Global)?;
-        let mut freed = Vec::new();
-        while let Ok(id) = copy.peek_id() {
-            if copy.free_id(id) != Err(Error::AlreadyReleased(id)) {
-                break;
-            }
-            try_reserve(&mut freed)?;
-            freed.push(copy.allocate_id()?);
-        }
-        let after_all = ids.range_end().checked_add(1);
-        Ok(FreedIds {
-            next: copy.peek_id().ok().or(after_all),
-            freed,
         })
     }
 }

@@ -11,7 +11,7 @@ use crate::proved::vm_allocator::{
     AddressAllocator, Error, IdAllocator, RangeInclusive, ValueError,
 };
 use crate::proved::vm_devices::{DeviceManager, DeviceSlot};
-use crate::rattle::{Global, Value};
+use crate::rattle::Global;
 use alloc::vec::Vec;
 use core::ffi::CStr;
 
@@ -40,15 +40,6 @@ impl Fault {
             true => Fault::OutOfMemory,
             false => Fault::Invalid(condition),
         }
-    }
-}
-
-impl From<Error> for Fault {
-    fn from(error: Error) -> Fault {
-        Fault::new(
-            error == Error::OutOfMemory,
-            c"a range or an id is not valid",
-        )
     }
 }
 
@@ -102,9 +93,7 @@ impl Nodes {
 
     /// Ends the node that was begun last, and returns its subtree.
     pub(super) fn end(&mut self, node: Node<RangeInclusive, Option<Span>>) -> Result<Span, Fault> {
-        let Node {
-            key, left, right, ..
-        } = node;
+        let (key, left, right) = (node.key, node.left, node.right);
         let is_free = node.state == NodeState::Free;
         let [first, last] = [key.start(), key.end()].map(|address| (address, is_free));
         let [before, after] = [left.map(|left| left.last), right.map(|right| right.first)];
@@ -112,8 +101,7 @@ impl Nodes {
         if !is_before || after.is_some_and(|after| after.0 <= last.0) {
             return violate(c"the keys do not ascend or share an address");
         }
-        let is_next_free =
-            before.is_some_and(|before| before.1) || after.is_some_and(|after| after.1);
+        let is_next_free = [before, after].iter().flatten().any(|next| next.1);
         self.has_free_neighbours |= is_free && is_next_free;
         let [low, high] = [left, right].map(|child| child.map_or(0, |child| child.height));
         let is_balanced = low.abs_diff(high) <= 1;
@@ -165,18 +153,20 @@ impl Nodes {
         }
         // It takes linear time if the keys ascend.
         self.held.sort_unstable();
-        Ok(AddressAllocator::with_held(
-            Global,
-            space.start(),
-            space.len(),
-            &self.held,
-        )?)
+        let (base, size) = (space.start(), space.len());
+        let allocator = AddressAllocator::with_held(Global, base, size, &self.held);
+        let condition = c"the allocated keys are not those of an allocator";
+        allocator.map_err(|error| Fault::new(error == Error::OutOfMemory, condition))
     }
 }
 
-/// Allocates capacity for one more item.
-pub(super) fn try_reserve<T>(list: &mut Vec<T>) -> Result<(), Fault> {
-    list.try_reserve(1).map_err(|_| Fault::OutOfMemory)
+/// Allocates capacity for one more item. A list grows by an eighth, so it has little unused capacity.
+fn try_reserve<T>(list: &mut Vec<T>) -> Result<(), Fault> {
+    if list.len() < list.capacity() {
+        return Ok(());
+    }
+    let more = list.len() / 8 + 4;
+    list.try_reserve_exact(more).map_err(|_| Fault::OutOfMemory)
 }
 
 /// Appends an item to a list with ascending ids. Each item is checked when it comes, so untrusted
@@ -196,33 +186,19 @@ pub(super) fn push_ascending<T>(
 
 /// Returns an id allocator with its range, the lowest id that was never allocated, and the freed ids.
 /// It accepts what the proved `from_value` accepts.
-///
-/// `from_value` makes an allocator without freed ids, whose value has constant size. `free_id` then
-/// checks each freed id.
 pub(super) fn id_allocator(
     [base, end]: [u32; 2],
     next: Option<u32>,
     freed: &[u32],
 ) -> Result<IdAllocator, Fault> {
-    let value = Value::object([
-        ("range_base", Ok(base.into())),
-        ("next_id", Ok(next.map_or(Value::Null, Value::from))),
-        ("range_end", Ok(end.into())),
-        ("freed_ids", Ok(crate::rattle::Vec::new(Global).into())),
-    ]);
-    let ids = IdAllocator::from_value(Global, &value.map_err(|_| Fault::OutOfMemory)?);
-    let wrong_end = match base > end {
-        true => c"range_base is past range_end",
+    let bounds = u64::from(base)..=u64::from(end) + 1;
+    let condition = match bounds.contains(&next.map_or(1 << 32, u64::from)) {
+        _ if base > end => c"range_base is past range_end",
         false => c"next_id is neither in the range nor right after it",
+        true => c"a freed id is outside the range or not below next_id",
     };
-    let mut ids = ids.map_err(|error| Fault::new(error == ValueError::OutOfMemory, wrong_end))?;
-    // From the highest id to the lowest, the set of freed ids is filled in linear time.
-    let wrong_id = c"a freed id is outside the range or not below next_id";
-    for id in freed.iter().rev() {
-        let freed = ids.free_id(*id);
-        freed.map_err(|error| Fault::new(error == Error::OutOfMemory, wrong_id))?;
-    }
-    Ok(ids)
+    let ids = IdAllocator::with_freed(Global, base, next, end, freed);
+    ids.map_err(|error| Fault::new(error == ValueError::OutOfMemory, condition))
 }
 
 /// Returns a device manager with its ids, its space and its devices. It accepts what the proved

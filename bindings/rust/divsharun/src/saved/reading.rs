@@ -1,22 +1,13 @@
 //! Reads objects with serde. Fields can come in any order, and are checked as they come.
 
 use super::parts::{device_manager, id_allocator, push_ascending, Fault, Node, Nodes, Span};
-use super::{text_of, POLICIES, STATES};
-use crate::proved::vm_allocator as proved;
-use crate::proved::vm_allocator::allocation_engine::NodeState as ProvedState;
-use crate::proved::vm_devices as proved_devices;
-use crate::{
-    AddressAllocator, AllocPolicy, DeviceManager, DeviceSlot, IdAllocator, NodeState,
-    RangeInclusive,
-};
-use alloc::string::String;
+use super::text_of;
+use crate::proved::vm_allocator::{AddressAllocator, IdAllocator, RangeInclusive};
+use crate::proved::vm_devices::{DeviceManager, DeviceSlot};
+use crate::NodeState;
 use alloc::vec::Vec;
 use core::fmt;
-use core::marker::PhantomData;
-use serde::de::{
-    DeserializeSeed, EnumAccess, Error, IgnoredAny, MapAccess, SeqAccess, Unexpected,
-    VariantAccess, Visitor,
-};
+use serde::de::{DeserializeSeed, Error, MapAccess, SeqAccess, Visitor};
 use serde::{Deserialize, Deserializer};
 
 /// Returns the error of a format for a fault. Ends the process if an allocation failed.
@@ -24,209 +15,59 @@ fn invalid<E: Error>(fault: Fault) -> E {
     E::custom(text_of(fault))
 }
 
-/// The fields of a structure, or the variants of an enumeration.
-trait Names {
-    const NAMES: &'static [&'static str];
-    const ARE_FIELDS: bool;
-
-    fn find(name: &str) -> Option<usize>;
+#[derive(Deserialize)]
+#[serde(rename = "RangeInclusive", deny_unknown_fields)]
+struct Range {
+    start: u64,
+    end: u64,
 }
 
-/// Reads a field or a variant as its index. Some formats write the index instead of the name.
-struct Name<N>(PhantomData<N>);
-
-impl<'de, N: Names> DeserializeSeed<'de> for Name<N> {
-    type Value = usize;
-
-    fn deserialize<D: Deserializer<'de>>(self, from: D) -> Result<usize, D::Error> {
-        from.deserialize_identifier(self)
+impl<'de> Deserialize<'de> for RangeInclusive {
+    fn deserialize<D: Deserializer<'de>>(from: D) -> Result<Self, D::Error> {
+        let Range { start, end } = Range::deserialize(from)?;
+        RangeInclusive::new(start, end).map_err(D::Error::custom)
     }
 }
 
-impl<N: Names> Visitor<'_> for Name<N> {
-    type Value = usize;
+#[derive(Deserialize)]
+#[serde(rename = "AddressAllocator", deny_unknown_fields)]
+struct Space {
+    address_space: RangeInclusive,
+    interval_tree: Tree,
+}
 
-    fn expecting(&self, f: &mut fmt::Formatter<'_>) -> fmt::Result {
-        write!(f, "one of {:?}", N::NAMES)
+#[derive(Deserialize)]
+#[serde(rename = "IntervalTree", deny_unknown_fields)]
+struct Tree {
+    #[serde(deserialize_with = "root")]
+    root: (Nodes, Option<Span>),
+}
+
+fn root<'de, D: Deserializer<'de>>(from: D) -> Result<(Nodes, Option<Span>), D::Error> {
+    let mut nodes = Nodes::default();
+    let root = Subtree(&mut nodes).deserialize(from)?;
+    Ok((nodes, root))
+}
+
+impl Space {
+    /// Returns the allocator. If `is_strict`, the tree must be one that the proved code builds.
+    fn allocator<E: Error>(self, is_strict: bool) -> Result<AddressAllocator, E> {
+        let (mut nodes, root) = self.interval_tree.root;
+        let space = nodes.allocator(self.address_space, root, is_strict);
+        space.map_err(invalid)
     }
+}
 
-    fn visit_u64<E: Error>(self, place: u64) -> Result<usize, E> {
-        match usize::try_from(place) {
-            Ok(place) if place < N::NAMES.len() => Ok(place),
-            _ => Err(E::invalid_value(Unexpected::Unsigned(place), &self)),
-        }
-    }
-
-    fn visit_str<E: Error>(self, name: &str) -> Result<usize, E> {
-        N::find(name).ok_or_else(|| match N::ARE_FIELDS {
-            true => E::unknown_field(name, N::NAMES),
-            false => E::unknown_variant(name, N::NAMES),
-        })
-    }
-
-    fn visit_bytes<E: Error>(self, name: &[u8]) -> Result<usize, E> {
-        self.visit_str(&String::from_utf8_lossy(name))
+impl<'de> Deserialize<'de> for AddressAllocator {
+    fn deserialize<D: Deserializer<'de>>(from: D) -> Result<Self, D::Error> {
+        Space::deserialize(from)?.allocator(false)
     }
 }
-
-/// Implements the visitor of a structure: its fields with their seeds, and its value.
-///
-/// The seeds and the value use the visitor by the name before the fields.
-macro_rules! structure {
-    (
-        $visitor:ty, $name:literal => $value:ty, $this:ident
-        { $($field:ident: $seed:expr),* } $build:expr
-    ) => {
-        const _: () = {
-            #[allow(non_camel_case_types)]
-            enum Field { $($field),* }
-
-            impl Names for Field {
-                const NAMES: &'static [&'static str] = &[$(stringify!($field)),*];
-                const ARE_FIELDS: bool = true;
-
-                // A match on literals is faster than a search in `NAMES`.
-                fn find(name: &str) -> Option<usize> {
-                    match name {
-                        $(stringify!($field) => Some(Field::$field as usize),)*
-                        _ => None,
-                    }
-                }
-            }
-
-            impl<'de> DeserializeSeed<'de> for $visitor {
-                type Value = $value;
-
-                fn deserialize<D: Deserializer<'de>>(self, from: D) -> Result<$value, D::Error> {
-                    from.deserialize_struct($name, Field::NAMES, self)
-                }
-            }
-
-            impl<'de> Visitor<'de> for $visitor {
-                type Value = $value;
-
-                fn expecting(&self, f: &mut fmt::Formatter<'_>) -> fmt::Result {
-                    write!(f, "struct {} with {} elements", $name, Field::NAMES.len())
-                }
-
-                fn visit_seq<A: SeqAccess<'de>>(mut self, mut from: A) -> Result<$value, A::Error> {
-                    let $this = &mut self;
-                    $(
-                        let Some($field) = from.next_element_seed($seed)? else {
-                            return Err(A::Error::invalid_length(Field::$field as usize, &self));
-                        };
-                    )*
-                    // A list that goes on is an error before anything is built.
-                    if from.next_element::<IgnoredAny>()?.is_some() {
-                        return Err(A::Error::invalid_length(Field::NAMES.len() + 1, &self));
-                    }
-                    $build
-                }
-
-                fn visit_map<A: MapAccess<'de>>(mut self, mut from: A) -> Result<$value, A::Error> {
-                    let $this = &mut self;
-                    $(let mut $field = None;)*
-                    while let Some(place) = from.next_key_seed(Name::<Field>(PhantomData))? {
-                        $(if place == Field::$field as usize {
-                            if $field.is_some() {
-                                return Err(A::Error::duplicate_field(stringify!($field)));
-                            }
-                            $field = Some(from.next_value_seed($seed)?);
-                        })*
-                    }
-                    let missing = A::Error::missing_field;
-                    $(let $field = $field.ok_or_else(|| missing(stringify!($field)))?;)*
-                    $build
-                }
-            }
-        };
-    };
-}
-
-/// Implements the visitor of an enumeration: its variants by their index, with their contents.
-macro_rules! enumeration {
-    (
-        $visitor:ident, $name:literal, $names:ident => $value:ty, $content:ident
-        { $($place:pat => $read:expr),* }
-    ) => {
-        struct $visitor;
-
-        impl Names for $visitor {
-            const NAMES: &'static [&'static str] = $names;
-            const ARE_FIELDS: bool = false;
-
-            fn find(name: &str) -> Option<usize> {
-                $names.iter().position(|variant| *variant == name)
-            }
-        }
-
-        impl<'de> DeserializeSeed<'de> for $visitor {
-            type Value = $value;
-
-            fn deserialize<D: Deserializer<'de>>(self, from: D) -> Result<$value, D::Error> {
-                from.deserialize_enum($name, $names, self)
-            }
-        }
-
-        impl<'de> Visitor<'de> for $visitor {
-            type Value = $value;
-
-            fn expecting(&self, f: &mut fmt::Formatter<'_>) -> fmt::Result {
-                write!(f, "enum {}", $name)
-            }
-
-            fn visit_enum<A: EnumAccess<'de>>(self, from: A) -> Result<$value, A::Error> {
-                match from.variant_seed(Name::<Self>(PhantomData))? {
-                    $(($place, $content) => $read,)*
-                }
-            }
-        }
-    };
-}
-
-/// Implements `Deserialize` by a seed, and a function of its value.
-macro_rules! read_by {
-    ($($object:ident: $seed:expr => $convert:expr;)*) => {$(
-        impl<'de> Deserialize<'de> for $object {
-            fn deserialize<D: Deserializer<'de>>(from: D) -> Result<Self, D::Error> {
-                $seed.deserialize(from).map($convert)
-            }
-        }
-    )*};
-}
-
-read_by! {
-    RangeInclusive: Range => RangeInclusive;
-    NodeState: State => NodeState::of;
-    AllocPolicy: Policy => |policy| policy;
-    AddressAllocator: Space::default() => AddressAllocator;
-    IdAllocator: Ids => IdAllocator;
-    DeviceSlot: Slot => |slot| slot;
-    DeviceManager: Devices => DeviceManager;
-}
-
-enumeration!(State, "NodeState", STATES => ProvedState, content {
-    0 => content.unit_variant().map(|()| ProvedState::Free),
-    _ => content.unit_variant().map(|()| ProvedState::Allocated)
-});
-
-enumeration!(Policy, "AllocPolicy", POLICIES => AllocPolicy, content {
-    0 => content.unit_variant().map(|()| AllocPolicy::FirstMatch),
-    1 => content.unit_variant().map(|()| AllocPolicy::LastMatch),
-    _ => content.newtype_variant().map(AllocPolicy::ExactMatch)
-});
-
-struct Range;
-
-structure!(Range, "RangeInclusive" => proved::RangeInclusive, _this {
-    start: PhantomData::<u64>,
-    end: PhantomData::<u64>
-} proved::RangeInclusive::new(start, end).map_err(A::Error::custom));
 
 /// Reads a node with its children, or none.
-struct OptionalNode<'a>(&'a mut Nodes);
+struct Subtree<'a>(&'a mut Nodes);
 
-impl<'de> DeserializeSeed<'de> for OptionalNode<'_> {
+impl<'de> DeserializeSeed<'de> for Subtree<'_> {
     type Value = Option<Span>;
 
     fn deserialize<D: Deserializer<'de>>(self, from: D) -> Result<Option<Span>, D::Error> {
@@ -234,7 +75,7 @@ impl<'de> DeserializeSeed<'de> for OptionalNode<'_> {
     }
 }
 
-impl<'de> Visitor<'de> for OptionalNode<'_> {
+impl<'de> Visitor<'de> for Subtree<'_> {
     type Value = Option<Span>;
 
     fn expecting(&self, f: &mut fmt::Formatter<'_>) -> fmt::Result {
@@ -251,74 +92,149 @@ impl<'de> Visitor<'de> for OptionalNode<'_> {
 
     fn visit_some<D: Deserializer<'de>>(self, from: D) -> Result<Option<Span>, D::Error> {
         self.0.begin().map_err(invalid)?;
-        InnerNode(self.0).deserialize(from).map(Some)
+        from.deserialize_struct("InnerNode", FIELDS, InnerNode(self.0))
+            .map(Some)
     }
 }
 
-struct InnerNode<'a>(&'a mut Nodes);
-
-structure!(InnerNode<'_>, "InnerNode" => Span, this {
-    key: Range,
-    node_state: State,
-    left: OptionalNode(this.0),
-    right: OptionalNode(this.0),
-    height: PhantomData::<u64>
-} this.0.end(Node { key, state: node_state, left, right, height }).map_err(invalid));
-
-struct Tree<'a>(&'a mut Nodes);
-
-structure!(Tree<'_>, "IntervalTree" => Option<Span>, this {
-    root: OptionalNode(this.0)
-} Ok(root));
-
-/// Reads an address allocator.
-#[derive(Default)]
-struct Space {
-    nodes: Nodes,
-    // Whether the tree must be one that the proved code builds.
-    is_strict: bool,
+/// The names of the fields of a node.
+#[derive(Clone, Copy, Deserialize)]
+#[serde(field_identifier, rename_all = "snake_case")]
+enum Field {
+    Key,
+    NodeState,
+    Left,
+    Right,
+    Height,
 }
 
-structure!(Space, "AddressAllocator" => proved::AddressAllocator, this {
-    address_space: Range,
-    interval_tree: Tree(&mut this.nodes)
-} this.nodes.allocator(address_space, interval_tree, this.is_strict).map_err(invalid));
+const FIELDS: &[&str] = &["key", "node_state", "left", "right", "height"];
 
-struct Ids;
+/// The fields of a node that were read so far.
+#[derive(Default)]
+struct Fields {
+    key: Option<RangeInclusive>,
+    state: Option<NodeState>,
+    left: Option<Option<Span>>,
+    right: Option<Option<Span>>,
+    height: Option<u64>,
+}
 
-structure!(Ids, "IdAllocator" => proved::IdAllocator, _this {
-    range_base: PhantomData::<u32>,
-    next_id: PhantomData::<Option<u32>>,
-    range_end: PhantomData::<u32>,
-    freed_ids: List(|id: u32| id, |id| *id)
-} id_allocator([range_base, range_end], next_id, &freed_ids).map_err(invalid));
+/// Reads a node. A derive could not pass the other nodes on to its children.
+struct InnerNode<'a>(&'a mut Nodes);
 
-struct Slot;
+impl InnerNode<'_> {
+    /// Ends the node. `missing` returns the error of a missing field.
+    fn end<E: Error>(self, fields: Fields, missing: impl Fn(Field) -> E) -> Result<Span, E> {
+        let node = Node {
+            key: fields.key.ok_or_else(|| missing(Field::Key))?,
+            state: fields
+                .state
+                .ok_or_else(|| missing(Field::NodeState))?
+                .proved(),
+            left: fields.left.ok_or_else(|| missing(Field::Left))?,
+            right: fields.right.ok_or_else(|| missing(Field::Right))?,
+            height: fields.height.ok_or_else(|| missing(Field::Height))?,
+        };
+        self.0.end(node).map_err(invalid)
+    }
+}
 
-structure!(Slot, "DeviceSlot" => DeviceSlot, _this {
-    id: PhantomData::<u32>,
-    mmio_range: PhantomData::<RangeInclusive>
-} Ok(DeviceSlot { id, range: mmio_range }));
+impl<'de> Visitor<'de> for InnerNode<'_> {
+    type Value = Span;
 
-struct Devices;
+    fn expecting(&self, f: &mut fmt::Formatter<'_>) -> fmt::Result {
+        f.write_str("struct InnerNode with 5 elements")
+    }
 
-structure!(Devices, "DeviceManager" => proved_devices::DeviceManager, _this {
-    version: PhantomData::<u64>,
-    id_allocator: Ids,
-    mmio_allocator: Space { is_strict: true, ..Space::default() },
-    slots: List(DeviceSlot::proved, |slot| slot.id)
-} device_manager(version, id_allocator, mmio_allocator, &slots).map_err(invalid));
+    fn visit_seq<A: SeqAccess<'de>>(self, mut from: A) -> Result<Span, A::Error> {
+        let fields = Fields {
+            key: from.next_element()?,
+            state: from.next_element()?,
+            left: from.next_element_seed(Subtree(self.0))?,
+            right: from.next_element_seed(Subtree(self.0))?,
+            height: from.next_element()?,
+        };
+        let expected = &"struct InnerNode with 5 elements";
+        self.end(fields, |field| {
+            A::Error::invalid_length(field as usize, expected)
+        })
+    }
+
+    fn visit_map<A: MapAccess<'de>>(self, mut from: A) -> Result<Span, A::Error> {
+        let mut fields = Fields::default();
+        while let Some(field) = from.next_key()? {
+            let is_duplicate = match field {
+                Field::Key => fields.key.replace(from.next_value()?).is_some(),
+                Field::NodeState => fields.state.replace(from.next_value()?).is_some(),
+                Field::Left => {
+                    let left = from.next_value_seed(Subtree(self.0))?;
+                    fields.left.replace(left).is_some()
+                }
+                Field::Right => {
+                    let right = from.next_value_seed(Subtree(self.0))?;
+                    fields.right.replace(right).is_some()
+                }
+                Field::Height => fields.height.replace(from.next_value()?).is_some(),
+            };
+            if is_duplicate {
+                return Err(A::Error::duplicate_field(FIELDS[field as usize]));
+            }
+        }
+        self.end(fields, |field| {
+            A::Error::missing_field(FIELDS[field as usize])
+        })
+    }
+}
+
+#[derive(Deserialize)]
+#[serde(rename = "IdAllocator", deny_unknown_fields)]
+struct Ids {
+    range_base: u32,
+    // Without a function, the field could be missing.
+    #[serde(deserialize_with = "Deserialize::deserialize")]
+    next_id: Option<u32>,
+    range_end: u32,
+    #[serde(deserialize_with = "freed_ids")]
+    freed_ids: Vec<u32>,
+}
+
+fn freed_ids<'de, D: Deserializer<'de>>(from: D) -> Result<Vec<u32>, D::Error> {
+    from.deserialize_seq(List(|id: u32| id, |id| *id))
+}
+
+impl<'de> Deserialize<'de> for IdAllocator {
+    fn deserialize<D: Deserializer<'de>>(from: D) -> Result<Self, D::Error> {
+        let ids = Ids::deserialize(from)?;
+        let range = [ids.range_base, ids.range_end];
+        id_allocator(range, ids.next_id, &ids.freed_ids).map_err(invalid)
+    }
+}
+
+#[derive(Deserialize)]
+#[serde(rename = "DeviceManager", deny_unknown_fields)]
+struct Devices {
+    version: u64,
+    id_allocator: IdAllocator,
+    mmio_allocator: Space,
+    #[serde(deserialize_with = "slots")]
+    slots: Vec<DeviceSlot>,
+}
+
+fn slots<'de, D: Deserializer<'de>>(from: D) -> Result<Vec<DeviceSlot>, D::Error> {
+    from.deserialize_seq(List(crate::DeviceSlot::proved, |slot| slot.id))
+}
+
+impl<'de> Deserialize<'de> for DeviceManager {
+    fn deserialize<D: Deserializer<'de>>(from: D) -> Result<Self, D::Error> {
+        let saved = Devices::deserialize(from)?;
+        let space = saved.mmio_allocator.allocator(true)?;
+        device_manager(saved.version, saved.id_allocator, space, &saved.slots).map_err(invalid)
+    }
+}
 
 /// Reads a list with ascending ids. The functions return what is kept of an item, and its id.
 struct List<T, K>(fn(T) -> K, fn(&K) -> u32);
-
-impl<'de, T: Deserialize<'de>, K> DeserializeSeed<'de> for List<T, K> {
-    type Value = Vec<K>;
-
-    fn deserialize<D: Deserializer<'de>>(self, from: D) -> Result<Vec<K>, D::Error> {
-        from.deserialize_seq(self)
-    }
-}
 
 impl<'de, T: Deserialize<'de>, K> Visitor<'de> for List<T, K> {
     type Value = Vec<K>;

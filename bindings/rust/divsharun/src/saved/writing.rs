@@ -1,13 +1,11 @@
 //! Writes objects with serde.
 
-use super::blocks::{Blocks, FreedIds, Key, Tree};
-use super::parts::{Fault, Node, VERSION};
-use super::{text_of, POLICIES, STATES};
-use crate::proved::vm_allocator as proved;
-use crate::{
-    AddressAllocator, AllocPolicy, DeviceManager, DeviceSlot, IdAllocator, NodeState,
-    RangeInclusive,
-};
+use super::blocks::{Blocks, Key, Tree};
+use super::parts::{Node, VERSION};
+use super::text_of;
+use crate::proved::vm_allocator::{AddressAllocator, IdAllocator, RangeInclusive};
+use crate::proved::vm_devices::DeviceManager;
+use crate::{DeviceSlot, NodeState};
 use serde::ser::{Error, SerializeSeq, SerializeStruct};
 use serde::{Serialize, Serializer};
 
@@ -31,21 +29,10 @@ macro_rules! write_fields {
 
 write_fields! {
     RangeInclusive as "RangeInclusive", this: start = this.start(), end = this.end();
-    DeviceSlot as "DeviceSlot", this: id = this.id, mmio_range = this.range;
-    Ids<'_> as "IdAllocator", this:
-        range_base = this.0.range_base(),
-        next_id = this.1.next,
-        range_end = this.0.range_end(),
-        freed_ids = this.1.freed;
-    DeviceManager as "DeviceManager", this:
-        version = VERSION,
-        id_allocator = Ids(this.0.ids(), freed_ids(this.0.ids())?),
-        mmio_allocator = Space(this.0.addresses()),
-        slots = Slots(this);
-    Space<'_> as "AddressAllocator", this:
-        address_space = Key { start: this.0.base(), end: this.0.end() },
-        interval_tree = Root(Blocks::of(this.0).map_err(invalid)?);
     Key as "RangeInclusive", this: start = this.start, end = this.end;
+    AddressAllocator as "AddressAllocator", this:
+        address_space = Key { start: this.base(), end: this.end() },
+        interval_tree = Root(Blocks::of(this).map_err(|fault| S::Error::custom(text_of(fault)))?);
     Root as "IntervalTree", this: root = this.0.tree();
     // A call for each node is faster than one for each link, of which there are twice as many.
     #[inline(never)]
@@ -55,7 +42,19 @@ write_fields! {
         left = this.left,
         right = this.right,
         height = this.height;
+    IdAllocator as "IdAllocator", this:
+        range_base = this.range_base(),
+        next_id = this.next_id(),
+        range_end = this.range_end(),
+        freed_ids = List(this.freed_ids().count(), || this.freed_ids());
+    DeviceManager as "DeviceManager", this:
+        version = VERSION,
+        id_allocator = this.ids(),
+        mmio_allocator = this.addresses(),
+        slots = List(this.device_count() as usize, || this.devices().map(DeviceSlot::of));
 }
+
+struct Root(Blocks);
 
 impl Serialize for Tree<'_> {
     #[inline]
@@ -64,62 +63,14 @@ impl Serialize for Tree<'_> {
     }
 }
 
-impl Serialize for NodeState {
+/// The number of the items of a list, and a function that returns them.
+struct List<F>(usize, F);
+
+impl<F: Fn() -> I, I: IntoIterator<Item: Serialize>> Serialize for List<F> {
     fn serialize<S: Serializer>(&self, to: S) -> Result<S::Ok, S::Error> {
-        let place = *self as usize;
-        to.serialize_unit_variant("NodeState", place as u32, STATES[place])
-    }
-}
-
-impl Serialize for AllocPolicy {
-    fn serialize<S: Serializer>(&self, to: S) -> Result<S::Ok, S::Error> {
-        let (kind, names) = ("AllocPolicy", POLICIES);
-        match self {
-            AllocPolicy::FirstMatch => to.serialize_unit_variant(kind, 0, names[0]),
-            AllocPolicy::LastMatch => to.serialize_unit_variant(kind, 1, names[1]),
-            AllocPolicy::ExactMatch(start) => {
-                to.serialize_newtype_variant(kind, 2, names[2], start)
-            }
-        }
-    }
-}
-
-impl Serialize for IdAllocator {
-    fn serialize<S: Serializer>(&self, to: S) -> Result<S::Ok, S::Error> {
-        Ids(&self.0, freed_ids(&self.0)?).serialize(to)
-    }
-}
-
-impl Serialize for AddressAllocator {
-    fn serialize<S: Serializer>(&self, to: S) -> Result<S::Ok, S::Error> {
-        Space(&self.0).serialize(to)
-    }
-}
-
-/// Returns the error of a format for a fault. Ends the process if an allocation failed.
-fn invalid<E: Error>(fault: Fault) -> E {
-    E::custom(text_of(fault))
-}
-
-fn freed_ids<E: Error>(ids: &proved::IdAllocator) -> Result<FreedIds, E> {
-    FreedIds::of(ids).map_err(invalid)
-}
-
-struct Ids<'a>(&'a proved::IdAllocator, FreedIds);
-
-struct Space<'a>(&'a proved::AddressAllocator);
-
-struct Root(Blocks);
-
-/// The list of the devices of a manager.
-struct Slots<'a>(&'a DeviceManager);
-
-impl Serialize for Slots<'_> {
-    fn serialize<S: Serializer>(&self, to: S) -> Result<S::Ok, S::Error> {
-        let count = self.0.device_count() as usize;
-        let mut list = to.serialize_seq(Some(count))?;
-        for slot in self.0 {
-            list.serialize_element(&slot)?;
+        let mut list = to.serialize_seq(Some(self.0))?;
+        for item in (self.1)() {
+            list.serialize_element(&item)?;
         }
         list.end()
     }

@@ -10,8 +10,10 @@ use crate::rattle::BTreeSet;
 use crate::proved::vm_ranges::{Error, Result};
 
 mod comparing;
+mod freed_ids;
 mod held_ids;
 
+pub use freed_ids::FreedIds;
 pub use held_ids::HeldIds;
 
 /// Allocates ids from a range, the lowest free id first.
@@ -75,6 +77,12 @@ impl IdAllocator {
     /// Returns the highest id of the range.
     pub const fn range_end(&self) -> u32 {
         self.range_end
+    }
+
+    /// Returns the lowest id that was never allocated, or `None` if it would be past `u32::MAX`.
+    pub const fn next_id(&self) -> Option<u32>
+    {
+        self.next_id
     }
 
     /// Returns a copy. It has the same range, the same allocated ids and the same ids that were

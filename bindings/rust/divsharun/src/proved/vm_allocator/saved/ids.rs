@@ -120,7 +120,7 @@ fn next_in(value: &Value, name: &str) -> Option<Option<u32>> {
 }
 
 /// Returns whether `next` can be the next id of the range from `base` to `end`.
-fn is_next(next: Option<u32>, base: u32, end: u32) -> bool {
+pub(super) fn is_next(next: Option<u32>, base: u32, end: u32) -> bool {
     match next {
         None => end == u32::MAX,
         Some(next) => base <= next && u64::from(next) <= u64::from(end) + 1,

@@ -29,28 +29,14 @@ impl Slots {
 
     /// Returns the range of the device with this id.
     pub(super) fn get(&self, id: u32) -> Option<RangeInclusive> {
-        if id < self.first_id {
-            return None;
-        }
-        let index = (id - self.first_id) as usize;
-        if index >= self.ranges.len() {
-            return None;
-        }
-        self.ranges[index]
+        let index = id.checked_sub(self.first_id)? as usize;
+        *self.ranges.get(index)?
     }
 
     /// Removes the device with this id, and returns its range.
     pub(super) fn remove(&mut self, id: u32) -> Option<RangeInclusive> {
-        if id < self.first_id {
-            return None;
-        }
-        let index = (id - self.first_id) as usize;
-        if index >= self.ranges.len() {
-            return None;
-        }
-        let removed = self.ranges[index];
-        self.ranges[index] = None;
-        removed
+        let index = id.checked_sub(self.first_id)? as usize;
+        self.ranges.get_mut(index)?.take()
     }
 
     /// Inserts a device, or changes its range. An error changes nothing.
@@ -116,7 +102,8 @@ fn extend_to(slots: &mut Vec<Option<RangeInclusive>>, index: usize) -> Result<()
 
 /// An iterator over the devices, by increasing ids. It does not allocate.
 ///
-/// Its model is the list of the devices that it has not returned yet.
+/// It visits each id between the lowest and the highest that had a device. Its model is the list of
+/// the devices that it has not returned yet.
 pub struct Devices<'a> {
     next_id: u64,
     slots: &'a [Option<RangeInclusive>],

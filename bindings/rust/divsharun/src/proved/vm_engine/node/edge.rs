@@ -12,7 +12,7 @@ use super::summary::{Summary, summary_of};
 use crate::proved::vm_engine::Steps;
 use crate::proved::vm_ranges::NodeState;
 
-/// What a search notes along the edge of a tree.
+/// The notes of a search along the edge of a tree.
 #[derive(Clone, Copy, Debug)]
 pub(in crate::proved::vm_engine) struct Edge {
     /// No passed child has more alignments.

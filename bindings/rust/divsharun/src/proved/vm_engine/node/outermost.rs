@@ -5,7 +5,7 @@
 //! Every other block is shorter than the request. If it has no more alignments than what is left of the
 //! gap, each subtree on the path keeps just what is left. A node whose children differ in height keeps
 //! its height when a leaf is added below it. So all summaries above the last such node of the path are
-//! written on the way down.
+//! written before the leaf is linked.
 
 use super::edge::Edge;
 use super::split::{Split, split_at};

@@ -11,7 +11,7 @@ use crate::rattle::BTreeMap;
 use crate::proved::vm_allocator::{AddressAllocator, IdAllocator, RangeInclusive, ValueError};
 
 impl DeviceManager {
-    /// Creates a manager of these ids, this space and these devices, which are by increasing ids.
+    /// Creates a manager of these ids, this space and these devices, in the order of their ids.
     ///
     /// The parts can be untrusted input. They are checked one after the other, so `OutOfMemory` is
     /// possible for all parts.
