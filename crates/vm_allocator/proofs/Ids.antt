@@ -4,6 +4,7 @@ pub mod AllocatedIds
 pub mod IdCounts
 pub mod RisingIds
 pub mod HeldIds
+pub mod FreedLists
 pub mod ComparedIds
 pub mod FreedIds
 pub mod IdAnswers

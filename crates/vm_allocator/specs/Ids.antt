@@ -1,6 +1,6 @@
 -- The state of an id allocator, and the result of each of its calls. An id is *held* if it is allocated and was not
 -- freed since.
-use Rattle.std.specs.Prelude.{◌≡◌, ℕ, ◌+◌, ◌-◌, ◌<◌, ◌≤◌, ◌⊎◌, max, List, Option, Some, None, unwrap_or, IsTrue, Result, Ok, Err, refl}
+use Rattle.std.specs.Prelude.{◌≡◌, ℕ, ◌+◌, ◌-◌, ◌<◌, ◌≤◌, ◌⊎◌, not, nat_le, if◌then◌else◌, max, List, Option, Some, None, unwrap_or, IsTrue, Result, Ok, Err, refl}
 use Rattle.std.specs.List.{filter, range_with_len}
 use Rattle.std.specs.Ordering.{nat_cmp}
 use Rattle.std.specs.Coded.{Coded, code_by, coded×, coded_ℕ}
@@ -49,6 +49,14 @@ held_count state = set.len state.held
 -- The held ids, in increasing order.
 abbrev pub held_ids : IdState → List ℕ
 held_ids state = filter (λ i. set.contains state.held i) (range_with_len state.lo (state.bound - state.lo))
+
+-- The ids that were allocated at some time and are not held, in increasing order.
+abbrev pub freed_ids : IdState → List ℕ
+freed_ids state = filter (λ i. not (set.contains state.held i)) (range_with_len state.lo (state.bound - state.lo))
+
+-- The lowest id that was never allocated, or None if it would be past MAX_ID.
+abbrev pub next_id_of : IdState → Option ℕ
+next_id_of state = if nat_le state.bound MAX_ID then Some state.bound else None
 
 -- The id i is in the range and not held.
 abbrev pub IsNotHeld : IdState → ℕ → Type 0

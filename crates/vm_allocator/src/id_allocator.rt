@@ -19,6 +19,7 @@ ghost use Rattle.vm_allocator.specs.Ids.{
   holding_id,
   releasing_id,
   held_count,
+  next_id_of,
   bound_of,
 };
 
@@ -28,8 +29,10 @@ use std::marker::Model;
 use vm_ranges::{Error, Result};
 
 mod comparing;
+mod freed_ids;
 mod held_ids;
 
+pub use freed_ids::FreedIds;
 pub use held_ids::HeldIds;
 
 /// Allocates ids from a range, the lowest free id first.
@@ -119,6 +122,14 @@ impl IdAllocator {
         ensures { result ≡ self.now.hi }
     {
         self.range_end
+    }
+
+    /// Returns the lowest id that was never allocated, or `None` if it would be past `u32::MAX`.
+    #[tactic(auto, using(crate::proofs::Ids::IdFields::nexts))]
+    pub const fn next_id(&self) -> Option<u32>
+        ensures { result ≡ next_id_of self.now }
+    {
+        self.next_id
     }
 
     /// Returns a copy. It has the same range, the same allocated ids and the same ids that were

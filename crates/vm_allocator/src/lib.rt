@@ -11,7 +11,7 @@ mod laws;
 mod saved;
 
 pub use address_allocator::AddressAllocator;
-pub use id_allocator::{HeldIds, IdAllocator};
+pub use id_allocator::{FreedIds, HeldIds, IdAllocator};
 pub use vm_engine::{Gaps, HeldRanges};
 pub use vm_ranges::{
     AllocPolicy, Constraint, DEFAULT_CONSTRAINT_ALIGN, Error, RangeInclusive, Result, ValueError,

@@ -74,12 +74,14 @@ visits p (suc n) a bound (f ∷ fs) r h =
     rw (held, ne_eqb f a d) (ap (λ (is : List ℕ). a ∷ is) rest))
     (cases_eq f a)
 
+-- An id that was allocated at some time is held if and only if it was not freed since.
+pub held_not_freed : (lo bound i : ℕ) (freed : BTreeSet ℕ) → lo ≤ i → i < bound → set.contains (held_of lo bound freed) i ≡ not (contains nat_cmp freed i)
+held_not_freed lo bound i freed l h =
+    same_test _ _ (λ t. ap not (from_held lo bound i freed t).2) (λ t. held_from lo bound i freed l h (not-true _ t))
+
 visits_held : (lo bound : ℕ) (freed : BTreeSet ℕ) → lo ≤ bound → IncreaseWithin lo bound freed.keys → ids_left (bound - lo) lo freed.keys ≡ filter (λ i. set.contains (held_of lo bound freed) i) (range_with_len lo (bound - lo))
 visits_held lo bound freed l r =
-    visits (λ i. set.contains (held_of lo bound freed) i) (bound - lo) lo bound freed.keys r (λ q a b.
-    same_test _ _
-    (λ t. ap not (from_held lo bound q freed t).2)
-    (λ t. held_from lo bound q freed a (omega arith) (not-true _ t)))
+    visits (λ i. set.contains (held_of lo bound freed) i) (bound - lo) lo bound freed.keys r (λ q a b. held_not_freed lo bound q freed a (omega arith))
 
 -- The walk from the lowest id visits the held ids.
 pub walk_lists : (state : IdState) (lo hi : ℕ) (next : Option ℕ) (freed : BTreeSet ℕ) → ids_of lo hi next freed ≡ state → AreIds lo hi next freed → IsOrdered nat_cmp freed →
@@ -97,6 +99,11 @@ row_rises : (n a bound : ℕ) → a + n ≡ bound → IncreaseWithin a bound (ra
 row_rises zero a bound e = tt
 row_rises (suc n) a bound e = (omega arith, omega arith, row_rises n (a + 1) bound (omega arith))
 
+-- The numbers of a range that pass a test are in increasing order.
+pub passed_rise : (p : ℕ → Bool) (a n : ℕ) → IsStrictlySortedBy nat_cmp (filter p (range_with_len a n))
+passed_rise p a n =
+    IsStrictlySortedBy-filter nat_cmp p (range_with_len a n) (sorted a (a + n) (range_with_len a n) (row_rises n a (a + n) refl))
+
 -- The list has exactly the held ids.
 pub in_held_ids : (state : IdState) → IsIdState state → (q : ℕ) → list_any (same q) (held_ids state) ≡ set.contains state.held q
 in_held_ids state s q =
@@ -109,9 +116,7 @@ in_held_ids state s q =
     (λ t. let w = s.held q t in and_from _ _ t (in_row state.lo (state.bound - state.lo) q w.0 (omega (arith, w.0, w.1))))
 
 held_ids_rise : (state : IdState) → IsStrictlySortedBy nat_cmp (held_ids state)
-held_ids_rise state =
-    let n = state.bound - state.lo in
-    IsStrictlySortedBy-filter nat_cmp (λ i. set.contains state.held i) (range_with_len state.lo n) (sorted state.lo (state.lo + n) (range_with_len state.lo n) (row_rises n state.lo (state.lo + n) refl))
+held_ids_rise state = passed_rise (λ i. set.contains state.held i) state.lo (state.bound - state.lo)
 
 held_id_listed : (state : IdState) (id : ℕ) → IsIdState state → Contains (held_ids state) id ↔ IsHeld state id
 held_id_listed state id s = (

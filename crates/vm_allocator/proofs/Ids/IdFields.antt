@@ -1,13 +1,13 @@
 -- The fields of an id allocator and its state.
-use Rattle.std.proofs.Common.{◌≡◌, ℕ, ◌<◌, ◌≤◌, List, false, refl, sym, ap, arith, inl, inr, Option, Some, Ok, Err, IsTrue, subst}
-use Rattle.std.proofs.lemmas.Bool.{both_ways}
+use Rattle.std.proofs.Common.{◌≡◌, ℕ, ◌+◌, ◌<◌, ◌≤◌, List, false, refl, sym, ap, ◌∙◌, arith, inl, inr, Option, Some, None, Ok, Err, IsTrue, subst}
+use Rattle.std.proofs.lemmas.Bool.{both_ways, le-leb, lt-leb}
 use Rattle.std.specs.Ordering.{nat_cmp}
 use Rattle.std.specs.BTreeSet.{BTreeSet, contains, IsEmpty}
 use Rattle.std.specs.FinSet as set
 use Rattle.std.specs.List.{AllZip}
 use Rattle.std.proofs.lemmas.List.Elements.{same_from_all_zip}
 use Rattle.vm_ranges.proofs.NumberSets.{same_members}
-use Rattle.vm_allocator.specs.Ids.{IdState, WasEverAllocated, IsHeld, new_ids, MakesIds, bound_of, held_of, ids_of, AreIds, IsIdState}
+use Rattle.vm_allocator.specs.Ids.{MAX_ID, IdState, WasEverAllocated, IsHeld, next_id_of, new_ids, MakesIds, bound_of, held_of, ids_of, IsNext, AreIds, IsIdState}
 use Rattle.vm_ranges.specs.declared.error.Error.TheVariants.{InvalidRange}
 use Rattle.vm_allocator.proofs.Ids.IdSets.{from_held, from_holds, holds_of, bound_fits, bound_above}
 
@@ -44,6 +44,16 @@ pub is_state : (state : IdState) (lo hi : ℕ) (next : Option ℕ) (freed : BTre
 is_state state lo hi next freed e h = subst IsIdState e (is_state_of lo hi next freed h)
 
 pub ruleset states = (is_state)
+
+next_of : (lo hi : ℕ) (next : Option ℕ) (freed : BTreeSet ℕ) → IsNext lo hi next → next ≡ next_id_of (ids_of lo hi next freed)
+unfolding ids_of
+next_of lo hi None freed n = rw (lt-leb (hi + 1) MAX_ID (omega arith)) refl
+next_of lo hi (Some i) freed n = rw (le-leb i MAX_ID n.2) refl
+
+pub next_is : (state : IdState) (lo hi : ℕ) (next : Option ℕ) (freed : BTreeSet ℕ) → ids_of lo hi next freed ≡ state → AreIds lo hi next freed → next ≡ next_id_of state
+next_is state lo hi next freed e h = next_of lo hi next freed h.next_id ∙ ap (λ (s : IdState). next_id_of s) e
+
+pub ruleset nexts = (next_is)
 
 pub holds : (state : IdState) (lo hi i : ℕ) (next : Option ℕ) (freed : BTreeSet ℕ) → ids_of lo hi next freed ≡ state → WasEverAllocated state i → contains nat_cmp freed i ≡ false → IsHeld state i
 holds state lo hi i next freed e =

@@ -16,7 +16,7 @@ in_row a zero i l h = absurd (omega arith)
 in_row a (suc n) i l h =
     ⊎_elim (λ (e : i ≡ a). or_left _ _ (ap (λ (x : ℕ). eq_by_cmp nat_cmp i x) (sym e) ∙ tied_here i)) (λ (ne : i ≡ a → ⊥). or_right _ _ (in_row (a + 1) n i (omega arith) (omega arith))) (cases_eq i a)
 
-from_row : (a n i : ℕ) → list_any (eq_by_cmp nat_cmp i) (range_with_len a n) ≡ true → (a ≤ i) × (i < a + n)
+pub from_row : (a n i : ℕ) → list_any (eq_by_cmp nat_cmp i) (range_with_len a n) ≡ true → (a ≤ i) × (i < a + n)
 from_row a zero i h = absurd (both_ways false refl h)
 from_row a (suc n) i h =
     ⊎_elim (λ (t : eq_by_cmp nat_cmp i a ≡ true). let e = tied_is i a t in (omega (arith, e), omega (arith, e))) (λ (m : list_any (eq_by_cmp nat_cmp i) (range_with_len (a + 1) n) ≡ true). let r = from_row (a + 1) n i m in (omega (arith, r.0), omega (arith, r.1))) (or_cases _ _ h)

@@ -1,4 +1,4 @@
-//! Tests of the list of the allocated ids, and of equality.
+//! Tests of the lists of the allocated and the freed ids, of the next id, and of equality.
 use super::*;
 
 /// Returns whether exactly these ids are allocated.
@@ -62,6 +62,19 @@ fn reached(rt: &(impl Abort + AllocGlobal), calls: &[Call]) -> IdAllocator {
     let mut ids = made(rt, 5, 9);
     replay(rt, &mut ids, calls);
     ids
+}
+
+#[test]
+fn freed_and_next(rt: HostRuntime) {
+    let ids = reached(&rt, &[TakeAll(5, 7), Free(6, Id(6)), Free(5, Id(5))]);
+    let mut freed = ids.freed_ids();
+    let listed = (freed.next(), freed.next(), freed.next());
+    expect_eq(&rt, &listed, &(Some(5), Some(6), None), &"the freed ids");
+    expect_eq(&rt, &ids.next_id(), &Some(8), &"the next id");
+    let mut highest = made(&rt, HIGH, HIGH);
+    replay(&rt, &mut highest, &[Allocate(Id(HIGH))]);
+    expect_eq(&rt, &highest.next_id(), &None, &"no next id");
+    expect_true(&rt, highest.freed_ids().next().is_none(), &"none freed");
 }
 
 #[test]
