@@ -15,3 +15,4 @@ pub mod IncreasingNumbers
 pub mod IncreasingBounds
 pub mod ReadIds
 pub mod ReadIdStates
+pub mod FreedParts

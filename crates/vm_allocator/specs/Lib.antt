@@ -1,6 +1,7 @@
 pub mod Allocator
 pub mod Ids
 pub mod IdOrder
+pub mod FreedLists
 pub mod Several
 pub mod Histories
 pub mod Laws

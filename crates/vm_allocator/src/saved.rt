@@ -1,3 +1,4 @@
 //! Saved values of both allocators, and of the address allocators that the Rust crate saved.
 mod allocator;
 mod ids;
+mod listed_ids;

@@ -1,11 +1,11 @@
 //! The saved value of an id allocator.
-ghost use Rattle.std.specs.Prelude.{◌≡◌, ◌≤◌, ◌<◌, ◌+◌, ◌^◌, IfOk, IsSome, Some, is_some, option_map, option_and_then};
+ghost use Rattle.std.specs.Prelude.{◌≡◌, ◌≤◌, ◌<◌, ◌+◌, ◌^◌, ◌↔◌, IfOk, IsSome, IsTrue, Some, is_some, option_map, option_and_then};
 ghost use Rattle.std.specs.List.Sorted.{IsStrictlySortedBy};
 ghost use Rattle.std.specs.Ordering.{nat_cmp};
 ghost use Rattle.serde_json.specs.View.{view, items_view};
 ghost use Rattle.serde_json.specs.Find.{get};
 ghost use Rattle.vm_ranges.specs.Numbers.{u32_from, u32_in};
-ghost use Rattle.vm_allocator.specs.Ids.{IsIdState, bound_of};
+ghost use Rattle.vm_allocator.specs.Ids.{IsIdState, IsNext, bound_of};
 ghost use Rattle.vm_allocator.specs.Values.IdValues.{EncodesNext, EncodesList, EncodesIds};
 ghost use Rattle.vm_allocator.specs.Checks.IdChecks.{increasing, decoded_next, is_next, decoded_ids, IdParts};
 ghost use Rattle.vm_ranges.specs.Saving.{Saves, Reads};
@@ -148,8 +148,9 @@ fn next_in(value: &Value, name: &str) -> Option<Option<u32>>
 }
 
 /// Returns whether `next` can be the next id of the range from `base` to `end`.
-fn is_next(next: Option<u32>, base: u32, end: u32) -> bool
-    ensures { result ≡ is_next next base end }
+pub(super) fn is_next(next: Option<u32>, base: u32, end: u32) -> bool
+    ensures value { result ≡ is_next next base end }
+    ensures valid { IsTrue result ↔ IsNext base end next }
 {
     match next {
         None => end == u32::MAX,
