@@ -125,6 +125,8 @@ impl IdAllocator {
     }
 
     /// Returns the lowest id that was never allocated, or `None` if it would be past `u32::MAX`.
+    ///
+    /// It is right after the range if all ids of the range were allocated at some time.
     #[tactic(auto, using(crate::proofs::Ids::IdFields::nexts))]
     pub const fn next_id(&self) -> Option<u32>
         ensures { result ≡ next_id_of self.now }

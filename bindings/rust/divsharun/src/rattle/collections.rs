@@ -25,7 +25,7 @@ const fn max_entries<E>() -> usize {
 
 /// An ordered map.
 pub struct BTreeMap<K, V> {
-    // If there are several chunks, none of them is empty, and each has capacity for `MAX_ENTRIES`.
+    // Each has capacity for `MAX_ENTRIES`. If there are several chunks, none of them is empty.
     chunks: Vec<Vec<(K, V)>>,
     // A bound for each chunk but the first: no key of the chunk is greater, and all keys of the chunk
     // before it are greater.
@@ -64,11 +64,7 @@ impl<K: Ord + Copy, V> BTreeMap<K, V> {
         reserve(&mut copy.bounds, self.bounds.len())?;
         for chunk in &self.chunks {
             let mut entries = Vec::new();
-            let capacity = match self.chunks.len() {
-                1 => chunk.len(),
-                _ => Self::MAX_ENTRIES,
-            };
-            reserve(&mut entries, capacity)?;
+            reserve(&mut entries, Self::MAX_ENTRIES)?;
             entries.extend_from_slice(chunk);
             copy.chunks.push(entries);
         }
@@ -118,15 +114,14 @@ impl<K: Ord + Copy, V> BTreeMap<K, V> {
     /// Makes room for a new key at a place, and returns the place that it has then. An error changes no
     /// entry.
     fn make_room(&mut self, place: Place, key: K) -> Result<Place, AllocError> {
-        let Some(chunk) = self.chunks.get_mut(place.chunk) else {
+        let Some(chunk) = self.chunks.get(place.chunk) else {
             let mut chunk = Vec::new();
-            reserve(&mut chunk, 1)?;
+            reserve(&mut chunk, Self::MAX_ENTRIES)?;
             try_reserve(&mut self.chunks)?;
             self.chunks.push(chunk);
             return Ok(place);
         };
         if chunk.len() < Self::MAX_ENTRIES {
-            try_reserve(chunk)?;
             return Ok(place);
         }
         self.split(place, key)
@@ -135,6 +130,7 @@ impl<K: Ord + Copy, V> BTreeMap<K, V> {
     /// Moves a part of a full chunk to a new chunk after it, and returns the place of the new key.
     ///
     /// Half of the chunk is moved. If keys come in order, all of it or nothing is moved.
+    #[cold]
     fn split(&mut self, place: Place, key: K) -> Result<Place, AllocError> {
         let mut lower = Vec::new();
         reserve(&mut lower, Self::MAX_ENTRIES)?;

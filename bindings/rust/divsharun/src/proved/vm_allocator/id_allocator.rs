@@ -80,8 +80,9 @@ impl IdAllocator {
     }
 
     /// Returns the lowest id that was never allocated, or `None` if it would be past `u32::MAX`.
-    pub const fn next_id(&self) -> Option<u32>
-    {
+    ///
+    /// It is right after the range if all ids of the range were allocated at some time.
+    pub const fn next_id(&self) -> Option<u32> {
         self.next_id
     }
 
