@@ -1,6 +1,6 @@
 //! An ordered set and an ordered map that report a failed allocation. Those of Rust end the process.
 //!
-//! The entries are in chunks of at most 1 KiB, and the chunks in a list. A look-up finds the chunk in
+//! The entries are in chunks of 1 KiB, and the chunks in a list. A look-up finds the chunk in
 //! a list of bounds, and then the entry in the chunk, so it takes logarithmic time. A change also moves
 //! at most 1 KiB, and a few changes in a hundred create or remove a chunk.
 //!
