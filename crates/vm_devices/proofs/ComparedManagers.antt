@@ -1,6 +1,5 @@
 -- Equality of managers is equality of their states.
-use Rattle.std.proofs.Common.{◌≡◌, ◌↔◌, ℕ, Bool, false, ◌&&◌, eqb, List, [], ◌∷◌, map as map_list, refl, sym, ap, ◌∙◌, subst, IsTrue}
-use Rattle.std.proofs.lemmas.Bool.{both_ways, and_parts, and_from, eq-eqb, eqb-true}
+use Rattle.std.proofs.Common.{◌≡◌, ◌↔◌, ℕ, Bool, map as map_list, sym, ap, ◌∙◌, IsTrue}
 use Rattle.std.proofs.lemmas.Bool.Decides.{same_from_decides}
 use Rattle.std.proofs.lemmas.Cmp.{tied_itself}
 use Rattle.std.specs.declared.cmp.Ordering.TheVariants.{Equal}
@@ -8,10 +7,8 @@ use Rattle.std.specs.Ordering.{nat_cmp, eq_by_cmp, is_eq}
 use Rattle.std.specs.Cmp.{Equal-is}
 use Rattle.std.specs.FinMap.{slice_cmp-IsAntisymmetric, nat_cmp-IsAntisymmetric}
 use Rattle.std.specs.FinMap as map
-use Rattle.vm_ranges.proofs.RangeCalls.{same_range as one_range}
 use Rattle.vm_ranges.proofs.RangeOrders.{both_equal, range_cmp-exact}
 use Rattle.vm_ranges.specs.Range.{Range}
-use Rattle.vm_ranges.specs.RangeOrder.{same_range}
 use Rattle.vm_engine.proofs.Comparing.StateOrders.{one_state, equal_states, state_cmp-Equal}
 use Rattle.vm_allocator.proofs.Callers.{id_state_cmp-Equal}
 use Rattle.vm_devices.specs.Devices.{DeviceState, IsDeviceState}

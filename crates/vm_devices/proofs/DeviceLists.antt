@@ -1,5 +1,5 @@
 -- The list of the devices.
-use Rattle.std.proofs.Common.{◌≡◌, ℕ, List, [], ◌∷◌, length, map as map_list, refl, sym, ap, ◌∙◌}
+use Rattle.std.proofs.Common.{◌≡◌, ℕ, List, [], ◌∷◌, map as map_list, refl, sym, ap, ◌∙◌}
 use Rattle.std.specs.FinMap as map
 use Rattle.vm_allocator.proofs.Callers.{keys_rise}
 use Rattle.vm_allocator.specs.Ids.{held_count}

@@ -4,13 +4,12 @@ use Rattle.std.proofs.lemmas.Bool.{cases_eq}
 use Rattle.std.proofs.lemmas.Option.{same_Some}
 use Rattle.std.specs.Ordering.{nat_cmp}
 use Rattle.std.specs.Cmp.{nat_cmp_total}
-use Rattle.std.specs.Map.{lookup}
-use Rattle.std.specs.BTreeMap.{BTreeMap, is_at, IsEmpty, IsUnchanged, Updates}
+use Rattle.std.specs.BTreeMap.{BTreeMap, IsEmpty, IsUnchanged, Updates}
 use Rattle.std.specs.FinMap as map
 use Rattle.vm_ranges.specs.Range.{Range}
 use Rattle.vm_allocator.proofs.Callers.{keys_rise, entries_of_sorted}
 use Rattle.vm_devices.specs.Checks.{StartsAt, AreIdsByStart, IsNew, HaveDifferentStarts}
-use Rattle.vm_devices.proofs.Tables.{table, seen, table_with, table_without, no_entries, with_here, with_other, without_here, without_other}
+use Rattle.vm_devices.proofs.Tables.{table, table_with, table_without, no_entries, with_here, with_other, without_here, without_other}
 use Rattle.vm_devices.proofs.Entries.{IsEntry, Rise, found_entry, entry_found, head_below, rest_increases, not_tied}
 
 one_value : {X : Type 0} {x y : X} {o : Option X} → o ≡ Some x → o ≡ Some y → x ≡ y

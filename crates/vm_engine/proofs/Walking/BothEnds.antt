@@ -1,13 +1,13 @@
 -- An iteration over the blocks of a tree from both ends.
-use Rattle.std.proofs.Common.{◌≡◌, ℕ, ◌+◌, ◌≤◌, ◌<◌, ltb, cond, true, false, List, [], ◌∷◌, ◌++◌, length, set, drop, refl, sym, ap, ◌∙◌, subst, arith, append_assoc, length-drop, ⊎_elim, Option, Some, None}
+use Rattle.std.proofs.Common.{◌≡◌, ℕ, ◌+◌, ◌≤◌, ◌<◌, List, [], ◌∷◌, ◌++◌, length, set, drop, refl, sym, ap, ◌∙◌, subst, arith, append_assoc, ⊎_elim, Option, Some, None}
 use Rattle.std.proofs.lemmas.Bool.{cases_lt, lt-ltb, le-ltb}
 use Rattle.std.proofs.lemmas.List.{drop-set, append-nil}
 use Rattle.vm_engine.specs.Engine.NodeFields.{side}
-use Rattle.vm_engine.specs.Engine.Walks.{Stop, Fits}
+use Rattle.vm_engine.specs.Engine.Walks.{Stop}
 use Rattle.vm_engine.specs.Engine.BothEnds.{remaining_from_above, first_of, blocks_below, blocks_left, AreBothEnds}
 use Rattle.vm_engine.specs.Tree.Block.{Block}
 use Rattle.vm_engine.specs.Tree.Blocks.{Tiles, TilesSpace}
-use Rattle.vm_engine.specs.Tree.Shape.{Shape, Fork, MAX_HEIGHT, blocks, height_of}
+use Rattle.vm_engine.specs.Tree.Shape.{Shape, Fork, blocks}
 use Rattle.vm_engine.specs.Tree.SpaceTree.{space_of, IsSpaceTree}
 use Rattle.vm_ranges.specs.declared.state.NodeState.{NodeState}
 use Rattle.vm_ranges.specs.declared.state.NodeState.TheVariants.{Allocated}

@@ -1,5 +1,4 @@
-use Rattle.std.proofs.Common.{sym, ap, ◌∙◌, refl}
-use Rattle.std.specs.FinMap as map
+use Rattle.std.proofs.Common.{sym, ◌∙◌, refl}
 use Rattle.vm_devices.proofs.StartTables.{kept_match, left_match}
 use Rattle.vm_devices.proofs.Slots.{none_removed}
 use Rattle.vm_devices.proofs.device_manager.device_table.DeviceTable.remove.Goals as goal
