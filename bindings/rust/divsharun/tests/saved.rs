@@ -60,11 +60,16 @@ fn space_over(root: &str) -> String {
     format!(r#"{{"address_space":{{"start":16,"end":19}},"interval_tree":{{"root":{root}}}}}"#)
 }
 
-/// Returns a node in JSON.
-fn node(key: (u64, u64), state: &str, right: &str) -> String {
+/// Returns a node with its children in JSON.
+fn fork(left: &str, key: (u64, u64), state: &str, right: &str, height: u64) -> String {
     let (start, end) = key;
     let head = format!(r#""key":{{"start":{start},"end":{end}}},"node_state":"{state}""#);
-    format!(r#"{{{head},"left":null,"right":{right},"height":1}}"#)
+    format!(r#"{{{head},"left":{left},"right":{right},"height":{height}}}"#)
+}
+
+/// Returns a node without a left child in JSON.
+fn node(key: (u64, u64), state: &str, right: &str) -> String {
+    fork("null", key, state, right, 1)
 }
 
 #[test]
@@ -301,6 +306,51 @@ fn managers_are_saved_with_their_devices() {
     }
 }
 
+/// Returns whether a manager is read whose space of `[16, 19]` has this root. Its device has the
+/// range `[17, 17]`.
+fn is_read_with(root: &str) -> bool {
+    let ids = r#"{"range_base":0,"next_id":1,"range_end":1,"freed_ids":[]}"#;
+    let slots = r#"[{"id":0,"mmio_range":{"start":17,"end":17}}]"#;
+    let space = space_over(root);
+    is_read::<DeviceManager>(&format!(
+        r#"{{"version":1,"id_allocator":{ids},"mmio_allocator":{space},"slots":{slots}}}"#
+    ))
+}
+
+#[test]
+fn trees_of_managers_have_the_shape_of_the_proved_code() {
+    let low = node((16, 16), "Free", "null");
+    let high = node((18, 19), "Free", "null");
+    assert!(is_read_with(&fork(&low, (17, 17), "Allocated", &high, 2)));
+    // A wrong height.
+    for height in [0, 1, 3, u64::MAX] {
+        let root = fork(&low, (17, 17), "Allocated", &high, height);
+        assert!(!is_read_with(&root), "{height}");
+    }
+    // A gap.
+    assert!(!is_read_with(&fork(&low, (17, 17), "Allocated", "null", 2)));
+    assert!(!is_read_with(&fork(
+        "null",
+        (17, 17),
+        "Allocated",
+        &high,
+        2
+    )));
+    // The children differ in height by 2.
+    let upper = fork("null", (17, 17), "Allocated", &high, 2);
+    assert!(!is_read_with(&fork("null", (16, 16), "Free", &upper, 3)));
+    let lower = fork(&low, (17, 17), "Allocated", "null", 2);
+    assert!(!is_read_with(&fork(&lower, (18, 19), "Free", "null", 3)));
+    // Free neighbours.
+    let [next, last] = [(18, 18), (19, 19)].map(|key| node(key, "Free", "null"));
+    for two in [
+        fork(&next, (19, 19), "Free", "null", 2),
+        fork("null", (18, 18), "Free", &last, 2),
+    ] {
+        assert!(!is_read_with(&fork(&low, (17, 17), "Allocated", &two, 3)));
+    }
+}
+
 #[test]
 fn states_after_upstream_faults_are_repaired() {
     let fresh = AddressAllocator::new(16, 4).unwrap();
@@ -365,6 +415,11 @@ fn other_fields_are_refused() {
     for (old, new) in changes {
         assert!(!is_read::<IdAllocator>(&IDS.replace(old, new)), "{new}");
     }
+    let no_next = r#"{"range_base":0,"range_end":4294967295,"freed_ids":[]}"#;
+    assert!(!is_read::<IdAllocator>(no_next));
+    assert!(!is_read::<AddressAllocator>(
+        r#"{"address_space":{"start":16,"end":19},"interval_tree":{}}"#
+    ));
     assert!(!is_read::<RangeInclusive>(
         r#"{"start":0,"end":18446744073709551615}"#
     ));
