@@ -584,9 +584,9 @@ fn costs<T: DeserializeOwned>(bytes: &[u8], is_accepted: bool, most: f64) {
 
 #[test]
 fn hostile_bytes_cost_memory_of_their_length() {
-    // A gap without a node in the saved tree gets one. A node has 30 bytes, and then 72.
+    // A gap without a node in the saved tree gets one. A node has 30 bytes, and then 56.
     let mut bytes = sparse(1 << 16, 2);
-    costs::<AddressAllocator>(&bytes, true, 5.5);
+    costs::<AddressAllocator>(&bytes, true, 5.0);
     bytes.pop();
     costs::<AddressAllocator>(&bytes, false, 0.6);
 
@@ -611,5 +611,5 @@ fn hostile_bytes_cost_memory_of_their_length() {
     }
     costs::<DeviceManager>(&bytes, true, 5.0);
     bytes.pop();
-    costs::<DeviceManager>(&bytes, false, 2.5);
+    costs::<DeviceManager>(&bytes, false, 1.0);
 }
