@@ -1,13 +1,14 @@
 -- Facts for callers about allocated ranges and ids, and about allocators that were saved.
-use Rattle.std.proofs.Common.{◌≡◌, ℕ, ◌+◌, ◌-◌, ◌%◌, List, [], ◌∷◌, ◌<◌, ◌≤◌, ◌⊎◌, arith, refl, sym, ap, ◌∙◌, inl, inr, ⊎_elim, subst, Result, Ok, Err, IfOk, IfErr, OnOk}
+use Rattle.std.proofs.Common.{◌≡◌, ℕ, ◌+◌, ◌-◌, ◌%◌, List, [], ◌∷◌, ◌<◌, ◌≤◌, ◌⊎◌, arith, refl, sym, ap, ◌∙◌, inl, inr, ⊎_elim, subst, Option, Some, None, Result, Ok, Err, IfSome, IfOk, IfErr, OnOk}
 use Rattle.std.specs.List.{Contains}
 use Rattle.serde_json.specs.Data.{Data}
 use Rattle.vm_ranges.proofs.NumberSets.{inserted_here}
-use Rattle.vm_ranges.specs.Range.{Range, IsIn, Overlaps, address_count, span}
+use Rattle.vm_ranges.specs.Range.{Range, IsIn, Overlaps, Covers, address_count, span}
 use Rattle.vm_engine.specs.Address.{AddressState, AreClear, IsPlace, IsAddressState, holding, releasing, without_range}
 use Rattle.vm_ranges.specs.Alignment.{IsAlignment}
-use Rattle.vm_ranges.specs.Request.{Request, request_for, IsRequest, IsStartAligned}
-use Rattle.vm_engine.specs.Answer.{IsChosen, IsSplitRefusal, AllocatesAt, Allocates, Frees}
+use Rattle.vm_ranges.specs.Request.{Request, request_for, IsRequest, IsStartAligned, ByConstraint}
+use Rattle.vm_engine.specs.Windows.{within}
+use Rattle.vm_engine.specs.Answer.{IsChosen, IsSplitRefusal, AllocatesAt, Grants, Allocates, Frees}
 use Rattle.vm_allocator.specs.Ids.{IdState, IsIdState, IsHeld, IsLowestNotHeld, holding_id, releasing_id, ByLowestNotHeld, AllocatesId, FreesId}
 use Rattle.vm_allocator.specs.Allocator.{SpaceInTree, state_of}
 use Rattle.vm_allocator.specs.Values.AllocatorValues.{EncodesAllocator, EncodesAddresses}
@@ -20,7 +21,8 @@ use Rattle.vm_engine.proofs.Blocks.PlainWords.{IsHeldAddress, IsHeld as IsHeldRa
 use Rattle.vm_engine.proofs.Blocks.HeldSets.{held_lies, one_held}
 use Rattle.vm_engine.proofs.Blocks.HeldChanges.{held_now, held_without, not_held_without}
 use Rattle.vm_engine.proofs.Answers.AddressAnswers.{releases_held}
-use Rattle.vm_engine.proofs.Answers.Once.{chosen_place}
+use Rattle.vm_engine.proofs.Answers.Once.{chosen_place, place_in_window}
+use Rattle.vm_engine.proofs.Choosing.WindowPlaces.{lies_in}
 use Rattle.vm_engine.proofs.Answers.Filling.{allocates_chosen}
 use Rattle.vm_engine.proofs.Answers.Outcomes.{allocates_outcome}
 use Rattle.vm_allocator.proofs.Reading.ReadAllocators.{one_allocator, encoded_state as encoded_addresses}
@@ -99,6 +101,39 @@ allocated_leaves old new request (Ok r) h = (given old new request r h).left
 allocated_leaves old new request (Err e) h = tt
 
 pub ruleset allocations = (allocated_fits, allocated_chosen, allocated_leaves)
+
+-- The same for a request that was made before, and for the result of a valid request.
+pub granted_allocates : (old new : AddressState) (request : Request) (answer : Result Range Error) → IsRequest request → Grants old request answer new → Allocates old request answer new
+unfolding Allocates ByConstraint
+granted_allocates old new request answer v g = inr (λ e. omega (arith, e, v.some), inr (v.aligned, inr (v.start, g)))
+
+pub request_fits : (old new : AddressState) (request : Request) (answer : Result Range Error) → Allocates old request answer new → IfOk answer (λ r. (address_count r ≡ request.size) × (r.start % request.align ≡ 0))
+unfolding IsPlace
+request_fits old new request (Err e) h = tt
+request_fits old new request (Ok r) h =
+    let g = given old new request r h in
+    let some : 0 < request.size = g.some in
+    let end : r.end ≡ r.start + request.size - 1 = ap (λ (v : Range). v.end) g.long in
+    (omega arith, g.place.0)
+
+-- A range that is allocated for a request with a window lies in the window.
+pub lies_in_window : (old new : AddressState) (request : Request) (w r : Range) → request.window ≡ Some w → Allocates old request (Ok r) new → Covers w r
+unfolding Covers
+lies_in_window old new request w r e h =
+    let g = given old new request r h in
+    let place = place_in_window request r.start old g.chosen in
+    let i = lies_in w request.size request.align old g.some r.start (subst (λ (v : Option Range). IsPlace request.size request.align (within v old) r.start) e place) in
+    subst (Covers w) (sym g.long) (λ x j. (omega (arith, i.0, j.0), omega (arith, i.1, j.0, j.1)))
+
+inside_by : (old new : AddressState) (request : Request) (v : Option Range) (r : Range) → request.window ≡ v → Allocates old request (Ok r) new → IfSome v (λ w. Covers w r)
+inside_by old new request None r e h = tt
+inside_by old new request (Some w) r e h = lies_in_window old new request w r e h
+
+pub request_inside : (old new : AddressState) (request : Request) (answer : Result Range Error) → Allocates old request answer new → IfOk answer (λ r. IfSome request.window (λ w. Covers w r))
+request_inside old new request (Err e) h = tt
+request_inside old new request (Ok r) h = inside_by old new request request.window r refl h
+
+pub ruleset constraint_allocations = (granted_allocates, request_fits, request_inside, allocated_chosen, allocated_leaves)
 
 -- An allocated range is held after the call.
 pub allocated_held : (old new : AddressState) (request : Request) (r : Range) → Allocates old request (Ok r) new → Contains new.held r

@@ -19,6 +19,7 @@ pub use Rattle.vm_ranges.specs.Saving
 pub use Rattle.vm_ranges.specs.Texts
 pub use Rattle.vm_engine.specs.Address
 pub use Rattle.vm_engine.specs.Answer
+pub use Rattle.vm_engine.specs.Windows
 pub use Rattle.vm_engine.specs.Held
 pub use Rattle.vm_engine.specs.Queries
 pub use Rattle.vm_engine.specs.Comparison

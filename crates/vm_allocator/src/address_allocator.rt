@@ -7,10 +7,10 @@
 //! `allocate` and `free` call the counted versions and drop the count. Some clauses follow from
 //! `answer`, and are there because callers rely on them: for example that some calls always
 //! succeed.
-ghost use Rattle.std.specs.Prelude.{ℕ, ◌≡◌, ◌%◌, Err, OnErr, OnOk, IfOk, IsOk};
+ghost use Rattle.std.specs.Prelude.{ℕ, ◌≡◌, ◌%◌, Err, OnErr, OnOk, IfOk, IfSome, IsOk};
 ghost use Rattle.std.specs.List.{Contains};
 ghost use Rattle.vm_engine.specs.Address.{IsAddressState, holding, releasing};
-ghost use Rattle.vm_ranges.specs.Range.{address_count};
+ghost use Rattle.vm_ranges.specs.Range.{Covers, address_count};
 ghost use Rattle.vm_ranges.specs.Request.{request_for};
 ghost use Rattle.vm_engine.specs.Answer.{Allocates, FillsGap, Frees, IsChosen, Makes};
 ghost use Rattle.vm_allocator.specs.Allocator.{state_of, made_state};
@@ -181,6 +181,45 @@ impl AddressAllocator {
         let tree = &mut self.interval_tree;
         let constraint = Constraint::new(size, alignment, policy)?;
         tree.allocate(alloc, constraint)
+    }
+
+    /// Allocates a range like [`allocate`](Self::allocate), for a request that was made before. If the
+    /// request has a window, the range lies in the window.
+    ///
+    /// `FirstMatch` chooses the lowest range in the window, and `LastMatch` the highest.
+    ///
+    /// # Errors
+    ///
+    /// Those of [`allocate`](Self::allocate) for a valid request, in the same order. Addresses outside
+    /// the window count as outside the space:
+    /// - `ResourceNotAvailable` if the window and the space have no address in common, or no range in
+    ///   the window fits.
+    /// - `ResourceNotAvailable` if the start of `ExactMatch` is outside the window, or a part of its
+    ///   range is, unless exactly this range is already allocated.
+    #[tactic(auto, using(crate::proofs::Callers::constraint_allocations, vm_engine::proofs::Answers::Filling::succeeding, crate::proofs::Trees::trees))]
+    pub fn allocate_constraint(
+        &mut self,
+        alloc: Global,
+        request: Constraint,
+    ) -> Result<RangeInclusive>
+        // The range is as long as asked, aligned and in the window. It is at the place that the policy
+        // chooses there, and all of its addresses were clear.
+        ensures fits { IfOk result (λ range. (address_count range ≡ request.size) × (range.start % request.align ≡ 0)) }
+        ensures inside { IfOk result (λ range. IfSome request.window (λ window. Covers window range)) }
+        ensures chosen { IfOk result (λ range. IsChosen request (state_of self.old) range.start) }
+
+        // It is held, and nothing else changes.
+        ensures held { IfOk result (λ range. state_of self.new ≡ holding range (state_of self.old)) }
+        ensures unchanged { OnErr result (self.new ≡ self.old) }
+
+        // A request that fills its gap needs no memory, so it succeeds.
+        ensures filling { (start : ℕ) → FillsGap (state_of self.old) request start → IsOk result }
+        ensures state { IsAddressState (state_of self.new) }
+
+        // Each result under its exact condition.
+        ensures answer { Allocates (state_of self.old) request result (state_of self.new) }
+    {
+        self.interval_tree.allocate(alloc, request)
     }
 
     /// Allocates like [`allocate`](Self::allocate), and also returns the number of tree nodes that

@@ -7,3 +7,4 @@ mod id_histories;
 mod ids;
 mod saved;
 mod several;
+mod windows;

@@ -8,7 +8,7 @@ use Rattle.vm_engine.specs.Address.{holding}
 use Rattle.vm_engine.specs.Answer.{Allocates}
 use Rattle.vm_allocator.specs.Ids.{IsOfRange}
 use Rattle.vm_engine.proofs.Answers.AddressAnswers.{lie_apart}
-use Rattle.vm_allocator.proofs.Callers.{given, allocated_aligned}
+use Rattle.vm_allocator.proofs.Callers.{given, request_fits}
 use Rattle.vm_devices.specs.declared.device_slot.DeviceSlot.{DeviceSlot}
 use Rattle.vm_devices.specs.Devices.{DeviceState, IsDevice, IsDeviceState}
 use Rattle.vm_devices.specs.Histories.{DeviceCall, Reservation, Release, IsDeviceCallFrom, IsDeviceHistoryFrom, IsManagerMade, IsManagerRead, AreDevicesReached, WasReserved, WasRead}
@@ -59,7 +59,7 @@ call_reserves old new (Reservation request answer) calls id r h i d =
     inr (record {
       request = request;
       call = (0, omega arith, ap (Reservation request) (made.1 ∙ ap (λ (s : DeviceSlot). Ok s) named));
-      aligned = allocated_aligned old.space (holding slot.range old.space) request.size request.align request.policy (Ok r) a;
+      aligned = (request_fits old.space (holding slot.range old.space) request (Ok r) a).1;
       long = (given old.space (holding slot.range old.space) request r a).long;
     }))
     (λ (ne : id ≡ slot.id → ⊥). inl (sym (with_other old.devices slot.id slot.range id ne) ∙ now))

@@ -3,7 +3,9 @@ pub mod NodeCountBounds
 pub mod SplitCounts
 pub mod Entering
 pub mod Searching
+pub mod WindowSearching
 pub mod SearchedGaps
+pub mod WindowGaps
 pub mod GapBounds
 pub mod MisalignedGaps
 pub mod TooShortGaps

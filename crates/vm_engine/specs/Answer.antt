@@ -4,18 +4,19 @@ use Rattle.std.specs.List.{Contains}
 use Rattle.vm_ranges.specs.Cases.{IfElse, Unless}
 use Rattle.vm_ranges.specs.Range.{Range, MAX, IsIn, span}
 use Rattle.vm_engine.specs.Address.{AddressState, AreClear, IsPlace, IsLowestPlace, IsHighestPlace, SplitsGap, holding, releasing}
+use Rattle.vm_engine.specs.Windows.{within}
 use Rattle.vm_ranges.specs.Request.{Request, ByPolicy, IsRequest, ByConstraint}
 use Rattle.vm_ranges.specs.declared.error.Error.{Error}
 use Rattle.vm_ranges.specs.declared.error.Error.TheVariants.{Overflow, ResourceNotAvailable, InvalidStateTransition, Underflow, OutOfMemory}
 use Rattle.vm_ranges.specs.declared.state.NodeState.TheVariants.{Allocated}
 
--- s is the place that the policy of the request chooses.
+-- s is the place that the policy of the request chooses in its window.
 unfoldable pub IsChosen : Request → AddressState → ℕ → Type 0
 IsChosen request state s =
     ByPolicy request.policy
-    (IsLowestPlace request.size request.align state s)
-    (IsHighestPlace request.size request.align state s)
-    (λ start. (s ≡ start) × IsPlace request.size request.align state s)
+    (IsLowestPlace request.size request.align (within request.window state) s)
+    (IsHighestPlace request.size request.align (within request.window state) s)
+    (λ start. (s ≡ start) × IsPlace request.size request.align (within request.window state) s)
 
 -- The errors of a request for n addresses that start at t. The first condition that is true decides:
 -- - Overflow if t is MAX.
@@ -35,16 +36,17 @@ ByStart t n state refused otherwise =
     Unless (AreClear n state t) (refused ResourceNotAvailable) (
     IfElse (t + n - 1 ≡ MAX) (refused Overflow) otherwise)))))
 
--- The errors of `ByStart` if the request has the policy ExactMatch. Other policies have none of these errors.
+-- The errors of `ByStart` in the window of the request, if it has the policy ExactMatch. Other policies have none of these
+-- errors.
 unfoldable pub ByExactPolicy : Request → AddressState → (Error → Type 0) → Type 0 → Type 0
 ByExactPolicy request state refused otherwise =
-    ByPolicy request.policy otherwise otherwise (λ start. ByStart start request.size state refused otherwise)
+    ByPolicy request.policy otherwise otherwise (λ start. ByStart start request.size (within request.window state) refused otherwise)
 
--- ResourceNotAvailable if there is no place. Otherwise Overflow if the range at the chosen place ends at MAX, and
+-- ResourceNotAvailable if there is no place in the window. Otherwise Overflow if the range at the chosen place ends at MAX, and
 -- `takes` is true for the range if it does not.
 unfoldable pub ByPlace : Request → AddressState → (Error → Type 0) → (Range → Type 0) → Type 0
 ByPlace request state refused takes =
-    (((s : ℕ) → ¬ IsPlace request.size request.align state s) × refused ResourceNotAvailable)
+    (((s : ℕ) → ¬ IsPlace request.size request.align (within request.window state) s) × refused ResourceNotAvailable)
     ⊎ ((s : ℕ) × IsChosen request state s ×
     IfElse (s + request.size - 1 ≡ MAX) (refused Overflow) (takes (span s request.size)))
 

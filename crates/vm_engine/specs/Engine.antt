@@ -2,6 +2,7 @@ pub mod BothEnds
 pub mod Building
 pub mod Changes
 pub mod Place
+pub mod WindowPlace
 pub mod FreedBlocks
 pub mod NeighbourNodes
 pub mod NodeFields

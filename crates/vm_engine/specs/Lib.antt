@@ -1,5 +1,6 @@
 pub mod Address
 pub mod Answer
+pub mod Windows
 pub mod Comparison
 pub mod Tree
 pub mod Counts

@@ -27,6 +27,7 @@ mod summary;
 mod tests;
 pub(crate) mod walks;
 pub(crate) mod widen;
+pub(crate) mod windows;
 
 use self::balance::fork;
 use self::summary::free_summary_of;

@@ -3,7 +3,7 @@ use Rattle.std.proofs.Common.{◌≡◌, ◌≢◌, ℕ, ◌<◌, ◌↔◌, Boo
 use Rattle.std.specs.Prelude.{IfSome, IsTrue}
 use Rattle.vm_engine.specs.Address.{AddressState}
 use Rattle.vm_engine.specs.Answer.{SPLIT_LIMIT_MIN_HELD}
-use Rattle.vm_ranges.specs.Request.{Request}
+use Rattle.vm_ranges.specs.Request.{Request, request_for}
 use Rattle.vm_allocator.specs.Ids.{IdState, IsHeld}
 use Rattle.vm_ranges.specs.declared.constraint.AllocPolicy.TheVariants.{FirstMatch, LastMatch, ExactMatch}
 use Rattle.vm_ranges.specs.declared.error.Error.{Error}
@@ -104,9 +104,9 @@ does_once Malformed old m n x y few p q a b = (a.0 ∙ sym b.0, a.1 ∙ sym b.1)
 does_once (Space base size) old m n x y few p q a b =
     let e = made_once base size a.0 b.0 (not_memory done_reply x a.0 refl a.2 p) (not_memory done_reply y b.0 refl b.2 q) a.1 b.1 in
     (same_outcome done_reply x y a.0 b.0 a.2 b.2 e, a.3 ∙ ap (with_space old) e ∙ sym b.3)
-does_once (First size alignment) old m n x y few p q a b = places_once old m n (record { size = size; align = alignment; policy = FirstMatch }) x y few p q a b
-does_once (Last size alignment) old m n x y few p q a b = places_once old m n (record { size = size; align = alignment; policy = LastMatch }) x y few p q a b
-does_once (Exact size alignment start) old m n x y few p q a b = places_once old m n (record { size = size; align = alignment; policy = ExactMatch start }) x y few p q a b
+does_once (First size alignment) old m n x y few p q a b = places_once old m n (request_for size alignment FirstMatch) x y few p q a b
+does_once (Last size alignment) old m n x y few p q a b = places_once old m n (request_for size alignment LastMatch) x y few p q a b
+does_once (Exact size alignment start) old m n x y few p q a b = places_once old m n (request_for size alignment (ExactMatch start)) x y few p q a b
 does_once (Free start end) old m n x y few p q a b =
     on_space_once old m n x y _ _ few (λ state later after f u v.
     let same = released_once state later after start end u.0 v.0 u.1 v.1 in
@@ -130,7 +130,7 @@ does_once (Manager id_lo id_hi base size) old m n x y few p q a b =
     (same_outcome done_reply x y a.0 b.0 a.2 b.2 e, a.3 ∙ ap (with_devices old) e ∙ sym b.3)
 does_once (Device size alignment) old m n x y few p q a b =
     on_devices_once old m n x y _ _ few (λ state later after f u v.
-    let same = devices_decide.reserved state later after (record { size = size; align = alignment; policy = FirstMatch }) u.0 v.0 (not_memory device_reply x u.0 refl u.2 p) (not_memory device_reply y v.0 refl v.2 q) f u.1 v.1 in
+    let same = devices_decide.reserved state later after (request_for size alignment FirstMatch) u.0 v.0 (not_memory device_reply x u.0 refl u.2 p) (not_memory device_reply y v.0 refl v.2 q) f u.1 v.1 in
     (same_outcome device_reply x y u.0 v.0 u.2 v.2 same.0, same.1)) a b
 does_once (Undevice id) old m n x y few p q a b =
     on_devices_once old m n x y _ _ few (λ state later after f u v.

@@ -4,7 +4,7 @@ use Rattle.std.specs.FinSet as set
 use Rattle.vm_ranges.specs.Range.{Range}
 use Rattle.vm_engine.specs.Address.{AddressState}
 use Rattle.vm_allocator.specs.Ids.{IdState}
-use Rattle.vm_ranges.specs.Request.{Request}
+use Rattle.vm_ranges.specs.Request.{Request, request_for}
 use Rattle.vm_ranges.specs.declared.constraint.AllocPolicy.TheVariants.{FirstMatch, LastMatch, ExactMatch}
 use Rattle.vm_ranges.specs.declared.error.Error.{Error}
 use Rattle.vm_ranges.specs.declared.error.Error.TheVariants.{OutOfMemory}
@@ -95,9 +95,9 @@ does_replied Malformed old = (NotInLanguage, old, (refl, refl), λ e. cc)
 does_replied (Space base size) old =
     let h = makes_answered base size in
     (done_reply h.0, with_space old h.0, (h.0, h.1, refl, refl), plain_done h.0 h.2)
-does_replied (First size alignment) old = places_replied old (record { size = size; align = alignment; policy = FirstMatch })
-does_replied (Last size alignment) old = places_replied old (record { size = size; align = alignment; policy = LastMatch })
-does_replied (Exact size alignment start) old = places_replied old (record { size = size; align = alignment; policy = ExactMatch start })
+does_replied (First size alignment) old = places_replied old (request_for size alignment FirstMatch)
+does_replied (Last size alignment) old = places_replied old (request_for size alignment LastMatch)
+does_replied (Exact size alignment start) old = places_replied old (request_for size alignment (ExactMatch start))
 does_replied (Free start end) old =
     on_space old _ (λ state. replied done_reply plain_done _ (releases_answered state start end))
 does_replied (Ids range_base range_end) old =
@@ -111,7 +111,7 @@ does_replied (Manager id_lo id_hi base size) old =
     let h = every_device_call.made id_lo id_hi base size in
     (done_reply h.0, with_devices old h.0, (h.0, h.1, refl, refl), plain_done h.0 h.2)
 does_replied (Device size alignment) old =
-    on_devices old _ (λ state. replied device_reply plain_device _ (every_device_call.reserved state (record { size = size; align = alignment; policy = FirstMatch })))
+    on_devices old _ (λ state. replied device_reply plain_device _ (every_device_call.reserved state (request_for size alignment FirstMatch)))
 does_replied (Undevice id) old =
     on_devices old _ (λ state. replied done_reply plain_done _ (every_device_call.released state id))
 

@@ -6,7 +6,7 @@ use Rattle.vm_ranges.specs.Cases.{Unless}
 use Rattle.vm_ranges.specs.Range.{Range, IsRange}
 use Rattle.vm_engine.specs.Address.{AddressState, address_state_code}
 use Rattle.vm_engine.specs.Answer.{Allocates, Frees, Makes}
-use Rattle.vm_ranges.specs.Request.{Request}
+use Rattle.vm_ranges.specs.Request.{Request, request_for}
 use Rattle.vm_allocator.specs.Ids.{IdState, id_state_code, IsHeld, MakesIds, AllocatesId, FreesId}
 use Rattle.vm_ranges.specs.declared.constraint.AllocPolicy.TheVariants.{FirstMatch, LastMatch, ExactMatch}
 use Rattle.vm_ranges.specs.declared.error.Error.{Error}
@@ -98,11 +98,11 @@ Does old (Space base size) reply new =
     × (reply ≡ done_reply answer)
     × (new ≡ with_space old answer)
 Does old (First size alignment) reply new =
-    AllocatesRange old (record { size = size; align = alignment; policy = FirstMatch }) reply new
+    AllocatesRange old (request_for size alignment FirstMatch) reply new
 Does old (Last size alignment) reply new =
-    AllocatesRange old (record { size = size; align = alignment; policy = LastMatch }) reply new
+    AllocatesRange old (request_for size alignment LastMatch) reply new
 Does old (Exact size alignment start) reply new =
-    AllocatesRange old (record { size = size; align = alignment; policy = ExactMatch start }) reply new
+    AllocatesRange old (request_for size alignment (ExactMatch start)) reply new
 Does old (Free start end) reply new =
     OnSpace old reply new (λ state later.
     (answer : Result (Unit {0}) Error) × FreesRange state start end answer later × (reply ≡ done_reply answer))
@@ -128,7 +128,7 @@ Does old (Manager id_lo id_hi base size) reply new =
 Does old (Device size alignment) reply new =
     OnDevices old reply new (λ state later.
     (answer : Result DeviceSlot Error)
-    × Reserves state (record { size = size; align = alignment; policy = FirstMatch }) answer later
+    × Reserves state (request_for size alignment FirstMatch) answer later
     × (reply ≡ device_reply answer))
 Does old (Undevice id) reply new =
     OnDevices old reply new (λ state later.

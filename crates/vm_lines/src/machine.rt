@@ -1,6 +1,7 @@
 //! The space, the ids and the devices of a session, and the effect of each command on them.
 ghost use Rattle.std.specs.Prelude.{◌≡◌};
 ghost use Rattle.vm_allocator.specs.Allocator.{state_of};
+ghost use Rattle.vm_ranges.specs.Request.{request_for};
 ghost use Rattle.vm_lines.specs.Machines.{AllocatesRange, FreesRange, replaced_if_ok};
 ghost use Rattle.vm_lines.specs.Replies.{done_reply};
 
@@ -94,7 +95,7 @@ impl Machine {
     /// Allocates `size` addresses by a policy.
     #[tactic(auto, unfolding(crate::specs::Machines::AllocatesRange, crate::specs::Machines::OnSpace))]
     fn allocate(&mut self, alloc: Global, size: u64, alignment: u64, policy: AllocPolicy) -> Reply
-        ensures { AllocatesRange self.old (record { size = size; align = alignment; policy = policy }) result self.new }
+        ensures { AllocatesRange self.old (request_for size alignment policy) result self.new }
     {
         let Some(space) = &mut self.space else {
             return Reply::NoSpace;

@@ -1,22 +1,25 @@
 -- Requests, and the errors of invalid requests. A constraint is seen as its whole request. The places of a request
 -- depend only on its size and its alignment.
-use Rattle.std.specs.Prelude.{◌≡◌, ℕ, ◌%◌, ◌<◌, Result, Ok, Err}
+use Rattle.std.specs.Prelude.{◌≡◌, ℕ, ◌%◌, ◌<◌, Option, None, Result, Ok, Err}
 use Rattle.vm_ranges.specs.Cases.{IfElse, Unless}
 use Rattle.vm_ranges.specs.Alignment.{IsAlignment}
+use Rattle.vm_ranges.specs.Range.{Range}
 use Rattle.vm_ranges.specs.declared.error.Error.{Error}
 use Rattle.vm_ranges.specs.declared.error.Error.TheVariants.{InvalidSize, InvalidAlignment, UnalignedAddress}
 use Rattle.vm_ranges.specs.declared.constraint.AllocPolicy.{AllocPolicy}
 use Rattle.vm_ranges.specs.declared.constraint.AllocPolicy.TheVariants.{FirstMatch, LastMatch, ExactMatch}
 
--- A request: the number of addresses, the alignment of the first one, and the policy that chooses the place.
+-- A request: the number of addresses, the alignment of the first one, the policy that chooses the place, and the window
+-- in which the range must lie, if there is one.
 pub record Request : Type 0 where
   pub size : ℕ
   pub align : ℕ
   pub policy : AllocPolicy
+  pub window : Option Range
 
--- The request with this size, alignment and policy.
+-- The request with this size, alignment and policy, and without a window.
 abbrev pub request_for : ℕ → ℕ → AllocPolicy → Request
-request_for size align policy = record { size = size; align = align; policy = policy }
+request_for size align policy = record { size = size; align = align; policy = policy; window = None }
 
 -- One fact for each policy: for the lowest place, for the highest place, and for the given start.
 abbrev pub ByPolicy : AllocPolicy → Type 0 → Type 0 → (ℕ → Type 0) → Type 0

@@ -2,12 +2,13 @@
 //!
 //! The invariant of `Constraint` is that the request is valid, so functions that take a
 //! `Constraint` need no condition.
-ghost use Rattle.std.specs.Prelude.{◌≡◌};
+ghost use Rattle.std.specs.Prelude.{◌≡◌, Some};
 ghost use Rattle.vm_ranges.specs.Alignment.{IsAlignment};
 ghost use Rattle.vm_ranges.specs.Cases.{IsTestOf};
 ghost use Rattle.vm_ranges.specs.Request.{request_for, MakesConstraint, IsStartAligned, IsRequest};
 
 use crate::error::{Error, Result};
+use crate::range::RangeInclusive;
 use std::marker::Model;
 
 /// The alignment for requests that need no particular alignment.
@@ -42,12 +43,13 @@ const fn is_start_aligned(align: u64, policy: AllocPolicy) -> bool
 /// A valid request for a range of addresses.
 ///
 /// Its size is at least 1, its alignment is a power of two, and the start of `ExactMatch` is a
-/// multiple of the alignment.
+/// multiple of the alignment. A request can have a window, in which its range must lie.
 #[derive(Clone, Copy, Debug, PartialEq, Eq)]
 pub struct Constraint {
     size: u64,
     align: u64,
     policy: AllocPolicy,
+    window: Option<RangeInclusive>,
 }
 
 impl Model for Constraint {
@@ -55,11 +57,11 @@ impl Model for Constraint {
 
     ghost Value = { Request };
 
-    ghost view = { λ a. record { size = a.size; align = a.align; policy = a.policy } };
+    ghost view = { λ a. record { size = a.size; align = a.align; policy = a.policy; window = a.window } };
 
-    ghost invariant = { λ a. IsRequest (record { size = a.size; align = a.align; policy = a.policy }) };
+    ghost invariant = { λ a. IsRequest (record { size = a.size; align = a.align; policy = a.policy; window = a.window }) };
 
-    ghost inverse = { λ d. record { size = d.size; align = d.align; policy = d.policy } };
+    ghost inverse = { λ d. record { size = d.size; align = d.align; policy = d.policy; window = d.window } };
 }
 
 impl Constraint {
@@ -88,7 +90,21 @@ impl Constraint {
             size,
             align,
             policy,
+            window: None,
         })
+    }
+
+    /// Returns this request with a window: its range must lie in the window.
+    ///
+    /// `FirstMatch` then chooses the lowest range in the window, and `LastMatch` the highest.
+    /// `ExactMatch` keeps its start. A window replaces the window that the request had.
+    pub const fn within(self, window: RangeInclusive) -> Self
+        ensures { result ≡ record self { window = Some window } }
+    {
+        Constraint {
+            window: Some(window),
+            ..self
+        }
     }
 
     /// Returns the alignment: the first address of the range is a multiple of it.
@@ -104,6 +120,13 @@ impl Constraint {
         ensures valid { IsRequest self }
     {
         self.size
+    }
+
+    /// Returns the window in which the range must lie, or `None` if there is none.
+    pub const fn window(self) -> Option<RangeInclusive>
+        ensures { result ≡ self.window }
+    {
+        self.window
     }
 
     /// Returns the policy that chooses the range.

@@ -1,11 +1,13 @@
 -- Every call has a result, so every list of calls has a history.
-use Rattle.std.proofs.Common.{◌≡◌, ◌≢◌, ℕ, ◌+◌, ◌-◌, ◌<◌, ◌⊎◌, List, [], ◌∷◌, refl, ap, arith, inl, inr, ⊎_elim, Result, Ok, Err}
+use Rattle.std.proofs.Common.{◌≡◌, ◌≢◌, ℕ, ◌+◌, ◌-◌, ◌<◌, ◌⊎◌, List, [], ◌∷◌, refl, ap, arith, inl, inr, ⊎_elim, Option, Result, Ok, Err}
 use Rattle.std.proofs.lemmas.Bool.{cases_eq}
 use Rattle.std.specs.List.{Contains}
 use Rattle.vm_ranges.specs.Cases.{IfElse, Unless}
 use Rattle.vm_ranges.specs.Range.{Range, MAX, span}
 use Rattle.vm_engine.specs.Address.{AddressState, AreClear, IsPlace, IsLowestPlace, IsHighestPlace, holding, releasing}
-use Rattle.vm_ranges.specs.Request.{Request, request_for, IsStartAligned, ByConstraint}
+use Rattle.vm_ranges.specs.Request.{Request, IsStartAligned, ByConstraint}
+use Rattle.vm_engine.specs.Windows.{within}
+use Rattle.vm_engine.proofs.Answers.Requests.{request_in}
 use Rattle.vm_engine.specs.Answer.{IsChosen, ByStart, ByExactPolicy, ByPlace, AllocatesAt, Grants, Allocates, Frees, Makes}
 use Rattle.vm_ranges.specs.Cloning.{Clones}
 use Rattle.vm_allocator.specs.Histories.AddressHistories.{Allocation, Release, Cloning, Asked, Allocate, Free, Clone, RunsOutOfMemory}
@@ -44,34 +46,36 @@ taken : (old : AddressState) (r : Range) → IsTotal (AllocatesAt old r)
 unfolding AllocatesAt
 taken old r = (Ok r, holding r old, inl (refl, refl), λ h. absurd (cc h))
 
--- Either there is no place, or the policy chooses a place.
+-- Either there is no place in the window, or the policy chooses a place.
 abbrev HasChoice : Request → AddressState → Type 0
-HasChoice request old = ((s : ℕ) → ¬ IsPlace request.size request.align old s) ⊎ ((s : ℕ) × IsChosen request old s)
+HasChoice request old = ((s : ℕ) → ¬ IsPlace request.size request.align (within request.window old) s) ⊎ ((s : ℕ) × IsChosen request old s)
 
 -- A place is in the space.
 place_inside : (n a s : ℕ) (old : AddressState) → 0 < n → IsPlace n a old s → s < old.space.end + 1
 unfolding IsPlace
 place_inside n a s old some p = let first = p.1 s (omega arith) (omega arith) in omega (arith, first.0.1)
 
-lowest_choice : (n a : ℕ) (old : AddressState) → 0 < n → HasChoice (request_for n a FirstMatch) old
+lowest_choice : (w : Option Range) (n a : ℕ) (old : AddressState) → 0 < n → HasChoice (request_in w n a FirstMatch) old
 unfolding IsChosen IsLowestPlace
-lowest_choice n a old some =
+lowest_choice w n a old some =
+    let view = within w old in
     ⊎_elim
-    (λ none. inl (λ s p. none s (place_inside n a s old some p) p))
+    (λ none. inl (λ s p. none s (place_inside n a s view some p) p))
     (λ found. inr (found.0, (found.1, found.2)))
-    (lowest_or_none (IsPlace n a old) (decided_place n a old) (old.space.end + 1))
+    (lowest_or_none (IsPlace n a view) (decided_place n a view) (view.space.end + 1))
 
-highest_choice : (n a : ℕ) (old : AddressState) → 0 < n → HasChoice (request_for n a LastMatch) old
+highest_choice : (w : Option Range) (n a : ℕ) (old : AddressState) → 0 < n → HasChoice (request_in w n a LastMatch) old
 unfolding IsChosen IsHighestPlace
-highest_choice n a old some =
+highest_choice w n a old some =
+    let view = within w old in
     ⊎_elim
-    (λ none. inl (λ s p. none s (place_inside n a s old some p) p))
-    (λ found. inr (found.0, (found.1, λ t p. found.2 t (place_inside n a t old some p) p)))
-    (highest_or_none (IsPlace n a old) (decided_place n a old) (old.space.end + 1))
+    (λ none. inl (λ s p. none s (place_inside n a s view some p) p))
+    (λ found. inr (found.0, (found.1, λ t p. found.2 t (place_inside n a t view some p) p)))
+    (highest_or_none (IsPlace n a view) (decided_place n a view) (view.space.end + 1))
 
-exact_choice_of : (n a t : ℕ) (old : AddressState) → IsPlace n a old t → HasChoice (request_for n a (ExactMatch t)) old
+exact_choice_of : (w : Option Range) (n a t : ℕ) (old : AddressState) → IsPlace n a (within w old) t → HasChoice (request_in w n a (ExactMatch t)) old
 unfolding IsChosen
-exact_choice_of n a t old p = inr (t, (refl, p))
+exact_choice_of w n a t old p = inr (t, (refl, p))
 
 total_place : (request : Request) (old : AddressState) → HasChoice request old → IsTotal (λ answer new. ByPlace request old (λ e. Refuses old e answer new) (λ r. AllocatesAt old r answer new))
 unfolding ByPlace
@@ -80,23 +84,23 @@ total_place request old (inr (s, chosen)) =
     let last = total_if old (s + request.size - 1 ≡ MAX) (Refuses old Overflow) (AllocatesAt old (span s request.size)) (cases_eq (s + request.size - 1) MAX) (refusal old Overflow (λ e. cc e)) (λ n. taken old (span s request.size)) in
     (last.0, last.1, inr (s, chosen, last.2), last.3)
 
-total_start : (t n : ℕ) (old : AddressState) (Rest : Result Range Error → AddressState → Type 0) → (AreClear n old t → IsTotal Rest) → IsTotal (λ answer new. ByStart t n old (λ e. Refuses old e answer new) (Rest answer new))
+total_start : (t n : ℕ) (old view : AddressState) (Rest : Result Range Error → AddressState → Type 0) → (AreClear n view t → IsTotal Rest) → IsTotal (λ answer new. ByStart t n view (λ e. Refuses old e answer new) (Rest answer new))
 unfolding ByStart
-total_start t n old Rest rest =
+total_start t n old view Rest rest =
     let held = InvalidStateTransition (span t n) Allocated in
     total_if old _ (Refuses old Overflow) _ (cases_eq t MAX) (refusal old Overflow (λ e. cc e)) (λ _.
-    total_unless old _ (Refuses old ResourceNotAvailable) _ (decided_inside old t) (refusal old ResourceNotAvailable (λ e. cc e)) (λ _.
+    total_unless old _ (Refuses old ResourceNotAvailable) _ (decided_inside view t) (refusal old ResourceNotAvailable (λ e. cc e)) (λ _.
     total_if old _ (Refuses old Overflow) _ (decided_below MAX (t + n - 1)) (refusal old Overflow (λ e. cc e)) (λ _.
-    total_if old _ (Refuses old held) _ (decided_held old.held (span t n)) (refusal old held (λ e. cc e)) (λ _.
-    total_unless old _ (Refuses old ResourceNotAvailable) _ (decided_all_clear n old t) (refusal old ResourceNotAvailable (λ e. cc e)) (λ clear.
+    total_if old _ (Refuses old held) _ (decided_held view.held (span t n)) (refusal old held (λ e. cc e)) (λ _.
+    total_unless old _ (Refuses old ResourceNotAvailable) _ (decided_all_clear n view t) (refusal old ResourceNotAvailable (λ e. cc e)) (λ clear.
     total_if old _ (Refuses old Overflow) Rest (cases_eq (t + n - 1) MAX) (refusal old Overflow (λ e. cc e)) (λ _. rest clear))))))
 
-total_grants : (policy : AllocPolicy) (n a : ℕ) (old : AddressState) → 0 < n → IsStartAligned a policy → IsTotal (Grants old (request_for n a policy))
+total_grants : (policy : AllocPolicy) (w : Option Range) (n a : ℕ) (old : AddressState) → 0 < n → IsStartAligned a policy → IsTotal (Grants old (request_in w n a policy))
 unfolding Grants ByExactPolicy IsStartAligned IsPlace
-total_grants FirstMatch n a old some aligned = total_place (request_for n a FirstMatch) old (lowest_choice n a old some)
-total_grants LastMatch n a old some aligned = total_place (request_for n a LastMatch) old (highest_choice n a old some)
-total_grants (ExactMatch t) n a old some aligned =
-    total_start t n old _ (λ clear. total_place (request_for n a (ExactMatch t)) old (exact_choice_of n a t old (aligned, clear)))
+total_grants FirstMatch w n a old some aligned = total_place (request_in w n a FirstMatch) old (lowest_choice w n a old some)
+total_grants LastMatch w n a old some aligned = total_place (request_in w n a LastMatch) old (highest_choice w n a old some)
+total_grants (ExactMatch t) w n a old some aligned =
+    total_start t n old (within w old) _ (λ clear. total_place (request_in w n a (ExactMatch t)) old (exact_choice_of w n a t old (aligned, clear)))
 
 total_allocates : (old : AddressState) (request : Request) → IsTotal (Allocates old request)
 unfolding Allocates ByConstraint
@@ -104,7 +108,7 @@ total_allocates old request =
     total_if old _ (Refuses old (InvalidSize 0)) _ (cases_eq request.size 0) (refusal old (InvalidSize 0) (λ e. cc e)) (λ some.
     total_unless old _ (Refuses old InvalidAlignment) _ (decided_alignment request.align) (refusal old InvalidAlignment (λ e. cc e)) (λ _.
     total_unless old _ (Refuses old UnalignedAddress) _ (decided_start request.align request.policy) (refusal old UnalignedAddress (λ e. cc e)) (λ aligned.
-    total_grants request.policy request.size request.align old (omega (arith, some)) aligned)))
+    total_grants request.policy request.window request.size request.align old (omega (arith, some)) aligned)))
 
 -- ---- Freeing a range, creating an allocator and cloning have a result
 total_frees : (old : AddressState) (r : Range) → (answer : Result (Unit {0}) Error) × (new : AddressState) × Frees old r answer new

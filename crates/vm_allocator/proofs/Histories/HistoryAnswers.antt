@@ -1,8 +1,10 @@
 -- The results of the calls of a history.
-use Rattle.std.proofs.Common.{◌≡◌, ◌≢◌, ℕ, ◌+◌, ◌-◌, ◌<◌, arith, sym, ap, ◌∙◌, ◌⊎◌, ⊎_elim, subst, Result, Ok, Err}
+use Rattle.std.proofs.Common.{◌≡◌, ◌≢◌, ℕ, ◌+◌, ◌-◌, ◌<◌, arith, sym, ap, ◌∙◌, ◌⊎◌, ⊎_elim, subst, Option, Result, Ok, Err}
 use Rattle.std.proofs.lemmas.Bool.{cases_eq}
 use Rattle.vm_ranges.specs.Range.{Range, MAX, IsIn, span}
 use Rattle.vm_engine.specs.Address.{AddressState, IsPlace, IsAddressState}
+use Rattle.vm_engine.specs.Windows.{within}
+use Rattle.vm_engine.proofs.Answers.Requests.{request_in}
 use Rattle.vm_ranges.specs.Request.{Request, request_for, IsRequest, ByConstraint, MakesConstraint}
 use Rattle.vm_engine.specs.Answer.{IsChosen, ByStart, ByExactPolicy, ByPlace, AllocatesAt, Grants, Allocates, Frees}
 use Rattle.vm_allocator.specs.Laws.HistoryLaws.{FirstIsLowest, LastIsHighest, ExactIsAtItsStart, FailsInOrder, IsAnswered, PlacesAnswer, ErrorsChangeNothing}
@@ -13,7 +15,7 @@ use Rattle.vm_ranges.specs.declared.constraint.AllocPolicy.TheVariants.{FirstMat
 use Rattle.vm_ranges.proofs.TwoFacts.{if_same, unless_same}
 use Rattle.vm_engine.proofs.Blocks.PlainWords.{held_contains}
 use Rattle.vm_engine.proofs.Blocks.HeldSets.{held_lies}
-use Rattle.vm_engine.proofs.Answers.Once.{chosen_place}
+use Rattle.vm_engine.proofs.Answers.Once.{place_in_window}
 use Rattle.vm_engine.proofs.Answers.Filling.{otherwise, given, faulty, lacking, clear_not_held, request_grants, allocates_chosen}
 use Rattle.vm_engine.proofs.Answers.Outcomes.{allocates_outcome}
 use Rattle.vm_allocator.proofs.Histories.AlongHistories.{reached_state}
@@ -71,22 +73,22 @@ module _ (request : Request) (old new : AddressState) (answer : Result Range Err
   chosen_at_max : (s : ℕ) → IsChosen request old s → s + request.size - 1 ≡ MAX → answer ≡ Err Overflow
   chosen_at_max s c e = ⊎_elim (λ k. k.1.0) (λ k. absurd (k.0 e)) (allocates_chosen request s old new answer sense (omega arith) c h)
 
-none_by_place : (request : Request) (old new : AddressState) (answer : Result Range Error) → ((s : ℕ) → ¬ IsPlace request.size request.align old s) → ByPlace request old (λ e. (answer ≡ Err e) × (new ≡ old)) (λ r. AllocatesAt old r answer new) → answer ≡ Err ResourceNotAvailable
+none_by_place : (request : Request) (old new : AddressState) (answer : Result Range Error) → ((s : ℕ) → ¬ IsPlace request.size request.align (within request.window old) s) → ByPlace request old (λ e. (answer ≡ Err e) × (new ≡ old)) (λ r. AllocatesAt old r answer new) → answer ≡ Err ResourceNotAvailable
 unfolding ByPlace
-none_by_place request old new answer none h = ⊎_elim (λ l. l.1.0) (λ k. absurd (none k.0 (chosen_place request k.0 old k.1))) h
+none_by_place request old new answer none h = ⊎_elim (λ l. l.1.0) (λ k. absurd (none k.0 (place_in_window request k.0 old k.1))) h
 
-none_grants : (policy : AllocPolicy) (n a : ℕ) (old new : AddressState) (answer : Result Range Error) → (policy ≡ FirstMatch) ⊎ (policy ≡ LastMatch) → ((s : ℕ) → ¬ IsPlace n a old s) → Grants old (request_for n a policy) answer new → answer ≡ Err ResourceNotAvailable
+none_grants : (policy : AllocPolicy) (w : Option Range) (n a : ℕ) (old new : AddressState) (answer : Result Range Error) → (policy ≡ FirstMatch) ⊎ (policy ≡ LastMatch) → ((s : ℕ) → ¬ IsPlace n a (within w old) s) → Grants old (request_in w n a policy) answer new → answer ≡ Err ResourceNotAvailable
 unfolding Grants ByExactPolicy
-none_grants FirstMatch n a old new answer p none h = none_by_place (request_for n a FirstMatch) old new answer none h
-none_grants LastMatch n a old new answer p none h = none_by_place (request_for n a LastMatch) old new answer none h
-none_grants (ExactMatch t) n a old new answer p none h = ⊎_elim (λ e. absurd (cc e)) (λ e. absurd (cc e)) p
+none_grants FirstMatch w n a old new answer p none h = none_by_place (request_in w n a FirstMatch) old new answer none h
+none_grants LastMatch w n a old new answer p none h = none_by_place (request_in w n a LastMatch) old new answer none h
+none_grants (ExactMatch t) w n a old new answer p none h = ⊎_elim (λ e. absurd (cc e)) (λ e. absurd (cc e)) p
 
 -- If there is a place, an error is due to memory, the height or the end of the range.
 taken_not_lacking : (old new : AddressState) (r : Range) (answer : Result Range Error) → AllocatesAt old r answer new → answer ≢ Err ResourceNotAvailable
 unfolding AllocatesAt
 taken_not_lacking old new r answer h e = ⊎_elim (λ l. cc (l.0, e)) (λ k. ⊎_elim (λ o. cc (o, e)) (λ o. cc (o.1, e)) k.2) h
 
-some_by_place : (request : Request) (old new : AddressState) (answer : Result Range Error) (s : ℕ) → IsPlace request.size request.align old s → ByPlace request old (λ e. (answer ≡ Err e) × (new ≡ old)) (λ r. AllocatesAt old r answer new) → answer ≢ Err ResourceNotAvailable
+some_by_place : (request : Request) (old new : AddressState) (answer : Result Range Error) (s : ℕ) → IsPlace request.size request.align (within request.window old) s → ByPlace request old (λ e. (answer ≡ Err e) × (new ≡ old)) (λ r. AllocatesAt old r answer new) → answer ≢ Err ResourceNotAvailable
 unfolding ByPlace
 some_by_place request old new answer s place h e =
     ⊎_elim
@@ -94,40 +96,39 @@ some_by_place request old new answer s place h e =
     (λ k. ⊎_elim (λ o. cc (o.1.0, e)) (λ o. taken_not_lacking old new (span k.0 request.size) answer o.1 e) k.2)
     h
 
-some_grants : (policy : AllocPolicy) (n a : ℕ) (old new : AddressState) (answer : Result Range Error) → (policy ≡ FirstMatch) ⊎ (policy ≡ LastMatch) → (s : ℕ) → IsPlace n a old s → Grants old (request_for n a policy) answer new → answer ≢ Err ResourceNotAvailable
+some_grants : (policy : AllocPolicy) (w : Option Range) (n a : ℕ) (old new : AddressState) (answer : Result Range Error) → (policy ≡ FirstMatch) ⊎ (policy ≡ LastMatch) → (s : ℕ) → IsPlace n a (within w old) s → Grants old (request_in w n a policy) answer new → answer ≢ Err ResourceNotAvailable
 unfolding Grants ByExactPolicy
-some_grants FirstMatch n a old new answer p s place h = some_by_place (request_for n a FirstMatch) old new answer s place h
-some_grants LastMatch n a old new answer p s place h = some_by_place (request_for n a LastMatch) old new answer s place h
-some_grants (ExactMatch t) n a old new answer p s place h = ⊎_elim (λ e. absurd (cc e)) (λ e. absurd (cc e)) p
+some_grants FirstMatch w n a old new answer p s place h = some_by_place (request_in w n a FirstMatch) old new answer s place h
+some_grants LastMatch w n a old new answer p s place h = some_by_place (request_in w n a LastMatch) old new answer s place h
+some_grants (ExactMatch t) w n a old new answer p s place h = ⊎_elim (λ e. absurd (cc e)) (λ e. absurd (cc e)) p
 
 -- The errors of an exact request for the n addresses starting at t, in order.
-exact_errors : (old new : AddressState) (answer : Result Range Error) (t n : ℕ) (Rest : Type 0) → IsAddressState old → 0 < n → ByStart t n old (λ e. (answer ≡ Err e) × (new ≡ old)) Rest → FailsInOrder old t n answer
+exact_errors : (w : Option Range) (old new : AddressState) (answer : Result Range Error) (t n : ℕ) (Rest : Type 0) → IsAddressState old → 0 < n → ByStart t n (within w old) (λ e. (answer ≡ Err e) × (new ≡ old)) Rest → FailsInOrder (within w old) t n answer
 unfolding ByStart
-exact_errors old new answer t n Rest state some h =
+exact_errors w old new answer t n Rest state some h =
     record {
       start_is_max = λ is. faulty _ _ _ is (λ p. p.0) h;
       start_is_outside = λ below outside. lacking _ _ _ outside (λ p. p.0) (otherwise _ _ _ below h);
       passes_max = λ below inside over. faulty _ _ _ over (λ p. p.0) (given _ _ _ inside (otherwise _ _ _ below h));
-      is_held = λ held.
+      is_held = λ inside held.
           let lies = held_lies old.space.start old.space.end old.held (span t n) state.in_order (held_contains old.held (span t n) held) in
-          let inside : IsIn old.space t = (lies.0, omega (arith, lies.1, lies.2)) in
           faulty _ _ _ held (λ p. p.0) (otherwise _ _ _ (λ over. omega (arith, lies.3)) (given _ _ _ inside (otherwise _ _ _ (λ is. omega (arith, lies.1, lies.3)) h)));
       is_not_clear = λ below inside fits free unclear.
           lacking _ _ _ unclear (λ p. p.0) (otherwise _ _ _ free (otherwise _ _ _ (λ over. omega arith) (given _ _ _ inside (otherwise _ _ _ below h))));
       ends_at_max = λ clear ends.
-          let inside : IsIn old.space t = (clear t (omega arith) (omega arith)).0 in
+          let inside : IsIn (within w old).space t = (clear t (omega arith) (omega arith)).0 in
           ⊎_elim
           (λ (is : t ≡ MAX). faulty _ _ _ is (λ p. p.0) h)
           (λ (below : t ≡ MAX → ⊥).
-          faulty _ _ _ ends (λ p. p.0) (given _ _ _ clear (otherwise _ _ _ (clear_not_held n t old some clear) (otherwise _ _ _ (λ over. omega arith) (given _ _ _ inside (otherwise _ _ _ below h))))))
+          faulty _ _ _ ends (λ p. p.0) (given _ _ _ clear (otherwise _ _ _ (clear_not_held n t (within w old) some clear) (otherwise _ _ _ (λ over. omega arith) (given _ _ _ inside (otherwise _ _ _ below h))))))
           (cases_eq t MAX);
     }
 
-exact_grants : (policy : AllocPolicy) (n a t : ℕ) (old new : AddressState) (answer : Result Range Error) → IsAddressState old → 0 < n → policy ≡ ExactMatch t → Grants old (request_for n a policy) answer new → FailsInOrder old t n answer
+exact_grants : (policy : AllocPolicy) (w : Option Range) (n a t : ℕ) (old new : AddressState) (answer : Result Range Error) → IsAddressState old → 0 < n → policy ≡ ExactMatch t → Grants old (request_in w n a policy) answer new → FailsInOrder (within w old) t n answer
 unfolding Grants ByExactPolicy
-exact_grants policy n a t old new answer state some p h =
-    let g : Grants old (request_for n a (ExactMatch t)) answer new = subst (λ (v : AllocPolicy). Grants old (request_for n a v) answer new) p h in
-    exact_errors old new answer t n _ state some g
+exact_grants policy w n a t old new answer state some p h =
+    let g : Grants old (request_in w n a (ExactMatch t)) answer new = subst (λ (v : AllocPolicy). Grants old (request_in w n a v) answer new) p h in
+    exact_errors w old new answer t n _ state some g
 
 pub answered : (request : Request) (old new : AddressState) (answer : Result Range Error) → IsAddressState old → Allocates old request answer new → IsAnswered old request answer new
 answered request old new answer state h =
@@ -138,9 +139,9 @@ answered request old new answer state h =
           record {
             taken = chosen_taken request old new answer sense h;
             at_max = chosen_at_max request old new answer sense h;
-            no_place = λ p none. none_grants request.policy request.size request.align old new answer p none grants;
-            only_there = λ p s place. some_grants request.policy request.size request.align old new answer p s place grants;
-            named = λ t p. exact_grants request.policy request.size request.align t old new answer state sense.some p grants;
+            no_place = λ p none. none_grants request.policy request.window request.size request.align old new answer p none grants;
+            only_there = λ p s place. some_grants request.policy request.window request.size request.align old new answer p s place grants;
+            named = λ t p. exact_grants request.policy request.window request.size request.align t old new answer state sense.some p grants;
           };
       given = λ r e. allocated_chosen request old new r (subst (λ (v : Result Range Error). Allocates old request v new) e h);
     }

@@ -1,5 +1,5 @@
 -- Laws of requests and the longest gap.
-use Rattle.std.specs.Prelude.{◌≡◌, ◌↔◌, ◌<◌, ◌⊎◌, Result, Err}
+use Rattle.std.specs.Prelude.{◌≡◌, ◌↔◌, ◌<◌, ◌⊎◌, None, Result, Err}
 use Rattle.vm_ranges.specs.Range.{Range}
 use Rattle.vm_ranges.specs.Request.{Request, IsRequest}
 use Rattle.vm_engine.specs.Address.{AddressState, IsAddressState}
@@ -9,11 +9,11 @@ use Rattle.vm_ranges.specs.declared.error.Error.{Error}
 use Rattle.vm_ranges.specs.declared.error.Error.TheVariants.{ResourceNotAvailable}
 use Rattle.vm_ranges.specs.declared.constraint.AllocPolicy.TheVariants.{FirstMatch, LastMatch}
 
--- A valid request at alignment 1 returns ResourceNotAvailable exactly if it is longer than the longest gap. This is true
--- for FirstMatch and LastMatch.
+-- A valid request at alignment 1 and without a window returns ResourceNotAvailable exactly if it is longer than the
+-- longest gap. This is true for FirstMatch and LastMatch.
 abbrev pub LongestDecides : Type 0
 LongestDecides =
     (old new : AddressState) (request : Request) (answer : Result Range Error) →
-    IsAddressState old → IsRequest request → request.align ≡ 1 →
+    IsAddressState old → IsRequest request → request.align ≡ 1 → request.window ≡ None →
     (request.policy ≡ FirstMatch) ⊎ (request.policy ≡ LastMatch) → Allocates old request answer new →
     (answer ≡ Err ResourceNotAvailable) ↔ (longest_of (gaps_of old) < request.size)

@@ -5,6 +5,7 @@ use Rattle.std.specs.List.Sorted.{IsPermutation}
 use Rattle.serde_json.specs.Data.{Data}
 use Rattle.vm_ranges.specs.Range.{Range, MAX, IsIn, span}
 use Rattle.vm_engine.specs.Address.{AddressState, AreClear, IsPlace, IsLowestPlace, IsHighestPlace, IsAddressState}
+use Rattle.vm_engine.specs.Windows.{within}
 use Rattle.vm_ranges.specs.Request.{Request, request_for, IsRequest, MakesConstraint}
 use Rattle.vm_engine.specs.Answer.{IsChosen, AllocatesAt, Allocates, Frees, Makes}
 use Rattle.vm_engine.specs.Laws.AddressLaws.{AgreeExceptSplits, AreDisjoint}
@@ -39,18 +40,19 @@ ExactIsAtItsStart =
 
 -- A request for the n addresses starting at t returns the error of the first condition that is true, in this order: t
 -- is MAX; t is outside the space; the range passes MAX; the range is held; an address of it is not clear; it ends at
--- MAX.
+-- MAX. For a request with a window, the state is the one within the window.
 pub record FailsInOrder (old : AddressState) (t n : ℕ) (answer : Result Range Error) : Type 0 where
   pub start_is_max : t ≡ MAX → answer ≡ Err Overflow
   pub start_is_outside : t ≢ MAX → ¬ IsIn old.space t → answer ≡ Err ResourceNotAvailable
   pub passes_max : t ≢ MAX → IsIn old.space t → MAX < t + n - 1 → answer ≡ Err Overflow
-  pub is_held : Contains old.held (span t n) → answer ≡ Err (InvalidStateTransition (span t n) Allocated)
+  pub is_held : IsIn old.space t → Contains old.held (span t n) → answer ≡ Err (InvalidStateTransition (span t n) Allocated)
   pub is_not_clear : t ≢ MAX → IsIn old.space t → t + n - 1 ≤ MAX → ¬ Contains old.held (span t n) →
       ¬ AreClear n old t → answer ≡ Err ResourceNotAvailable
   pub ends_at_max : AreClear n old t → t + n - 1 ≡ MAX → answer ≡ Err Overflow
 
 -- The places decide the result of a valid request. The range at the chosen place is allocated if it ends below MAX, and
--- it is Overflow otherwise. FirstMatch and LastMatch return ResourceNotAvailable if and only if there is no place.
+-- it is Overflow otherwise. FirstMatch and LastMatch return ResourceNotAvailable if and only if there is no place in the
+-- window.
 -- ExactMatch returns its first error.
 pub record IsAnsweredByPlaces (old : AddressState) (request : Request)
     (answer : Result Range Error) (new : AddressState) : Type 0 where
@@ -58,10 +60,10 @@ pub record IsAnsweredByPlaces (old : AddressState) (request : Request)
       AllocatesAt old (span s request.size) answer new
   pub at_max : (s : ℕ) → IsChosen request old s → s + request.size - 1 ≡ MAX → answer ≡ Err Overflow
   pub no_place : (request.policy ≡ FirstMatch) ⊎ (request.policy ≡ LastMatch) →
-      ((s : ℕ) → ¬ IsPlace request.size request.align old s) → answer ≡ Err ResourceNotAvailable
+      ((s : ℕ) → ¬ IsPlace request.size request.align (within request.window old) s) → answer ≡ Err ResourceNotAvailable
   pub only_there : (request.policy ≡ FirstMatch) ⊎ (request.policy ≡ LastMatch) →
-      (s : ℕ) → IsPlace request.size request.align old s → answer ≢ Err ResourceNotAvailable
-  pub named : (t : ℕ) → request.policy ≡ ExactMatch t → FailsInOrder old t request.size answer
+      (s : ℕ) → IsPlace request.size request.align (within request.window old) s → answer ≢ Err ResourceNotAvailable
+  pub named : (t : ℕ) → request.policy ≡ ExactMatch t → FailsInOrder (within request.window old) t request.size answer
 
 -- The places decide the result of a request. An invalid request returns the error of its constraint, and an allocated
 -- range is at the chosen place.

@@ -1,9 +1,11 @@
 -- A call has one result and one next state, except that a split may fail.
-use Rattle.std.proofs.Common.{◌≡◌, ℕ, ◌+◌, ◌-◌, sym, ◌∙◌, arith, inl, inr, ⊎_elim, subst, Result, Err}
+use Rattle.std.proofs.Common.{◌≡◌, ℕ, ◌+◌, ◌-◌, sym, ◌∙◌, arith, inl, inr, ⊎_elim, subst, Option, Some, None, Result, Err}
 use Rattle.vm_ranges.specs.Cases.{IfElse, Unless}
 use Rattle.vm_ranges.specs.Range.{Range, MAX, span}
-use Rattle.vm_engine.specs.Address.{AddressState, IsPlace, IsLowestPlace, IsHighestPlace}
-use Rattle.vm_ranges.specs.Request.{Request, request_for, ByConstraint}
+use Rattle.vm_engine.specs.Address.{AddressState, IsClear, IsPlace, IsLowestPlace, IsHighestPlace}
+use Rattle.vm_ranges.specs.Request.{Request, ByConstraint}
+use Rattle.vm_engine.specs.Windows.{within}
+use Rattle.vm_engine.proofs.Answers.Requests.{request_in}
 use Rattle.vm_engine.specs.Answer.{IsChosen, ByStart, ByExactPolicy, ByPlace, AllocatesAt, Grants, Allocates, Frees}
 use Rattle.vm_engine.specs.Laws.AddressLaws.{AgreeExceptSplits, AllocatesOnce, FreesOnce}
 use Rattle.vm_ranges.specs.declared.error.Error.{Error}
@@ -13,24 +15,36 @@ use Rattle.vm_ranges.specs.declared.constraint.AllocPolicy.TheVariants.{FirstMat
 use Rattle.vm_ranges.proofs.TwoFacts.{if_same, unless_same}
 
 -- A request has at most one chosen place.
-chosen_by : (policy : AllocPolicy) (n a s t : ℕ) (state : AddressState) → IsChosen (request_for n a policy) state s → IsChosen (request_for n a policy) state t → s ≡ t
+chosen_by : (policy : AllocPolicy) (w : Option Range) (n a s t : ℕ) (state : AddressState) → IsChosen (request_in w n a policy) state s → IsChosen (request_in w n a policy) state t → s ≡ t
 unfolding IsChosen IsLowestPlace IsHighestPlace
-chosen_by FirstMatch n a s t state p q = omega (arith, p.1 t q.0, q.1 s p.0)
-chosen_by LastMatch n a s t state p q = omega (arith, p.1 t q.0, q.1 s p.0)
-chosen_by (ExactMatch u) n a s t state p q = p.0 ∙ sym q.0
+chosen_by FirstMatch w n a s t state p q = omega (arith, p.1 t q.0, q.1 s p.0)
+chosen_by LastMatch w n a s t state p q = omega (arith, p.1 t q.0, q.1 s p.0)
+chosen_by (ExactMatch u) w n a s t state p q = p.0 ∙ sym q.0
 
 pub chosen_once : (request : Request) (s t : ℕ) (state : AddressState) → IsChosen request state s → IsChosen request state t → s ≡ t
-chosen_once request s t state = chosen_by request.policy request.size request.align s t state
+chosen_once request s t state = chosen_by request.policy request.window request.size request.align s t state
 
--- The chosen place is a place.
-place_by : (policy : AllocPolicy) (n a s : ℕ) (state : AddressState) → IsChosen (request_for n a policy) state s → IsPlace n a state s
+-- The chosen place is a place in the window.
+place_by : (policy : AllocPolicy) (w : Option Range) (n a s : ℕ) (state : AddressState) → IsChosen (request_in w n a policy) state s → IsPlace n a (within w state) s
 unfolding IsChosen IsLowestPlace IsHighestPlace
-place_by FirstMatch n a s state p = p.0
-place_by LastMatch n a s state p = p.0
-place_by (ExactMatch u) n a s state p = p.1
+place_by FirstMatch w n a s state p = p.0
+place_by LastMatch w n a s state p = p.0
+place_by (ExactMatch u) w n a s state p = p.1
+
+pub place_in_window : (request : Request) (s : ℕ) (state : AddressState) → IsChosen request state s → IsPlace request.size request.align (within request.window state) s
+place_in_window request s state = place_by request.policy request.window request.size request.align s state
+
+-- What is clear in the window is clear, and a place in the window is a place.
+pub clear_anywhere : (w : Option Range) (state : AddressState) (x : ℕ) → IsClear (within w state) x → IsClear state x
+clear_anywhere None state x c = c
+clear_anywhere (Some w) state x c = ((omega (arith, c.0.0), omega (arith, c.0.1)), c.1)
+
+pub place_anywhere : (w : Option Range) (n a s : ℕ) (state : AddressState) → IsPlace n a (within w state) s → IsPlace n a state s
+unfolding IsPlace
+place_anywhere w n a s state p = (p.0, λ x l m. clear_anywhere w state x (p.1 x l m))
 
 pub chosen_place : (request : Request) (s : ℕ) (state : AddressState) → IsChosen request state s → IsPlace request.size request.align state s
-chosen_place request s state = place_by request.policy request.size request.align s state
+chosen_place request s state c = place_anywhere request.window request.size request.align s state (place_in_window request s state c)
 
 -- Combines two facts that depend on the same condition.
 both : (c P Q S T R : Type 0) → (P → S → R) → (Q → T → R) → IfElse c P Q → IfElse c S T → R
@@ -66,8 +80,8 @@ module _ (old new later : AddressState) (answer other : Result Range Error) wher
   place_once request p q =
       let n = request.size in
       ⊎_elim
-      (λ u. ⊎_elim (λ v. refused_once ResourceNotAvailable u.1 v.1) (λ v. absurd (u.0 v.0 (chosen_place request v.0 old v.1))) q)
-      (λ u. ⊎_elim (λ v. absurd (v.0 u.0 (chosen_place request u.0 old u.1)))
+      (λ u. ⊎_elim (λ v. refused_once ResourceNotAvailable u.1 v.1) (λ v. absurd (u.0 v.0 (place_in_window request v.0 old v.1))) q)
+      (λ u. ⊎_elim (λ v. absurd (v.0 u.0 (place_in_window request u.0 old u.1)))
       (λ v.
       let e : v.0 ≡ u.0 = chosen_once request v.0 u.0 old v.1 u.1 in
       let w : IfElse (u.0 + n - 1 ≡ MAX) (Refused old other later Overflow) (AllocatesAt old (span u.0 n) other later) = subst (λ (s : ℕ). IfElse (s + n - 1 ≡ MAX) (Refused old other later Overflow) (AllocatesAt old (span s n) other later)) e v.2 in
@@ -76,9 +90,9 @@ module _ (old new later : AddressState) (answer other : Result Range Error) wher
       q)
       p
 
-  start_once : (t n : ℕ) (P Q : Type 0) → (P → Q → Agree) → ByStart t n old (Refused old answer new) P → ByStart t n old (Refused old other later) Q → Agree
+  start_once : (t n : ℕ) (view : AddressState) (P Q : Type 0) → (P → Q → Agree) → ByStart t n view (Refused old answer new) P → ByStart t n view (Refused old other later) Q → Agree
   unfolding ByStart
-  start_once t n P Q rest =
+  start_once t n view P Q rest =
       both _ _ _ _ _ Agree (refused_once _)
       (both_unless _ _ _ _ _ Agree (refused_once _)
       (both _ _ _ _ _ Agree (refused_once _)
@@ -86,18 +100,18 @@ module _ (old new later : AddressState) (answer other : Result Range Error) wher
       (both_unless _ _ _ _ _ Agree (refused_once _)
       (both _ _ _ _ _ Agree (refused_once _) rest)))))
 
-  grants_by : (policy : AllocPolicy) (n a : ℕ) → Grants old (request_for n a policy) answer new → Grants old (request_for n a policy) other later → Agree
+  grants_by : (policy : AllocPolicy) (w : Option Range) (n a : ℕ) → Grants old (request_in w n a policy) answer new → Grants old (request_in w n a policy) other later → Agree
   unfolding Grants ByExactPolicy
-  grants_by FirstMatch n a p q = place_once (request_for n a FirstMatch) p q
-  grants_by LastMatch n a p q = place_once (request_for n a LastMatch) p q
-  grants_by (ExactMatch t) n a p q = start_once t n _ _ (place_once (request_for n a (ExactMatch t))) p q
+  grants_by FirstMatch w n a p q = place_once (request_in w n a FirstMatch) p q
+  grants_by LastMatch w n a p q = place_once (request_in w n a LastMatch) p q
+  grants_by (ExactMatch t) w n a p q = start_once t n (within w old) _ _ (place_once (request_in w n a (ExactMatch t))) p q
 
   request_once : (request : Request) → Allocates old request answer new → Allocates old request other later → Agree
   unfolding Allocates ByConstraint
   request_once request p q =
       both _ _ _ _ _ Agree (refused_once _)
       (both_unless _ _ _ _ _ Agree (refused_once _)
-      (both_unless _ _ _ _ _ Agree (refused_once _) (grants_by request.policy request.size request.align))) p q
+      (both_unless _ _ _ _ _ Agree (refused_once _) (grants_by request.policy request.window request.size request.align))) p q
 
 pub allocates_once : AllocatesOnce
 allocates_once old new later request answer other = request_once old new later answer other request

@@ -1,8 +1,10 @@
 -- A request fails, or the range at the chosen place is allocated.
-use Rattle.std.proofs.Common.{◌≡◌, ℕ, ◌+◌, ◌-◌, arith, inl, inr, ◌⊎◌, ⊎_elim, Result, Err}
+use Rattle.std.proofs.Common.{◌≡◌, ℕ, ◌+◌, ◌-◌, arith, inl, inr, ◌⊎◌, ⊎_elim, Option, Result, Err}
 use Rattle.vm_ranges.specs.Range.{Range, MAX, span}
 use Rattle.vm_engine.specs.Address.{AddressState}
-use Rattle.vm_ranges.specs.Request.{Request, request_for, IsRequest, ByConstraint}
+use Rattle.vm_ranges.specs.Request.{Request, IsRequest, ByConstraint}
+use Rattle.vm_engine.specs.Windows.{within}
+use Rattle.vm_engine.proofs.Answers.Requests.{request_in}
 use Rattle.vm_engine.specs.Answer.{IsChosen, ByStart, ByExactPolicy, ByPlace, AllocatesAt, Grants, Allocates}
 use Rattle.vm_ranges.specs.declared.error.Error.{Error}
 use Rattle.vm_ranges.specs.declared.error.Error.TheVariants.{Overflow, ResourceNotAvailable}
@@ -32,9 +34,9 @@ module _ (old new : AddressState) (answer : Result Range Error) where
       (λ r. or_rest _ _ _ (IsTaken request old answer new) Overflow (λ d t. inr (r.0, r.1, d, t)) r.2)
       h
 
-  start_outcome : (t n : ℕ) (P G : Type 0) → (P → IsRefused old answer new ⊎ G) → ByStart t n old (λ e. (answer ≡ Err e) × (new ≡ old)) P → IsRefused old answer new ⊎ G
+  start_outcome : (t n : ℕ) (view : AddressState) (P G : Type 0) → (P → IsRefused old answer new ⊎ G) → ByStart t n view (λ e. (answer ≡ Err e) × (new ≡ old)) P → IsRefused old answer new ⊎ G
   unfolding ByStart
-  start_outcome t n P G rest h =
+  start_outcome t n view P G rest h =
       or_rest _ _ _ G _
       (λ d. or_rest _ _ _ G _
       (λ d. or_rest _ _ _ G _
@@ -43,15 +45,15 @@ module _ (old new : AddressState) (answer : Result Range Error) where
       (λ d. or_rest _ _ _ G _
       (λ d. rest)))))) h
 
-  outcome_by : (policy : AllocPolicy) (n a : ℕ) → Grants old (request_for n a policy) answer new → IsRefused old answer new ⊎ IsTaken (request_for n a policy) old answer new
+  outcome_by : (policy : AllocPolicy) (w : Option Range) (n a : ℕ) → Grants old (request_in w n a policy) answer new → IsRefused old answer new ⊎ IsTaken (request_in w n a policy) old answer new
   unfolding Grants ByExactPolicy
-  outcome_by FirstMatch n a h = place_outcome (request_for n a FirstMatch) h
-  outcome_by LastMatch n a h = place_outcome (request_for n a LastMatch) h
-  outcome_by (ExactMatch t) n a h =
-      let request = request_for n a (ExactMatch t) in start_outcome t n _ (IsTaken request old answer new) (place_outcome request) h
+  outcome_by FirstMatch w n a h = place_outcome (request_in w n a FirstMatch) h
+  outcome_by LastMatch w n a h = place_outcome (request_in w n a LastMatch) h
+  outcome_by (ExactMatch t) w n a h =
+      let request = request_in w n a (ExactMatch t) in start_outcome t n (within w old) _ (IsTaken request old answer new) (place_outcome request) h
 
   pub grants_outcome : (request : Request) → Grants old request answer new → IsRefused old answer new ⊎ IsTaken request old answer new
-  grants_outcome request = outcome_by request.policy request.size request.align
+  grants_outcome request = outcome_by request.policy request.window request.size request.align
 
   pub allocates_outcome : (request : Request) → Allocates old request answer new → IsRefused old answer new ⊎ (IsRequest request × IsTaken request old answer new)
   unfolding Allocates ByConstraint

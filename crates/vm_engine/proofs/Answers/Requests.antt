@@ -1,16 +1,19 @@
 -- From the constraint of a request to its result.
-use Rattle.std.proofs.Common.{◌≡◌, refl, sym, ap, Result, Ok, Err, subst}
+use Rattle.std.proofs.Common.{◌≡◌, ℕ, Option, refl, sym, ap, Result, Ok, Err, subst}
 use Rattle.vm_ranges.specs.Range.{Range}
-use Rattle.vm_ranges.specs.Request.{Request, request_for, MakesConstraint}
+use Rattle.vm_ranges.specs.Request.{Request, MakesConstraint}
 use Rattle.vm_ranges.specs.declared.error.Error.{Error}
 use Rattle.vm_ranges.specs.declared.constraint.AllocPolicy.{AllocPolicy}
 use Rattle.vm_ranges.proofs.Requests.{constraint_map}
 use Rattle.vm_engine.specs.Address.{AddressState}
 use Rattle.vm_engine.specs.Answer.{Grants, Allocates}
 
--- The request, with its policy written out.
-pub with_policy : (request : Request) (policy : AllocPolicy) → request.policy ≡ policy → request_for request.size request.align policy ≡ request
-with_policy request policy e = ap (request_for request.size request.align) (sym e)
+-- The request with its policy and its window written out.
+abbrev pub request_in : Option Range → ℕ → ℕ → AllocPolicy → Request
+request_in window size align policy = record { size = size; align = align; policy = policy; window = window }
+
+pub with_policy : (request : Request) (policy : AllocPolicy) → request.policy ≡ policy → request_in request.window request.size request.align policy ≡ request
+with_policy request policy e = ap (request_in request.window request.size request.align) (sym e)
 
 -- A request that makes no constraint fails with the same error.
 pub allocates_refused : (old : AddressState) (request : Request) (x : Error) → MakesConstraint request (Err x) → Allocates old request (Err x) old

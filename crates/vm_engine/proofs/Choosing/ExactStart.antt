@@ -29,7 +29,7 @@ pub exact_at_max : (st : AddressState) (n a t : ℕ) → t ≡ MAX → Grants st
 unfolding Grants ByExactPolicy ByStart
 exact_at_max st n a t e = inl (e, (refl, refl))
 
-all_missed : (p : NodeState) (lo hi x : ℕ) (bs : List Block) → Tiles p lo bs hi → All (λ b. ¬ IsIn b.key x) bs → lo ≤ x → x ≤ hi → ⊥
+pub all_missed : (p : NodeState) (lo hi x : ℕ) (bs : List Block) → Tiles p lo bs hi → All (λ b. ¬ IsIn b.key x) bs → lo ≤ x → x ≤ hi → ⊥
 all_missed p lo hi x [] t m l o = omega arith
 all_missed p lo hi x (b ∷ bs) t m l o =
     ⊎_elim (λ (g : b.key.end < x). all_missed b.state (b.key.end + 1) hi x bs t.3 (All-tail (λ c. ¬ IsIn c.key x) b bs m) (omega arith) o)
@@ -59,11 +59,11 @@ pub record IsWithin (sp : Range) (bs : List Block) (b : Block) (n t : ℕ) : Typ
   pub some : 0 < n
   pub below : t < MAX
 
-in_space : (p : NodeState) (lo hi x : ℕ) (b : Block) (xs ys : List Block) → Tiles p lo (xs ++ b ∷ ys) hi → IsIn b.key x → (lo ≤ x) × (x ≤ hi)
+pub in_space : (p : NodeState) (lo hi x : ℕ) (b : Block) (xs ys : List Block) → Tiles p lo (xs ++ b ∷ ys) hi → IsIn b.key x → (lo ≤ x) × (x ≤ hi)
 in_space p lo hi x b [] ys t i = (omega (arith, t.0, i.0), omega (arith, i.1, tiles_end b.state (b.key.end + 1) hi ys t.3))
 in_space p lo hi x b (y ∷ xs) ys t i = let g = in_space y.state (y.key.end + 1) hi x b xs ys t.3 i in (omega (arith, g.0, t.0, t.1), g.1)
 
-as_cut : (sp : Range) (bs : List Block) (b : Block) (n t : ℕ) (w : IsWithin sp bs b n t) → Tiles Allocated sp.start (w.before ++ b ∷ w.after) sp.end
+pub as_cut : (sp : Range) (bs : List Block) (b : Block) (n t : ℕ) (w : IsWithin sp bs b n t) → Tiles Allocated sp.start (w.before ++ b ∷ w.after) sp.end
 unfolding TilesSpace
 as_cut sp bs b n t w = subst (λ (v : List Block). Tiles Allocated sp.start v sp.end) w.cut w.tiles
 
@@ -115,7 +115,7 @@ same_run p lo hi s e b (y ∷ xs) ys t l i f =
     (λ (g : InFreeBlock (xs ++ b ∷ ys) s e). same_run y.state (y.key.end + 1) hi s e b xs ys t.3 l i g) f
 
 -- The addresses are clear exactly if the block is free and they lie in it.
-clear_in_block : (sp : Range) (bs : List Block) (b : Block) (n t : ℕ) → IsWithin sp bs b n t → AreClear n (blocks_state sp bs) t → (b.state ≡ Free) × (t + n - 1 ≤ b.key.end)
+pub clear_in_block : (sp : Range) (bs : List Block) (b : Block) (n t : ℕ) → IsWithin sp bs b n t → AreClear n (blocks_state sp bs) t → (b.state ≡ Free) × (t + n - 1 ≤ b.key.end)
 unfolding TilesSpace
 clear_in_block sp bs b n t w c =
     let z = w.some in
@@ -131,7 +131,7 @@ block_clear sp bs b n t w f o x l m =
     let c = free_is_clear Allocated sp.start sp.end t (t + n - 1) x bs w.tiles row l (omega arith) in
     ((c.0, c.1), all_miss (held_of bs) x c.2)
 
-free_not_held : (sp : Range) (bs : List Block) (b : Block) (n t : ℕ) → IsWithin sp bs b n t → b.state ≡ Free → ¬ IsHeld (held_of bs) (span t n)
+pub free_not_held : (sp : Range) (bs : List Block) (b : Block) (n t : ℕ) → IsWithin sp bs b n t → b.state ≡ Free → ¬ IsHeld (held_of bs) (span t n)
 unfolding TilesSpace
 free_not_held sp bs b n t w f h =
     let z = w.some in

@@ -12,7 +12,7 @@ use Rattle.vm_ranges.specs.declared.state.NodeState.{NodeState}
 use Rattle.vm_ranges.specs.declared.state.NodeState.TheVariants.{Free, Allocated}
 use Rattle.vm_engine.proofs.Blocks.Gaps.{InFreeBlock, in_free_block, free_is_clear}
 
-place_in_block : (state : AddressState) (bs : List Block) (n a t : ℕ) → IsBlocksOf state bs → 0 < n → IsPlace n a state t → InFreeBlock bs t (t + n - 1)
+pub place_in_block : (state : AddressState) (bs : List Block) (n a t : ℕ) → IsBlocksOf state bs → 0 < n → IsPlace n a state t → InFreeBlock bs t (t + n - 1)
 unfolding IsPlace
 place_in_block state bs n a t h z p =
     let first = p.1 t (omega arith) (omega arith) in
@@ -28,11 +28,11 @@ block_place state bs n a t h z d f = (
       ((c.0, c.1), all_miss state.held x (λ k. c.2 (subst (λ (hs : List Range). IsHeldAddress hs x) (sym h.held) k))),
 )
 
-place_divides : (state : AddressState) (n a t : ℕ) → IsPlace n a state t → t % a ≡ 0
+pub place_divides : (state : AddressState) (n a t : ℕ) → IsPlace n a state t → t % a ≡ 0
 unfolding IsPlace
 place_divides state n a t p = p.0
 
-fit_within : (xs ys : List Block) (b : Block) (n a t : ℕ) → 0 < n → IsFit n a b t → InFreeBlock (xs ++ b ∷ ys) t (t + n - 1)
+pub fit_within : (xs ys : List Block) (b : Block) (n a t : ℕ) → 0 < n → IsFit n a b t → InFreeBlock (xs ++ b ∷ ys) t (t + n - 1)
 fit_within [] ys b n a t z f = inl (f.0, f.2, omega (arith, f.3))
 fit_within (x ∷ xs) ys b n a t z f = inr (fit_within xs ys b n a t z f)
 

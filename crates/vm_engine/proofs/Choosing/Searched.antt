@@ -4,11 +4,14 @@ use Rattle.std.specs.List.{All}
 use Rattle.vm_ranges.specs.Range.{Range, MAX, span}
 use Rattle.vm_engine.specs.Tree.Block.{Block, free_block}
 use Rattle.vm_engine.specs.Address.{AddressState, IsPlace, IsLowestPlace, IsHighestPlace}
-use Rattle.vm_ranges.specs.Request.{Request, request_for, IsRequest}
+use Rattle.vm_ranges.specs.Request.{Request, IsRequest}
 use Rattle.vm_engine.specs.Answer.{IsChosen, ByExactPolicy, ByPlace, AllocatesAt, Grants}
 use Rattle.vm_engine.specs.Tree.Fit.{HasNoFit, IsLowestFit, IsHighestFit}
 use Rattle.vm_engine.specs.Tree.BlockEdits.{IsTakenFrom, HasLength}
 use Rattle.vm_engine.specs.Engine.Place.{IsFirstFit, IsLastFit, FindsFirst, FindsLast}
+use Rattle.vm_engine.specs.Engine.WindowPlace.{HasNoFitIn, IsFirstFitIn, IsLastFitIn, FindsFirstIn, FindsLastIn}
+use Rattle.vm_engine.specs.Windows.{within, cut_to}
+use Rattle.vm_engine.specs.Tree.Blocks.{IsBlocksOf}
 use Rattle.vm_engine.specs.Tree.Shape.{Shape, blocks}
 use Rattle.vm_engine.specs.Engine.Choosing.{ChoosesAt, IsChoice, AllocatingGrants, Chooses, ChoosesBelowMax}
 use Rattle.vm_engine.specs.Tree.SpaceTree.{space_of, tree_state, IsSpaceTree}
@@ -18,11 +21,12 @@ use Rattle.vm_ranges.specs.declared.constraint.AllocPolicy.{AllocPolicy}
 use Rattle.vm_ranges.specs.declared.constraint.AllocPolicy.TheVariants.{FirstMatch, LastMatch, ExactMatch}
 use Rattle.vm_engine.specs.declared.node.places.Place.{Place}
 use Rattle.vm_engine.specs.declared.node.split.Choice.{Choice}
-use Rattle.vm_engine.proofs.Answers.Requests.{with_policy}
+use Rattle.vm_engine.proofs.Answers.Requests.{request_in, with_policy}
 use Rattle.vm_engine.proofs.Answers.Once.{chosen_once}
 use Rattle.vm_engine.specs.Counts.Steps.{NoneEndsBelowMax}
-use Rattle.vm_engine.proofs.Counts.NodeCountCases.{search_first, search_last}
+use Rattle.vm_engine.proofs.Counts.NodeCountCases.{search_first, search_last, search_first_in, search_last_in}
 use Rattle.vm_engine.proofs.Choosing.Places.{lowest_place, highest_place, no_place}
+use Rattle.vm_engine.proofs.Choosing.WindowPlaces.{lowest_place_in, highest_place_in, no_place_in}
 use Rattle.vm_engine.proofs.Splitting.TakenRanges.{as_blocks}
 
 -- ---- Requests with the policy FirstMatch or LastMatch
@@ -30,18 +34,18 @@ abbrev pub IsNotExact : AllocPolicy → Type 0
 IsNotExact policy = (policy ≡ FirstMatch) ⊎ (policy ≡ LastMatch)
 
 -- Their result depends only on the places.
-grants_by : (policy : AllocPolicy) (n a : ℕ) (old new : AddressState) (answer : Result Range Error) → IsNotExact policy → ByPlace (request_for n a policy) old (λ e. (answer ≡ Err e) × (new ≡ old)) (λ r. AllocatesAt old r answer new) → Grants old (request_for n a policy) answer new
+grants_by : (policy : AllocPolicy) (w : Option Range) (n a : ℕ) (old new : AddressState) (answer : Result Range Error) → IsNotExact policy → ByPlace (request_in w n a policy) old (λ e. (answer ≡ Err e) × (new ≡ old)) (λ r. AllocatesAt old r answer new) → Grants old (request_in w n a policy) answer new
 unfolding Grants ByExactPolicy
-grants_by FirstMatch n a old new answer p h = h
-grants_by LastMatch n a old new answer p h = h
-grants_by (ExactMatch t) n a old new answer p h = absurd (⊎_elim (λ e. cc e) (λ e. cc e) p)
+grants_by FirstMatch w n a old new answer p h = h
+grants_by LastMatch w n a old new answer p h = h
+grants_by (ExactMatch t) w n a old new answer p h = absurd (⊎_elim (λ e. cc e) (λ e. cc e) p)
 
 -- A request with a known policy.
 module _ (request : Request) (old : AddressState) (searched : IsNotExact request.policy) where
   places_grant : (new : AddressState) (answer : Result Range Error) → ByPlace request old (λ e. (answer ≡ Err e) × (new ≡ old)) (λ r. AllocatesAt old r answer new) → Grants old request answer new
-  places_grant new answer = grants_by request.policy request.size request.align old new answer searched
+  places_grant new answer = grants_by request.policy request.window request.size request.align old new answer searched
 
-  none_grants : ((s : ℕ) → ¬ IsPlace request.size request.align old s) → Grants old request (Err ResourceNotAvailable) old
+  none_grants : ((s : ℕ) → ¬ IsPlace request.size request.align (within request.window old) s) → Grants old request (Err ResourceNotAvailable) old
   unfolding ByPlace
   none_grants none = places_grant old (Err ResourceNotAvailable) (inl (none, (refl, refl)))
 
@@ -78,13 +82,33 @@ found_chooses request s place answer p f h =
     ))
     h
 
-none_chooses : (request : Request) (s : Shape) → IsNotExact request.policy → IsSpaceTree s → IsRequest request → All (HasNoFit request.size request.align) (blocks s) → Chooses s request (Err ResourceNotAvailable)
+none_chooses : (request : Request) (s : Shape) → IsNotExact request.policy → ((t : ℕ) → ¬ IsPlace request.size request.align (within request.window (tree_state s)) t) → Chooses s request (Err ResourceNotAvailable)
 unfolding Chooses
-none_chooses request s p t r h =
-    none_grants request (tree_state s) p (no_place (tree_state s) (blocks s) request.size request.align (as_blocks (space_of (blocks s)) (blocks s) t.tiling.tiles) r.some h)
+none_chooses request s p none = none_grants request (tree_state s) p none
+
+-- A search without a window is one of the whole state.
+whole : (P : AddressState → Type 0) (request : Request) (state : AddressState) → request.window ≡ None → P state → P (within request.window state)
+whole P request state e h = subst (λ (v : Option Range). P (within v state)) (sym e) h
+
+-- A search within a window.
+restricted : (P : AddressState → Type 0) (request : Request) (w : Range) (state : AddressState) → request.window ≡ Some w → P (within (Some w) state) → P (within request.window state)
+restricted P request w state e h = subst (λ (v : Option Range). P (within v state)) (sym e) h
+
+tree_is : (s : Shape) → IsSpaceTree s → IsBlocksOf (tree_state s) (blocks s)
+tree_is s t = as_blocks (space_of (blocks s)) (blocks s) t.tiling.tiles
+
+no_place_whole : (request : Request) (s : Shape) → request.window ≡ None → IsSpaceTree s → IsRequest request → All (HasNoFit request.size request.align) (blocks s) → (t : ℕ) → ¬ IsPlace request.size request.align (within request.window (tree_state s)) t
+no_place_whole request s e h r none =
+    whole (λ (v : AddressState). (t : ℕ) → ¬ IsPlace request.size request.align v t) request (tree_state s) e
+    (no_place (tree_state s) (blocks s) request.size request.align (tree_is s h) r.some none)
+
+no_place_restricted : (request : Request) (w : Range) (s : Shape) → request.window ≡ Some w → IsSpaceTree s → IsRequest request → All (HasNoFitIn w request.size request.align) (blocks s) → (t : ℕ) → ¬ IsPlace request.size request.align (within request.window (tree_state s)) t
+no_place_restricted request w s e h r none =
+    restricted (λ (v : AddressState). (t : ℕ) → ¬ IsPlace request.size request.align v t) request w (tree_state s) e
+    (no_place_in w request.size request.align (tree_state s) (blocks s) (tree_is s h) r.some none)
 
 -- ---- The first fit
-lowest_chosen : (request : Request) (t : ℕ) (state : AddressState) → request.policy ≡ FirstMatch → IsLowestPlace request.size request.align state t → IsChosen request state t
+lowest_chosen : (request : Request) (t : ℕ) (state : AddressState) → request.policy ≡ FirstMatch → IsLowestPlace request.size request.align (within request.window state) t → IsChosen request state t
 unfolding IsChosen
 lowest_chosen request t state e l = subst (λ (v : Request). IsChosen v state t) (with_policy request FirstMatch e) l
 
@@ -92,35 +116,58 @@ lowest_room : (n a s : ℕ) (b : Block) → IsLowestFit n a b s → HasLength s 
 unfolding IsLowestFit HasLength
 lowest_room n a s b f = (f.0.2, f.0.3)
 
+lowest_room_in : (w : Range) (n a s : ℕ) (b : Block) → IsLowestFit n a (cut_to w b) s → HasLength s n b
+unfolding IsLowestFit HasLength
+lowest_room_in w n a s b f = (omega (arith, f.0.2), omega (arith, f.0.3))
+
 first_has_room : (n a : ℕ) (bs : List Block) (place : Place) → IsFirstFit n a bs place → HasLength place.start n (free_block place.key)
 first_has_room n a bs place f = lowest_room n a place.start (free_block place.key) f.fit
 
-first_found : (request : Request) (s : Shape) (place : Place) → request.policy ≡ FirstMatch → IsSpaceTree s → IsRequest request → IsFirstFit request.size request.align (blocks s) place → IsFound request s place
-first_found request s place p t r f = record {
+first_has_room_in : (w : Range) (n a : ℕ) (bs : List Block) (place : Place) → IsFirstFitIn w n a bs place → HasLength place.start n (free_block place.key)
+first_has_room_in w n a bs place f = lowest_room_in w n a place.start (free_block place.key) f.fit
+
+first_found : (request : Request) (s : Shape) (place : Place) → request.policy ≡ FirstMatch → request.window ≡ None → IsSpaceTree s → IsRequest request → IsFirstFit request.size request.align (blocks s) place → IsFound request s place
+first_found request s place p e t r f = record {
   some = r.some;
   before = f.before;
   after = f.after;
   cut = f.cut;
   room = first_has_room request.size request.align (blocks s) place f;
-  chosen = lowest_chosen request place.start (tree_state s) p (lowest_place (tree_state s) (blocks s) f.before f.after (free_block place.key) request.size request.align place.start (as_blocks (space_of (blocks s)) (blocks s) t.tiling.tiles) f.cut r.some f.none f.fit);
+  chosen = lowest_chosen request place.start (tree_state s) p (
+      whole (λ (v : AddressState). IsLowestPlace request.size request.align v place.start) request (tree_state s) e (
+      lowest_place (tree_state s) (blocks s) f.before f.after (free_block place.key) request.size request.align place.start (tree_is s t) f.cut r.some f.none f.fit));
 }
 
-none_first : (request : Request) (s : Shape) → IsSpaceTree s → IsRequest request → request.policy ≡ FirstMatch → All (HasNoFit request.size request.align) (blocks s) → Chooses s request (Err ResourceNotAvailable)
-none_first request s t r p h = none_chooses request s (inl p) t r h
-
-chooses_first : (request : Request) (s : Shape) (place : Place) (answer : Result Choice Error) → IsSpaceTree s → IsRequest request → request.policy ≡ FirstMatch → IsFirstFit request.size request.align (blocks s) place → ChoosesBelowMax place.key place.start request.size answer → Chooses s request answer
-chooses_first request s place answer t r p f h = found_chooses request s place answer (inl p) (first_found request s place p t r f) h
+first_found_in : (request : Request) (w : Range) (s : Shape) (place : Place) → request.policy ≡ FirstMatch → request.window ≡ Some w → IsSpaceTree s → IsRequest request → IsFirstFitIn w request.size request.align (blocks s) place → IsFound request s place
+first_found_in request w s place p e t r f = record {
+  some = r.some;
+  before = f.before;
+  after = f.after;
+  cut = f.cut;
+  room = first_has_room_in w request.size request.align (blocks s) place f;
+  chosen = lowest_chosen request place.start (tree_state s) p (
+      restricted (λ (v : AddressState). IsLowestPlace request.size request.align v place.start) request w (tree_state s) e (
+      lowest_place_in w request.size request.align (tree_state s) (blocks s) (tree_is s t) r.some f.before f.after (free_block place.key) place.start f.cut f.none f.fit));
+}
 
 pub first_room : (n a : ℕ) (bs : List Block) (found : Option Place) → FindsFirst n a bs found → IfSome found (λ place. HasLength place.start n (free_block place.key))
 first_room n a bs None f = tt
 first_room n a bs (Some place) f = first_has_room n a bs place f
 
-pub first_chooses : (request : Request) (s : Shape) (found : Option Place) (answer : Result Choice Error) → IsSpaceTree s → IsRequest request → request.policy ≡ FirstMatch → FindsFirst request.size request.align (blocks s) found → ChoosesAt found request.size answer → Chooses s request answer
-first_chooses request s None answer t r p f h = subst (Chooses s request) (sym h) (none_first request s t r p f)
-first_chooses request s (Some place) answer t r p f h = chooses_first request s place answer t r p f h
+pub first_room_in : (w : Range) (n a : ℕ) (bs : List Block) (found : Option Place) → FindsFirstIn w n a bs found → IfSome found (λ place. HasLength place.start n (free_block place.key))
+first_room_in w n a bs None f = tt
+first_room_in w n a bs (Some place) f = first_has_room_in w n a bs place f
+
+pub first_chooses : (request : Request) (s : Shape) (found : Option Place) (answer : Result Choice Error) → IsSpaceTree s → IsRequest request → request.policy ≡ FirstMatch → request.window ≡ None → FindsFirst request.size request.align (blocks s) found → ChoosesAt found request.size answer → Chooses s request answer
+first_chooses request s None answer t r p e f h = subst (Chooses s request) (sym h) (none_chooses request s (inl p) (no_place_whole request s e t r f))
+first_chooses request s (Some place) answer t r p e f h = found_chooses request s place answer (inl p) (first_found request s place p e t r f) h
+
+pub first_chooses_in : (request : Request) (w : Range) (s : Shape) (found : Option Place) (answer : Result Choice Error) → IsSpaceTree s → IsRequest request → request.policy ≡ FirstMatch → request.window ≡ Some w → FindsFirstIn w request.size request.align (blocks s) found → ChoosesAt found request.size answer → Chooses s request answer
+first_chooses_in request w s None answer t r p e f h = subst (Chooses s request) (sym h) (none_chooses request s (inl p) (no_place_restricted request w s e t r f))
+first_chooses_in request w s (Some place) answer t r p e f h = found_chooses request s place answer (inl p) (first_found_in request w s place p e t r f) h
 
 -- ---- The last fit
-highest_chosen : (request : Request) (t : ℕ) (state : AddressState) → request.policy ≡ LastMatch → IsHighestPlace request.size request.align state t → IsChosen request state t
+highest_chosen : (request : Request) (t : ℕ) (state : AddressState) → request.policy ≡ LastMatch → IsHighestPlace request.size request.align (within request.window state) t → IsChosen request state t
 unfolding IsChosen
 highest_chosen request t state e l = subst (λ (v : Request). IsChosen v state t) (with_policy request LastMatch e) l
 
@@ -128,32 +175,55 @@ highest_room : (n a s : ℕ) (b : Block) → IsHighestFit n a b s → HasLength 
 unfolding IsHighestFit HasLength
 highest_room n a s b f = (f.0.2, f.0.3)
 
+highest_room_in : (w : Range) (n a s : ℕ) (b : Block) → IsHighestFit n a (cut_to w b) s → HasLength s n b
+unfolding IsHighestFit HasLength
+highest_room_in w n a s b f = (omega (arith, f.0.2), omega (arith, f.0.3))
+
 last_has_room : (n a : ℕ) (bs : List Block) (place : Place) → IsLastFit n a bs place → HasLength place.start n (free_block place.key)
 last_has_room n a bs place f = highest_room n a place.start (free_block place.key) f.fit
 
-last_found : (request : Request) (s : Shape) (place : Place) → request.policy ≡ LastMatch → IsSpaceTree s → IsRequest request → IsLastFit request.size request.align (blocks s) place → IsFound request s place
-last_found request s place p t r f = record {
+last_has_room_in : (w : Range) (n a : ℕ) (bs : List Block) (place : Place) → IsLastFitIn w n a bs place → HasLength place.start n (free_block place.key)
+last_has_room_in w n a bs place f = highest_room_in w n a place.start (free_block place.key) f.fit
+
+last_found : (request : Request) (s : Shape) (place : Place) → request.policy ≡ LastMatch → request.window ≡ None → IsSpaceTree s → IsRequest request → IsLastFit request.size request.align (blocks s) place → IsFound request s place
+last_found request s place p e t r f = record {
   some = r.some;
   before = f.before;
   after = f.after;
   cut = f.cut;
   room = last_has_room request.size request.align (blocks s) place f;
-  chosen = highest_chosen request place.start (tree_state s) p (highest_place (tree_state s) (blocks s) f.before f.after (free_block place.key) request.size request.align place.start (as_blocks (space_of (blocks s)) (blocks s) t.tiling.tiles) f.cut r.some f.none f.fit);
+  chosen = highest_chosen request place.start (tree_state s) p (
+      whole (λ (v : AddressState). IsHighestPlace request.size request.align v place.start) request (tree_state s) e (
+      highest_place (tree_state s) (blocks s) f.before f.after (free_block place.key) request.size request.align place.start (tree_is s t) f.cut r.some f.none f.fit));
 }
 
-none_last : (request : Request) (s : Shape) → IsSpaceTree s → IsRequest request → request.policy ≡ LastMatch → All (HasNoFit request.size request.align) (blocks s) → Chooses s request (Err ResourceNotAvailable)
-none_last request s t r p h = none_chooses request s (inr p) t r h
-
-chooses_last : (request : Request) (s : Shape) (place : Place) (answer : Result Choice Error) → IsSpaceTree s → IsRequest request → request.policy ≡ LastMatch → IsLastFit request.size request.align (blocks s) place → ChoosesBelowMax place.key place.start request.size answer → Chooses s request answer
-chooses_last request s place answer t r p f h = found_chooses request s place answer (inr p) (last_found request s place p t r f) h
+last_found_in : (request : Request) (w : Range) (s : Shape) (place : Place) → request.policy ≡ LastMatch → request.window ≡ Some w → IsSpaceTree s → IsRequest request → IsLastFitIn w request.size request.align (blocks s) place → IsFound request s place
+last_found_in request w s place p e t r f = record {
+  some = r.some;
+  before = f.before;
+  after = f.after;
+  cut = f.cut;
+  room = last_has_room_in w request.size request.align (blocks s) place f;
+  chosen = highest_chosen request place.start (tree_state s) p (
+      restricted (λ (v : AddressState). IsHighestPlace request.size request.align v place.start) request w (tree_state s) e (
+      highest_place_in w request.size request.align (tree_state s) (blocks s) (tree_is s t) r.some f.before f.after (free_block place.key) place.start f.cut f.none f.fit));
+}
 
 pub last_room : (n a : ℕ) (bs : List Block) (found : Option Place) → FindsLast n a bs found → IfSome found (λ place. HasLength place.start n (free_block place.key))
 last_room n a bs None f = tt
 last_room n a bs (Some place) f = last_has_room n a bs place f
 
-pub last_chooses : (request : Request) (s : Shape) (found : Option Place) (answer : Result Choice Error) → IsSpaceTree s → IsRequest request → request.policy ≡ LastMatch → FindsLast request.size request.align (blocks s) found → ChoosesAt found request.size answer → Chooses s request answer
-last_chooses request s None answer t r p f h = subst (Chooses s request) (sym h) (none_last request s t r p f)
-last_chooses request s (Some place) answer t r p f h = chooses_last request s place answer t r p f h
+pub last_room_in : (w : Range) (n a : ℕ) (bs : List Block) (found : Option Place) → FindsLastIn w n a bs found → IfSome found (λ place. HasLength place.start n (free_block place.key))
+last_room_in w n a bs None f = tt
+last_room_in w n a bs (Some place) f = last_has_room_in w n a bs place f
+
+pub last_chooses : (request : Request) (s : Shape) (found : Option Place) (answer : Result Choice Error) → IsSpaceTree s → IsRequest request → request.policy ≡ LastMatch → request.window ≡ None → FindsLast request.size request.align (blocks s) found → ChoosesAt found request.size answer → Chooses s request answer
+last_chooses request s None answer t r p e f h = subst (Chooses s request) (sym h) (none_chooses request s (inr p) (no_place_whole request s e t r f))
+last_chooses request s (Some place) answer t r p e f h = found_chooses request s place answer (inr p) (last_found request s place p e t r f) h
+
+pub last_chooses_in : (request : Request) (w : Range) (s : Shape) (found : Option Place) (answer : Result Choice Error) → IsSpaceTree s → IsRequest request → request.policy ≡ LastMatch → request.window ≡ Some w → FindsLastIn w request.size request.align (blocks s) found → ChoosesAt found request.size answer → Chooses s request answer
+last_chooses_in request w s None answer t r p e f h = subst (Chooses s request) (sym h) (none_chooses request s (inr p) (no_place_restricted request w s e t r f))
+last_chooses_in request w s (Some place) answer t r p e f h = found_chooses request s place answer (inr p) (last_found_in request w s place p e t r f) h
 
 -- ---- The error Overflow of a search
 found_over : (request : Request) (s : Shape) (place : Place) (answer : Result Choice Error) → IsFound request s place → ChoosesBelowMax place.key place.start request.size answer → answer ≡ Err Overflow → NoneEndsBelowMax (tree_state s) request
@@ -164,23 +234,41 @@ found_over request s place answer f h o =
     (λ k. absurd (cc (k.1, o)))
     h
 
-first_over_is : (request : Request) (s : Shape) (found : Option Place) (answer : Result Choice Error) → IsSpaceTree s → IsRequest request → request.policy ≡ FirstMatch → FindsFirst request.size request.align (blocks s) found → ChoosesAt found request.size answer → answer ≡ Err Overflow → NoneEndsBelowMax (tree_state s) request
-first_over_is request s None answer t r p f h o = absurd (cc (h, o))
-first_over_is request s (Some place) answer t r p f h o = found_over request s place answer (first_found request s place p t r f) h o
+first_over_is : (request : Request) (s : Shape) (found : Option Place) (answer : Result Choice Error) → IsSpaceTree s → IsRequest request → request.policy ≡ FirstMatch → request.window ≡ None → FindsFirst request.size request.align (blocks s) found → ChoosesAt found request.size answer → answer ≡ Err Overflow → NoneEndsBelowMax (tree_state s) request
+first_over_is request s None answer t r p e f h o = absurd (cc (h, o))
+first_over_is request s (Some place) answer t r p e f h o = found_over request s place answer (first_found request s place p e t r f) h o
 
-last_over_is : (request : Request) (s : Shape) (found : Option Place) (answer : Result Choice Error) → IsSpaceTree s → IsRequest request → request.policy ≡ LastMatch → FindsLast request.size request.align (blocks s) found → ChoosesAt found request.size answer → answer ≡ Err Overflow → NoneEndsBelowMax (tree_state s) request
-last_over_is request s None answer t r p f h o = absurd (cc (h, o))
-last_over_is request s (Some place) answer t r p f h o = found_over request s place answer (last_found request s place p t r f) h o
+first_over_is_in : (request : Request) (w : Range) (s : Shape) (found : Option Place) (answer : Result Choice Error) → IsSpaceTree s → IsRequest request → request.policy ≡ FirstMatch → request.window ≡ Some w → FindsFirstIn w request.size request.align (blocks s) found → ChoosesAt found request.size answer → answer ≡ Err Overflow → NoneEndsBelowMax (tree_state s) request
+first_over_is_in request w s None answer t r p e f h o = absurd (cc (h, o))
+first_over_is_in request w s (Some place) answer t r p e f h o = found_over request s place answer (first_found_in request w s place p e t r f) h o
 
-pub first_over : (request : Request) (s : Shape) (found : Option Place) (answer : Result Choice Error) → IsSpaceTree s → IsRequest request → request.policy ≡ FirstMatch → FindsFirst request.size request.align (blocks s) found → ChoosesAt found request.size answer → IfErr answer (λ e. e ≡ Overflow → NoneEndsBelowMax (tree_state s) request)
-first_over request s found (Ok c) t r p f h = tt
-first_over request s found (Err e) t r p f h = λ o. first_over_is request s found (Err e) t r p f h (ap (λ (v : Error). Err v) o)
+pub first_over : (request : Request) (s : Shape) (found : Option Place) (answer : Result Choice Error) → IsSpaceTree s → IsRequest request → request.policy ≡ FirstMatch → request.window ≡ None → FindsFirst request.size request.align (blocks s) found → ChoosesAt found request.size answer → IfErr answer (λ e. e ≡ Overflow → NoneEndsBelowMax (tree_state s) request)
+first_over request s found (Ok c) t r p e f h = tt
+first_over request s found (Err x) t r p e f h = λ o. first_over_is request s found (Err x) t r p e f h (ap (λ (v : Error). Err v) o)
 
-pub last_over : (request : Request) (s : Shape) (found : Option Place) (answer : Result Choice Error) → IsSpaceTree s → IsRequest request → request.policy ≡ LastMatch → FindsLast request.size request.align (blocks s) found → ChoosesAt found request.size answer → IfErr answer (λ e. e ≡ Overflow → NoneEndsBelowMax (tree_state s) request)
-last_over request s found (Ok c) t r p f h = tt
-last_over request s found (Err e) t r p f h = λ o. last_over_is request s found (Err e) t r p f h (ap (λ (v : Error). Err v) o)
+pub first_over_in : (request : Request) (w : Range) (s : Shape) (found : Option Place) (answer : Result Choice Error) → IsSpaceTree s → IsRequest request → request.policy ≡ FirstMatch → request.window ≡ Some w → FindsFirstIn w request.size request.align (blocks s) found → ChoosesAt found request.size answer → IfErr answer (λ e. e ≡ Overflow → NoneEndsBelowMax (tree_state s) request)
+first_over_in request w s found (Ok c) t r p e f h = tt
+first_over_in request w s found (Err x) t r p e f h = λ o. first_over_is_in request w s found (Err x) t r p e f h (ap (λ (v : Error). Err v) o)
+
+last_over_is : (request : Request) (s : Shape) (found : Option Place) (answer : Result Choice Error) → IsSpaceTree s → IsRequest request → request.policy ≡ LastMatch → request.window ≡ None → FindsLast request.size request.align (blocks s) found → ChoosesAt found request.size answer → answer ≡ Err Overflow → NoneEndsBelowMax (tree_state s) request
+last_over_is request s None answer t r p e f h o = absurd (cc (h, o))
+last_over_is request s (Some place) answer t r p e f h o = found_over request s place answer (last_found request s place p e t r f) h o
+
+last_over_is_in : (request : Request) (w : Range) (s : Shape) (found : Option Place) (answer : Result Choice Error) → IsSpaceTree s → IsRequest request → request.policy ≡ LastMatch → request.window ≡ Some w → FindsLastIn w request.size request.align (blocks s) found → ChoosesAt found request.size answer → answer ≡ Err Overflow → NoneEndsBelowMax (tree_state s) request
+last_over_is_in request w s None answer t r p e f h o = absurd (cc (h, o))
+last_over_is_in request w s (Some place) answer t r p e f h o = found_over request s place answer (last_found_in request w s place p e t r f) h o
+
+pub last_over : (request : Request) (s : Shape) (found : Option Place) (answer : Result Choice Error) → IsSpaceTree s → IsRequest request → request.policy ≡ LastMatch → request.window ≡ None → FindsLast request.size request.align (blocks s) found → ChoosesAt found request.size answer → IfErr answer (λ e. e ≡ Overflow → NoneEndsBelowMax (tree_state s) request)
+last_over request s found (Ok c) t r p e f h = tt
+last_over request s found (Err x) t r p e f h = λ o. last_over_is request s found (Err x) t r p e f h (ap (λ (v : Error). Err v) o)
+
+pub last_over_in : (request : Request) (w : Range) (s : Shape) (found : Option Place) (answer : Result Choice Error) → IsSpaceTree s → IsRequest request → request.policy ≡ LastMatch → request.window ≡ Some w → FindsLastIn w request.size request.align (blocks s) found → ChoosesAt found request.size answer → IfErr answer (λ e. e ≡ Overflow → NoneEndsBelowMax (tree_state s) request)
+last_over_in request w s found (Ok c) t r p e f h = tt
+last_over_in request w s found (Err x) t r p e f h = λ o. last_over_is_in request w s found (Err x) t r p e f h (ap (λ (v : Error). Err v) o)
 
 pub ruleset choices = (first_room, first_chooses, first_over, last_room, last_chooses, last_over, search_first, search_last)
+
+pub ruleset choices_in = (first_room_in, first_chooses_in, first_over_in, last_room_in, last_chooses_in, last_over_in, search_first_in, search_last_in)
 
 -- ---- From the choice to the result
 pub chooses_refused : (s : Shape) (request : Request) (e : Error) → Chooses s request (Err e) → Grants (tree_state s) request (Err e) (tree_state s)

@@ -1,14 +1,15 @@
 -- From the exact number of nodes that a request enters to its bound by the gaps of the state without a place.
-use Rattle.std.proofs.Common.{◌≡◌, ℕ, ◌+◌, ◌-◌, ◌*◌, ◌%◌, ◌<◌, ◌≤◌, min, Bool, true, false, leb, List, [], ◌∷◌, length, refl, subst, arith, inl, inr, ⊎_elim, Result, Ok, Err}
+use Rattle.std.proofs.Common.{◌≡◌, ℕ, ◌+◌, ◌-◌, ◌*◌, ◌%◌, ◌<◌, ◌≤◌, min, Bool, true, false, leb, List, [], ◌∷◌, length, refl, subst, arith, inl, inr, ⊎_elim, Option, Some, None, Result, Ok, Err}
 use Rattle.std.specs.List.{list_any, filter}
 use Rattle.std.proofs.lemmas.Bool.{and_parts, leb-true, cases_lt, false_from_ne_true}
 use Rattle.vm_ranges.specs.Range.{Range}
 use Rattle.vm_engine.specs.Tree.Block.{Block, is_free}
 use Rattle.vm_engine.specs.Address.{AddressState, IsPlace}
 use Rattle.vm_ranges.specs.Alignment.{IsLowestMultiple}
+use Rattle.vm_engine.specs.Windows.{within}
 use Rattle.vm_engine.specs.Answer.{ByExactPolicy, ByPlace, AllocatesAt, Grants}
-use Rattle.vm_engine.specs.Counts.GapSearch.{is_misaligned, misaligned_gaps, is_too_short, too_short_gaps, IsGapSearchCount, SearchesAmongGaps, SearchesGaps, SearchesAligned}
-use Rattle.vm_ranges.specs.Request.{Request, request_for, IsRequest, MakesConstraint}
+use Rattle.vm_engine.specs.Counts.GapSearch.{is_misaligned, misaligned_gaps, is_too_short, too_short_gaps, passing, IsGapSearchCount, IsWindowSearchCount, SearchesAmongGaps, SearchesGaps, SearchesAligned}
+use Rattle.vm_ranges.specs.Request.{Request, IsRequest, MakesConstraint}
 use Rattle.vm_engine.specs.Tree.Shape.{Shape, blocks, height_of, leaf_of}
 use Rattle.vm_engine.specs.Tree.SpaceTree.{space_of, tree_state, IsSpaceTree}
 use Rattle.vm_engine.specs.Counts.Steps.{Enters, IsHeldIn}
@@ -22,10 +23,14 @@ use Rattle.vm_engine.proofs.Blocks.Gaps.{InFreeBlock}
 use Rattle.vm_engine.proofs.Choosing.Places.{block_place}
 use Rattle.vm_engine.proofs.Comparing.Tilings.{tree_blocks}
 use Rattle.vm_engine.proofs.Counts.Allocating.{constraint_made, allocations}
-use Rattle.vm_engine.proofs.Answers.Requests.{allocating}
+use Rattle.vm_engine.proofs.Answers.Requests.{request_in, allocating}
 use Rattle.vm_engine.proofs.Answers.Filling.{succeeding}
 use Rattle.vm_engine.proofs.Nodes.Spaces.{spaces}
 use Rattle.vm_engine.proofs.Counts.SplitCounts.{nodes_to_split_at_most}
+use Rattle.vm_engine.specs.Tree.Blocks.{AreKeysIn, TilesSpace}
+use Rattle.vm_ranges.specs.declared.state.NodeState.TheVariants.{Allocated}
+use Rattle.vm_engine.proofs.Blocks.BlockStates.{tiles_keys}
+use Rattle.vm_engine.proofs.Counts.WindowGaps.{first_in_at_most, last_in_at_most}
 use Rattle.vm_engine.proofs.Counts.SearchedGaps.{HasOneWithoutPlace, misaligned_in_vain, too_short_in_vain, first_without_place, first_to_place, last_without_place, last_to_place}
 use Rattle.vm_engine.proofs.Counts.Searching.{lowest_from, free_if_true}
 use Rattle.vm_ranges.proofs.Power.{alignment_pos}
@@ -51,7 +56,7 @@ none_fits n a s z p h none = false_from_ne_true (list_any (has_fit n a) (blocks 
     none f.0 (block_place (tree_state s) (blocks s) n a f.0 (as_blocks (space_of (blocks s)) (blocks s) h.tiling.tiles) z f.1 f.2))
 
 -- ---- FirstMatch and LastMatch return ResourceNotAvailable only if there is no place
-no_place_by : (request : Request) (old new : AddressState) (answer : Result Range Error) → answer ≡ Err ResourceNotAvailable → ByPlace request old (λ e. (answer ≡ Err e) × (new ≡ old)) (λ r. AllocatesAt old r answer new) → (t : ℕ) → ¬ IsPlace request.size request.align old t
+no_place_by : (request : Request) (old new : AddressState) (answer : Result Range Error) → answer ≡ Err ResourceNotAvailable → ByPlace request old (λ e. (answer ≡ Err e) × (new ≡ old)) (λ r. AllocatesAt old r answer new) → (t : ℕ) → ¬ IsPlace request.size request.align (within request.window old) t
 unfolding ByPlace AllocatesAt
 no_place_by request old new answer e h =
     ⊎_elim (λ l. l.0)
@@ -63,7 +68,7 @@ no_place_by request old new answer e h =
 abbrev IsWithin : ℕ → ℕ → ℕ → Result Range Error → Type 0
 IsWithin path h v answer = (path ≤ h * (v + 1)) × (answer ≡ Err ResourceNotAvailable → path ≤ h * v)
 
-module _ (request : Request) (s : Shape) (h : IsSpaceTree s) (r : IsRequest request) where
+module _ (request : Request) (s : Shape) (h : IsSpaceTree s) (r : IsRequest request) (whole : request.window ≡ None) where
   by_gaps : (answer : Result Range Error) (v c : ℕ) → IsWithin (nodes_of_search request s) (height_of s) v answer → Enters s request answer 0 c → IsGapSearchCount (height_of s) v answer c
   by_gaps (Err e) v c w n = record { most = omega (arith, n.refused, w.0); none = λ k. omega (arith, n.refused, w.1 k) }
   by_gaps (Ok p) v c w n =
@@ -72,16 +77,35 @@ module _ (request : Request) (s : Shape) (h : IsSpaceTree s) (r : IsRequest requ
       record { most = omega (arith, n.given.2, w.0); none = λ k. absurd (cc (k)) }
 
   no_fit_among : (new : AddressState) (answer : Result Range Error) → ByPlace request (tree_state s) (λ e. (answer ≡ Err e) × (new ≡ tree_state s)) (λ p. AllocatesAt (tree_state s) p answer new) → answer ≡ Err ResourceNotAvailable → list_any (has_fit request.size request.align) (blocks s) ≡ false
-  no_fit_among new answer k e = none_fits request.size request.align s r.some (alignment_pos request.align r.aligned) h (no_place_by request (tree_state s) new answer e k)
+  no_fit_among new answer k e =
+      none_fits request.size request.align s r.some (alignment_pos request.align r.aligned) h
+      (subst (λ (v : Option Range). (t : ℕ) → ¬ IsPlace request.size request.align (within v (tree_state s)) t) whole (no_place_by request (tree_state s) new answer e k))
 
-searched_by : (policy : AllocPolicy) (n a : ℕ) (q : Block → Bool) (s : Shape) (answer : Result Range Error) (new : AddressState) (c : ℕ) → HasOneWithoutPlace n a q → IsSpaceTree s → IsRequest (request_for n a policy)
-    → Grants (tree_state s) (request_for n a policy) answer new → Enters s (request_for n a policy) answer 0 c → SearchesAmongGaps (height_of s) (length (filter q (blocks s))) (request_for n a policy) answer c
+-- The bound within a window.
+by_parts : (request : Request) (s : Shape) (answer : Result Range Error) (v c : ℕ) → nodes_of_search request s ≤ height_of s * (v + 2) → Enters s request answer 0 c → IsWindowSearchCount (height_of s) v answer c
+by_parts request s (Err e) v c w n = record { most = omega (arith, n.refused, w); none = λ k. omega (arith, n.refused, w) }
+by_parts request s (Ok p) v c w n =
+    let held : IsHeldIn s p n.given.0 = n.given.1 in
+    let bound : n.given.0 ≤ 2 * height_of s = rw held.path (nodes_to_split_at_most held.key (leaf_of (before_part held.key p)) (leaf_of (after_part held.key p)) s) in
+    record { most = omega (arith, n.given.2, w); none = λ k. absurd (cc (k)) }
+
+keys_of : (s : Shape) → IsSpaceTree s → AreKeysIn (space_of (blocks s)).start (blocks s) (space_of (blocks s)).end
+unfolding TilesSpace
+keys_of s h = tiles_keys Allocated (space_of (blocks s)).start (space_of (blocks s)).end (blocks s) h.tiling.tiles
+
+searched_by : (policy : AllocPolicy) (w : Option Range) (n a : ℕ) (q : Block → Bool) (s : Shape) (answer : Result Range Error) (new : AddressState) (c : ℕ) → HasOneWithoutPlace n a q → IsSpaceTree s → IsRequest (request_in w n a policy)
+    → Grants (tree_state s) (request_in w n a policy) answer new → Enters s (request_in w n a policy) answer 0 c → SearchesAmongGaps (height_of s) (passing w q (blocks s)) (request_in w n a policy) answer c
 unfolding Grants ByExactPolicy
-searched_by FirstMatch n a q s answer new c some h r k e =
-    by_gaps (request_for n a FirstMatch) s h r answer (length (filter q (blocks s))) c (first_to_place n a q some s, λ u. first_without_place n a q some s (no_fit_among (request_for n a FirstMatch) s h r new answer k u)) e
-searched_by LastMatch n a q s answer new c some h r k e =
-    by_gaps (request_for n a LastMatch) s h r answer (length (filter q (blocks s))) c (last_to_place n a q some s, λ u. last_without_place n a q some s (no_fit_among (request_for n a LastMatch) s h r new answer k u)) e
-searched_by (ExactMatch t) n a q s answer new c some h r k e = tt
+searched_by FirstMatch None n a q s answer new c some h r k e =
+    by_gaps (request_in None n a FirstMatch) s h r refl answer (length (filter q (blocks s))) c (first_to_place n a q some s, λ u. first_without_place n a q some s (no_fit_among (request_in None n a FirstMatch) s h r refl new answer k u)) e
+searched_by LastMatch None n a q s answer new c some h r k e =
+    by_gaps (request_in None n a LastMatch) s h r refl answer (length (filter q (blocks s))) c (last_to_place n a q some s, λ u. last_without_place n a q some s (no_fit_among (request_in None n a LastMatch) s h r refl new answer k u)) e
+searched_by (ExactMatch t) None n a q s answer new c some h r k e = tt
+searched_by FirstMatch (Some w) n a q s answer new c some h r k e =
+    by_parts (request_in (Some w) n a FirstMatch) s answer (passing (Some w) q (blocks s)) c (first_in_at_most w n a q some _ _ s (keys_of s h)) e
+searched_by LastMatch (Some w) n a q s answer new c some h r k e =
+    by_parts (request_in (Some w) n a LastMatch) s answer (passing (Some w) q (blocks s)) c (last_in_at_most w n a q some _ _ s (keys_of s h)) e
+searched_by (ExactMatch t) (Some w) n a q s answer new c some h r k e = tt
 
 -- A fact that is true for both of two numbers is true for the lesser.
 of_lesser : (P : ℕ → Type 0) (x y : ℕ) → P x → P y → P (min x y)
@@ -96,13 +120,13 @@ module _ (s : Shape) (request : Request) (answer : Result Range Error) (new : Ad
   unfolding misaligned_gaps
   by_misaligned =
       rw (tree_blocks s h)
-      (searched_by request.policy request.size request.align (is_misaligned request.size request.align) s answer new c (misaligned_in_vain request.size request.align r.some) h r k e)
+      (searched_by request.policy request.window request.size request.align (is_misaligned request.size request.align) s answer new c (misaligned_in_vain request.size request.align r.some) h r k e)
 
   by_too_short : SearchesAmongGaps (height_of s) (too_short_gaps (tree_state s) request) request answer c
   unfolding too_short_gaps
   by_too_short =
       rw (tree_blocks s h)
-      (searched_by request.policy request.size request.align (is_too_short request.size request.align) s answer new c (too_short_in_vain request.size request.align) h r k e)
+      (searched_by request.policy request.window request.size request.align (is_too_short request.size request.align) s answer new c (too_short_in_vain request.size request.align) h r k e)
 
   pub searches_gaps : SearchesGaps (height_of s) (tree_state s) request answer c
   unfolding SearchesGaps
@@ -115,18 +139,21 @@ module _ (s : Shape) (request : Request) (answer : Result Range Error) (new : Ad
 pub ruleset of_trees = (searches_gaps, searches_aligned)
 
 -- ---- Requests that can be invalid
-none_searched : (h v : ℕ) (policy : AllocPolicy) (n a : ℕ) (e : Error) → SearchesAmongGaps h v (request_for n a policy) (Err e) 0
-none_searched h v FirstMatch n a e = record { most = omega arith; none = λ k. omega arith }
-none_searched h v LastMatch n a e = record { most = omega arith; none = λ k. omega arith }
-none_searched h v (ExactMatch t) n a e = tt
+none_searched : (h v : ℕ) (policy : AllocPolicy) (w : Option Range) (n a : ℕ) (e : Error) → SearchesAmongGaps h v (request_in w n a policy) (Err e) 0
+none_searched h v FirstMatch None n a e = record { most = omega arith; none = λ k. omega arith }
+none_searched h v LastMatch None n a e = record { most = omega arith; none = λ k. omega arith }
+none_searched h v (ExactMatch t) None n a e = tt
+none_searched h v FirstMatch (Some w) n a e = record { most = omega arith; none = λ k. omega arith }
+none_searched h v LastMatch (Some w) n a e = record { most = omega arith; none = λ k. omega arith }
+none_searched h v (ExactMatch t) (Some w) n a e = tt
 
 pub invalid_search : (h : ℕ) (old : AddressState) (request : Request) (e : Error) → SearchesGaps h old request (Err e) 0
 unfolding SearchesGaps
-invalid_search h old request e = none_searched h (misaligned_gaps old request) request.policy request.size request.align e
+invalid_search h old request e = none_searched h (misaligned_gaps old request) request.policy request.window request.size request.align e
 
 pub invalid_aligned : (h : ℕ) (old : AddressState) (request : Request) (e : Error) → SearchesAligned h old request (Err e) 0
 unfolding SearchesAligned
-invalid_aligned h old request e = none_searched h (min (misaligned_gaps old request) (too_short_gaps old request)) request.policy request.size request.align e
+invalid_aligned h old request e = none_searched h (min (misaligned_gaps old request) (too_short_gaps old request)) request.policy request.window request.size request.align e
 
 pub valid_search : (h : ℕ) (old : AddressState) (request k : Request) (answer : Result Range Error) (c : ℕ) → MakesConstraint request (Ok k) → SearchesGaps h old k answer c → SearchesGaps h old request answer c
 valid_search h old request k answer c m g = subst (λ (v : Request). SearchesGaps h old v answer c) (constraint_made request k m).0 g

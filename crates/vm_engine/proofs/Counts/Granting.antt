@@ -1,5 +1,5 @@
 -- The number of nodes that a request enters.
-use Rattle.std.proofs.Common.{◌≡◌, ◌≢◌, ℕ, ◌+◌, ◌*◌, ◌<◌, ◌≤◌, Bool, true, false, cond, eqb, refl, sym, subst, arith, inl, inr, ⊎_elim, Result, Ok, Err, OnOk, IfOk, length, ◌⊎◌}
+use Rattle.std.proofs.Common.{◌≡◌, ◌≢◌, ℕ, ◌+◌, ◌*◌, ◌<◌, ◌≤◌, Bool, true, false, cond, eqb, refl, sym, subst, arith, inl, inr, ⊎_elim, Option, Some, None, Result, Ok, Err, OnOk, IfOk, length, ◌⊎◌}
 use Rattle.std.proofs.lemmas.Bool.{lt-ltb}
 use Rattle.vm_ranges.specs.Range.{Range, MAX, at_address}
 use Rattle.vm_engine.specs.Address.{AddressState, SplitsGap}
@@ -23,6 +23,7 @@ use Rattle.vm_engine.proofs.Nodes.Spaces.{few_nodes, no_empty_tree}
 use Rattle.vm_engine.proofs.Counts.NodeCountBounds.{nodes_across_at_most}
 use Rattle.vm_engine.proofs.Counts.SplitCounts.{nodes_to_split_at_most, half_of_split}
 use Rattle.vm_engine.proofs.Counts.Searching.{first_nodes_at_most, last_nodes_at_most}
+use Rattle.vm_engine.proofs.Counts.WindowSearching.{first_nodes_at_most_in, last_nodes_at_most_in}
 use Rattle.vm_engine.proofs.Nodes.MinNodes.{node_count-blocks}
 use Rattle.vm_engine.proofs.Counts.LeftClear.{needs_split}
 
@@ -60,16 +61,18 @@ refused_low h old request e n over = record { split = tt; memory = λ m. absurd 
 
 -- ---- The exact number of nodes that a request enters
 search_at_most : (request : Request) (s : Shape) → nodes_of_search request s ≤ max_searched request.policy s
-search_at_most request s = by_policy request.policy
+search_at_most request s = by_policy request.policy request.window
   where
     named : (test : Bool) (most path : ℕ) → path ≤ most → cond test 0 path ≤ most
     named true most path l = omega arith
     named false most path l = l
 
-    by_policy : (policy : AllocPolicy) → nodes_by_policy policy request.size request.align s ≤ max_searched policy s
-    by_policy FirstMatch = first_nodes_at_most request.size request.align s
-    by_policy LastMatch = last_nodes_at_most request.size request.align s
-    by_policy (ExactMatch t) = named (eqb t MAX) (height_of s) (nodes_across (at_address t) s) (nodes_across_at_most (at_address t) s)
+    by_policy : (policy : AllocPolicy) (w : Option Range) → nodes_by_policy policy w request.size request.align s ≤ max_searched policy s
+    by_policy FirstMatch None = first_nodes_at_most request.size request.align s
+    by_policy FirstMatch (Some w) = first_nodes_at_most_in w request.size request.align s
+    by_policy LastMatch None = last_nodes_at_most request.size request.align s
+    by_policy LastMatch (Some w) = last_nodes_at_most_in w request.size request.align s
+    by_policy (ExactMatch t) w = named (eqb t MAX) (height_of s) (nodes_across (at_address t) s) (nodes_across_at_most (at_address t) s)
 
 most_at_most : (policy : AllocPolicy) (s : Shape) → max_searched policy s ≤ node_count s + height_of s
 most_at_most FirstMatch s = omega arith

@@ -63,6 +63,6 @@ none_between n lo hi (r ∷ rs) z =
 
 pub none_is_misaligned_at_one : NoneIsMisalignedAtOne
 unfolding misaligned_gaps blocks_of
-none_is_misaligned_at_one state request z e = rw e (none_between request.size state.space.start state.space.end state.held z)
+none_is_misaligned_at_one state request z e v = rw (v, e) (none_between request.size state.space.start state.space.end state.held z)
 
 pub ruleset misaligned = (misaligned_is_exact, none_is_misaligned_at_one)

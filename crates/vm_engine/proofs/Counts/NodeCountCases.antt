@@ -1,11 +1,11 @@
 -- The number of nodes on the paths through a tree, case by case.
-use Rattle.std.proofs.Common.{◌≡◌, ◌≢◌, ℕ, ◌+◌, ◌<◌, true, false, refl, sym, arith, inl, inr, ⊎_elim}
+use Rattle.std.proofs.Common.{◌≡◌, ◌≢◌, ℕ, ◌+◌, ◌<◌, true, false, Some, None, refl, sym, arith, inl, inr, ⊎_elim}
 use Rattle.std.proofs.lemmas.Bool.{lt-ltb, le-ltb, eq-eqb, ne_eqb}
 use Rattle.vm_ranges.specs.Range.{Range, MAX, at_address}
 use Rattle.vm_ranges.specs.RangeOrder.{Before, StartsBefore, StartsAtOrAfter, EndsBefore, EndsAtOrAfterStartOf, is_before}
 use Rattle.vm_engine.specs.Tree.Block.{Block}
 use Rattle.vm_engine.specs.Tree.Shape.{Shape, Tip, Fork}
-use Rattle.vm_engine.specs.Counts.NodeCounts.{nodes_down, nodes_to, nodes_across, nodes_to_first, nodes_to_last, nodes_to_join, nodes_to_delete, nodes_around, nodes_of_first, nodes_of_last, nodes_of_search}
+use Rattle.vm_engine.specs.Counts.NodeCounts.{nodes_down, nodes_to, nodes_across, nodes_to_first, nodes_to_last, nodes_to_join, nodes_to_delete, nodes_around, nodes_of_first, nodes_of_last, nodes_of_first_in, nodes_of_last_in, nodes_of_search}
 use Rattle.vm_ranges.specs.Request.{Request}
 use Rattle.vm_ranges.specs.declared.constraint.AllocPolicy.TheVariants.{FirstMatch, LastMatch, ExactMatch}
 use Rattle.vm_ranges.specs.declared.state.NodeState.TheVariants.{Free, Allocated}
@@ -157,11 +157,17 @@ around_right k l b r p = rw (same_range_before k b.key (inr p), after_first k b.
 pub ruleset nodes_around_cases = (around_tip, around_held, around_free, around_left, around_right)
 
 -- ---- The search by each policy
-pub search_first : (request : Request) (s : Shape) → request.policy ≡ FirstMatch → nodes_of_search request s ≡ nodes_of_first request.size request.align s
-search_first request s e = rw e refl
+pub search_first : (request : Request) (s : Shape) → request.policy ≡ FirstMatch → request.window ≡ None → nodes_of_search request s ≡ nodes_of_first request.size request.align s
+search_first request s e w = rw (e, w) refl
 
-pub search_last : (request : Request) (s : Shape) → request.policy ≡ LastMatch → nodes_of_search request s ≡ nodes_of_last request.size request.align s
-search_last request s e = rw e refl
+pub search_first_in : (request : Request) (k : Range) (s : Shape) → request.policy ≡ FirstMatch → request.window ≡ Some k → nodes_of_search request s ≡ nodes_of_first_in k request.size request.align s
+search_first_in request k s e w = rw (e, w) refl
+
+pub search_last : (request : Request) (s : Shape) → request.policy ≡ LastMatch → request.window ≡ None → nodes_of_search request s ≡ nodes_of_last request.size request.align s
+search_last request s e w = rw (e, w) refl
+
+pub search_last_in : (request : Request) (k : Range) (s : Shape) → request.policy ≡ LastMatch → request.window ≡ Some k → nodes_of_search request s ≡ nodes_of_last_in k request.size request.align s
+search_last_in request k s e w = rw (e, w) refl
 
 pub search_at_max : (request : Request) (t : ℕ) (s : Shape) → request.policy ≡ ExactMatch t → t ≡ MAX → nodes_of_search request s ≡ 0
 search_at_max request t s e m = rw (e, eq-eqb t MAX m) refl

@@ -16,7 +16,7 @@ use Rattle.vm_engine.proofs.Counts.Entering.{searched_parts}
 
 -- ---- The numbers
 -- Each of two children has height at most m and enters its height for each such gap. The node itself is entered once.
-one_more : (m f hx fx wx hy fy wy : ℕ) → hx ≤ m → hy ≤ m → wx ≤ hx * fx → wy ≤ hy * fy → fx + fy ≤ f → 1 ≤ f → wx + wy + 1 ≤ (m + 1) * f
+pub one_more : (m f hx fx wx hy fy wy : ℕ) → hx ≤ m → hy ≤ m → wx ≤ hx * fx → wy ≤ hy * fy → fx + fy ≤ f → 1 ≤ f → wx + wy + 1 ≤ (m + 1) * f
 one_more m f hx fx wx hy fy wy p q u v s o =
     let x : hx * fx ≤ m * fx = mul-le-mul p (omega arith) in
     let y : hy * fy ≤ m * fy = mul-le-mul q (omega arith) in

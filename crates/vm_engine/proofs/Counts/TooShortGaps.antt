@@ -89,7 +89,7 @@ few_between n a lo hi (r ∷ rs) z l h =
 
 pub too_short_are_few : TooShortAreFew
 unfolding too_short_gaps blocks_of multiples_in
-too_short_are_few state request h u =
-    omega (arith, few_between request.size request.align state.space.start state.space.end state.held (alignment_pos request.align u) (omega (arith, h.space.0)) h.in_order)
+too_short_are_few state request h u v =
+    rw v (omega (arith, few_between request.size request.align state.space.start state.space.end state.held (alignment_pos request.align u) (omega (arith, h.space.0)) h.in_order))
 
 pub ruleset too_short = (too_short_is_exact, too_short_are_few)

@@ -1,12 +1,13 @@
 -- The number of nodes that a search enters, by the number of gaps that look suitable but have no place.
 --
 -- Gaps are counted by tests over the blocks of the state. A law in specs/Laws shows that each test is exact.
-use Rattle.std.specs.Prelude.{◌≡◌, ℕ, ◌+◌, ◌*◌, ◌≤◌, ◌&&◌, not, min, nat_le, Bool, List, length, Result, Err}
+use Rattle.std.specs.Prelude.{◌≡◌, ℕ, ◌+◌, ◌*◌, ◌≤◌, ◌&&◌, not, min, nat_le, Bool, List, length, Option, Some, None, MatchOption, Result, Err}
 use Rattle.std.specs.List.{filter}
 use Rattle.vm_ranges.specs.Range.{Range}
 use Rattle.vm_engine.specs.Tree.Block.{Block, free_length}
 use Rattle.vm_engine.specs.Tree.Multiples.{has_aligned}
 use Rattle.vm_engine.specs.Address.{AddressState}
+use Rattle.vm_engine.specs.Windows.{cut_to}
 use Rattle.vm_engine.specs.Tree.Blocks.{blocks_of}
 use Rattle.vm_ranges.specs.Request.{Request, ByPolicy}
 use Rattle.vm_engine.specs.Counts.NodeCounts.{has_fit}
@@ -22,9 +23,19 @@ is_misaligned n a b = nat_le n (free_length b) && not (has_fit n a b)
 abbrev pub misaligned_among : ℕ → ℕ → List Block → ℕ
 misaligned_among n a bs = length (filter (is_misaligned n a) bs)
 
--- The number of gaps of a state that are long enough for a request, but have no place for it.
+-- Tests if the block has a part in the window w, and this part passes the test.
+abbrev pub on_part : Range → (Block → Bool) → Block → Bool
+on_part w test b = nat_le (cut_to w b).key.start (cut_to w b).key.end && test (cut_to w b)
+
+-- The number of blocks that pass the test, or whose parts in the window do if there is a window.
+abbrev pub passing : Option Range → (Block → Bool) → List Block → ℕ
+passing None test bs = length (filter test bs)
+passing (Some w) test bs = length (filter (on_part w test) bs)
+
+-- The number of gaps of a state that are long enough for a request, but have no place for it. A window counts the parts of
+-- gaps.
 unfoldable pub misaligned_gaps : AddressState → Request → ℕ
-misaligned_gaps state request = misaligned_among request.size request.align (blocks_of state)
+misaligned_gaps state request = passing request.window (is_misaligned request.size request.align) (blocks_of state)
 
 -- Tests if the block is a gap that has a multiple of a, but no place for n addresses at a multiple of a.
 unfoldable pub is_too_short : ℕ → ℕ → Block → Bool
@@ -34,9 +45,10 @@ is_too_short n a b = has_aligned a b && not (has_fit n a b)
 abbrev pub too_short_among : ℕ → ℕ → List Block → ℕ
 too_short_among n a bs = length (filter (is_too_short n a) bs)
 
--- The number of gaps of a state that have a multiple of a request's alignment, but no place for it.
+-- The number of gaps of a state that have a multiple of a request's alignment, but no place for it. A window counts the
+-- parts of gaps.
 unfoldable pub too_short_gaps : AddressState → Request → ℕ
-too_short_gaps state request = too_short_among request.size request.align (blocks_of state)
+too_short_gaps state request = passing request.window (is_too_short request.size request.align) (blocks_of state)
 
 -- The bound on the nodes that an allocation enters in a tree of height h if the search looks at v gaps without a place.
 -- A search that finds no place enters at most h nodes for each of these gaps.
@@ -44,10 +56,15 @@ pub record IsGapSearchCount (h v : ℕ) (answer : Result Range Error) (count : �
   pub most : count ≤ h * (v + 1) + max_on_paths h
   pub none : answer ≡ Err ResourceNotAvailable → count ≤ h * v
 
+-- The bound for a search within a window. It can also enter the paths to both ends of the window, and the one to the place.
+pub record IsWindowSearchCount (h v : ℕ) (answer : Result Range Error) (count : ℕ) : Type 0 where
+  pub most : count ≤ h * (v + 2) + max_on_paths h
+  pub none : answer ≡ Err ResourceNotAvailable → count ≤ h * (v + 2)
+
 -- The bound for v gaps is true if the policy is FirstMatch or LastMatch.
 abbrev pub SearchesAmongGaps : ℕ → ℕ → Request → Result Range Error → ℕ → Type 0
 SearchesAmongGaps h v request answer count =
-    let by_gaps : Type 0 = IsGapSearchCount h v answer count in
+    let by_gaps : Type 0 = MatchOption request.window (IsGapSearchCount h v answer count) (λ window. IsWindowSearchCount h v answer count) in
     ByPolicy request.policy by_gaps by_gaps (λ start. Unit {0})
 
 -- The bound is true for the number of misaligned gaps.

@@ -7,6 +7,7 @@ use Rattle.vm_engine.specs.Tree.Block.{Block, is_free}
 use Rattle.vm_engine.specs.Tree.Multiples.{has_aligned}
 use Rattle.vm_engine.specs.Tree.BlockEdits.{before_part, after_part}
 use Rattle.vm_ranges.specs.Request.{Request}
+use Rattle.vm_engine.specs.Windows.{cut_to}
 use Rattle.vm_engine.specs.Tree.Shape.{Shape, Tip, Fork, blocks, max_free_of, leaf_of}
 use Rattle.vm_ranges.specs.declared.error.Error.{Error}
 use Rattle.vm_ranges.specs.declared.constraint.AllocPolicy.{AllocPolicy}
@@ -119,15 +120,53 @@ nodes_of_last n a (Fork l b r) =
     then nodes_of_last n a r + (if list_any (has_fit n a) (blocks r) || has_fit n a b then 0 else nodes_of_last n a l) + 1
     else 0
 
+-- Tests if the part of the block in the window w has a fit.
+abbrev pub has_fit_in : Range → ℕ → ℕ → Block → Bool
+has_fit_in w n a b = has_fit n a (cut_to w b)
+
+-- The nodes that the search for the lowest place within the window w enters, or 0 if it does not enter the tree. It
+-- enters the root. It searches the left child if the window starts before the root's block. It searches the right child
+-- if the window ends after that block, and neither the left child nor the root has a place.
+unfoldable pub nodes_of_first_in : Range → ℕ → ℕ → Shape → ℕ
+nodes_of_first_in w n a Tip = 0
+nodes_of_first_in w n a (Fork l b r) =
+    if may_fit_in n a (Fork l b r)
+    then (if nat_lt w.start b.key.start then nodes_of_first_in w n a l else 0)
+    + (if list_any (has_fit_in w n a) (blocks l) || has_fit_in w n a b then 0
+    else if nat_lt b.key.end w.end then nodes_of_first_in w n a r else 0)
+    + 1
+    else 0
+
+-- The nodes that the search for the highest place within the window w enters, from the right.
+unfoldable pub nodes_of_last_in : Range → ℕ → ℕ → Shape → ℕ
+nodes_of_last_in w n a Tip = 0
+nodes_of_last_in w n a (Fork l b r) =
+    if may_fit_in n a (Fork l b r)
+    then (if nat_lt b.key.end w.end then nodes_of_last_in w n a r else 0)
+    + (if list_any (has_fit_in w n a) (blocks r) || has_fit_in w n a b then 0
+    else if nat_lt w.start b.key.start then nodes_of_last_in w n a l else 0)
+    + 1
+    else 0
+
+-- The nodes that the search for the lowest place enters, within the window if there is one.
+abbrev pub nodes_to_lowest : Option Range → ℕ → ℕ → Shape → ℕ
+nodes_to_lowest None n a s = nodes_of_first n a s
+nodes_to_lowest (Some w) n a s = nodes_of_first_in w n a s
+
+-- The nodes that the search for the highest place enters, within the window if there is one.
+abbrev pub nodes_to_highest : Option Range → ℕ → ℕ → Shape → ℕ
+nodes_to_highest None n a s = nodes_of_last n a s
+nodes_to_highest (Some w) n a s = nodes_of_last_in w n a s
+
 -- The nodes that the search by a policy enters. ExactMatch t enters the path to the block of t, or 0 if t is MAX.
-abbrev pub nodes_by_policy : AllocPolicy → ℕ → ℕ → Shape → ℕ
-nodes_by_policy FirstMatch n a s = nodes_of_first n a s
-nodes_by_policy LastMatch n a s = nodes_of_last n a s
-nodes_by_policy (ExactMatch t) n a s = if t == MAX then 0 else nodes_across (at_address t) s
+abbrev pub nodes_by_policy : AllocPolicy → Option Range → ℕ → ℕ → Shape → ℕ
+nodes_by_policy FirstMatch w n a s = nodes_to_lowest w n a s
+nodes_by_policy LastMatch w n a s = nodes_to_highest w n a s
+nodes_by_policy (ExactMatch t) w n a s = if t == MAX then 0 else nodes_across (at_address t) s
 
 -- The nodes that the search for the place of a request enters.
 abbrev pub nodes_of_search : Request → Shape → ℕ
-nodes_of_search request s = nodes_by_policy request.policy request.size request.align s
+nodes_of_search request s = nodes_by_policy request.policy request.window request.size request.align s
 
 -- The nodes entered to allocate `range` in the free block `key`: the path to it, and the paths to the links of the
 -- rest.

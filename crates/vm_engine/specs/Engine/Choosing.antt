@@ -66,6 +66,13 @@ ExactChoice key Free t last answer =
     IfElse (last ≡ MAX) (answer ≡ Err Overflow)
     (answer ≡ Ok (record { key = key; range = record { start = t; end = last } })))
 
+-- The result of `exact_choice_in`: that of `exact_choice`, but ResourceNotAvailable if the block is free and the window ends
+-- before `last`.
+unfoldable pub ExactChoiceIn : Range → Range → NodeState → ℕ → ℕ → Result Choice Error → Type 0
+ExactChoiceIn window key Allocated t last answer = ExactChoice key Allocated t last answer
+ExactChoiceIn window key Free t last answer =
+    IfElse (window.end < last) (answer ≡ Err ResourceNotAvailable) (ExactChoice key Free t last answer)
+
 -- The maximum number of nodes that a search by a policy enters: all nodes, or for ExactMatch those of one path.
 abbrev pub max_searched : AllocPolicy → Shape → ℕ
 max_searched FirstMatch s = node_count s

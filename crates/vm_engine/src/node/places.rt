@@ -118,7 +118,7 @@ fn highest_in_free(key: &RangeInclusive, size: u64, alignment: u64) -> Option<u6
 /// multiple of `alignment`. These can be different blocks.
 #[inline(always)]
 #[tactic(auto, using(crate::proofs::Counts::Entering::searched))]
-fn may_fit(tree: &Child, size: u64, alignment: u64) -> Option<&InnerNode>
+pub(super) fn may_fit(tree: &Child, size: u64, alignment: u64) -> Option<&InnerNode>
     requires sized { 0 < size }
     requires aligned { IsAlignment alignment }
     ensures { MatchOption result
