@@ -205,7 +205,7 @@ impl AddressAllocator {
     /// # Ok::<(), Error>(())
     /// ```
     pub fn allocate_constraint(&mut self, request: Constraint) -> Result<RangeInclusive> {
-        self.allocate(request.size(), request.align(), request.policy())
+        or_abort(self.0.allocate_constraint(Global, request.0)).map(RangeInclusive)
     }
 
     /// Allocates a range like [`allocate_constraint`](Self::allocate_constraint), but returns an
@@ -218,7 +218,7 @@ impl AddressAllocator {
         &mut self,
         request: Constraint,
     ) -> core::result::Result<RangeInclusive, TryError> {
-        self.try_allocate(request.size(), request.align(), request.policy())
+        or_try_error(self.0.allocate_constraint(Global, request.0)).map(RangeInclusive)
     }
 
     /// Allocates a range for each request, in their order, and returns the ranges. Each range is

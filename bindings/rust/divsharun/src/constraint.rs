@@ -1,5 +1,5 @@
 use crate::proved::vm_allocator as proved;
-use crate::{Error, Result};
+use crate::{Error, RangeInclusive, Result};
 use core::fmt;
 
 /// The range that [`allocate`](crate::AddressAllocator::allocate) chooses if several fit. The
@@ -104,6 +104,38 @@ impl Constraint {
     #[must_use]
     pub const fn size(self) -> u64 {
         self.0.size()
+    }
+
+    /// Returns this request with a window: its range must lie in the window.
+    ///
+    /// `FirstMatch` then chooses the lowest range in the window, and `LastMatch` the highest.
+    /// `ExactMatch` keeps its start. A window replaces the window that the request had.
+    ///
+    /// # Example
+    ///
+    /// ```rust
+    /// use divsharun::{AddressAllocator, AllocPolicy, Constraint, Error, RangeInclusive};
+    ///
+    /// // A 32-bit and a 64-bit register of one device, in one call.
+    /// let mut mmio = AddressAllocator::new(0xc000_0000, 0x2_0000_0000)?;
+    /// let low = RangeInclusive::new(0, 0xffff_ffff)?;
+    /// let bar = Constraint::new(0x1000, 0x1000, AllocPolicy::LastMatch)?;
+    /// let bars = mmio.allocate_all(&[bar.within(low), bar])?;
+    /// assert_eq!((bars[0].start(), bars[1].start()), (0xffff_f000, 0x2_bfff_f000));
+    /// # Ok::<(), Error>(())
+    /// ```
+    #[must_use]
+    pub const fn within(self, window: RangeInclusive) -> Self {
+        Constraint(self.0.within(window.0))
+    }
+
+    /// Returns the window in which the range must lie, if there is one.
+    #[must_use]
+    pub const fn window(self) -> Option<RangeInclusive> {
+        match self.0.window() {
+            Some(window) => Some(RangeInclusive(window)),
+            None => None,
+        }
     }
 
     /// Returns the policy that chooses the range.

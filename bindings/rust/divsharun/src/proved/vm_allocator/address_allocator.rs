@@ -126,6 +126,27 @@ impl AddressAllocator {
         tree.allocate(alloc, constraint)
     }
 
+    /// Allocates a range like [`allocate`](Self::allocate), for a request that was made before. If the
+    /// request has a window, the range lies in the window.
+    ///
+    /// `FirstMatch` chooses the lowest range in the window, and `LastMatch` the highest.
+    ///
+    /// # Errors
+    ///
+    /// Those of [`allocate`](Self::allocate) for a valid request, in the same order. Addresses outside
+    /// the window count as outside the space:
+    /// - `ResourceNotAvailable` if the window and the space have no address in common, or no range in
+    ///   the window fits.
+    /// - `ResourceNotAvailable` if the start of `ExactMatch` is outside the window, or a part of its
+    ///   range is, unless exactly this range is already allocated.
+    pub fn allocate_constraint(
+        &mut self,
+        alloc: Global,
+        request: Constraint,
+    ) -> Result<RangeInclusive> {
+        self.interval_tree.allocate(alloc, request)
+    }
+
     /// Allocates like [`allocate`](Self::allocate), and also returns the number of tree nodes that
     /// the call entered.
     ///

@@ -22,6 +22,7 @@ pub(in crate::proved::vm_engine) mod split;
 mod summary;
 pub(in crate::proved::vm_engine) mod walks;
 pub(in crate::proved::vm_engine) mod widen;
+pub(in crate::proved::vm_engine) mod windows;
 
 use self::balance::fork;
 use self::summary::free_summary_of;

@@ -6,6 +6,7 @@
 //! `Constraint` need no condition.
 
 use crate::proved::vm_ranges::error::{Error, Result};
+use crate::proved::vm_ranges::range::RangeInclusive;
 
 /// The alignment for requests that need no particular alignment.
 pub const DEFAULT_CONSTRAINT_ALIGN: u64 = 4;
@@ -35,12 +36,13 @@ const fn is_start_aligned(align: u64, policy: AllocPolicy) -> bool {
 /// A valid request for a range of addresses.
 ///
 /// Its size is at least 1, its alignment is a power of two, and the start of `ExactMatch` is a
-/// multiple of the alignment.
+/// multiple of the alignment. A request can have a window, in which its range must lie.
 #[derive(Clone, Copy, Debug, PartialEq, Eq)]
 pub struct Constraint {
     size: u64,
     align: u64,
     policy: AllocPolicy,
+    window: Option<RangeInclusive>,
 }
 
 impl Constraint {
@@ -66,7 +68,19 @@ impl Constraint {
             size,
             align,
             policy,
+            window: None,
         })
+    }
+
+    /// Returns this request with a window: its range must lie in the window.
+    ///
+    /// `FirstMatch` then chooses the lowest range in the window, and `LastMatch` the highest.
+    /// `ExactMatch` keeps its start. A window replaces the window that the request had.
+    pub const fn within(self, window: RangeInclusive) -> Self {
+        Constraint {
+            window: Some(window),
+            ..self
+        }
     }
 
     /// Returns the alignment: the first address of the range is a multiple of it.
@@ -77,6 +91,11 @@ impl Constraint {
     /// Returns the number of requested addresses.
     pub const fn size(self) -> u64 {
         self.size
+    }
+
+    /// Returns the window in which the range must lie, or `None` if there is none.
+    pub const fn window(self) -> Option<RangeInclusive> {
+        self.window
     }
 
     /// Returns the policy that chooses the range.

@@ -7,6 +7,7 @@ use crate::proved::vm_engine::Steps;
 use crate::proved::vm_engine::node::edge::Edge;
 use crate::proved::vm_engine::node::places::{Place, first_place, last_place};
 use crate::proved::vm_engine::node::split::Choice;
+use crate::proved::vm_engine::node::windows::{first_place_in, last_place_in};
 use crate::proved::vm_engine::ordering::valid_range;
 use crate::proved::vm_ranges::{AllocPolicy, Constraint, Error, NodeState, RangeInclusive, Result};
 
@@ -19,6 +20,9 @@ impl IntervalTree {
         edge: &mut Edge,
         count: &mut Steps,
     ) -> Result<Choice> {
+        if let Some(window) = constraint.window() {
+            return self.choose_place_in(&window, constraint, count);
+        }
         let root = &self.root;
         let (size, align) = (constraint.size(), constraint.align());
         match constraint.policy() {
@@ -32,6 +36,67 @@ impl IntervalTree {
             }
             AllocPolicy::ExactMatch(start) => self.exact_place(constraint, start, count),
         }
+    }
+
+    /// Returns the range that the policy of a request with a window chooses, with its free block, or the
+    /// error of the request.
+    ///
+    /// It is never inlined, so that a request without a window does not pay for it.
+    #[inline(never)]
+    fn choose_place_in(
+        &self,
+        window: &RangeInclusive,
+        constraint: Constraint,
+        count: &mut Steps,
+    ) -> Result<Choice> {
+        let root = &self.root;
+        let (size, align) = (constraint.size(), constraint.align());
+        match constraint.policy() {
+            AllocPolicy::FirstMatch => {
+                let found = first_place_in(root, window, size, align, count);
+                choice_at(found, size)
+            }
+            AllocPolicy::LastMatch => {
+                let found = last_place_in(root, window, size, align, count);
+                choice_at(found, size)
+            }
+            AllocPolicy::ExactMatch(start) => self.exact_place_in(window, constraint, start, count),
+        }
+    }
+
+    /// Returns the range at the start that an `ExactMatch` request with a window names, if it is free and
+    /// lies in the window.
+    ///
+    /// The errors are, in this order:
+    /// - `Overflow` if `start` is `u64::MAX`.
+    /// - `ResourceNotAvailable` if `start` is outside the space or outside the window.
+    /// - `Overflow` if the range would end past `u64::MAX`.
+    /// - The error of `exact_choice_in`.
+    fn exact_place_in(
+        &self,
+        window: &RangeInclusive,
+        constraint: Constraint,
+        start: u64,
+        count: &mut Steps,
+    ) -> Result<Choice> {
+        if start == u64::MAX {
+            return Err(Error::Overflow);
+        }
+        let size = constraint.size();
+        let first = valid_range(start, start);
+        let Some(node) = self.root().search_superset(&first, count) else {
+            return Err(Error::ResourceNotAvailable);
+        };
+        if start < window.start() {
+            return Err(Error::ResourceNotAvailable);
+        }
+        if window.end() < start {
+            return Err(Error::ResourceNotAvailable);
+        }
+        let Some(last) = start.checked_add(size - 1) else {
+            return Err(Error::Overflow);
+        };
+        exact_choice_in(window, node.key(), node.state(), start, last)
     }
 
     /// Returns the range at the start that an `ExactMatch` request names, if it is free.
@@ -103,6 +168,29 @@ fn exact_choice(key: RangeInclusive, state: NodeState, start: u64, last: u64) ->
                 key,
                 range: valid_range(start, last),
             })
+        }
+    }
+}
+
+/// Returns the range from `start` to `last`, if it is free and `last` is in the window. The block
+/// contains `start`.
+///
+/// The errors are those of `exact_choice`, but `ResourceNotAvailable` if the block is free and the
+/// window ends before `last`.
+fn exact_choice_in(
+    window: &RangeInclusive,
+    key: RangeInclusive,
+    state: NodeState,
+    start: u64,
+    last: u64,
+) -> Result<Choice> {
+    match state {
+        NodeState::Allocated => exact_choice(key, state, start, last),
+        NodeState::Free => {
+            if window.end() < last {
+                return Err(Error::ResourceNotAvailable);
+            }
+            exact_choice(key, state, start, last)
         }
     }
 }

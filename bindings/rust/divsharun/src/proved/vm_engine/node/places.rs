@@ -89,7 +89,7 @@ fn highest_in_free(key: &RangeInclusive, size: u64, alignment: u64) -> Option<u6
 /// This is true if one of its free blocks has at least `size` addresses, and one of them has a
 /// multiple of `alignment`. These can be different blocks.
 #[inline(always)]
-fn may_fit(tree: &Child, size: u64, alignment: u64) -> Option<&InnerNode> {
+pub(super) fn may_fit(tree: &Child, size: u64, alignment: u64) -> Option<&InnerNode> {
     let Some(node) = tree else { return None };
     let node: &InnerNode = node;
     if node.max_free < size || u32::from(node.alignments) <= alignment.trailing_zeros() {
