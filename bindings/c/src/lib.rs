@@ -12,8 +12,6 @@
 
 extern crate alloc;
 
-#[path = "../../rust/divsharun/src/saved/blocks.rs"]
-mod blocks;
 mod devices;
 mod handle;
 mod ids;

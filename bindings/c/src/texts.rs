@@ -1,14 +1,16 @@
 //! Saving objects as JSON, and reading them.
 
-use crate::blocks::{Blocks, Tree};
 use crate::handle::{non_null, Handle};
 use crate::json::{dvs_text_limits, Read, Reader, TextFault};
 use crate::parts::{
-    device_manager, id_allocator, push_ascending, Fault, Node, Nodes, Span, VERSION,
+    begin, device_manager, end, id_allocator, push_ascending, repaired, strict, Fault, VERSION,
 };
 use crate::proved::vm_allocator::allocation_engine::NodeState;
-use crate::proved::vm_allocator::{AddressAllocator, IdAllocator, RangeInclusive};
+use crate::proved::vm_allocator::{
+    AddressAllocator, IdAllocator, RangeInclusive, ReadNodes, Span, WrittenBlocks, WrittenTree,
+};
 use crate::proved::vm_devices::{DeviceManager, DeviceSlot};
+use crate::rattle::Global;
 use crate::status::{
     dvs_status, dvs_status_text, DVS_LIMIT_EXCEEDED, DVS_NOT_A_STATE, DVS_NOT_JSON, DVS_NULL,
     DVS_OK, DVS_OUT_OF_MEMORY,
@@ -105,12 +107,12 @@ fn write_range(start: u64, end: u64, to: &mut impl Sink) {
     to.text("}");
 }
 
-fn write_tree(tree: Tree<'_>, to: &mut impl Sink) {
+fn write_tree(tree: WrittenTree<'_>, to: &mut impl Sink) {
     let Some(node) = tree.root() else {
         return to.text("null");
     };
     to.text(r#"{"key":"#);
-    write_range(node.key.start, node.key.end, to);
+    write_range(node.key.start(), node.key.end(), to);
     to.text(match node.state {
         NodeState::Free => r#","node_state":"Free","left":"#,
         NodeState::Allocated => r#","node_state":"Allocated","left":"#,
@@ -134,13 +136,13 @@ fn write_list<T, S: Sink>(items: impl Iterator<Item = T>, to: &mut S, write: fn(
 }
 
 impl Saved for AddressAllocator {
-    type Parts = Blocks;
+    type Parts = WrittenBlocks;
 
-    fn parts(&self) -> Result<Blocks, Fault> {
-        Blocks::of(self)
+    fn parts(&self) -> Result<WrittenBlocks, Fault> {
+        self.written_blocks(Global).map_err(|_| Fault::OutOfMemory)
     }
 
-    fn write(&self, blocks: &Blocks, to: &mut impl Sink) {
+    fn write(&self, blocks: &WrittenBlocks, to: &mut impl Sink) {
         to.text(r#"{"address_space":"#);
         write_range(self.base(), self.end(), to);
         to.text(r#","interval_tree":{"root":"#);
@@ -173,13 +175,13 @@ impl Saved for IdAllocator {
 }
 
 impl Saved for DeviceManager {
-    type Parts = Blocks;
+    type Parts = WrittenBlocks;
 
-    fn parts(&self) -> Result<Blocks, Fault> {
-        Blocks::of(self.addresses())
+    fn parts(&self) -> Result<WrittenBlocks, Fault> {
+        self.addresses().parts()
     }
 
-    fn write(&self, blocks: &Blocks, to: &mut impl Sink) {
+    fn write(&self, blocks: &WrittenBlocks, to: &mut impl Sink) {
         to.text(r#"{"version":"#);
         to.number(VERSION);
         to.text(r#","id_allocator":"#);
@@ -310,11 +312,11 @@ fn read_range(from: &mut Reader<'_>) -> Read<RangeInclusive> {
     RangeInclusive::new(start, end).map_err(|_| from.not_a_state(c"the range is not valid"))
 }
 
-fn read_subtree(from: &mut Reader<'_>, nodes: &mut Nodes) -> Read<Option<Span>> {
+fn read_subtree(from: &mut Reader<'_>, nodes: &mut ReadNodes) -> Read<Option<Span>> {
     if from.skip_null()? {
         return Ok(None);
     }
-    nodes.begin().map_err(|fault| from.of_parts(fault))?;
+    begin(nodes).map_err(|fault| from.of_parts(fault))?;
     let (mut key, mut state, mut children, mut height) = (None, NodeState::Free, [None; 2], 0);
     let names = [c"key", c"node_state", c"left", c"right", c"height"];
     from.object(names, |from, at| {
@@ -327,23 +329,14 @@ fn read_subtree(from: &mut Reader<'_>, nodes: &mut Nodes) -> Read<Option<Span>> 
         Ok(())
     })?;
     let (key, [left, right]) = (from.some(key)?, children);
-    let node = Node {
-        key,
-        state,
-        left,
-        right,
-        height,
-    };
-    nodes
-        .end(node)
-        .map(Some)
-        .map_err(|fault| from.of_parts(fault))
+    let span = end(nodes, left, key, state, right, height);
+    span.map(Some).map_err(|fault| from.of_parts(fault))
 }
 
 /// Reads an address allocator. If `is_strict`, its tree must be one that this library writes or
 /// builds.
 pub(crate) fn read_space(from: &mut Reader<'_>, is_strict: bool) -> Read<AddressAllocator> {
-    let (mut nodes, mut space, mut root) = (Nodes::default(), None, None);
+    let (mut nodes, mut space, mut root) = (ReadNodes::new(Global), None, None);
     from.object([c"address_space", c"interval_tree"], |from, at| {
         if at == 0 {
             space = Some(read_range(from)?);
@@ -354,7 +347,8 @@ pub(crate) fn read_space(from: &mut Reader<'_>, is_strict: bool) -> Read<Address
             Ok(())
         })
     })?;
-    let made = nodes.allocator(from.some(space)?, root, is_strict);
+    let allocator = if is_strict { strict } else { repaired };
+    let made = allocator(from.some(space)?, &nodes, root);
     made.map_err(|fault| from.of_parts(fault))
 }
 

@@ -2,3 +2,4 @@
 mod allocator;
 mod ids;
 mod listed_ids;
+mod nodes;

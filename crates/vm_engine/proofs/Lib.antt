@@ -11,3 +11,4 @@ pub mod Comparing
 pub mod Reading
 pub mod Making
 pub mod Repairing
+pub mod SavedNodes

@@ -1,4 +1,2 @@
-pub mod KeyCursors
-pub mod KeyNodes
 pub mod CollectedKeys
 pub mod RepairedTrees

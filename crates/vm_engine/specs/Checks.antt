@@ -1,3 +1,5 @@
 pub mod ValueParts
 pub mod NodeChecks
 pub mod KeyChecks
+pub mod Spans
+pub mod ValueSpans

@@ -2,3 +2,4 @@ pub mod AddressLaws
 pub mod CountLaws
 pub mod QueryLaws
 pub mod MemoryLaws
+pub mod SavedLaws

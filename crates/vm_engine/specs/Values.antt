@@ -1,2 +1,4 @@
 pub mod TreeValues
 pub mod KeyValues
+pub mod SavedTrees
+pub mod WrittenTrees

@@ -94,7 +94,7 @@ impl IntervalTree {
     }
 
     /// Returns an iterator over the blocks, from both ends.
-    fn blocks(&self) -> Blocks<'_>
+    pub(crate) fn blocks(&self) -> Blocks<'_>
         ensures value { result ≡ blocks self.now }
         ensures space { IsSpaceTree self.now }
     {

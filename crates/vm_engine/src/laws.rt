@@ -4,3 +4,4 @@ mod addresses;
 mod memory;
 mod orders;
 mod queries;
+mod saved;

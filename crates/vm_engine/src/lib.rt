@@ -18,3 +18,6 @@ pub use interval_tree::IntervalTree;
 use interval_tree::counted::Steps;
 pub use interval_tree::gaps::Gaps;
 pub use interval_tree::held_ranges::HeldRanges;
+pub use saved::nodes::ReadNodes;
+pub use saved::span::Span;
+pub use saved::written::{WrittenBlocks, WrittenNode, WrittenTree};

@@ -3,10 +3,9 @@
 //! Ranges, states and allocators have the names and fields that the derives of `vm-allocator`
 //! write, in the same order. A tree is written balanced, so equal allocators have equal bytes.
 //!
-//! `parts` decides whether a value is valid, and `blocks` decides what is written of an object. The C
-//! library also has these two files.
+//! Proved code decides which trees are valid, and which tree is written. `parts` decides it for ids
+//! and devices. The C library also has this file.
 
-mod blocks;
 mod parts;
 mod reading;
 mod writing;

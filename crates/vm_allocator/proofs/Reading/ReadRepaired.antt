@@ -13,7 +13,8 @@ use Rattle.vm_engine.specs.Tree.Blocks.{held_of}
 use Rattle.vm_engine.specs.Tree.Shape.{blocks}
 use Rattle.vm_engine.specs.Values.TreeValues.{EncodesSpaceTree}
 use Rattle.vm_engine.specs.Values.KeyValues.{EncodesKeys}
-use Rattle.vm_engine.proofs.Repairing.RepairedTrees.{state_with, one_keys, keys_state, strict_keys}
+use Rattle.vm_engine.proofs.Repairing.RepairedTrees.{one_keys, keys_state, strict_keys}
+use Rattle.vm_engine.proofs.SavedNodes.Roots.{state_with}
 use Rattle.vm_allocator.specs.Allocator.{SpaceInTree}
 use Rattle.vm_allocator.specs.Values.AllocatorValues.{EncodesTree, EncodesAllocator, EncodesAddresses}
 use Rattle.vm_allocator.specs.Values.RepairedValues.{EncodesRepaired}

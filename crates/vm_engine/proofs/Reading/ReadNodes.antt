@@ -12,7 +12,6 @@ use Rattle.vm_engine.specs.Tree.Shape.{Shape, Tip, Fork, blocks, height_of}
 use Rattle.vm_ranges.specs.RangeValues.{EncodesRange, EncodesState, decoded_range, decoded_state}
 use Rattle.vm_engine.specs.Values.TreeValues.{EncodesNode, EncodesShape, HasNodes}
 use Rattle.vm_engine.specs.Checks.NodeChecks.{NodeData, decoded_node}
-use Rattle.vm_engine.proofs.Reading.Cursors.{AreKeys, keys-append}
 use Rattle.vm_ranges.proofs.ReadRanges as ranges
 use Rattle.vm_ranges.proofs.ReadStates as states
 
@@ -39,7 +38,7 @@ node_encoded d n e =
     subst (λ (m : NodeData). EncodesNode d m.block (λ v. v ≡ m.left) (λ v. v ≡ m.right) m.height) right.2 encoded
 
 -- The facts about the values of the children can be replaced.
-sides_map : (d : Data) (b : Block) (L R P Q : Data → Type 0) (h : ℕ) → ((v : Data) → L v → P v) → ((v : Data) → R v → Q v) → EncodesNode d b L R h → EncodesNode d b P Q h
+pub sides_map : (d : Data) (b : Block) (L R P Q : Data → Type 0) (h : ℕ) → ((v : Data) → L v → P v) → ((v : Data) → R v → Q v) → EncodesNode d b L R h → EncodesNode d b P Q h
 sides_map d b L R P Q h f g n = record {
   five_fields = n.five_fields;
   key = n.key;
@@ -104,11 +103,3 @@ one_tree (Fork l x r) (Fork m y n) d p q =
 pub none_tip : (s : Shape) (d : Data) → HasNodes d s → decoded_node d ≡ None → s ≡ Tip
 none_tip Tip d p e = refl
 none_tip (Fork l b r) d p e = let n = fork_is d l r b p in absurd (let f = n.1 in cc)
-
--- The keys of the nodes of a value.
-pub keys_encoded : (s : Shape) (d : Data) → HasNodes d s → AreKeys (blocks s)
-keys_encoded Tip d p = tt
-keys_encoded (Fork l b r) d p =
-    let key_at = in_field (codes "key") d (λ v. EncodesRange v b.key) p.1.key in
-    let n = fork_is d l r b p in
-    keys-append (blocks l) b (blocks r) (keys_encoded l n.0.left n.3) key_at.2.range.0 (keys_encoded r n.0.right n.4)

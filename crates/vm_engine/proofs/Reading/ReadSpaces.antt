@@ -1,24 +1,27 @@
 -- The check of a value accepts exactly the values that encode a tree of the space.
-use Rattle.std.proofs.Common.{◌≡◌, ◌+◌, true, eqb, Some, None, Option, is_some, refl, sym, ◌∙◌, subst, arith, true≢false, false}
-use Rattle.std.proofs.lemmas.Bool.{eqb-true, eq-eqb}
+use Rattle.std.proofs.Common.{◌≡◌, ◌+◌, ◌≤◌, Bool, true, Some, None, Option, refl, sym, ap, ◌∙◌, subst, arith, true≢false, false}
 use Rattle.serde_json.specs.Data.{Data}
-use Rattle.vm_ranges.proofs.Steps.{and_then_some, if_some}
-use Rattle.vm_ranges.specs.Range.{Range, IsRange}
+use Rattle.vm_ranges.specs.Range.{Range, MAX, IsRange}
 use Rattle.vm_engine.specs.Tree.Blocks.{TilesSpace}
-use Rattle.vm_engine.specs.Tree.Shape.{Shape, Tip, MAX_HEIGHT, blocks}
+use Rattle.vm_engine.specs.Tree.Shape.{Shape, Tip, MAX_HEIGHT, blocks, height_of}
 use Rattle.vm_engine.specs.Tree.SpaceTree.{IsSpaceTree}
+use Rattle.vm_engine.specs.Values.KeyValues.{MAX_NESTING_REPAIRED}
 use Rattle.vm_engine.specs.Values.TreeValues.{EncodesShape, EncodesSpaceTree}
+use Rattle.vm_engine.specs.Values.SavedTrees.{Saved, Absent, shape_of, IsReadable, IsSavedTree}
 use Rattle.vm_engine.specs.Checks.ValueParts.{IsShapeWithin, HasShapeWithin}
-use Rattle.vm_engine.specs.Checks.NodeChecks.{checked_subtree, cursor_at_start, checked_tree_of}
+use Rattle.vm_engine.specs.Checks.Spans.{is_tree_of}
+use Rattle.vm_engine.specs.Checks.ValueSpans.{checked_nodes, found_with, has_tree_of}
+use Rattle.vm_engine.specs.declared.saved.span.Span.{Span}
 use Rattle.vm_ranges.specs.declared.state.NodeState.TheVariants.{Allocated}
-use Rattle.vm_engine.specs.declared.saved.check.CheckedTree.{CheckedTree}
 use Rattle.vm_engine.proofs.Blocks.BlockOrder.{ordered_weaken}
+use Rattle.vm_engine.proofs.Blocks.BlockStates.{tiles_keys}
 use Rattle.vm_engine.proofs.Nodes.Spaces.{space_tree}
 use Rattle.vm_engine.proofs.Nodes.TreeEdits.{tiles_ordered}
-use Rattle.vm_engine.proofs.Reading.ReadNodes.{shape_nodes, keys_encoded}
-use Rattle.vm_engine.proofs.Reading.Cursors.{tiled, all_behind}
-use Rattle.vm_engine.proofs.Reading.ReadTrees.{sound, complete}
 use Rattle.vm_engine.proofs.Reading.OneTree.{one_shape}
+use Rattle.vm_engine.proofs.SavedNodes.KeyLists.{keys_within}
+use Rattle.vm_engine.proofs.SavedNodes.Spans.{complete}
+use Rattle.vm_engine.proofs.SavedNodes.Roots.{strict_tree, strict_passes}
+use Rattle.vm_engine.proofs.SavedNodes.ValueTrees.{saved_shape, saved_of, shape_of-saved_of, saved_of-heights, shape_saved, ranges_saved, found, finds}
 
 -- The value encodes a tree of the space, of height at most MAX_HEIGHT.
 record IsChecked (d : Data) (space : Range) (s : Shape) : Type 0 where
@@ -32,57 +35,65 @@ not_empty space s r t e =
     let end = r.0 in
     omega arith
 
-checked_tree : (d : Data) (space : Range) → IsRange space.start space.end → (found : CheckedTree) → checked_subtree MAX_HEIGHT d (cursor_at_start space) ≡ Some found → found.cursor.next ≡ space.end + 1 → (s : Shape) × IsChecked d space s
+-- A test of a span that was found.
+pub found_test : (test : Option Span → Bool) (found : Option (Option Span)) → found_with test found ≡ true → (o : Option Span) × (found ≡ Some o) × (test o ≡ true)
+found_test test None e = absurd (cc)
+found_test test (Some o) e = (o, refl, e)
+
+checks : (d : Data) (space : Range) → IsRange space.start space.end → has_tree_of space d ≡ true → (s : Shape) × IsChecked d space s
 unfolding TilesSpace
-checked_tree d space range found e ends =
-    let f = sound MAX_HEIGHT d (cursor_at_start space) found e in
-    let g = tiled (blocks f.0) (cursor_at_start space) found.cursor space.end (keys_encoded f.0 d (shape_nodes f.0 d f.1.encoded)) f.1.advance ends in
-    let ordered = ordered_weaken 0 space.start (blocks f.0) (omega arith) (tiles_ordered Allocated space.start space.end (blocks f.0) g.0) in (
-      f.0,
+checks d space range e =
+    let o = found_test (is_tree_of space) (checked_nodes MAX_HEIGHT d) e in
+    let f = found MAX_HEIGHT d o.0 o.1 in
+    let t = strict_tree space o.0 f.0 f.1.stands o.2 in
+    let s = shape_of f.0 in
+    let encoded = saved_shape f.0 d t.heights f.1.nodes in
+    let ordered = ordered_weaken 0 space.start (blocks s) (omega arith) (tiles_ordered Allocated space.start space.end (blocks s) t.blocks.tiles) in (
+      s,
       record {
-        encoded = record {
-          encoded = f.1.encoded;
-          some_node = not_empty space f.0 range g.0;
-          nested = f.1.within;
-          ordered = ordered;
-          balanced = f.1.balanced;
-          blocks = record { tiles = g.0; below = g.1 };
-        };
-        within = record { encoded = f.1.encoded; tree = record { ordered = ordered; balanced = f.1.balanced }; height = f.1.within };
+        encoded = record { encoded = encoded; some_node = not_empty space s range t.blocks.tiles; nested = t.nested; ordered = ordered; balanced = t.balanced; blocks = t.blocks };
+        within = record { encoded = encoded; tree = record { ordered = ordered; balanced = t.balanced }; height = t.nested };
       },
     )
 
-pub some_of : {A : Type 0} (o : Option A) → is_some o ≡ true → (a : A) × (o ≡ Some a)
-some_of None e = absurd (cc)
-some_of (Some a) e = (a, refl)
-
-checks : (d : Data) (space : Range) → IsRange space.start space.end → is_some (checked_tree_of space d) ≡ true → (s : Shape) × IsChecked d space s
-checks d space range e =
-    let last = some_of (checked_tree_of space d) e in
-    let found = and_then_some _ (checked_subtree MAX_HEIGHT d (cursor_at_start space)) last.0 last.1 in
-    let ends = if_some (eqb found.0.cursor.next (space.end + 1)) _ last.0 found.2 in
-    checked_tree d space range found.0 found.1 (eqb-true found.0.cursor.next (space.end + 1) ends.0)
-
 -- A value that encodes a tree of the space is accepted.
-passes : (d : Data) (space : Range) (s : Shape) → EncodesSpaceTree d space s → is_some (checked_tree_of space d) ≡ true
+passes : (d : Data) (space : Range) (s : Shape) → IsRange space.start space.end → EncodesSpaceTree d space s → has_tree_of space d ≡ true
 unfolding TilesSpace
-passes d space s p =
-    let last = all_behind (blocks s) (cursor_at_start space) space.end p.blocks.tiles p.blocks.below in
-    let found = complete s MAX_HEIGHT d (cursor_at_start space) last.0 p.encoded p.balanced p.nested last.1 in
-    rw (found, eq-eqb last.0.next (space.end + 1) last.2) refl
+passes d space s range p =
+    let t = saved_of s in
+    let is = shape_of-saved_of s in
+    let nodes = shape_saved s d p.encoded in
+    let nested = p.nested in
+    let some : t ≡ Absent → ⊥ = λ e. p.some_node (sym is ∙ ap shape_of e) in
+    let whole : IsSavedTree space t = record {
+      some_node = some;
+      heights = saved_of-heights s;
+      nested = rw is nested;
+      balanced = rw is p.balanced;
+      blocks = rw is p.blocks;
+    } in
+    let top = range.1 in
+    let keys = keys_within space.start 0 space.end MAX (blocks s) (omega arith) top (tiles_keys Allocated space.start space.end (blocks s) p.blocks.tiles) in
+    let deep : height_of s ≤ MAX_NESTING_REPAIRED = omega arith in
+    let readable : IsReadable t = record { nested = rw is deep; keys = rw is keys; below = rw is p.blocks.below } in
+    let ranges = ranges_saved t d nodes in
+    let o = complete t ranges readable in
+    let checked = finds t MAX_HEIGHT d o.0 nodes (rw is nested) o.1 in
+    let test = strict_passes space o.0 t (record { is_span = o.1; ranges = ranges }) whole in
+    rw checked test
 
 -- The clauses of the code.
 
-pub none_encoded : (d : Data) (space : Range) → is_some (checked_tree_of space d) ≡ false → ((s : Shape) × EncodesSpaceTree d space s) → ⊥
-none_encoded d space e p = true≢false (sym (passes d space p.0 p.1) ∙ e)
+pub none_encoded : (d : Data) (space : Range) → IsRange space.start space.end → has_tree_of space d ≡ false → ((s : Shape) × EncodesSpaceTree d space s) → ⊥
+none_encoded d space range e p = true≢false (sym (passes d space p.0 range p.1) ∙ e)
 
-pub has_shape : (d : Data) (space : Range) → IsRange space.start space.end → is_some (checked_tree_of space d) ≡ true → HasShapeWithin MAX_HEIGHT d
+pub has_shape : (d : Data) (space : Range) → IsRange space.start space.end → has_tree_of space d ≡ true → HasShapeWithin MAX_HEIGHT d
 has_shape d space range e = let c = checks d space range e in (c.0, c.1.within)
 
-pub some_encoded : (d : Data) (space : Range) → IsRange space.start space.end → is_some (checked_tree_of space d) ≡ true → (s : Shape) × EncodesSpaceTree d space s
+pub some_encoded : (d : Data) (space : Range) → IsRange space.start space.end → has_tree_of space d ≡ true → (s : Shape) × EncodesSpaceTree d space s
 some_encoded d space range e = let c = checks d space range e in (c.0, c.1.encoded)
 
-pub built_states : (d : Data) (space : Range) (s : Shape) → IsRange space.start space.end → is_some (checked_tree_of space d) ≡ true → EncodesShape d s → EncodesSpaceTree d space s
+pub built_states : (d : Data) (space : Range) (s : Shape) → IsRange space.start space.end → has_tree_of space d ≡ true → EncodesShape d s → EncodesSpaceTree d space s
 built_states d space s range e p =
     let c = checks d space range e in
     subst (EncodesSpaceTree d space) (one_shape c.0 s d c.1.within.encoded p) c.1.encoded

@@ -1,7 +1,8 @@
 -- The check of keys accepts exactly the values that encode the held ranges of a space.
-use Rattle.std.proofs.Common.{◌≡◌, ◌≤◌, true, List, [], length, Some, None, is_some, refl, sym, ap, ◌∙◌, subst, arith, true≢false, Ok}
+use Rattle.std.proofs.Common.{◌≡◌, ◌≤◌, true, false, List, [], length, Some, None, Option, refl, sym, ap, ◌∙◌, subst, arith, true≢false, Ok}
+use Rattle.std.proofs.lemmas.Option.{same_Some}
 use Rattle.serde_json.specs.Data.{Data}
-use Rattle.vm_ranges.specs.Range.{Range, IsRange}
+use Rattle.vm_ranges.specs.Range.{Range, MAX, IsRange}
 use Rattle.vm_engine.specs.Address.{AddressState, AreInOrder, IsAddressState}
 use Rattle.vm_engine.specs.Answer.{SPLIT_LIMIT_MIN_HELD}
 use Rattle.vm_engine.specs.Held.{MakesHeld}
@@ -9,45 +10,37 @@ use Rattle.vm_engine.specs.Tree.Blocks.{held_of, TilesSpace}
 use Rattle.vm_engine.specs.Tree.Shape.{Shape, blocks}
 use Rattle.vm_engine.specs.Values.TreeValues.{EncodesSpaceTree, HasNodes}
 use Rattle.vm_engine.specs.Values.KeyValues.{MAX_NESTING_REPAIRED, EncodesKeys}
-use Rattle.vm_engine.specs.Checks.KeyChecks.{checked_keys, key_cursor_at_start, HasNodesWithin, CollectsKeys}
+use Rattle.vm_engine.specs.Values.SavedTrees.{shape_of, IsReadable, HasHeldKeys}
+use Rattle.vm_engine.specs.Checks.KeyChecks.{HasNodesWithin, CollectsKeys}
+use Rattle.vm_engine.specs.Checks.Spans.{is_inside}
+use Rattle.vm_engine.specs.Checks.ValueSpans.{checked_nodes}
+use Rattle.vm_engine.specs.declared.saved.span.Span.{Span}
 use Rattle.vm_ranges.specs.declared.state.NodeState.TheVariants.{Allocated}
-use Rattle.vm_engine.specs.declared.saved.repaired.KeyCursor.{KeyCursor}
 use Rattle.vm_engine.proofs.Blocks.BlockStates.{tiles_keys, keys_in_order}
 use Rattle.vm_engine.proofs.Making.HeldTrees.{held_made}
-use Rattle.vm_engine.proofs.Reading.ReadNodes.{shape_nodes, one_tree, keys_encoded}
-use Rattle.vm_engine.proofs.Repairing.KeyCursors.{in_row, row_in}
-use Rattle.vm_engine.proofs.Repairing.KeyNodes.{sound, complete}
-
-abbrev pub state_with : Range → List Range → AddressState
-state_with space held = record { space = space; held = held }
+use Rattle.vm_engine.proofs.Reading.ReadNodes.{shape_nodes, one_tree}
+use Rattle.vm_engine.proofs.SavedNodes.KeyLists.{keys_within}
+use Rattle.vm_engine.proofs.SavedNodes.Spans.{complete}
+use Rattle.vm_engine.proofs.SavedNodes.Roots.{state_with, repaired_keys, repaired_passes}
+use Rattle.vm_engine.proofs.SavedNodes.ValueTrees.{saved_nodes, nodes_saved, ranges_saved, found, finds}
 
 -- The keys that the check finds.
-keys_found : (d : Data) (space : Range) (last : KeyCursor) → checked_keys space.end MAX_NESTING_REPAIRED d (key_cursor_at_start space) ≡ Some last → (s : Shape) × HasNodes d s × EncodesKeys d space (state_with space (held_of (blocks s)))
-keys_found d space last e =
-    let f = sound space.end MAX_NESTING_REPAIRED d (key_cursor_at_start space) last e in
-    let g = in_row space.end (blocks f.0) (key_cursor_at_start space) last (keys_encoded f.0 d f.1.nodes) (omega arith) f.1.keys in
-    let count = g.count in
-    let few = g.few in (
-      f.0,
-      f.1.nodes,
-      record {
-        tree = f.0;
-        nodes = f.1.nodes;
-        nested = f.1.within;
-        keys = g.keys;
-        below = g.below;
-        few = omega arith;
-        held = refl;
-        is_space = refl;
-      },
-    )
+keys_found : (d : Data) (space : Range) (o : Option Span) → space.end ≤ MAX → checked_nodes MAX_NESTING_REPAIRED d ≡ Some o → is_inside space o ≡ true → (s : Shape) × HasNodes d s × EncodesKeys d space (state_with space (held_of (blocks s)))
+keys_found d space o v e i =
+    let f = found MAX_NESTING_REPAIRED d o e in
+    let k = repaired_keys space o f.0 v f.1.stands i in
+    let nodes = saved_nodes f.0 d f.1.nodes in
+    (shape_of f.0, nodes, record { tree = shape_of f.0; nodes = nodes; nested = k.nested; keys = k.keys; below = k.below; few = k.few; held = refl; is_space = refl })
 
-passes : (d : Data) (space : Range) (state : AddressState) → EncodesKeys d space state → is_some (checked_keys space.end MAX_NESTING_REPAIRED d (key_cursor_at_start space)) ≡ true
-passes d space state p =
-    let few = p.few in
-    let last = row_in space.end (blocks p.tree) (key_cursor_at_start space) p.keys p.below (omega arith) in
-    let found = complete p.tree space.end MAX_NESTING_REPAIRED d (key_cursor_at_start space) last.0 p.nodes p.nested last.1 in
-    rw found refl
+passes : (d : Data) (space : Range) (state : AddressState) → space.end ≤ MAX → EncodesKeys d space state → (o : Option Span) × (checked_nodes MAX_NESTING_REPAIRED d ≡ Some o) × (is_inside space o ≡ true)
+passes d space state v p =
+    let t = nodes_saved p.tree d p.nodes in
+    let keys = keys_within space.start 0 space.end MAX (blocks p.tree) (omega arith) v p.keys in
+    let readable : IsReadable t.0 = record { nested = rw t.2 p.nested; keys = rw t.2 keys; below = rw t.2 p.below } in
+    let ranges = ranges_saved t.0 d t.1 in
+    let o = complete t.0 ranges readable in
+    let held : HasHeldKeys space t.0 state = record { nested = rw t.2 p.nested; keys = rw t.2 p.keys; below = rw t.2 p.below; few = rw t.2 p.few; held = rw t.2 p.held; is_space = p.is_space } in
+    (o.0, finds t.0 MAX_NESTING_REPAIRED d o.0 t.1 (rw t.2 p.nested) o.1, repaired_passes space o.0 t.0 state (record { is_span = o.1; ranges = ranges }) held)
 
 -- A value encodes at most one state.
 pub one_keys : (d : Data) (space : Range) (a b : AddressState) → EncodesKeys d space a → EncodesKeys d space b → a ≡ b
@@ -80,19 +73,25 @@ strict_keys d space tree p few =
 
 -- The facts that the contracts of the code need.
 
-pub no_keys : (d : Data) (space : Range) → checked_keys space.end MAX_NESTING_REPAIRED d (key_cursor_at_start space) ≡ None → ((state : AddressState) × EncodesKeys d space state) → ⊥
-no_keys d space e p = true≢false (sym (passes d space p.0 p.1) ∙ ap is_some e)
+pub no_span : (d : Data) (space : Range) → space.end ≤ MAX → checked_nodes MAX_NESTING_REPAIRED d ≡ None → ((state : AddressState) × EncodesKeys d space state) → ⊥
+no_span d space v e p = let f = (passes d space p.0 v p.1).1 in absurd (cc (f, e))
 
-pub some_keys : (d : Data) (space : Range) (last : KeyCursor) → checked_keys space.end MAX_NESTING_REPAIRED d (key_cursor_at_start space) ≡ Some last → (state : AddressState) × EncodesKeys d space state
-some_keys d space last e = let f = keys_found d space last e in (state_with space (held_of (blocks f.0)), f.2)
+pub not_inside : (d : Data) (space : Range) (o : Option Span) → space.end ≤ MAX → checked_nodes MAX_NESTING_REPAIRED d ≡ Some o → is_inside space o ≡ false → ((state : AddressState) × EncodesKeys d space state) → ⊥
+not_inside d space o v e i p =
+    let f = passes d space p.0 v p.1 in
+    let same : f.0 ≡ o = same_Some f.0 o (sym f.1 ∙ e) in
+    true≢false (sym f.2 ∙ ap (is_inside space) same ∙ i)
 
-pub keys_within : (d : Data) (space : Range) (last : KeyCursor) → checked_keys space.end MAX_NESTING_REPAIRED d (key_cursor_at_start space) ≡ Some last → HasNodesWithin MAX_NESTING_REPAIRED d
-keys_within d space last e = let f = keys_found d space last e in (f.2.tree, f.2.nodes, f.2.nested)
+pub some_keys : (d : Data) (space : Range) (o : Option Span) → space.end ≤ MAX → checked_nodes MAX_NESTING_REPAIRED d ≡ Some o → is_inside space o ≡ true → (state : AddressState) × EncodesKeys d space state
+some_keys d space o v e i = let f = keys_found d space o v e i in (state_with space (held_of (blocks f.0)), f.2)
+
+pub keys_nested : (d : Data) (o : Option Span) → checked_nodes MAX_NESTING_REPAIRED d ≡ Some o → HasNodesWithin MAX_NESTING_REPAIRED d
+keys_nested d o e = let f = found MAX_NESTING_REPAIRED d o e in (shape_of f.0, saved_nodes f.0 d f.1.nodes, f.1.within)
 
 -- The state that is made with the collected keys held is the state that the value encodes.
-pub keys_read : (d : Data) (space : Range) (last : KeyCursor) (held : List Range) (made : AddressState) → checked_keys space.end MAX_NESTING_REPAIRED d (key_cursor_at_start space) ≡ Some last → CollectsKeys d [] held → MakesHeld space held (Ok made) → EncodesKeys d space made
-keys_read d space last held made e c m =
-    let f = keys_found d space last e in
+pub keys_read : (d : Data) (space : Range) (o : Option Span) (held : List Range) (made : AddressState) → space.end ≤ MAX → checked_nodes MAX_NESTING_REPAIRED d ≡ Some o → is_inside space o ≡ true → CollectsKeys d [] held → MakesHeld space held (Ok made) → EncodesKeys d space made
+keys_read d space o held made v e i c m =
+    let f = keys_found d space o v e i in
     let tree : c.0 ≡ f.0 = one_tree c.0 f.0 d c.1 f.1 in
     let is : made ≡ state_with space (held_of (blocks f.0)) = held_made space held made m ∙ ap (state_with space) (c.2 ∙ ap (λ (s : Shape). held_of (blocks s)) tree) in
     subst (EncodesKeys d space) (sym is) f.2

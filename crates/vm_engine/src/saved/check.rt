@@ -1,84 +1,27 @@
-//! Checks a saved tree, block by block and node by node, up to the first fault. It does not
-//! allocate.
-ghost use Rattle.std.specs.Prelude.{◌≡◌, ◌≤◌, ◌+◌, ◌<◌, ◌^◌, IfSome, is_some};
+//! Checks a saved tree in a value. It does not allocate.
+ghost use Rattle.std.specs.Prelude.{◌≡◌, ◌≤◌};
 ghost use Rattle.serde_json.specs.View.{view};
-ghost use Rattle.vm_ranges.specs.Range.{IsRange};
-ghost use Rattle.vm_engine.specs.Tree.Shape.{MAX_HEIGHT};
-ghost use Rattle.vm_engine.specs.Checks.NodeChecks.{advance, is_correct_height, checked_subtree, checked_tree_of};
+ghost use Rattle.vm_engine.specs.Values.KeyValues.{MAX_NESTING_REPAIRED};
+ghost use Rattle.vm_engine.specs.Checks.ValueSpans.{checked_nodes};
 
 use super::node::decode_node;
-use crate::node::MAX_HEIGHT;
+use super::span::{Span, span_over};
 use serde_json::Value;
-use vm_ranges::{NodeState, RangeInclusive};
 
-/// Returns `true` if a value encodes a tree whose blocks cover the space exactly.
-///
-/// It does not allocate, and descends at most 50 levels of the value.
-pub(super) fn is_tree_of(space: &RangeInclusive, value: &Value) -> bool
-    ensures value { result ≡ is_some (checked_tree_of space.now (view value.now)) }
-    ensures space { IsRange space.now.start space.now.end }
-{
-    let before = Cursor {
-        next: space.start().into(),
-        before: NodeState::Allocated,
-    };
-    let Some(found) = check_subtree(value, MAX_HEIGHT, before) else {
-        return false;
-    };
-    found.cursor.next == u128::from(space.end()) + 1
-}
-
-/// The position after the blocks that were checked so far.
-#[derive(Clone, Copy)]
-struct Cursor {
-    /// The address at which the next block must start.
-    next: u128,
-    /// The state of the last block.
-    before: NodeState,
-}
-
-impl Cursor {
-    /// Returns the cursor after one more block, or `None` if the block cannot follow here.
-    fn advance(self, key: &RangeInclusive, state: NodeState) -> Option<Cursor>
-        ensures { result ≡ advance self (record { key = key.now; state = state }) }
-    {
-        let is_free = state == NodeState::Free;
-        let second_free = self.before == NodeState::Free && is_free;
-        let end = key.end();
-        if u128::from(key.start()) != self.next || second_free || (!is_free && end == u64::MAX) {
-            return None;
-        }
-        Some(Cursor {
-            next: u128::from(end) + 1,
-            before: state,
-        })
-    }
-}
-
-/// The result of a check of a subtree.
-#[derive(Clone, Copy)]
-struct CheckedTree {
-    /// The height of the subtree.
-    height: u64,
-    /// The cursor after its blocks.
-    cursor: Cursor,
-}
-
-/// Checks the subtree that a value encodes. Returns its height and the cursor after its blocks.
+/// Returns the span of the tree that a value encodes, or `Some(None)` if it encodes no node.
 ///
 /// It returns `None` in these cases:
 /// - The value does not encode a tree.
 /// - Nodes are nested deeper than `depth`.
-/// - A height is wrong, or a node is unbalanced.
-/// - A block cannot follow the block before it.
-#[tactic(auto, unfolding(crate::specs::Checks::NodeChecks::checked_subtree))]
-fn check_subtree(value: &Value, depth: u64, cursor: Cursor) -> Option<CheckedTree>
-    requires { depth ≤ MAX_HEIGHT }
-    ensures found { result ≡ checked_subtree depth (view value.now) cursor }
-    ensures not_deeper { IfSome result (λ found. found.height ≤ depth) }
+/// - The keys are not in increasing order, or share an address.
+/// - An allocated key ends at `u64::MAX`.
+#[tactic(auto, unfolding(crate::specs::Checks::ValueSpans::checked_nodes))]
+pub(super) fn check_nodes(value: &Value, depth: u64) -> Option<Option<Span>>
+    requires { depth ≤ MAX_NESTING_REPAIRED }
+    ensures { result ≡ checked_nodes depth (view value.now) }
 {
     if value.is_null() {
-        return Some(CheckedTree { height: 0, cursor });
+        return Some(None);
     }
     if depth == 0 {
         return None;
@@ -86,24 +29,8 @@ fn check_subtree(value: &Value, depth: u64, cursor: Cursor) -> Option<CheckedTre
     let Some(node) = decode_node(value) else {
         return None;
     };
-    let left = check_subtree(node.left, depth - 1, cursor)?;
-    let middle = left.cursor.advance(&node.key, node.state)?;
-    let right = check_subtree(node.right, depth - 1, middle)?;
-    if !is_correct_height(left.height, right.height, node.height) {
-        return None;
-    }
-    Some(CheckedTree {
-        height: node.height,
-        cursor: right.cursor,
-    })
-}
-
-/// Returns `true` if the heights of both children differ by at most one, and `height` is correct
-/// for their parent.
-fn is_correct_height(left: u64, right: u64, height: u64) -> bool
-    requires left_fits { left + 1 < 2 ^ 64 }
-    requires right_fits { right + 1 < 2 ^ 64 }
-    ensures { result ≡ is_correct_height left right height }
-{
-    left <= right + 1 && right <= left + 1 && height == left.max(right) + 1
+    let left = check_nodes(node.left, depth - 1)?;
+    let right = check_nodes(node.right, depth - 1)?;
+    let span = span_over(&left, &node.key, node.state, &right, node.height)?;
+    Some(Some(span))
 }

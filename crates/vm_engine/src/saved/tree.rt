@@ -1,5 +1,7 @@
 //! Encodes a tree as a value, and decodes it. A value is checked completely before nodes are built.
-ghost use Rattle.std.specs.Prelude.{◌≤◌, IfOk};
+ghost use Rattle.std.specs.Prelude.{◌≡◌, ◌≤◌, IfOk};
+ghost use Rattle.vm_ranges.specs.Range.{IsRange};
+ghost use Rattle.vm_engine.specs.Checks.ValueSpans.{has_tree_of};
 ghost use Rattle.serde_json.specs.View.{view};
 ghost use Rattle.vm_engine.specs.Engine.NodeFields.{side};
 ghost use Rattle.vm_ranges.specs.Saving.{Saves, Reads};
@@ -11,8 +13,9 @@ ghost use Rattle.vm_engine.specs.Checks.ValueParts.{HasShapeWithin};
 use crate::IntervalTree;
 use crate::node::walks::encoding::encode;
 use crate::node::{Child, InnerNode, MAX_HEIGHT};
-use crate::saved::check::is_tree_of;
+use crate::saved::check::check_nodes;
 use crate::saved::node::decode_node;
+use crate::saved::span::is_tree_of;
 use serde_json::Value;
 use std::alloc::{AllocError, Global};
 use vm_ranges::{RangeInclusive, Result, ValueError};
@@ -46,11 +49,24 @@ impl IntervalTree {
     ) -> std::result::Result<Self, ValueError>
         ensures { Reads (EncodesSpaceTree (view value.now) space.now) result }
     {
-        if !is_tree_of(space, value) {
+        if !has_tree_of(space, value) {
             return Err(ValueError::NotAState);
         }
         let root = build(value, MAX_HEIGHT, alloc)?;
         Ok(IntervalTree { root })
+    }
+}
+
+/// Returns `true` if a value encodes a tree of the space, node for node.
+fn has_tree_of(space: &RangeInclusive, value: &Value) -> bool
+    ensures value { result ≡ has_tree_of space.now (view value.now) }
+    ensures space { IsRange space.now.start space.now.end }
+{
+    // Proof: this shows that the space is a range.
+    let _start = space.start();
+    match check_nodes(value, MAX_HEIGHT) {
+        None => false,
+        Some(root) => is_tree_of(space, &root),
     }
 }
 

@@ -30,6 +30,36 @@ impl<T> Vec<T> {
         Ok(())
     }
 
+    /// Returns the number of values for which memory is allocated.
+    #[must_use]
+    pub fn capacity(&self) -> usize {
+        self.0.capacity()
+    }
+
+    /// Allocates memory for exactly so many more values, or returns an error.
+    pub fn reserve_exact(&mut self, additional: usize) -> Result<(), AllocError> {
+        self.0
+            .try_reserve_exact(additional)
+            .map_err(|_| AllocError)
+    }
+
+    /// Inserts a value before the value at `place`, or returns it if the allocation fails. The
+    /// vector grows by an eighth, so it has little unused capacity.
+    ///
+    /// # Panics
+    ///
+    /// If `place` is past the end.
+    pub fn insert(&mut self, place: usize, value: T) -> Result<(), AllocFailed<T>> {
+        if self.0.len() == self.0.capacity() {
+            let more = self.0.len() / 8 + 4;
+            if self.0.try_reserve_exact(more).is_err() {
+                return Err(AllocFailed(value));
+            }
+        }
+        self.0.insert(place, value);
+        Ok(())
+    }
+
     /// Returns a copy, or an error if an allocation fails.
     #[allow(clippy::should_implement_trait)]
     pub fn clone(&self) -> Result<Self, AllocError>

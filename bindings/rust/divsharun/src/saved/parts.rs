@@ -8,18 +8,12 @@
 
 use crate::proved::vm_allocator::allocation_engine::NodeState;
 use crate::proved::vm_allocator::{
-    AddressAllocator, Error, IdAllocator, RangeInclusive, ValueError,
+    AddressAllocator, IdAllocator, RangeInclusive, ReadNodes, Span, ValueError,
 };
 use crate::proved::vm_devices::{DeviceManager, DeviceSlot};
 use crate::rattle::Global;
 use alloc::vec::Vec;
 use core::ffi::CStr;
-
-/// The maximum nesting of nodes in a saved tree. Trees of `vm-allocator` are never higher.
-const MAX_NESTING: u32 = 50;
-
-/// The maximum number of allocated keys, as in the proved reader of these trees.
-const MAX_HELD: u64 = 6_293_134_512;
 
 /// The version of a saved device manager.
 pub(super) const VERSION: u64 = 1;
@@ -35,10 +29,10 @@ pub(super) enum Fault {
 
 impl Fault {
     /// Returns the fault of parts that violate a condition, unless an allocation failed.
-    fn new(is_out_of_memory: bool, condition: &'static CStr) -> Fault {
-        match is_out_of_memory {
-            true => Fault::OutOfMemory,
-            false => Fault::Invalid(condition),
+    fn of(error: ValueError, condition: &'static CStr) -> Fault {
+        match error {
+            ValueError::OutOfMemory => Fault::OutOfMemory,
+            ValueError::NotAState => Fault::Invalid(condition),
         }
     }
 }
@@ -48,116 +42,48 @@ fn violate<T>(condition: &'static CStr) -> Result<T, Fault> {
     Err(Fault::Invalid(condition))
 }
 
-/// A node with its two subtrees.
-pub(super) struct Node<K, T> {
-    pub(super) key: K,
-    pub(super) state: NodeState,
-    pub(super) left: T,
-    pub(super) right: T,
-    pub(super) height: u64,
+/// Begins a node.
+pub(super) fn begin(nodes: &mut ReadNodes) -> Result<(), Fault> {
+    let condition = c"nodes are nested more than 50 deep";
+    nodes.begin().map_err(|error| Fault::of(error, condition))
 }
 
-/// A subtree that was read, without its nodes: its first and its last address, and whether the blocks
-/// with them are free.
-#[derive(Clone, Copy)]
-pub(super) struct Span {
-    first: (u64, bool),
-    last: (u64, bool),
+/// Ends the node that began last, and returns its subtree.
+pub(super) fn end(
+    nodes: &mut ReadNodes,
+    left: Option<Span>,
+    key: RangeInclusive,
+    state: NodeState,
+    right: Option<Span>,
     height: u64,
-    // The number of its allocated keys.
-    held: usize,
+) -> Result<Span, Fault> {
+    let condition =
+        c"the keys do not ascend or share an address, or an allocated key ends at u64::MAX";
+    let span = nodes.end(left, key, state, right, height);
+    span.map_err(|error| Fault::of(error, condition))
 }
 
-/// The nodes that were read so far.
-#[derive(Default)]
-pub(super) struct Nodes {
-    // The allocated keys. They ascend if each left subtree came before the right one.
-    held: Vec<RangeInclusive>,
-    // The number of nodes that the current node is nested in.
-    depth: u32,
-    // The sum of the lengths of all keys. If they share no address, it does not overflow.
-    len: u64,
-    is_unbalanced: bool,
-    has_free_neighbours: bool,
+/// Returns the allocator of a space with the allocated keys of the nodes.
+pub(super) fn repaired(
+    space: RangeInclusive,
+    nodes: &ReadNodes,
+    root: Option<Span>,
+) -> Result<AddressAllocator, Fault> {
+    let condition = c"a key is outside the space, or more than 6,293,134,512 keys are allocated";
+    let allocator = AddressAllocator::from_nodes_repaired(Global, space, nodes, root);
+    allocator.map_err(|error| Fault::of(error, condition))
 }
 
-impl Nodes {
-    /// Begins a node. It is nested in the nodes that were begun and did not end.
-    pub(super) fn begin(&mut self) -> Result<(), Fault> {
-        if self.depth == MAX_NESTING {
-            return violate(c"nodes are nested more than 50 deep");
-        }
-        self.depth += 1;
-        Ok(())
-    }
-
-    /// Ends the node that was begun last, and returns its subtree.
-    pub(super) fn end(&mut self, node: Node<RangeInclusive, Option<Span>>) -> Result<Span, Fault> {
-        let (key, left, right) = (node.key, node.left, node.right);
-        let is_free = node.state == NodeState::Free;
-        let [first, last] = [key.start(), key.end()].map(|address| (address, is_free));
-        let [before, after] = [left.map(|left| left.last), right.map(|right| right.first)];
-        let is_before = before.is_none_or(|before| before.0 < first.0);
-        if !is_before || after.is_some_and(|after| after.0 <= last.0) {
-            return violate(c"the keys do not ascend or share an address");
-        }
-        let is_next_free = [before, after].iter().flatten().any(|next| next.1);
-        self.has_free_neighbours |= is_free && is_next_free;
-        let [low, high] = [left, right].map(|child| child.map_or(0, |child| child.height));
-        let is_balanced = low.abs_diff(high) <= 1;
-        self.is_unbalanced |= !is_balanced || low.max(high).checked_add(1) != Some(node.height);
-        self.depth -= 1;
-        self.len = self.len.wrapping_add(key.len());
-        let [low, high] = [left, right].map(|child| child.map_or(0, |child| child.held));
-        if !is_free {
-            self.insert(self.held.len() - high, key)?;
-        }
-        Ok(Span {
-            first: left.map_or(first, |left| left.first),
-            last: right.map_or(last, |right| right.last),
-            height: node.height,
-            held: low + usize::from(!is_free) + high,
-        })
-    }
-
-    /// Inserts an allocated key.
-    fn insert(&mut self, place: usize, key: RangeInclusive) -> Result<(), Fault> {
-        if key.end() == u64::MAX {
-            return violate(c"an allocated key ends at u64::MAX");
-        }
-        if self.held.len() as u64 == MAX_HELD {
-            return violate(c"more than 6,293,134,512 keys are allocated");
-        }
-        try_reserve(&mut self.held)?;
-        self.held.insert(place, key);
-        Ok(())
-    }
-
-    /// Returns the allocator of a space with the allocated keys. It accepts what the proved
-    /// `from_value_repaired` accepts, or what `from_value` accepts if `is_strict`.
-    pub(super) fn allocator(
-        &mut self,
-        space: RangeInclusive,
-        root: Option<Span>,
-        is_strict: bool,
-    ) -> Result<AddressAllocator, Fault> {
-        let is_inside = |root: Span| space.start() <= root.first.0 && root.last.0 <= space.end();
-        if !root.is_none_or(is_inside) {
-            return violate(c"a key is outside the space");
-        }
-        if is_strict && self.is_unbalanced {
-            return violate(c"the tree is unbalanced, or a height is wrong");
-        }
-        if is_strict && (self.len != space.len() || self.has_free_neighbours) {
-            return violate(c"the tree has a gap or free neighbours");
-        }
-        // It takes linear time if the keys ascend.
-        self.held.sort_unstable();
-        let (base, size) = (space.start(), space.len());
-        let allocator = AddressAllocator::with_held(Global, base, size, &self.held);
-        let condition = c"the allocated keys are not those of an allocator";
-        allocator.map_err(|error| Fault::new(error == Error::OutOfMemory, condition))
-    }
+/// Returns the allocator of a space with the nodes, which must be those of a tree of the space.
+pub(super) fn strict(
+    space: RangeInclusive,
+    nodes: &ReadNodes,
+    root: Option<Span>,
+) -> Result<AddressAllocator, Fault> {
+    let condition =
+        c"the tree is unbalanced, a height is wrong, or it has a gap or free neighbours";
+    let allocator = AddressAllocator::from_nodes(Global, space, nodes, root);
+    allocator.map_err(|error| Fault::of(error, condition))
 }
 
 /// Allocates capacity for one more item. A list grows by an eighth, so it has little unused capacity.
@@ -198,7 +124,7 @@ pub(super) fn id_allocator(
         true => c"a freed id is outside the range or not below next_id",
     };
     let ids = IdAllocator::with_freed(Global, base, next, end, freed);
-    ids.map_err(|error| Fault::new(error == ValueError::OutOfMemory, condition))
+    ids.map_err(|error| Fault::of(error, condition))
 }
 
 /// Returns a device manager with its ids, its space and its devices. It accepts what the proved
@@ -214,5 +140,5 @@ pub(super) fn device_manager(
     }
     let not_paired = c"the devices do not pair the allocated ids with the allocated ranges";
     let manager = DeviceManager::with_devices(Global, ids, space, slots);
-    manager.map_err(|error| Fault::new(error == ValueError::OutOfMemory, not_paired))
+    manager.map_err(|error| Fault::of(error, not_paired))
 }

@@ -1,9 +1,14 @@
 //! Reads objects with serde. Fields can come in any order, and are checked as they come.
 
-use super::parts::{device_manager, id_allocator, push_ascending, Fault, Node, Nodes, Span};
+use super::parts::{
+    begin, device_manager, end, id_allocator, push_ascending, repaired, strict, Fault,
+};
 use super::text_of;
-use crate::proved::vm_allocator::{AddressAllocator, IdAllocator, RangeInclusive};
+use crate::proved::vm_allocator::{
+    AddressAllocator, IdAllocator, RangeInclusive, ReadNodes, Span,
+};
 use crate::proved::vm_devices::{DeviceManager, DeviceSlot};
+use crate::rattle::Global;
 use crate::NodeState;
 use alloc::vec::Vec;
 use core::fmt;
@@ -40,11 +45,11 @@ struct Space {
 #[serde(rename = "IntervalTree", deny_unknown_fields)]
 struct Tree {
     #[serde(deserialize_with = "root")]
-    root: (Nodes, Option<Span>),
+    root: (ReadNodes, Option<Span>),
 }
 
-fn root<'de, D: Deserializer<'de>>(from: D) -> Result<(Nodes, Option<Span>), D::Error> {
-    let mut nodes = Nodes::default();
+fn root<'de, D: Deserializer<'de>>(from: D) -> Result<(ReadNodes, Option<Span>), D::Error> {
+    let mut nodes = ReadNodes::new(Global);
     let root = Subtree(&mut nodes).deserialize(from)?;
     Ok((nodes, root))
 }
@@ -52,9 +57,9 @@ fn root<'de, D: Deserializer<'de>>(from: D) -> Result<(Nodes, Option<Span>), D::
 impl Space {
     /// Returns the allocator. If `is_strict`, the tree must be one that the proved code builds.
     fn allocator<E: Error>(self, is_strict: bool) -> Result<AddressAllocator, E> {
-        let (mut nodes, root) = self.interval_tree.root;
-        let space = nodes.allocator(self.address_space, root, is_strict);
-        space.map_err(invalid)
+        let (nodes, root) = self.interval_tree.root;
+        let allocator = if is_strict { strict } else { repaired };
+        allocator(self.address_space, &nodes, root).map_err(invalid)
     }
 }
 
@@ -65,7 +70,7 @@ impl<'de> Deserialize<'de> for AddressAllocator {
 }
 
 /// Reads a node with its children, or none.
-struct Subtree<'a>(&'a mut Nodes);
+struct Subtree<'a>(&'a mut ReadNodes);
 
 impl<'de> DeserializeSeed<'de> for Subtree<'_> {
     type Value = Option<Span>;
@@ -91,7 +96,7 @@ impl<'de> Visitor<'de> for Subtree<'_> {
     }
 
     fn visit_some<D: Deserializer<'de>>(self, from: D) -> Result<Option<Span>, D::Error> {
-        self.0.begin().map_err(invalid)?;
+        begin(self.0).map_err(invalid)?;
         from.deserialize_struct("InnerNode", FIELDS, InnerNode(self.0))
             .map(Some)
     }
@@ -121,22 +126,17 @@ struct Fields {
 }
 
 /// Reads a node. A derive could not pass the other nodes on to its children.
-struct InnerNode<'a>(&'a mut Nodes);
+struct InnerNode<'a>(&'a mut ReadNodes);
 
 impl InnerNode<'_> {
     /// Ends the node. `missing` returns the error of a missing field.
     fn end<E: Error>(self, fields: Fields, missing: impl Fn(Field) -> E) -> Result<Span, E> {
-        let node = Node {
-            key: fields.key.ok_or_else(|| missing(Field::Key))?,
-            state: fields
-                .state
-                .ok_or_else(|| missing(Field::NodeState))?
-                .proved(),
-            left: fields.left.ok_or_else(|| missing(Field::Left))?,
-            right: fields.right.ok_or_else(|| missing(Field::Right))?,
-            height: fields.height.ok_or_else(|| missing(Field::Height))?,
-        };
-        self.0.end(node).map_err(invalid)
+        let key = fields.key.ok_or_else(|| missing(Field::Key))?;
+        let state = fields.state.ok_or_else(|| missing(Field::NodeState))?;
+        let left = fields.left.ok_or_else(|| missing(Field::Left))?;
+        let right = fields.right.ok_or_else(|| missing(Field::Right))?;
+        let height = fields.height.ok_or_else(|| missing(Field::Height))?;
+        end(self.0, left, key, state.proved(), right, height).map_err(invalid)
     }
 }
 

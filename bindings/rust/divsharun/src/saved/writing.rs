@@ -1,10 +1,12 @@
 //! Writes objects with serde.
 
-use super::blocks::{Blocks, Key, Tree};
-use super::parts::{Node, VERSION};
+use super::parts::{Fault, VERSION};
 use super::text_of;
-use crate::proved::vm_allocator::{AddressAllocator, IdAllocator, RangeInclusive};
+use crate::proved::vm_allocator::{
+    AddressAllocator, IdAllocator, RangeInclusive, WrittenBlocks, WrittenNode, WrittenTree,
+};
 use crate::proved::vm_devices::DeviceManager;
+use crate::rattle::Global;
 use crate::{DeviceSlot, NodeState};
 use serde::ser::{Error, SerializeSeq, SerializeStruct};
 use serde::{Serialize, Serializer};
@@ -29,14 +31,14 @@ macro_rules! write_fields {
 
 write_fields! {
     RangeInclusive as "RangeInclusive", this: start = this.start(), end = this.end();
-    Key as "RangeInclusive", this: start = this.start, end = this.end;
+    Space as "RangeInclusive", this: start = this.0, end = this.1;
     AddressAllocator as "AddressAllocator", this:
-        address_space = Key { start: this.base(), end: this.end() },
-        interval_tree = Root(Blocks::of(this).map_err(|fault| S::Error::custom(text_of(fault)))?);
+        address_space = Space(this.base(), this.end()),
+        interval_tree = Root(this.written_blocks(Global).map_err(|_| S::Error::custom(text_of(Fault::OutOfMemory)))?);
     Root as "IntervalTree", this: root = this.0.tree();
     // A call for each node is faster than one for each link, of which there are twice as many.
     #[inline(never)]
-    Node<Key, Tree<'_>> as "InnerNode", this:
+    WrittenNode<'_> as "InnerNode", this:
         key = this.key,
         node_state = NodeState::of(this.state),
         left = this.left,
@@ -54,9 +56,12 @@ write_fields! {
         slots = List(this.device_count() as usize, || this.devices().map(DeviceSlot::of));
 }
 
-struct Root(Blocks);
+/// The ends of a space.
+struct Space(u64, u64);
 
-impl Serialize for Tree<'_> {
+struct Root(WrittenBlocks);
+
+impl Serialize for WrittenTree<'_> {
     #[inline]
     fn serialize<S: Serializer>(&self, to: S) -> Result<S::Ok, S::Error> {
         self.root().serialize(to)

@@ -4,3 +4,4 @@
 mod allocator;
 mod ids;
 mod listed_ids;
+mod nodes;

@@ -64,7 +64,7 @@ impl IntervalTree {
     }
 
     /// Returns an iterator over the blocks, from both ends.
-    fn blocks(&self) -> Blocks<'_> {
+    pub(in crate::proved::vm_engine) fn blocks(&self) -> Blocks<'_> {
         Blocks::new(&self.root)
     }
 

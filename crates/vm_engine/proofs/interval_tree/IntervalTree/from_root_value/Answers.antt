@@ -5,21 +5,21 @@ use Rattle.vm_engine.specs.Engine.NodeFields.{side}
 use Rattle.vm_engine.proofs.Reading.ReadSpaces.{none_encoded, has_shape, some_encoded, built_states, encoded_tree}
 use Rattle.vm_engine.proofs.interval_tree.IntervalTree.from_root_value.Goals as goal
 
-pub returns-then-not-is_tree_of : goal.returns-then-not-is_tree_of
-returns-then-not-is_tree_of c = none_encoded (view c.args.value.now) c.args.space.now (sym c.if-not-is_tree_of.ensures.value)
+pub returns-then-not-has_tree_of : goal.returns-then-not-has_tree_of
+returns-then-not-has_tree_of c = none_encoded (view c.args.value.now) c.args.space.now c.if-not-has_tree_of.ensures.space (sym c.if-not-has_tree_of.ensures.value)
 
 pub build-requires-clause-shape : goal.build-requires-clause-shape
-build-requires-clause-shape c = has_shape (view c.args.value.now) c.args.space.now c.if-not-is_tree_of.ensures.space (sym c.if-not-is_tree_of.ensures.value)
+build-requires-clause-shape c = has_shape (view c.args.value.now) c.args.space.now c.if-not-has_tree_of.ensures.space (sym c.if-not-has_tree_of.ensures.value)
 
 pub invariant_of-result : goal.invariant_of-result
 invariant_of-result c =
-    encoded_tree (view c.args.value.now) c.args.space.now (side c.in_ok-root.root) c.if-not-is_tree_of.ensures.space
-    (built_states (view c.args.value.now) c.args.space.now (side c.in_ok-root.root) c.if-not-is_tree_of.ensures.space (sym c.if-not-is_tree_of.ensures.value) c.in_ok-root.ensures)
+    encoded_tree (view c.args.value.now) c.args.space.now (side c.in_ok-root.root) c.if-not-has_tree_of.ensures.space
+    (built_states (view c.args.value.now) c.args.space.now (side c.in_ok-root.root) c.if-not-has_tree_of.ensures.space (sym c.if-not-has_tree_of.ensures.value) c.in_ok-root.ensures)
 
 pub returns : goal.returns
-returns c = built_states (view c.args.value.now) c.args.space.now (side c.in_ok-root.root) c.if-not-is_tree_of.ensures.space (sym c.if-not-is_tree_of.ensures.value) c.in_ok-root.ensures
+returns c = built_states (view c.args.value.now) c.args.space.now (side c.in_ok-root.root) c.if-not-has_tree_of.ensures.space (sym c.if-not-has_tree_of.ensures.value) c.in_ok-root.ensures
 
 pub returns-in_err-root : goal.returns-in_err-root
 returns-in_err-root c =
     let is : c.from_residual.result ≡ Err OutOfMemory = search rules in
-    rw is (some_encoded (view c.args.value.now) c.args.space.now c.if-not-is_tree_of.ensures.space (sym c.if-not-is_tree_of.ensures.value))
+    rw is (some_encoded (view c.args.value.now) c.args.space.now c.if-not-has_tree_of.ensures.space (sym c.if-not-has_tree_of.ensures.value))

@@ -5,8 +5,9 @@
 use crate::proved::vm_engine::IntervalTree;
 use crate::proved::vm_engine::node::walks::encoding::encode;
 use crate::proved::vm_engine::node::{Child, InnerNode, MAX_HEIGHT};
-use crate::proved::vm_engine::saved::check::is_tree_of;
+use crate::proved::vm_engine::saved::check::check_nodes;
 use crate::proved::vm_engine::saved::node::decode_node;
+use crate::proved::vm_engine::saved::span::is_tree_of;
 use crate::rattle::Value;
 use crate::rattle::{AllocError, Global};
 use crate::proved::vm_ranges::{RangeInclusive, Result, ValueError};
@@ -35,11 +36,21 @@ impl IntervalTree {
         space: &RangeInclusive,
         value: &Value,
     ) -> core::result::Result<Self, ValueError> {
-        if !is_tree_of(space, value) {
+        if !has_tree_of(space, value) {
             return Err(ValueError::NotAState);
         }
         let root = build(value, MAX_HEIGHT, alloc)?;
         Ok(IntervalTree { root })
+    }
+}
+
+/// Returns `true` if a value encodes a tree of the space, node for node.
+fn has_tree_of(space: &RangeInclusive, value: &Value) -> bool {
+    // Proof: this shows that the space is a range.
+    let _start = space.start();
+    match check_nodes(value, MAX_HEIGHT) {
+        None => false,
+        Some(root) => is_tree_of(space, &root),
     }
 }
 

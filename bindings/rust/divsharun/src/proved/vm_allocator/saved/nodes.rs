@@ -1,0 +1,60 @@
+// Written by bindings/erase from crates/vm_allocator/src/saved/nodes.rt: do not edit.
+
+//! Makes allocators of the nodes that a reader has read.
+
+use crate::proved::vm_allocator::address_allocator::AddressAllocator;
+use crate::rattle::{AllocError, Global};
+use crate::proved::vm_engine::{IntervalTree, ReadNodes, Span, WrittenBlocks};
+use crate::proved::vm_ranges::{RangeInclusive, ValueError};
+
+impl AddressAllocator {
+    /// Returns the allocator that a saved space and a saved tree represent. Its tree is as low as possible.
+    ///
+    /// # Errors
+    ///
+    /// In this order:
+    /// - `NotAState` if the saved tree is none of the space, node for node.
+    /// - `OutOfMemory` if an allocation fails.
+    pub fn from_nodes(
+        alloc: Global,
+        address_space: RangeInclusive,
+        nodes: &ReadNodes,
+        root: Option<Span>,
+    ) -> core::result::Result<Self, ValueError> {
+        let interval_tree = IntervalTree::from_nodes(alloc, address_space, nodes, root)?;
+        Ok(AddressAllocator {
+            address_space,
+            interval_tree,
+        })
+    }
+
+    /// Returns the allocator of a saved space in which the allocated keys of a saved tree are
+    /// allocated. The tree can have no nodes, gaps between keys, free neighbours, no balance and any
+    /// heights.
+    ///
+    /// # Errors
+    ///
+    /// In this order:
+    /// - `NotAState` if a key is not in the space, or if more than 6,293,134,512 keys are allocated.
+    /// - `OutOfMemory` if an allocation fails.
+    pub fn from_nodes_repaired(
+        alloc: Global,
+        address_space: RangeInclusive,
+        nodes: &ReadNodes,
+        root: Option<Span>,
+    ) -> core::result::Result<Self, ValueError> {
+        let interval_tree = IntervalTree::from_nodes_repaired(alloc, address_space, nodes, root)?;
+        Ok(AddressAllocator {
+            address_space,
+            interval_tree,
+        })
+    }
+    /// Returns the blocks of which the saved tree of the allocator is made, or an error if an
+    /// allocation fails.
+    pub fn written_blocks(
+        &self,
+        alloc: Global,
+    ) -> core::result::Result<WrittenBlocks, AllocError> {
+        WrittenBlocks::new(alloc, &self.interval_tree)
+    }
+}

@@ -1,0 +1,158 @@
+// Written by bindings/erase from crates/vm_engine/src/saved/nodes.rt: do not edit.
+
+//! The nodes of a saved tree that were read so far.
+//!
+//! A reader calls `begin` before it reads the fields of a node, and `end` after that. It has no list
+//! of nodes: a subtree is known by its span, and only the allocated keys of all subtrees are kept.
+
+use crate::rattle::Vec;
+use super::span::{MAX_NESTING, Span, held_in, is_inside, is_tree_of, span_over};
+use crate::proved::vm_engine::IntervalTree;
+use crate::rattle::Global;
+use crate::proved::vm_ranges::{NodeState, RangeInclusive, ValueError};
+
+/// The nodes of a saved tree that were read so far.
+pub struct ReadNodes {
+    /// The allocated keys of all nodes that ended. Those of a node are in increasing order.
+    held: Vec<RangeInclusive>,
+    /// The number of nodes that began and did not end.
+    depth: u64,
+}
+
+impl ReadNodes {
+    /// Returns an empty list of nodes. It does not allocate.
+    pub fn new(alloc: Global) -> Self {
+        ReadNodes {
+            held: Vec::new(alloc),
+            depth: 0,
+        }
+    }
+
+    /// Begins a node. It is nested in the nodes that began and did not end.
+    ///
+    /// So a reader that begins each node descends at most 51 levels.
+    ///
+    /// # Errors
+    ///
+    /// - `NotAState` if it is nested in 50 nodes.
+    pub fn begin(&mut self) -> core::result::Result<(), ValueError> {
+        if self.depth >= MAX_NESTING {
+            return Err(ValueError::NotAState);
+        }
+        self.depth += 1;
+        Ok(())
+    }
+
+    /// Ends the node that began last, and returns the span of its subtree. A child that is absent is
+    /// `None`. The nodes of the children have ended right before, in any order.
+    ///
+    /// # Errors
+    ///
+    /// In this order:
+    /// - `NotAState` if one of these is true:
+    ///   - The keys are not in increasing order, or share an address.
+    ///   - The key is allocated and ends at `u64::MAX`.
+    ///   - Nodes are nested more than 50 deep.
+    /// - `OutOfMemory` if an allocation fails.
+    pub fn end(
+        &mut self,
+        left: Option<Span>,
+        key: RangeInclusive,
+        state: NodeState,
+        right: Option<Span>,
+        height: u64,
+    ) -> core::result::Result<Span, ValueError> {
+        self.leave();
+        let Some(span) = span_over(&left, &key, state, &right, height) else {
+            return Err(ValueError::NotAState);
+        };
+        let Some(place) = arrange(&mut self.held, held_in(&left), &key, held_in(&right)) else {
+            return Err(ValueError::NotAState);
+        };
+        if state == NodeState::Allocated {
+            self.held.insert(place, key)?;
+        }
+        Ok(span)
+    }
+
+    /// Subtracts one from the depth, if it is not 0.
+    fn leave(&mut self) {
+        if self.depth > 0 {
+            self.depth -= 1;
+        }
+    }
+}
+
+/// Puts the last keys of a list in order: first those of the left child of a node, then those of the
+/// right child. Returns the place between them.
+///
+/// It returns `None` if the list has fewer keys.
+fn arrange(
+    list: &mut Vec<RangeInclusive>,
+    left: u64,
+    key: &RangeInclusive,
+    right: u64,
+) -> Option<usize> {
+    let len = list.len() as u64;
+    if right > len || left > len - right {
+        return None;
+    }
+    let place = (len - right) as usize;
+    let first = place - left as usize;
+    if left > 0 && right > 0 && list[first].start() > key.start() {
+        rotate(list, first, right as usize);
+    }
+    Some(place)
+}
+
+/// Moves `count` keys, of which the first has the index `first`, to the end of a list.
+fn rotate(list: &mut Vec<RangeInclusive>, first: usize, count: usize) {
+    list[first..].rotate_left(count);
+}
+
+impl IntervalTree {
+    /// Returns a tree of the space with the same allocated ranges as a saved tree.
+    ///
+    /// # Errors
+    ///
+    /// In this order:
+    /// - `NotAState` if the saved tree is none of the space, node for node.
+    /// - `OutOfMemory` if an allocation fails.
+    pub fn from_nodes(
+        alloc: Global,
+        space: RangeInclusive,
+        nodes: &ReadNodes,
+        root: Option<Span>,
+    ) -> core::result::Result<Self, ValueError> {
+        if !is_tree_of(&space, &root) {
+            return Err(ValueError::NotAState);
+        }
+        let Ok(tree) = IntervalTree::with_held(alloc, space, &nodes.held) else {
+            return Err(ValueError::OutOfMemory);
+        };
+        Ok(tree)
+    }
+
+    /// Returns a tree of the space with the same allocated ranges as a saved tree, which can have no
+    /// nodes, gaps between keys, free neighbours, no balance and any heights.
+    ///
+    /// # Errors
+    ///
+    /// In this order:
+    /// - `NotAState` if a key is not in the space, or if more than 6,293,134,512 keys are allocated.
+    /// - `OutOfMemory` if an allocation fails.
+    pub fn from_nodes_repaired(
+        alloc: Global,
+        space: RangeInclusive,
+        nodes: &ReadNodes,
+        root: Option<Span>,
+    ) -> core::result::Result<Self, ValueError> {
+        if !is_inside(&space, &root) {
+            return Err(ValueError::NotAState);
+        }
+        let Ok(tree) = IntervalTree::with_held(alloc, space, &nodes.held) else {
+            return Err(ValueError::OutOfMemory);
+        };
+        Ok(tree)
+    }
+}

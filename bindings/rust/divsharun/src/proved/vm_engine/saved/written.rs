@@ -1,0 +1,81 @@
+// Written by bindings/erase from crates/vm_engine/src/saved/written.rt: do not edit.
+
+//! The saved tree that is written for a tree: a balanced tree of its blocks.
+//!
+//! The blocks decide its shape, so trees with the same blocks are written in the same way.
+
+use crate::rattle::Vec;
+use crate::proved::vm_engine::IntervalTree;
+use crate::proved::vm_engine::block::Block;
+use crate::rattle::{AllocError, Global};
+use crate::proved::vm_ranges::{NodeState, RangeInclusive};
+
+/// The blocks of a space in increasing order.
+pub struct WrittenBlocks {
+    list: Vec<Block>,
+}
+
+impl WrittenBlocks {
+    /// Returns the blocks of a tree, or an error if an allocation fails.
+    pub fn new(alloc: Global, tree: &IntervalTree) -> core::result::Result<Self, AllocError> {
+        let mut list = Vec::new(alloc);
+        let mut rest = tree.blocks();
+        while let Some(block) = rest.next() {
+            push(&mut list, block)?;
+        }
+        Ok(WrittenBlocks { list })
+    }
+
+    /// Returns the saved tree of all blocks.
+    pub fn tree(&self) -> WrittenTree<'_> {
+        WrittenTree { blocks: &self.list }
+    }
+}
+
+/// Appends a block to a list. The list grows by an eighth, so it has little unused capacity.
+fn push(list: &mut Vec<Block>, block: Block) -> core::result::Result<(), AllocError> {
+    if list.len() == list.capacity() {
+        list.reserve_exact(list.len() / 8 + 4)?;
+    }
+    list.push(block)?;
+    Ok(())
+}
+
+/// The saved tree of some blocks.
+#[derive(Clone, Copy)]
+pub struct WrittenTree<'a> {
+    blocks: &'a [Block],
+}
+
+/// A node of a saved tree.
+#[derive(Clone, Copy)]
+pub struct WrittenNode<'a> {
+    /// The range of the block.
+    pub key: RangeInclusive,
+    /// The state of the block.
+    pub state: NodeState,
+    /// The left child.
+    pub left: WrittenTree<'a>,
+    /// The right child.
+    pub right: WrittenTree<'a>,
+    /// The height of the node.
+    pub height: u64,
+}
+
+impl<'a> WrittenTree<'a> {
+    /// Returns the root: the block in the middle, and the trees of the blocks before and after it.
+    pub fn root(self) -> Option<WrittenNode<'a>> {
+        let count = self.blocks.len();
+        let (before, rest) = self.blocks.split_at(count / 2);
+        let Some((block, after)) = rest.split_first() else {
+            return None;
+        };
+        Some(WrittenNode {
+            key: block.key,
+            state: block.state,
+            left: WrittenTree { blocks: before },
+            right: WrittenTree { blocks: after },
+            height: u64::from(count.ilog2()) + 1,
+        })
+    }
+}

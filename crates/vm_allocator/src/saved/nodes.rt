@@ -1,0 +1,73 @@
+//! Makes allocators of the nodes that a reader has read.
+ghost use Rattle.std.specs.Prelude.{◌≡◌, IfOk};
+ghost use Rattle.vm_ranges.specs.Saving.{Reads};
+ghost use Rattle.vm_engine.specs.Address.{IsAddressState};
+ghost use Rattle.vm_engine.specs.Checks.Spans.{StandsFor};
+ghost use Rattle.vm_engine.specs.Tree.Shape.{blocks};
+ghost use Rattle.vm_engine.specs.Values.SavedTrees.{Saved, held_keys, HasHeldKeys, HasTreeOf};
+ghost use Rattle.vm_allocator.specs.Allocator.{state_of, made_state};
+
+use crate::address_allocator::AddressAllocator;
+use std::alloc::{AllocError, Global};
+use vm_engine::{IntervalTree, ReadNodes, Span, WrittenBlocks};
+use vm_ranges::{RangeInclusive, ValueError};
+
+impl AddressAllocator {
+    /// Returns the allocator that a saved space and a saved tree represent. Its tree is as low as possible.
+    ///
+    /// # Errors
+    ///
+    /// In this order:
+    /// - `NotAState` if the saved tree is none of the space, node for node.
+    /// - `OutOfMemory` if an allocation fails.
+    pub fn from_nodes(
+        alloc: Global,
+        address_space: RangeInclusive,
+        nodes: &ReadNodes,
+        root: Option<Span>,
+    ) -> std::result::Result<Self, ValueError>
+        ensures answer { (t : Saved) → StandsFor root t → nodes.now.held.items ≡ held_keys t → Reads (HasTreeOf address_space t) (made_state result) }
+        ensures state { IfOk result (λ allocator. IsAddressState (state_of allocator)) }
+    {
+        let interval_tree = IntervalTree::from_nodes(alloc, address_space, nodes, root)?;
+        Ok(AddressAllocator {
+            address_space,
+            interval_tree,
+        })
+    }
+
+    /// Returns the allocator of a saved space in which the allocated keys of a saved tree are
+    /// allocated. The tree can have no nodes, gaps between keys, free neighbours, no balance and any
+    /// heights.
+    ///
+    /// # Errors
+    ///
+    /// In this order:
+    /// - `NotAState` if a key is not in the space, or if more than 6,293,134,512 keys are allocated.
+    /// - `OutOfMemory` if an allocation fails.
+    pub fn from_nodes_repaired(
+        alloc: Global,
+        address_space: RangeInclusive,
+        nodes: &ReadNodes,
+        root: Option<Span>,
+    ) -> std::result::Result<Self, ValueError>
+        ensures answer { (t : Saved) → StandsFor root t → nodes.now.held.items ≡ held_keys t → Reads (HasHeldKeys address_space t) (made_state result) }
+        ensures state { IfOk result (λ allocator. IsAddressState (state_of allocator)) }
+    {
+        let interval_tree = IntervalTree::from_nodes_repaired(alloc, address_space, nodes, root)?;
+        Ok(AddressAllocator {
+            address_space,
+            interval_tree,
+        })
+    }
+    /// Returns the blocks of which the saved tree of the allocator is made, or an error if an
+    /// allocation fails.
+    pub fn written_blocks(
+        &self,
+        alloc: Global,
+    ) -> std::result::Result<WrittenBlocks, AllocError>
+        ensures { IfOk result (λ written. written.list.items ≡ blocks self.now.tree) }
+    {
+        WrittenBlocks::new(alloc, &self.interval_tree)
+    }
+}

@@ -1,0 +1,10 @@
+pub mod KeyLists
+pub mod Meanings
+pub mod Spans
+pub mod Roots
+pub mod Arranging
+pub mod Ending
+pub mod ValueTrees
+pub mod Written
+pub mod SavedTreeLaws
+pub mod ValueLaws

@@ -1,0 +1,56 @@
+-- The laws of saved trees.
+use Rattle.std.proofs.Common.{◌≡◌, ◌≢◌, ◌+◌, ◌^◌, ◌≤◌, ◌<◌, List, [], length, Option, Some, None, sym, ap, ◌∙◌, subst, arith, refl}
+use Rattle.vm_engine.specs.Tree.Block.{Block}
+use Rattle.vm_engine.specs.Tree.Blocks.{blocks_of}
+use Rattle.vm_engine.specs.Tree.Shape.{Shape, Tip, Fork, blocks, height_of}
+use Rattle.vm_engine.specs.Tree.SpaceTree.{space_of, tree_state, IsSpaceTree}
+use Rattle.vm_engine.specs.Values.SavedTrees.{Saved, Absent, Node, saved_blocks, IsReadable}
+use Rattle.vm_engine.specs.Values.WrittenTrees.{IsMiddle, IsWritten}
+use Rattle.vm_engine.specs.Laws.SavedLaws.{SpansAreExact, NodesAreWritten, WrittenIsRead, EqualAreWrittenEqually}
+use Rattle.vm_engine.specs.declared.saved.span.Span.{Span}
+use Rattle.vm_engine.proofs.Comparing.Tilings.{tree_blocks}
+use Rattle.vm_engine.proofs.Nodes.MinNodes.{power_grows, most_nodes, node_count-blocks}
+use Rattle.vm_engine.proofs.Nodes.Spaces.{no_empty_tree}
+use Rattle.vm_engine.proofs.SavedNodes.Meanings.{MeansAll}
+use Rattle.vm_engine.proofs.SavedNodes.Spans.{sound, complete}
+use Rattle.vm_engine.proofs.SavedNodes.Written.{written_blocks, written_tree, one_written}
+
+readable : (o : Option Span) (t : Saved) → MeansAll o t → IsReadable t
+readable None t m = subst IsReadable (sym m) (record { nested = omega arith; keys = tt; below = tt })
+readable (Some s) t m = m.readable
+
+pub spans_are_exact : SpansAreExact
+spans_are_exact = record {
+  some = λ t v x. let c = complete t v x in (c.0, record { is_span = c.1; ranges = v });
+  readable = λ t o st. readable o t (sound t o st.ranges st.is_span);
+}
+
+pub nodes_are_written : NodesAreWritten
+nodes_are_written = λ bs n l r w p q.
+    let a = written_blocks n.left.blocks.now l p in
+    let b = written_blocks n.right.blocks.now r q in (
+      rw (a, b) w,
+      rw a p,
+      rw b q,
+    )
+
+some_block : (s : Shape) → IsSpaceTree s → blocks s ≢ []
+some_block s t e = let f = ap length e in let n = node_count-blocks s in no_empty_tree (subst IsSpaceTree (empty s e) t) where
+  empty : (s : Shape) → blocks s ≡ [] → s ≡ Tip
+  empty Tip e = refl
+  empty (Fork l b r) e = let f = ap length e in let g = node_count-blocks (Fork l b r) in absurd (omega arith)
+
+pub written_is_read : WrittenIsRead
+written_is_read = λ s t tree w.
+    let h = tree.height in
+    let n = node_count-blocks s in
+    let m = most_nodes s in
+    let p = power_grows (height_of s) 49 h in
+    written_tree (space_of (blocks s)) (blocks s) t tree.tiling (some_block s tree) (omega arith) w
+
+pub equal_are_written_equally : EqualAreWrittenEqually
+equal_are_written_equally = λ s other t u p q e w x.
+    let same : blocks s ≡ blocks other = sym (tree_blocks s p) ∙ ap blocks_of e ∙ tree_blocks other q in
+    one_written t u (blocks s) w (subst (λ (v : List Block). IsWritten v u) (sym same) x)
+
+pub ruleset saved_trees = (spans_are_exact, nodes_are_written, written_is_read, equal_are_written_equally)

@@ -1,4 +1,0 @@
-use Rattle.vm_engine.proofs.saved.check.+check_subtree.Given as goal
-
-abbrev pub decreases-check_subtree : goal.decreases-check_subtree
-decreases-check_subtree l = l.depth

@@ -1,0 +1,52 @@
+-- Laws of saved trees.
+use Rattle.std.specs.Prelude.{◌≡◌, List, Option, Some}
+use Rattle.serde_json.specs.Data.{Data}
+use Rattle.vm_ranges.specs.Range.{Range, IsRange}
+use Rattle.vm_engine.specs.Address.{AddressState}
+use Rattle.vm_engine.specs.Tree.Block.{Block}
+use Rattle.vm_engine.specs.Tree.Shape.{Shape, blocks}
+use Rattle.vm_engine.specs.Tree.SpaceTree.{space_of, tree_state, IsSpaceTree}
+use Rattle.vm_engine.specs.Values.SavedTrees.{Saved, Node, shape_of, HasRanges, IsReadable, IsSavedTree, HasHeldKeys}
+use Rattle.vm_engine.specs.Values.TreeValues.{EncodesSpaceTree}
+use Rattle.vm_engine.specs.Values.KeyValues.{EncodesKeys}
+use Rattle.vm_engine.specs.Checks.ValueSpans.{EncodesSaved}
+use Rattle.vm_engine.specs.Values.WrittenTrees.{IsWritten, WritesNode}
+use Rattle.vm_engine.specs.Checks.Spans.{StandsFor}
+use Rattle.vm_engine.specs.declared.saved.span.Span.{Span}
+use Rattle.vm_engine.specs.declared.saved.written.WrittenNode.{WrittenNode}
+
+-- A saved tree of ranges has a span exactly if it is readable.
+pub record SpansAreExact : Type 0 where
+  pub some : (t : Saved) → HasRanges t → IsReadable t → (span : Option Span) × StandsFor span t
+  pub readable : (t : Saved) (span : Option Span) → StandsFor span t → IsReadable t
+
+-- The node that is written for some blocks, with the trees that are written for its children, is the tree of the blocks.
+abbrev pub NodesAreWritten : Type 0
+NodesAreWritten =
+    (bs : List Block) (n : WrittenNode) (l r : Saved) → WritesNode bs (Some n) →
+    IsWritten n.left.blocks.now l → IsWritten n.right.blocks.now r →
+    IsWritten bs (Node l (record { key = n.key; state = n.state }) r n.height)
+
+-- What is written for an allocator's tree is a saved tree of its space, node for node.
+abbrev pub WrittenIsRead : Type 0
+WrittenIsRead = (s : Shape) (t : Saved) → IsSpaceTree s → IsWritten (blocks s) t → IsSavedTree (space_of (blocks s)) t
+
+-- Trees of one state are written as the same saved tree.
+abbrev pub EqualAreWrittenEqually : Type 0
+EqualAreWrittenEqually =
+    (s other : Shape) (t u : Saved) → IsSpaceTree s → IsSpaceTree other → tree_state s ≡ tree_state other →
+    IsWritten (blocks s) t → IsWritten (blocks other) u → t ≡ u
+
+-- A value encodes a tree of a space exactly if it has the nodes of a saved tree of the space.
+pub record ValuesAreSavedTrees : Type 0 where
+  pub nodes : (d : Data) (space : Range) (s : Shape) → EncodesSpaceTree d space s →
+      (t : Saved) × EncodesSaved d t × IsSavedTree space t × (shape_of t ≡ s)
+  pub tree : (d : Data) (space : Range) (t : Saved) → IsRange space.start space.end → EncodesSaved d t → IsSavedTree space t →
+      EncodesSpaceTree d space (shape_of t)
+
+-- A value encodes the held keys of a space exactly if it has the nodes of a saved tree with these keys.
+pub record ValuesHaveHeldKeys : Type 0 where
+  pub nodes : (d : Data) (space : Range) (state : AddressState) → EncodesKeys d space state →
+      (t : Saved) × EncodesSaved d t × HasHeldKeys space t state
+  pub keys : (d : Data) (space : Range) (state : AddressState) (t : Saved) → EncodesSaved d t → HasHeldKeys space t state →
+      EncodesKeys d space state

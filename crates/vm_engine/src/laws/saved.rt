@@ -1,0 +1,24 @@
+//! Laws of saved trees.
+ghost use Rattle.vm_engine.specs.Laws.SavedLaws.{SpansAreExact, NodesAreWritten, WrittenIsRead, EqualAreWrittenEqually, ValuesAreSavedTrees, ValuesHaveHeldKeys};
+
+/// States what is read and what is written:
+/// - A saved tree of ranges has a span exactly if its keys are in increasing order and share no address, no allocated key
+///   ends at `u64::MAX`, and nodes are nested at most 50 deep.
+/// - `root` returns, node for node, one saved tree.
+/// - What is written of a tree is read again, node for node.
+/// - Trees of one state are written in the same way.
+#[tactic(auto, using(crate::proofs::SavedNodes::SavedTreeLaws::saved_trees))]
+fn saved_trees()
+    ensures spans { SpansAreExact }
+    ensures nodes { NodesAreWritten }
+    ensures read { WrittenIsRead }
+    ensures equal { EqualAreWrittenEqually }
+{}
+
+/// States that a value is accepted exactly if a reader of another format accepts its nodes, with and
+/// without repairs.
+#[tactic(auto, using(crate::proofs::SavedNodes::ValueLaws::values))]
+fn values_are_saved_trees()
+    ensures strict { ValuesAreSavedTrees }
+    ensures repaired { ValuesHaveHeldKeys }
+{}

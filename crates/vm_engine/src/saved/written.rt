@@ -1,0 +1,90 @@
+//! The saved tree that is written for a tree: a balanced tree of its blocks.
+//!
+//! The blocks decide its shape, so trees with the same blocks are written in the same way.
+ghost use Rattle.std.specs.Prelude.{◌≡◌, ◌∷◌, [], ◌++◌, IfOk, OnOk};
+ghost use Rattle.vm_engine.specs.Tree.Shape.{blocks};
+ghost use Rattle.vm_engine.specs.Values.WrittenTrees.{WritesNode};
+
+use crate::IntervalTree;
+use crate::block::Block;
+use std::alloc::{AllocError, Global};
+use vm_ranges::{NodeState, RangeInclusive};
+
+/// The blocks of a space in increasing order.
+#[derive(Drop)]
+pub struct WrittenBlocks {
+    list: Vec<Block>,
+}
+
+impl WrittenBlocks {
+    /// Returns the blocks of a tree, or an error if an allocation fails.
+    pub fn new(alloc: Global, tree: &IntervalTree) -> std::result::Result<Self, AllocError>
+        ensures { IfOk result (λ written. written.list.items ≡ blocks tree.now) }
+    {
+        let mut list = Vec::new(alloc);
+        let mut rest = tree.blocks();
+        while let Some(block) = rest.next() {
+            push(&mut list, block)?;
+        }
+        Ok(WrittenBlocks { list })
+    }
+
+    /// Returns the saved tree of all blocks.
+    pub fn tree(&self) -> WrittenTree<'_>
+        ensures { result.blocks.now ≡ self.now.list.items }
+    {
+        WrittenTree { blocks: &self.list }
+    }
+}
+
+/// Appends a block to a list. The list grows by an eighth, so it has little unused capacity.
+fn push(list: &mut Vec<Block>, block: Block) -> std::result::Result<(), AllocError>
+    ensures { OnOk result (list.new.items ≡ list.old.items ++ block ∷ []) }
+{
+    if list.len() == list.capacity() {
+        list.reserve_exact(list.len() / 8 + 4)?;
+    }
+    list.push(block)?;
+    Ok(())
+}
+
+/// The saved tree of some blocks.
+#[derive(Clone, Copy)]
+pub struct WrittenTree<'a> {
+    blocks: &'a [Block],
+}
+
+/// A node of a saved tree.
+#[derive(Clone, Copy)]
+pub struct WrittenNode<'a> {
+    /// The range of the block.
+    pub key: RangeInclusive,
+    /// The state of the block.
+    pub state: NodeState,
+    /// The left child.
+    pub left: WrittenTree<'a>,
+    /// The right child.
+    pub right: WrittenTree<'a>,
+    /// The height of the node.
+    pub height: u64,
+}
+
+impl<'a> WrittenTree<'a> {
+    /// Returns the root: the block in the middle, and the trees of the blocks before and after it.
+    pub fn root(self) -> Option<WrittenNode<'a>>
+        ensures { WritesNode self.entry.blocks.now result }
+    {
+        let count = self.blocks.len();
+        let (before, rest) = self.blocks.split_at(count / 2);
+        let Some((block, after)) = rest.split_first() else {
+            return None;
+        };
+        Some(WrittenNode {
+            key: block.key,
+            state: block.state,
+            left: WrittenTree { blocks: before },
+            right: WrittenTree { blocks: after },
+            height: u64::from(count.ilog2()) + 1,
+        })
+    }
+}
