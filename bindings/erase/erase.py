@@ -75,11 +75,6 @@ REFUSED_WORDS = set("""async await become box char decreases dyn extern f32 f64 
     i128 invariant isize macro_rules prove prove_eq trait try union unsafe where yield""".split())
 CLAUSES = {"ensures", "requires"}
 
-# ---- Items that Rust does not need ----
-
-# Items that only tests use, by file.
-FOR_TESTS = {"vm_engine/src/node.rt search_tree", "vm_ranges/src/state.rt is_free"}
-
 # ---- Text that is added ----
 
 ORIGIN = "// Written by bindings/erase from {}: do not edit.\n"
@@ -281,8 +276,7 @@ class File(Tokens):
             item = types.SimpleNamespace(start=index, owner=owner, public=False)
             item.of_tests = item.is_test = item.is_error = False
             index = self.visibility(item, self.attributes(item))
-            row = f"{self.path.removeprefix('crates/')} {self.tokens[index + 1].text}"
-            if (item.of_tests or row in FOR_TESTS) and not self.crate.project.with_tests:
+            if item.of_tests and not self.crate.project.with_tests:
                 behind, kept = self.matching(self.next_of(index, ";", "{")), False
             else:
                 behind, kept = self.item(item, index)

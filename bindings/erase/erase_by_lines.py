@@ -13,9 +13,6 @@ import sys
 
 TOKEN = re.compile(r"""r\#".*?"\#|b?"(?:[^"\\]|\\.)*"|b?'(?:[^'\\]|\\.)'|\w+|[^\w\s]""", re.DOTALL)
 CLAUSE = ("requires ", "ensures ", "ghost ")
-# Items that only tests use.
-UNUSED = re.compile(r"(pub(\(\w+\))? )?fn is_free\b")
-UNUSED_LINE = re.compile(r"mod search_tree;$")
 IMPORT = re.compile(r"^use ((?:\w+::)*)(\w+|\*|\{[^{}]*\});", re.MULTILINE)
 # Replacements, in this order. NAME is the crate.
 CHANGED = [
@@ -107,9 +104,7 @@ def erased(lines):
             end = item_end(lines, index)
         elif re.match(r"impl(<[^>]*>)? Model for ", line):
             end = block_end(lines, index)
-        elif UNUSED.match(line):
-            end = lines.index(re.match(" *", lines[index])[0] + "}", index) + 1
-        if end or UNUSED_LINE.match(line):
+        if end:
             drop_front(kept, ("///", "#["))
         elif line.startswith(CLAUSE):
             drop_front(kept, ("// ",))

@@ -20,7 +20,6 @@ pub(crate) mod neighbours;
 pub(crate) mod outermost;
 pub(crate) mod places;
 pub(crate) mod rewrite;
-mod search_tree;
 pub(crate) mod split;
 mod summary;
 #[cfg(test)]

@@ -1,21 +1,17 @@
 -- A block of a tree with a new key or a new state.
-use Rattle.std.proofs.Common.{◌≡◌, ℕ, ◌+◌, max, true, false, cond, List, [], ◌∷◌, ◌++◌, refl, ap, ◌∙◌, subst, sym, arith, Some, None, Option, IsSome, Result, Err}
+use Rattle.std.proofs.Common.{◌≡◌, ℕ, ◌+◌, max, true, false, cond, List, [], ◌∷◌, ◌++◌, refl, subst, arith, IsSome}
 use Rattle.vm_ranges.specs.Range.{Range}
 use Rattle.vm_ranges.specs.RangeOrder.{Before, same_range}
 use Rattle.vm_engine.specs.Tree.Block.{Block, free_length}
 use Rattle.vm_engine.specs.Tree.Multiples.{free_alignments}
 use Rattle.vm_engine.specs.Tree.BlockList.{IsOrderedFrom, replace_block, find_key}
-use Rattle.vm_engine.specs.Tree.Shape.{Shape, Tip, Fork, blocks, height_of, max_free_of, alignments_of, root_block, IsTree}
+use Rattle.vm_engine.specs.Tree.Shape.{Shape, Fork, blocks, height_of, max_free_of, alignments_of, IsTree}
 use Rattle.vm_engine.specs.declared.node.summary.Change.{Change}
 use Rattle.vm_engine.specs.declared.node.summary.Change.TheVariants.{Nothing, FreeOnly, Height}
 use Rattle.vm_engine.specs.Engine.Changes.{KeepsShape, KeepsFreeSummary}
-use Rattle.vm_engine.specs.Engine.NodeAnswer.{Marks, MarksBlock}
-use Rattle.vm_ranges.specs.declared.error.Error.{Error}
-use Rattle.vm_ranges.specs.declared.error.Error.TheVariants.{ResourceNotAvailable}
-use Rattle.vm_ranges.specs.declared.state.NodeState.{NodeState}
-use Rattle.vm_ranges.specs.declared.state.NodeState.TheVariants.{Free, Allocated}
+use Rattle.vm_ranges.specs.declared.state.NodeState.TheVariants.{Allocated}
 use Rattle.vm_engine.proofs.Blocks.BlockOrder.{ordered_below, ordered_above}
-use Rattle.vm_engine.proofs.Blocks.Replacement.{replace_in_left, replace_in_right, replace_in_middle, find_in_left, find_in_right, find_in_middle, same_range_true}
+use Rattle.vm_engine.proofs.Blocks.Replacement.{replace_in_left, replace_in_right, replace_in_middle, find_in_left, find_in_right, same_range_true}
 
 -- If a new block keeps the whole list in order, it keeps the blocks of each child in order.
 pub rewritten_left : (s l : Shape) (x : Block) (r : Shape) (k : Range) (ys : List Block) → s ≡ Fork l x r → Before k x.key → IsTree s → IsOrderedFrom 0 (replace_block k ys (blocks s)) → IsOrderedFrom 0 (replace_block k ys (blocks l))
@@ -98,51 +94,6 @@ node_rewritten_right s l n x r k y reported e p t o b w =
 
 pub ruleset rewritings = (rewrite_here, tree_rewritten_here)
 
--- Marking the root marks the tree.
-pub marks_here : (s l : Shape) (x : Block) (r : Shape) (k : Range) (answer : Result (Unit {0}) Error) (n : Shape) → s ≡ Fork l x r → k ≡ x.key → IsTree s
-    → MarksBlock (root_block s).state (root_block s).key answer s n → Marks (find_key k (blocks s)) k answer s n
-unfolding Marks
-marks_here s l x r k answer n e p t h =
-    let top : root_block s ≡ x = ap root_block e in
-    rw (find_in_middle s l x r k e p t) (
-    subst (λ (v : Block). MarksBlock v.state k answer s n) top (
-    subst (λ (v : Range). MarksBlock (root_block s).state v answer s n) (ap (λ (v : Block). v.key) top ∙ sym p) h))
-
-pub marks_none_left : (s l : Shape) (x : Block) (r : Shape) (k : Range) → s ≡ Fork l x r → l ≡ Tip → Before k x.key → IsTree s → Marks (find_key k (blocks s)) k (Err ResourceNotAvailable) s s
-unfolding Marks
-marks_none_left s l x r k e z p t = rw (find_in_left s l x r k e p t, z) (refl, refl)
-
-pub marks_none_right : (s l : Shape) (x : Block) (r : Shape) (k : Range) → s ≡ Fork l x r → r ≡ Tip → Before x.key k → IsTree s → Marks (find_key k (blocks s)) k (Err ResourceNotAvailable) s s
-unfolding Marks
-marks_none_right s l x r k e z p t = rw (find_in_right s l x r k e p t, z) (refl, refl)
-
--- Marking the child l marks the tree s.
-marks_block_by : (st : NodeState) (k : Range) (answer : Result (Unit {0}) Error) (l m s n : Shape) → (m ≡ l → n ≡ s) → ((ys : List Block) → blocks m ≡ replace_block k ys (blocks l) → blocks n ≡ replace_block k ys (blocks s)) → MarksBlock st k answer l m → MarksBlock st k answer s n
-unfolding MarksBlock
-marks_block_by Free k answer l m s n same changed h = (h.0, changed (record { key = k; state = Allocated } ∷ []) h.1)
-marks_block_by Allocated k answer l m s n same changed h = (h.0, same h.1)
-
-marks_by : (f : Option Block) (k : Range) (answer : Result (Unit {0}) Error) (l m s n : Shape) → (m ≡ l → n ≡ s) → ((ys : List Block) → blocks m ≡ replace_block k ys (blocks l) → blocks n ≡ replace_block k ys (blocks s)) → Marks f k answer l m → Marks f k answer s n
-unfolding Marks
-marks_by None k answer l m s n same changed h = (h.0, same h.1)
-marks_by (Some b) k answer l m s n same changed h = marks_block_by b.state k answer l m s n same changed h
-
-pub marks_in_left : (s l m : Shape) (x : Block) (r : Shape) (k : Range) (answer : Result (Unit {0}) Error) → s ≡ Fork l x r → Before k x.key → IsTree s → Marks (find_key k (blocks l)) k answer l m → Marks (find_key k (blocks s)) k answer s (Fork m x r)
-marks_in_left s l m x r k answer e p t h =
-    rw (find_in_left s l x r k e p t) (
-    marks_by (find_key k (blocks l)) k answer l m s (Fork m x r)
-    (λ q. ap (λ (v : Shape). Fork v x r) q ∙ sym e)
-    (λ ys q. ap (λ (v : List Block). v ++ x ∷ blocks r) q ∙ sym (replace_in_left s l x r k ys e p t))
-    h)
-
-pub marks_in_right : (s l m : Shape) (x : Block) (r : Shape) (k : Range) (answer : Result (Unit {0}) Error) → s ≡ Fork l x r → Before x.key k → IsTree s → Marks (find_key k (blocks r)) k answer r m → Marks (find_key k (blocks s)) k answer s (Fork l x m)
-marks_in_right s l m x r k answer e p t h =
-    rw (find_in_right s l x r k e p t) (
-    marks_by (find_key k (blocks r)) k answer r m s (Fork l x m)
-    (λ q. ap (λ (v : Shape). Fork l x v) q ∙ sym e)
-    (λ ys q. ap (λ (v : List Block). blocks l ++ x ∷ v) q ∙ sym (replace_in_right s l x r k ys e p t))
-    h)
-
 -- Marking keeps the order.
 pub ordered_marked : (lo : ℕ) (k : Range) (bs : List Block) → IsOrderedFrom lo bs → IsOrderedFrom lo (replace_block k (record { key = k; state = Allocated } ∷ []) bs)
 ordered_marked lo k [] o = tt
@@ -151,27 +102,3 @@ ordered_marked lo k (b ∷ bs) o =
       | true ↦ λ e. let q = same_range_true k b.key e in (omega (arith, q.0), omega (arith, q.0, q.1), rw q.1 o.2)
       | false ↦ λ e. (o.0, o.1, ordered_marked (b.key.end + 1) k bs o.2)
     ] refl
-
-order_of_marked_block : (st : NodeState) (k : Range) (answer : Result (Unit {0}) Error) (s n : Shape) → IsOrderedFrom 0 (blocks s) → MarksBlock st k answer s n → IsOrderedFrom 0 (blocks n)
-unfolding MarksBlock
-order_of_marked_block Free k answer s n o h = rw h.1 (ordered_marked 0 k (blocks s) o)
-order_of_marked_block Allocated k answer s n o h = rw h.1 o
-
-order_of_marked : (f : Option Block) (k : Range) (answer : Result (Unit {0}) Error) (s n : Shape) → IsOrderedFrom 0 (blocks s) → Marks f k answer s n → IsOrderedFrom 0 (blocks n)
-unfolding Marks
-order_of_marked None k answer s n o h = rw h.1 o
-order_of_marked (Some b) k answer s n o h = order_of_marked_block b.state k answer s n o h
-
-pub tree_marked_left : (l m : Shape) (x : Block) (r : Shape) (k : Range) (answer : Result (Unit {0}) Error) → Before k x.key → IsTree (Fork l x r) → Marks (find_key k (blocks l)) k answer l m → height_of m ≡ height_of l → IsTree m → IsTree (Fork m x r)
-tree_marked_left l m x r k answer p t h e d = record {
-  ordered = order_of_marked (find_key k (blocks (Fork l x r))) k answer (Fork l x r) (Fork m x r) t.ordered (marks_in_left (Fork l x r) l m x r k answer refl p t h);
-  balanced = (d.balanced, t.balanced.1, rw e t.balanced.2);
-}
-
-pub tree_marked_right : (l m : Shape) (x : Block) (r : Shape) (k : Range) (answer : Result (Unit {0}) Error) → Before x.key k → IsTree (Fork l x r) → Marks (find_key k (blocks r)) k answer r m → height_of m ≡ height_of r → IsTree m → IsTree (Fork l x m)
-tree_marked_right l m x r k answer p t h e d = record {
-  ordered = order_of_marked (find_key k (blocks (Fork l x r))) k answer (Fork l x r) (Fork l x m) t.ordered (marks_in_right (Fork l x r) l m x r k answer refl p t h);
-  balanced = (t.balanced.0, d.balanced, rw e t.balanced.2);
-}
-
-pub ruleset markings = (marks_here, marks_none_left, marks_none_right, marks_in_left, marks_in_right, tree_marked_left, tree_marked_right)

@@ -1,9 +1,9 @@
 -- The results of the calls of a search tree that can fail.
-use Rattle.std.specs.Prelude.{◌≡◌, ◌⊎◌, if◌then◌else◌, nat_lt, Option, Some, None, List, Result, Ok, Err, [], ◌∷◌}
+use Rattle.std.specs.Prelude.{◌≡◌, ◌⊎◌, Option, Some, None, List, Result, Ok, Err}
 use Rattle.vm_ranges.specs.Range.{Range, Overlaps}
-use Rattle.vm_engine.specs.Tree.BlockList.{IsClearOf, insert_block, replace_block}
+use Rattle.vm_engine.specs.Tree.BlockList.{IsClearOf, insert_block, with_block}
 use Rattle.vm_engine.specs.Tree.Block.{Block}
-use Rattle.vm_engine.specs.Tree.Shape.{Shape, Tip, Fork, blocks}
+use Rattle.vm_engine.specs.Tree.Shape.{Shape, blocks}
 use Rattle.vm_engine.specs.Engine.Changes.{Grows}
 use Rattle.vm_engine.specs.declared.node.summary.Change.TheVariants.{Height}
 use Rattle.vm_ranges.specs.declared.error.Error.{Error}
@@ -22,27 +22,17 @@ unfoldable pub FindsOverlap : Range → Option Range → List Block → Type 0
 FindsOverlap k None bs = IsClearOf k bs
 FindsOverlap k (Some overlap) bs = Overlaps k overlap
 
--- The first key on the path from the root that overlaps the range k. The path goes to the left of a key that starts
--- above k, and to the right of a key that ends below k.
-abbrev pub first_overlap : Range → Shape → Option Range
-first_overlap k Tip = None
-first_overlap k (Fork l b r) =
-    if nat_lt k.end b.key.start then first_overlap k l
-    else if nat_lt b.key.end k.start then first_overlap k r
-    else Some b.key
+-- The error of an insertion: Overlap with a key that k overlaps, or OutOfMemory if it overlaps none.
+unfoldable pub RefusesKey : Range → List Block → Error → Type 0
+RefusesKey k bs e = ((overlap : Range) × Overlaps k overlap × (e ≡ Overlap k overlap)) ⊎ (IsClearOf k bs × (e ≡ OutOfMemory))
 
--- The error of an insertion: Overlap with the first key on the path that overlaps k, or OutOfMemory if no key does.
-unfoldable pub RefusesKey : Range → Shape → Error → Type 0
-RefusesKey k s e =
-    ((overlap : Range) × (first_overlap k s ≡ Some overlap) × Overlaps k overlap × (e ≡ Overlap k overlap))
-    ⊎ (IsClearOf k (blocks s) × (e ≡ OutOfMemory))
-
--- The result of marking a block: a free block becomes held. A held block is InvalidStateTransition.
-unfoldable pub MarksBlock : NodeState → Range → Result (Unit {0}) Error → Shape → Shape → Type 0
-MarksBlock Free k answer old new = (answer ≡ Ok tt) × (blocks new ≡ replace_block k (record { key = k; state = Allocated } ∷ []) (blocks old))
+-- The result of marking a block in this state.
+abbrev pub MarksBlock : NodeState → Range → Result (Unit {0}) Error → Shape → Shape → Type 0
+MarksBlock Free k answer old new = (answer ≡ Ok tt) × (blocks new ≡ with_block k k Allocated (blocks old))
 MarksBlock Allocated k answer old new = (answer ≡ Err (InvalidStateTransition k Allocated)) × (new ≡ old)
 
--- The result of marking the block with key k: ResourceNotAvailable if there is none, otherwise that of `MarksBlock`.
+-- The result of marking the block with key k: a free block becomes held. Otherwise the tree is unchanged: a held block
+-- is InvalidStateTransition, and an absent one ResourceNotAvailable.
 unfoldable pub Marks : Option Block → Range → Result (Unit {0}) Error → Shape → Shape → Type 0
 Marks None k answer old new = (answer ≡ Err ResourceNotAvailable) × (new ≡ old)
 Marks (Some b) k answer old new = MarksBlock b.state k answer old new

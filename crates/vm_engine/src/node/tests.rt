@@ -1,4 +1,7 @@
 //! Tests of trees that are built by hand, in orders of insertion that need each kind of rotation.
+mod search_tree;
+
+use super::delete::delete_at;
 use super::walks::copying::copy;
 use super::walks::shapes::same;
 use super::*;
@@ -40,14 +43,19 @@ fn leaf(rt: &impl Abort, alloc: Global, key: Key, state: NodeState) -> Box<Inner
     }
 }
 
-/// Inserts a free key, and checks the bounds on the number of entered nodes.
+/// Inserts a free key, and checks the bound on the number of entered nodes.
 fn insert(rt: &impl Abort, alloc: Global, tree: Box<InnerNode>, key: RangeInclusive) -> Inserted {
     let height = tree.height();
     assert!(rt; height <= 48);
     let mut count = Steps::start();
-    let result = InnerNode::insert(tree, alloc, key, NodeState::Free, &mut count);
-    assert!(rt; 1 <= count.entered() && count.entered() <= 2 * height);
-    result
+    let mut at = Some(tree);
+    let result = search_tree::insert(&mut at, alloc, key, NodeState::Free, &mut count);
+    assert!(rt; count.entered() <= height);
+    let tree = at.expect(rt, "a tree is left");
+    match result {
+        Ok(()) => Ok(tree),
+        Err(error) => Err((error, tree)),
+    }
 }
 
 /// Inserts a free key, and returns the tree. If an allocation fails, it checks that the tree is
@@ -95,10 +103,9 @@ fn deleted(rt: &impl Abort, tree: Box<InnerNode>, key: Key) -> Box<InnerNode> {
     let height = tree.height();
     assert!(rt; height <= 49);
     let mut count = Steps::start();
-    let tree = InnerNode::delete(tree, &range(rt, key), &mut count).expect(
-        rt,
-        "other keys are left",
-    );
+    let mut at = Some(tree);
+    delete_at(&mut at, &range(rt, key), &mut count);
+    let tree = at.expect(rt, "other keys are left");
     assert!(rt; 1 <= count.entered() && count.entered() <= height);
     assert!(rt; is_balanced(&tree));
     tree
@@ -107,8 +114,22 @@ fn deleted(rt: &impl Abort, tree: Box<InnerNode>, key: Key) -> Box<InnerNode> {
 /// Searches a key. Returns the state of its node and whether it is a leaf.
 fn found(rt: &impl Abort, tree: &InnerNode, key: Key) -> Option<(NodeState, bool)> {
     assert!(rt; tree.height() <= 49);
-    let node = tree.search(&range(rt, key), &mut Steps::start())?;
+    let node = search_tree::search(tree, &range(rt, key), &mut Steps::start())?;
     Some((node.state(), node.height() == 1))
+}
+
+/// Marks a key as allocated, and returns the tree.
+fn marked(
+    rt: &impl Abort,
+    tree: Box<InnerNode>,
+    key: Key,
+    want: std::result::Result<(), Error>,
+) -> Box<InnerNode> {
+    assert!(rt; tree.height() <= 49);
+    let mut at = Some(tree);
+    let result = search_tree::mark_as_allocated(&mut at, &range(rt, key), &mut Steps::start());
+    expect_eq(rt, &result, &want, &key);
+    at.expect(rt, "a tree is left")
 }
 
 /// Checks that the tree has a leaf with this key and this state.
@@ -240,32 +261,25 @@ fn test_tree_insert_duplicate_negative(rt: HostRuntime) {
 #[test]
 fn test_tree_mark_as_allocated_invalid_transition(rt: HostRuntime) {
     let key = (0x100, 0x110);
-    let mut tree = tree_of(&rt, rt.alloc(), key, &[]);
-    assert!(rt; tree.height() <= 49);
-    let key = range(&rt, key);
-    let error = Error::InvalidStateTransition(key, NodeState::Allocated);
-    let result = tree.mark_as_allocated(&key, &mut Steps::start());
-    expect_eq(&rt, &result, &Err(error), &key);
+    let tree = tree_of(&rt, rt.alloc(), key, &[]);
+    let error = Error::InvalidStateTransition(range(&rt, key), NodeState::Allocated);
+    marked(&rt, tree, key, Err(error));
 }
 
 #[test]
 fn test_tree_mark_as_allocated_resource_not_available(rt: HostRuntime) {
     let mut tree = tree_of(&rt, rt.alloc(), (0x100, 0x110), &[]);
     for key in [(0x111, 0x112), (0x90, 0x92)] {
-        assert!(rt; tree.height() <= 49);
-        let result = tree.mark_as_allocated(&range(&rt, key), &mut Steps::start());
-        expect_eq(&rt, &result, &Err(Error::ResourceNotAvailable), &key);
+        tree = marked(&rt, tree, key, Err(Error::ResourceNotAvailable));
     }
 }
 
 #[test]
 fn test_tree_mark_as_allocated(rt: HostRuntime) {
     let key = (0x200, 0x2FF);
-    let mut tree = tree_of(&rt, rt.alloc(), (0x100, 0x110), &[key]);
-    assert!(rt; tree.height() <= 49);
+    let tree = tree_of(&rt, rt.alloc(), (0x100, 0x110), &[key]);
     expect_leaf(&rt, &tree, key, NodeState::Free);
-    let result = tree.mark_as_allocated(&range(&rt, key), &mut Steps::start());
-    expect_eq(&rt, &result, &Ok(()), &key);
+    let tree = marked(&rt, tree, key, Ok(()));
     expect_leaf(&rt, &tree, key, NodeState::Allocated);
 }
 
