@@ -1,12 +1,13 @@
 //! A block of an address space: a range with its state.
 ghost use Rattle.std.proofs.Common.{rules};
+ghost use Rattle.std.specs.Prelude.{◌≡◌};
 ghost use Rattle.std.specs.Cmp.{partial_order_from_own_ties};
 ghost use Rattle.std.specs.Cmp.Rules.{comparing};
 ghost use Rattle.std.specs.Ordering.{as_partial_cmp};
+ghost use Rattle.vm_engine.specs.Tree.Block.{free_block, held_block};
 ghost use Rattle.vm_engine.specs.Comparison.{block_cmp, block_cmp-total};
 
 use std::cmp::Ordering;
-use std::marker::Model;
 use vm_ranges::{NodeState, RangeInclusive};
 
 /// A range of addresses with its state, allocated or free.
@@ -18,16 +19,28 @@ pub(crate) struct Block {
     pub(crate) state: NodeState,
 }
 
-impl Model for Block {
-    ghost use Rattle.vm_engine.specs.Tree.Block.{Block, block_code};
+impl Block {
+    /// Creates a free block.
+    #[inline(always)]
+    pub(crate) fn free(key: RangeInclusive) -> Block
+        ensures { result ≡ free_block key }
+    {
+        Block {
+            key,
+            state: NodeState::Free,
+        }
+    }
 
-    ghost Value = { Block };
-
-    ghost coded = { block_code };
-
-    ghost view = { λ a. record { key = a.key; state = a.state } };
-
-    ghost inverse = { λ d. record { key = d.key; state = d.state } };
+    /// Creates an allocated block.
+    #[inline(always)]
+    pub(crate) fn held(key: RangeInclusive) -> Block
+        ensures { result ≡ held_block key }
+    {
+        Block {
+            key,
+            state: NodeState::Allocated,
+        }
+    }
 }
 
 impl Ord for Block {

@@ -23,6 +23,7 @@ ghost use Rattle.vm_engine.specs.Counts.Steps.{Enters, EntersToFree, IsBalancedT
 ghost use Rattle.vm_engine.specs.Tree.SpaceTree.{tree_state, IsSpaceTree, MakesTree};
 
 use crate::Steps;
+use crate::block::Block;
 use crate::node::edge::Edge;
 use crate::node::walks::both_ends::Blocks;
 use crate::node::walks::copying::copy;
@@ -76,7 +77,7 @@ impl IntervalTree {
         ensures answer { MakesTree key result }
         ensures state { IfOk result (λ tree. IsAddressState (tree_state tree)) }
     {
-        let node = Box::new(alloc, InnerNode::new(key, NodeState::Free))?;
+        let node = Box::new(alloc, InnerNode::new(Block::free(key)))?;
         Ok(IntervalTree { root: Some(node) })
     }
 

@@ -29,7 +29,8 @@ pub(crate) mod widen;
 pub(crate) mod windows;
 
 use self::balance::fork;
-use self::summary::free_summary_of;
+use self::summary::{Summary, summary_of_leaf};
+use crate::block::Block;
 use std::alloc::{AllocError, Global};
 use std::marker::Model;
 use vm_ranges::{NodeState, RangeInclusive};
@@ -38,19 +39,13 @@ use vm_ranges::{NodeState, RangeInclusive};
 ///
 /// - The keys of the subtree are in order and do not overlap.
 /// - The heights of both children differ by at most one.
-/// - `height` is the height of the subtree.
-/// - `max_free` is the length of the longest free block in the subtree, or 0 if there is none.
-/// - `alignments` is the number of the 64 alignments that have a multiple in a free block of the
-///   subtree. It is one byte next to the state, so a node has 72 bytes.
+/// - `summary` is the summary of the subtree.
 #[derive(Debug, Drop)]
 pub(crate) struct InnerNode {
-    key: RangeInclusive,
-    node_state: NodeState,
-    alignments: u8,
-    left: Option<Box<InnerNode>>,
-    right: Option<Box<InnerNode>>,
-    height: u64,
-    max_free: u64,
+    block: Block,
+    left: Child,
+    right: Child,
+    summary: Summary,
 }
 
 /// The height of the highest tree.
@@ -82,18 +77,14 @@ impl Model for InnerNode {
 
 impl InnerNode {
     /// Creates a node without children.
-    pub(crate) fn new(key: RangeInclusive, node_state: NodeState) -> InnerNode
-        ensures { result ≡ single (record { key = key; state = node_state }) }
+    pub(crate) fn new(block: Block) -> InnerNode
+        ensures { result ≡ single block }
     {
-        let own = free_summary_of(&key, node_state);
         InnerNode {
-            key,
-            node_state,
-            alignments: own.alignments,
+            block,
             left: None,
             right: None,
-            height: 1,
-            max_free: own.max_free,
+            summary: summary_of_leaf(&block),
         }
     }
 
@@ -104,16 +95,14 @@ impl InnerNode {
     pub(crate) fn with_children(
         alloc: Global,
         left: Child,
-        key: RangeInclusive,
-        node_state: NodeState,
+        block: Block,
         right: Child,
     ) -> Result<Box<InnerNode>, AllocError>
-        requires tree { IsTree (Fork (side left) (record { key = key; state = node_state }) (side right)) }
-        requires height_fits { max (height_of (side left)) (height_of (side right)) + 1 < 2 ^ 64 }
-        ensures { IfOk result
-            (λ node. node.value ≡ Fork (side left) (record { key = key; state = node_state }) (side right)) }
+        requires tree { IsTree (Fork (side left) block (side right)) }
+        requires height_fits { max (height_of (side left)) (height_of (side right)) + 1 < 2 ^ 8 }
+        ensures { IfOk result (λ node. node.value ≡ Fork (side left) block (side right)) }
     {
-        let middle = Box::new(alloc, InnerNode::new(key, node_state))?;
+        let middle = Box::new(alloc, InnerNode::new(block))?;
         Ok(fork(left, middle, right))
     }
 
@@ -122,7 +111,7 @@ impl InnerNode {
         ensures value { result ≡ (root_block self.now).key }
         ensures tree { IsTree self.now }
     {
-        self.key
+        self.block.key
     }
 
     /// Returns the state of this node.
@@ -130,7 +119,7 @@ impl InnerNode {
         ensures value { result ≡ (root_block self.now).state }
         ensures tree { IsTree self.now }
     {
-        self.node_state
+        self.block.state
     }
 
     /// Returns the height of the subtree.
@@ -139,7 +128,7 @@ impl InnerNode {
         ensures high { 0 < height_of self.now }
         ensures tree { IsTree self.now }
     {
-        self.height
+        self.summary.height.into()
     }
 
     /// Returns the length of the longest free block in the subtree, or 0 if there is none.
@@ -147,19 +136,19 @@ impl InnerNode {
         ensures value { result ≡ max_free_of self.now }
         ensures tree { IsTree self.now }
     {
-        self.max_free
+        self.summary.max_free
     }
 }
 
 /// Returns the height of a child, or 0 if the child is absent.
 #[inline(always)]
-pub(crate) fn height(child: &Child) -> u64
+pub(crate) fn height(child: &Child) -> u8
     ensures value { result ≡ height_of (side child.now) }
     ensures tree { IsTree (side child.now) }
     ensures absent { IsNone child.now ↔ (side child.now ≡ Tip) }
 {
     match child {
         None => 0,
-        Some(node) => node.height,
+        Some(node) => node.summary.height,
     }
 }

@@ -32,10 +32,6 @@ pub height_above : (n a g : ℕ) → a + a ≤ n → n ≤ a + a + 1 → 0 < n �
 height_above n a zero l m z p = let x = p.1 in let e = pow-suc 2 0 in (omega arith, omega arith)
 height_above n a (suc g) l m z p = let e = pow-suc 2 g in let f = pow-suc 2 (suc g) in let x = p.0 in let y = p.1 in (omega arith, omega arith)
 
-above_own : (k : ℕ) → k + 1 ≤ 2 ^ k
-above_own zero = omega arith
-above_own (suc k) = let e = pow-suc 2 k in let f = above_own k in omega arith
-
 -- The number of blocks that are left.
 pub left_over : (m : ℕ) (old new : List Block) (l : Shape) → IsBuilt m old l new → length old ≡ m + length new
 left_over m old new l b = let c = node_count-blocks l in let n = b.nodes in let e : length old ≡ length (blocks l ++ new) = ap length b.cut in omega (arith, length-append (blocks l) new)
@@ -76,5 +72,8 @@ module _ (n : ℕ) (old xs ys new : List Block) (l r : Shape) (b : Block) (some 
     balanced = node_balanced;
   }
 
-  pub node_fits : n < 2 ^ 64 → max (height_of l) (height_of r) + 1 < 2 ^ 64
-  node_fits f = let c = close in let g = above_own (height_of l) in let h = left.height.1 in omega arith
+  pub node_fits : n < 2 ^ 64 → max (height_of l) (height_of r) + 1 < 2 ^ 8
+  node_fits f =
+      let c = close in
+      let h = left.height.1 in
+      ⊎_elim (λ (high : 64 < height_of l). let g = power_grows 65 (height_of l) (omega arith) in absurd (omega arith)) (λ (low : height_of l ≤ 64). omega arith) (cases_lt 64 (height_of l))

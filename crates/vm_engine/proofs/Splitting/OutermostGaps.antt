@@ -15,11 +15,10 @@ use Rattle.vm_engine.specs.declared.node.InnerNode.{InnerNode}
 use Rattle.vm_engine.specs.declared.node.InnerNode.TheInside.{Inside}
 use Rattle.vm_engine.specs.declared.node.edge.Edge.{Edge}
 use Rattle.vm_engine.specs.declared.node.split.Split.{Split}
-use Rattle.vm_engine.specs.declared.node.summary.FreeSummary.{FreeSummary}
+use Rattle.vm_engine.specs.declared.node.summary.Summary.{Summary}
 use Rattle.vm_engine.proofs.Blocks.Replacement.{replace_in_left, replace_in_right}
 use Rattle.vm_engine.proofs.Nodes.Rewriting.{known_left, known_right, rewritten_left, rewritten_right}
 use Rattle.vm_engine.proofs.Nodes.AvlInsertion.{not_both, not_itself, not_itself_after, leaf_left, leaf_right}
-use Rattle.vm_engine.proofs.Nodes.UpdatedNodes.{own_of}
 use Rattle.vm_engine.proofs.Splitting.SplitTrees.{ordered_split_left, ordered_split_right}
 
 -- ---- The free summary of a tree, by its blocks
@@ -46,7 +45,7 @@ most_replaced f m k ys (b ∷ bs) e p h =
 
 -- Every other block of the tree is no longer than the rest of the gap and has no more alignments, so after the split the
 -- tree keeps just the free summary of the rest.
-pub keeps_rest : (s n : Shape) (split : Split) (free : FreeSummary) → IsOnlySplit s split free → blocks n ≡ with_split split.choice.key split.choice.range split.rest (blocks s)
+pub keeps_rest : (s n : Shape) (split : Split) (free : Summary) → IsOnlySplit s split free → blocks n ≡ with_split split.choice.key split.choice.range split.rest (blocks s)
     → (max_free_of n ≡ free.max_free) × (alignments_of n ≡ free.alignments)
 keeps_rest s n split free o e =
     let before = side split.rest.before in
@@ -70,7 +69,7 @@ others_in_right f s l b r k e p t =
     ap (most_by f) (replace_in_right s l b r k [] e p t) ∙ omega (arith, most_append f (blocks l) (b ∷ replace_block k [] (blocks r)))
 
 -- The split of a tree is the split of the child with the gap.
-module _ (s l : Shape) (b : Block) (r : Shape) (split : Split) (free : FreeSummary) (e : s ≡ Fork l b r) (t : IsTree s) (o : IsOnlySplit s split free) where
+module _ (s l : Shape) (b : Block) (r : Shape) (split : Split) (free : Summary) (e : s ≡ Fork l b r) (t : IsTree s) (o : IsOnlySplit s split free) where
   pub only_in_left : Before split.choice.key b.key → IsOnlySplit l split free
   only_in_left p = record {
     leaves = o.leaves;
@@ -100,26 +99,26 @@ module _ (s l : Shape) (b : Block) (r : Shape) (split : Split) (free : FreeSumma
   }
 
 -- ---- A node on the path whose child keeps its height
-module _ (i : Inside) (child : Option (Box InnerNode)) (split : Split) (free : FreeSummary) (v : IsNode i) (o : IsOnlySplit (shape_of i) split free) where
-  pub kept_over_left : Before split.choice.key i.key → blocks (side child) ≡ with_split split.choice.key split.choice.range split.rest (blocks (side i.left)) → IsTree (side child) → height_of (side child) ≡ height_of (side i.left)
-      → IsNode (record i { left = child; max_free = free.max_free; alignments = free.alignments })
+module _ (i : Inside) (child : Option (Box InnerNode)) (split : Split) (free : Summary) (v : IsNode i) (o : IsOnlySplit (shape_of i) split free) where
+  pub kept_over_left : Before split.choice.key i.block.key → blocks (side child) ≡ with_split split.choice.key split.choice.range split.rest (blocks (side i.left)) → IsTree (side child) → height_of (side child) ≡ height_of (side i.left)
+      → IsNode (record i { left = child; summary = record i.summary { max_free = free.max_free; alignments = free.alignments } })
   kept_over_left p e t h =
       let n = shape_of (record i { left = child }) in
-      let keeps = keeps_rest (shape_of i) n split free o (rw e (sym (replace_in_left (shape_of i) (side i.left) (own_of i) (side i.right) split.choice.key _ refl p v.tree))) in
+      let keeps = keeps_rest (shape_of i) n split free o (rw e (sym (replace_in_left (shape_of i) (side i.left) i.block (side i.right) split.choice.key _ refl p v.tree))) in
       record {
-        tree = record { ordered = ordered_split_left (side i.left) (side child) (own_of i) (side i.right) split.choice.key _ p v.tree o.can_be_split.ordered e; balanced = (t.balanced, v.tree.balanced.1, rw h v.tree.balanced.2) };
+        tree = record { ordered = ordered_split_left (side i.left) (side child) i.block (side i.right) split.choice.key _ p v.tree o.can_be_split.ordered e; balanced = (t.balanced, v.tree.balanced.1, rw h v.tree.balanced.2) };
         height = rw h v.height;
         max_free = sym keeps.0;
         alignments = sym keeps.1;
       }
 
-  pub kept_over_right : Before i.key split.choice.key → blocks (side child) ≡ with_split split.choice.key split.choice.range split.rest (blocks (side i.right)) → IsTree (side child) → height_of (side child) ≡ height_of (side i.right)
-      → IsNode (record i { right = child; max_free = free.max_free; alignments = free.alignments })
+  pub kept_over_right : Before i.block.key split.choice.key → blocks (side child) ≡ with_split split.choice.key split.choice.range split.rest (blocks (side i.right)) → IsTree (side child) → height_of (side child) ≡ height_of (side i.right)
+      → IsNode (record i { right = child; summary = record i.summary { max_free = free.max_free; alignments = free.alignments } })
   kept_over_right p e t h =
       let n = shape_of (record i { right = child }) in
-      let keeps = keeps_rest (shape_of i) n split free o (rw e (sym (replace_in_right (shape_of i) (side i.left) (own_of i) (side i.right) split.choice.key _ refl p v.tree))) in
+      let keeps = keeps_rest (shape_of i) n split free o (rw e (sym (replace_in_right (shape_of i) (side i.left) i.block (side i.right) split.choice.key _ refl p v.tree))) in
       record {
-        tree = record { ordered = ordered_split_right (side i.left) (side child) (own_of i) (side i.right) split.choice.key _ p v.tree o.can_be_split.ordered e; balanced = (v.tree.balanced.0, t.balanced, rw h v.tree.balanced.2) };
+        tree = record { ordered = ordered_split_right (side i.left) (side child) i.block (side i.right) split.choice.key _ p v.tree o.can_be_split.ordered e; balanced = (v.tree.balanced.0, t.balanced, rw h v.tree.balanced.2) };
         height = rw h v.height;
         max_free = sym keeps.0;
         alignments = sym keeps.1;
@@ -153,7 +152,7 @@ module _ (j : ℕ) (k : Range) (l : Shape) (b : Block) (r : Shape) where
       ⊎_elim (λ h. absurd (not_both k b.key h.0 q)) (λ h. h.1) v
 
 -- The split of a tree is the split of the child with the gap.
-module _ (s l : Shape) (b : Block) (r : Shape) (split : Split) (free : FreeSummary) (j : ℕ) (e : s ≡ Fork l b r) (t : IsTree s) (o : IsSteadySplit s split free j) where
+module _ (s l : Shape) (b : Block) (r : Shape) (split : Split) (free : Summary) (j : ℕ) (e : s ≡ Fork l b r) (t : IsTree s) (o : IsSteadySplit s split free j) where
   pub steady_left : 0 < j → Before split.choice.key b.key → IsSteadySplit l split free (j - 1)
   steady_left q p = record { only = only_in_left s l b r split free e t o.only p; one = o.one; leaf = leaf_left split.choice.key l b r p (rw e at o.leaf); uneven = uneven_left j split.choice.key l b r q p (rw e at o.uneven) }
 
@@ -161,7 +160,7 @@ module _ (s l : Shape) (b : Block) (r : Shape) (split : Split) (free : FreeSumma
   steady_right q p = record { only = only_in_right s l b r split free e t o.only p; one = o.one; leaf = leaf_right split.choice.key l b r p (rw e at o.leaf); uneven = uneven_right j split.choice.key l b r q p (rw e at o.uneven) }
 
 -- The split of the gap at which a search ended.
-pub steady_by_search : (s : Shape) (edge : Edge) (split : Split) (free : FreeSummary) → AreLeaves split.rest → CanSplit (blocks s) split.choice.key split.choice.range split.rest
+pub steady_by_search : (s : Shape) (edge : Edge) (split : Split) (free : Summary) → AreLeaves split.rest → CanSplit (blocks s) split.choice.key split.choice.range split.rest
     → KnowsChoice edge split.choice s → IsOnlyRest edge split free → IsSteadySplit s split free edge.steady
 steady_by_search s edge split free leaves can knows rest =
     let gap = knows rest.reached in
@@ -182,7 +181,7 @@ unfolding IsLeafAt
 no_tip k f = f
 
 -- The uneven node keeps its height.
-pub steady_height : (s n : Shape) (split : Split) (free : FreeSummary) → IsSteadySplit s split free 0 → (IsLeafAt split.choice.key s → HasOnePart split.rest → AddsLeaf s n) → height_of n ≡ height_of s
+pub steady_height : (s n : Shape) (split : Split) (free : Summary) → IsSteadySplit s split free 0 → (IsLeafAt split.choice.key s → HasOnePart split.rest → AddsLeaf s n) → height_of n ≡ height_of s
 steady_height Tip n split free o h = absurd (no_tip split.choice.key o.leaf)
 steady_height (Fork l b r) n split free o h =
     ⊎_elim (λ same. same) (λ grown. absurd (grown.1 (uneven_here 0 split.choice.key l b r o.uneven))) (h o.leaf o.one)

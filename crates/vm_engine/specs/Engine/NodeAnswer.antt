@@ -11,10 +11,10 @@ use Rattle.vm_ranges.specs.declared.error.Error.TheVariants.{ResourceNotAvailabl
 use Rattle.vm_ranges.specs.declared.state.NodeState.{NodeState}
 use Rattle.vm_ranges.specs.declared.state.NodeState.TheVariants.{Free, Allocated}
 
--- A block with this key was added, which overlaps no block of the tree. The tree is at most one higher.
-pub record Inserts (old : Shape) (key : Range) (state : NodeState) (new : Shape) : Type 0 where
-  pub clear : IsClearOf key (blocks old)
-  pub blocks : blocks new ≡ insert_block (record { key = key; state = state }) (blocks old)
+-- The block was added, which overlaps no block of the tree. The tree is at most one higher.
+pub record Inserts (old : Shape) (block : Block) (new : Shape) : Type 0 where
+  pub clear : IsClearOf block.key (blocks old)
+  pub blocks : blocks new ≡ insert_block block (blocks old)
   pub grows : Grows old new Height
 
 -- The key that was found overlaps the range, or no key of the list overlaps it if none was found.

@@ -12,11 +12,11 @@ side (Some n) = n.value
 
 -- The shape of a node with these fields.
 abbrev pub shape_of : Inside → Shape
-shape_of a = Fork (side a.left) (record { key = a.key; state = a.node_state }) (side a.right)
+shape_of a = Fork (side a.left) a.block (side a.right)
 
 -- The invariant of a node: its subtree is a balanced search tree, and its cached summary is correct.
 pub record IsNode (a : Inside) : Type 0 where
   pub tree : IsTree (shape_of a)
-  pub height : a.height ≡ height_of (shape_of a)
-  pub max_free : a.max_free ≡ max_free_of (shape_of a)
-  pub alignments : a.alignments ≡ alignments_of (shape_of a)
+  pub height : a.summary.height ≡ height_of (shape_of a)
+  pub max_free : a.summary.max_free ≡ max_free_of (shape_of a)
+  pub alignments : a.summary.alignments ≡ alignments_of (shape_of a)

@@ -14,7 +14,6 @@ use Rattle.vm_engine.specs.declared.node.places.Place.{Place}
 use Rattle.vm_engine.specs.declared.node.split.Choice.{Choice}
 use Rattle.vm_engine.specs.declared.node.split.Rest.{Rest}
 use Rattle.vm_engine.specs.declared.node.split.Split.{Split}
-use Rattle.vm_engine.specs.declared.node.summary.FreeSummary.{FreeSummary}
 use Rattle.vm_engine.specs.declared.node.summary.Summary.{Summary}
 
 -- The greatest value of f among the blocks, or 0 if there is no block.
@@ -42,7 +41,7 @@ IsNewEdge edge = (edge.depth ≡ 0) × (edge.steady ≡ 0) × (edge.reached ≡ 
 -- levels high.
 pub record Passes (passed : Summary) (entered : ℕ) (old new : Edge) : Type 0 where
   pub kept : old.alignments ≤ new.alignments
-  pub alignments : passed.free.alignments ≤ new.alignments
+  pub alignments : passed.alignments ≤ new.alignments
   pub depth : new.depth ≡ old.depth + 1
   pub steady : ((new.steady ≡ old.depth) × (passed.height ≢ entered)) ⊎ (new.steady ≡ old.steady)
   pub reached : new.reached ≡ old.reached
@@ -72,14 +71,14 @@ abbrev pub KnowsChoice : Edge → Choice → Shape → Type 0
 KnowsChoice edge choice s = edge.reached ≡ true → IsChosenGap edge choice s
 
 -- The free summary of the rest of a gap.
-abbrev pub IsFreeOf : FreeSummary → Rest → Type 0
+abbrev pub IsFreeOf : Summary → Rest → Type 0
 IsFreeOf free rest =
     (free.max_free ≡ max (max_free_of (side rest.before)) (max_free_of (side rest.after)))
     × (free.alignments ≡ max (alignments_of (side rest.before)) (alignments_of (side rest.after)))
 
 -- The search reached the end of the edge, and noted an uneven node. The rest of its gap is one part, as long as any other
 -- block can be, and has as many alignments as noted.
-pub record IsOnlyRest (edge : Edge) (split : Split) (free : FreeSummary) : Type 0 where
+pub record IsOnlyRest (edge : Edge) (split : Split) (free : Summary) : Type 0 where
   pub reached : edge.reached ≡ true
   pub steady : edge.steady ≢ 0
   pub one : HasOnePart split.rest
@@ -89,14 +88,14 @@ pub record IsOnlyRest (edge : Edge) (split : Split) (free : FreeSummary) : Type 
 
 -- The split can be made in the tree, and its rest has the free summary `free`. No other block is longer than that, or has
 -- more alignments.
-pub record IsOnlySplit (s : Shape) (split : Split) (free : FreeSummary) : Type 0 where
+pub record IsOnlySplit (s : Shape) (split : Split) (free : Summary) : Type 0 where
   pub leaves : AreLeaves split.rest
   pub can_be_split : CanSplit (blocks s) split.choice.key split.choice.range split.rest
   pub rest : IsFreeOf free split.rest
   pub others : OthersAreLess free.max_free free.alignments split.choice.key (blocks s)
 
 -- The split also adds one leaf below a leaf, and the node at depth `steady` of its path is uneven.
-pub record IsSteadySplit (s : Shape) (split : Split) (free : FreeSummary) (steady : ℕ) : Type 0 where
+pub record IsSteadySplit (s : Shape) (split : Split) (free : Summary) (steady : ℕ) : Type 0 where
   pub only : IsOnlySplit s split free
   pub one : HasOnePart split.rest
   pub leaf : IsLeafAt split.choice.key s

@@ -2,13 +2,9 @@
 use Rattle.std.specs.Prelude.{◌≡◌, ℕ, Bool, true, false, if◌then◌else◌, refl}
 use Rattle.std.specs.Coded.{Coded, code_by, coded×, coded_bool}
 use Rattle.vm_ranges.specs.Range.{Range, range_code, address_count}
+pub use Rattle.vm_engine.specs.declared.block.Block.{Block}
 use Rattle.vm_ranges.specs.declared.state.NodeState.{NodeState}
 use Rattle.vm_ranges.specs.declared.state.NodeState.TheVariants.{Free, Allocated}
-
--- The range of a block, and whether it is held.
-pub record Block : Type 0 where
-  pub key : Range
-  pub state : NodeState
 
 -- Tests if a block in this state is free.
 abbrev pub is_free : NodeState → Bool

@@ -21,6 +21,7 @@ ghost use Rattle.vm_engine.specs.Counts.NodeCounts.{nodes_if_allocated};
 
 use super::IntervalTree;
 use crate::Steps;
+use crate::block::Block;
 use crate::node::edge::Edge;
 use crate::node::outermost::split_gap;
 use crate::node::rewrite::rewrite_at;
@@ -130,6 +131,6 @@ fn free_leaf(alloc: Global, key: RangeInclusive) -> Result<Child>
     ensures shape { IfOk result (λ leaf. side leaf ≡ single (free_block key)) }
     ensures error { IfErr result (λ error. error ≡ Error.OutOfMemory) }
 {
-    let leaf = Box::new(alloc, InnerNode::new(key, NodeState::Free))?;
+    let leaf = Box::new(alloc, InnerNode::new(Block::free(key)))?;
     Ok(Some(leaf))
 }

@@ -1,10 +1,10 @@
 //! Rotations, and the update of a node after one of its children has changed. Nothing here is
 //! recursive or allocates.
 //!
-//! `update` takes the fields of a node one by one, because a node whose cached summary is stale
+//! `update` takes the parts of a node one by one, because a node whose cached summary is stale
 //! violates the invariant and cannot be passed whole. For the same reason it does not rotate: it
 //! returns an `Updated`, and the caller calls `rebalance` when the node is whole again. `update` is
-//! always inlined, because otherwise the fields are passed by address at every level.
+//! always inlined, because otherwise the parts are passed by address at every level.
 //!
 //! Rotations change nodes in place. This is faster than taking the nodes apart and building them
 //! again.
@@ -16,10 +16,10 @@ ghost use Rattle.vm_engine.specs.Engine.NodeFields.{side};
 ghost use Rattle.vm_engine.specs.Engine.NodeUpdate.{IsUpdated, CanRebalance, Rebalances};
 
 use super::summary::{
-    Change, free_summary_of, free_summary_over, refresh_free, summary_of, summary_over,
+    Change, Summary, refresh, summary_at, summary_of, summary_of_leaf, summary_over,
 };
 use super::{Child, InnerNode, height};
-use vm_ranges::{NodeState, RangeInclusive};
+use crate::block::Block;
 
 /// The effect of a changed child on its parent.
 #[derive(Drop)]
@@ -52,49 +52,25 @@ impl Updated {
 pub(super) fn update(
     left: &mut Child,
     right: &mut Child,
-    key: &RangeInclusive,
-    node_state: NodeState,
-    cached_height: &mut u64,
-    max_free: &mut u64,
-    alignments: &mut u8,
+    block: &Block,
+    cached: &mut Summary,
 ) -> Updated
-    requires { max (height_of (side left.old)) (height_of (side right.old)) + 1 < 2 ^ 64 }
-    ensures updated { IsUpdated (record { key = key.now; state = node_state })
-        (record {
-          left = left.old;
-          right = right.old;
-          height = cached_height.old;
-          max_free = max_free.old;
-          alignments = alignments.old;
-        })
+    requires { max (height_of (side left.old)) (height_of (side right.old)) + 1 < 2 ^ 8 }
+    ensures updated { IsUpdated block.now
+        (record { left = left.old; right = right.old; summary = cached.old })
         result
-        (record {
-          left = left.new;
-          right = right.new;
-          height = cached_height.new;
-          max_free = max_free.new;
-          alignments = alignments.new;
-        }) }
+        (record { left = left.new; right = right.new; summary = cached.new }) }
     ensures left { IsTree (side left.old) }
     ensures right { IsTree (side right.old) }
 {
     let first = summary_of(left);
     let second = summary_of(right);
     if first.height > second.height + 1 || second.height > first.height + 1 {
-        let own = free_summary_of(key, node_state);
-        *cached_height = 1;
-        *max_free = own.max_free;
-        *alignments = own.alignments;
+        *cached = summary_of_leaf(block);
         return Updated::Unbalanced(left.take(), right.take());
     }
-    let free = free_summary_over(first.free, second.free, key, node_state);
-    let change = refresh_free(free, max_free, alignments);
     let height = first.height.max(second.height) + 1;
-    if height == *cached_height {
-        return Updated::Balanced(change);
-    }
-    *cached_height = height;
-    Updated::Balanced(Change::Height)
+    Updated::Balanced(refresh(summary_at(height, first, second, block), cached))
 }
 
 impl InnerNode {
@@ -104,14 +80,10 @@ impl InnerNode {
         ensures shape { self.old ≡ Fork (side result.0) (root_block self.old) (side result.1) }
         ensures middle { self.new ≡ single (root_block self.old) }
         ensures tree { IsTree self.old }
-        ensures height_fits { height_of self.old < 2 ^ 64 }
+        ensures height_fits { height_of self.old < 2 ^ 8 }
     {
-        let sides = (self.left.take(), self.right.take());
-        let own = free_summary_of(&self.key, self.node_state);
-        self.height = 1;
-        self.max_free = own.max_free;
-        self.alignments = own.alignments;
-        sides
+        self.summary = summary_of_leaf(&self.block);
+        (self.left.take(), self.right.take())
     }
 }
 
@@ -120,17 +92,14 @@ pub(super) fn fork(left: Child, mut middle: Box<InnerNode>, right: Child) -> Box
     requires leaf { IsLeaf middle.value }
     requires ordered { IsOrderedFrom 0 (blocks (side left) ++ root_block middle.value ∷ blocks (side right)) }
     requires close { DifferByAtMost 1 (height_of (side left)) (height_of (side right)) }
-    requires height_fits { max (height_of (side left)) (height_of (side right)) + 1 < 2 ^ 64 }
+    requires height_fits { max (height_of (side left)) (height_of (side right)) + 1 < 2 ^ 8 }
     ensures shape { result.value ≡ Fork (side left) (root_block middle.value) (side right) }
     ensures tree { IsTree result.value }
 {
     let open = &mut *middle;
     open.left = left;
     open.right = right;
-    let summary = summary_over(&open.left, &open.right, &open.key, open.node_state);
-    open.height = summary.height;
-    open.max_free = summary.free.max_free;
-    open.alignments = summary.free.alignments;
+    open.summary = summary_over(&open.left, &open.right, &open.block);
     middle
 }
 
@@ -147,10 +116,7 @@ fn rotate_right(mut left: Box<InnerNode>, middle: Box<InnerNode>, right: Child) 
     let top = &mut *left;
     let inner = top.right.take();
     top.right = Some(fork(inner, middle, right));
-    let summary = summary_over(&top.left, &top.right, &top.key, top.node_state);
-    top.height = summary.height;
-    top.max_free = summary.free.max_free;
-    top.alignments = summary.free.alignments;
+    top.summary = summary_over(&top.left, &top.right, &top.block);
     left
 }
 
@@ -174,17 +140,11 @@ fn rotate_left_right(
     };
     let top = &mut *inner;
     lower.right = top.left.take();
-    let summary = summary_over(&lower.left, &lower.right, &lower.key, lower.node_state);
-    lower.height = summary.height;
-    lower.max_free = summary.free.max_free;
-    lower.alignments = summary.free.alignments;
+    lower.summary = summary_over(&lower.left, &lower.right, &lower.block);
     let after = top.right.take();
     top.left = Some(left);
     top.right = Some(fork(after, middle, right));
-    let summary = summary_over(&top.left, &top.right, &top.key, top.node_state);
-    top.height = summary.height;
-    top.max_free = summary.free.max_free;
-    top.alignments = summary.free.alignments;
+    top.summary = summary_over(&top.left, &top.right, &top.block);
     inner
 }
 
@@ -201,10 +161,7 @@ fn rotate_left(left: Child, middle: Box<InnerNode>, mut right: Box<InnerNode>) -
     let top = &mut *right;
     let inner = top.left.take();
     top.left = Some(fork(left, middle, inner));
-    let summary = summary_over(&top.left, &top.right, &top.key, top.node_state);
-    top.height = summary.height;
-    top.max_free = summary.free.max_free;
-    top.alignments = summary.free.alignments;
+    top.summary = summary_over(&top.left, &top.right, &top.block);
     right
 }
 
@@ -228,17 +185,11 @@ fn rotate_right_left(
     };
     let top = &mut *inner;
     lower.left = top.right.take();
-    let summary = summary_over(&lower.left, &lower.right, &lower.key, lower.node_state);
-    lower.height = summary.height;
-    lower.max_free = summary.free.max_free;
-    lower.alignments = summary.free.alignments;
+    lower.summary = summary_over(&lower.left, &lower.right, &lower.block);
     let before = top.left.take();
     top.right = Some(right);
     top.left = Some(fork(left, middle, before));
-    let summary = summary_over(&top.left, &top.right, &top.key, top.node_state);
-    top.height = summary.height;
-    top.max_free = summary.free.max_free;
-    top.alignments = summary.free.alignments;
+    top.summary = summary_over(&top.left, &top.right, &top.block);
     inner
 }
 

@@ -48,11 +48,8 @@ fn take_first_at(at: &mut Child, count: &mut Steps) -> (Box<InnerNode>, Change)
     let updated = update(
         &mut tree.left,
         &mut tree.right,
-        &tree.key,
-        tree.node_state,
-        &mut tree.height,
-        &mut tree.max_free,
-        &mut tree.alignments,
+        &tree.block,
+        &mut tree.summary,
     );
     (lowest, updated.rebalance(at))
 }
@@ -66,7 +63,7 @@ pub(super) fn join(left: Child, mut right: Child, count: &mut Steps) -> Child
     requires trees { IsTree (side left) × IsTree (side right) }
     requires ordered { IsOrderedFrom 0 (blocks (side left) ++ blocks (side right)) }
     requires close { DifferByAtMost 1 (height_of (side left)) (height_of (side right)) }
-    requires height_fits { max (height_of (side left)) (height_of (side right)) + 1 < 2 ^ 64 }
+    requires height_fits { max (height_of (side left)) (height_of (side right)) + 1 < 2 ^ 8 }
     requires count_fits { count.old + height_of (side right) < MAX }
     requires depth { height_of (side right) ≤ MAX_HEIGHT }
     ensures joins { Joins (side left) (side right) (side result) }
@@ -119,7 +116,7 @@ pub(crate) fn delete_at(at: &mut Child, key: &RangeInclusive, count: &mut Steps)
     };
     let tree: &mut InnerNode = tree;
     tree.enter(count);
-    let change = match compare(&tree.key, key) {
+    let change = match compare(&tree.block.key, key) {
         Ordering::Equal => {
             let Some(node) = at.take() else {
                 unreachable!()
@@ -136,11 +133,8 @@ pub(crate) fn delete_at(at: &mut Child, key: &RangeInclusive, count: &mut Steps)
     let updated = update(
         &mut tree.left,
         &mut tree.right,
-        &tree.key,
-        tree.node_state,
-        &mut tree.height,
-        &mut tree.max_free,
-        &mut tree.alignments,
+        &tree.block,
+        &mut tree.summary,
     );
     updated.rebalance(at)
 }

@@ -47,11 +47,11 @@ impl Edge {
     /// enters.
     #[inline(always)]
     #[tactic(auto, using(std::proofs::lemmas::Nat::le_or_l, std::proofs::lemmas::Nat::le_or_r))]
-    fn pass(&mut self, passed: Summary, entered_height: u64)
+    fn pass(&mut self, passed: Summary, entered_height: u8)
         requires { self.old.depth < MAX_HEIGHT }
         ensures { Passes passed entered_height self.old self.new }
     {
-        self.alignments |= passed.free.alignments;
+        self.alignments |= passed.alignments;
         if passed.height != entered_height {
             self.steady = self.depth;
         }
@@ -80,27 +80,27 @@ impl InnerNode {
         ensures count { count.new ≡ count.old + nodes_of_first size alignment self.now }
         ensures tree { IsTree self.now }
     {
-        if self.node_state == NodeState::Free {
+        if self.block.state == NodeState::Free {
             if self.left.is_some() || self.right.is_some() {
                 return self.first_place(size, alignment, found, count);
             }
             self.enter(count);
             edge.reached = true;
-            if let Some(start) = lowest_fit(&self.key, self.node_state, size, alignment) {
+            if let Some(start) = lowest_fit(&self.block, size, alignment) {
                 *found = Some(Place {
-                    key: self.key,
+                    key: self.block.key,
                     start,
                 });
             }
             return;
         }
         let left = summary_of(&self.left);
-        if left.free.max_free >= size {
+        if left.max_free >= size {
             return self.first_place(size, alignment, found, count);
         }
         self.enter(count);
         if let Some(right) = with_multiple(&self.right, alignment) {
-            edge.pass(left, right.height);
+            edge.pass(left, right.summary.height);
             right.first_on_edge(size, alignment, edge, found, count);
         }
     }
@@ -125,27 +125,27 @@ impl InnerNode {
         ensures count { count.new ≡ count.old + nodes_of_last size alignment self.now }
         ensures tree { IsTree self.now }
     {
-        if self.node_state == NodeState::Free {
+        if self.block.state == NodeState::Free {
             if self.left.is_some() || self.right.is_some() {
                 return self.last_place(size, alignment, found, count);
             }
             self.enter(count);
             edge.reached = true;
-            if let Some(start) = highest_fit(&self.key, self.node_state, size, alignment) {
+            if let Some(start) = highest_fit(&self.block, size, alignment) {
                 *found = Some(Place {
-                    key: self.key,
+                    key: self.block.key,
                     start,
                 });
             }
             return;
         }
         let right = summary_of(&self.right);
-        if right.free.max_free >= size {
+        if right.max_free >= size {
             return self.last_place(size, alignment, found, count);
         }
         self.enter(count);
         if let Some(left) = with_multiple(&self.left, alignment) {
-            edge.pass(right, left.height);
+            edge.pass(right, left.summary.height);
             left.last_on_edge(size, alignment, edge, found, count);
         }
     }

@@ -26,17 +26,17 @@ impl InnerNode {
         ensures tree { IsTree self.now }
     {
         self.enter(count);
-        if ends_before(key, &self.key) {
+        if ends_before(key, &self.block.key) {
             let Some(left) = &self.left else { return None };
             return left.search_superset(key, count);
         }
-        if ends_before(&self.key, key) {
+        if ends_before(&self.block.key, key) {
             let Some(right) = &self.right else {
                 return None
             };
             return right.search_superset(key, count);
         }
-        if self.key.contains(key) {
+        if self.block.key.contains(key) {
             Some(self)
         } else {
             None

@@ -33,7 +33,7 @@ pub(super) fn link_at(at: &mut Child, leaf: Box<InnerNode>, count: &mut Steps) -
     };
     let tree: &mut InnerNode = tree;
     tree.enter(count);
-    let change = if starts_before(&key, &tree.key) {
+    let change = if starts_before(&key, &tree.block.key) {
         link_at(&mut tree.left, leaf, count)
     } else {
         link_at(&mut tree.right, leaf, count)
@@ -44,11 +44,8 @@ pub(super) fn link_at(at: &mut Child, leaf: Box<InnerNode>, count: &mut Steps) -
     let updated = update(
         &mut tree.left,
         &mut tree.right,
-        &tree.key,
-        tree.node_state,
-        &mut tree.height,
-        &mut tree.max_free,
-        &mut tree.alignments,
+        &tree.block,
+        &mut tree.summary,
     );
     updated.rebalance(at)
 }

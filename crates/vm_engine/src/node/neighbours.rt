@@ -39,8 +39,8 @@ fn free_key(node: Option<&InnerNode>) -> Option<RangeInclusive>
     ensures { result ≡ free_key_of node.entry }
 {
     let node = node?;
-    match node.node_state {
-        NodeState::Free => Some(node.key),
+    match node.block.state {
+        NodeState::Free => Some(node.block.key),
         NodeState::Allocated => None,
     }
 }
@@ -130,7 +130,7 @@ impl InnerNode {
         ensures count { count.new ≡ count.old + nodes_around key.now self.now }
     {
         self.enter(count);
-        match compare(&self.key, key) {
+        match compare(&self.block.key, key) {
             Ordering::Greater => {
                 let Some(left) = &self.left else { return false };
                 beside.after = Some(self);
@@ -161,7 +161,7 @@ impl InnerNode {
             ≡ neighbours (root_block self.now).key (free_key_of beside.old.before) (blocks self.now) (free_key_of beside.old.after) }
         ensures count { count.new + 1 ≡ count.old + nodes_around (root_block self.now).key self.now }
     {
-        match self.node_state {
+        match self.block.state {
             NodeState::Free => false,
             NodeState::Allocated => {
                 beside.before = last_below(&self.left, beside.before, count);

@@ -14,9 +14,10 @@ ghost use Rattle.vm_engine.specs.Counts.NodeCounts.{nodes_to_split};
 
 use super::edge::Edge;
 use super::split::{Split, split_at};
-use super::summary::{FreeSummary, free_summary_over, summary_of};
+use super::summary::{Summary, summary_at, summary_of};
 use super::{Child, InnerNode};
 use crate::Steps;
+use crate::block::Block;
 use crate::ordering::compare;
 use std::cmp::Ordering;
 use vm_ranges::NodeState;
@@ -46,7 +47,7 @@ pub(crate) fn split_gap(at: &mut Child, split: &mut Split, edge: &Edge, count: &
 /// Returns the free summary of the rest of a gap, if it is one part, and the search knows that no other
 /// block is longer or has more alignments.
 #[tactic(auto, using(crate::proofs::Splitting::SplitLeaves::one_part))]
-fn only_rest(split: &Split, edge: &Edge) -> Option<FreeSummary>
+fn only_rest(split: &Split, edge: &Edge) -> Option<Summary>
     requires { AreLeaves split.now.rest }
     ensures { IfSome result (IsOnlyRest edge.now split.now) }
 {
@@ -55,8 +56,8 @@ fn only_rest(split: &Split, edge: &Edge) -> Option<FreeSummary>
     }
     let before = summary_of(&split.rest.before);
     let after = summary_of(&split.rest.after);
-    let range = &split.choice.range;
-    let free = free_summary_over(before.free, after.free, range, NodeState::Allocated);
+    let range = split.choice.range;
+    let free = summary_at(1, before, after, &Block::held(range));
     if before.height != after.height
         && range.end() - range.start() <= free.max_free
         && edge.alignments <= free.alignments
@@ -70,13 +71,7 @@ fn only_rest(split: &Split, edge: &Edge) -> Option<FreeSummary>
 /// Splits a gap like `split_at`. The first `steady` nodes of the path keep their heights, and just the
 /// free summary of the rest.
 #[tactic(auto, using(crate::proofs::Splitting::OutermostGaps::steady_paths, crate::proofs::Counts::SplitCounts::nodes_to_split_cases))]
-fn split_below(
-    at: &mut Child,
-    split: &mut Split,
-    free: &FreeSummary,
-    steady: u64,
-    count: &mut Steps,
-)
+fn split_below(at: &mut Child, split: &mut Split, free: &Summary, steady: u64, count: &mut Steps)
     requires steady { IsSteadySplit (side at.old) split.old free.now steady }
     requires height { height_of (side at.old) < MAX_HEIGHT }
     requires count_fits { count.old + 2 * height_of (side at.old) < MAX }
@@ -94,9 +89,9 @@ fn split_below(
     let Some(tree) = at else { unreachable!() };
     let tree: &mut InnerNode = tree;
     tree.enter(count);
-    tree.max_free = free.max_free;
-    tree.alignments = free.alignments;
-    match compare(&tree.key, &split.choice.key) {
+    tree.summary.max_free = free.max_free;
+    tree.summary.alignments = free.alignments;
+    match compare(&tree.block.key, &split.choice.key) {
         Ordering::Equal => unreachable!(),
         Ordering::Greater => split_below(&mut tree.left, split, free, steady - 1, count),
         Ordering::Less => split_below(&mut tree.right, split, free, steady - 1, count),

@@ -18,6 +18,7 @@ ghost use Rattle.vm_engine.specs.Engine.NodeFields.{side};
 use super::edge::Edge;
 use super::{Child, InnerNode};
 use crate::Steps;
+use crate::block::Block;
 use vm_ranges::{NodeState, RangeInclusive, align_down, align_up};
 
 /// An address in a free block at which a request can start.
@@ -34,19 +35,14 @@ pub(crate) struct Place {
 /// It returns `None` if there is no such multiple, or if the block is allocated.
 #[inline(always)]
 #[tactic(auto, using(crate::proofs::Choosing::Fits::no_fit_held))]
-pub(super) fn lowest_fit(
-    key: &RangeInclusive,
-    state: NodeState,
-    size: u64,
-    alignment: u64,
-) -> Option<u64>
+pub(super) fn lowest_fit(block: &Block, size: u64, alignment: u64) -> Option<u64>
     requires sized { 0 < size }
     requires aligned { IsAlignment alignment }
-    ensures { FindsLowestFit size alignment (record { key = key.now; state = state }) result }
+    ensures { FindsLowestFit size alignment block.now result }
 {
-    match state {
+    match block.state {
         NodeState::Allocated => None,
-        NodeState::Free => lowest_in_free(key, size, alignment),
+        NodeState::Free => lowest_in_free(&block.key, size, alignment),
     }
 }
 
@@ -76,19 +72,14 @@ fn lowest_in_free(key: &RangeInclusive, size: u64, alignment: u64) -> Option<u64
 /// It returns `None` if there is no such multiple, or if the block is allocated.
 #[inline(always)]
 #[tactic(auto, using(crate::proofs::Choosing::Fits::no_fit_held))]
-pub(super) fn highest_fit(
-    key: &RangeInclusive,
-    state: NodeState,
-    size: u64,
-    alignment: u64,
-) -> Option<u64>
+pub(super) fn highest_fit(block: &Block, size: u64, alignment: u64) -> Option<u64>
     requires sized { 0 < size }
     requires aligned { IsAlignment alignment }
-    ensures { FindsHighestFit size alignment (record { key = key.now; state = state }) result }
+    ensures { FindsHighestFit size alignment block.now result }
 {
-    match state {
+    match block.state {
         NodeState::Allocated => None,
-        NodeState::Free => highest_in_free(key, size, alignment),
+        NodeState::Free => highest_in_free(&block.key, size, alignment),
     }
 }
 
@@ -127,7 +118,9 @@ pub(super) fn may_fit(tree: &Child, size: u64, alignment: u64) -> Option<&InnerN
 {
     let Some(node) = tree else { return None };
     let node: &InnerNode = node;
-    if node.max_free < size || u32::from(node.alignments) <= alignment.trailing_zeros() {
+    if node.summary.max_free < size
+        || u32::from(node.summary.alignments) <= alignment.trailing_zeros()
+    {
         None
     } else {
         Some(node)
@@ -146,7 +139,7 @@ pub(super) fn with_multiple(tree: &Child, alignment: u64) -> Option<&InnerNode>
 {
     let Some(node) = tree else { return None };
     let node: &InnerNode = node;
-    if u32::from(node.alignments) <= alignment.trailing_zeros() {
+    if u32::from(node.summary.alignments) <= alignment.trailing_zeros() {
         None
     } else {
         Some(node)
@@ -229,9 +222,9 @@ impl InnerNode {
                 return;
             }
         }
-        if let Some(start) = lowest_fit(&self.key, self.node_state, size, alignment) {
+        if let Some(start) = lowest_fit(&self.block, size, alignment) {
             *found = Some(Place {
-                key: self.key,
+                key: self.block.key,
                 start,
             });
             return;
@@ -266,9 +259,9 @@ impl InnerNode {
                 return;
             }
         }
-        if let Some(start) = highest_fit(&self.key, self.node_state, size, alignment) {
+        if let Some(start) = highest_fit(&self.block, size, alignment) {
             *found = Some(Place {
-                key: self.key,
+                key: self.block.key,
                 start,
             });
             return;

@@ -7,9 +7,10 @@ ghost use Rattle.vm_engine.specs.Engine.Changes.{KeepsShape};
 ghost use Rattle.vm_engine.specs.Counts.NodeCounts.{nodes_to};
 ghost use Rattle.vm_engine.specs.Engine.NodeFields.{side};
 
-use super::summary::{Change, free_summary_over, refresh_free, summary_of};
+use super::summary::{Change, refresh_free};
 use super::{Child, InnerNode};
 use crate::Steps;
+use crate::block::Block;
 use crate::ordering::compare;
 use std::cmp::Ordering;
 use vm_ranges::{NodeState, RangeInclusive};
@@ -23,12 +24,11 @@ impl InnerNode {
         ensures blocks { blocks self.new ≡ with_block (root_block self.old).key key node_state (blocks self.old) }
         ensures keeps { KeepsShape self.old self.new result }
     {
-        self.key = key;
-        self.node_state = node_state;
-        let left = summary_of(&self.left).free;
-        let right = summary_of(&self.right).free;
-        let free = free_summary_over(left, right, &self.key, self.node_state);
-        refresh_free(free, &mut self.max_free, &mut self.alignments)
+        self.block = Block {
+            key,
+            state: node_state,
+        };
+        refresh_free(&self.left, &self.right, &self.block, &mut self.summary)
     }
 }
 
@@ -55,7 +55,7 @@ pub(crate) fn rewrite_at(
     let Some(tree) = at else { unreachable!() };
     let tree: &mut InnerNode = tree;
     tree.enter(count);
-    let change = match compare(&tree.key, old) {
+    let change = match compare(&tree.block.key, old) {
         Ordering::Equal => return tree.rewrite_here(key, node_state),
         Ordering::Greater => rewrite_at(&mut tree.left, old, key, node_state, count),
         Ordering::Less => rewrite_at(&mut tree.right, old, key, node_state, count),
@@ -63,8 +63,5 @@ pub(crate) fn rewrite_at(
     if let Change::Nothing = change {
         return change;
     }
-    let left = summary_of(&tree.left).free;
-    let right = summary_of(&tree.right).free;
-    let free = free_summary_over(left, right, &tree.key, tree.node_state);
-    refresh_free(free, &mut tree.max_free, &mut tree.alignments)
+    refresh_free(&tree.left, &tree.right, &tree.block, &mut tree.summary)
 }

@@ -5,27 +5,18 @@
 //! node's own block. A search uses it to skip subtrees into which the request cannot fit.
 //!
 //! An alignment is one of the 64 powers of two. A multiple of a power of two is also a multiple of
-//! each smaller one, so the number of alignments determines which alignments they are. It is stored
-//! as one byte next to the state, so a node has 72 bytes.
+//! each smaller one, so the number of alignments determines which alignments they are. Height and
+//! alignments are one byte each, so a node has 72 bytes.
 ghost use Rattle.std.specs.Prelude.{◌≡◌, ◌+◌, ◌<◌, ◌^◌, max};
 ghost use Rattle.vm_engine.specs.Tree.Block.{free_length};
 ghost use Rattle.vm_engine.specs.Tree.Multiples.{alignment_count, free_alignments};
-ghost use Rattle.vm_engine.specs.Tree.Shape.{height_of, max_free_of, alignments_of, IsTree};
-ghost use Rattle.vm_engine.specs.Engine.Changes.{KeepsFreeSummary};
+ghost use Rattle.vm_engine.specs.Tree.Shape.{height_of, max_free_of, alignments_of, single, Fork, IsTree};
 ghost use Rattle.vm_engine.specs.Engine.NodeFields.{side};
-ghost use Rattle.vm_engine.specs.Engine.NodeUpdate.{IsSummaryOf};
+ghost use Rattle.vm_engine.specs.Engine.NodeUpdate.{IsSummaryOf, IsFreeOver, KeepsFree, Refreshes};
 
 use super::{Child, InnerNode};
+use crate::block::Block;
 use vm_ranges::{NodeState, RangeInclusive};
-
-/// The free part of a summary, of a subtree or of one block.
-#[derive(Clone, Copy, Debug)]
-pub(super) struct FreeSummary {
-    /// The length of the longest free block in addresses, or 0 if there is none.
-    pub(super) max_free: u64,
-    /// The number of the 64 alignments that have a multiple in a free block.
-    pub(super) alignments: u8,
-}
 
 /// The parts of a node's summary that a change below it has changed.
 #[derive(Clone, Copy, Debug)]
@@ -41,26 +32,28 @@ pub(crate) enum Change {
 /// The summary of a subtree.
 #[derive(Clone, Copy, Debug)]
 pub(super) struct Summary {
+    /// The length of the longest free block in addresses, or 0 if there is none.
+    pub(super) max_free: u64,
     /// The height, or 0 if the subtree is empty.
-    pub(super) height: u64,
-    /// The free part.
-    pub(super) free: FreeSummary,
+    pub(super) height: u8,
+    /// The number of the 64 alignments that have a multiple in a free block.
+    pub(super) alignments: u8,
 }
 
-/// Returns the free summary of one block: that of its range if it is free, and zeros if it is
-/// allocated.
+/// Returns the summary of a node without children.
 #[inline(always)]
-pub(super) fn free_summary_of(key: &RangeInclusive, node_state: NodeState) -> FreeSummary
-    ensures max_free { result.max_free ≡ free_length (record { key = key.now; state = node_state }) }
-    ensures alignments { result.alignments ≡ free_alignments (record { key = key.now; state = node_state }) }
+pub(super) fn summary_of_leaf(block: &Block) -> Summary
+    ensures { IsSummaryOf (single block.now) result }
 {
-    match node_state {
-        NodeState::Free => FreeSummary {
-            max_free: key.len(),
-            alignments: alignment_count(key),
+    match block.state {
+        NodeState::Free => Summary {
+            max_free: block.key.len(),
+            height: 1,
+            alignments: alignment_count(&block.key),
         },
-        NodeState::Allocated => FreeSummary {
+        NodeState::Allocated => Summary {
             max_free: 0,
+            height: 1,
             alignments: 0,
         },
     }
@@ -93,117 +86,101 @@ pub(super) fn summary_of(child: &Child) -> Summary
 {
     match child {
         None => Summary {
+            max_free: 0,
             height: 0,
-            free: FreeSummary {
-                max_free: 0,
-                alignments: 0,
-            },
+            alignments: 0,
         },
-        Some(node) => {
-            let node: &InnerNode = node;
-            Summary {
-                height: node.height,
-                free: FreeSummary {
-                    max_free: node.max_free,
-                    alignments: node.alignments,
-                },
-            }
-        }
+        Some(node) => node.summary,
     }
 }
 
-/// Returns the free summary of a node from those of its children and its own block.
+/// Returns the summary of a node of this height, from those of its children and its own block.
 ///
 /// It looks at the key only if the block is free.
 #[inline(always)]
-pub(super) fn free_summary_over(
-    left: FreeSummary,
-    right: FreeSummary,
-    key: &RangeInclusive,
-    node_state: NodeState,
-) -> FreeSummary
-    ensures max_free { result.max_free ≡ max (max left.max_free right.max_free)
-        (free_length (record { key = key.now; state = node_state })) }
-    ensures alignments { result.alignments ≡ max (max left.alignments right.alignments)
-        (free_alignments (record { key = key.now; state = node_state })) }
+pub(super) fn summary_at(height: u8, left: Summary, right: Summary, block: &Block) -> Summary
+    ensures height { result.height ≡ height }
+    ensures free { IsFreeOver left right block.now result }
 {
     let max_free = left.max_free.max(right.max_free);
     let alignments = left.alignments.max(right.alignments);
-    match node_state {
-        NodeState::Allocated => FreeSummary {
+    match block.state {
+        NodeState::Allocated => Summary {
             max_free,
+            height,
             alignments,
         },
-        NodeState::Free => FreeSummary {
-            max_free: max_free.max(key.len()),
-            alignments: alignments.max(alignment_count(key)),
+        NodeState::Free => Summary {
+            max_free: max_free.max(block.key.len()),
+            height,
+            alignments: alignments.max(alignment_count(&block.key)),
         },
     }
 }
 
 /// Returns the summary of a node with these children and this block.
 #[inline(always)]
-pub(super) fn summary_over(
-    left: &Child,
-    right: &Child,
-    key: &RangeInclusive,
-    node_state: NodeState,
-) -> Summary
-    requires { max (height_of (side left.now)) (height_of (side right.now)) + 1 < 2 ^ 64 }
-    ensures height { result.height ≡ max (height_of (side left.now)) (height_of (side right.now)) + 1 }
-    ensures max_free { result.free.max_free
-        ≡ max (max (max_free_of (side left.now)) (max_free_of (side right.now)))
-        (free_length (record { key = key.now; state = node_state })) }
-    ensures alignments { result.free.alignments
-        ≡ max (max (alignments_of (side left.now)) (alignments_of (side right.now)))
-        (free_alignments (record { key = key.now; state = node_state })) }
+pub(super) fn summary_over(left: &Child, right: &Child, block: &Block) -> Summary
+    requires { max (height_of (side left.now)) (height_of (side right.now)) + 1 < 2 ^ 8 }
+    ensures value { IsSummaryOf (Fork (side left.now) block.now (side right.now)) result }
     ensures left { IsTree (side left.now) }
     ensures right { IsTree (side right.now) }
 {
     let first = summary_of(left);
     let second = summary_of(right);
-    Summary {
-        height: first.height.max(second.height) + 1,
-        free: free_summary_over(first.free, second.free, key, node_state),
-    }
+    summary_at(first.height.max(second.height) + 1, first, second, block)
 }
 
-/// Updates the cached free summary of a node. Returns the change.
+/// Updates the cached summary of a node. Returns the change.
+#[inline(always)]
+pub(super) fn refresh(new: Summary, cached: &mut Summary) -> Change
+    ensures { Refreshes new result cached.old cached.new }
+{
+    let change = if new.height != cached.height {
+        Change::Height
+    } else if new.max_free != cached.max_free || new.alignments != cached.alignments {
+        Change::FreeOnly
+    } else {
+        return Change::Nothing;
+    };
+    *cached = new;
+    change
+}
+
+/// Updates the cached summary of a node whose children keep their heights. Returns the change.
 #[inline(always)]
 pub(super) fn refresh_free(
-    free: FreeSummary,
-    cached_max_free: &mut u64,
-    cached_alignments: &mut u8,
+    left: &Child,
+    right: &Child,
+    block: &Block,
+    cached: &mut Summary,
 ) -> Change
-    ensures max_free { cached_max_free.new ≡ free.max_free }
-    ensures alignments { cached_alignments.new ≡ free.alignments }
-    ensures same_max_free { KeepsFreeSummary result cached_max_free.old cached_max_free.new }
-    ensures same_alignments { KeepsFreeSummary result cached_alignments.old cached_alignments.new }
+    ensures height { cached.new.height ≡ cached.old.height }
+    ensures max_free { cached.new.max_free
+        ≡ max (max (max_free_of (side left.now)) (max_free_of (side right.now))) (free_length block.now) }
+    ensures alignments { cached.new.alignments
+        ≡ max (max (alignments_of (side left.now)) (alignments_of (side right.now))) (free_alignments block.now) }
+    ensures keeps { KeepsFree result cached.old cached.new }
+    ensures left { IsTree (side left.now) }
+    ensures right { IsTree (side right.now) }
 {
-    if free.max_free == *cached_max_free {
-        if free.alignments == *cached_alignments {
-            return Change::Nothing;
-        }
-        *cached_alignments = free.alignments;
-        return Change::FreeOnly;
-    }
-    *cached_max_free = free.max_free;
-    *cached_alignments = free.alignments;
-    Change::FreeOnly
+    let new = summary_at(cached.height, summary_of(left), summary_of(right), block);
+    refresh(new, cached)
 }
 
-/// Raises the cached free summary of a node to include a block that becomes free below it.
+/// Raises the free part of a cached summary to include a block that becomes free below the node.
 ///
 /// It compares before it writes, because most nodes on a path do not change.
 #[inline(always)]
-pub(super) fn raise_free(max_free: &mut u64, alignments: &mut u8, freed: &FreeSummary)
-    ensures max_free { max_free.new ≡ max max_free.old freed.now.max_free }
-    ensures alignments { alignments.new ≡ max alignments.old freed.now.alignments }
+pub(super) fn raise_free(cached: &mut Summary, freed: &Summary)
+    ensures height { cached.new.height ≡ cached.old.height }
+    ensures max_free { cached.new.max_free ≡ max cached.old.max_free freed.now.max_free }
+    ensures alignments { cached.new.alignments ≡ max cached.old.alignments freed.now.alignments }
 {
-    if *max_free < freed.max_free {
-        *max_free = freed.max_free;
+    if cached.max_free < freed.max_free {
+        cached.max_free = freed.max_free;
     }
-    if *alignments < freed.alignments {
-        *alignments = freed.alignments;
+    if cached.alignments < freed.alignments {
+        cached.alignments = freed.alignments;
     }
 }

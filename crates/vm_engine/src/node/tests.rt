@@ -9,7 +9,7 @@ use crate::Steps;
 use std::alloc::Global;
 use std::fmt::Debug;
 use std::process::Abort;
-use vm_ranges::Error;
+use vm_ranges::{Error, NodeState, RangeInclusive};
 
 type Inserted = std::result::Result<Box<InnerNode>, (Error, Box<InnerNode>)>;
 
@@ -37,9 +37,12 @@ fn copied(rt: &impl Abort, alloc: Global, tree: &InnerNode) -> Option<Box<InnerN
 /// Returns a node without children. It tries a second time if the first allocation fails.
 fn leaf(rt: &impl Abort, alloc: Global, key: Key, state: NodeState) -> Box<InnerNode> {
     let key = range(rt, key);
-    match Box::new(alloc, InnerNode::new(key, state)) {
+    match Box::new(alloc, InnerNode::new(Block { key, state })) {
         Ok(node) => node,
-        Err(_) => Box::new(alloc, InnerNode::new(key, state)).expect(rt, "memory is refused once"),
+        Err(_) => Box::new(alloc, InnerNode::new(Block { key, state })).expect(
+            rt,
+            "memory is refused once",
+        ),
     }
 }
 
@@ -49,7 +52,7 @@ fn insert(rt: &impl Abort, alloc: Global, tree: Box<InnerNode>, key: RangeInclus
     assert!(rt; height <= 48);
     let mut count = Steps::start();
     let mut at = Some(tree);
-    let result = search_tree::insert(&mut at, alloc, key, NodeState::Free, &mut count);
+    let result = search_tree::insert(&mut at, alloc, Block::free(key), &mut count);
     assert!(rt; count.entered() <= height);
     let tree = at.expect(rt, "a tree is left");
     match result {
@@ -156,7 +159,7 @@ fn superset(rt: &impl Abort, tree: &InnerNode, key: Key) -> Option<Key> {
 /// most one.
 fn is_balanced(node: &InnerNode) -> bool {
     let (left, right) = (height(&node.left), height(&node.right));
-    node.height == left.max(right) + 1
+    node.summary.height == left.max(right) + 1
         && left <= right + 1
         && right <= left + 1
         && node.left.as_ref().is_none_or(|child| is_balanced(child))
@@ -172,7 +175,7 @@ fn write_starts(child: &Option<Box<InnerNode>>, starts: &mut [u64; 8], place: us
     if place >= starts.len() {
         return place;
     }
-    starts[place] = node.key.start();
+    starts[place] = node.block.key.start();
     write_starts(&node.right, starts, place + 1)
 }
 

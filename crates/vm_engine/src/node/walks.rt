@@ -87,10 +87,7 @@ impl<'a> Walk<'a> {
     {
         let side = *self.path.get(self.from)?;
         let Some(node) = side else { return None };
-        Some(Block {
-            key: node.key,
-            state: node.node_state,
-        })
+        Some(node.block)
     }
 }
 
@@ -112,9 +109,6 @@ impl<'a> Iterator for Walk<'a> {
         let Some(node) = side else { return None };
         let node: &InnerNode = node;
         self.from = descend(&mut self.path, from + 1, &node.right);
-        Some(Block {
-            key: node.key,
-            state: node.node_state,
-        })
+        Some(node.block)
     }
 }

@@ -12,9 +12,10 @@ ghost use Rattle.vm_engine.specs.Counts.NodeCounts.{nodes_to};
 ghost use Rattle.vm_engine.specs.Engine.Widening.{CanWiden, Widens};
 ghost use Rattle.vm_engine.specs.Engine.NodeFields.{side};
 
-use super::summary::{FreeSummary, free_summary_of, raise_free};
+use super::summary::{Summary, raise_free, summary_of_leaf};
 use super::{Child, InnerNode};
 use crate::Steps;
+use crate::block::Block;
 use crate::ordering::compare;
 use std::cmp::Ordering;
 use vm_ranges::{NodeState, RangeInclusive};
@@ -27,7 +28,7 @@ fn widen_at(
     at: &mut Child,
     held: &RangeInclusive,
     range: &RangeInclusive,
-    free: &FreeSummary,
+    free: &Summary,
     count: &mut Steps,
 )
     requires can { CanWiden (blocks (side at.old)) held.now range.now }
@@ -41,11 +42,10 @@ fn widen_at(
     let Some(tree) = at else { unreachable!() };
     let tree: &mut InnerNode = tree;
     tree.enter(count);
-    raise_free(&mut tree.max_free, &mut tree.alignments, free);
-    match compare(&tree.key, held) {
+    raise_free(&mut tree.summary, free);
+    match compare(&tree.block.key, held) {
         Ordering::Equal => {
-            tree.key = *range;
-            tree.node_state = NodeState::Free;
+            tree.block = Block::free(*range);
         }
         Ordering::Greater => widen_at(&mut tree.left, held, range, free, count),
         Ordering::Less => widen_at(&mut tree.right, held, range, free, count),
@@ -68,6 +68,6 @@ pub(crate) fn widen(
     ensures widened { Widens (side root.old) held.now range.now (side root.new) }
     ensures count { count.new ≡ count.old + nodes_to held.now (side root.old) }
 {
-    let free = free_summary_of(range, NodeState::Free);
+    let free = summary_of_leaf(&Block::free(*range));
     widen_at(root, held, range, &free, count);
 }

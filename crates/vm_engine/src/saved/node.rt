@@ -6,6 +6,7 @@ ghost use Rattle.vm_ranges.specs.Saving.{Saves};
 ghost use Rattle.vm_engine.specs.Values.TreeValues.{EncodesNode};
 ghost use Rattle.vm_engine.specs.Checks.NodeChecks.{NodeParts, decoded_node};
 
+use crate::block::Block;
 use serde_json::{Value, json};
 use std::alloc::{AllocError, Global};
 use vm_ranges::{NodeState, RangeInclusive, Result, has_fields, number_in, range_in, state_in};
@@ -66,18 +67,17 @@ pub(crate) fn decode_node(value: &Value) -> Option<SavedNode<'_>>
 #[tactic(auto, using(crate::proofs::Reading::Writing::parts))]
 pub(crate) fn encode_node(
     mut left: Value,
-    key: &RangeInclusive,
-    node_state: NodeState,
+    block: &Block,
     mut right: Value,
     height: u64,
     alloc: Global,
 ) -> Result<Value>
     ensures { Saves
-        (λ d. EncodesNode d (record { key = key.now; state = node_state }) (λ v. v ≡ view left) (λ v. v ≡ view right) height)
+        (λ d. EncodesNode d block.now (λ v. v ≡ view left) (λ v. v ≡ view right) height)
         result }
 {
-    let mut key = key.to_value(alloc)?;
-    let mut state = node_state.to_value(alloc)?;
+    let mut key = block.key.to_value(alloc)?;
+    let mut state = block.state.to_value(alloc)?;
     Ok(node_object(alloc, &mut key, &mut state, &mut left, &mut right, height)?)
 }
 

@@ -11,6 +11,7 @@ ghost use Rattle.vm_engine.specs.Values.TreeValues.{EncodesShape, EncodesSpaceTr
 ghost use Rattle.vm_engine.specs.Checks.ValueParts.{HasShapeWithin};
 
 use crate::IntervalTree;
+use crate::block::Block;
 use crate::node::walks::encoding::encode;
 use crate::node::{Child, InnerNode, MAX_HEIGHT};
 use crate::saved::check::check_nodes;
@@ -83,6 +84,10 @@ fn build(value: &Value, depth: u64, alloc: Global) -> std::result::Result<Child,
     };
     let left = build(node.left, depth - 1, alloc)?;
     let right = build(node.right, depth - 1, alloc)?;
-    let node = InnerNode::with_children(alloc, left, node.key, node.state, right)?;
+    let block = Block {
+        key: node.key,
+        state: node.state,
+    };
+    let node = InnerNode::with_children(alloc, left, block, right)?;
     Ok(Some(node))
 }

@@ -9,6 +9,7 @@ ghost use Rattle.vm_engine.specs.Engine.NodeAnswer.{Inserts, FindsOverlap, Refus
 ghost use Rattle.vm_engine.specs.Engine.NodeFields.{side};
 
 use crate::Steps;
+use crate::block::Block;
 use crate::node::link::link_at;
 use crate::node::rewrite::rewrite_at;
 use crate::node::{Child, InnerNode};
@@ -30,7 +31,11 @@ pub(super) fn search<'a>(
     ensures count { count.new ≤ count.old + height_of tree.now }
 {
     let node = tree.search_superset(key, count)?;
-    if node.key == *key { Some(node) } else { None }
+    if node.block.key == *key {
+        Some(node)
+    } else {
+        None
+    }
 }
 
 /// Returns the first key on the path that overlaps `new`, or `None` if there is no such key.
@@ -41,8 +46,8 @@ fn overlapping(tree: &Child, new: &RangeInclusive) -> Option<RangeInclusive>
 {
     let Some(node) = tree else { return None };
     let node: &InnerNode = node;
-    if !ends_before(new, &node.key) && !ends_before(&node.key, new) {
-        return Some(node.key);
+    if !ends_before(new, &node.block.key) && !ends_before(&node.block.key, new) {
+        return Some(node.block.key);
     }
     match overlapping(&node.left, new) {
         None => overlapping(&node.right, new),
@@ -50,29 +55,23 @@ fn overlapping(tree: &Child, new: &RangeInclusive) -> Option<RangeInclusive>
     }
 }
 
-/// Inserts a key.
+/// Inserts a block.
 ///
 /// An error changes nothing:
 /// - `Overlap` if the key overlaps one of the tree. It names the first such key on the path.
 /// - `OutOfMemory` if the allocation of the node fails.
 #[tactic(auto, unfolding(crate::specs::Engine::NodeAnswer::FindsOverlap, crate::specs::Engine::NodeAnswer::RefusesKey))]
-pub(super) fn insert(
-    at: &mut Child,
-    alloc: Global,
-    key: RangeInclusive,
-    node_state: NodeState,
-    count: &mut Steps,
-) -> Result<()>
+pub(super) fn insert(at: &mut Child, alloc: Global, block: Block, count: &mut Steps) -> Result<()>
     requires height { height_of (side at.old) < MAX_HEIGHT }
     requires count_fits { count.old + height_of (side at.old) < MAX }
-    ensures inserted { OnOk result (Inserts (side at.old) key node_state (side at.new)) }
-    ensures refused { IfErr result (RefusesKey key (blocks (side at.old))) }
+    ensures inserted { OnOk result (Inserts (side at.old) block (side at.new)) }
+    ensures refused { IfErr result (RefusesKey block.key (blocks (side at.old))) }
     ensures unchanged { OnErr result (side at.new ≡ side at.old) }
 {
-    if let Some(overlap) = overlapping(at, &key) {
-        return Err(Error::Overlap(key, overlap));
+    if let Some(overlap) = overlapping(at, &block.key) {
+        return Err(Error::Overlap(block.key, overlap));
     }
-    let leaf = Box::new(alloc, InnerNode::new(key, node_state))?;
+    let leaf = Box::new(alloc, InnerNode::new(block))?;
     link_at(at, leaf, count);
     Ok(())
 }
@@ -98,7 +97,7 @@ pub(super) fn mark_as_allocated(
     let Some(node) = search(tree, key, count) else {
         return Err(Error::ResourceNotAvailable);
     };
-    match node.node_state {
+    match node.block.state {
         NodeState::Free => {
             rewrite_at(at, key, *key, NodeState::Allocated, count);
             Ok(())

@@ -22,13 +22,10 @@ pub(crate) fn copy(tree: &InnerNode, alloc: Global) -> Result<Box<InnerNode>>
         Some(right) => Some(copy(right, alloc)?),
     };
     let node = InnerNode {
-        key: tree.key,
-        node_state: tree.node_state,
-        alignments: tree.alignments,
+        block: tree.block,
         left,
         right,
-        height: tree.height,
-        max_free: tree.max_free,
+        summary: tree.summary,
     };
     Ok(Box::new(alloc, node)?)
 }

@@ -27,5 +27,5 @@ pub(crate) fn encode(tree: &Child, alloc: Global) -> Result<Value>
     let node: &InnerNode = node;
     let left = encode(&node.left, alloc)?;
     let right = encode(&node.right, alloc)?;
-    encode_node(left, &node.key, node.node_state, right, node.height, alloc)
+    encode_node(left, &node.block, right, node.height(), alloc)
 }

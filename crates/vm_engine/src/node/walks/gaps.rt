@@ -18,8 +18,8 @@ pub(crate) fn count_clear(tree: &Child) -> u64
     let Some(node) = tree else { return 0 };
     let node: &InnerNode = node;
     let beside = count_clear(&node.left) + count_clear(&node.right);
-    match node.node_state {
-        NodeState::Free => beside + node.key.len(),
+    match node.block.state {
+        NodeState::Free => beside + node.block.key.len(),
         NodeState::Allocated => beside,
     }
 }

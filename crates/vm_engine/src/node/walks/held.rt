@@ -22,10 +22,10 @@ pub(crate) fn has_held(tree: &Child, key: &RangeInclusive) -> bool
 {
     let Some(node) = tree else { return false };
     let node: &InnerNode = node;
-    match compare(&node.key, key) {
+    match compare(&node.block.key, key) {
         Ordering::Greater => has_held(&node.left, key),
         Ordering::Less => has_held(&node.right, key),
-        Ordering::Equal => node.node_state == NodeState::Allocated,
+        Ordering::Equal => node.block.state == NodeState::Allocated,
     }
 }
 
@@ -38,15 +38,15 @@ pub(crate) fn held_at(tree: &Child, address: u64) -> Option<RangeInclusive>
 {
     let Some(node) = tree else { return None };
     let node: &InnerNode = node;
-    if address < node.key.start() {
+    if address < node.block.key.start() {
         return held_at(&node.left, address);
     }
-    if node.key.end() < address {
+    if node.block.key.end() < address {
         return held_at(&node.right, address);
     }
-    match node.node_state {
+    match node.block.state {
         NodeState::Free => None,
-        NodeState::Allocated => Some(node.key),
+        NodeState::Allocated => Some(node.block.key),
     }
 }
 
@@ -59,7 +59,7 @@ pub(crate) fn count_held(tree: &Child) -> u64
     let Some(node) = tree else { return 0 };
     let node: &InnerNode = node;
     let beside = count_held(&node.left) + count_held(&node.right);
-    match node.node_state {
+    match node.block.state {
         NodeState::Free => beside,
         NodeState::Allocated => beside + 1,
     }

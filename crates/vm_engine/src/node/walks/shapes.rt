@@ -10,10 +10,7 @@ pub(crate) fn same(a: &Child, b: &Child) -> bool
 {
     match (a, b) {
         (Some(a), Some(b)) => {
-            a.key == b.key
-                && a.node_state == b.node_state
-                && same(&a.left, &b.left)
-                && same(&a.right, &b.right)
+            a.block == b.block && same(&a.left, &b.left) && same(&a.right, &b.right)
         }
         // Only an absent child has height 0.
         (Some(node), None) | (None, Some(node)) => node.height() == 0,

@@ -14,6 +14,26 @@ pub(in crate::proved::vm_engine) struct Block {
     pub(in crate::proved::vm_engine) state: NodeState,
 }
 
+impl Block {
+    /// Creates a free block.
+    #[inline(always)]
+    pub(in crate::proved::vm_engine) fn free(key: RangeInclusive) -> Block {
+        Block {
+            key,
+            state: NodeState::Free,
+        }
+    }
+
+    /// Creates an allocated block.
+    #[inline(always)]
+    pub(in crate::proved::vm_engine) fn held(key: RangeInclusive) -> Block {
+        Block {
+            key,
+            state: NodeState::Allocated,
+        }
+    }
+}
+
 impl Ord for Block {
     /// Compares by start, then by end, then by state.
     fn cmp(&self, other: &Block) -> Ordering {

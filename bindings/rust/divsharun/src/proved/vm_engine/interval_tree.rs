@@ -17,6 +17,7 @@
 
 use crate::rattle::Box;
 use crate::proved::vm_engine::Steps;
+use crate::proved::vm_engine::block::Block;
 use crate::proved::vm_engine::node::edge::Edge;
 use crate::proved::vm_engine::node::walks::both_ends::Blocks;
 use crate::proved::vm_engine::node::walks::copying::copy;
@@ -48,7 +49,7 @@ impl IntervalTree {
     ///
     /// - `OutOfMemory` if the allocation of the node fails.
     pub fn new(alloc: Global, key: RangeInclusive) -> Result<Self> {
-        let node = Box::new(alloc, InnerNode::new(key, NodeState::Free))?;
+        let node = Box::new(alloc, InnerNode::new(Block::free(key)))?;
         Ok(IntervalTree { root: Some(node) })
     }
 

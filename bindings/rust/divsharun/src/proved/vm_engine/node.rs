@@ -25,7 +25,8 @@ pub(in crate::proved::vm_engine) mod widen;
 pub(in crate::proved::vm_engine) mod windows;
 
 use self::balance::fork;
-use self::summary::free_summary_of;
+use self::summary::{Summary, summary_of_leaf};
+use crate::proved::vm_engine::block::Block;
 use crate::rattle::{AllocError, Global};
 use crate::proved::vm_ranges::{NodeState, RangeInclusive};
 
@@ -33,19 +34,13 @@ use crate::proved::vm_ranges::{NodeState, RangeInclusive};
 ///
 /// - The keys of the subtree are in order and do not overlap.
 /// - The heights of both children differ by at most one.
-/// - `height` is the height of the subtree.
-/// - `max_free` is the length of the longest free block in the subtree, or 0 if there is none.
-/// - `alignments` is the number of the 64 alignments that have a multiple in a free block of the
-///   subtree. It is one byte next to the state, so a node has 72 bytes.
+/// - `summary` is the summary of the subtree.
 #[derive(Debug)]
 pub(in crate::proved::vm_engine) struct InnerNode {
-    key: RangeInclusive,
-    node_state: NodeState,
-    alignments: u8,
-    left: Option<Box<InnerNode>>,
-    right: Option<Box<InnerNode>>,
-    height: u64,
-    max_free: u64,
+    block: Block,
+    left: Child,
+    right: Child,
+    summary: Summary,
 }
 
 /// The height of the highest tree.
@@ -56,16 +51,12 @@ pub(in crate::proved::vm_engine) type Child = Option<Box<InnerNode>>;
 
 impl InnerNode {
     /// Creates a node without children.
-    pub(in crate::proved::vm_engine) fn new(key: RangeInclusive, node_state: NodeState) -> InnerNode {
-        let own = free_summary_of(&key, node_state);
+    pub(in crate::proved::vm_engine) fn new(block: Block) -> InnerNode {
         InnerNode {
-            key,
-            node_state,
-            alignments: own.alignments,
+            block,
             left: None,
             right: None,
-            height: 1,
-            max_free: own.max_free,
+            summary: summary_of_leaf(&block),
         }
     }
 
@@ -76,40 +67,39 @@ impl InnerNode {
     pub(in crate::proved::vm_engine) fn with_children(
         alloc: Global,
         left: Child,
-        key: RangeInclusive,
-        node_state: NodeState,
+        block: Block,
         right: Child,
     ) -> Result<Box<InnerNode>, AllocError> {
-        let middle = Box::new(alloc, InnerNode::new(key, node_state))?;
+        let middle = Box::new(alloc, InnerNode::new(block))?;
         Ok(fork(left, middle, right))
     }
 
     /// Returns the key of this node.
     pub(in crate::proved::vm_engine) fn key(&self) -> RangeInclusive {
-        self.key
+        self.block.key
     }
 
     /// Returns the state of this node.
     pub(in crate::proved::vm_engine) fn state(&self) -> NodeState {
-        self.node_state
+        self.block.state
     }
 
     /// Returns the height of the subtree.
     pub(in crate::proved::vm_engine) fn height(&self) -> u64 {
-        self.height
+        self.summary.height.into()
     }
 
     /// Returns the length of the longest free block in the subtree, or 0 if there is none.
     pub(in crate::proved::vm_engine) fn max_free(&self) -> u64 {
-        self.max_free
+        self.summary.max_free
     }
 }
 
 /// Returns the height of a child, or 0 if the child is absent.
 #[inline(always)]
-pub(in crate::proved::vm_engine) fn height(child: &Child) -> u64 {
+pub(in crate::proved::vm_engine) fn height(child: &Child) -> u8 {
     match child {
         None => 0,
-        Some(node) => node.height,
+        Some(node) => node.summary.height,
     }
 }

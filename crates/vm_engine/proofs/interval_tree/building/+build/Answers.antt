@@ -1,5 +1,4 @@
-use Rattle.std.proofs.Common.{arith, sym, ap, ◌∙◌, ◌∷◌, length, subst, ◌/◌}
-use Rattle.vm_engine.specs.Tree.Block.{Block}
+use Rattle.std.proofs.Common.{arith, sym, ap, length, subst, ◌/◌}
 use Rattle.vm_engine.specs.Engine.NodeFields.{side}
 use Rattle.vm_engine.specs.Engine.Building.{remaining_blocks, IsBuilt}
 use Rattle.vm_engine.proofs.Making.BlockCursors.{between_ordered}
@@ -19,7 +18,7 @@ build-requires-2 t c =
 
 pub with_children-requires-clause-tree : goal.with_children-requires-clause-tree
 with_children-requires-clause-tree t c =
-    let first = c.take_first-block.ensures.first ∙ ap (λ (v : Block). v ∷ remaining_blocks c.take_first-block.new.self) (sym c.block.view_is) in
+    let first = c.take_first-block.ensures.first in
     let cursor = c.args.cursor.now in
     node_tree c.args.count _ _ _ _ (side c.in_ok-left.left) (side c.in_ok-right.right) _ c.if-count-eq0.false c.in_ok-left.ensures.built first c.in_ok-right.ensures.built
     cursor.next (between_ordered cursor.next cursor.end cursor.held.now c.requires.cursor.within c.requires.cursor.in_order)
@@ -31,6 +30,6 @@ with_children-requires-clause-height_fits t c =
 
 pub returns-clause-built : goal.returns-clause-built
 returns-clause-built t c =
-    let first = c.take_first-block.ensures.first ∙ ap (λ (v : Block). v ∷ remaining_blocks c.take_first-block.new.self) (sym c.block.view_is) in
+    let first = c.take_first-block.ensures.first in
     let b = node_built c.args.count _ _ _ _ (side c.in_ok-left.left) (side c.in_ok-right.right) _ c.if-count-eq0.false c.in_ok-left.ensures.built first c.in_ok-right.ensures.built in
     subst (λ v. IsBuilt c.args.count (remaining_blocks c.args.cursor.now) v (remaining_blocks c.build-2.new.cursor)) (sym c.in_ok-node.ensures) b

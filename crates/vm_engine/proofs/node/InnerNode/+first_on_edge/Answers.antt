@@ -12,25 +12,25 @@ pub returns-in-Some-clause-gap : goal.returns-in-Some-clause-gap
 returns-in-Some-clause-gap t c =
     let left : side c.self.inside.left ≡ Tip = grind (arith, common_steps) in
     let right : side c.self.inside.right ≡ Tip = grind (arith, common_steps) in
-    let free : c.self.inside.node_state ≡ Free = grind (arith, common_steps) in
+    let free : c.self.inside.block.state ≡ Free = grind (arith, common_steps) in
     (omega arith, gap_at_leaf c.args.size c.in-Some.start _ _ _ _ (sym (rw (left, right) at c.self.view_is)) refl free)
 
 pub first_on_edge-requires : goal.first_on_edge-requires
 first_on_edge-requires t c =
-    let held : c.self.inside.node_state ≡ Allocated = grind (arith, common_steps) in
+    let held : c.self.inside.block.state ≡ Allocated = grind (arith, common_steps) in
     let long = (searched_parts _ _ _ c.requires.may_fit).0 in
     let fits = c.in-Some-with_multiple.ensures.1 c.args.size (grind (arith, common_steps)) in
     (search rules, (c.requires.request, (fits, ((c.requires.none_yet.0, grind (arith, common_steps)), (grind (arith, common_steps), grind (arith, common_steps))))))
 
 pub returns-in-Some-with_multiple-clause-place : goal.returns-in-Some-with_multiple-clause-place
 returns-in-Some-with_multiple-clause-place t c =
-    let held : c.self.inside.node_state ≡ Allocated = grind (arith, common_steps) in
+    let held : c.self.inside.block.state ≡ Allocated = grind (arith, common_steps) in
     let short : max_free_of (side c.self.inside.left) < c.args.size = grind (arith, common_steps) in
     first_past _ _ _ (side c.self.inside.left) _ (side c.self.inside.right) (sym c.self.view_is) c.requires.request.0 c.requires.request.1 held short _ (rw c.in-Some-with_multiple.ensures.0 c.first_on_edge.ensures.place)
 
 pub returns-in-Some-with_multiple-clause-gap : goal.returns-in-Some-with_multiple-clause-gap
 returns-in-Some-with_multiple-clause-gap t c =
-    let held : c.self.inside.node_state ≡ Allocated = grind (arith, common_steps) in
+    let held : c.self.inside.block.state ≡ Allocated = grind (arith, common_steps) in
     let short : max_free_of (side c.self.inside.left) < c.args.size = grind (arith, common_steps) in
     let place = rw (← c.in-Some-with_multiple.ensures.0) at c.first_on_edge.ensures.place in
     let gap = rw (← c.in-Some-with_multiple.ensures.0) at c.first_on_edge.ensures.gap.1 in (
@@ -40,21 +40,21 @@ returns-in-Some-with_multiple-clause-gap t c =
 
 pub returns-in-Some-with_multiple-clause-count : goal.returns-in-Some-with_multiple-clause-count
 returns-in-Some-with_multiple-clause-count t c =
-    let held : c.self.inside.node_state ≡ Allocated = grind (arith, common_steps) in
+    let held : c.self.inside.block.state ≡ Allocated = grind (arith, common_steps) in
     let short : max_free_of (side c.self.inside.left) < c.args.size = grind (arith, common_steps) in
     let nodes = first_nodes_past _ _ _ (side c.self.inside.left) _ (side c.self.inside.right) (sym c.self.view_is) c.requires.request.0 c.requires.request.1 held short c.requires.may_fit in
     grind (arith, common_steps)
 
 pub returns-in_default-with_multiple-clause-place : goal.returns-in_default-with_multiple-clause-place
 returns-in_default-with_multiple-clause-place t c =
-    let held : c.self.inside.node_state ≡ Allocated = grind (arith, common_steps) in
+    let held : c.self.inside.block.state ≡ Allocated = grind (arith, common_steps) in
     let short : max_free_of (side c.self.inside.left) < c.args.size = grind (arith, common_steps) in
     let none = none_unless_searched _ _ _ c.requires.request.0 c.requires.request.1 (c.in_default-with_multiple.ensures c.args.size) in
     rw c.requires.none_yet.0 (first_past _ _ _ (side c.self.inside.left) _ (side c.self.inside.right) (sym c.self.view_is) c.requires.request.0 c.requires.request.1 held short None none)
 
 pub returns-in_default-with_multiple-clause-count : goal.returns-in_default-with_multiple-clause-count
 returns-in_default-with_multiple-clause-count t c =
-    let held : c.self.inside.node_state ≡ Allocated = grind (arith, common_steps) in
+    let held : c.self.inside.block.state ≡ Allocated = grind (arith, common_steps) in
     let short : max_free_of (side c.self.inside.left) < c.args.size = grind (arith, common_steps) in
     let nodes = first_nodes_past _ _ _ (side c.self.inside.left) _ (side c.self.inside.right) (sym c.self.view_is) c.requires.request.0 c.requires.request.1 held short c.requires.may_fit in
     let right = first_nodes_passed _ _ _ (c.in_default-with_multiple.ensures c.args.size) in

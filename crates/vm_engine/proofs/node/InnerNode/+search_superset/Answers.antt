@@ -35,11 +35,11 @@ returns-then-ends_before-2-clause-found t c =
 pub returns-then-contains-clause-found : goal.returns-then-contains-clause-found
 returns-then-contains-clause-found t c =
     let i = c.self.inside in
-    let h : Covers i.key c.args.key.now = search rules in
+    let h : Covers i.block.key c.args.key.now = search rules in
     rw (← c.self.view_is) (superset_here (shape_of i) (side i.left) _ (side i.right) c.args.key.now refl c.ends_before.ensures.in_order c.if-ends_before.ensures.which h c.self.invariant.tree)
 
 pub returns-else-contains-clause-found : goal.returns-else-contains-clause-found
 returns-else-contains-clause-found t c =
     let i = c.self.inside in
-    let h : ¬ Covers i.key c.args.key.now = search rules in
+    let h : ¬ Covers i.block.key c.args.key.now = search rules in
     rw (← c.self.view_is) (superset_nowhere (shape_of i) (side i.left) _ (side i.right) c.args.key.now refl c.if-ends_before.ensures.which c.if-ends_before-2.ensures.which h c.self.invariant.tree)

@@ -22,11 +22,11 @@ fork-requires-clause-ordered c =
 pub fork-requires-clause-close : goal.fork-requires-clause-close
 fork-requires-clause-close c = grind (arith, common_steps)
 
-pub summary_over-summary-requires : goal.summary_over-summary-requires
-summary_over-summary-requires c = grind (arith, common_steps)
+pub summary_over-lower-inside-requires : goal.summary_over-lower-inside-requires
+summary_over-lower-inside-requires c = grind (arith, common_steps)
 
-pub summary_over-summary-requires-2 : goal.summary_over-summary-requires-2
-summary_over-summary-requires-2 c = grind (arith, common_steps)
+pub summary_over-top-inside-requires : goal.summary_over-top-inside-requires
+summary_over-top-inside-requires c = grind (arith, common_steps)
 
 pub invariant_of-top : goal.invariant_of-top
 invariant_of-top c = grind (arith, common_steps, rotations)

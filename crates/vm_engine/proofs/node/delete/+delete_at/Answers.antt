@@ -5,7 +5,7 @@ use Rattle.vm_engine.specs.Engine.Changes.{KeepsSummary}
 use Rattle.vm_engine.specs.Engine.NodeFields.{side, shape_of, IsNode}
 use Rattle.vm_engine.specs.Tree.Shape.{IsTree}
 use Rattle.vm_engine.proofs.Blocks.Replacement.{changes_in_left, changes_in_right, removed_in_left, removed_in_right, replace_in_left, replace_in_right}
-use Rattle.vm_engine.proofs.Nodes.UpdatedNodes.{own_of, open_of, IsRebalanced, rebalanced, updated_node, shrunk_left, shrunk_right, unchanged_left, unchanged_right, unchanged_shrinks}
+use Rattle.vm_engine.proofs.Nodes.UpdatedNodes.{open_of, IsRebalanced, rebalanced, updated_node, shrunk_left, shrunk_right, unchanged_left, unchanged_right, unchanged_shrinks}
 use Rattle.vm_engine.proofs.node.delete.+delete_at.Goals as goal
 use Rattle.vm_engine.proofs.node.delete.+delete_at.Goals.{in-Greater, in-Less, In-Nothing, After-rebalance}
 
@@ -48,7 +48,7 @@ returns-clause-absent t c =
     ]
 
 -- The node over the new child, after `rebalance`.
-rebalanced_over_side : (t : ℕ) (c : After-rebalance t) → IsRebalanced (own_of c.match-compare.tree-inside) (open_of c.match-compare.tree-inside) (side c.rebalance.new.at) c.rebalance.result
+rebalanced_over_side : (t : ℕ) (c : After-rebalance t) → IsRebalanced c.match-compare.tree-inside.block (open_of c.match-compare.tree-inside) (side c.rebalance.new.at) c.rebalance.result
 rebalanced_over_side t c =
     rebalanced _ _ c.update-updated.result _ _ c.rebalance.new.at c.rebalance.result (grind (arith, common_steps, removed_in_left, removed_in_right)) c.update-updated.ensures.left c.update-updated.ensures.right c.update-updated.ensures.updated refl c.rebalance.ensures
 

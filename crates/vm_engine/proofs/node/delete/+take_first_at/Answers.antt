@@ -2,7 +2,7 @@ use Rattle.std.proofs.Common.{◌≡◌, arith, refl}
 use Rattle.std.proofs.lemmas.Grind.{common_steps}
 use Rattle.vm_engine.specs.Engine.Changes.{Shrinks}
 use Rattle.vm_engine.specs.Engine.NodeFields.{side, shape_of}
-use Rattle.vm_engine.proofs.Nodes.UpdatedNodes.{own_of, open_of, rebalanced, updated_node, shrunk_left, unchanged_left}
+use Rattle.vm_engine.proofs.Nodes.UpdatedNodes.{open_of, rebalanced, updated_node, shrunk_left, unchanged_left}
 use Rattle.vm_engine.proofs.Nodes.SideChange.{takes}
 use Rattle.vm_engine.proofs.Blocks.Replacement.{first_blocks}
 use Rattle.vm_engine.proofs.Counts.NodeCountCases.{nodes_to_first_cases}
@@ -21,7 +21,7 @@ invariant_of-tree-2 t c =
 pub returns : goal.returns
 returns t c =
     let l = c.take_first_at-lowest in
-    let f = rebalanced (own_of c.tree.inside) (open_of (record c.tree.inside { left = l.new.at })) c.update-updated.result _ _ c.rebalance.new.at c.rebalance.result (grind (arith, common_steps, takes)) c.update-updated.ensures.left c.update-updated.ensures.right c.update-updated.ensures.updated refl c.rebalance.ensures in
+    let f = rebalanced c.tree.inside.block (open_of (record c.tree.inside { left = l.new.at })) c.update-updated.result _ _ c.rebalance.new.at c.rebalance.result (grind (arith, common_steps, takes)) c.update-updated.ensures.left c.update-updated.ensures.right c.update-updated.ensures.updated refl c.rebalance.ensures in
     let e : side c.args.at.now ≡ shape_of c.tree.inside = cc in
     let shrinks : Shrinks (side c.args.at.now) (side c.rebalance.new.at) c.rebalance.result =
     rw e (shrunk_left c.tree.inside l.new.at l.result.1 _ _ c.tree.invariant l.ensures.shrinks f) in

@@ -4,7 +4,7 @@ use Rattle.vm_engine.specs.declared.node.summary.Change.TheVariants.{Nothing}
 use Rattle.vm_engine.specs.Engine.Changes.{KeepsSummary}
 use Rattle.vm_engine.specs.Engine.NodeFields.{side, shape_of, IsNode}
 use Rattle.vm_engine.proofs.Blocks.BlockOrder.{clear_in_left, clear_in_right, link_in_left, link_in_right, link_in_left_blocks, link_in_right_blocks}
-use Rattle.vm_engine.proofs.Nodes.UpdatedNodes.{own_of, open_of, IsRebalanced, rebalanced, updated_node, grown_left, grown_right, unchanged_left, unchanged_right, unchanged_grows}
+use Rattle.vm_engine.proofs.Nodes.UpdatedNodes.{open_of, IsRebalanced, rebalanced, updated_node, grown_left, grown_right, unchanged_left, unchanged_right, unchanged_grows}
 use Rattle.vm_engine.proofs.node.link.+link_at.Goals as goal
 use Rattle.vm_engine.proofs.node.link.+link_at.Goals.{then-starts_before, else-starts_before, In-Nothing, After-rebalance}
 
@@ -46,7 +46,7 @@ invariant_of-tree-2 t c =
     updated_node c.if-starts_before.tree-inside c.update-updated.result _ (grind (arith, common_steps, link_in_left, link_in_right)) c.update-updated.ensures.left c.update-updated.ensures.right c.update-updated.ensures.updated
 
 -- The node over the new child, after `rebalance`.
-rebalanced_over_side : (t : ℕ) (c : After-rebalance t) → IsRebalanced (own_of c.if-starts_before.tree-inside) (open_of c.if-starts_before.tree-inside) (side c.rebalance.new.at) c.rebalance.result
+rebalanced_over_side : (t : ℕ) (c : After-rebalance t) → IsRebalanced c.if-starts_before.tree-inside.block (open_of c.if-starts_before.tree-inside) (side c.rebalance.new.at) c.rebalance.result
 rebalanced_over_side t c =
     rebalanced _ _ c.update-updated.result _ _ c.rebalance.new.at c.rebalance.result (grind (arith, common_steps, link_in_left, link_in_right)) c.update-updated.ensures.left c.update-updated.ensures.right c.update-updated.ensures.updated refl c.rebalance.ensures
 

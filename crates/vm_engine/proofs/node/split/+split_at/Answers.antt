@@ -1,6 +1,6 @@
 use Rattle.std.proofs.Common.{◌≡◌, ℕ, ◌++◌, ◌∷◌, ◌∙◌, sym, arith, inl, refl, rules}
 use Rattle.std.proofs.lemmas.Grind.{common_steps}
-use Rattle.vm_engine.proofs.Nodes.UpdatedNodes.{own_of, rebalanced, updated_node, grown_left, grown_right, unchanged_left, unchanged_right, unchanged_grows, refreshed_left, refreshed_right}
+use Rattle.vm_engine.proofs.Nodes.UpdatedNodes.{rebalanced, updated_node, grown_left, grown_right, unchanged_left, unchanged_right, unchanged_grows, refreshed_left, refreshed_right}
 use Rattle.vm_engine.proofs.Splitting.SplitTrees.{ordered_split_left, ordered_split_right}
 use Rattle.vm_engine.proofs.Blocks.Replacement.{replace_in_left, replace_in_right}
 use Rattle.vm_engine.proofs.Counts.SplitCounts.{nodes_to_split_cases}
@@ -54,23 +54,19 @@ invariant_of-tree t c = (summary_over_side t (goal.at.invariant_of-tree t c).In-
 
 -- The updated node over a child of which only the free summary changed.
 refreshed_over_side : (t : ℕ) (c : After-refresh_free t)
-    → let n = record c.match-compare.tree-inside { max_free = c.refresh_free.new.cached_max_free; alignments = c.refresh_free.new.cached_alignments } in
+    → let n = record c.match-compare.tree-inside { summary = c.refresh_free.new.cached } in
     IsNode n × Grows (shape_of c.tree.inside) (shape_of n) c.refresh_free.result
 refreshed_over_side t c =
     let e : side c.args.at.now ≡ shape_of c.tree.inside = cc in
-    let max_free = c.refresh_free.new.cached_max_free in
-    let count = c.refresh_free.new.cached_alignments in
-    let longest = rw (c.free_summary_over-free.ensures.max_free, c.summary_of.ensures.value.1, c.summary_of-in-FreeOnly.ensures.value.1) at c.refresh_free.ensures.max_free in
-    let reached = rw (c.free_summary_over-free.ensures.alignments, c.summary_of.ensures.value.2, c.summary_of-in-FreeOnly.ensures.value.2) at c.refresh_free.ensures.alignments in
     elim c.match-compare.branch [
       | in-Greater w ↦
           let l = w.split_at-change in
           let grew = rw (sym w.change-is ∙ c.in-FreeOnly.is) at l.ensures.grows in
-          rw w.tree-inside-is (refreshed_left c.tree.inside l.new.at c.refresh_free.result max_free count c.tree.invariant (ordered_split_left _ (side l.new.at) _ _ _ _ w.in-Greater.ensures c.tree.invariant.tree (rw e at c.requires.can_be_split.ordered) l.ensures.blocks) grew (rw w.tree-inside-is at longest) (rw w.tree-inside-is at reached) (rw w.tree-inside-is at c.refresh_free.ensures.same_max_free) (rw w.tree-inside-is at c.refresh_free.ensures.same_alignments))
+          rw w.tree-inside-is (refreshed_left c.tree.inside l.new.at c.refresh_free.result c.refresh_free.new.cached c.tree.invariant (ordered_split_left _ (side l.new.at) _ _ _ _ w.in-Greater.ensures c.tree.invariant.tree (rw e at c.requires.can_be_split.ordered) l.ensures.blocks) grew (rw w.tree-inside-is at c.refresh_free.ensures.height) (rw w.tree-inside-is at c.refresh_free.ensures.max_free) (rw w.tree-inside-is at c.refresh_free.ensures.alignments) (rw w.tree-inside-is at c.refresh_free.ensures.keeps))
       | in-Less w ↦
           let r = w.split_at-change-in-Less in
           let grew = rw (sym w.change-is ∙ c.in-FreeOnly.is) at r.ensures.grows in
-          rw w.tree-inside-is (refreshed_right c.tree.inside r.new.at c.refresh_free.result max_free count c.tree.invariant (ordered_split_right _ (side r.new.at) _ _ _ _ w.in-Less.ensures c.tree.invariant.tree (rw e at c.requires.can_be_split.ordered) r.ensures.blocks) grew (rw w.tree-inside-is at longest) (rw w.tree-inside-is at reached) (rw w.tree-inside-is at c.refresh_free.ensures.same_max_free) (rw w.tree-inside-is at c.refresh_free.ensures.same_alignments))
+          rw w.tree-inside-is (refreshed_right c.tree.inside r.new.at c.refresh_free.result c.refresh_free.new.cached c.tree.invariant (ordered_split_right _ (side r.new.at) _ _ _ _ w.in-Less.ensures c.tree.invariant.tree (rw e at c.requires.can_be_split.ordered) r.ensures.blocks) grew (rw w.tree-inside-is at c.refresh_free.ensures.height) (rw w.tree-inside-is at c.refresh_free.ensures.max_free) (rw w.tree-inside-is at c.refresh_free.ensures.alignments) (rw w.tree-inside-is at c.refresh_free.ensures.keeps))
     ]
 
 height_over_side : (t : ℕ) (c : After-refresh_free t) → height_of (shape_of c.match-compare.tree-inside) ≡ height_of (shape_of c.tree.inside)
@@ -85,7 +81,7 @@ invariant_of-tree-in-FreeOnly t c = (refreshed_over_side t (goal.at.invariant_of
 
 -- The blocks of the node over a child that changed in any way.
 ordered_over_side : (t : ℕ) (c : After-update-updated t)
-    → let n = c.match-compare.tree-inside in IsOrderedFrom 0 (blocks (side n.left) ++ own_of n ∷ blocks (side n.right))
+    → let n = c.match-compare.tree-inside in IsOrderedFrom 0 (blocks (side n.left) ++ n.block ∷ blocks (side n.right))
 ordered_over_side t c =
     let e : side c.args.at.now ≡ shape_of c.tree.inside = cc in
     elim c.match-compare.branch [
@@ -105,7 +101,7 @@ pub returns-in-Equal-clause-adds_leaf : goal.returns-in-Equal-clause-adds_leaf
 returns-in-Equal-clause-adds_leaf t c =
     let i = c.tree.inside in
     let e : side c.args.at.now ≡ shape_of i = search rules in
-    let key : i.key ≡ c.args.split.now.choice.key = c.in-Equal.ensures in
+    let key : i.block.key ≡ c.args.split.now.choice.key = c.in-Equal.ensures in
     let new : blocks (side c.split_here.new.at) ≡ with_split c.args.split.now.choice.key c.args.split.now.choice.range c.args.split.now.rest (blocks (side c.args.at.now)) = grind (arith, common_steps) in
     λ leaf one. leaf_split _ _ (side i.left) _ (side i.right) _ _ _ e (sym key) (rw e c.tree.invariant.tree) leaf c.requires.leaves one new
 

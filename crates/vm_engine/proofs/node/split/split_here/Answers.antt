@@ -3,7 +3,6 @@ use Rattle.std.proofs.lemmas.Grind.{common_steps}
 use Rattle.vm_engine.proofs.Nodes.UpdatedNodes.{rebalanced, updated_node}
 use Rattle.vm_engine.proofs.Splitting.SplitTrees.{split_steps, before_clear, after_clear}
 use Rattle.vm_engine.proofs.Counts.SplitCounts.{nodes_to_split_cases, link_bounds}
-use Rattle.vm_ranges.specs.declared.state.NodeState.TheVariants.{Allocated}
 use Rattle.vm_engine.specs.Tree.Shape.{blocks}
 use Rattle.vm_engine.specs.Tree.Block.{held_block}
 use Rattle.vm_engine.specs.Engine.NodeFields.{side, shape_of}
@@ -30,10 +29,10 @@ link_if_some-requires-2-clause-clear c =
 
 pub invariant_of-tree : goal.invariant_of-tree
 invariant_of-tree c =
-    let i = record c.tree.inside { key = c.args.split.now.choice.range; node_state = Allocated; left = c.link_if_some.new.child; right = c.link_if_some-2.new.child } in
+    let i = record c.tree.inside { block = c.held-tree-inside.result; left = c.link_if_some.new.child; right = c.link_if_some-2.new.child } in
     updated_node i c.update-updated.result _ (grind (arith, common_steps, split_steps)) c.update-updated.ensures.left c.update-updated.ensures.right c.update-updated.ensures.updated
 
 pub returns : goal.returns
 returns c =
-    let f = rebalanced (record { key = c.args.split.now.choice.range; state = Allocated }) _ c.update-updated.result _ _ c.rebalance.new.at c.rebalance.result (grind (arith, common_steps, split_steps, nodes_to_split_cases, link_bounds)) c.update-updated.ensures.left c.update-updated.ensures.right c.update-updated.ensures.updated refl c.rebalance.ensures in
+    let f = rebalanced c.held-tree-inside.result _ c.update-updated.result _ _ c.rebalance.new.at c.rebalance.result (grind (arith, common_steps, split_steps, nodes_to_split_cases, link_bounds)) c.update-updated.ensures.left c.update-updated.ensures.right c.update-updated.ensures.updated refl c.rebalance.ensures in
     grind (arith, common_steps, split_steps, nodes_to_split_cases, link_bounds)

@@ -9,6 +9,7 @@
 use crate::rattle::Box;
 use super::IntervalTree;
 use crate::proved::vm_engine::Steps;
+use crate::proved::vm_engine::block::Block;
 use crate::proved::vm_engine::node::edge::Edge;
 use crate::proved::vm_engine::node::outermost::split_gap;
 use crate::proved::vm_engine::node::rewrite::rewrite_at;
@@ -87,6 +88,6 @@ fn leaf_after(alloc: Global, choice: &Choice) -> Result<Child> {
 
 /// Allocates a leaf with a free block.
 fn free_leaf(alloc: Global, key: RangeInclusive) -> Result<Child> {
-    let leaf = Box::new(alloc, InnerNode::new(key, NodeState::Free))?;
+    let leaf = Box::new(alloc, InnerNode::new(Block::free(key)))?;
     Ok(Some(leaf))
 }

@@ -10,7 +10,7 @@ use crate::proved::vm_engine::block::Block;
 use crate::proved::vm_engine::node::{Child, InnerNode};
 use crate::proved::vm_engine::ordering::valid_range;
 use crate::rattle::Global;
-use crate::proved::vm_ranges::{Error, NodeState, RangeInclusive, Result};
+use crate::proved::vm_ranges::{Error, RangeInclusive, Result};
 
 /// A tree of this many blocks or more is too high.
 const TOO_MANY_BLOCKS: u64 = 1 << 49;
@@ -96,24 +96,15 @@ impl BlockCursor<'_> {
         let start = self.next as u64;
         let Some((range, others)) = self.held.split_first() else {
             self.next = u128::from(self.end) + 1;
-            return Block {
-                key: valid_range(start, self.end),
-                state: NodeState::Free,
-            };
+            return Block::free(valid_range(start, self.end));
         };
         if start < range.start() {
             self.next = range.start().into();
-            return Block {
-                key: valid_range(start, range.start() - 1),
-                state: NodeState::Free,
-            };
+            return Block::free(valid_range(start, range.start() - 1));
         }
         self.next = u128::from(range.end()) + 1;
         self.held = others;
-        Block {
-            key: *range,
-            state: NodeState::Allocated,
-        }
+        Block::held(*range)
     }
 }
 
@@ -127,6 +118,6 @@ fn build(alloc: Global, count: u64, cursor: &mut BlockCursor<'_>) -> Result<Chil
     let left = build(alloc, count / 2, cursor)?;
     let block = cursor.take_first();
     let right = build(alloc, (count - 1) / 2, cursor)?;
-    let node = InnerNode::with_children(alloc, left, block.key, block.state, right)?;
+    let node = InnerNode::with_children(alloc, left, block, right)?;
     Ok(Some(node))
 }

@@ -3,20 +3,20 @@
 //! Rotations, and the update of a node after one of its children has changed. Nothing here is
 //! recursive or allocates.
 //!
-//! `update` takes the fields of a node one by one, because a node whose cached summary is stale
+//! `update` takes the parts of a node one by one, because a node whose cached summary is stale
 //! violates the invariant and cannot be passed whole. For the same reason it does not rotate: it
 //! returns an `Updated`, and the caller calls `rebalance` when the node is whole again. `update` is
-//! always inlined, because otherwise the fields are passed by address at every level.
+//! always inlined, because otherwise the parts are passed by address at every level.
 //!
 //! Rotations change nodes in place. This is faster than taking the nodes apart and building them
 //! again.
 
 use crate::rattle::Box;
 use super::summary::{
-    Change, free_summary_of, free_summary_over, refresh_free, summary_of, summary_over,
+    Change, Summary, refresh, summary_at, summary_of, summary_of_leaf, summary_over,
 };
 use super::{Child, InnerNode, height};
-use crate::proved::vm_ranges::{NodeState, RangeInclusive};
+use crate::proved::vm_engine::block::Block;
 
 /// The effect of a changed child on its parent.
 pub(super) enum Updated {
@@ -44,41 +44,25 @@ impl Updated {
 pub(super) fn update(
     left: &mut Child,
     right: &mut Child,
-    key: &RangeInclusive,
-    node_state: NodeState,
-    cached_height: &mut u64,
-    max_free: &mut u64,
-    alignments: &mut u8,
+    block: &Block,
+    cached: &mut Summary,
 ) -> Updated {
     let first = summary_of(left);
     let second = summary_of(right);
     if first.height > second.height + 1 || second.height > first.height + 1 {
-        let own = free_summary_of(key, node_state);
-        *cached_height = 1;
-        *max_free = own.max_free;
-        *alignments = own.alignments;
+        *cached = summary_of_leaf(block);
         return Updated::Unbalanced(left.take(), right.take());
     }
-    let free = free_summary_over(first.free, second.free, key, node_state);
-    let change = refresh_free(free, max_free, alignments);
     let height = first.height.max(second.height) + 1;
-    if height == *cached_height {
-        return Updated::Balanced(change);
-    }
-    *cached_height = height;
-    Updated::Balanced(Change::Height)
+    Updated::Balanced(refresh(summary_at(height, first, second, block), cached))
 }
 
 impl InnerNode {
     /// Takes both children out of the node and returns them, left and right.
     #[inline(always)]
     pub(super) fn take_children(&mut self) -> (Child, Child) {
-        let sides = (self.left.take(), self.right.take());
-        let own = free_summary_of(&self.key, self.node_state);
-        self.height = 1;
-        self.max_free = own.max_free;
-        self.alignments = own.alignments;
-        sides
+        self.summary = summary_of_leaf(&self.block);
+        (self.left.take(), self.right.take())
     }
 }
 
@@ -87,10 +71,7 @@ pub(super) fn fork(left: Child, mut middle: Box<InnerNode>, right: Child) -> Box
     let open = &mut *middle;
     open.left = left;
     open.right = right;
-    let summary = summary_over(&open.left, &open.right, &open.key, open.node_state);
-    open.height = summary.height;
-    open.max_free = summary.free.max_free;
-    open.alignments = summary.free.alignments;
+    open.summary = summary_over(&open.left, &open.right, &open.block);
     middle
 }
 
@@ -100,10 +81,7 @@ fn rotate_right(mut left: Box<InnerNode>, middle: Box<InnerNode>, right: Child) 
     let top = &mut *left;
     let inner = top.right.take();
     top.right = Some(fork(inner, middle, right));
-    let summary = summary_over(&top.left, &top.right, &top.key, top.node_state);
-    top.height = summary.height;
-    top.max_free = summary.free.max_free;
-    top.alignments = summary.free.alignments;
+    top.summary = summary_over(&top.left, &top.right, &top.block);
     left
 }
 
@@ -120,17 +98,11 @@ fn rotate_left_right(
     };
     let top = &mut *inner;
     lower.right = top.left.take();
-    let summary = summary_over(&lower.left, &lower.right, &lower.key, lower.node_state);
-    lower.height = summary.height;
-    lower.max_free = summary.free.max_free;
-    lower.alignments = summary.free.alignments;
+    lower.summary = summary_over(&lower.left, &lower.right, &lower.block);
     let after = top.right.take();
     top.left = Some(left);
     top.right = Some(fork(after, middle, right));
-    let summary = summary_over(&top.left, &top.right, &top.key, top.node_state);
-    top.height = summary.height;
-    top.max_free = summary.free.max_free;
-    top.alignments = summary.free.alignments;
+    top.summary = summary_over(&top.left, &top.right, &top.block);
     inner
 }
 
@@ -140,10 +112,7 @@ fn rotate_left(left: Child, middle: Box<InnerNode>, mut right: Box<InnerNode>) -
     let top = &mut *right;
     let inner = top.left.take();
     top.left = Some(fork(left, middle, inner));
-    let summary = summary_over(&top.left, &top.right, &top.key, top.node_state);
-    top.height = summary.height;
-    top.max_free = summary.free.max_free;
-    top.alignments = summary.free.alignments;
+    top.summary = summary_over(&top.left, &top.right, &top.block);
     right
 }
 
@@ -160,17 +129,11 @@ fn rotate_right_left(
     };
     let top = &mut *inner;
     lower.left = top.right.take();
-    let summary = summary_over(&lower.left, &lower.right, &lower.key, lower.node_state);
-    lower.height = summary.height;
-    lower.max_free = summary.free.max_free;
-    lower.alignments = summary.free.alignments;
+    lower.summary = summary_over(&lower.left, &lower.right, &lower.block);
     let before = top.left.take();
     top.right = Some(right);
     top.left = Some(fork(left, middle, before));
-    let summary = summary_over(&top.left, &top.right, &top.key, top.node_state);
-    top.height = summary.height;
-    top.max_free = summary.free.max_free;
-    top.alignments = summary.free.alignments;
+    top.summary = summary_over(&top.left, &top.right, &top.block);
     inner
 }
 

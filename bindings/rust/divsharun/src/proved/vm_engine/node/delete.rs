@@ -35,11 +35,8 @@ fn take_first_at(at: &mut Child, count: &mut Steps) -> (Box<InnerNode>, Change) 
     let updated = update(
         &mut tree.left,
         &mut tree.right,
-        &tree.key,
-        tree.node_state,
-        &mut tree.height,
-        &mut tree.max_free,
-        &mut tree.alignments,
+        &tree.block,
+        &mut tree.summary,
     );
     (lowest, updated.rebalance(at))
 }
@@ -79,7 +76,7 @@ pub(in crate::proved::vm_engine) fn delete_at(at: &mut Child, key: &RangeInclusi
     };
     let tree: &mut InnerNode = tree;
     tree.enter(count);
-    let change = match compare(&tree.key, key) {
+    let change = match compare(&tree.block.key, key) {
         Ordering::Equal => {
             let Some(node) = at.take() else {
                 unreachable!()
@@ -96,11 +93,8 @@ pub(in crate::proved::vm_engine) fn delete_at(at: &mut Child, key: &RangeInclusi
     let updated = update(
         &mut tree.left,
         &mut tree.right,
-        &tree.key,
-        tree.node_state,
-        &mut tree.height,
-        &mut tree.max_free,
-        &mut tree.alignments,
+        &tree.block,
+        &mut tree.summary,
     );
     updated.rebalance(at)
 }

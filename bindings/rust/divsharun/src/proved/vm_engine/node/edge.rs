@@ -39,8 +39,8 @@ impl Edge {
     /// Notes a passed node: the summary of the passed child, and the height of the child that the search
     /// enters.
     #[inline(always)]
-    fn pass(&mut self, passed: Summary, entered_height: u64) {
-        self.alignments |= passed.free.alignments;
+    fn pass(&mut self, passed: Summary, entered_height: u8) {
+        self.alignments |= passed.alignments;
         if passed.height != entered_height {
             self.steady = self.depth;
         }
@@ -59,27 +59,27 @@ impl InnerNode {
         found: &mut Option<Place>,
         count: &mut Steps,
     ) {
-        if self.node_state == NodeState::Free {
+        if self.block.state == NodeState::Free {
             if self.left.is_some() || self.right.is_some() {
                 return self.first_place(size, alignment, found, count);
             }
             self.enter(count);
             edge.reached = true;
-            if let Some(start) = lowest_fit(&self.key, self.node_state, size, alignment) {
+            if let Some(start) = lowest_fit(&self.block, size, alignment) {
                 *found = Some(Place {
-                    key: self.key,
+                    key: self.block.key,
                     start,
                 });
             }
             return;
         }
         let left = summary_of(&self.left);
-        if left.free.max_free >= size {
+        if left.max_free >= size {
             return self.first_place(size, alignment, found, count);
         }
         self.enter(count);
         if let Some(right) = with_multiple(&self.right, alignment) {
-            edge.pass(left, right.height);
+            edge.pass(left, right.summary.height);
             right.first_on_edge(size, alignment, edge, found, count);
         }
     }
@@ -94,27 +94,27 @@ impl InnerNode {
         found: &mut Option<Place>,
         count: &mut Steps,
     ) {
-        if self.node_state == NodeState::Free {
+        if self.block.state == NodeState::Free {
             if self.left.is_some() || self.right.is_some() {
                 return self.last_place(size, alignment, found, count);
             }
             self.enter(count);
             edge.reached = true;
-            if let Some(start) = highest_fit(&self.key, self.node_state, size, alignment) {
+            if let Some(start) = highest_fit(&self.block, size, alignment) {
                 *found = Some(Place {
-                    key: self.key,
+                    key: self.block.key,
                     start,
                 });
             }
             return;
         }
         let right = summary_of(&self.right);
-        if right.free.max_free >= size {
+        if right.max_free >= size {
             return self.last_place(size, alignment, found, count);
         }
         self.enter(count);
         if let Some(left) = with_multiple(&self.left, alignment) {
-            edge.pass(right, left.height);
+            edge.pass(right, left.summary.height);
             left.last_on_edge(size, alignment, edge, found, count);
         }
     }

@@ -31,8 +31,8 @@ struct NeighbourNodes<'a> {
 /// there is no node.
 fn free_key(node: Option<&InnerNode>) -> Option<RangeInclusive> {
     let node = node?;
-    match node.node_state {
-        NodeState::Free => Some(node.key),
+    match node.block.state {
+        NodeState::Free => Some(node.block.key),
         NodeState::Allocated => None,
     }
 }
@@ -91,7 +91,7 @@ impl InnerNode {
         count: &mut Steps,
     ) -> bool {
         self.enter(count);
-        match compare(&self.key, key) {
+        match compare(&self.block.key, key) {
             Ordering::Greater => {
                 let Some(left) = &self.left else { return false };
                 beside.after = Some(self);
@@ -115,7 +115,7 @@ impl InnerNode {
         beside: &mut NeighbourNodes<'a>,
         count: &mut Steps,
     ) -> bool {
-        match self.node_state {
+        match self.block.state {
             NodeState::Free => false,
             NodeState::Allocated => {
                 beside.before = last_below(&self.left, beside.before, count);

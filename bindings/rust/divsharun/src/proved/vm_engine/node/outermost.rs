@@ -9,12 +9,12 @@
 
 use super::edge::Edge;
 use super::split::{Split, split_at};
-use super::summary::{FreeSummary, free_summary_over, summary_of};
+use super::summary::{Summary, summary_at, summary_of};
 use super::{Child, InnerNode};
 use crate::proved::vm_engine::Steps;
+use crate::proved::vm_engine::block::Block;
 use crate::proved::vm_engine::ordering::compare;
 use core::cmp::Ordering;
-use crate::proved::vm_ranges::NodeState;
 
 /// Splits the free block of `split` in the tree at a link, and rebalances the path.
 pub(in crate::proved::vm_engine) fn split_gap(at: &mut Child, split: &mut Split, edge: &Edge, count: &mut Steps) {
@@ -28,14 +28,14 @@ pub(in crate::proved::vm_engine) fn split_gap(at: &mut Child, split: &mut Split,
 
 /// Returns the free summary of the rest of a gap, if it is one part, and the search knows that no other
 /// block is longer or has more alignments.
-fn only_rest(split: &Split, edge: &Edge) -> Option<FreeSummary> {
+fn only_rest(split: &Split, edge: &Edge) -> Option<Summary> {
     if !edge.reached || edge.steady == 0 {
         return None;
     }
     let before = summary_of(&split.rest.before);
     let after = summary_of(&split.rest.after);
-    let range = &split.choice.range;
-    let free = free_summary_over(before.free, after.free, range, NodeState::Allocated);
+    let range = split.choice.range;
+    let free = summary_at(1, before, after, &Block::held(range));
     if before.height != after.height
         && range.end() - range.start() <= free.max_free
         && edge.alignments <= free.alignments
@@ -48,13 +48,7 @@ fn only_rest(split: &Split, edge: &Edge) -> Option<FreeSummary> {
 
 /// Splits a gap like `split_at`. The first `steady` nodes of the path keep their heights, and just the
 /// free summary of the rest.
-fn split_below(
-    at: &mut Child,
-    split: &mut Split,
-    free: &FreeSummary,
-    steady: u64,
-    count: &mut Steps,
-) {
+fn split_below(at: &mut Child, split: &mut Split, free: &Summary, steady: u64, count: &mut Steps) {
     if steady == 0 {
         split_at(at, split, count);
         return;
@@ -62,9 +56,9 @@ fn split_below(
     let Some(tree) = at else { unreachable!() };
     let tree: &mut InnerNode = tree;
     tree.enter(count);
-    tree.max_free = free.max_free;
-    tree.alignments = free.alignments;
-    match compare(&tree.key, &split.choice.key) {
+    tree.summary.max_free = free.max_free;
+    tree.summary.alignments = free.alignments;
+    match compare(&tree.block.key, &split.choice.key) {
         Ordering::Equal => unreachable!(),
         Ordering::Greater => split_below(&mut tree.left, split, free, steady - 1, count),
         Ordering::Less => split_below(&mut tree.right, split, free, steady - 1, count),

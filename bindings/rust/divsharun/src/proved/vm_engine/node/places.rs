@@ -10,6 +10,7 @@
 use super::edge::Edge;
 use super::{Child, InnerNode};
 use crate::proved::vm_engine::Steps;
+use crate::proved::vm_engine::block::Block;
 use crate::proved::vm_ranges::{NodeState, RangeInclusive, align_down, align_up};
 
 /// An address in a free block at which a request can start.
@@ -25,15 +26,10 @@ pub(in crate::proved::vm_engine) struct Place {
 ///
 /// It returns `None` if there is no such multiple, or if the block is allocated.
 #[inline(always)]
-pub(super) fn lowest_fit(
-    key: &RangeInclusive,
-    state: NodeState,
-    size: u64,
-    alignment: u64,
-) -> Option<u64> {
-    match state {
+pub(super) fn lowest_fit(block: &Block, size: u64, alignment: u64) -> Option<u64> {
+    match block.state {
         NodeState::Allocated => None,
-        NodeState::Free => lowest_in_free(key, size, alignment),
+        NodeState::Free => lowest_in_free(&block.key, size, alignment),
     }
 }
 
@@ -57,15 +53,10 @@ fn lowest_in_free(key: &RangeInclusive, size: u64, alignment: u64) -> Option<u64
 ///
 /// It returns `None` if there is no such multiple, or if the block is allocated.
 #[inline(always)]
-pub(super) fn highest_fit(
-    key: &RangeInclusive,
-    state: NodeState,
-    size: u64,
-    alignment: u64,
-) -> Option<u64> {
-    match state {
+pub(super) fn highest_fit(block: &Block, size: u64, alignment: u64) -> Option<u64> {
+    match block.state {
         NodeState::Allocated => None,
-        NodeState::Free => highest_in_free(key, size, alignment),
+        NodeState::Free => highest_in_free(&block.key, size, alignment),
     }
 }
 
@@ -92,7 +83,9 @@ fn highest_in_free(key: &RangeInclusive, size: u64, alignment: u64) -> Option<u6
 pub(super) fn may_fit(tree: &Child, size: u64, alignment: u64) -> Option<&InnerNode> {
     let Some(node) = tree else { return None };
     let node: &InnerNode = node;
-    if node.max_free < size || u32::from(node.alignments) <= alignment.trailing_zeros() {
+    if node.summary.max_free < size
+        || u32::from(node.summary.alignments) <= alignment.trailing_zeros()
+    {
         None
     } else {
         Some(node)
@@ -104,7 +97,7 @@ pub(super) fn may_fit(tree: &Child, size: u64, alignment: u64) -> Option<&InnerN
 pub(super) fn with_multiple(tree: &Child, alignment: u64) -> Option<&InnerNode> {
     let Some(node) = tree else { return None };
     let node: &InnerNode = node;
-    if u32::from(node.alignments) <= alignment.trailing_zeros() {
+    if u32::from(node.summary.alignments) <= alignment.trailing_zeros() {
         None
     } else {
         Some(node)
@@ -157,9 +150,9 @@ impl InnerNode {
                 return;
             }
         }
-        if let Some(start) = lowest_fit(&self.key, self.node_state, size, alignment) {
+        if let Some(start) = lowest_fit(&self.block, size, alignment) {
             *found = Some(Place {
-                key: self.key,
+                key: self.block.key,
                 start,
             });
             return;
@@ -184,9 +177,9 @@ impl InnerNode {
                 return;
             }
         }
-        if let Some(start) = highest_fit(&self.key, self.node_state, size, alignment) {
+        if let Some(start) = highest_fit(&self.block, size, alignment) {
             *found = Some(Place {
-                key: self.key,
+                key: self.block.key,
                 start,
             });
             return;

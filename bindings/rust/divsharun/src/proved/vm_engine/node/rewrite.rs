@@ -2,9 +2,10 @@
 
 //! Changes the key and the state of a block in place.
 
-use super::summary::{Change, free_summary_over, refresh_free, summary_of};
+use super::summary::{Change, refresh_free};
 use super::{Child, InnerNode};
 use crate::proved::vm_engine::Steps;
+use crate::proved::vm_engine::block::Block;
 use crate::proved::vm_engine::ordering::compare;
 use core::cmp::Ordering;
 use crate::proved::vm_ranges::{NodeState, RangeInclusive};
@@ -13,12 +14,11 @@ impl InnerNode {
     /// Changes the key and the state of this node. The new key keeps its position in the order.
     /// Returns the change of the node's summary.
     pub(super) fn rewrite_here(&mut self, key: RangeInclusive, node_state: NodeState) -> Change {
-        self.key = key;
-        self.node_state = node_state;
-        let left = summary_of(&self.left).free;
-        let right = summary_of(&self.right).free;
-        let free = free_summary_over(left, right, &self.key, self.node_state);
-        refresh_free(free, &mut self.max_free, &mut self.alignments)
+        self.block = Block {
+            key,
+            state: node_state,
+        };
+        refresh_free(&self.left, &self.right, &self.block, &mut self.summary)
     }
 }
 
@@ -36,7 +36,7 @@ pub(in crate::proved::vm_engine) fn rewrite_at(
     let Some(tree) = at else { unreachable!() };
     let tree: &mut InnerNode = tree;
     tree.enter(count);
-    let change = match compare(&tree.key, old) {
+    let change = match compare(&tree.block.key, old) {
         Ordering::Equal => return tree.rewrite_here(key, node_state),
         Ordering::Greater => rewrite_at(&mut tree.left, old, key, node_state, count),
         Ordering::Less => rewrite_at(&mut tree.right, old, key, node_state, count),
@@ -44,8 +44,5 @@ pub(in crate::proved::vm_engine) fn rewrite_at(
     if let Change::Nothing = change {
         return change;
     }
-    let left = summary_of(&tree.left).free;
-    let right = summary_of(&tree.right).free;
-    let free = free_summary_over(left, right, &tree.key, tree.node_state);
-    refresh_free(free, &mut tree.max_free, &mut tree.alignments)
+    refresh_free(&tree.left, &tree.right, &tree.block, &mut tree.summary)
 }

@@ -12,12 +12,13 @@
 
 use super::balance::update;
 use super::link::link_at;
-use super::summary::{Change, free_summary_over, refresh_free, summary_of};
+use super::summary::{Change, refresh_free};
 use super::{Child, InnerNode};
 use crate::proved::vm_engine::Steps;
+use crate::proved::vm_engine::block::Block;
 use crate::proved::vm_engine::ordering::compare;
 use core::cmp::Ordering;
-use crate::proved::vm_ranges::{NodeState, RangeInclusive};
+use crate::proved::vm_ranges::RangeInclusive;
 
 /// The parts of a free block before and after a range. Each is a leaf, or absent if it is empty.
 pub(in crate::proved::vm_engine) struct Rest {
@@ -57,18 +58,14 @@ pub(in crate::proved::vm_engine) struct Split {
 fn split_here(at: &mut Child, split: &mut Split, count: &mut Steps) -> Change {
     let Some(tree) = at else { unreachable!() };
     let tree: &mut InnerNode = tree;
-    tree.key = split.choice.range;
-    tree.node_state = NodeState::Allocated;
+    tree.block = Block::held(split.choice.range);
     link_if_some(&mut tree.left, split.rest.before.take(), count);
     link_if_some(&mut tree.right, split.rest.after.take(), count);
     let updated = update(
         &mut tree.left,
         &mut tree.right,
-        &tree.key,
-        tree.node_state,
-        &mut tree.height,
-        &mut tree.max_free,
-        &mut tree.alignments,
+        &tree.block,
+        &mut tree.summary,
     );
     updated.rebalance(at)
 }
@@ -81,7 +78,7 @@ pub(in crate::proved::vm_engine) fn split_at(at: &mut Child, split: &mut Split, 
     let Some(tree) = at else { unreachable!() };
     let tree: &mut InnerNode = tree;
     tree.enter(count);
-    let change = match compare(&tree.key, &split.choice.key) {
+    let change = match compare(&tree.block.key, &split.choice.key) {
         Ordering::Equal => return split_here(at, split, count),
         Ordering::Greater => split_at(&mut tree.left, split, count),
         Ordering::Less => split_at(&mut tree.right, split, count),
@@ -89,20 +86,14 @@ pub(in crate::proved::vm_engine) fn split_at(at: &mut Child, split: &mut Split, 
     match change {
         Change::Nothing => Change::Nothing,
         Change::FreeOnly => {
-            let left = summary_of(&tree.left).free;
-            let right = summary_of(&tree.right).free;
-            let free = free_summary_over(left, right, &tree.key, tree.node_state);
-            refresh_free(free, &mut tree.max_free, &mut tree.alignments)
+            refresh_free(&tree.left, &tree.right, &tree.block, &mut tree.summary)
         }
         Change::Height => {
             let updated = update(
                 &mut tree.left,
                 &mut tree.right,
-                &tree.key,
-                tree.node_state,
-                &mut tree.height,
-                &mut tree.max_free,
-                &mut tree.alignments,
+                &tree.block,
+                &mut tree.summary,
             );
             updated.rebalance(at)
         }

@@ -54,10 +54,7 @@ impl<'a> Walk<'a> {
     fn peek(&self) -> Option<Block> {
         let side = *self.path.get(self.from)?;
         let Some(node) = side else { return None };
-        Some(Block {
-            key: node.key,
-            state: node.node_state,
-        })
+        Some(node.block)
     }
 }
 
@@ -75,9 +72,6 @@ impl<'a> Iterator for Walk<'a> {
         let Some(node) = side else { return None };
         let node: &InnerNode = node;
         self.from = descend(&mut self.path, from + 1, &node.right);
-        Some(Block {
-            key: node.key,
-            state: node.node_state,
-        })
+        Some(node.block)
     }
 }

@@ -6,12 +6,13 @@
 //! before the child is entered, nothing is left to do after it, and the recursion compiles to a
 //! loop.
 
-use super::summary::{FreeSummary, free_summary_of, raise_free};
+use super::summary::{Summary, raise_free, summary_of_leaf};
 use super::{Child, InnerNode};
 use crate::proved::vm_engine::Steps;
+use crate::proved::vm_engine::block::Block;
 use crate::proved::vm_engine::ordering::compare;
 use core::cmp::Ordering;
-use crate::proved::vm_ranges::{NodeState, RangeInclusive};
+use crate::proved::vm_ranges::RangeInclusive;
 
 /// Makes the allocated block with key `held` free and gives it `range`, in the subtree at a link.
 ///
@@ -20,17 +21,16 @@ fn widen_at(
     at: &mut Child,
     held: &RangeInclusive,
     range: &RangeInclusive,
-    free: &FreeSummary,
+    free: &Summary,
     count: &mut Steps,
 ) {
     let Some(tree) = at else { unreachable!() };
     let tree: &mut InnerNode = tree;
     tree.enter(count);
-    raise_free(&mut tree.max_free, &mut tree.alignments, free);
-    match compare(&tree.key, held) {
+    raise_free(&mut tree.summary, free);
+    match compare(&tree.block.key, held) {
         Ordering::Equal => {
-            tree.key = *range;
-            tree.node_state = NodeState::Free;
+            tree.block = Block::free(*range);
         }
         Ordering::Greater => widen_at(&mut tree.left, held, range, free, count),
         Ordering::Less => widen_at(&mut tree.right, held, range, free, count),
@@ -47,6 +47,6 @@ pub(in crate::proved::vm_engine) fn widen(
     range: &RangeInclusive,
     count: &mut Steps,
 ) {
-    let free = free_summary_of(range, NodeState::Free);
+    let free = summary_of_leaf(&Block::free(*range));
     widen_at(root, held, range, &free, count);
 }

@@ -3,6 +3,7 @@
 //! Reads and writes the fields of a node's value. The names of the fields are only in this file.
 //! Reading does not allocate.
 
+use crate::proved::vm_engine::block::Block;
 use crate::rattle::{Value, json};
 use crate::rattle::{AllocError, Global};
 use crate::proved::vm_ranges::{NodeState, RangeInclusive, Result, has_fields, number_in, range_in, state_in};
@@ -55,14 +56,13 @@ pub(in crate::proved::vm_engine) fn decode_node(value: &Value) -> Option<SavedNo
 #[inline(always)]
 pub(in crate::proved::vm_engine) fn encode_node(
     mut left: Value,
-    key: &RangeInclusive,
-    node_state: NodeState,
+    block: &Block,
     mut right: Value,
     height: u64,
     alloc: Global,
 ) -> Result<Value> {
-    let mut key = key.to_value(alloc)?;
-    let mut state = node_state.to_value(alloc)?;
+    let mut key = block.key.to_value(alloc)?;
+    let mut state = block.state.to_value(alloc)?;
     Ok(node_object(alloc, &mut key, &mut state, &mut left, &mut right, height)?)
 }
 

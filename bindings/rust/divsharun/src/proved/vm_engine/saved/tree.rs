@@ -3,6 +3,7 @@
 //! Encodes a tree as a value, and decodes it. A value is checked completely before nodes are built.
 
 use crate::proved::vm_engine::IntervalTree;
+use crate::proved::vm_engine::block::Block;
 use crate::proved::vm_engine::node::walks::encoding::encode;
 use crate::proved::vm_engine::node::{Child, InnerNode, MAX_HEIGHT};
 use crate::proved::vm_engine::saved::check::check_nodes;
@@ -63,6 +64,10 @@ fn build(value: &Value, depth: u64, alloc: Global) -> core::result::Result<Child
     };
     let left = build(node.left, depth - 1, alloc)?;
     let right = build(node.right, depth - 1, alloc)?;
-    let node = InnerNode::with_children(alloc, left, node.key, node.state, right)?;
+    let block = Block {
+        key: node.key,
+        state: node.state,
+    };
+    let node = InnerNode::with_children(alloc, left, block, right)?;
     Ok(Some(node))
 }

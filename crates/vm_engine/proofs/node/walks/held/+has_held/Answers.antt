@@ -25,8 +25,8 @@ returns-in-Less t c =
 pub returns-in-Equal : goal.returns-in-Equal
 returns-in-Equal t c =
     let i = c.node.inside in
-    let b : Block = record { key = i.key; state = i.node_state } in
+    let b : Block = i.block in
     let d = find_in_middle (shape_of i) (side i.left) b (side i.right) c.args.key.now refl (sym c.in-Equal.ensures) c.node.invariant.tree in
     let e : find_key c.args.key.now (blocks (side c.args.tree.now)) ≡ Some b = rw (c.in-Some.is, ← c.deref-node.ensures, ← c.node.view_is) d in
-    let held : IsTrue c.eq.result ↔ (i.node_state ≡ Allocated) = search rules in
+    let held : IsTrue c.eq.result ↔ (i.block.state ≡ Allocated) = search rules in
     rw e (held_here b c.args.key.now c.eq.result (sym c.in-Equal.ensures) held)

@@ -52,10 +52,7 @@ impl<'a> WalkBack<'a> {
         let Some(node) = side else { return None };
         let node: &InnerNode = node;
         self.from = descend_to_highest(&mut self.path, from + 1, &node.left);
-        Some(Block {
-            key: node.key,
-            state: node.node_state,
-        })
+        Some(node.block)
     }
 }
 

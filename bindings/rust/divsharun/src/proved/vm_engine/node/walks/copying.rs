@@ -20,13 +20,10 @@ pub(in crate::proved::vm_engine) fn copy(tree: &InnerNode, alloc: Global) -> Res
         Some(right) => Some(copy(right, alloc)?),
     };
     let node = InnerNode {
-        key: tree.key,
-        node_state: tree.node_state,
-        alignments: tree.alignments,
+        block: tree.block,
         left,
         right,
-        height: tree.height,
-        max_free: tree.max_free,
+        summary: tree.summary,
     };
     Ok(Box::new(alloc, node)?)
 }

@@ -18,5 +18,5 @@ pub(in crate::proved::vm_engine) fn encode(tree: &Child, alloc: Global) -> Resul
     let node: &InnerNode = node;
     let left = encode(&node.left, alloc)?;
     let right = encode(&node.right, alloc)?;
-    encode_node(left, &node.key, node.node_state, right, node.height, alloc)
+    encode_node(left, &node.block, right, node.height(), alloc)
 }
