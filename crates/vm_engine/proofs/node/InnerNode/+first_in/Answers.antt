@@ -27,13 +27,13 @@ returns-in-Some-lowest_fit_in-clause-count t c =
       | in-Some+else-is_some w ↦ rw w.in-Some.ensures.0 (nothing_found w.first_in.new.found _ _ w.first_in.ensures.place (sym w.if-is_some.ensures))
       | in_default w ↦ none_left c.args.window.now c.args.size c.args.alignment _ _ _ _ (sym c.self.view_is) c.self.invariant.tree c.requires.request.0 c.requires.request.1 w.in_default.ensures
     ] in
-    let left : c.match-left_in.count ≡ c.enter.new.count + cond (ltb c.args.window.now.start c.self.inside.key.start) (nodes_of_first_in c.args.window.now c.args.size c.args.alignment (side c.self.inside.left)) 0 =
+    let left : c.match-left_in.count ≡ c.enter.new.count + cond (ltb c.args.window.now.start c.self.inside.block.key.start) (nodes_of_first_in c.args.window.now c.args.size c.args.alignment (side c.self.inside.left)) 0 =
     elim c.match-left_in.branch [
       | in-Some+else-is_some w ↦
-          let in_left = child_entered c.args.window.now c.args.size c.args.alignment (nodes_of_first_in c.args.window.now c.args.size c.args.alignment) c.args.window.now.start c.self.inside.key.start (side c.self.inside.left) _ w.in-Some.ensures.0 w.in-Some.ensures.2 in
+          let in_left = child_entered c.args.window.now c.args.size c.args.alignment (nodes_of_first_in c.args.window.now c.args.size c.args.alignment) c.args.window.now.start c.self.inside.block.key.start (side c.self.inside.left) _ w.in-Some.ensures.0 w.in-Some.ensures.2 in
           omega (arith, in_left, w.count-is, w.first_in.ensures.count)
       | in_default w ↦
-          let passed = child_passed c.args.window.now c.args.size c.args.alignment (nodes_of_first_in c.args.window.now c.args.size c.args.alignment) c.args.window.now.start c.self.inside.key.start (side c.self.inside.left) w.in_default.ensures (first_nodes_passed_in c.args.window.now c.args.size c.args.alignment) in
+          let passed = child_passed c.args.window.now c.args.size c.args.alignment (nodes_of_first_in c.args.window.now c.args.size c.args.alignment) c.args.window.now.start c.self.inside.block.key.start (side c.self.inside.left) w.in_default.ensures (first_nodes_passed_in c.args.window.now c.args.size c.args.alignment) in
           omega (arith, passed, w.count-is)
     ] in
     let nodes = first_nodes_here_in c.args.window.now c.args.size c.args.alignment _ _ _ _ (sym c.self.view_is) c.requires.request.1 _ c.requires.may_fit none c.in-Some-lowest_fit_in.ensures in
@@ -55,16 +55,16 @@ returns-in-Some-right_in-clause-count t c =
       | in-Some+else-is_some w ↦ rw w.in-Some.ensures.0 (nothing_found w.first_in.new.found _ _ w.first_in.ensures.place (sym w.if-is_some.ensures))
       | in_default w ↦ none_left c.args.window.now c.args.size c.args.alignment _ _ _ _ (sym c.self.view_is) c.self.invariant.tree c.requires.request.0 c.requires.request.1 w.in_default.ensures
     ] in
-    let left : c.match-left_in.count ≡ c.enter.new.count + cond (ltb c.args.window.now.start c.self.inside.key.start) (nodes_of_first_in c.args.window.now c.args.size c.args.alignment (side c.self.inside.left)) 0 =
+    let left : c.match-left_in.count ≡ c.enter.new.count + cond (ltb c.args.window.now.start c.self.inside.block.key.start) (nodes_of_first_in c.args.window.now c.args.size c.args.alignment (side c.self.inside.left)) 0 =
     elim c.match-left_in.branch [
       | in-Some+else-is_some w ↦
-          let in_left = child_entered c.args.window.now c.args.size c.args.alignment (nodes_of_first_in c.args.window.now c.args.size c.args.alignment) c.args.window.now.start c.self.inside.key.start (side c.self.inside.left) _ w.in-Some.ensures.0 w.in-Some.ensures.2 in
+          let in_left = child_entered c.args.window.now c.args.size c.args.alignment (nodes_of_first_in c.args.window.now c.args.size c.args.alignment) c.args.window.now.start c.self.inside.block.key.start (side c.self.inside.left) _ w.in-Some.ensures.0 w.in-Some.ensures.2 in
           omega (arith, in_left, w.count-is, w.first_in.ensures.count)
       | in_default w ↦
-          let passed = child_passed c.args.window.now c.args.size c.args.alignment (nodes_of_first_in c.args.window.now c.args.size c.args.alignment) c.args.window.now.start c.self.inside.key.start (side c.self.inside.left) w.in_default.ensures (first_nodes_passed_in c.args.window.now c.args.size c.args.alignment) in
+          let passed = child_passed c.args.window.now c.args.size c.args.alignment (nodes_of_first_in c.args.window.now c.args.size c.args.alignment) c.args.window.now.start c.self.inside.block.key.start (side c.self.inside.left) w.in_default.ensures (first_nodes_passed_in c.args.window.now c.args.size c.args.alignment) in
           omega (arith, passed, w.count-is)
     ] in
-    let right = child_entered c.args.window.now c.args.size c.args.alignment (nodes_of_first_in c.args.window.now c.args.size c.args.alignment) c.self.inside.key.end c.args.window.now.end (side c.self.inside.right) _ c.in-Some-right_in.ensures.0 c.in-Some-right_in.ensures.2 in
+    let right = child_entered c.args.window.now c.args.size c.args.alignment (nodes_of_first_in c.args.window.now c.args.size c.args.alignment) c.self.inside.block.key.end c.args.window.now.end (side c.self.inside.right) _ c.in-Some-right_in.ensures.0 c.in-Some-right_in.ensures.2 in
     let nodes = first_nodes_right_in c.args.window.now c.args.size c.args.alignment _ _ _ _ (sym c.self.view_is) c.requires.request.1 c.requires.may_fit none c.in_default-lowest_fit_in.ensures in
     omega (arith, nodes, left, right, c.enter.ensures, c.first_in-in-Some-right_in.ensures.count)
 
@@ -90,15 +90,15 @@ returns-in_default-right_in-clause-count t c =
       | in-Some+else-is_some w ↦ rw w.in-Some.ensures.0 (nothing_found w.first_in.new.found _ _ w.first_in.ensures.place (sym w.if-is_some.ensures))
       | in_default w ↦ none_left c.args.window.now c.args.size c.args.alignment _ _ _ _ (sym c.self.view_is) c.self.invariant.tree c.requires.request.0 c.requires.request.1 w.in_default.ensures
     ] in
-    let left : c.match-left_in.count ≡ c.enter.new.count + cond (ltb c.args.window.now.start c.self.inside.key.start) (nodes_of_first_in c.args.window.now c.args.size c.args.alignment (side c.self.inside.left)) 0 =
+    let left : c.match-left_in.count ≡ c.enter.new.count + cond (ltb c.args.window.now.start c.self.inside.block.key.start) (nodes_of_first_in c.args.window.now c.args.size c.args.alignment (side c.self.inside.left)) 0 =
     elim c.match-left_in.branch [
       | in-Some+else-is_some w ↦
-          let in_left = child_entered c.args.window.now c.args.size c.args.alignment (nodes_of_first_in c.args.window.now c.args.size c.args.alignment) c.args.window.now.start c.self.inside.key.start (side c.self.inside.left) _ w.in-Some.ensures.0 w.in-Some.ensures.2 in
+          let in_left = child_entered c.args.window.now c.args.size c.args.alignment (nodes_of_first_in c.args.window.now c.args.size c.args.alignment) c.args.window.now.start c.self.inside.block.key.start (side c.self.inside.left) _ w.in-Some.ensures.0 w.in-Some.ensures.2 in
           omega (arith, in_left, w.count-is, w.first_in.ensures.count)
       | in_default w ↦
-          let passed = child_passed c.args.window.now c.args.size c.args.alignment (nodes_of_first_in c.args.window.now c.args.size c.args.alignment) c.args.window.now.start c.self.inside.key.start (side c.self.inside.left) w.in_default.ensures (first_nodes_passed_in c.args.window.now c.args.size c.args.alignment) in
+          let passed = child_passed c.args.window.now c.args.size c.args.alignment (nodes_of_first_in c.args.window.now c.args.size c.args.alignment) c.args.window.now.start c.self.inside.block.key.start (side c.self.inside.left) w.in_default.ensures (first_nodes_passed_in c.args.window.now c.args.size c.args.alignment) in
           omega (arith, passed, w.count-is)
     ] in
-    let right = child_passed c.args.window.now c.args.size c.args.alignment (nodes_of_first_in c.args.window.now c.args.size c.args.alignment) c.self.inside.key.end c.args.window.now.end (side c.self.inside.right) c.in_default-right_in.ensures (first_nodes_passed_in c.args.window.now c.args.size c.args.alignment) in
+    let right = child_passed c.args.window.now c.args.size c.args.alignment (nodes_of_first_in c.args.window.now c.args.size c.args.alignment) c.self.inside.block.key.end c.args.window.now.end (side c.self.inside.right) c.in_default-right_in.ensures (first_nodes_passed_in c.args.window.now c.args.size c.args.alignment) in
     let nodes = first_nodes_right_in c.args.window.now c.args.size c.args.alignment _ _ _ _ (sym c.self.view_is) c.requires.request.1 c.requires.may_fit none c.in_default-lowest_fit_in.ensures in
     omega (arith, nodes, left, right, c.enter.ensures)

@@ -27,13 +27,13 @@ returns-in-Some-highest_fit_in-clause-count t c =
       | in-Some+else-is_some w ↦ rw w.in-Some.ensures.0 (nothing_found w.last_in.new.found _ _ w.last_in.ensures.place (sym w.if-is_some.ensures))
       | in_default w ↦ none_right c.args.window.now c.args.size c.args.alignment _ _ _ _ (sym c.self.view_is) c.self.invariant.tree c.requires.request.0 c.requires.request.1 w.in_default.ensures
     ] in
-    let near : c.match-right_in.count ≡ c.enter.new.count + cond (ltb c.self.inside.key.end c.args.window.now.end) (nodes_of_last_in c.args.window.now c.args.size c.args.alignment (side c.self.inside.right)) 0 =
+    let near : c.match-right_in.count ≡ c.enter.new.count + cond (ltb c.self.inside.block.key.end c.args.window.now.end) (nodes_of_last_in c.args.window.now c.args.size c.args.alignment (side c.self.inside.right)) 0 =
     elim c.match-right_in.branch [
       | in-Some+else-is_some w ↦
-          let in_left = child_entered c.args.window.now c.args.size c.args.alignment (nodes_of_last_in c.args.window.now c.args.size c.args.alignment) c.self.inside.key.end c.args.window.now.end (side c.self.inside.right) _ w.in-Some.ensures.0 w.in-Some.ensures.2 in
+          let in_left = child_entered c.args.window.now c.args.size c.args.alignment (nodes_of_last_in c.args.window.now c.args.size c.args.alignment) c.self.inside.block.key.end c.args.window.now.end (side c.self.inside.right) _ w.in-Some.ensures.0 w.in-Some.ensures.2 in
           omega (arith, in_left, w.count-is, w.last_in.ensures.count)
       | in_default w ↦
-          let passed = child_passed c.args.window.now c.args.size c.args.alignment (nodes_of_last_in c.args.window.now c.args.size c.args.alignment) c.self.inside.key.end c.args.window.now.end (side c.self.inside.right) w.in_default.ensures (last_nodes_passed_in c.args.window.now c.args.size c.args.alignment) in
+          let passed = child_passed c.args.window.now c.args.size c.args.alignment (nodes_of_last_in c.args.window.now c.args.size c.args.alignment) c.self.inside.block.key.end c.args.window.now.end (side c.self.inside.right) w.in_default.ensures (last_nodes_passed_in c.args.window.now c.args.size c.args.alignment) in
           omega (arith, passed, w.count-is)
     ] in
     let nodes = last_nodes_here_in c.args.window.now c.args.size c.args.alignment _ _ _ _ (sym c.self.view_is) c.requires.request.1 _ c.requires.may_fit none c.in-Some-highest_fit_in.ensures in
@@ -55,16 +55,16 @@ returns-in-Some-left_in-clause-count t c =
       | in-Some+else-is_some w ↦ rw w.in-Some.ensures.0 (nothing_found w.last_in.new.found _ _ w.last_in.ensures.place (sym w.if-is_some.ensures))
       | in_default w ↦ none_right c.args.window.now c.args.size c.args.alignment _ _ _ _ (sym c.self.view_is) c.self.invariant.tree c.requires.request.0 c.requires.request.1 w.in_default.ensures
     ] in
-    let near : c.match-right_in.count ≡ c.enter.new.count + cond (ltb c.self.inside.key.end c.args.window.now.end) (nodes_of_last_in c.args.window.now c.args.size c.args.alignment (side c.self.inside.right)) 0 =
+    let near : c.match-right_in.count ≡ c.enter.new.count + cond (ltb c.self.inside.block.key.end c.args.window.now.end) (nodes_of_last_in c.args.window.now c.args.size c.args.alignment (side c.self.inside.right)) 0 =
     elim c.match-right_in.branch [
       | in-Some+else-is_some w ↦
-          let in_left = child_entered c.args.window.now c.args.size c.args.alignment (nodes_of_last_in c.args.window.now c.args.size c.args.alignment) c.self.inside.key.end c.args.window.now.end (side c.self.inside.right) _ w.in-Some.ensures.0 w.in-Some.ensures.2 in
+          let in_left = child_entered c.args.window.now c.args.size c.args.alignment (nodes_of_last_in c.args.window.now c.args.size c.args.alignment) c.self.inside.block.key.end c.args.window.now.end (side c.self.inside.right) _ w.in-Some.ensures.0 w.in-Some.ensures.2 in
           omega (arith, in_left, w.count-is, w.last_in.ensures.count)
       | in_default w ↦
-          let passed = child_passed c.args.window.now c.args.size c.args.alignment (nodes_of_last_in c.args.window.now c.args.size c.args.alignment) c.self.inside.key.end c.args.window.now.end (side c.self.inside.right) w.in_default.ensures (last_nodes_passed_in c.args.window.now c.args.size c.args.alignment) in
+          let passed = child_passed c.args.window.now c.args.size c.args.alignment (nodes_of_last_in c.args.window.now c.args.size c.args.alignment) c.self.inside.block.key.end c.args.window.now.end (side c.self.inside.right) w.in_default.ensures (last_nodes_passed_in c.args.window.now c.args.size c.args.alignment) in
           omega (arith, passed, w.count-is)
     ] in
-    let far = child_entered c.args.window.now c.args.size c.args.alignment (nodes_of_last_in c.args.window.now c.args.size c.args.alignment) c.args.window.now.start c.self.inside.key.start (side c.self.inside.left) _ c.in-Some-left_in.ensures.0 c.in-Some-left_in.ensures.2 in
+    let far = child_entered c.args.window.now c.args.size c.args.alignment (nodes_of_last_in c.args.window.now c.args.size c.args.alignment) c.args.window.now.start c.self.inside.block.key.start (side c.self.inside.left) _ c.in-Some-left_in.ensures.0 c.in-Some-left_in.ensures.2 in
     let nodes = last_nodes_left_in c.args.window.now c.args.size c.args.alignment _ _ _ _ (sym c.self.view_is) c.requires.request.1 c.requires.may_fit none c.in_default-highest_fit_in.ensures in
     omega (arith, nodes, near, far, c.enter.ensures, c.last_in-in-Some-left_in.ensures.count)
 
@@ -90,16 +90,16 @@ returns-in_default-left_in-clause-count t c =
       | in-Some+else-is_some w ↦ rw w.in-Some.ensures.0 (nothing_found w.last_in.new.found _ _ w.last_in.ensures.place (sym w.if-is_some.ensures))
       | in_default w ↦ none_right c.args.window.now c.args.size c.args.alignment _ _ _ _ (sym c.self.view_is) c.self.invariant.tree c.requires.request.0 c.requires.request.1 w.in_default.ensures
     ] in
-    let near : c.match-right_in.count ≡ c.enter.new.count + cond (ltb c.self.inside.key.end c.args.window.now.end) (nodes_of_last_in c.args.window.now c.args.size c.args.alignment (side c.self.inside.right)) 0 =
+    let near : c.match-right_in.count ≡ c.enter.new.count + cond (ltb c.self.inside.block.key.end c.args.window.now.end) (nodes_of_last_in c.args.window.now c.args.size c.args.alignment (side c.self.inside.right)) 0 =
     elim c.match-right_in.branch [
       | in-Some+else-is_some w ↦
-          let in_left = child_entered c.args.window.now c.args.size c.args.alignment (nodes_of_last_in c.args.window.now c.args.size c.args.alignment) c.self.inside.key.end c.args.window.now.end (side c.self.inside.right) _ w.in-Some.ensures.0 w.in-Some.ensures.2 in
+          let in_left = child_entered c.args.window.now c.args.size c.args.alignment (nodes_of_last_in c.args.window.now c.args.size c.args.alignment) c.self.inside.block.key.end c.args.window.now.end (side c.self.inside.right) _ w.in-Some.ensures.0 w.in-Some.ensures.2 in
           omega (arith, in_left, w.count-is, w.last_in.ensures.count)
       | in_default w ↦
-          let passed = child_passed c.args.window.now c.args.size c.args.alignment (nodes_of_last_in c.args.window.now c.args.size c.args.alignment) c.self.inside.key.end c.args.window.now.end (side c.self.inside.right) w.in_default.ensures (last_nodes_passed_in c.args.window.now c.args.size c.args.alignment) in
+          let passed = child_passed c.args.window.now c.args.size c.args.alignment (nodes_of_last_in c.args.window.now c.args.size c.args.alignment) c.self.inside.block.key.end c.args.window.now.end (side c.self.inside.right) w.in_default.ensures (last_nodes_passed_in c.args.window.now c.args.size c.args.alignment) in
           omega (arith, passed, w.count-is)
     ] in
-    let far = child_passed c.args.window.now c.args.size c.args.alignment (nodes_of_last_in c.args.window.now c.args.size c.args.alignment) c.args.window.now.start c.self.inside.key.start (side c.self.inside.left) c.in_default-left_in.ensures (last_nodes_passed_in c.args.window.now c.args.size c.args.alignment) in
+    let far = child_passed c.args.window.now c.args.size c.args.alignment (nodes_of_last_in c.args.window.now c.args.size c.args.alignment) c.args.window.now.start c.self.inside.block.key.start (side c.self.inside.left) c.in_default-left_in.ensures (last_nodes_passed_in c.args.window.now c.args.size c.args.alignment) in
     let nodes = last_nodes_left_in c.args.window.now c.args.size c.args.alignment _ _ _ _ (sym c.self.view_is) c.requires.request.1 c.requires.may_fit none c.in_default-highest_fit_in.ensures in
     omega (arith, nodes, near, far, c.enter.ensures)
 

@@ -8,8 +8,9 @@
 use super::places::{Place, highest_fit, lowest_fit, may_fit};
 use super::{Child, InnerNode};
 use crate::proved::vm_engine::Steps;
+use crate::proved::vm_engine::block::Block;
 use crate::proved::vm_engine::ordering::valid_range;
-use crate::proved::vm_ranges::{NodeState, RangeInclusive};
+use crate::proved::vm_ranges::RangeInclusive;
 
 /// Returns the part of a range that lies in the window, or `None` if it is empty.
 fn part_in(window: &RangeInclusive, key: &RangeInclusive) -> Option<RangeInclusive> {
@@ -26,16 +27,16 @@ fn part_in(window: &RangeInclusive, key: &RangeInclusive) -> Option<RangeInclusi
 ///
 /// It returns `None` if there is no such multiple, or if the block is allocated.
 fn lowest_fit_in(
-    key: &RangeInclusive,
-    state: NodeState,
+    block: &Block,
     window: &RangeInclusive,
     size: u64,
     alignment: u64,
 ) -> Option<u64> {
-    let Some(part) = part_in(window, key) else {
-        return None;
+    let part = Block {
+        key: part_in(window, &block.key)?,
+        state: block.state,
     };
-    lowest_fit(&part, state, size, alignment)
+    lowest_fit(&part, size, alignment)
 }
 
 /// Returns the highest multiple of `alignment` at which `size` addresses fit into the part of the
@@ -43,16 +44,16 @@ fn lowest_fit_in(
 ///
 /// It returns `None` if there is no such multiple, or if the block is allocated.
 fn highest_fit_in(
-    key: &RangeInclusive,
-    state: NodeState,
+    block: &Block,
     window: &RangeInclusive,
     size: u64,
     alignment: u64,
 ) -> Option<u64> {
-    let Some(part) = part_in(window, key) else {
-        return None;
+    let part = Block {
+        key: part_in(window, &block.key)?,
+        state: block.state,
     };
-    highest_fit(&part, state, size, alignment)
+    highest_fit(&part, size, alignment)
 }
 
 /// Returns the left child of a node with this key, if a request may fit into it, and the window starts
@@ -126,20 +127,20 @@ impl InnerNode {
         count: &mut Steps,
     ) {
         self.enter(count);
-        if let Some(left) = left_in(&self.left, &self.key, window, size, alignment) {
+        if let Some(left) = left_in(&self.left, &self.block.key, window, size, alignment) {
             left.first_in(window, size, alignment, found, count);
             if found.is_some() {
                 return;
             }
         }
-        if let Some(start) = lowest_fit_in(&self.key, self.node_state, window, size, alignment) {
+        if let Some(start) = lowest_fit_in(&self.block, window, size, alignment) {
             *found = Some(Place {
-                key: self.key,
+                key: self.block.key,
                 start,
             });
             return;
         }
-        if let Some(right) = right_in(&self.right, &self.key, window, size, alignment) {
+        if let Some(right) = right_in(&self.right, &self.block.key, window, size, alignment) {
             right.first_in(window, size, alignment, found, count);
         }
     }
@@ -154,20 +155,20 @@ impl InnerNode {
         count: &mut Steps,
     ) {
         self.enter(count);
-        if let Some(right) = right_in(&self.right, &self.key, window, size, alignment) {
+        if let Some(right) = right_in(&self.right, &self.block.key, window, size, alignment) {
             right.last_in(window, size, alignment, found, count);
             if found.is_some() {
                 return;
             }
         }
-        if let Some(start) = highest_fit_in(&self.key, self.node_state, window, size, alignment) {
+        if let Some(start) = highest_fit_in(&self.block, window, size, alignment) {
             *found = Some(Place {
-                key: self.key,
+                key: self.block.key,
                 start,
             });
             return;
         }
-        if let Some(left) = left_in(&self.left, &self.key, window, size, alignment) {
+        if let Some(left) = left_in(&self.left, &self.block.key, window, size, alignment) {
             left.last_in(window, size, alignment, found, count);
         }
     }
