@@ -275,6 +275,43 @@ impl AddressAllocator {
         }
     }
 
+    /// Allocates like [`allocate_constraint`](Self::allocate_constraint), and also returns the number
+    /// of tree nodes that the call entered.
+    ///
+    /// A request without a window has the bounds of [`allocate_counted`](Self::allocate_counted). Let
+    /// h be the [`height`](Self::height) and k the number of allocated ranges before the call. With a
+    /// window, the count is
+    /// - at most 3h for `ExactMatch`.
+    /// - at most 2k + 1 + 2h for `FirstMatch` and `LastMatch`.
+    /// - at most h(v + 2) + 2h for these two, and at most h(v + 2) if they return
+    ///   `ResourceNotAvailable`. Here v is the lesser of the two numbers of `allocate_counted`, of
+    ///   the parts of the gaps in the window.
+    ///
+    /// # Errors
+    ///
+    /// Those of [`allocate_constraint`](Self::allocate_constraint), in the same order.
+    #[tactic(auto, using(crate::proofs::Callers::constraint_allocations, vm_engine::proofs::Counts::GapBounds::counted_allocations, vm_engine::proofs::Answers::Filling::succeeding, crate::proofs::Trees::trees))]
+    pub fn allocate_constraint_counted(
+        &mut self,
+        alloc: Global,
+        request: Constraint,
+    ) -> (Result<RangeInclusive>, u64)
+        ensures answer { Allocates (state_of self.old) request result.0 (state_of self.new) }
+        ensures unchanged { OnErr result.0 (self.new ≡ self.old) }
+
+        // A request that fills its gap needs no memory, so it succeeds.
+        ensures filling { (start : ℕ) → FillsGap (state_of self.old) request start → IsOk result.0 }
+
+        // The limit on the height is checked before memory is allocated.
+        ensures depth { SplitsIfLow (height_of self.old.tree) (state_of self.old) request result.0 }
+        ensures count { EntersToAllocate self.old.tree request result.0 result.1 }
+        ensures steps { IsAllocationCount (height_of self.old.tree) (state_of self.old) request result.0 result.1 }
+        ensures search { SearchesGaps (height_of self.old.tree) (state_of self.old) request result.0 result.1 }
+        ensures search_aligned { SearchesAligned (height_of self.old.tree) (state_of self.old) request result.0 result.1 }
+    {
+        self.interval_tree.allocate_counted(alloc, request)
+    }
+
     /// Frees an allocated range.
     ///
     /// It does not allocate, and always succeeds for an allocated range.

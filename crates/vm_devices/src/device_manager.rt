@@ -2,11 +2,11 @@
 //!
 //! Ids, ranges and the table of devices change together or not at all. Calls that can fail are
 //! first. The calls after them, and the call that undoes an allocation, always succeed.
-ghost use Rattle.std.specs.Prelude.{◌≡◌, ◌%◌, OnErr, OnOk, IfOk};
+ghost use Rattle.std.specs.Prelude.{◌≡◌, ◌%◌, OnErr, OnOk, IfOk, IfSome};
 ghost use Rattle.std.specs.FinMap as map;
 ghost use Rattle.vm_ranges.specs.Cloning.{Clones};
-ghost use Rattle.vm_ranges.specs.Range.{Range, address_count};
-ghost use Rattle.vm_ranges.specs.Request.{request_for};
+ghost use Rattle.vm_ranges.specs.Range.{Range, Covers, address_count};
+ghost use Rattle.vm_ranges.specs.Request.{Request, request_for, MakesConstraint};
 ghost use Rattle.vm_engine.specs.Answer.{IsChosen};
 ghost use Rattle.vm_allocator.specs.Ids.{IsLowestNotHeld};
 ghost use Rattle.vm_devices.specs.Devices.{
@@ -22,7 +22,9 @@ ghost use Rattle.vm_devices.specs.Devices.{
 use crate::device_slot::DeviceSlot;
 use std::alloc::Global;
 use std::marker::Model;
-use vm_allocator::{AddressAllocator, AllocPolicy, Error, IdAllocator, RangeInclusive, Result};
+use vm_allocator::{
+    AddressAllocator, AllocPolicy, Constraint, Error, IdAllocator, RangeInclusive, Result,
+};
 
 mod comparing;
 mod device_table;
@@ -135,8 +137,48 @@ impl DeviceManager {
         // Each result under its exact condition.
         ensures answer { Reserves self.old (request_for size align policy) result self.new }
     {
+        self.reserve_request(alloc, Constraint::new(size, align, policy))
+    }
+
+    /// Reserves an id and a range like [`reserve`](Self::reserve), for a request that was made before.
+    /// If the request has a window, the range lies in the window.
+    ///
+    /// # Errors
+    ///
+    /// An error leaves ids, ranges and devices unchanged. In this order:
+    /// - `Overflow` if all ids are allocated and their range ends at `u32::MAX`.
+    /// - `ResourceNotAvailable` if all ids are allocated and their range ends below `u32::MAX`.
+    /// - The errors of `AddressAllocator::allocate_constraint`, in the order of its documentation.
+    /// - `OutOfMemory` if an allocation for the table of devices fails.
+    pub fn reserve_constraint(&mut self, alloc: Global, request: Constraint) -> Result<DeviceSlot>
+        // The id is the lowest that is not held. The range is as long as asked, aligned and in the window,
+        // at the place that the policy chooses there.
+        ensures lowest { IfOk result (λ slot. IsLowestNotHeld self.old.ids slot.id) }
+        ensures fits { IfOk result (λ slot.
+            (address_count slot.range ≡ request.size) × (slot.range.start % request.align ≡ 0)) }
+        ensures inside { IfOk result (λ slot. IfSome request.window (λ window. Covers window slot.range)) }
+        ensures chosen { IfOk result (λ slot. IsChosen request self.old.space slot.range.start) }
+
+        // The device has both, and nothing else changes.
+        ensures held { IfOk result (λ slot. self.new ≡ with_device slot.id slot.range self.old) }
+        ensures unchanged { OnErr result (self.new ≡ self.old) }
+        ensures state { IsDeviceState self.new }
+
+        // Each result under its exact condition.
+        ensures answer { Reserves self.old request result self.new }
+    {
+        self.reserve_request(alloc, Ok(request))
+    }
+
+    /// Reserves an id and the range of a request. The error of the id precedes that of the request.
+    #[tactic(auto, using(crate::proofs::DeviceCalls::id_refused))]
+    fn reserve_request(&mut self, alloc: Global, request: Result<Constraint>) -> Result<DeviceSlot>
+        ensures answer { (asked : Request) → MakesConstraint asked request → Reserves self.old asked result self.new }
+        ensures unchanged { OnErr result (self.new ≡ self.old) }
+        ensures state { IsDeviceState self.new }
+    {
         let id = self.id_allocator.peek_id()?;
-        let range = self.mmio_allocator.allocate(alloc, size, align, policy)?;
+        let range = self.mmio_allocator.allocate_constraint(alloc, request?)?;
         if let Err(refused) = self.slots.insert(alloc, id, range) {
             // Freeing an allocated range always succeeds.
             let _ = self.mmio_allocator.free(&range);

@@ -180,6 +180,29 @@ impl AddressAllocator {
         }
     }
 
+    /// Allocates like [`allocate_constraint`](Self::allocate_constraint), and also returns the number
+    /// of tree nodes that the call entered.
+    ///
+    /// A request without a window has the bounds of [`allocate_counted`](Self::allocate_counted). Let
+    /// h be the [`height`](Self::height) and k the number of allocated ranges before the call. With a
+    /// window, the count is
+    /// - at most 3h for `ExactMatch`.
+    /// - at most 2k + 1 + 2h for `FirstMatch` and `LastMatch`.
+    /// - at most h(v + 2) + 2h for these two, and at most h(v + 2) if they return
+    ///   `ResourceNotAvailable`. Here v is the lesser of the two numbers of `allocate_counted`, of
+    ///   the parts of the gaps in the window.
+    ///
+    /// # Errors
+    ///
+    /// Those of [`allocate_constraint`](Self::allocate_constraint), in the same order.
+    pub fn allocate_constraint_counted(
+        &mut self,
+        alloc: Global,
+        request: Constraint,
+    ) -> (Result<RangeInclusive>, u64) {
+        self.interval_tree.allocate_counted(alloc, request)
+    }
+
     /// Frees an allocated range.
     ///
     /// It does not allocate, and always succeeds for an allocated range.

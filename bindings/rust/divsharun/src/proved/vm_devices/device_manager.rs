@@ -7,7 +7,9 @@
 
 use crate::proved::vm_devices::device_slot::DeviceSlot;
 use crate::rattle::Global;
-use crate::proved::vm_allocator::{AddressAllocator, AllocPolicy, Error, IdAllocator, RangeInclusive, Result};
+use crate::proved::vm_allocator::{
+    AddressAllocator, AllocPolicy, Constraint, Error, IdAllocator, RangeInclusive, Result,
+};
 
 mod comparing;
 mod device_table;
@@ -85,8 +87,27 @@ impl DeviceManager {
         align: u64,
         policy: AllocPolicy,
     ) -> Result<DeviceSlot> {
+        self.reserve_request(alloc, Constraint::new(size, align, policy))
+    }
+
+    /// Reserves an id and a range like [`reserve`](Self::reserve), for a request that was made before.
+    /// If the request has a window, the range lies in the window.
+    ///
+    /// # Errors
+    ///
+    /// An error leaves ids, ranges and devices unchanged. In this order:
+    /// - `Overflow` if all ids are allocated and their range ends at `u32::MAX`.
+    /// - `ResourceNotAvailable` if all ids are allocated and their range ends below `u32::MAX`.
+    /// - The errors of `AddressAllocator::allocate_constraint`, in the order of its documentation.
+    /// - `OutOfMemory` if an allocation for the table of devices fails.
+    pub fn reserve_constraint(&mut self, alloc: Global, request: Constraint) -> Result<DeviceSlot> {
+        self.reserve_request(alloc, Ok(request))
+    }
+
+    /// Reserves an id and the range of a request. The error of the id precedes that of the request.
+    fn reserve_request(&mut self, alloc: Global, request: Result<Constraint>) -> Result<DeviceSlot> {
         let id = self.id_allocator.peek_id()?;
-        let range = self.mmio_allocator.allocate(alloc, size, align, policy)?;
+        let range = self.mmio_allocator.allocate_constraint(alloc, request?)?;
         if let Err(refused) = self.slots.insert(alloc, id, range) {
             // Freeing an allocated range always succeeds.
             let _ = self.mmio_allocator.free(&range);
