@@ -1,5 +1,5 @@
 -- The check of a value accepts exactly the values that encode a tree of the space.
-use Rattle.std.proofs.Common.{◌≡◌, ◌+◌, ◌≤◌, Bool, true, Some, None, Option, refl, sym, ap, ◌∙◌, subst, arith, true≢false, false}
+use Rattle.std.proofs.Common.{◌≡◌, ◌≤◌, Bool, true, Some, None, Option, refl, sym, ap, ◌∙◌, subst, arith, true≢false, false}
 use Rattle.serde_json.specs.Data.{Data}
 use Rattle.vm_ranges.specs.Range.{Range, MAX, IsRange}
 use Rattle.vm_engine.specs.Tree.Blocks.{TilesSpace}
@@ -7,7 +7,7 @@ use Rattle.vm_engine.specs.Tree.Shape.{Shape, Tip, MAX_HEIGHT, blocks, height_of
 use Rattle.vm_engine.specs.Tree.SpaceTree.{IsSpaceTree}
 use Rattle.vm_engine.specs.Values.KeyValues.{MAX_NESTING_REPAIRED}
 use Rattle.vm_engine.specs.Values.TreeValues.{EncodesShape, EncodesSpaceTree}
-use Rattle.vm_engine.specs.Values.SavedTrees.{Saved, Absent, shape_of, IsReadable, IsSavedTree}
+use Rattle.vm_engine.specs.Values.SavedTrees.{Absent, shape_of, IsReadable, IsSavedTree}
 use Rattle.vm_engine.specs.Checks.ValueParts.{IsShapeWithin, HasShapeWithin}
 use Rattle.vm_engine.specs.Checks.Spans.{is_tree_of}
 use Rattle.vm_engine.specs.Checks.ValueSpans.{checked_nodes, found_with, has_tree_of}

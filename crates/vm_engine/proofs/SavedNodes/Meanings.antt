@@ -1,6 +1,5 @@
 -- What a span says about the subtree that it stands for.
-use Rattle.std.proofs.Common.{◌≡◌, ℕ, ◌+◌, ◌≤◌, ◌<◌, true, List, [], ◌∷◌, ◌++◌, length, Option, Some, None}
-use Rattle.vm_ranges.specs.Range.{Range, MAX}
+use Rattle.std.proofs.Common.{◌≡◌, ℕ, true, List, [], ◌∷◌, ◌++◌, length, Option, Some, None}
 use Rattle.vm_engine.specs.Tree.Block.{Block}
 use Rattle.vm_engine.specs.Tree.Blocks.{Tiles}
 use Rattle.vm_engine.specs.Tree.Shape.{height_of, IsBalanced}

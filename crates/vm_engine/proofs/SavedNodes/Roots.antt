@@ -1,21 +1,20 @@
 -- Which saved trees are accepted, by the span of the root.
-use Rattle.std.proofs.Common.{◌≡◌, ℕ, ◌+◌, ◌≤◌, ◌<◌, Bool, true, false, not, ◌&&◌, leb, ltb, eqb, List, [], ◌∷◌, ◌++◌, length, Option, Some, None, Ok, refl, sym, ap, ◌∙◌, subst, arith, true≢false}
-use Rattle.std.proofs.lemmas.Bool.{and_parts, and_from, leb-true, le-leb, eqb-true, eq-eqb, not-true}
-use Rattle.vm_ranges.specs.Range.{Range, MAX, IsRange}
+use Rattle.std.proofs.Common.{◌≡◌, ℕ, ◌+◌, ◌≤◌, true, false, ◌&&◌, leb, eqb, List, [], ◌∷◌, Option, Some, None, Ok, refl, sym, ap, ◌∙◌, subst, arith, true≢false}
+use Rattle.std.proofs.lemmas.Bool.{and_parts, and_from, leb-true, le-leb, eqb-true, eq-eqb}
+use Rattle.vm_ranges.specs.Range.{Range, MAX}
 use Rattle.vm_engine.specs.Address.{AddressState}
 use Rattle.vm_engine.specs.Answer.{SPLIT_LIMIT_MIN_HELD}
 use Rattle.vm_engine.specs.Held.{MakesHeld}
 use Rattle.vm_engine.specs.Tree.Block.{Block}
-use Rattle.vm_engine.specs.Tree.Blocks.{Tiles, TilesSpace, AreKeysIn, IsTiling}
+use Rattle.vm_engine.specs.Tree.Blocks.{Tiles, TilesSpace, AreKeysIn}
 use Rattle.vm_engine.specs.Tree.Shape.{MAX_HEIGHT}
-use Rattle.vm_engine.specs.Values.SavedTrees.{Saved, Absent, shape_of, saved_blocks, held_keys, IsSavedTree, HasHeldKeys, HasTreeOf}
+use Rattle.vm_engine.specs.Values.SavedTrees.{Saved, Absent, saved_blocks, held_keys, IsSavedTree, HasHeldKeys, HasTreeOf}
 use Rattle.vm_engine.specs.Checks.Spans.{StandsFor, is_inside, is_tree_of}
 use Rattle.vm_engine.specs.declared.saved.span.Span.{Span}
-use Rattle.vm_ranges.specs.declared.state.NodeState.{NodeState}
-use Rattle.vm_ranges.specs.declared.state.NodeState.TheVariants.{Free, Allocated}
+use Rattle.vm_ranges.specs.declared.state.NodeState.TheVariants.{Allocated}
 use Rattle.vm_engine.proofs.Making.HeldTrees.{held_made}
-use Rattle.vm_engine.proofs.SavedNodes.KeyLists.{keys_within, keys_from, keys_to, last_above, tiles_cut}
-use Rattle.vm_engine.proofs.SavedNodes.Meanings.{HasEnds, IsExact, Means, MeansAll}
+use Rattle.vm_engine.proofs.SavedNodes.KeyLists.{keys_from, keys_to, last_above, tiles_cut}
+use Rattle.vm_engine.proofs.SavedNodes.Meanings.{MeansAll}
 use Rattle.vm_engine.proofs.SavedNodes.Spans.{sound}
 
 abbrev pub state_with : Range → List Range → AddressState

@@ -1,11 +1,11 @@
 -- The laws of saved trees.
-use Rattle.std.proofs.Common.{◌≡◌, ◌≢◌, ◌+◌, ◌^◌, ◌≤◌, ◌<◌, List, [], length, Option, Some, None, sym, ap, ◌∙◌, subst, arith, refl}
+use Rattle.std.proofs.Common.{◌≡◌, ◌≢◌, List, [], length, Option, Some, None, sym, ap, ◌∙◌, subst, arith, refl}
 use Rattle.vm_engine.specs.Tree.Block.{Block}
 use Rattle.vm_engine.specs.Tree.Blocks.{blocks_of}
 use Rattle.vm_engine.specs.Tree.Shape.{Shape, Tip, Fork, blocks, height_of}
-use Rattle.vm_engine.specs.Tree.SpaceTree.{space_of, tree_state, IsSpaceTree}
-use Rattle.vm_engine.specs.Values.SavedTrees.{Saved, Absent, Node, saved_blocks, IsReadable}
-use Rattle.vm_engine.specs.Values.WrittenTrees.{IsMiddle, IsWritten}
+use Rattle.vm_engine.specs.Tree.SpaceTree.{space_of, IsSpaceTree}
+use Rattle.vm_engine.specs.Values.SavedTrees.{Saved, IsReadable}
+use Rattle.vm_engine.specs.Values.WrittenTrees.{IsWritten}
 use Rattle.vm_engine.specs.Laws.SavedLaws.{SpansAreExact, NodesAreWritten, WrittenIsRead, EqualAreWrittenEqually}
 use Rattle.vm_engine.specs.declared.saved.span.Span.{Span}
 use Rattle.vm_engine.proofs.Comparing.Tilings.{tree_blocks}

@@ -1,12 +1,9 @@
 -- Values encode exactly the saved trees that readers of other formats accept.
-use Rattle.std.proofs.Common.{◌≡◌, ◌+◌, ◌≤◌, refl, sym, ap, ◌∙◌, subst, arith}
-use Rattle.serde_json.specs.Data.{Data}
+use Rattle.std.proofs.Common.{◌≡◌, sym, ap, ◌∙◌, subst, arith}
 use Rattle.vm_ranges.specs.Range.{Range, IsRange}
-use Rattle.vm_engine.specs.Address.{AddressState}
 use Rattle.vm_engine.specs.Tree.Blocks.{TilesSpace}
 use Rattle.vm_engine.specs.Tree.Shape.{Shape, Tip, blocks}
-use Rattle.vm_engine.specs.Values.SavedTrees.{Saved, Absent, shape_of, IsSavedTree, HasHeldKeys}
-use Rattle.vm_engine.specs.Values.KeyValues.{EncodesKeys}
+use Rattle.vm_engine.specs.Values.SavedTrees.{shape_of}
 use Rattle.vm_engine.specs.Laws.SavedLaws.{ValuesAreSavedTrees, ValuesHaveHeldKeys}
 use Rattle.vm_ranges.specs.declared.state.NodeState.TheVariants.{Allocated}
 use Rattle.vm_engine.proofs.Blocks.BlockOrder.{ordered_weaken}

@@ -1,11 +1,11 @@
 -- The saved tree that is written for a list of blocks: there is one, and it is a tree of the space.
-use Rattle.std.proofs.Common.{◌≡◌, ◌≢◌, ℕ, zero, suc, ◌+◌, ◌-◌, ◌*◌, ◌/◌, ◌^◌, ◌≤◌, ◌<◌, max, List, [], ◌∷◌, ◌++◌, length, take, drop, refl, sym, ap, ◌∙◌, subst, arith, length-append, ⊎_elim}
+use Rattle.std.proofs.Common.{◌≡◌, ◌≢◌, ℕ, suc, ◌+◌, ◌/◌, ◌^◌, ◌≤◌, ◌<◌, List, [], ◌∷◌, length, take, drop, refl, sym, ap, ◌∙◌, subst, arith, length-append, ⊎_elim}
 use Rattle.std.proofs.lemmas.Bool.{cases_lt}
 use Rattle.std.proofs.lemmas.List.{take_at, drop_at}
 use Rattle.vm_ranges.specs.Range.{Range}
 use Rattle.vm_engine.specs.Tree.Block.{Block}
 use Rattle.vm_engine.specs.Tree.Blocks.{IsTiling}
-use Rattle.vm_engine.specs.Tree.Shape.{Shape, Fork, height_of, IsBalanced}
+use Rattle.vm_engine.specs.Tree.Shape.{height_of, IsBalanced}
 use Rattle.vm_engine.specs.Engine.Building.{IsLowestHeight}
 use Rattle.vm_engine.specs.Values.SavedTrees.{Saved, Absent, Node, shape_of, saved_blocks, HasHeights, IsSavedTree}
 use Rattle.vm_engine.specs.Values.WrittenTrees.{IsMiddle, IsWritten}

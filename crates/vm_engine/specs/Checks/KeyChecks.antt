@@ -1,14 +1,10 @@
 -- The check of the keys of a saved tree that is read with repairs, and the list of its held keys. The lemmas in
 -- proofs/Repairing show that the check accepts exactly the values that encode held ranges.
-use Rattle.std.specs.Prelude.{◌≡◌, ℕ, zero, suc, ◌+◌, ◌≤◌, ◌&&◌, ◌||◌, Bool, nat_lt, nat_le, if◌then◌else◌, List, ◌++◌, Option, Some, None, is_some, option_and_then}
+use Rattle.std.specs.Prelude.{◌≡◌, ℕ, ◌≤◌, List, ◌++◌}
 use Rattle.serde_json.specs.Data.{Data}
-use Rattle.serde_json.specs.Find.{as_null}
-use Rattle.vm_ranges.specs.Range.{Range, MAX}
-use Rattle.vm_engine.specs.Answer.{SPLIT_LIMIT_MIN_HELD}
-use Rattle.vm_engine.specs.Tree.Block.{Block, is_free}
+use Rattle.vm_ranges.specs.Range.{Range}
 use Rattle.vm_engine.specs.Tree.Blocks.{held_of}
 use Rattle.vm_engine.specs.Tree.Shape.{Shape, blocks, height_of}
-use Rattle.vm_engine.specs.Checks.NodeChecks.{decoded_node}
 use Rattle.vm_engine.specs.Values.TreeValues.{HasNodes}
 
 -- The value has nodes, nested at most that deep.

@@ -1,14 +1,11 @@
 -- The fields of a node's value, and its height.
-use Rattle.std.specs.Prelude.{◌≡◌, ℕ, zero, suc, ◌+◌, max, Bool, not, ◌&&◌, ◌||◌, ◌==◌, nat_lt, nat_le, if◌then◌else◌, List, [], ◌∷◌, Option, Some, None, is_some, option_map, option_and_then, codes}
+use Rattle.std.specs.Prelude.{◌≡◌, ℕ, ◌+◌, max, Bool, ◌&&◌, ◌==◌, nat_le, if◌then◌else◌, Option, Some, None, option_map, option_and_then, codes}
 use Rattle.serde_json.specs.Data.{Data}
-use Rattle.serde_json.specs.Find.{get, as_null}
+use Rattle.serde_json.specs.Find.{get}
 use Rattle.vm_ranges.specs.Fields.{field_count, is_count}
 use Rattle.vm_ranges.specs.Numbers.{number_in}
-use Rattle.vm_ranges.specs.Range.{Range, MAX}
-use Rattle.vm_engine.specs.Tree.Block.{Block, is_free}
-use Rattle.vm_engine.specs.Tree.Shape.{MAX_HEIGHT}
+use Rattle.vm_engine.specs.Tree.Block.{Block}
 use Rattle.vm_ranges.specs.RangeValues.{decoded_range, decoded_state}
-use Rattle.vm_ranges.specs.declared.state.NodeState.TheVariants.{Allocated}
 
 -- The value d has the five fields of a node, with these values, and no other field.
 pub record NodeParts (d key state left right : Data) (height : ℕ) : Type 0 where

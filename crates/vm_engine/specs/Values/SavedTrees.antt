@@ -5,7 +5,6 @@ use Rattle.vm_engine.specs.Address.{AddressState}
 use Rattle.vm_engine.specs.Answer.{SPLIT_LIMIT_MIN_HELD}
 use Rattle.vm_engine.specs.Tree.Block.{Block}
 use Rattle.vm_engine.specs.Tree.Blocks.{held_of, AreKeysIn, AreBelowMax, IsTiling}
-use Rattle.vm_engine.specs.Tree.BlockList.{IsOrderedFrom}
 use Rattle.vm_engine.specs.Tree.Shape.{Shape, Tip, Fork, MAX_HEIGHT, blocks, height_of, IsBalanced}
 use Rattle.vm_engine.specs.Values.KeyValues.{MAX_NESTING_REPAIRED}
 

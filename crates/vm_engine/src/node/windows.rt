@@ -39,12 +39,7 @@ fn part_in(window: &RangeInclusive, key: &RangeInclusive) -> Option<RangeInclusi
 ///
 /// It returns `None` if there is no such multiple, or if the block is allocated.
 #[tactic(auto, using(crate::proofs::Choosing::WindowSearch::no_fit_empty))]
-fn lowest_fit_in(
-    block: &Block,
-    window: &RangeInclusive,
-    size: u64,
-    alignment: u64,
-) -> Option<u64>
+fn lowest_fit_in(block: &Block, window: &RangeInclusive, size: u64, alignment: u64) -> Option<u64>
     requires sized { 0 < size }
     requires aligned { IsAlignment alignment }
     ensures { FindsLowestFit size alignment (cut_to window.now block.now) result }
@@ -61,12 +56,7 @@ fn lowest_fit_in(
 ///
 /// It returns `None` if there is no such multiple, or if the block is allocated.
 #[tactic(auto, using(crate::proofs::Choosing::WindowSearch::no_fit_empty))]
-fn highest_fit_in(
-    block: &Block,
-    window: &RangeInclusive,
-    size: u64,
-    alignment: u64,
-) -> Option<u64>
+fn highest_fit_in(block: &Block, window: &RangeInclusive, size: u64, alignment: u64) -> Option<u64>
     requires sized { 0 < size }
     requires aligned { IsAlignment alignment }
     ensures { FindsHighestFit size alignment (cut_to window.now block.now) result }

@@ -1,4 +1,4 @@
-use Rattle.std.proofs.Common.{◌≡◌, ◌≤◌, sym, ◌∙◌, Err, rules, arith}
+use Rattle.std.proofs.Common.{◌≡◌, sym, ◌∙◌, Err, rules}
 use Rattle.serde_json.specs.View.{view}
 use Rattle.vm_ranges.specs.declared.saved.ValueError.TheVariants.{OutOfMemory}
 use Rattle.vm_engine.specs.Tree.SpaceTree.{tree_state}

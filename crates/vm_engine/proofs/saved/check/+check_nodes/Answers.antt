@@ -1,4 +1,4 @@
-use Rattle.std.proofs.Common.{sym, ◌∙◌, arith}
+use Rattle.std.proofs.Common.{sym, arith}
 use Rattle.serde_json.specs.View.{view}
 use Rattle.vm_engine.proofs.SavedNodes.ValueTrees.{checked_over}
 use Rattle.vm_engine.proofs.saved.check.+check_nodes.Goals as goal

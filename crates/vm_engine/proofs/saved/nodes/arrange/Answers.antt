@@ -1,6 +1,5 @@
-use Rattle.std.proofs.Common.{◌≡◌, ◌+◌, ◌<◌, ◌-◌, ◌≤◌, ◌∙◌, inl, inr, refl, arith}
+use Rattle.std.proofs.Common.{◌+◌, ◌<◌, ◌-◌, ◌∙◌, inl, inr, refl, arith}
 use Rattle.vm_engine.proofs.SavedNodes.Arranging.{IsKept, arranged_none, arranged_rotated, arranged_kept}
-use Rattle.vm_engine.proofs.SavedNodes.Ending.{end_none}
 use Rattle.vm_engine.proofs.saved.nodes.arrange.Goals.{then-right-len-via-then-right-len, then-right-len-via-else-right-len+then-left-len, else-left-gt0-via-then-left-gt0+then-right-gt0+else-start, else-left-gt0-via-then-left-gt0+else-right-gt0, else-left-gt0-via-else-left-gt0}
 use Rattle.vm_engine.proofs.saved.nodes.arrange.Goals as goal
 
