@@ -290,7 +290,7 @@ impl AddressAllocator {
     /// # Errors
     ///
     /// Those of [`allocate_constraint`](Self::allocate_constraint), in the same order.
-    #[tactic(auto, using(crate::proofs::Callers::constraint_allocations, vm_engine::proofs::Counts::GapBounds::counted_allocations, vm_engine::proofs::Answers::Filling::succeeding, crate::proofs::Trees::trees))]
+    #[tactic(auto, using(crate::proofs::Callers::constraint_allocations, vm_engine::proofs::Counts::Allocating::valid_allocations, vm_engine::proofs::Answers::Filling::succeeding, crate::proofs::Trees::trees))]
     pub fn allocate_constraint_counted(
         &mut self,
         alloc: Global,

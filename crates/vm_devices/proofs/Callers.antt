@@ -1,12 +1,11 @@
 -- Facts for callers about reserved devices.
-use Rattle.std.proofs.Common.{◌≡◌, ℕ, ◌%◌, sym, ap, ⊎_elim, subst, Result, Ok, Err, IfOk, OnOk}
-use Rattle.vm_ranges.specs.Range.{Range, Overlaps, address_count}
+use Rattle.std.proofs.Common.{◌≡◌, ℕ, ◌%◌, sym, ap, ⊎_elim, subst, Result, Ok, Err, IfSome, IfOk, OnOk}
+use Rattle.vm_ranges.specs.Range.{Range, Overlaps, Covers, address_count}
 use Rattle.vm_engine.specs.Address.{holding}
-use Rattle.vm_ranges.specs.Request.{Request, request_for}
+use Rattle.vm_ranges.specs.Request.{Request}
 use Rattle.vm_engine.specs.Answer.{Allocates, IsChosen}
 use Rattle.vm_ranges.specs.declared.error.Error.{Error}
-use Rattle.vm_ranges.specs.declared.constraint.AllocPolicy.{AllocPolicy}
-use Rattle.vm_allocator.proofs.Callers.{allocated_aligned, allocated_long, allocated_apart, allocated_chosen}
+use Rattle.vm_allocator.proofs.Callers.{request_fits, request_inside, allocated_apart, allocated_chosen}
 use Rattle.vm_allocator.specs.Ids.{IsLowestNotHeld}
 use Rattle.vm_devices.specs.declared.device_slot.DeviceSlot.{DeviceSlot}
 use Rattle.vm_devices.specs.Devices.{DeviceState, IsDevice, IsDeviceState, Reserves, Releases, with_device, without_device}
@@ -14,26 +13,21 @@ use Rattle.vm_devices.proofs.DevicesAgain.{reserved_again}
 use Rattle.vm_devices.proofs.Reserving.{reserved_device, releasing_outcome}
 use Rattle.vm_devices.proofs.Tables.{with_here}
 
--- The range of a device starts at a multiple of the alignment.
-pub device_aligned : (old new : DeviceState) (size align : ℕ) (policy : AllocPolicy) (answer : Result DeviceSlot Error) →
-    Reserves old (request_for size align policy) answer new → IfOk answer (λ slot. slot.range.start % align ≡ 0)
-device_aligned old new size align policy (Ok slot) h =
-    let d = reserved_device old new (request_for size align policy) slot h in
-    allocated_aligned old.space (holding slot.range old.space) size align policy (Ok slot.range) d.given
-device_aligned old new size align policy (Err e) h = tt
+-- The range of a device has the requested number of addresses, and starts at a multiple of the alignment.
+pub device_fits : (old new : DeviceState) (request : Request) (answer : Result DeviceSlot Error) →
+    Reserves old request answer new → IfOk answer (λ slot. (address_count slot.range ≡ request.size) × (slot.range.start % request.align ≡ 0))
+device_fits old new request (Ok slot) h =
+    let d = reserved_device old new request slot h in
+    request_fits old.space (holding slot.range old.space) request (Ok slot.range) d.given
+device_fits old new request (Err e) h = tt
 
--- The range of a device has the requested number of addresses.
-pub device_long : (old new : DeviceState) (size align : ℕ) (policy : AllocPolicy) (answer : Result DeviceSlot Error) →
-    Reserves old (request_for size align policy) answer new → IfOk answer (λ slot. address_count slot.range ≡ size)
-device_long old new size align policy (Ok slot) h =
-    let d = reserved_device old new (request_for size align policy) slot h in
-    allocated_long old.space (holding slot.range old.space) size align policy (Ok slot.range) d.given
-device_long old new size align policy (Err e) h = tt
-
-pub device_fits : (old new : DeviceState) (size align : ℕ) (policy : AllocPolicy) (answer : Result DeviceSlot Error) →
-    Reserves old (request_for size align policy) answer new → IfOk answer (λ slot. (address_count slot.range ≡ size) × (slot.range.start % align ≡ 0))
-device_fits old new size align policy (Ok slot) h = (device_long old new size align policy (Ok slot) h, device_aligned old new size align policy (Ok slot) h)
-device_fits old new size align policy (Err e) h = tt
+-- The range of a device lies in the window of the request.
+pub device_in_window : (old new : DeviceState) (request : Request) (answer : Result DeviceSlot Error) →
+    Reserves old request answer new → IfOk answer (λ slot. IfSome request.window (λ window. Covers window slot.range))
+device_in_window old new request (Ok slot) h =
+    let d = reserved_device old new request slot h in
+    request_inside old.space (holding slot.range old.space) request (Ok slot.range) d.given
+device_in_window old new request (Err e) h = tt
 
 -- The range of a device is at the place that the policy chooses.
 pub device_chosen : (old new : DeviceState) (request : Request) (answer : Result DeviceSlot Error) → Reserves old request answer new → IfOk answer (λ slot. IsChosen request old.space slot.range.start)
@@ -99,5 +93,8 @@ released_fits_again old mid new request slot i s f = record { by = λ later answ
 pub fits_again_is_reserved : (new later : DeviceState) (request : Request) (slot : DeviceSlot) (answer : Result DeviceSlot Error) →
     DeviceFitsAgain request slot new → Reserves new request answer later → IfOk answer (λ again. again ≡ slot)
 fits_again_is_reserved new later request slot answer i h = i.by later answer h
+
+-- What a caller of `reserve` relies on.
+pub ruleset reserved = (device_lowest, device_fits, device_in_window, device_chosen, device_state)
 
 pub ruleset callers = (device_there, devices_share_none, released_fits_again, fits_again_is_reserved)

@@ -6,11 +6,13 @@ use Rattle.std.specs.FinMap as map
 use Rattle.std.specs.List.{Contains}
 use Rattle.vm_ranges.specs.Range.{Range}
 use Rattle.vm_engine.specs.Address.{AddressState, releasing}
-use Rattle.vm_ranges.specs.Request.{Request}
+use Rattle.vm_ranges.specs.Request.{Request, MakesConstraint}
 use Rattle.vm_engine.specs.Answer.{Allocates, Frees, Makes}
 use Rattle.vm_allocator.specs.Ids.{IdState, IsHeld, MakesIds, ByLowestNotHeld, PeeksId, AllocatesId, FreesId, releasing_id}
 use Rattle.vm_ranges.specs.declared.error.Error.{Error}
 use Rattle.vm_ranges.specs.declared.error.Error.TheVariants.{Overflow, ResourceNotAvailable, NeverAllocated, OutOfMemory}
+use Rattle.vm_ranges.proofs.Requests.{constraint_made}
+use Rattle.vm_engine.proofs.Answers.Requests.{allocates_refused}
 use Rattle.vm_engine.proofs.Answers.AddressAnswers.{freeing_undoes}
 use Rattle.vm_allocator.proofs.Answers.EveryAddressCall.{every_call}
 use Rattle.vm_allocator.proofs.Callers.{given}
@@ -78,6 +80,16 @@ pub record IsAsked (old : DeviceState) (request : Request) (given : Result Range
 pub range_refused : {old new : DeviceState} {request : Request} {e : Error} → IsAsked old request (Err e) → new ≡ old → Reserves old request (Err e) new
 unfolding Reserves
 range_refused {old} {new} {request} {e} a same = for_peeked old.ids a.id _ _ a.predicted (Err e, a.space, a.answer, (refl, same))
+
+-- The request itself is invalid.
+pub request_refused : (old : DeviceState) (request : Request) (e : Error) (id : ℕ) → PeeksId old.ids (Ok id) → MakesConstraint request (Err e) → Reserves old request (Err e) old
+request_refused old request e id predicted m =
+    range_refused (record { id = id; space = old.space; predicted = predicted; answer = allocates_refused old.space request e m }) refl
+
+-- A constraint is reserved like the request that makes it.
+pub for_request : (old new : DeviceState) (request given : Request) (made : Result Request Error) (answer : Result DeviceSlot Error) → made ≡ Ok given → MakesConstraint request made → Reserves old given answer new → Reserves old request answer new
+for_request old new request given made answer e m h =
+    subst (λ (v : Request). Reserves old v answer new) (constraint_made request given (subst (MakesConstraint request) e m)).0 h
 
 pub table_refused : {old new : DeviceState} {request : Request} {r : Range} → IsAsked old request (Ok r) → new ≡ old →
     Reserves old request (Err OutOfMemory) new

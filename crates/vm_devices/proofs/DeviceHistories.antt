@@ -8,7 +8,7 @@ use Rattle.vm_engine.specs.Address.{holding}
 use Rattle.vm_engine.specs.Answer.{Allocates}
 use Rattle.vm_allocator.specs.Ids.{IsOfRange}
 use Rattle.vm_engine.proofs.Answers.AddressAnswers.{lie_apart}
-use Rattle.vm_allocator.proofs.Callers.{given, request_fits}
+use Rattle.vm_allocator.proofs.Callers.{given, request_fits, request_inside}
 use Rattle.vm_devices.specs.declared.device_slot.DeviceSlot.{DeviceSlot}
 use Rattle.vm_devices.specs.Devices.{DeviceState, IsDevice, IsDeviceState}
 use Rattle.vm_devices.specs.Histories.{DeviceCall, Reservation, Release, IsDeviceCallFrom, IsDeviceHistoryFrom, IsManagerMade, IsManagerRead, AreDevicesReached, WasReserved, WasRead}
@@ -39,7 +39,7 @@ reached_state calls old r = history_state calls r.first old r.history (first_sta
 reserved_later : (call : DeviceCall) (calls : List DeviceCall) (id : ℕ) (r : Range) → WasReserved calls id r → WasReserved (call ∷ calls) id r
 reserved_later call calls id r g =
     let c = g.call in
-    record { request = g.request; call = (suc c.0, omega (arith, c.1), c.2); aligned = g.aligned; long = g.long }
+    record { request = g.request; call = (suc c.0, omega (arith, c.1), c.2); aligned = g.aligned; long = g.long; inside = g.inside }
 
 -- A device after a call was a device before it, or the call reserved it.
 call_reserves : (old new : DeviceState) (call : DeviceCall) (calls : List DeviceCall) (id : ℕ) (r : Range) → IsDeviceCallFrom old call new → IsDeviceState old →
@@ -61,6 +61,7 @@ call_reserves old new (Reservation request answer) calls id r h i d =
       call = (0, omega arith, ap (Reservation request) (made.1 ∙ ap (λ (s : DeviceSlot). Ok s) named));
       aligned = (request_fits old.space (holding slot.range old.space) request (Ok r) a).1;
       long = (given old.space (holding slot.range old.space) request r a).long;
+      inside = request_inside old.space (holding slot.range old.space) request (Ok r) a;
     }))
     (λ (ne : id ≡ slot.id → ⊥). inl (sym (with_other old.devices slot.id slot.range id ne) ∙ now))
     (cases_eq id slot.id))

@@ -1,8 +1,8 @@
 -- Histories of a manager of devices: lists of calls with their results.
-use Rattle.std.specs.Prelude.{◌≡◌, ℕ, ◌%◌, ◌≤◌, ◌⊎◌, List, [], ◌∷◌, Result, Ok, Err}
+use Rattle.std.specs.Prelude.{◌≡◌, ℕ, ◌%◌, ◌≤◌, ◌⊎◌, List, [], ◌∷◌, Result, Ok, Err, IfSome}
 use Rattle.std.specs.List.{Contains}
 use Rattle.serde_json.specs.Data.{Data}
-use Rattle.vm_ranges.specs.Range.{Range, MAX, span}
+use Rattle.vm_ranges.specs.Range.{Range, MAX, Covers, span}
 use Rattle.vm_ranges.specs.Request.{Request}
 use Rattle.vm_allocator.specs.Ids.{MAX_ID}
 use Rattle.vm_ranges.specs.declared.error.Error.{Error}
@@ -63,12 +63,14 @@ pub record AreDevicesReached (calls : List DeviceCall) (state : DeviceState) : T
   pub begins : IsManagerMade first ⊎ IsManagerRead first
   pub history : IsDeviceHistoryFrom first calls state
 
--- A call reserved the range for the id, with the requested length and at a multiple of the requested alignment.
+-- A call reserved the range for the id: with the requested length, at a multiple of the requested alignment, and in the
+-- window of the request, if it has one.
 pub record WasReserved (calls : List DeviceCall) (id : ℕ) (r : Range) : Type 0 where
   pub request : Request
   pub call : Contains calls (Reservation request (Ok (record { id = id; range = r })))
   pub aligned : r.start % request.align ≡ 0
   pub long : r ≡ span r.start request.size
+  pub inside : IfSome request.window (λ window. Covers window r)
 
 -- The device is in the first state, which was read from a value.
 pub record WasRead (first : DeviceState) (id : ℕ) (r : Range) : Type 0 where

@@ -1,8 +1,9 @@
 -- The gaps of a state, and the results of queries of addresses.
-use Rattle.std.specs.Prelude.{ℕ, ◌+◌, max, List, [], ◌∷◌, ◌++◌, Option, Some, None}
+use Rattle.std.specs.Prelude.{ℕ, ◌+◌, ◌-◌, max, List, [], ◌∷◌, ◌++◌, Option, Some, None}
 use Rattle.std.specs.List.{All, Contains}
 use Rattle.vm_ranges.specs.Range.{Range, IsIn, address_count}
 use Rattle.vm_engine.specs.Address.{AddressState}
+use Rattle.vm_engine.specs.Windows.{common}
 use Rattle.vm_engine.specs.Tree.Block.{Block}
 use Rattle.vm_engine.specs.Tree.Blocks.{blocks_of}
 use Rattle.vm_ranges.specs.declared.state.NodeState.{NodeState}
@@ -26,6 +27,20 @@ gaps_of state = free_of (blocks_of state)
 abbrev pub longest_of : List Range → ℕ
 longest_of [] = 0
 longest_of (r ∷ rs) = max (address_count r) (longest_of rs)
+
+-- The number of addresses that are in both ranges.
+abbrev pub common_count : Range → Range → ℕ
+common_count r s = (common r s).end + 1 - (common r s).start
+
+-- The number of addresses of the longest part of a range in the window, or 0 if no range has an address in it.
+abbrev pub longest_part : Range → List Range → ℕ
+longest_part window [] = 0
+longest_part window (r ∷ rs) = max (common_count window r) (longest_part window rs)
+
+-- The number of addresses of the longest part of a range in the window, or of the longest range if there is no window.
+abbrev pub longest_in : Option Range → List Range → ℕ
+longest_in None ranges = longest_of ranges
+longest_in (Some window) ranges = longest_part window ranges
 
 -- The number of addresses of all ranges together.
 abbrev pub count_of : List Range → ℕ

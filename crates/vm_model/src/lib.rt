@@ -40,6 +40,27 @@ pub enum Answer {
     NotAvailable,
 }
 
+/// The addresses in which the range of a request must lie.
+#[derive(Clone, Copy, Debug)]
+pub struct Window {
+    /// The first address.
+    pub first: u64,
+    /// The last address.
+    pub last: u64,
+}
+
+/// The window of a request that has none.
+const EVERYWHERE: Window = Window {
+    first: 0,
+    last: u64::MAX,
+};
+
+impl Window {
+    fn contains(self, start: u64, end: u64) -> bool {
+        self.first <= start && end <= self.last
+    }
+}
+
 /// The state of an address.
 #[derive(Clone, Copy, PartialEq, Eq)]
 enum Place {
@@ -115,23 +136,25 @@ impl Addresses {
         None
     }
 
-    fn is_place(&self, size: u64, alignment: u64, start: u64) -> bool {
-        start.checked_rem(alignment) == Some(0) && self.is_clear(start, size)
+    fn is_place(&self, size: u64, alignment: u64, start: u64, window: Window) -> bool {
+        start.checked_rem(alignment) == Some(0)
+            && window.contains(start, end_of(start, size))
+            && self.is_clear(start, size)
     }
 
-    fn lowest_place(&self, size: u64, alignment: u64) -> Option<u64> {
+    fn lowest_place(&self, size: u64, alignment: u64, window: Window) -> Option<u64> {
         for start in 0..ADDRESSES {
-            if self.is_place(size, alignment, start) {
+            if self.is_place(size, alignment, start, window) {
                 return Some(start);
             }
         }
         None
     }
 
-    fn highest_place(&self, size: u64, alignment: u64) -> Option<u64> {
+    fn highest_place(&self, size: u64, alignment: u64, window: Window) -> Option<u64> {
         let mut highest = None;
         for start in 0..ADDRESSES {
-            if self.is_place(size, alignment, start) {
+            if self.is_place(size, alignment, start, window) {
                 highest = Some(start);
             }
         }
@@ -140,22 +163,29 @@ impl Addresses {
 
     /// Returns the expected result of a call.
     pub fn answer(&self, call: Call) -> Answer {
+        self.answer_within(call, EVERYWHERE)
+    }
+
+    /// Returns the expected result of a call whose range must lie in a window.
+    pub fn answer_within(&self, call: Call, window: Window) -> Answer {
         match call {
-            First(size, alignment) => range_from(self.lowest_place(size, alignment), size),
-            Last(size, alignment) => range_from(self.highest_place(size, alignment), size),
-            Exact(size, alignment, start) => self.answer_of_exact(size, alignment, start),
+            First(size, alignment) => range_from(self.lowest_place(size, alignment, window), size),
+            Last(size, alignment) => range_from(self.highest_place(size, alignment, window), size),
+            Exact(size, alignment, start) => self.answer_of_exact(size, alignment, start, window),
             Free(start, end) if self.range_at(start) == Some((start, end)) => Done,
             Free(..) => NotAvailable,
         }
     }
 
-    fn answer_of_exact(&self, size: u64, alignment: u64, start: u64) -> Answer {
-        let end = start.saturating_add(size).saturating_sub(1);
+    fn answer_of_exact(&self, size: u64, alignment: u64, start: u64, window: Window) -> Answer {
+        let end = end_of(start, size);
         if start.checked_rem(alignment) != Some(0) {
             Unaligned
+        } else if !window.contains(start, start) {
+            NotAvailable
         } else if self.range_at(start) == Some((start, end)) {
             Held(start, end)
-        } else if self.is_clear(start, size) {
+        } else if window.contains(start, end) && self.is_clear(start, size) {
             Range(start, end)
         } else {
             NotAvailable
@@ -182,9 +212,13 @@ impl Addresses {
 
 fn range_from(start: Option<u64>, size: u64) -> Answer {
     match start {
-        Some(start) => Range(start, start.saturating_add(size).saturating_sub(1)),
+        Some(start) => Range(start, end_of(start, size)),
         None => NotAvailable,
     }
+}
+
+fn end_of(start: u64, size: u64) -> u64 {
+    start.saturating_add(size).saturating_sub(1)
 }
 
 /// The numbers that choose the calls of a long run.
@@ -201,6 +235,15 @@ impl Draws {
         let Draws(number) = self;
         *number = number.saturating_mul(75).saturating_add(74) % 65_537;
         *number
+    }
+
+    /// Returns the next window. It can have addresses outside the space.
+    pub fn window(&mut self) -> Window {
+        let (first, length) = (self.next() % 70, self.next() % 40);
+        Window {
+            first,
+            last: first.saturating_add(length),
+        }
     }
 
     /// Returns the next call for these addresses. A range that it frees is allocated, unless no

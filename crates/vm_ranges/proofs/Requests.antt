@@ -28,6 +28,20 @@ is_valid_request size align policy z l e u = record { some = z; aligned = alignm
 
 pub ruleset constrains = (constrains_size, constrains_alignment, constrains_start, constrains_given, is_valid_request)
 
+-- The constraint that is made has the fields of the request, and the request is valid.
+pub constraint_made : (request k : Request) → MakesConstraint request (Ok k) → (k ≡ request) × IsRequest request
+unfolding MakesConstraint ByConstraint
+constraint_made request k (inl z) = absurd (cc (z.1))
+constraint_made request k (inr (some, inl z)) = absurd (cc (z.1))
+constraint_made request k (inr (some, inr (aligned, inl z))) = absurd (cc (z.1))
+constraint_made request k (inr (some, inr (aligned, inr (start, made)))) =
+    (cc (made), record { some = omega (arith, some); aligned = aligned; start = start })
+
+-- A valid request makes its constraint.
+pub valid_request_made : (request : Request) → IsRequest request → MakesConstraint request (Ok request)
+unfolding MakesConstraint ByConstraint
+valid_request_made request r = inr (λ e. omega (arith, e, r.some), inr (r.aligned, inr (r.start, refl)))
+
 -- A fact that follows from the fact of each case of a request.
 pub constraint_map : (request : Request) (P Q : Error → Type 0) (R S : Type 0) → ((e : Error) → P e → Q e) → (R → S) → ByConstraint request P R → ByConstraint request Q S
 unfolding ByConstraint

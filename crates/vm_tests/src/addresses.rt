@@ -1,13 +1,13 @@
 //! Tests of address allocators.
 use crate::fixtures::{block_count, cloned, expect_eq, expect_true, made};
 use AllocPolicy::{ExactMatch, FirstMatch, LastMatch};
-use Call::{Exact, First, Free, Last, Space};
+use Call::{Exact, ExactIn, First, FirstIn, Free, Last, LastIn, Space};
 use Expected::{Held, NoAlignment, NoSize, NotAvailable, Overflow, Range, Unaligned, Underflow};
 use Form::{Counted, Plain};
 use std::alloc::Global;
 use std::process::Abort;
 use vm_allocator::allocation_engine::NodeState::Allocated;
-use vm_allocator::{AddressAllocator, AllocPolicy, Error, RangeInclusive, Result};
+use vm_allocator::{AddressAllocator, AllocPolicy, Constraint, Error, RangeInclusive, Result};
 
 mod aligned;
 mod comparing;
@@ -19,6 +19,7 @@ mod queries;
 mod requests;
 mod several;
 mod splits;
+mod windows;
 mod with_held;
 mod without_memory;
 
@@ -41,6 +42,10 @@ enum Call {
     Last(u64, u64),
     /// Allocates a range by its size, its alignment and its start.
     Exact(u64, u64, u64),
+    /// Allocates like the three calls above, in a window by its first and its last address.
+    FirstIn(u64, u64, (u64, u64)),
+    LastIn(u64, u64, (u64, u64)),
+    ExactIn(u64, u64, u64, (u64, u64)),
     /// Frees a range by its first and its last address.
     Free(u64, u64),
 }
@@ -96,22 +101,78 @@ impl Call {
 
     /// Makes the call, and also returns the number of entered nodes if it is counted.
     fn count(self, space: &mut AddressAllocator, alloc: Global, form: Form) -> (Answer, u64) {
-        let (size, alignment, policy) = match self {
-            Space(base, size) => return (replace(space, alloc, base, size), 0),
-            Free(start, end) => return free_all(space, start, end, form),
-            First(size, alignment) => (size, alignment, FirstMatch),
-            Last(size, alignment) => (size, alignment, LastMatch),
-            Exact(size, alignment, start) => (size, alignment, ExactMatch(start)),
-        };
+        match self {
+            Space(base, size) => (replace(space, alloc, base, size), 0),
+            Free(start, end) => free_all(space, start, end, form),
+            First(..) | Last(..) | Exact(..) => self.count_allocation(space, alloc, form),
+            FirstIn(..) | LastIn(..) | ExactIn(..) => self.count_request(space, alloc, form),
+        }
+    }
+
+    /// Allocates by a size, an alignment and a policy.
+    fn count_allocation(
+        self,
+        space: &mut AddressAllocator,
+        alloc: Global,
+        form: Form,
+    ) -> (Answer, u64) {
+        let (size, alignment, policy) = self.asked();
         let (answer, count) = match form {
             Plain => (space.allocate(alloc, size, alignment, policy), 0),
             Counted => space.allocate_counted(alloc, size, alignment, policy),
         };
-        match answer {
-            Ok(range) => (Ok((range.start(), range.end())), count),
-            Err(error) => (Err(error), count),
+        (ends_of(answer), count)
+    }
+
+    /// Allocates by a request.
+    fn count_request(
+        self,
+        space: &mut AddressAllocator,
+        alloc: Global,
+        form: Form,
+    ) -> (Answer, u64) {
+        let request = match self.request() {
+            Ok(request) => request,
+            Err(error) => return (Err(error), 0),
+        };
+        let (answer, count) = match form {
+            Plain => (space.allocate_constraint(alloc, request), 0),
+            Counted => space.allocate_constraint_counted(alloc, request),
+        };
+        (ends_of(answer), count)
+    }
+
+    /// Returns the size, the alignment and the policy of a call that allocates.
+    fn asked(self) -> (u64, u64, AllocPolicy) {
+        match self {
+            First(size, alignment) | FirstIn(size, alignment, _) => (size, alignment, FirstMatch),
+            Last(size, alignment) | LastIn(size, alignment, _) => (size, alignment, LastMatch),
+            Exact(size, alignment, start) | ExactIn(size, alignment, start, _) => {
+                (size, alignment, ExactMatch(start))
+            }
+            Space(..) | Free(..) => (0, 0, FirstMatch),
         }
     }
+
+    /// Returns the request of a call that allocates.
+    fn request(self) -> Result<Constraint> {
+        let (size, alignment, policy) = self.asked();
+        let request = Constraint::new(size, alignment, policy)?;
+        match self {
+            FirstIn(_, _, (first, last))
+            | LastIn(_, _, (first, last))
+            | ExactIn(_, _, _, (first, last)) => {
+                Ok(request.within(RangeInclusive::new(first, last)?))
+            }
+            _ => Ok(request),
+        }
+    }
+}
+
+/// Returns the first and the last address of an allocated range.
+fn ends_of(answer: Result<RangeInclusive>) -> Answer {
+    let range = answer?;
+    Ok((range.start(), range.end()))
 }
 
 /// Replaces an allocator by a new one.

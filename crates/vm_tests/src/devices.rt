@@ -1,12 +1,12 @@
 //! Tests of managers of devices.
 use crate::fixtures::{expect_eq, expect_true};
-use Call::{Exact, First, Last, LookUp, Release};
+use Call::{Exact, First, FirstIn, Last, LastIn, LookUp, Release};
 use Expected::{Device, Gone, Held, NeverAllocated, NoSize, NotAvailable, Overflow, Unaligned};
 use serde_json::Value;
 use std::alloc::Global;
 use std::process::Abort;
 use vm_allocator::allocation_engine::NodeState::Allocated;
-use vm_allocator::{AddressAllocator, AllocPolicy, Error, RangeInclusive, Result};
+use vm_allocator::{AddressAllocator, AllocPolicy, Constraint, Error, RangeInclusive, Result};
 use vm_devices::DeviceManager;
 
 mod listed;
@@ -23,6 +23,9 @@ enum Call {
     Last(u64, u64),
     /// Reserves a range by its size, its alignment and its start.
     Exact(u64, u64, u64),
+    /// Reserve like the first two calls, in a window by its first and its last address.
+    FirstIn(u64, u64, (u64, u64)),
+    LastIn(u64, u64, (u64, u64)),
     /// Releases the device with an id.
     Release(u32),
     /// Looks up the device with an id.
@@ -75,6 +78,12 @@ impl Call {
                 return Ok(None);
             }
             LookUp(id) => return Ok(look_up(devices, id)),
+            FirstIn(size, align, window) => {
+                return reserve_in(devices, alloc, (size, align, AllocPolicy::FirstMatch), window);
+            }
+            LastIn(size, align, window) => {
+                return reserve_in(devices, alloc, (size, align, AllocPolicy::LastMatch), window);
+            }
             First(size, align) => (size, align, AllocPolicy::FirstMatch),
             Last(size, align) => (size, align, AllocPolicy::LastMatch),
             Exact(size, align, start) => (size, align, AllocPolicy::ExactMatch(start)),
@@ -82,6 +91,20 @@ impl Call {
         let slot = devices.reserve(alloc, size, align, policy)?;
         Ok(Some((slot.id, slot.range.start(), slot.range.end())))
     }
+}
+
+/// Reserves a device in a window.
+fn reserve_in(
+    devices: &mut DeviceManager,
+    alloc: Global,
+    asked: (u64, u64, AllocPolicy),
+    window: (u64, u64),
+) -> Answer {
+    let (size, align, policy) = asked;
+    let window = RangeInclusive::new(window.0, window.1)?;
+    let request = Constraint::new(size, align, policy)?.within(window);
+    let slot = devices.reserve_constraint(alloc, request)?;
+    Ok(Some((slot.id, slot.range.start(), slot.range.end())))
 }
 
 /// Creates a manager. Here and below, the second try is for a run in which one allocation fails.

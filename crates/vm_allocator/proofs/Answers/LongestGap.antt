@@ -1,27 +1,27 @@
--- A request at alignment 1 has a place if and only if it is at most as long as the longest gap.
-use Rattle.std.proofs.Common.{ℕ, Option, ◌<◌, ◌≤◌, sym, arith, subst, ⊎_elim}
+-- A request at alignment 1 has a place if and only if it is at most as long as the longest gap, or as the longest part of a
+-- gap in its window.
+use Rattle.std.proofs.Common.{ℕ, ◌<◌, ◌≤◌, sym, arith, subst, ⊎_elim}
 use Rattle.std.proofs.lemmas.Bool.{cases_lt}
-use Rattle.vm_ranges.specs.Range.{Range}
 use Rattle.vm_engine.specs.Address.{IsPlace}
 use Rattle.vm_engine.specs.Windows.{within}
-use Rattle.vm_engine.proofs.Answers.Once.{place_anywhere}
-use Rattle.vm_engine.specs.Queries.{gaps_of, longest_of}
+use Rattle.vm_engine.specs.Queries.{gaps_of, longest_in}
 use Rattle.vm_allocator.specs.Laws.GapLaws.{LongestDecides}
 use Rattle.vm_engine.proofs.Answers.HeldAndGaps.{longest_fits}
 use Rattle.vm_allocator.proofs.Histories.HistoryAnswers.{answered}
 
 pub longest_decides : LongestDecides
-longest_decides old new request answer state sense one whole policy h =
+longest_decides old new request answer state sense one policy h =
     let by_places = (answered request old new answer state h).valid sense in
-    let fits = longest_fits old request.size state sense.some in (
+    let fits = longest_fits old request.window request.size state sense.some in
+    let longest = longest_in request.window (gaps_of old) in (
       λ e.
           ⊎_elim
-          (λ (l : longest_of (gaps_of old) < request.size). l)
-          (λ (l : request.size ≤ longest_of (gaps_of old)).
+          (λ (l : longest < request.size). l)
+          (λ (l : request.size ≤ longest).
           let place = fits.1 l in
-          absurd (by_places.only_there policy place.0 (subst (λ (w : Option Range). IsPlace request.size request.align (within w old) place.0) (sym whole) (subst (λ (a : ℕ). IsPlace request.size a old place.0) (sym one) place.1)) e))
-          (cases_lt (longest_of (gaps_of old)) request.size),
+          absurd (by_places.only_there policy place.0 (subst (λ (a : ℕ). IsPlace request.size a (within request.window old) place.0) (sym one) place.1) e))
+          (cases_lt longest request.size),
       λ l.
           by_places.no_place policy (λ s place.
-          omega (arith, l, fits.0 (s, subst (λ (a : ℕ). IsPlace request.size a old s) one (place_anywhere request.window request.size request.align s old place)))),
+          omega (arith, l, fits.0 (s, subst (λ (a : ℕ). IsPlace request.size a (within request.window old) s) one place))),
     )

@@ -1,5 +1,5 @@
 -- Facts of every history of an address allocator.
-use Rattle.std.proofs.Common.{◌≡◌, ◌⊎◌, ◌↔◌, List, [], ◌∷◌, suc, refl, sym, ap, ◌∙◌, arith, inl, inr, ⊎_elim, subst, Result}
+use Rattle.std.proofs.Common.{◌≡◌, ◌⊎◌, ◌↔◌, List, [], ◌∷◌, suc, refl, sym, ap, ◌∙◌, arith, inl, inr, ⊎_elim, subst, Result, Ok}
 use Rattle.std.specs.List.{Contains}
 use Rattle.vm_ranges.specs.Range.{Range, span}
 use Rattle.vm_engine.specs.Address.{AddressState, IsPlace, IsAddressState}
@@ -14,6 +14,7 @@ use Rattle.vm_allocator.proofs.Reading.ReadAllocators.{encoded_state}
 use Rattle.vm_allocator.proofs.Reading.ReadRepaired.{repaired_state}
 use Rattle.vm_ranges.proofs.CloneAnswers.{cloning_keeps}
 use Rattle.vm_engine.proofs.Answers.Once.{allocates_once, frees_once}
+use Rattle.vm_allocator.proofs.Callers.{request_inside}
 use Rattle.vm_engine.proofs.Blocks.HeldSets.{same_ranges_held}
 use Rattle.vm_engine.proofs.Blocks.HeldChanges.{held_with, held_without}
 use Rattle.vm_engine.proofs.Answers.AddressAnswers.{IsAllocation, outcome, allocated_state, freed_state, made_is, made_state, lie_apart, freeing_undoes}
@@ -41,12 +42,18 @@ reached_state old =
 given_later : (call : Call) (calls : List Call) (r : Range) → WasAllocated calls r → WasAllocated (call ∷ calls) r
 given_later call calls r g =
     let c = g.call in
-    record { request = g.request; call = (suc c.0, omega (arith, c.1), c.2); aligned = g.aligned; long = g.long }
+    record { request = g.request; call = (suc c.0, omega (arith, c.1), c.2); aligned = g.aligned; long = g.long; inside = g.inside }
 
-given_here : (old new : AddressState) (request : Request) (answer : Result Range Error) (calls : List Call) (g : IsAllocation old request answer new) → WasAllocated (Allocation request answer ∷ calls) (span g.from request.size)
+given_here : (old new : AddressState) (request : Request) (answer : Result Range Error) (calls : List Call) → Allocates old request answer new → (g : IsAllocation old request answer new) → WasAllocated (Allocation request answer ∷ calls) (span g.from request.size)
 unfolding IsPlace
-given_here old new request answer calls g =
-    record { request = request; call = (0, omega arith, ap (Allocation request) g.given); aligned = g.place.0; long = refl }
+given_here old new request answer calls s g =
+    record {
+      request = request;
+      call = (0, omega arith, ap (Allocation request) g.given);
+      aligned = g.place.0;
+      long = refl;
+      inside = request_inside old new request (Ok (span g.from request.size)) (subst (λ (v : Result Range Error). Allocates old request v new) g.given s);
+    }
 
 -- A range that is held after a call was held before it, or the call allocated it.
 call_gives : (old new : AddressState) (call : Call) (calls : List Call) (r : Range) → IsCallFrom old call new → IsHeld new.held r → IsHeld old.held r ⊎ WasAllocated (call ∷ calls) r
@@ -58,7 +65,7 @@ call_gives old new (Allocation request answer) calls r s h =
     (λ (l : IsRefused old answer new). inl (subst P l.2 h))
     (λ (g : IsAllocation old request answer new).
     ⊎_elim
-    (λ (e : span g.from request.size ≡ r). inr (subst (WasAllocated made) e (given_here old new request answer calls g)))
+    (λ (e : span g.from request.size ≡ r). inr (subst (WasAllocated made) e (given_here old new request answer calls s g)))
     (λ (k : IsHeld old.held r). inl k)
     (held_with (span g.from request.size) r old.held (subst P g.left h)))
     (outcome request old new answer s)

@@ -1,9 +1,9 @@
 -- Histories of an address allocator: lists of calls with their results. A history can go on with a clone.
-use Rattle.std.specs.Prelude.{◌≡◌, ℕ, ◌%◌, ◌≤◌, ◌⊎◌, List, [], ◌∷◌, Result, Ok, Err}
+use Rattle.std.specs.Prelude.{◌≡◌, ℕ, ◌%◌, ◌≤◌, ◌⊎◌, List, [], ◌∷◌, Result, Ok, Err, IfSome}
 use Rattle.std.specs.List.{Contains}
 use Rattle.std.specs.Result.{result_unwrap_or}
 use Rattle.serde_json.specs.Data.{Data}
-use Rattle.vm_ranges.specs.Range.{Range, MAX, span}
+use Rattle.vm_ranges.specs.Range.{Range, MAX, Covers, span}
 use Rattle.vm_engine.specs.Address.{AddressState}
 use Rattle.vm_ranges.specs.Request.{Request}
 use Rattle.vm_engine.specs.Answer.{Allocates, Frees, Makes}
@@ -77,12 +77,14 @@ pub record Reached : Type 0 where
   pub state : AddressState
   pub reached : IsReached calls state
 
--- A call allocated the range, with the requested length and at a multiple of the requested alignment.
+-- A call allocated the range: with the requested length, at a multiple of the requested alignment, and in the window of the
+-- request, if it has one.
 pub record WasAllocated (calls : List Call) (r : Range) : Type 0 where
   pub request : Request
   pub call : Contains calls (Allocation request (Ok r))
   pub aligned : r.start % request.align ≡ 0
   pub long : r ≡ span r.start request.size
+  pub inside : IfSome request.window (λ window. Covers window r)
 
 -- The range is held in the first state, which was read from a value.
 pub record WasRead (first : AddressState) (r : Range) : Type 0 where

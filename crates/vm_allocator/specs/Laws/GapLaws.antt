@@ -1,19 +1,19 @@
 -- Laws of requests and the longest gap.
-use Rattle.std.specs.Prelude.{◌≡◌, ◌↔◌, ◌<◌, ◌⊎◌, None, Result, Err}
+use Rattle.std.specs.Prelude.{◌≡◌, ◌↔◌, ◌<◌, ◌⊎◌, Result, Err}
 use Rattle.vm_ranges.specs.Range.{Range}
 use Rattle.vm_ranges.specs.Request.{Request, IsRequest}
 use Rattle.vm_engine.specs.Address.{AddressState, IsAddressState}
 use Rattle.vm_engine.specs.Answer.{Allocates}
-use Rattle.vm_engine.specs.Queries.{gaps_of, longest_of}
+use Rattle.vm_engine.specs.Queries.{gaps_of, longest_in}
 use Rattle.vm_ranges.specs.declared.error.Error.{Error}
 use Rattle.vm_ranges.specs.declared.error.Error.TheVariants.{ResourceNotAvailable}
 use Rattle.vm_ranges.specs.declared.constraint.AllocPolicy.TheVariants.{FirstMatch, LastMatch}
 
--- A valid request at alignment 1 and without a window returns ResourceNotAvailable exactly if it is longer than the
--- longest gap. This is true for FirstMatch and LastMatch.
+-- A valid request at alignment 1 returns ResourceNotAvailable exactly if it is longer than the longest gap, or than the
+-- longest part of a gap in its window. This is true for FirstMatch and LastMatch.
 abbrev pub LongestDecides : Type 0
 LongestDecides =
     (old new : AddressState) (request : Request) (answer : Result Range Error) →
-    IsAddressState old → IsRequest request → request.align ≡ 1 → request.window ≡ None →
+    IsAddressState old → IsRequest request → request.align ≡ 1 →
     (request.policy ≡ FirstMatch) ⊎ (request.policy ≡ LastMatch) → Allocates old request answer new →
-    (answer ≡ Err ResourceNotAvailable) ↔ (longest_of (gaps_of old) < request.size)
+    (answer ≡ Err ResourceNotAvailable) ↔ (longest_in request.window (gaps_of old) < request.size)

@@ -1,17 +1,18 @@
 -- The held ranges and the gaps of a valid state.
-use Rattle.std.proofs.Common.{◌≡◌, ℕ, ◌+◌, ◌-◌, ◌<◌, ◌≤◌, ◌⊎◌, List, [], ◌∷◌, Option, Some, None, refl, sym, ap, arith, inl, inr, ⊎_elim, subst}
+use Rattle.std.proofs.Common.{◌≡◌, ◌↔◌, ℕ, ◌+◌, ◌-◌, ◌<◌, ◌≤◌, ◌⊎◌, max, List, [], ◌∷◌, Option, Some, None, refl, sym, ap, arith, inl, inr, ⊎_elim, subst}
 use Rattle.std.proofs.lemmas.Bool.{cases_lt}
 use Rattle.vm_ranges.specs.Range.{Range, IsIn, address_count}
 use Rattle.vm_ranges.proofs.RangeCalls.{same_range}
 use Rattle.vm_engine.specs.Address.{AddressState, IsAddressState, IsClear, IsPlace}
 use Rattle.vm_engine.specs.Tree.Blocks.{Tiles, held_of, blocks_of}
-use Rattle.vm_engine.specs.Queries.{gaps_of, longest_of, count_of, IsRangeAt}
+use Rattle.vm_engine.specs.Windows.{within}
+use Rattle.vm_engine.specs.Queries.{gaps_of, longest_of, longest_part, longest_in, count_of, IsRangeAt}
 use Rattle.vm_engine.specs.Laws.QueryLaws.{IsInOne, IsInNone, EachAddressIsInOne, AgreesWithLists, HeldAtAgrees, IsGap, GapsAreLongest, HeldAndGapsAreBlocks, LongestIsZero, LongestFits, CountsAddUp}
 use Rattle.vm_ranges.specs.declared.state.NodeState.TheVariants.{Allocated}
 use Rattle.vm_engine.proofs.Blocks.PlainWords.{IsHeldAddress, IsHeld, contains_held, held_contains, all_miss, none_holds, held_address}
 use Rattle.vm_engine.proofs.Blocks.Gaps.{in_free_block, free_is_clear}
 use Rattle.vm_engine.proofs.Blocks.HeldSets.{held_lies, one_held}
-use Rattle.vm_engine.proofs.Blocks.GapLists.{FreeOver, free_lies, one_free, in_free, free_over, held_after, held_before, held_or_free, longest_over, one_is_longest, all_counted}
+use Rattle.vm_engine.proofs.Blocks.GapLists.{FreeOver, free_lies, one_free, in_free, free_over, held_after, held_before, held_or_free, longest_over, one_is_longest, longest_part_over, one_has_longest_part, all_counted}
 use Rattle.vm_engine.proofs.Comparing.Tilings.{held_of-blocks_of}
 use Rattle.vm_engine.proofs.Making.BlockCursors.{between_tiles}
 
@@ -144,6 +145,27 @@ module _ (state : AddressState) (valid : IsAddressState state) where
       let lies = free_lies Allocated lo hi (blocks_of state) f.0 tiles f.1 in
       (f.0.start, (omega arith, λ x i j. gap_clear f.0 x f.1 (i, omega (arith, f.2, lies.1))))
 
+  -- ---- The longest part of a gap in a window
+  place_fits_part : (w : Range) (n s : ℕ) → 0 < n → IsPlace n 1 (within (Some w) state) s → n ≤ longest_part w (gaps_of state)
+  unfolding IsPlace
+  place_fits_part w n s p h =
+      let over = in_gap s (s + n - 1) (omega arith) (λ x i j. let c = h.1 x i (omega arith) in ((omega (arith, c.0.0), omega (arith, c.0.1)), c.1)) in
+      let first = (h.1 s (omega arith) (omega arith)).0 in
+      let last = (h.1 (s + n - 1) (omega arith) (omega arith)).0 in
+      omega (arith, longest_part_over w (gaps_of state) over.0 over.1, over.2, over.3, first.0, last.1)
+
+  part_fits_place : (w : Range) (n : ℕ) → 0 < n → n ≤ longest_part w (gaps_of state) → (s : ℕ) × IsPlace n 1 (within (Some w) state) s
+  unfolding IsPlace
+  part_fits_place w n p l =
+      let f = one_has_longest_part w (gaps_of state) n p l in
+      (max w.start f.0.start, (omega arith, λ x i j.
+      let c = gap_clear f.0 x f.1 (omega (arith, i), omega (arith, j, f.2)) in
+      ((omega (arith, i, c.0.0), omega (arith, j, f.2, c.0.1)), c.1)))
+
+  fits_in : (window : Option Range) (n : ℕ) → 0 < n → ((s : ℕ) × IsPlace n 1 (within window state) s) ↔ (n ≤ longest_in window (gaps_of state))
+  fits_in None n p = (λ h. place_fits n h.0 p h.1, λ l. fits_place n p l)
+  fits_in (Some w) n p = (λ h. place_fits_part w n h.0 p h.1, λ l. part_fits_place w n p l)
+
   none_if_zero : longest_of (gaps_of state) ≡ 0 → (x : ℕ) → ¬ IsClear state x
   none_if_zero z x c =
       let over = in_gap x x (omega arith) (λ y i j. let e : x ≡ y = omega arith in subst (IsClear state) e c) in
@@ -186,7 +208,7 @@ pub longest_is_zero : LongestIsZero
 longest_is_zero state valid = (none_if_zero state valid, zero_if_none state valid)
 
 pub longest_fits : LongestFits
-longest_fits state n valid p = (λ h. place_fits state valid n h.0 p h.1, λ l. fits_place state valid n p l)
+longest_fits state window n valid p = fits_in state valid window n p
 
 pub counts_add_up : CountsAddUp
 counts_add_up state valid = add_up state valid

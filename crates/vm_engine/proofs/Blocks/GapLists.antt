@@ -4,7 +4,7 @@ use Rattle.std.proofs.lemmas.Bool.{cases_lt}
 use Rattle.vm_ranges.specs.Range.{Range, IsIn, address_count}
 use Rattle.vm_engine.specs.Tree.Block.{Block}
 use Rattle.vm_engine.specs.Tree.Blocks.{Tiles, held_of}
-use Rattle.vm_engine.specs.Queries.{free_of, longest_of, count_of}
+use Rattle.vm_engine.specs.Queries.{free_of, longest_of, common_count, longest_part, count_of}
 use Rattle.vm_ranges.specs.declared.state.NodeState.{NodeState}
 use Rattle.vm_ranges.specs.declared.state.NodeState.TheVariants.{Free, Allocated}
 use Rattle.vm_engine.proofs.Blocks.PlainWords.{IsHeldAddress, IsHeld}
@@ -163,6 +163,23 @@ one_is_longest (q ∷ rs) n p l =
     (λ (k : address_count q < n). let i = one_is_longest rs n p (omega arith) in (i.0, inr i.1, i.2))
     (λ (k : n ≤ address_count q). (q, inl refl, k))
     (cases_lt (address_count q) n)
+
+-- ---- The longest part in a window
+pub longest_part_over : (w : Range) (rs : List Range) (r : Range) → IsHeld rs r → common_count w r ≤ longest_part w rs
+longest_part_over w [] r h = absurd h
+longest_part_over w (q ∷ rs) r h =
+    ⊎_elim
+    (λ (e : q ≡ r). let k : common_count w q ≡ common_count w r = ap (common_count w) e in omega (arith, k))
+    (λ (e : IsHeld rs r). omega (arith, longest_part_over w rs r e))
+    h
+
+pub one_has_longest_part : (w : Range) (rs : List Range) (n : ℕ) → 0 < n → n ≤ longest_part w rs → (r : Range) × IsHeld rs r × (n ≤ common_count w r)
+one_has_longest_part w [] n p l = absurd (omega arith)
+one_has_longest_part w (q ∷ rs) n p l =
+    ⊎_elim
+    (λ (k : common_count w q < n). let i = one_has_longest_part w rs n p (omega arith) in (i.0, inr i.1, i.2))
+    (λ (k : n ≤ common_count w q). (q, inl refl, k))
+    (cases_lt (common_count w q) n)
 
 -- The held and the free addresses are all addresses of the space.
 pub all_counted : (p : NodeState) (lo hi : ℕ) (bs : List Block) → Tiles p lo bs hi → count_of (free_of bs) + count_of (held_of bs) + lo ≡ hi + 1

@@ -7,20 +7,12 @@ use Rattle.vm_engine.specs.Tree.Shape.{Shape}
 use Rattle.vm_engine.specs.Counts.Steps.{IsGrantCount, IsAllocationCount, Enters, EntersToAllocate, SplitsIfLow}
 use Rattle.vm_ranges.specs.declared.error.Error.{Error}
 use Rattle.vm_ranges.specs.declared.error.Error.TheVariants.{OutOfMemory}
+use Rattle.vm_ranges.proofs.Requests.{constraint_made}
 use Rattle.vm_engine.proofs.Answers.Filling.{no_constraint_fault}
 
 -- ---- Requests that can be invalid
 pub invalid_count : (h : ℕ) (old : AddressState) (request : Request) (e : Error) → IsAllocationCount h old request (Err e) 0
 invalid_count h old request e = record { granting = record { most = omega arith; success = λ k. absurd (cc); split = tt }; invalid = λ x m. refl }
-
--- The constraint that is made has the fields of the request, and the request is valid.
-pub constraint_made : (request k : Request) → MakesConstraint request (Ok k) → (k ≡ request) × IsRequest request
-unfolding MakesConstraint ByConstraint
-constraint_made request k (inl z) = absurd (cc (z.1))
-constraint_made request k (inr (some, inl z)) = absurd (cc (z.1))
-constraint_made request k (inr (some, inr (aligned, inl z))) = absurd (cc (z.1))
-constraint_made request k (inr (some, inr (aligned, inr (start, made)))) =
-    (cc (made), record { some = omega (arith, some); aligned = aligned; start = start })
 
 pub grant_count : (h : ℕ) (old : AddressState) (request k : Request) (answer : Result Range Error) (c : ℕ) → MakesConstraint request (Ok k) → IsGrantCount h old k answer c → IsAllocationCount h old request answer c
 grant_count h old request k answer c m s =
@@ -59,5 +51,14 @@ invalid_low h old request e m = record {
 
 pub valid_low : (h : ℕ) (old : AddressState) (request k : Request) (answer : Result Range Error) → MakesConstraint request (Ok k) → SplitsIfLow h old k answer → SplitsIfLow h old request answer
 valid_low h old request k answer m s = subst (λ (v : Request). SplitsIfLow h old v answer) (constraint_made request k m).0 s
+
+-- ---- Requests that are valid
+pub valid_count : (h : ℕ) (old : AddressState) (request : Request) (answer : Result Range Error) (c : ℕ) → IsRequest request → IsGrantCount h old request answer c → IsAllocationCount h old request answer c
+valid_count h old request answer c r s = record { granting = s; invalid = λ x f. absurd (no_constraint_fault request x f r) }
+
+pub entered_if_valid : (s : Shape) (request : Request) (answer : Result Range Error) (c : ℕ) → IsRequest request → Enters s request answer 0 c → EntersToAllocate s request answer c
+entered_if_valid s request answer c r n = record { invalid = λ x f. absurd (no_constraint_fault request x f r); valid = λ k. n }
+
+pub ruleset valid_allocations = (valid_count, entered_if_valid)
 
 pub ruleset allocations = (invalid_count, grant_count, invalid_entered, valid_entered, valid_low)

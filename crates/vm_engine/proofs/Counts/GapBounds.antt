@@ -22,7 +22,8 @@ use Rattle.vm_ranges.specs.declared.constraint.AllocPolicy.TheVariants.{FirstMat
 use Rattle.vm_engine.proofs.Blocks.Gaps.{InFreeBlock}
 use Rattle.vm_engine.proofs.Choosing.Places.{block_place}
 use Rattle.vm_engine.proofs.Comparing.Tilings.{tree_blocks}
-use Rattle.vm_engine.proofs.Counts.Allocating.{constraint_made, allocations}
+use Rattle.vm_ranges.proofs.Requests.{constraint_made}
+use Rattle.vm_engine.proofs.Counts.Allocating.{allocations}
 use Rattle.vm_engine.proofs.Answers.Requests.{request_in, allocating}
 use Rattle.vm_engine.proofs.Answers.Filling.{succeeding}
 use Rattle.vm_engine.proofs.Nodes.Spaces.{spaces}

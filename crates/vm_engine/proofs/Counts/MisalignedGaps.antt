@@ -1,13 +1,18 @@
 -- Misaligned gaps have no place. At alignment 1 no gap is misaligned.
 use Rattle.std.specs.Prelude.{not}
-use Rattle.std.proofs.Common.{◌≡◌, ℕ, ◌+◌, ◌-◌, ◌<◌, ◌≤◌, Bool, true, false, leb, List, [], ◌∷◌, refl, sym, ◌∙◌, arith, ⊎_elim}
+use Rattle.std.proofs.Common.{◌≡◌, ℕ, ◌+◌, ◌-◌, ◌<◌, ◌≤◌, Bool, true, false, leb, List, [], ◌∷◌, length, Option, Some, None, refl, sym, ◌∙◌, arith, ⊎_elim}
+use Rattle.std.specs.List.{filter}
 use Rattle.std.proofs.Math.Nat.{mod-one}
 use Rattle.std.proofs.lemmas.Bool.{and_parts, leb-true, le-leb, lt-ltb, le-ltb, cases_lt, false_from_ne_true}
 use Rattle.vm_ranges.specs.Range.{Range}
-use Rattle.vm_engine.specs.Tree.Block.{free_length, free_block, held_block}
+use Rattle.vm_engine.specs.Tree.Block.{Block, free_length, free_block, held_block}
+use Rattle.vm_ranges.specs.declared.state.NodeState.{NodeState}
+use Rattle.vm_ranges.specs.declared.state.NodeState.TheVariants.{Free, Allocated}
 use Rattle.vm_engine.specs.Tree.Blocks.{gap_before, blocks_between, blocks_of}
 use Rattle.vm_engine.specs.Tree.Fit.{HasNoFit}
-use Rattle.vm_engine.specs.Counts.GapSearch.{is_misaligned, misaligned_among, misaligned_gaps}
+use Rattle.vm_engine.specs.Address.{AddressState}
+use Rattle.vm_engine.specs.Windows.{cut_to}
+use Rattle.vm_engine.specs.Counts.GapSearch.{is_misaligned, misaligned_among, on_part, passing, misaligned_gaps}
 use Rattle.vm_engine.specs.Laws.AddressLaws.{MisalignedIsExact, NoneIsMisalignedAtOne}
 use Rattle.vm_engine.specs.Counts.NodeCounts.{has_fit}
 use Rattle.vm_engine.proofs.Counts.SearchedGaps.{among_append}
@@ -28,18 +33,21 @@ misaligned_is_exact n a b p = (
 
 -- ---- At alignment 1
 -- A block whose ends are in order has a place at its start, if it is long enough.
-in_order : (n : ℕ) (k : Range) → 0 < n → k.start ≤ k.end → misaligned_among n 1 (free_block k ∷ []) ≡ 0
+free_is_aligned : (n : ℕ) (k : Range) → 0 < n → k.start ≤ k.end → is_misaligned n 1 (free_block k) ≡ false
 unfolding HasNoFit
-in_order n k z o =
-    rw (false_from_ne_true (is_misaligned n 1 (free_block k)) (λ e.
+free_is_aligned n k z o = false_from_ne_true (is_misaligned n 1 (free_block k)) (λ e.
     let reported = (misaligned_is_exact n 1 (free_block k) (omega arith)).0 e in
-    reported.1 k.start (refl, mod-one k.start, omega arith, omega (arith, reported.0)))) refl
+    reported.1 k.start (refl, mod-one k.start, omega arith, omega (arith, reported.0)))
+
+held_is_aligned : (n : ℕ) (k : Range) → 0 < n → is_misaligned n 1 (held_block k) ≡ false
+held_is_aligned n k z = false_from_ne_true (is_misaligned n 1 (held_block k)) (λ e.
+    let reported = (misaligned_is_exact n 1 (held_block k) (omega arith)).0 e in omega (arith, reported.0))
+
+in_order : (n : ℕ) (k : Range) → 0 < n → k.start ≤ k.end → misaligned_among n 1 (free_block k ∷ []) ≡ 0
+in_order n k z o = rw (free_is_aligned n k z o) refl
 
 held_has_none : (n : ℕ) (k : Range) → 0 < n → misaligned_among n 1 (held_block k ∷ []) ≡ 0
-held_has_none n k z =
-    rw (false_from_ne_true (is_misaligned n 1 (held_block k)) (λ e.
-    let reported = (misaligned_is_exact n 1 (held_block k) (omega arith)).0 e in
-    omega (arith, reported.0))) refl
+held_has_none n k z = rw (held_is_aligned n k z) refl
 
 gap_has_none : (n lo next : ℕ) → 0 < n → misaligned_among n 1 (gap_before lo next) ≡ 0
 gap_has_none n lo next z =
@@ -61,8 +69,28 @@ none_between n lo hi (r ∷ rs) z =
       none_between n (r.end + 1) hi rs z,
     )
 
+-- ---- In a window
+part_is_aligned : (n : ℕ) (p : NodeState) (k : Range) → 0 < n → k.start ≤ k.end → is_misaligned n 1 (record { key = k; state = p }) ≡ false
+part_is_aligned n Free k z o = free_is_aligned n k z o
+part_is_aligned n Allocated k z o = held_is_aligned n k z
+
+no_part : (n : ℕ) (w : Range) (b : Block) → 0 < n → on_part w (is_misaligned n 1) b ≡ false
+no_part n w b z = false_from_ne_true (on_part w (is_misaligned n 1) b) (λ e.
+    let parts = and_parts (leb (cut_to w b).key.start (cut_to w b).key.end) (is_misaligned n 1 (cut_to w b)) e in
+    let not : is_misaligned n 1 (cut_to w b) ≡ false = part_is_aligned n b.state (cut_to w b).key z (leb-true _ _ parts.0) in
+    let both : true ≡ false = sym parts.1 ∙ not in cc)
+
+none_in_window : (n : ℕ) (w : Range) (bs : List Block) → 0 < n → length (filter (on_part w (is_misaligned n 1)) bs) ≡ 0
+none_in_window n w [] z = refl
+none_in_window n w (b ∷ bs) z = rw (no_part n w b z) (none_in_window n w bs z)
+
+none_passes : (window : Option Range) (n : ℕ) (state : AddressState) → 0 < n → passing window (is_misaligned n 1) (blocks_of state) ≡ 0
+unfolding blocks_of
+none_passes None n state z = none_between n state.space.start state.space.end state.held z
+none_passes (Some w) n state z = none_in_window n w (blocks_of state) z
+
 pub none_is_misaligned_at_one : NoneIsMisalignedAtOne
-unfolding misaligned_gaps blocks_of
-none_is_misaligned_at_one state request z e v = rw (v, e) (none_between request.size state.space.start state.space.end state.held z)
+unfolding misaligned_gaps
+none_is_misaligned_at_one state request z e = rw e (none_passes request.window request.size state z)
 
 pub ruleset misaligned = (misaligned_is_exact, none_is_misaligned_at_one)

@@ -1,5 +1,5 @@
 -- Laws that follow from the definitions, for one call of an address allocator.
-use Rattle.std.specs.Prelude.{◌≡◌, ◌≢◌, ℕ, ◌<◌, ◌≤◌, ◌⊎◌, ◌↔◌, true, List, length, Result, Ok, None}
+use Rattle.std.specs.Prelude.{◌≡◌, ◌≢◌, ℕ, ◌<◌, ◌≤◌, ◌⊎◌, ◌↔◌, true, List, length, Result, Ok}
 use Rattle.std.specs.List.{All, AllPairs, Contains}
 use Rattle.vm_ranges.specs.Range.{Range, MAX, Overlaps, Covers}
 use Rattle.vm_engine.specs.Address.{AddressState, IsClear, SplitsGap, IsAddressState}
@@ -9,6 +9,7 @@ use Rattle.vm_ranges.specs.Alignment.{IsAlignment}
 use Rattle.vm_engine.specs.Counts.GapSearch.{is_misaligned, misaligned_gaps, is_too_short, too_short_gaps}
 use Rattle.vm_engine.specs.Tree.Multiples.{HasMultiple, multiples_in}
 use Rattle.vm_ranges.specs.Request.{Request}
+use Rattle.vm_engine.specs.Windows.{within}
 use Rattle.vm_engine.specs.Answer.{IsSplitRefusal, AllocatesAt, Allocates, Frees, Makes}
 use Rattle.vm_ranges.specs.declared.error.Error.{Error}
 use Rattle.vm_ranges.specs.declared.state.NodeState.TheVariants.{Free}
@@ -95,11 +96,10 @@ FreeingUndoes =
 abbrev pub MisalignedIsExact : Type 0
 MisalignedIsExact = (n a : ℕ) (b : Block) → 0 < a → (is_misaligned n a b ≡ true) ↔ ((n ≤ free_length b) × HasNoFit n a b)
 
--- No gap is misaligned at alignment 1, for a request without a window.
+-- No gap is misaligned at alignment 1, and in a window no part of a gap.
 abbrev pub NoneIsMisalignedAtOne : Type 0
 NoneIsMisalignedAtOne =
-    (state : AddressState) (request : Request) → 0 < request.size → request.align ≡ 1 → request.window ≡ None →
-    misaligned_gaps state request ≡ 0
+    (state : AddressState) (request : Request) → 0 < request.size → request.align ≡ 1 → misaligned_gaps state request ≡ 0
 
 -- A list of different held ranges has every held range exactly if its length is the number of held ranges.
 abbrev pub CountFindsAll : Type 0
@@ -114,9 +114,9 @@ TooShortIsExact =
     (n a : ℕ) (b : Block) → 0 < a →
     (is_too_short n a b ≡ true) ↔ ((b.state ≡ Free) × HasMultiple a b.key × HasNoFit n a b)
 
--- There are at most as many gaps that are too short as multiples of the alignment in the space, for a request without a
--- window.
+-- There are at most as many gaps that are too short as multiples of the alignment in the space. In a window, there are at
+-- most as many parts of gaps as multiples in the window and the space.
 abbrev pub TooShortAreFew : Type 0
 TooShortAreFew =
-    (state : AddressState) (request : Request) → IsAddressState state → IsAlignment request.align → request.window ≡ None →
-    too_short_gaps state request ≤ multiples_in request.align state.space
+    (state : AddressState) (request : Request) → IsAddressState state → IsAlignment request.align →
+    too_short_gaps state request ≤ multiples_in request.align (within request.window state).space

@@ -4,7 +4,8 @@ use Rattle.std.specs.List.{All, Contains}
 use Rattle.vm_ranges.specs.Range.{Range, IsIn, address_count}
 use Rattle.vm_engine.specs.Address.{AddressState, IsAddressState, IsClear, IsPlace}
 use Rattle.vm_engine.specs.Tree.Blocks.{Tiles, held_of, blocks_of}
-use Rattle.vm_engine.specs.Queries.{free_of, gaps_of, longest_of, count_of, IsHeldAt}
+use Rattle.vm_engine.specs.Queries.{free_of, gaps_of, longest_of, longest_in, count_of, IsHeldAt}
+use Rattle.vm_engine.specs.Windows.{within}
 use Rattle.vm_ranges.specs.declared.state.NodeState.TheVariants.{Allocated}
 
 -- The address x is in exactly one of the ranges.
@@ -64,11 +65,12 @@ LongestIsZero =
     (state : AddressState) → IsAddressState state →
     (longest_of (gaps_of state) ≡ 0) ↔ ((x : ℕ) → ¬ IsClear state x)
 
--- There is a place for n addresses at alignment 1 exactly if n is at most the length of the longest gap.
+-- There is a place for n addresses at alignment 1 exactly if n is at most the length of the longest gap. In a window, the
+-- parts of the gaps in the window count.
 abbrev pub LongestFits : Type 0
 LongestFits =
-    (state : AddressState) (n : ℕ) → IsAddressState state → 0 < n →
-    ((s : ℕ) × IsPlace n 1 state s) ↔ (n ≤ longest_of (gaps_of state))
+    (state : AddressState) (window : Option Range) (n : ℕ) → IsAddressState state → 0 < n →
+    ((s : ℕ) × IsPlace n 1 (within window state) s) ↔ (n ≤ longest_in window (gaps_of state))
 
 -- The clear addresses and the addresses of the held ranges are together as many as those of the space.
 abbrev pub CountsAddUp : Type 0

@@ -1,4 +1,5 @@
-//! A long run on 64 addresses. Each result is compared with a plain search, address by address.
+//! A long run on 64 addresses. Every second request has a window. Each result is compared with a plain
+//! search, address by address.
 use super::*;
 use vm_model as plain;
 use vm_model::{ADDRESSES, Addresses, CALLS, Draws};
@@ -9,6 +10,17 @@ fn call_of(call: plain::Call) -> Call {
         plain::Call::First(size, alignment) => First(size, alignment),
         plain::Call::Last(size, alignment) => Last(size, alignment),
         plain::Call::Exact(size, alignment, start) => Exact(size, alignment, start),
+        plain::Call::Free(start, end) => Free(start, end),
+    }
+}
+
+/// Returns the call of the allocator for a call of the run with a window.
+fn call_within(call: plain::Call, window: plain::Window) -> Call {
+    let window = (window.first, window.last);
+    match call {
+        plain::Call::First(size, alignment) => FirstIn(size, alignment, window),
+        plain::Call::Last(size, alignment) => LastIn(size, alignment, window),
+        plain::Call::Exact(size, alignment, start) => ExactIn(size, alignment, start, window),
         plain::Call::Free(start, end) => Free(start, end),
     }
 }
@@ -61,8 +73,14 @@ fn long_run(rt: HostRuntime) {
     let mut space = made(&rt, 0, ADDRESSES);
     for number in 1..=CALLS {
         let asked = draws.call(&addresses);
-        let found = addresses.answer(asked);
-        let (call, want) = (call_of(asked), want_of(asked, found));
+        let window = draws.window();
+        let (call, found) = if number % 2 == 0 {
+            let found = addresses.answer_within(asked, window);
+            (call_within(asked, window), found)
+        } else {
+            (call_of(asked), addresses.answer(asked))
+        };
+        let want = want_of(asked, found);
         let mut answer = call.ask(&mut space, rt.alloc(), Plain);
         if let Err(Error::OutOfMemory) = answer {
             expect_alike(&rt, &space, &addresses, number);

@@ -6,7 +6,7 @@ use super::*;
 use crate::fixtures::{count_allocations, expect_allocations};
 
 /// Calls with their results and their numbers of allocations.
-const ROWS: [(Call, Expected, usize); 22] = [
+const ROWS: [(Call, Expected, usize); 24] = [
     (Space(0, 64), Range(0, 63), 1),
     // The part that stays free is after the range, before it, and on both sides.
     (First(4, 1), Range(0, 3), 1),
@@ -20,6 +20,9 @@ const ROWS: [(Call, Expected, usize); 22] = [
     (First(1, 32), Range(32, 32), 2),
     (First(4, 8), Range(16, 19), 1),
     (Exact(4, 4, 36), Range(36, 39), 2),
+    // The end of a window splits a gap, as another range does.
+    (FirstIn(1, 1, (28, 30)), Range(28, 28), 2),
+    (LastIn(3, 1, (29, 31)), Range(29, 31), 0),
     // The range fills its gap.
     (First(4, 4), Range(4, 7), 0),
     (Exact(7, 1, 9), Range(9, 15), 0),

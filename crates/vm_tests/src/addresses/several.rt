@@ -13,7 +13,7 @@ type Several<'a> = (u64, u64, &'a [(Call, Expected)], usize);
 
 /// The call allocates the list of its ranges. A split allocates a node for each part of its gap that
 /// stays free.
-const ALLOCATED: [Several<'static>; 6] = [
+const ALLOCATED: [Several<'static>; 7] = [
     (0, 64, &[], 0),
     (0, 64, &[(Exact(4, 1, 4), Range(4, 7))], 3),
     (
@@ -41,6 +41,19 @@ const ALLOCATED: [Several<'static>; 6] = [
         ],
         4,
     ),
+    // Each request in its own window, after the ranges before it.
+    (
+        0,
+        64,
+        &[
+            (LastIn(8, 8, (0, 31)), Range(24, 31)),
+            (LastIn(8, 8, (0, 31)), Range(8, 15)),
+            (Last(8, 8), Range(56, 63)),
+            (FirstIn(8, 8, (32, MAX)), Range(32, 39)),
+            (ExactIn(8, 1, 0, (0, 7)), Range(0, 7)),
+        ],
+        4,
+    ),
     // All of the space.
     (
         0,
@@ -65,7 +78,7 @@ const ALLOCATED: [Several<'static>; 6] = [
 ];
 
 /// One of the requests fails. The calls one by one go on after it.
-const REFUSED: [Several<'static>; 9] = [
+const REFUSED: [Several<'static>; 10] = [
     // The first request.
     (
         0,
@@ -113,6 +126,18 @@ const REFUSED: [Several<'static>; 9] = [
         &[(Exact(4, 4, 4), Range(4, 7)), (Exact(4, 4, 4), Held(4, 7))],
         3,
     ),
+    // A request whose window the requests before it fill.
+    (
+        0,
+        64,
+        &[
+            (FirstIn(8, 8, (24, 39)), Range(24, 31)),
+            (FirstIn(8, 8, (24, 39)), Range(32, 39)),
+            (FirstIn(1, 1, (24, 39)), NotAvailable),
+            (First(1, 1), Range(0, 0)),
+        ],
+        2,
+    ),
     // The last request, at both ends of the addresses outside the space.
     (
         0,
@@ -159,22 +184,12 @@ fn space_of(rt: &(impl Abort + AllocGlobal), row: &Several<'_>) -> AddressAlloca
     space
 }
 
-/// Returns the request of a call that allocates.
-fn request(rt: &impl Abort, call: Call) -> Constraint {
-    let request = match call {
-        First(size, alignment) => Constraint::new(size, alignment, FirstMatch),
-        Last(size, alignment) => Constraint::new(size, alignment, LastMatch),
-        Exact(size, alignment, start) => Constraint::new(size, alignment, ExactMatch(start)),
-        Space(..) | Free(..) => Err(Error::InvalidSize(0)),
-    };
-    request.expect(rt, "it is a request")
-}
-
 /// Returns the requests of calls.
 fn requests(rt: &(impl Abort + AllocGlobal), calls: &[(Call, Expected)]) -> Vec<Constraint> {
     let mut list = list_for(rt, calls.len());
     for (call, _) in calls {
-        let pushed = list.push(request(rt, *call));
+        let request = call.request().expect(rt, "it is a request");
+        let pushed = list.push(request);
         assert!(rt; pushed.is_ok());
     }
     list

@@ -60,8 +60,8 @@ fn look_up(rt: &impl Abort, space: &AddressAllocator, other: &AddressAllocator) 
 fn fill(rt: &(impl Abort + AllocGlobal), space: &mut AddressAllocator, form: Form) {
     let rows = &[
         (First(2, 1), Range(0, 1)),
-        (Last(4, 1), Range(12, 15)),
-        (Exact(2, 1, 8), Range(8, 9)),
+        (LastIn(4, 1, (4, 20)), Range(12, 15)),
+        (FirstIn(2, 1, (7, 10)), Range(8, 9)),
         // Free addresses are on no side, before, on both sides, and after.
         (Free(0, 1), Range(0, 1)),
         (Free(6, 7), Range(6, 7)),
@@ -105,6 +105,9 @@ fn refused(rt: HostRuntime) {
         (Exact(2, 1, 5), NotAvailable),
         (First(5, 1), NotAvailable),
         (Last(5, 1), NotAvailable),
+        (FirstIn(2, 1, (5, 8)), NotAvailable),
+        (LastIn(1, 1, (16, MAX)), NotAvailable),
+        (ExactIn(2, 1, 6, (6, 6)), Held(6, 7)),
         (Free(4, 5), NotAvailable),
         (Free(6, 6), NotAvailable),
         (Free(16, 17), NotAvailable),

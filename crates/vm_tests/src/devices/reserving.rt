@@ -61,6 +61,26 @@ fn both_or_neither(rt: HostRuntime) {
     replay_in(&rt, (3, 9), 0, 4, full);
 }
 
+/// Devices with 32-bit and with 64-bit registers in one space.
+#[test]
+fn devices_in_windows(rt: HostRuntime) {
+    let low = (0, 0xFFFF_FFFF);
+    let rows = &[
+        (LastIn(0x1000, 0x1000, low), Device(1, 0xFFFF_F000, 0xFFFF_FFFF)),
+        (Last(0x1000, 0x1000), Device(2, 0x1_0000_F000, 0x1_0000_FFFF)),
+        (FirstIn(0x1000, 0x1000, (0x1_0000_0000, u64::MAX)), Device(3, 0x1_0000_0000, 0x1_0000_0FFF)),
+        (FirstIn(0xF001, 1, low), NotAvailable),
+        (FirstIn(0xF000, 1, low), Device(4, 0xFFFF_0000, 0xFFFF_EFFF)),
+        (FirstIn(1, 1, low), NotAvailable),
+        (Release(1), Gone),
+        (FirstIn(1, 1, low), Device(1, 0xFFFF_F000, 0xFFFF_F000)),
+        (First(1, 1), Device(5, 0xFFFF_F001, 0xFFFF_F001)),
+        (FirstIn(1, 1, (0, 0)), NotAvailable),
+        (First(1, 1), Device(6, 0xFFFF_F002, 0xFFFF_F002)),
+    ];
+    replay_in(&rt, (1, 9), 0xFFFF_0000, 0x2_0000, rows);
+}
+
 /// Checks the errors of new managers: the ids, then the size, then the end.
 #[test]
 fn refused_managers(rt: HostRuntime) {
