@@ -28,6 +28,7 @@ mod ranges;
 #[allow(dead_code, unused_imports)]
 #[path = "../../rust/divsharun/src/rattle/mod.rs"]
 mod rattle;
+mod requests;
 mod runtime;
 mod status;
 mod texts;
