@@ -1,7 +1,7 @@
 /* SPDX-License-Identifier: Apache-2.0 OR BSD-3-Clause */
 /*
  * divsharun: allocators of address ranges and ids for the devices of a virtual
- * machine: MMIO and PIO windows, PCI bars, interrupts and memory slots.
+ * machine: MMIO and PIO ranges, PCI BARs, interrupts and memory slots.
  *
  *     dvs_address_allocator *mmio;
  *     dvs_range bar;
@@ -26,8 +26,8 @@
  * that destroys it. You own a saved text until dvs_text_destroy(), and free()
  * must not be called on it. The library keeps no pointer to your memory after a
  * call returns. A pointer argument must be null or point to a valid object of
- * its type, and so must a pointer in it. The results of a call must not share
- * memory with each other or with its arguments.
+ * its type, and so must a pointer in that object. The results of a call must not
+ * share memory with each other or with its arguments.
  *
  * Threads. Calls on different objects can run at the same time. On one object,
  * calls that take a pointer to const can run at the same time. Any other call
@@ -656,8 +656,8 @@ dvs_status dvs_device_reserve_exact(dvs_device_manager *manager, uint64_t size, 
 
 /*
  * Reserves a device like dvs_device_reserve_first(), with the range of
- * dvs_range_allocate(). But an error that is in the request itself precedes that
- * of the id.
+ * dvs_range_allocate(). But the errors of an invalid request precede those of the
+ * id.
  *
  * Errors, in order:
  * - DVS_INVALID_POLICY if the policy is not one of the constants.

@@ -1,7 +1,8 @@
 /* SPDX-License-Identifier: Apache-2.0 OR BSD-3-Clause */
 /*
- * The calls of divsharun.h for C++11: owners that destroy their object, statuses
- * as std::error_code, and lists as vectors or by a function for each item.
+ * The calls of divsharun.h for C++11: owners that destroy their object, requests
+ * that own their window, statuses as std::error_code, and lists as vectors or by
+ * a function for each item.
  *
  * A method has the rules of its call. It returns the code of the status, which
  * converts to false for DVS_OK. Only methods with a vector, a string or a
