@@ -1,7 +1,7 @@
 /* SPDX-License-Identifier: Apache-2.0 OR BSD-3-Clause */
 /*
  * divsharun: allocators of address ranges and ids for the devices of a virtual
- * machine: MMIO and PIO windows, PCI bars, interrupts and memory slots.
+ * machine: MMIO and PIO ranges, PCI BARs, interrupts and memory slots.
  *
  *     dvs_address_allocator *mmio;
  *     dvs_range bar;
@@ -26,7 +26,8 @@
  * that destroys it. You own a saved text until dvs_text_destroy(), and free()
  * must not be called on it. The library keeps no pointer to your memory after a
  * call returns. A pointer argument must be null or point to a valid object of
- * its type. Two results of a call must not share memory.
+ * its type, and so must a pointer in that object. The results of a call must not
+ * share memory with each other or with its arguments.
  *
  * Threads. Calls on different objects can run at the same time. On one object,
  * calls that take a pointer to const can run at the same time. Any other call
@@ -71,11 +72,11 @@
  * new DVS_VERSION_MINOR can add statuses and calls. DVS_VERSION_NUMBER is
  * 10000 * major + 100 * minor + patch.
  */
-#define DVS_VERSION_MAJOR 2
-#define DVS_VERSION_MINOR 1
+#define DVS_VERSION_MAJOR 3
+#define DVS_VERSION_MINOR 0
 #define DVS_VERSION_PATCH 0
-#define DVS_VERSION_NUMBER 20100
-#define DVS_VERSION_TEXT "2.1.0"
+#define DVS_VERSION_NUMBER 30000
+#define DVS_VERSION_TEXT "3.0.0"
 
 /* Marks a call that writes its results only if its status is DVS_OK. */
 #ifdef __GNUC__
@@ -103,7 +104,8 @@ enum {
     DVS_NEVER_ALLOCATED = 4,
     /* No free range fits, all ids are allocated, or the range to free is not allocated. */
     DVS_RESOURCE_NOT_AVAILABLE = 5,
-    /* The start is past the end, or the range has all 2^64 addresses. */
+    /* The start is past the end, or the range has all 2^64 addresses. A window can have them all.
+     */
     DVS_INVALID_RANGE = 6,
     /* The alignment is not a power of two. */
     DVS_INVALID_ALIGNMENT = 7,
@@ -176,13 +178,24 @@ enum {
     DVS_EXACT = 2
 };
 
-/* A request for a range of `size` addresses that starts at a multiple of `alignment`. */
+/*
+ * A request for a range of `size` addresses that starts at a multiple of
+ * `alignment`. An initializer sets the members that it leaves out to 0 or NULL.
+ */
 typedef struct dvs_request {
     uint64_t size;
     uint64_t alignment;
     /* Used by DVS_EXACT only. */
     uint64_t start;
     uint32_t policy;
+    /*
+     * The range must lie in this window. NULL if there is none. The pointer must
+     * be valid during the call only.
+     *
+     * A window that starts at 0 has no lower limit, and one that ends at
+     * UINT64_MAX has no upper limit. A window with both has no limit, like NULL.
+     */
+    const dvs_range *window;
 } dvs_request;
 
 /* Limits for a text that is read. 0 is no limit. */
@@ -332,19 +345,40 @@ dvs_status dvs_range_allocate_exact(dvs_address_allocator *allocator, uint64_t s
                                     dvs_refusal *refusal);
 
 /*
+ * Allocates the range of `request`, and writes it to `range`. Free it with
+ * dvs_range_free().
+ *
+ * DVS_FIRST allocates the lowest range in the window of the request, and
+ * DVS_LAST the highest. DVS_EXACT allocates the range that starts at `start`, if
+ * it lies in the window. A window that contains the space changes nothing.
+ *
+ * Errors, in order:
+ * - DVS_INVALID_POLICY if the policy is not one of the constants.
+ * - DVS_INVALID_RANGE, with the window, if its start is past its end.
+ * - The errors of dvs_range_allocate_first(), _last() or _exact(), in the same
+ *   order. Addresses outside the window count as outside the space. So no range
+ *   fits if the window and the space have no address in common.
+ *
+ * DVS_INVALID_STATE_TRANSITION is also returned if the allocated range starts in
+ * the window and ends past it. A window that ends before UINT64_MAX avoids the
+ * DVS_OVERFLOW of a range that ends there.
+ */
+DVS_WARN_UNUSED
+dvs_status dvs_range_allocate(dvs_address_allocator *allocator, const dvs_request *request,
+                              dvs_range *range, dvs_refusal *refusal);
+
+/*
  * Allocates a range for each of the `count` requests, in their order, and writes
  * them to the array `ranges` of `count` members. It allocates all of them or
- * none. Each range is the one that the call for its policy would allocate after
- * the requests before it.
+ * none. Each range is the one that dvs_range_allocate() would allocate after the
+ * requests before it. Each request can have a different window.
  *
  * On an error of a request, its index is written to `failed`, which can be null.
  * Otherwise `count` is written to it.
  *
  * Errors, in order:
  * - DVS_OUT_OF_MEMORY if the allocation of a list of ranges fails.
- * - For the first request that fails: DVS_INVALID_POLICY if its policy is not
- *   one of the constants, otherwise the error of dvs_range_allocate_first(),
- *   _last() or _exact().
+ * - For the first request that fails: the error of dvs_range_allocate().
  */
 DVS_WARN_UNUSED
 dvs_status dvs_address_allocator_allocate_all(dvs_address_allocator *allocator,
@@ -619,6 +653,25 @@ dvs_status dvs_device_reserve_last(dvs_device_manager *manager, uint64_t size, u
 DVS_WARN_UNUSED
 dvs_status dvs_device_reserve_exact(dvs_device_manager *manager, uint64_t size, uint64_t alignment,
                                     uint64_t start, dvs_device *device, dvs_refusal *refusal);
+
+/*
+ * Reserves a device like dvs_device_reserve_first(), with the range of
+ * dvs_range_allocate(). But the errors of an invalid request precede those of the
+ * id.
+ *
+ * Errors, in order:
+ * - DVS_INVALID_POLICY if the policy is not one of the constants.
+ * - DVS_INVALID_RANGE, with the window, if its start is past its end.
+ * - DVS_INVALID_SIZE if `size` is 0.
+ * - DVS_INVALID_ALIGNMENT if `alignment` is not a power of two.
+ * - DVS_UNALIGNED_ADDRESS if the start of DVS_EXACT is not a multiple of
+ *   `alignment`.
+ * - Those of dvs_id_allocate().
+ * - The other errors of dvs_range_allocate(), in the same order.
+ */
+DVS_WARN_UNUSED
+dvs_status dvs_device_reserve(dvs_device_manager *manager, const dvs_request *request,
+                              dvs_device *device, dvs_refusal *refusal);
 
 /*
  * Releases a device: frees its id and its range.

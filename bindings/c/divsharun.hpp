@@ -1,7 +1,8 @@
 /* SPDX-License-Identifier: Apache-2.0 OR BSD-3-Clause */
 /*
- * The calls of divsharun.h for C++11: owners that destroy their object, statuses
- * as std::error_code, and lists as vectors or by a function for each item.
+ * The calls of divsharun.h for C++11: owners that destroy their object, requests
+ * that own their window, statuses as std::error_code, and lists as vectors or by
+ * a function for each item.
  *
  * A method has the rules of its call. It returns the code of the status, which
  * converts to false for DVS_OK. Only methods with a vector, a string or a
@@ -106,6 +107,41 @@ template <typename T, void (*Destroy)(T *)> class owner {
     }
 };
 
+/*
+ * A request that owns its window, so both can be made and used in one line:
+ *
+ *     space.allocate(dvs::request::first(0x1000, 0x1000).within({0, UINT32_MAX}), bar);
+ *
+ * Without within() it has no window.
+ */
+class request {
+    dvs_request asked;
+    dvs_range window;
+
+    request(const dvs_request &members, dvs_range limits) noexcept
+        : asked(members), window(limits) {}
+    static request of(uint64_t size, uint64_t alignment, uint64_t start, uint32_t policy) noexcept {
+        return {{size, alignment, start, policy, nullptr}, {0, UINT64_MAX}};
+    }
+
+  public:
+    static request first(uint64_t size, uint64_t alignment) noexcept {
+        return of(size, alignment, 0, DVS_FIRST);
+    }
+    static request last(uint64_t size, uint64_t alignment) noexcept {
+        return of(size, alignment, 0, DVS_LAST);
+    }
+    static request exact(uint64_t size, uint64_t alignment, uint64_t start) noexcept {
+        return of(size, alignment, start, DVS_EXACT);
+    }
+    /* Returns this request with a window, which replaces the one that it had. */
+    request within(dvs_range limits) const noexcept { return {asked, limits}; }
+    /* Returns the request for C. It points to the window of this request. */
+    dvs_request get() const noexcept {
+        return {asked.size, asked.alignment, asked.start, asked.policy, &window};
+    }
+};
+
 class address_allocator : public owner<dvs_address_allocator, dvs_address_allocator_destroy> {
     using object = dvs_address_allocator;
 
@@ -135,11 +171,24 @@ class address_allocator : public owner<dvs_address_allocator, dvs_address_alloca
                          dvs_refusal *refusal = nullptr) {
         return code(dvs_range_allocate_exact(get(), size, alignment, start, &range, refusal));
     }
+    error allocate(const dvs_request &asked, dvs_range &range, dvs_refusal *refusal = nullptr) {
+        return code(dvs_range_allocate(get(), &asked, &range, refusal));
+    }
+    error allocate(const request &asked, dvs_range &range, dvs_refusal *refusal = nullptr) {
+        return allocate(asked.get(), range, refusal);
+    }
     error allocate_all(const std::vector<dvs_request> &requests, std::vector<dvs_range> &ranges,
-                       std::size_t *failed = nullptr) {
+                       std::size_t *failed = nullptr, dvs_refusal *refusal = nullptr) {
         ranges.resize(requests.size());
         return code(dvs_address_allocator_allocate_all(get(), requests.data(), requests.size(),
-                                                       ranges.data(), failed, nullptr));
+                                                       ranges.data(), failed, refusal));
+    }
+    error allocate_all(const std::vector<request> &requests, std::vector<dvs_range> &ranges,
+                       std::size_t *failed = nullptr, dvs_refusal *refusal = nullptr) {
+        std::vector<dvs_request> all;
+        for (const request &one : requests)
+            all.push_back(one.get());
+        return allocate_all(all, ranges, failed, refusal);
     }
     error free(dvs_range range) { return code(dvs_range_free(get(), range, nullptr)); }
     error at(uint64_t address, dvs_range &range) const {
@@ -187,6 +236,12 @@ class device_manager : public owner<dvs_device_manager, dvs_device_manager_destr
     error save(std::string &text) const { return save_by(dvs_device_manager_save, text); }
     error reserve_first(uint64_t size, uint64_t alignment, dvs_device &device) {
         return code(dvs_device_reserve_first(get(), size, alignment, &device, nullptr));
+    }
+    error reserve(const dvs_request &asked, dvs_device &device, dvs_refusal *refusal = nullptr) {
+        return code(dvs_device_reserve(get(), &asked, &device, refusal));
+    }
+    error reserve(const request &asked, dvs_device &device, dvs_refusal *refusal = nullptr) {
+        return reserve(asked.get(), device, refusal);
     }
     error release(uint32_t id) { return code(dvs_device_release(get(), id, nullptr)); }
     error at(uint64_t address, dvs_device &device) const {

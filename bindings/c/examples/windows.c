@@ -1,9 +1,26 @@
-/* Plugs and unplugs the devices of a small machine, and saves and restores its windows. */
+/* Plugs the cards and the devices of a small machine, and saves and restores its addresses. */
 #include <divsharun.h>
 
 #include <inttypes.h>
 #include <stdio.h>
 #include <stdlib.h>
+
+/* One space has the addresses of all BARs. A 32-bit BAR lies below the interrupt controllers, which
+ * start at 0xfec00000. A 64-bit BAR lies above 4 GiB. */
+static const dvs_range low = {0, 0xfebfffff}, high = {0x100000000, UINT64_MAX};
+
+/* The registers, the memory and the ROM of a card. */
+static const dvs_request graphics[] = {
+    {.size = 0x4000, .alignment = 0x4000, .policy = DVS_FIRST, .window = &low},
+    {.size = 0x10000000, .alignment = 0x10000000, .policy = DVS_FIRST, .window = &high},
+    {.size = 0x10000, .alignment = 0x10000, .policy = DVS_LAST, .window = &low},
+};
+
+/* A card whose second BAR has 1 GiB, but must lie below 4 GiB. */
+static const dvs_request storage[] = {
+    {.size = 0x1000, .alignment = 0x1000, .policy = DVS_FIRST, .window = &low},
+    {.size = 0x40000000, .alignment = 0x40000000, .policy = DVS_FIRST, .window = &low},
+};
 
 /* Ends the program if a call fails. */
 static void check(dvs_status status, const char *what) {
@@ -13,9 +30,21 @@ static void check(dvs_status status, const char *what) {
     }
 }
 
-static int print_window(void *context, dvs_range window) {
-    printf("%s %#" PRIx64 " to %#" PRIx64 "\n", (const char *)context, window.start, window.end);
+static int print_range(void *context, dvs_range range) {
+    printf("%s %#" PRIx64 " to %#" PRIx64 "\n", (const char *)context, range.start, range.end);
     return 0;
+}
+
+/* Allocates all BARs of a card, or none. */
+static void plug_card(dvs_address_allocator *mmio, char *card, const dvs_request *bars,
+                      size_t count, dvs_range *ranges) {
+    size_t failed, i;
+
+    if (dvs_address_allocator_allocate_all(mmio, bars, count, ranges, &failed, NULL) == DVS_OK)
+        for (i = 0; i < count; i++)
+            print_range(card, ranges[i]);
+    else
+        printf("%s: BAR %u does not fit, so no BAR is allocated\n", card, (unsigned)failed);
 }
 
 /* Returns a saved and restored copy of the allocator, as after a migration. */
@@ -37,7 +66,7 @@ static void plug_devices(void) {
     check(dvs_device_manager_new(5, 23, 0xe0000000, 0x100000, &bus, NULL), "the bus");
     check(dvs_device_reserve_first(bus, 0x1000, 0x1000, &disk, NULL), "the disk");
     check(dvs_device_reserve_first(bus, 0x2000, 0x2000, &network, NULL), "the network");
-    printf("network: interrupt %" PRIu32 ", window at %#" PRIx64 "\n", network.id,
+    printf("network: interrupt %" PRIu32 ", range at %#" PRIx64 "\n", network.id,
            network.range.start);
     check(dvs_device_release(bus, disk.id, NULL), "unplugging the disk");
     dvs_device_manager_destroy(bus);
@@ -45,22 +74,25 @@ static void plug_devices(void) {
 
 int main(void) {
     dvs_address_allocator *mmio, *copy;
-    dvs_range bar, rom;
+    dvs_range ram, bars[3], none[2];
     dvs_refusal refusal;
     dvs_status status;
+    int i;
 
-    check(dvs_address_allocator_new(0xd0000000, 0x30000000, &mmio), "the gap below 4 GiB");
-    check(dvs_range_allocate_first(mmio, 0x4000, 0x4000, &bar, NULL), "a bar");
-    check(dvs_range_allocate_exact(mmio, 0x1000, 1, 0xd0010000, &rom, NULL), "a rom");
+    check(dvs_address_allocator_new(0xc0000000, 0xf40000000, &mmio), "3 GiB to 64 GiB");
+    check(dvs_range_allocate_exact(mmio, 0x40000000, 1, 0x100000000, &ram, NULL), "the RAM");
+    plug_card(mmio, "graphics", graphics, 3, bars);
+    plug_card(mmio, "storage", storage, 2, none);
 
-    status = dvs_range_allocate_exact(mmio, 0x4000, 1, bar.start, &bar, &refusal);
+    status = dvs_range_allocate_exact(mmio, 0x40000000, 1, ram.start, &ram, &refusal);
     if (status == DVS_INVALID_STATE_TRANSITION)
         printf("already allocated, up to %#" PRIx64 "\n", refusal.range.end);
 
     copy = restored(mmio);
     dvs_address_allocator_destroy(mmio);
-    check(dvs_range_visit(copy, print_window, "window"), "the windows");
-    check(dvs_range_free(copy, bar, NULL), "freeing the bar");
+    check(dvs_range_visit(copy, print_range, "restored"), "the ranges");
+    for (i = 0; i < 3; i++)
+        check(dvs_range_free(copy, bars[i], NULL), "unplugging the graphics");
     dvs_address_allocator_destroy(copy);
 
     plug_devices();

@@ -7,6 +7,7 @@ use crate::proved::vm_allocator::{AllocPolicy, Error};
 use crate::proved::vm_devices::{DeviceManager, DeviceSlot};
 use crate::ranges::space_of;
 use crate::rattle::Global;
+use crate::requests::{dvs_request, with_request};
 use crate::texts::{dvs_text_fault, read, read_devices, save};
 use crate::{dvs_range, dvs_refusal, dvs_status, status_of, CallError, Out};
 use core::ffi::{c_char, c_int, c_void};
@@ -107,6 +108,19 @@ fn reserve(
         let slot = manager.reserve(Global, size, alignment, policy)?;
         Ok(slot.into())
     })
+}
+
+#[unsafe(no_mangle)]
+pub extern "C" fn dvs_device_reserve(
+    manager: Option<&dvs_device_manager>,
+    request: Option<&dvs_request>,
+    device: Out<dvs_device>,
+    refusal: Out<dvs_refusal>,
+) -> dvs_status {
+    let taken = with_request(manager, request, device, |manager, request| {
+        Ok(manager.reserve_constraint(Global, request)?.into())
+    });
+    status_of(taken, refusal)
 }
 
 #[unsafe(no_mangle)]

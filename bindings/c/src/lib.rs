@@ -2,9 +2,9 @@
 //!
 //! `divsharun.h` documents the calls and what they require of their caller.
 //!
-//! A pointer argument is an `Option` of a reference, which is `None` if the pointer is null.
-//! Otherwise it is valid, as the header requires. A call writes its result last, so an error leaves
-//! it unchanged.
+//! A pointer argument, or a pointer in its object, is an `Option` of a reference, which is `None` if
+//! the pointer is null. Otherwise it is valid, as the header requires. A call writes its result last,
+//! so an error leaves it unchanged.
 #![no_std]
 #![deny(unsafe_op_in_unsafe_fn, clippy::undocumented_unsafe_blocks)]
 // Types have the names of the header.
@@ -28,6 +28,7 @@ mod ranges;
 #[allow(dead_code, unused_imports)]
 #[path = "../../rust/divsharun/src/rattle/mod.rs"]
 mod rattle;
+mod requests;
 mod runtime;
 mod status;
 mod texts;

@@ -1,36 +1,13 @@
 //! Calls with arrays of ranges and of requests.
 
 use crate::handle::{create, non_null};
-use crate::proved::vm_allocator::{AddressAllocator, AllocPolicy, RangeInclusive};
+use crate::proved::vm_allocator::{AddressAllocator, RangeInclusive};
 use crate::ranges::dvs_address_allocator;
 use crate::rattle::Global;
+use crate::requests::dvs_request;
 use crate::{dvs_range, dvs_refusal, dvs_status, status_of, CallError, Out};
 use alloc::vec::Vec;
 use core::slice;
-
-const DVS_FIRST: u32 = 0;
-const DVS_LAST: u32 = 1;
-const DVS_EXACT: u32 = 2;
-
-/// A request for a range.
-#[repr(C)]
-pub struct dvs_request {
-    size: u64,
-    alignment: u64,
-    start: u64,
-    policy: u32,
-}
-
-impl dvs_request {
-    fn policy(&self) -> Result<AllocPolicy, CallError> {
-        match self.policy {
-            DVS_FIRST => Ok(AllocPolicy::FirstMatch),
-            DVS_LAST => Ok(AllocPolicy::LastMatch),
-            DVS_EXACT => Ok(AllocPolicy::ExactMatch(self.start)),
-            _ => Err(CallError::InvalidPolicy),
-        }
-    }
-}
 
 /// Returns the array of a caller.
 ///
@@ -172,6 +149,5 @@ fn allocate(
     allocator: &mut AddressAllocator,
     request: &dvs_request,
 ) -> Result<RangeInclusive, CallError> {
-    let policy = request.policy()?;
-    Ok(allocator.allocate(Global, request.size, request.alignment, policy)?)
+    Ok(allocator.allocate_constraint(Global, request.constraint()?)?)
 }

@@ -4,6 +4,7 @@ use crate::handle::{create, visit, with_mut, with_mut_unit, with_ref, Handle};
 use crate::json::dvs_text_limits;
 use crate::proved::vm_allocator::{AddressAllocator, AllocPolicy, Error, RangeInclusive};
 use crate::rattle::Global;
+use crate::requests::{dvs_request, with_request};
 use crate::texts::{dvs_text_fault, read, read_space, save};
 use crate::{dvs_range, dvs_refusal, dvs_status, status_of, CallError, Out};
 use core::ffi::{c_char, c_int, c_void};
@@ -100,6 +101,19 @@ fn allocate(
         let range = allocator.allocate(Global, size, alignment, policy)?;
         Ok(range.into())
     })
+}
+
+#[unsafe(no_mangle)]
+pub extern "C" fn dvs_range_allocate(
+    allocator: Option<&dvs_address_allocator>,
+    request: Option<&dvs_request>,
+    range: Out<dvs_range>,
+    refusal: Out<dvs_refusal>,
+) -> dvs_status {
+    let taken = with_request(allocator, request, range, |allocator, request| {
+        Ok(allocator.allocate_constraint(Global, request)?.into())
+    });
+    status_of(taken, refusal)
 }
 
 #[unsafe(no_mangle)]

@@ -36,6 +36,10 @@ static bool is_untouched(const void *bytes, size_t length) {
     return true;
 }
 
+/* A request that is invalid in each member. */
+static const dvs_range backwards = {2, 1};
+static const dvs_request worst = {0, 0, 1, DVS_EXACT + 1, &backwards};
+
 /* Returns whether a call wrote all details: these, and 0 for the others. */
 static bool are_told(uint64_t start, uint64_t end, uint32_t id) {
     return is_range(refusal.range, start, end) && is_range(refusal.other, 0, 0) &&
@@ -199,6 +203,7 @@ static int visit_range(void *context, dvs_range range) {
     CHECK(are_told(0, 0, 0));
     CHECK(dvs_range_allocate_last(visit->space, 1, 1, &other, NULL) == DVS_BUSY);
     CHECK(dvs_range_allocate_exact(visit->space, 1, 1, 1, &other, NULL) == DVS_BUSY);
+    CHECK(dvs_range_allocate(visit->space, &worst, &other, NULL) == DVS_BUSY);
     CHECK(dvs_range_free(visit->space, range, NULL) == DVS_BUSY);
     /* Does nothing during a visit. */
     dvs_address_allocator_destroy(visit->space);
@@ -421,6 +426,356 @@ static void reserve_many_devices(uint32_t first) {
     dvs_device_manager_destroy(manager);
 }
 
+/* ---- Windows ---- */
+
+#define TOP UINT64_MAX
+
+/* The id of the device that a test reserves. */
+enum { NEXT_ID = 2 };
+
+/* A request with a window, and its result. */
+struct row {
+    uint32_t policy;
+    uint64_t size, alignment, start;
+    dvs_range window;
+    dvs_status status;
+    /* The range that is allocated, or the range in the details of the error. */
+    dvs_range range;
+};
+
+/* In the space from 0x1000 to 0x1fff, with the ranges of `held` allocated. */
+static const dvs_range held[] = {{0x1400, 0x14ff}, {0x1800, 0x18ff}};
+
+static const struct row in_gaps[] = {
+    /* A gap. */
+    {DVS_FIRST, 0x100, 0x100, 0, {0x1500, 0x17ff}, DVS_OK, {0x1500, 0x15ff}},
+    {DVS_LAST, 0x100, 0x100, 0, {0x1500, 0x17ff}, DVS_OK, {0x1700, 0x17ff}},
+    {DVS_EXACT, 0x100, 0x100, 0x1500, {0x1500, 0x17ff}, DVS_OK, {0x1500, 0x15ff}},
+    {DVS_EXACT, 0x100, 0x100, 0x1700, {0x1500, 0x17ff}, DVS_OK, {0x1700, 0x17ff}},
+    /* A part of a gap. */
+    {DVS_FIRST, 0x10, 1, 0, {0x1510, 0x17ef}, DVS_OK, {0x1510, 0x151f}},
+    {DVS_FIRST, 0x10, 0x100, 0, {0x1510, 0x17ef}, DVS_OK, {0x1600, 0x160f}},
+    {DVS_LAST, 0x10, 1, 0, {0x1510, 0x17ef}, DVS_OK, {0x17e0, 0x17ef}},
+    {DVS_LAST, 0x10, 0x100, 0, {0x1510, 0x17ef}, DVS_OK, {0x1700, 0x170f}},
+    {DVS_EXACT, 0x10, 1, 0x1510, {0x1510, 0x17ef}, DVS_OK, {0x1510, 0x151f}},
+    {DVS_EXACT, 0x10, 1, 0x17e0, {0x1510, 0x17ef}, DVS_OK, {0x17e0, 0x17ef}},
+    {DVS_EXACT, 0x10, 1, 0x150f, {0x1510, 0x17ef}, DVS_RESOURCE_NOT_AVAILABLE, {0, 0}},
+    {DVS_EXACT, 0x10, 1, 0x17e1, {0x1510, 0x17ef}, DVS_RESOURCE_NOT_AVAILABLE, {0, 0}},
+    /* All addresses of the window, and one more. */
+    {DVS_FIRST, 0x2e0, 1, 0, {0x1510, 0x17ef}, DVS_OK, {0x1510, 0x17ef}},
+    {DVS_LAST, 0x2e0, 1, 0, {0x1510, 0x17ef}, DVS_OK, {0x1510, 0x17ef}},
+    {DVS_EXACT, 0x2e0, 1, 0x1510, {0x1510, 0x17ef}, DVS_OK, {0x1510, 0x17ef}},
+    {DVS_FIRST, 0x2e1, 1, 0, {0x1510, 0x17ef}, DVS_RESOURCE_NOT_AVAILABLE, {0, 0}},
+    {DVS_LAST, 0x2e1, 1, 0, {0x1510, 0x17ef}, DVS_RESOURCE_NOT_AVAILABLE, {0, 0}},
+    {DVS_EXACT, 0x2e1, 1, 0x1510, {0x1510, 0x17ef}, DVS_RESOURCE_NOT_AVAILABLE, {0, 0}},
+    /* Three gaps. */
+    {DVS_FIRST, 0x100, 1, 0, {0x1300, 0x19ff}, DVS_OK, {0x1300, 0x13ff}},
+    {DVS_FIRST, 0x101, 1, 0, {0x1300, 0x19ff}, DVS_OK, {0x1500, 0x1600}},
+    {DVS_LAST, 0x100, 1, 0, {0x1300, 0x19ff}, DVS_OK, {0x1900, 0x19ff}},
+    {DVS_LAST, 0x101, 1, 0, {0x1300, 0x19ff}, DVS_OK, {0x16ff, 0x17ff}},
+    {DVS_FIRST, 0x301, 1, 0, {0x1300, 0x19ff}, DVS_RESOURCE_NOT_AVAILABLE, {0, 0}},
+    {DVS_LAST, 0x301, 1, 0, {0x1300, 0x19ff}, DVS_RESOURCE_NOT_AVAILABLE, {0, 0}},
+    /* One address, which is free or allocated. */
+    {DVS_FIRST, 1, 1, 0, {0x1555, 0x1555}, DVS_OK, {0x1555, 0x1555}},
+    {DVS_LAST, 1, 1, 0, {0x1555, 0x1555}, DVS_OK, {0x1555, 0x1555}},
+    {DVS_EXACT, 1, 1, 0x1555, {0x1555, 0x1555}, DVS_OK, {0x1555, 0x1555}},
+    {DVS_FIRST, 1, 2, 0, {0x1555, 0x1555}, DVS_RESOURCE_NOT_AVAILABLE, {0, 0}},
+    {DVS_LAST, 2, 1, 0, {0x1555, 0x1555}, DVS_RESOURCE_NOT_AVAILABLE, {0, 0}},
+    {DVS_EXACT, 1, 1, 0x1554, {0x1555, 0x1555}, DVS_RESOURCE_NOT_AVAILABLE, {0, 0}},
+    {DVS_EXACT, 1, 1, 0x1556, {0x1555, 0x1555}, DVS_RESOURCE_NOT_AVAILABLE, {0, 0}},
+    {DVS_FIRST, 1, 1, 0, {0x1400, 0x1400}, DVS_RESOURCE_NOT_AVAILABLE, {0, 0}},
+    {DVS_LAST, 1, 1, 0, {0x14ff, 0x14ff}, DVS_RESOURCE_NOT_AVAILABLE, {0, 0}},
+};
+
+static const struct row at_ends[] = {
+    /* No address of the space. */
+    {DVS_FIRST, 1, 1, 0, {0, 0xfff}, DVS_RESOURCE_NOT_AVAILABLE, {0, 0}},
+    {DVS_LAST, 1, 1, 0, {0x2000, TOP - 1}, DVS_RESOURCE_NOT_AVAILABLE, {0, 0}},
+    {DVS_EXACT, 1, 1, 0x1000, {0, 0xfff}, DVS_RESOURCE_NOT_AVAILABLE, {0, 0}},
+    {DVS_EXACT, 1, 1, 0xf00, {0, 0xfff}, DVS_RESOURCE_NOT_AVAILABLE, {0, 0}},
+    {DVS_EXACT, 1, 1, 0x2000, {0x2000, TOP}, DVS_RESOURCE_NOT_AVAILABLE, {0, 0}},
+    {DVS_FIRST, 1, 1, 0, {0, 0}, DVS_RESOURCE_NOT_AVAILABLE, {0, 0}},
+    {DVS_LAST, 1, 1, 0, {TOP, TOP}, DVS_RESOURCE_NOT_AVAILABLE, {0, 0}},
+    /* The space or a part of it, and addresses outside it. */
+    {DVS_FIRST, 0x10, 1, 0, {0, 0x2fff}, DVS_OK, {0x1000, 0x100f}},
+    {DVS_LAST, 0x10, 1, 0, {0, 0x2fff}, DVS_OK, {0x1ff0, 0x1fff}},
+    {DVS_EXACT, 0x10, 1, 0x1ff0, {1, TOP}, DVS_OK, {0x1ff0, 0x1fff}},
+    {DVS_EXACT, 0x11, 1, 0x1ff0, {1, TOP}, DVS_RESOURCE_NOT_AVAILABLE, {0, 0}},
+    {DVS_FIRST, 0x10, 1, 0, {0x1f00, TOP}, DVS_OK, {0x1f00, 0x1f0f}},
+    {DVS_LAST, 0x10, 1, 0, {0, 0x100f}, DVS_OK, {0x1000, 0x100f}},
+    {DVS_LAST, 0x11, 1, 0, {0, 0x100f}, DVS_RESOURCE_NOT_AVAILABLE, {0, 0}},
+    /* All addresses: no limit. */
+    {DVS_FIRST, 0x10, 1, 0, {0, TOP}, DVS_OK, {0x1000, 0x100f}},
+    {DVS_LAST, 0x10, 1, 0, {0, TOP}, DVS_OK, {0x1ff0, 0x1fff}},
+    {DVS_EXACT, 0x10, 1, 0x1500, {0, TOP}, DVS_OK, {0x1500, 0x150f}},
+    {DVS_EXACT, 0x100, 1, 0x1400, {0, TOP}, DVS_INVALID_STATE_TRANSITION, {0x1400, 0x14ff}},
+    {DVS_FIRST, 0x701, 1, 0, {0, TOP}, DVS_RESOURCE_NOT_AVAILABLE, {0, 0}},
+};
+
+/* Windows that are not ranges, allocated ranges, and requests with two errors. */
+static const struct row refused[] = {
+    {DVS_FIRST, 1, 1, 0, {9, 8}, DVS_INVALID_RANGE, {9, 8}},
+    {DVS_LAST, 1, 1, 0, {TOP, 0}, DVS_INVALID_RANGE, {TOP, 0}},
+    {DVS_EXACT, 1, 1, 0x1500, {0x1501, 0x1500}, DVS_INVALID_RANGE, {0x1501, 0x1500}},
+    {DVS_EXACT, 0x100, 1, 0x1400, {0x1400, 0x14fe}, DVS_INVALID_STATE_TRANSITION, {0x1400, 0x14ff}},
+    {DVS_EXACT, 0x100, 1, 0x1400, {0x1400, 0x1400}, DVS_INVALID_STATE_TRANSITION, {0x1400, 0x14ff}},
+    {DVS_EXACT, 0x100, 1, 0x1400, {0x1401, 0x14ff}, DVS_RESOURCE_NOT_AVAILABLE, {0, 0}},
+    {DVS_EXACT, 0x80, 1, 0x1400, {0x1400, 0x14fe}, DVS_RESOURCE_NOT_AVAILABLE, {0, 0}},
+    {DVS_EXACT + 1, 0, 3, 0, {9, 8}, DVS_INVALID_POLICY, {0, 0}},
+    {UINT32_MAX, 1, 1, 0, {0x1500, 0x17ff}, DVS_INVALID_POLICY, {0, 0}},
+    {DVS_EXACT, 0, 3, 1, {9, 8}, DVS_INVALID_RANGE, {9, 8}},
+    {DVS_EXACT, 0, 3, 1, {0, 0xfff}, DVS_INVALID_SIZE, {0, 0}},
+    {DVS_EXACT, 1, 3, 1, {0, 0xfff}, DVS_INVALID_ALIGNMENT, {0, 0}},
+    {DVS_EXACT, 1, 4, 0x1502, {0, 0xfff}, DVS_UNALIGNED_ADDRESS, {0, 0}},
+    {DVS_EXACT, 2, 1, TOP, {0, 0xfff}, DVS_OVERFLOW, {0, 0}},
+    {DVS_EXACT, TOP, 1, 0x1500, {0x1600, 0x17ff}, DVS_RESOURCE_NOT_AVAILABLE, {0, 0}},
+    {DVS_EXACT, TOP, 1, 0x1500, {0x1500, 0x1501}, DVS_OVERFLOW, {0, 0}},
+    {DVS_EXACT, TOP, 1, 0x1400, {0x1400, 0x1401}, DVS_OVERFLOW, {0, 0}},
+};
+
+/* In the space from 0 to 0xff. */
+static const struct row at_zero[] = {
+    {DVS_FIRST, 1, 1, 0, {0, 0}, DVS_OK, {0, 0}},
+    {DVS_LAST, 1, 1, 0, {0, 0}, DVS_OK, {0, 0}},
+    {DVS_EXACT, 1, 1, 0, {0, 0}, DVS_OK, {0, 0}},
+    {DVS_EXACT, 2, 1, 0, {0, 0}, DVS_RESOURCE_NOT_AVAILABLE, {0, 0}},
+    {DVS_EXACT, 1, 1, 0, {1, TOP}, DVS_RESOURCE_NOT_AVAILABLE, {0, 0}},
+    {DVS_FIRST, 1, 1, 0, {1, TOP}, DVS_OK, {1, 1}},
+    {DVS_FIRST, 0x100, 0x100, 0, {0, 0xff}, DVS_OK, {0, 0xff}},
+    {DVS_LAST, 0x100, 0x100, 0, {0, 0xfe}, DVS_RESOURCE_NOT_AVAILABLE, {0, 0}},
+    {DVS_LAST, 0x10, 0x10, 0, {0, 0xfe}, DVS_OK, {0xe0, 0xef}},
+};
+
+/* In the space of the 256 addresses up to UINT64_MAX. */
+static const struct row at_top[] = {
+    {DVS_FIRST, 1, 1, 0, {TOP, TOP}, DVS_OVERFLOW, {0, 0}},
+    {DVS_FIRST, 0x80, 1, 0, {TOP - 0x7f, TOP}, DVS_OVERFLOW, {0, 0}},
+    {DVS_FIRST, 0x81, 1, 0, {TOP - 0x7f, TOP}, DVS_RESOURCE_NOT_AVAILABLE, {0, 0}},
+    {DVS_FIRST, 0x10, 1, 0, {TOP - 0x7f, TOP}, DVS_OK, {TOP - 0x7f, TOP - 0x70}},
+    {DVS_LAST, 0x10, 1, 0, {TOP - 0x7f, TOP}, DVS_OVERFLOW, {0, 0}},
+    {DVS_LAST, 0x10, 1, 0, {TOP - 0x7f, TOP - 1}, DVS_OK, {TOP - 0x10, TOP - 1}},
+    {DVS_LAST, 0x10, 0x10, 0, {TOP - 0x7f, TOP - 1}, DVS_OK, {TOP - 0x1f, TOP - 0x10}},
+    {DVS_LAST, 1, 1, 0, {0, TOP}, DVS_OVERFLOW, {0, 0}},
+    {DVS_LAST, 1, 1, 0, {0, TOP - 1}, DVS_OK, {TOP - 1, TOP - 1}},
+    {DVS_EXACT, 0x10, 1, TOP - 0xf, {TOP - 0x7f, TOP}, DVS_OVERFLOW, {0, 0}},
+    {DVS_EXACT, 0x11, 1, TOP - 0xf, {TOP - 0x7f, TOP}, DVS_OVERFLOW, {0, 0}},
+    {DVS_EXACT, 0x10, 1, TOP - 0xf, {TOP - 0x7f, TOP - 1}, DVS_RESOURCE_NOT_AVAILABLE, {0, 0}},
+    {DVS_EXACT, 0x10, 1, TOP - 0x10, {TOP - 0x7f, TOP - 1}, DVS_OK, {TOP - 0x10, TOP - 1}},
+    {DVS_EXACT, 1, 1, TOP, {TOP, TOP}, DVS_OVERFLOW, {0, 0}},
+};
+
+/* In a manager whose id UINT32_MAX is allocated. An error of the id precedes that of the range. */
+static const struct row without_ids[] = {
+    {DVS_EXACT + 1, 0, 3, 1, {9, 8}, DVS_INVALID_POLICY, {0, 0}},
+    {DVS_EXACT, 0, 3, 1, {9, 8}, DVS_INVALID_RANGE, {9, 8}},
+    {DVS_EXACT, 0, 3, 1, {0, 0xfff}, DVS_INVALID_SIZE, {0, 0}},
+    {DVS_EXACT, 1, 3, 1, {0, 0xfff}, DVS_INVALID_ALIGNMENT, {0, 0}},
+    {DVS_EXACT, 1, 4, 0x1502, {0, 0xfff}, DVS_UNALIGNED_ADDRESS, {0, 0}},
+    {DVS_EXACT, 0x100, 1, 0x1400, {0x1400, 0x14ff}, DVS_OVERFLOW, {0, 0}},
+    {DVS_FIRST, 1, 1, 0, {0, 0xfff}, DVS_OVERFLOW, {0, 0}},
+    {DVS_LAST, 1, 1, 0, {0x1500, 0x17ff}, DVS_OVERFLOW, {0, 0}},
+};
+
+/* A call with a request, on a space or a manager. It frees what it has allocated. */
+typedef dvs_status request_call(void *object, const dvs_request *request, dvs_range *range);
+
+static dvs_status allocate_one(void *object, const dvs_request *request, dvs_range *range) {
+    dvs_address_allocator *space = (dvs_address_allocator *)object;
+    dvs_status status = dvs_range_allocate(space, request, range, &refusal);
+
+    CHECK(status != DVS_OK || dvs_range_free(space, *range, NULL) == DVS_OK);
+    return status;
+}
+
+static dvs_status allocate_list(void *object, const dvs_request *request, dvs_range *range) {
+    dvs_address_allocator *space = (dvs_address_allocator *)object;
+    size_t failed = MANY;
+    dvs_status status =
+        dvs_address_allocator_allocate_all(space, request, 1, range, &failed, &refusal);
+
+    CHECK(failed == (status == DVS_OK ? 1 : 0));
+    CHECK(status != DVS_OK || dvs_range_free(space, *range, NULL) == DVS_OK);
+    return status;
+}
+
+static dvs_status reserve_one(void *object, const dvs_request *request, dvs_range *range) {
+    dvs_device_manager *manager = (dvs_device_manager *)object;
+    dvs_device device;
+    dvs_status status;
+
+    memset(&device, UNTOUCHED, sizeof device);
+    status = dvs_device_reserve(manager, request, &device, &refusal);
+    if (status == DVS_OK) {
+        *range = device.range;
+        CHECK(dvs_device_release(manager, NEXT_ID, NULL) == DVS_OK && device.id == NEXT_ID);
+    } else {
+        CHECK(is_untouched(&device, sizeof device));
+    }
+    return status;
+}
+
+/* Checks the result of a call for a row. A window of all addresses is also NULL. */
+static void check_call(const struct row *row, request_call *call, void *object) {
+    dvs_request request = {row->size, row->alignment, row->start, row->policy, &row->window};
+    bool is_all = is_range(row->window, 0, TOP);
+    int i;
+
+    for (i = 0; i <= is_all; i++) {
+        dvs_range range;
+
+        memset(&range, UNTOUCHED, sizeof range);
+        RETURNS(row->status, call(object, &request, &range));
+        if (row->status == DVS_OK) {
+            CHECK(is_range(range, row->range.start, row->range.end));
+            CHECK(is_untouched(&refusal, sizeof refusal));
+        } else {
+            CHECK(is_untouched(&range, sizeof range));
+            CHECK(are_told(row->range.start, row->range.end, 0));
+        }
+        request.window = NULL;
+    }
+}
+
+/* Checks the three calls with a request. An error must change nothing. */
+static void check_row(const struct row *row, dvs_address_allocator *space,
+                      dvs_device_manager *manager) {
+    size_t length;
+    char *ranges = saved_space(space, &length), *devices = saved_devices(manager, &length);
+    char *ranges_after, *devices_after;
+
+    check_call(row, allocate_one, space);
+    check_call(row, allocate_list, space);
+    check_call(row, reserve_one, manager);
+    ranges_after = saved_space(space, &length);
+    devices_after = saved_devices(manager, &length);
+    CHECK(row->status == DVS_OK || strcmp(ranges, ranges_after) == 0);
+    CHECK(row->status == DVS_OK || strcmp(devices, devices_after) == 0);
+    dvs_text_destroy(ranges);
+    dvs_text_destroy(devices);
+    dvs_text_destroy(ranges_after);
+    dvs_text_destroy(devices_after);
+}
+
+/* Returns a manager with a device for each of the first `count` ranges of `held`. */
+static dvs_device_manager *manager_with(uint64_t base, uint64_t size, uint32_t first, uint32_t last,
+                                        uint32_t count) {
+    dvs_device_manager *manager;
+    dvs_device device;
+    uint32_t i;
+
+    CHECK(dvs_device_manager_new(first, last, base, size, &manager, NULL) == DVS_OK);
+    for (i = 0; i < count; i++)
+        CHECK(dvs_device_reserve_exact(manager, held[i].end - held[i].start + 1, 1, held[i].start,
+                                       &device, NULL) == DVS_OK);
+    return manager;
+}
+
+/* Checks rows in a space in which the first `held_count` ranges of `held` are allocated. */
+static void check_rows(uint64_t base, uint64_t size, uint32_t held_count, const struct row *rows,
+                       size_t count) {
+    dvs_device_manager *manager =
+        manager_with(base, size, NEXT_ID - held_count, NEXT_ID, held_count);
+    dvs_address_allocator *space;
+    size_t i;
+
+    CHECK(dvs_address_allocator_with_held(base, size, held, held_count, &space, NULL) == DVS_OK);
+    for (i = 0; i < count; i++)
+        check_row(&rows[i], space, manager);
+    dvs_address_allocator_destroy(space);
+    dvs_device_manager_destroy(manager);
+}
+
+#define ROWS(rows) rows, sizeof rows / sizeof rows[0]
+
+static void request_in_windows(void) {
+    dvs_device_manager *manager = manager_with(0x1000, 0x1000, UINT32_MAX, UINT32_MAX, 1);
+    size_t i;
+
+    check_rows(0x1000, 0x1000, 2, ROWS(in_gaps));
+    check_rows(0x1000, 0x1000, 2, ROWS(at_ends));
+    check_rows(0x1000, 0x1000, 2, ROWS(refused));
+    check_rows(0, 0x100, 0, ROWS(at_zero));
+    check_rows(TOP - 0xff, 0x100, 0, ROWS(at_top));
+    for (i = 0; i < sizeof without_ids / sizeof without_ids[0]; i++)
+        check_call(&without_ids[i], reserve_one, manager);
+    REFUSED(DVS_OVERFLOW, dvs_device, dvs_device_reserve_first(manager, 0, 3, &answer, &refusal));
+    dvs_device_manager_destroy(manager);
+}
+
+/* ---- Random requests, compared with a search of all addresses ---- */
+
+/* The space has the 64 addresses starting at BASE. */
+enum { BASE = 0x1000, STEPS = 20000 };
+
+/* A bit for each allocated address, and the size of the range that starts at each address, or 0. */
+static uint64_t bits, sizes[64];
+
+static uint64_t drawn(uint64_t below) {
+    static uint64_t seed = 1;
+
+    seed = seed * 6364136223846793005u + 1442695040888963407u;
+    return (seed >> 33) % below;
+}
+
+static uint64_t bits_of(uint64_t start, uint64_t size) {
+    return (((uint64_t)1 << size) - 1) << start;
+}
+
+/* Writes the start of the range of a request to `found`, and returns the status of the request. */
+static dvs_status searched(const dvs_request *request, dvs_range window, uint64_t *found) {
+    bool is_exact = request->policy == DVS_EXACT;
+    uint64_t exact = request->start - BASE, start;
+
+    *found = 64;
+    for (start = 0; start + request->size <= 64; start++)
+        if (start % request->alignment == 0 && (bits & bits_of(start, request->size)) == 0 &&
+            window.start <= BASE + start && BASE + start + request->size - 1 <= window.end &&
+            (!is_exact || start == exact) && (*found == 64 || request->policy == DVS_LAST))
+            *found = start;
+    if (*found < 64)
+        return DVS_OK;
+    if (is_exact && sizes[exact] == request->size && window.start <= request->start &&
+        request->start <= window.end)
+        return DVS_INVALID_STATE_TRANSITION;
+    return DVS_RESOURCE_NOT_AVAILABLE;
+}
+
+static void request_at_random(void) {
+    dvs_address_allocator *space;
+    dvs_range window, range;
+    dvs_request request = {0, 0, 0, 0, &window};
+    uint64_t start, counts[STATUSES] = {0};
+    dvs_status status;
+    int i;
+
+    CHECK(dvs_address_allocator_new(BASE, 64, &space) == DVS_OK);
+    for (i = 0; i < STEPS; i++) {
+        window.start = BASE - 8 + drawn(80);
+        window.end = window.start + drawn(40);
+        request.size = 1 + drawn(8);
+        request.alignment = (uint64_t)1 << drawn(3);
+        request.start = BASE + (drawn(64) & ~(request.alignment - 1));
+        request.policy = (uint32_t)drawn(3);
+        status = searched(&request, window, &start);
+        counts[status]++;
+        CHECK(dvs_range_allocate(space, &request, &range, NULL) == status);
+        if (status == DVS_OK) {
+            CHECK(is_range(range, BASE + start, BASE + start + request.size - 1));
+            bits |= bits_of(start, request.size);
+            sizes[start] = request.size;
+        }
+        start = drawn(64);
+        if (sizes[start] == 0)
+            continue;
+        range = range_of(BASE + start, BASE + start + sizes[start] - 1);
+        CHECK(dvs_range_free(space, range, NULL) == DVS_OK);
+        bits &= ~bits_of(start, sizes[start]);
+        sizes[start] = 0;
+    }
+    CHECK(counts[DVS_OK] > STEPS / 8 && counts[DVS_INVALID_STATE_TRANSITION] > 0);
+    dvs_address_allocator_destroy(space);
+}
+
 /* ---- Texts ---- */
 
 static const char SPACE[] =
@@ -614,6 +969,10 @@ static void give_null_spaces(void) {
     IS_NULL(dvs_range_allocate_last(space, 1, 1, NULL, NULL));
     IS_NULL(dvs_range_allocate_exact(NULL, 1, 1, 0, &range, NULL));
     IS_NULL(dvs_range_allocate_exact(space, 1, 1, 0, NULL, NULL));
+    IS_NULL(dvs_range_allocate(NULL, &worst, &range, NULL));
+    IS_NULL(dvs_range_allocate(space, NULL, &range, &refusal));
+    CHECK(are_told(0, 0, 0));
+    IS_NULL(dvs_range_allocate(space, &worst, NULL, NULL));
     IS_NULL(dvs_range_free(NULL, range_of(0, 1), NULL));
     IS_NULL(dvs_range_is_held(NULL, range_of(0, 1), &is_held, NULL));
     IS_NULL(dvs_range_is_held(space, range_of(0, 1), NULL, NULL));
@@ -684,6 +1043,10 @@ static void give_null_managers(void) {
     IS_NULL(dvs_device_reserve_last(manager, 1, 1, NULL, NULL));
     IS_NULL(dvs_device_reserve_exact(NULL, 1, 1, 0, &device, NULL));
     IS_NULL(dvs_device_reserve_exact(manager, 1, 1, 0, NULL, NULL));
+    IS_NULL(dvs_device_reserve(NULL, &worst, &device, NULL));
+    IS_NULL(dvs_device_reserve(manager, NULL, &device, &refusal));
+    CHECK(are_told(0, 0, 0));
+    IS_NULL(dvs_device_reserve(manager, &worst, NULL, NULL));
     IS_NULL(dvs_device_release(NULL, 0, NULL));
     IS_NULL(dvs_device_range(NULL, 0, &range, NULL));
     IS_NULL(dvs_device_range(manager, 0, NULL, NULL));
@@ -764,6 +1127,8 @@ int main(void) {
     reserve_devices();
     reserve_many_devices(0);
     reserve_many_devices(0x7fffff80);
+    request_in_windows();
+    request_at_random();
     save_spaces();
     save_ids();
     save_devices();
@@ -776,8 +1141,7 @@ int main(void) {
     say_words();
     check_version();
     for (status = 0; status < STATUSES; status++)
-        CHECK(seen[status] || status == DVS_OVERLAP || status == DVS_OUT_OF_MEMORY ||
-              status == DVS_INVALID_POLICY);
+        CHECK(seen[status] || status == DVS_OVERLAP || status == DVS_OUT_OF_MEMORY);
     puts("calls: every call and every status checked");
     return 0;
 }

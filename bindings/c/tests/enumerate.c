@@ -47,6 +47,7 @@ static dvs_request request_of(uint64_t size, uint64_t alignment, uint32_t policy
     request.alignment = alignment;
     request.policy = policy;
     request.start = start;
+    request.window = NULL;
     return request;
 }
 
@@ -165,19 +166,60 @@ static void allocate_all(void) {
     dvs_address_allocator_destroy(space);
 }
 
+/* Checks that the second of two BARs does not fit into its window, so that neither is allocated. */
+static void refuse_bars(dvs_address_allocator *space, const dvs_request *bars, dvs_status status,
+                        dvs_range told) {
+    dvs_range ranges[2];
+    dvs_refusal refusal;
+    size_t failed = MOST;
+    uint64_t count = MOST;
+
+    ranges[0] = range_of(1, 2);
+    CHECK(dvs_address_allocator_allocate_all(space, bars, 2, ranges, &failed, &refusal) == status);
+    CHECK(failed == 1 && is_range(ranges[0], 1, 2));
+    CHECK(is_range(refusal.range, told.start, told.end));
+    CHECK(dvs_range_count(space, &count) == DVS_OK && count == 2);
+}
+
+/* Allocates two BARs, each in a separate window. */
+static void allocate_in_windows(void) {
+    dvs_address_allocator *space = two_held();
+    dvs_range low = {0, 0x1fff}, high = {0x2000, UINT64_MAX}, ranges[2];
+    dvs_request bars[2];
+    size_t failed = MOST;
+
+    bars[0] = request_of(0x800, 0x100, DVS_LAST, 0);
+    bars[0].window = &low;
+    bars[1] = request_of(0x1001, 1, DVS_FIRST, 0);
+    bars[1].window = &high;
+    refuse_bars(space, bars, DVS_RESOURCE_NOT_AVAILABLE, range_of(0, 0));
+    bars[1] = request_of(0x1000, 1, DVS_EXACT, 0x1000);
+    bars[1].window = &low;
+    refuse_bars(space, bars, DVS_INVALID_STATE_TRANSITION, range_of(0x1000, 0x1fff));
+    low.end = 0xdff;
+    bars[1] = request_of(0x1000, 1, DVS_FIRST, 0);
+    bars[1].window = &high;
+    CHECK(dvs_address_allocator_allocate_all(space, bars, 2, ranges, &failed, NULL) == DVS_OK);
+    CHECK(failed == 2 && is_range(ranges[0], 0x600, 0xdff) && is_range(ranges[1], 0x2000, 0x2fff));
+    dvs_address_allocator_destroy(space);
+}
+
 static void allocate_none(void) {
+    static const dvs_range backwards = {5, 4}, outside = {0x4000, UINT64_MAX};
     static const struct row {
         dvs_request request;
         dvs_status status;
     } rows[] = {
-        {{0, 1, 0, DVS_FIRST}, DVS_INVALID_SIZE},
-        {{1, 3, 0, DVS_FIRST}, DVS_INVALID_ALIGNMENT},
-        {{1, 2, 1, DVS_EXACT}, DVS_UNALIGNED_ADDRESS},
-        {{0x1000, 1, 0x1000, DVS_EXACT}, DVS_INVALID_STATE_TRANSITION},
-        {{0x1000, 1, 0, DVS_LAST}, DVS_RESOURCE_NOT_AVAILABLE},
-        {{1, 1, UINT64_MAX, DVS_EXACT}, DVS_OVERFLOW},
-        {{1, 1, 0, DVS_EXACT + 1}, DVS_INVALID_POLICY},
-        {{1, 1, 0, UINT32_MAX}, DVS_INVALID_POLICY},
+        {{0, 1, 0, DVS_FIRST, NULL}, DVS_INVALID_SIZE},
+        {{1, 3, 0, DVS_FIRST, NULL}, DVS_INVALID_ALIGNMENT},
+        {{1, 2, 1, DVS_EXACT, NULL}, DVS_UNALIGNED_ADDRESS},
+        {{0x1000, 1, 0x1000, DVS_EXACT, NULL}, DVS_INVALID_STATE_TRANSITION},
+        {{0x1000, 1, 0, DVS_LAST, NULL}, DVS_RESOURCE_NOT_AVAILABLE},
+        {{1, 1, 0, DVS_FIRST, &outside}, DVS_RESOURCE_NOT_AVAILABLE},
+        {{1, 1, UINT64_MAX, DVS_EXACT, NULL}, DVS_OVERFLOW},
+        {{1, 1, 0, DVS_EXACT + 1, NULL}, DVS_INVALID_POLICY},
+        {{1, 1, 0, UINT32_MAX, &backwards}, DVS_INVALID_POLICY},
+        {{1, 1, 0, DVS_LAST, &backwards}, DVS_INVALID_RANGE},
     };
     dvs_address_allocator *space = two_held();
     dvs_address_allocator *before = two_held();
@@ -241,7 +283,9 @@ static void visit_ids(void) {
 
 static int change_devices(void *context, dvs_device device) {
     dvs_device_manager *manager = (dvs_device_manager *)context;
+    dvs_request request = request_of(0, 0, DVS_EXACT + 1, 0);
 
+    CHECK(dvs_device_reserve(manager, &request, &device, NULL) == DVS_BUSY);
     CHECK(dvs_device_release(manager, device.id, NULL) == DVS_BUSY);
     dvs_device_manager_destroy(manager);
     return 1;
@@ -326,6 +370,7 @@ int main(void) {
     look_up_ranges();
     visit_gaps();
     allocate_all();
+    allocate_in_windows();
     allocate_none();
     visit_ids();
     look_up_devices();

@@ -223,6 +223,15 @@ static dvs_status allocate_exact(void) {
     return freed(status, range);
 }
 
+/* Allocates a range with free addresses on both sides, in a window. */
+static dvs_status allocate_in_window(void) {
+    dvs_range window = {490, 510}, range = {0, 0};
+    dvs_request request = {3, 1, 0, DVS_LAST, &window};
+    dvs_status status = dvs_range_allocate(space, &request, &range, NULL);
+
+    return freed(status, range);
+}
+
 static dvs_status save_space(void) {
     char *text = NULL;
     size_t length;
@@ -273,7 +282,7 @@ static dvs_status make_with_held(void) {
 }
 
 static dvs_status allocate_all(void) {
-    dvs_request requests[2] = {{3, 16, 0, DVS_FIRST}, {3, 1, 500, DVS_EXACT}};
+    dvs_request requests[2] = {{3, 16, 0, DVS_FIRST, NULL}, {3, 1, 500, DVS_EXACT, NULL}};
     dvs_range ranges[2] = {{0, 0}, {0, 0}};
     dvs_status status = dvs_address_allocator_allocate_all(space, requests, 2, ranges, NULL, NULL);
 
@@ -330,6 +339,16 @@ static dvs_status reserve_exact(void) {
     return released(status, device.id);
 }
 
+/* Reserves a range with free addresses on both sides, in a window. */
+static dvs_status reserve_in_window(void) {
+    dvs_range window = {40, 60};
+    dvs_request request = {4, 8, 0, DVS_FIRST, &window};
+    dvs_device device = {{0, 0}, 0};
+    dvs_status status = dvs_device_reserve(manager, &request, &device, NULL);
+
+    return released(status, device.id);
+}
+
 /* Releases the device 0, and reserves it again without a failed allocation. */
 static dvs_status release_device(void) {
     dvs_status status = dvs_device_release(manager, 0, NULL);
@@ -364,6 +383,7 @@ static const struct call {
     {"first", allocate_first, 2},
     {"last", allocate_last, 2},
     {"exact", allocate_exact, 2},
+    {"in a window", allocate_in_window, 2},
     {"save a space", save_space, 3},
     {"save ids", save_ids, 1},
     {"save a manager", save_manager, 2},
@@ -377,6 +397,7 @@ static const struct call {
     {"reserve first", reserve_first, 1},
     {"reserve last", reserve_last, 1},
     {"reserve exactly", reserve_exact, 1},
+    {"reserve in a window", reserve_in_window, 2},
     {"read a manager", read_manager, 15},
 };
 

@@ -24,10 +24,77 @@ static void allocate() {
     CHECK(!space.at(0x1205, range) && !space.free(range) && space.free(range));
     std::vector<dvs_range> ranges;
     std::size_t failed = 9;
-    CHECK(!space.allocate_all({{1, 1, 0, DVS_FIRST}, {2, 1, 0, DVS_LAST}}, ranges, &failed));
+    CHECK(!space.allocate_all({{1, 1, 0, DVS_FIRST, nullptr}, {2, 1, 0, DVS_LAST, nullptr}}, ranges,
+                              &failed));
     CHECK(failed == 2 && is_range(ranges[1], 0x1efe, 0x1eff));
-    CHECK(space.allocate_all({{1, 1, 0, DVS_FIRST}, {0, 1, 0, DVS_LAST}}, ranges, &failed) &&
+    CHECK(space.allocate_all({{1, 1, 0, DVS_FIRST, nullptr}, {0, 1, 0, DVS_LAST, nullptr}}, ranges,
+                             &failed) &&
           failed == 1);
+}
+
+static void allocate_in_windows() {
+    using dvs::request;
+    dvs::address_allocator space;
+    dvs_range range, low = {0x1000, 0x1fff};
+    dvs_refusal refusal;
+
+    CHECK(!space.make(0x1000, 0x3000));
+    CHECK(!space.allocate(request::first(0x10, 1).within({0x2000, UINT64_MAX}), range));
+    CHECK(is_range(range, 0x2000, 0x200f));
+    CHECK(!space.allocate(request::last(0x10, 1).within(low), range));
+    CHECK(is_range(range, 0x1ff0, 0x1fff));
+    CHECK(!space.allocate(request::last(0x10, 1).within(low).within({0, UINT32_MAX}), range));
+    CHECK(is_range(range, 0x3ff0, 0x3fff));
+    CHECK(!space.allocate(request::first(0x10, 1), range) && is_range(range, 0x1000, 0x100f));
+    CHECK(!space.allocate({0x20, 0x20, 0, DVS_LAST, &low}, range));
+    CHECK(is_range(range, 0x1fc0, 0x1fdf));
+    CHECK(space.allocate(request::exact(0x20, 1, 0x1fc0).within({0x1fc0, 0x1fc0}), range,
+                         &refusal) == dvs::code(DVS_INVALID_STATE_TRANSITION));
+    CHECK(is_range(refusal.range, 0x1fc0, 0x1fdf) && is_range(range, 0x1fc0, 0x1fdf));
+    CHECK(space.allocate(request::first(0x10, 1).within({9, 8}), range, &refusal) ==
+          dvs::code(DVS_INVALID_RANGE));
+    CHECK(is_range(refusal.range, 9, 8) && is_range(refusal.other, 0, 0) && refusal.size == 0 &&
+          refusal.id == 0);
+    CHECK(space.allocate({1, 1, 0, 3, nullptr}, range) == dvs::code(DVS_INVALID_POLICY));
+}
+
+static void allocate_all_in_windows() {
+    using dvs::request;
+    dvs::address_allocator space;
+    std::vector<request> bars;
+    std::vector<dvs_range> ranges;
+    std::size_t failed = 9;
+    dvs_refusal refusal;
+
+    CHECK(!space.make(0, 64));
+    CHECK(!space.allocate_all({request::first(4, 4).within({1, 15}), request::last(4, 4)}, ranges,
+                              &failed));
+    CHECK(failed == 2 && is_range(ranges[0], 4, 7) && is_range(ranges[1], 60, 63));
+    for (uint64_t at = 16; at < 48; at += 16)
+        bars.push_back(request::last(2, 2).within({at, at + 15}));
+    CHECK(!space.allocate_all(bars, ranges) && ranges.size() == 2);
+    CHECK(is_range(ranges[0], 30, 31) && is_range(ranges[1], 46, 47));
+    bars.push_back(request::first(1, 1).within({2, 1}));
+    CHECK(space.allocate_all(bars, ranges, &failed, &refusal) == dvs::code(DVS_INVALID_RANGE));
+    CHECK(failed == 2 && is_range(refusal.range, 2, 1) && space.ranges().size() == 4);
+}
+
+static void reserve_in_windows() {
+    using dvs::request;
+    dvs::device_manager devices;
+    dvs_device device;
+    dvs_refusal refusal;
+
+    CHECK(!devices.make(5, 6, 0, 64));
+    CHECK(!devices.reserve(request::last(8, 8).within({0, 30}), device));
+    CHECK(device.id == 5 && is_range(device.range, 16, 23));
+    CHECK(devices.reserve(request::first(0, 8), device, &refusal) == dvs::code(DVS_INVALID_SIZE));
+    CHECK(refusal.size == 0 && device.id == 5);
+    CHECK(devices.reserve(request::exact(8, 8, 16).within({16, 16}), device, &refusal) ==
+          dvs::code(DVS_INVALID_STATE_TRANSITION));
+    CHECK(is_range(refusal.range, 16, 23));
+    CHECK(!devices.reserve({8, 8, 0, DVS_FIRST, nullptr}, device) && device.id == 6);
+    CHECK(devices.devices().size() == 2 && is_range(device.range, 0, 7));
 }
 
 static void save() {
@@ -77,6 +144,9 @@ static void throw_in_a_visit() {
 
 int main() {
     allocate();
+    allocate_in_windows();
+    allocate_all_in_windows();
+    reserve_in_windows();
     save();
     throw_in_a_visit();
     puts("owners: the header for C++ checked");
