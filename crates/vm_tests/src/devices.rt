@@ -79,10 +79,20 @@ impl Call {
             }
             LookUp(id) => return Ok(look_up(devices, id)),
             FirstIn(size, align, window) => {
-                return reserve_in(devices, alloc, (size, align, AllocPolicy::FirstMatch), window);
+                return reserve_in(
+                    devices,
+                    alloc,
+                    (size, align, AllocPolicy::FirstMatch),
+                    window,
+                );
             }
             LastIn(size, align, window) => {
-                return reserve_in(devices, alloc, (size, align, AllocPolicy::LastMatch), window);
+                return reserve_in(
+                    devices,
+                    alloc,
+                    (size, align, AllocPolicy::LastMatch),
+                    window,
+                );
             }
             First(size, align) => (size, align, AllocPolicy::FirstMatch),
             Last(size, align) => (size, align, AllocPolicy::LastMatch),

@@ -157,10 +157,15 @@ module _ (state : AddressState) (valid : IsAddressState state) where
   part_fits_place : (w : Range) (n : ℕ) → 0 < n → n ≤ longest_part w (gaps_of state) → (s : ℕ) × IsPlace n 1 (within (Some w) state) s
   unfolding IsPlace
   part_fits_place w n p l =
-      let f = one_has_longest_part w (gaps_of state) n p l in
-      (max w.start f.0.start, (omega arith, λ x i j.
-      let c = gap_clear f.0 x f.1 (omega (arith, i), omega (arith, j, f.2)) in
-      ((omega (arith, i, c.0.0), omega (arith, j, f.2, c.0.1)), c.1)))
+      let f = one_has_longest_part w (gaps_of state) n p l in (
+        max w.start f.0.start,
+        (
+          omega arith,
+          λ x i j.
+              let c = gap_clear f.0 x f.1 (omega (arith, i), omega (arith, j, f.2)) in
+              ((omega (arith, i, c.0.0), omega (arith, j, f.2, c.0.1)), c.1),
+        ),
+      )
 
   fits_in : (window : Option Range) (n : ℕ) → 0 < n → ((s : ℕ) × IsPlace n 1 (within window state) s) ↔ (n ≤ longest_in window (gaps_of state))
   fits_in None n p = (λ h. place_fits n h.0 p h.1, λ l. fits_place n p l)

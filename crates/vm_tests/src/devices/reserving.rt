@@ -66,9 +66,18 @@ fn both_or_neither(rt: HostRuntime) {
 fn devices_in_windows(rt: HostRuntime) {
     let low = (0, 0xFFFF_FFFF);
     let rows = &[
-        (LastIn(0x1000, 0x1000, low), Device(1, 0xFFFF_F000, 0xFFFF_FFFF)),
-        (Last(0x1000, 0x1000), Device(2, 0x1_0000_F000, 0x1_0000_FFFF)),
-        (FirstIn(0x1000, 0x1000, (0x1_0000_0000, u64::MAX)), Device(3, 0x1_0000_0000, 0x1_0000_0FFF)),
+        (
+            LastIn(0x1000, 0x1000, low),
+            Device(1, 0xFFFF_F000, 0xFFFF_FFFF),
+        ),
+        (
+            Last(0x1000, 0x1000),
+            Device(2, 0x1_0000_F000, 0x1_0000_FFFF),
+        ),
+        (
+            FirstIn(0x1000, 0x1000, (0x1_0000_0000, u64::MAX)),
+            Device(3, 0x1_0000_0000, 0x1_0000_0FFF),
+        ),
         (FirstIn(0xF001, 1, low), NotAvailable),
         (FirstIn(0xF000, 1, low), Device(4, 0xFFFF_0000, 0xFFFF_EFFF)),
         (FirstIn(1, 1, low), NotAvailable),

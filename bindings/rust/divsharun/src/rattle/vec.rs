@@ -38,9 +38,7 @@ impl<T> Vec<T> {
 
     /// Allocates memory for exactly so many more values, or returns an error.
     pub fn reserve_exact(&mut self, additional: usize) -> Result<(), AllocError> {
-        self.0
-            .try_reserve_exact(additional)
-            .map_err(|_| AllocError)
+        self.0.try_reserve_exact(additional).map_err(|_| AllocError)
     }
 
     /// Inserts a value before the value at `place`, or returns it if the allocation fails. The

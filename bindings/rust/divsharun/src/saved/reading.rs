@@ -4,9 +4,7 @@ use super::parts::{
     begin, device_manager, end, id_allocator, push_ascending, repaired, strict, Fault,
 };
 use super::text_of;
-use crate::proved::vm_allocator::{
-    AddressAllocator, IdAllocator, RangeInclusive, ReadNodes, Span,
-};
+use crate::proved::vm_allocator::{AddressAllocator, IdAllocator, RangeInclusive, ReadNodes, Span};
 use crate::proved::vm_devices::{DeviceManager, DeviceSlot};
 use crate::rattle::Global;
 use crate::NodeState;

@@ -51,10 +51,7 @@ impl AddressAllocator {
     }
     /// Returns the blocks of which the saved tree of the allocator is made, or an error if an
     /// allocation fails.
-    pub fn written_blocks(
-        &self,
-        alloc: Global,
-    ) -> core::result::Result<WrittenBlocks, AllocError> {
+    pub fn written_blocks(&self, alloc: Global) -> core::result::Result<WrittenBlocks, AllocError> {
         WrittenBlocks::new(alloc, &self.interval_tree)
     }
 }

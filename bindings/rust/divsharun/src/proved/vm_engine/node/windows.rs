@@ -26,12 +26,7 @@ fn part_in(window: &RangeInclusive, key: &RangeInclusive) -> Option<RangeInclusi
 /// block in the window.
 ///
 /// It returns `None` if there is no such multiple, or if the block is allocated.
-fn lowest_fit_in(
-    block: &Block,
-    window: &RangeInclusive,
-    size: u64,
-    alignment: u64,
-) -> Option<u64> {
+fn lowest_fit_in(block: &Block, window: &RangeInclusive, size: u64, alignment: u64) -> Option<u64> {
     let part = Block {
         key: part_in(window, &block.key)?,
         state: block.state,
@@ -43,12 +38,7 @@ fn lowest_fit_in(
 /// block in the window.
 ///
 /// It returns `None` if there is no such multiple, or if the block is allocated.
-fn highest_fit_in(
-    block: &Block,
-    window: &RangeInclusive,
-    size: u64,
-    alignment: u64,
-) -> Option<u64> {
+fn highest_fit_in(block: &Block, window: &RangeInclusive, size: u64, alignment: u64) -> Option<u64> {
     let part = Block {
         key: part_in(window, &block.key)?,
         state: block.state,
