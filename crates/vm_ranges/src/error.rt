@@ -7,7 +7,7 @@ use crate::state::NodeState;
 use std::alloc::{AllocError, AllocFailed};
 use thiserror::Error;
 
-/// The error of a call. A call that returns an error changes nothing.
+/// The error of a call. A call that returns an error leaves the same ranges and ids allocated.
 ///
 /// Errors are ordered by variant, then by fields.
 #[derive(Clone, Debug, Drop, PartialEq, Eq, PartialOrd, Ord, Error)]

@@ -13,7 +13,7 @@ use vm_engine::{IntervalTree, ReadNodes, Span, WrittenBlocks};
 use vm_ranges::{RangeInclusive, ValueError};
 
 impl AddressAllocator {
-    /// Returns the allocator that a saved space and a saved tree represent. Its tree is as low as possible.
+    /// Returns the allocator that a saved space and a saved tree represent. Its tree has the minimum height.
     ///
     /// # Errors
     ///

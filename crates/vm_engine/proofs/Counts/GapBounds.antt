@@ -71,11 +71,11 @@ IsWithin path h v answer = (path ≤ h * (v + 1)) × (answer ≡ Err ResourceNot
 
 module _ (request : Request) (s : Shape) (h : IsSpaceTree s) (r : IsRequest request) (whole : request.window ≡ None) where
   by_gaps : (answer : Result Range Error) (v c : ℕ) → IsWithin (nodes_of_search request s) (height_of s) v answer → Enters s request answer 0 c → IsGapSearchCount (height_of s) v answer c
-  by_gaps (Err e) v c w n = record { most = omega (arith, n.refused, w.0); none = λ k. omega (arith, n.refused, w.1 k) }
+  by_gaps (Err e) v c w n = record { most = omega (arith, n.refused, w.0); refused = omega (arith, n.refused, w.0); none = λ k. omega (arith, n.refused, w.1 k) }
   by_gaps (Ok p) v c w n =
       let held : IsHeldIn s p n.given.0 = n.given.1 in
       let bound : n.given.0 ≤ 2 * height_of s = rw held.path (nodes_to_split_at_most held.key (leaf_of (before_part held.key p)) (leaf_of (after_part held.key p)) s) in
-      record { most = omega (arith, n.given.2, w.0); none = λ k. absurd (cc (k)) }
+      record { most = omega (arith, n.given.2, w.0); refused = tt; none = λ k. absurd (cc (k)) }
 
   no_fit_among : (new : AddressState) (answer : Result Range Error) → ByPlace request (tree_state s) (λ e. (answer ≡ Err e) × (new ≡ tree_state s)) (λ p. AllocatesAt (tree_state s) p answer new) → answer ≡ Err ResourceNotAvailable → list_any (has_fit request.size request.align) (blocks s) ≡ false
   no_fit_among new answer k e =
@@ -84,11 +84,11 @@ module _ (request : Request) (s : Shape) (h : IsSpaceTree s) (r : IsRequest requ
 
 -- The bound within a window.
 by_parts : (request : Request) (s : Shape) (answer : Result Range Error) (v c : ℕ) → nodes_of_search request s ≤ height_of s * (v + 2) → Enters s request answer 0 c → IsWindowSearchCount (height_of s) v answer c
-by_parts request s (Err e) v c w n = record { most = omega (arith, n.refused, w); none = λ k. omega (arith, n.refused, w) }
+by_parts request s (Err e) v c w n = record { most = omega (arith, n.refused, w); refused = omega (arith, n.refused, w) }
 by_parts request s (Ok p) v c w n =
     let held : IsHeldIn s p n.given.0 = n.given.1 in
     let bound : n.given.0 ≤ 2 * height_of s = rw held.path (nodes_to_split_at_most held.key (leaf_of (before_part held.key p)) (leaf_of (after_part held.key p)) s) in
-    record { most = omega (arith, n.given.2, w); none = λ k. absurd (cc (k)) }
+    record { most = omega (arith, n.given.2, w); refused = tt }
 
 keys_of : (s : Shape) → IsSpaceTree s → AreKeysIn (space_of (blocks s)).start (blocks s) (space_of (blocks s)).end
 unfolding TilesSpace
@@ -141,11 +141,11 @@ pub ruleset of_trees = (searches_gaps, searches_aligned)
 
 -- ---- Requests that can be invalid
 none_searched : (h v : ℕ) (policy : AllocPolicy) (w : Option Range) (n a : ℕ) (e : Error) → SearchesAmongGaps h v (request_in w n a policy) (Err e) 0
-none_searched h v FirstMatch None n a e = record { most = omega arith; none = λ k. omega arith }
-none_searched h v LastMatch None n a e = record { most = omega arith; none = λ k. omega arith }
+none_searched h v FirstMatch None n a e = record { most = omega arith; refused = omega arith; none = λ k. omega arith }
+none_searched h v LastMatch None n a e = record { most = omega arith; refused = omega arith; none = λ k. omega arith }
 none_searched h v (ExactMatch t) None n a e = tt
-none_searched h v FirstMatch (Some w) n a e = record { most = omega arith; none = λ k. omega arith }
-none_searched h v LastMatch (Some w) n a e = record { most = omega arith; none = λ k. omega arith }
+none_searched h v FirstMatch (Some w) n a e = record { most = omega arith; refused = omega arith }
+none_searched h v LastMatch (Some w) n a e = record { most = omega arith; refused = omega arith }
 none_searched h v (ExactMatch t) (Some w) n a e = tt
 
 pub invalid_search : (h : ℕ) (old : AddressState) (request : Request) (e : Error) → SearchesGaps h old request (Err e) 0

@@ -4,8 +4,8 @@ use Rattle.std.proofs.lemmas.Bool.{cases_lt}
 use Rattle.std.proofs.Math.Nat.{pow-suc}
 use Rattle.vm_engine.specs.Tree.Block.{Block}
 use Rattle.vm_engine.specs.Tree.BlockList.{IsOrderedFrom}
-use Rattle.vm_engine.specs.Tree.Shape.{Shape, Fork, blocks, height_of, IsBalanced, IsTree}
-use Rattle.vm_engine.specs.Engine.Building.{IsLowestHeight, IsBuilt}
+use Rattle.vm_engine.specs.Tree.Shape.{Shape, Fork, blocks, height_of, IsLowestHeight, IsBalanced, IsTree}
+use Rattle.vm_engine.specs.Engine.Building.{IsBuilt}
 use Rattle.vm_engine.proofs.Nodes.MinNodes.{power_grows, node_count-blocks}
 use Rattle.vm_engine.proofs.Blocks.BlockOrder.{ordered_weaken, ordered_below}
 

@@ -5,8 +5,7 @@ use Rattle.std.proofs.lemmas.List.{take_at, drop_at}
 use Rattle.vm_ranges.specs.Range.{Range}
 use Rattle.vm_engine.specs.Tree.Block.{Block}
 use Rattle.vm_engine.specs.Tree.Blocks.{IsTiling}
-use Rattle.vm_engine.specs.Tree.Shape.{height_of, IsBalanced}
-use Rattle.vm_engine.specs.Engine.Building.{IsLowestHeight}
+use Rattle.vm_engine.specs.Tree.Shape.{height_of, IsLowestHeight, IsBalanced}
 use Rattle.vm_engine.specs.Values.SavedTrees.{Saved, Absent, Node, shape_of, saved_blocks, HasHeights, IsSavedTree}
 use Rattle.vm_engine.specs.Values.WrittenTrees.{IsMiddle, IsWritten}
 use Rattle.vm_engine.proofs.Making.Built.{not_above, at_most_one, height_above}

@@ -1,7 +1,7 @@
 -- The number of nodes that a search enters, by the number of gaps that look suitable but have no place.
 --
 -- Gaps are counted by tests over the blocks of the state. A law in specs/Laws shows that each test is exact.
-use Rattle.std.specs.Prelude.{◌≡◌, ℕ, ◌+◌, ◌*◌, ◌≤◌, ◌&&◌, not, min, nat_le, Bool, List, length, Option, Some, None, MatchOption, Result, Err}
+use Rattle.std.specs.Prelude.{◌≡◌, ℕ, ◌+◌, ◌*◌, ◌≤◌, ◌&&◌, not, min, nat_le, Bool, List, length, Option, Some, None, MatchOption, Result, Err, OnErr}
 use Rattle.std.specs.List.{filter}
 use Rattle.vm_ranges.specs.Range.{Range}
 use Rattle.vm_engine.specs.Tree.Block.{Block, free_length}
@@ -51,15 +51,17 @@ unfoldable pub too_short_gaps : AddressState → Request → ℕ
 too_short_gaps state request = passing request.window (is_too_short request.size request.align) (blocks_of state)
 
 -- The bound on the nodes that an allocation enters in a tree of height h if the search looks at v gaps without a place.
--- A search that finds no place enters at most h nodes for each of these gaps.
+-- An allocation that fails enters only the nodes of its search. A search that finds no place enters at most h nodes for each
+-- of these gaps.
 pub record IsGapSearchCount (h v : ℕ) (answer : Result Range Error) (count : ℕ) : Type 0 where
   pub most : count ≤ h * (v + 1) + max_on_paths h
+  pub refused : OnErr answer (count ≤ h * (v + 1))
   pub none : answer ≡ Err ResourceNotAvailable → count ≤ h * v
 
 -- The bound for a search within a window. It can also enter the paths to both ends of the window, and the one to the place.
 pub record IsWindowSearchCount (h v : ℕ) (answer : Result Range Error) (count : ℕ) : Type 0 where
   pub most : count ≤ h * (v + 2) + max_on_paths h
-  pub none : answer ≡ Err ResourceNotAvailable → count ≤ h * (v + 2)
+  pub refused : OnErr answer (count ≤ h * (v + 2))
 
 -- The bound for v gaps is true if the policy is FirstMatch or LastMatch.
 abbrev pub SearchesAmongGaps : ℕ → ℕ → Request → Result Range Error → ℕ → Type 0

@@ -1,11 +1,11 @@
 -- The blocks that a tree is built of, in order.
-use Rattle.std.specs.Prelude.{◌≡◌, ℕ, ◌+◌, ◌*◌, ◌^◌, ◌<◌, ◌≤◌, List, ◌++◌, length, Some, None, Result, MatchResult}
+use Rattle.std.specs.Prelude.{◌≡◌, ℕ, ◌+◌, ◌<◌, ◌≤◌, List, ◌++◌, length, Some, None, Result, MatchResult}
 use Rattle.vm_ranges.specs.Range.{Range, MAX}
 use Rattle.vm_engine.specs.Tree.Block.{Block}
 use Rattle.vm_engine.specs.Address.{AreInOrder}
 use Rattle.vm_engine.specs.Held.{first_fault}
 use Rattle.vm_engine.specs.Tree.Blocks.{blocks_between}
-use Rattle.vm_engine.specs.Tree.Shape.{Shape, blocks, height_of, node_count, IsBalanced}
+use Rattle.vm_engine.specs.Tree.Shape.{Shape, blocks, height_of, node_count, IsLowestHeight, IsBalanced}
 use Rattle.vm_ranges.specs.declared.error.Error.{Error}
 use Rattle.vm_engine.specs.declared.interval_tree.building.BlockCursor.{BlockCursor}
 
@@ -19,11 +19,7 @@ pub record IsBlockCursor (cursor : BlockCursor) : Type 0 where
   pub within : cursor.next ≤ cursor.end + 1
   pub not_all : cursor.next ≡ 0 → cursor.end < MAX
 
--- No tree of n nodes is lower than h, and a tree that is filled from the middle has this height.
-abbrev pub IsLowestHeight : ℕ → ℕ → Type 0
-IsLowestHeight n h = (n + 1 ≤ 2 ^ h) × (2 ^ h ≤ 2 * n + 1)
-
--- A tree of the first n blocks, as low as possible, and the list of the other blocks.
+-- A tree of the first n blocks, of minimum height, and the list of the other blocks.
 pub record IsBuilt (n : ℕ) (old : List Block) (tree : Shape) (new : List Block) : Type 0 where
   pub cut : old ≡ blocks tree ++ new
   pub nodes : node_count tree ≡ n

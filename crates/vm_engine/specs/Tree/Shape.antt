@@ -1,5 +1,5 @@
 -- Trees without pointers: the model of a node.
-use Rattle.std.specs.Prelude.{ℕ, ◌+◌, ◌≤◌, max, List, [], ◌∷◌, ◌++◌}
+use Rattle.std.specs.Prelude.{ℕ, ◌+◌, ◌*◌, ◌^◌, ◌≤◌, max, List, [], ◌∷◌, ◌++◌}
 use Rattle.vm_engine.specs.Tree.Block.{Block, free_length}
 use Rattle.vm_engine.specs.Tree.BlockList.{IsOrderedFrom}
 use Rattle.vm_engine.specs.Tree.Multiples.{free_alignments}
@@ -43,6 +43,10 @@ single b = Fork Tip b Tip
 abbrev pub root_block : Shape → Block
 root_block Tip = record { key = record { start = 0; end = 0 }; state = Free }
 root_block (Fork l b r) = b
+
+-- No tree of n nodes is lower than h, and a tree that is filled from the middle has this height.
+abbrev pub IsLowestHeight : ℕ → ℕ → Type 0
+IsLowestHeight n h = (n + 1 ≤ 2 ^ h) × (2 ^ h ≤ 2 * n + 1)
 
 -- The maximum height of an allocator's tree.
 abbrev pub MAX_HEIGHT : ℕ

@@ -4,6 +4,7 @@
 //! from the middle, so no rotation is needed.
 ghost use Rattle.std.specs.Prelude.{◌≡◌, ◌≢◌, ◌<◌, ◌≤◌, ◌∷◌, [], Some, None, length, IfOk, IfErr, MatchResult};
 ghost use Rattle.vm_engine.specs.Address.{IsAddressState};
+ghost use Rattle.vm_engine.specs.Tree.Shape.{height_of, node_count, IsLowestHeight};
 ghost use Rattle.vm_engine.specs.Tree.SpaceTree.{tree_state, made_tree};
 ghost use Rattle.vm_engine.specs.Held.{TOO_MANY_BLOCKS, MakesHeld, range_fault};
 ghost use Rattle.vm_engine.specs.Engine.NodeFields.{side};
@@ -21,7 +22,7 @@ const TOO_MANY_BLOCKS: u64 = 1 << 49;
 
 impl IntervalTree {
     /// Creates the tree of the space `key` with these ranges allocated. They must be in increasing
-    /// order. The tree is as low as possible.
+    /// order. The tree has the minimum height for its nodes.
     ///
     /// # Errors
     ///
@@ -36,6 +37,7 @@ impl IntervalTree {
     #[tactic(auto, using(crate::proofs::Making::HeldTrees::makings))]
     pub fn with_held(alloc: Global, key: RangeInclusive, held: &[RangeInclusive]) -> Result<Self>
         ensures answer { MakesHeld key held.now (made_tree result) }
+        ensures low { IfOk result (λ tree. IsLowestHeight (node_count tree) (height_of tree)) }
         ensures state { IfOk result (λ tree. IsAddressState (tree_state tree)) }
     {
         let count = count_blocks(&key, held)?;
@@ -129,7 +131,7 @@ impl BlockCursor<'_> {
     }
 }
 
-/// Builds a tree of the next `count` blocks. It is as low as possible.
+/// Builds a tree of the next `count` blocks. It has the minimum height for its nodes.
 ///
 /// It returns `OutOfMemory` if the allocation of a node fails. The nodes built so far are freed.
 fn build(alloc: Global, count: u64, cursor: &mut BlockCursor<'_>) -> Result<Child>

@@ -62,7 +62,7 @@ fn refused_without_memory(rt: HostRuntime) {
 }
 
 /// A space by its base and its size, its allocated ranges, the number of its blocks, which are the
-/// ranges and the gaps, and the height of its tree, which is as low as possible.
+/// ranges and the gaps, and the height of its tree, which is the minimum.
 type Created<'a> = (u64, u64, &'a [(u64, u64)], usize, u64);
 
 const CREATED: [Created<'static>; 15] = [

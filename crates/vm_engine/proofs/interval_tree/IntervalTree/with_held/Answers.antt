@@ -16,3 +16,6 @@ returns-clause-state c =
     let n = c.in_ok-count.ensures.checked in
     let built : IsBuilt c.in_ok-count.count (blocks_between c.args.key.start c.args.held.now c.args.key.end) (side c.in_ok-root.root) _ = rw (c.into.ensures, c.start.ensures.value, c.end.ensures.value) at c.in_ok-root.ensures.built in
     built_is_state c.args.key c.args.held.now c.start.ensures.range n.1 _ n.2 (let f = c.if-count-ge-TOO_MANY_BLOCKS.false in omega arith) (side c.in_ok-root.root) _ built
+
+pub returns-clause-low : goal.returns-clause-low
+returns-clause-low c = let built = c.in_ok-root.ensures.built in rw built.nodes built.height
