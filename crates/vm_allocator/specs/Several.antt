@@ -1,26 +1,43 @@
 -- Several requests in one call.
-use Rattle.std.specs.Prelude.{◌≡◌, ◌⊎◌, List, [], ◌∷◌, Ok, Err}
+use Rattle.std.specs.Prelude.{◌≡◌, ◌⊎◌, List, [], ◌∷◌, Result, Ok, Err}
 use Rattle.vm_ranges.specs.Range.{Range, address_count}
 use Rattle.vm_ranges.specs.Request.{Request, request_for}
 use Rattle.vm_engine.specs.Address.{AddressState, IsAddressState}
 use Rattle.vm_engine.specs.Answer.{Allocates}
+use Rattle.vm_engine.specs.Tree.Shape.{Shape, height_of}
+use Rattle.vm_engine.specs.Tree.SpaceTree.{tree_state}
+use Rattle.vm_engine.specs.Counts.Steps.{SplitsIfLow}
 use Rattle.vm_ranges.specs.declared.error.Error.{Error}
 use Rattle.vm_ranges.specs.declared.error.Error.TheVariants.{OutOfMemory}
 use Rattle.vm_ranges.specs.declared.constraint.AllocPolicy.TheVariants.{ExactMatch}
 
--- The ranges that requests get in their order. Each is allocated in the state that the ones before it leave.
-abbrev pub AllocatesEach : AddressState → List Request → List Range → AddressState → Type 0
-AllocatesEach old [] [] new = new ≡ old
-AllocatesEach old [] (r ∷ rs) new = ⊥
-AllocatesEach old (q ∷ qs) [] new = ⊥
-AllocatesEach old (q ∷ qs) (r ∷ rs) new = (mid : AddressState) × Allocates old q (Ok r) mid × AllocatesEach mid qs rs new
+-- The ranges that requests get in their order, if `step` is the result of one request. Each is allocated in the state that the
+-- ones before it leave.
+abbrev pub EachBy : {X : Type 0} → (X → Request → Result Range Error → X → Type 0) → X → List Request → List Range → X → Type 0
+EachBy step old [] [] new = new ≡ old
+EachBy step old [] (r ∷ rs) new = ⊥
+EachBy step old (q ∷ qs) [] new = ⊥
+EachBy {X} step old (q ∷ qs) (r ∷ rs) new = (mid : X) × step old q (Ok r) mid × EachBy step mid qs rs new
 
 -- A request fails with this error after the ones before it got their ranges.
+abbrev pub FailsBy : {X : Type 0} → (X → Request → Result Range Error → X → Type 0) → X → List Request → Error → Type 0
+FailsBy step old [] e = ⊥
+FailsBy {X} step old (q ∷ qs) e =
+    step old q (Err e) old
+    ⊎ ((r : Range) × (mid : X) × step old q (Ok r) mid × FailsBy step mid qs e)
+
+-- The ranges that requests get in their order, by the state of the allocator.
+abbrev pub AllocatesEach : AddressState → List Request → List Range → AddressState → Type 0
+AllocatesEach old requests ranges new = EachBy Allocates old requests ranges new
+
+-- One of the requests fails with this error, by the state of the allocator.
 abbrev pub RefusesOne : AddressState → List Request → Error → Type 0
-RefusesOne old [] e = ⊥
-RefusesOne old (q ∷ qs) e =
-    Allocates old q (Err e) old
-    ⊎ ((r : Range) × (mid : AddressState) × Allocates old q (Ok r) mid × RefusesOne mid qs e)
+RefusesOne old requests e = FailsBy Allocates old requests e
+
+-- The result of one request, and of its tree: a split succeeds, or runs out of memory, only if the tree is low enough.
+pub record AllocatesInTree (old : Shape) (request : Request) (answer : Result Range Error) (new : Shape) : Type 0 where
+  pub state : Allocates (tree_state old) request answer (tree_state new)
+  pub depth : SplitsIfLow (height_of old) (tree_state old) request answer
 
 -- The requests fail together: out of memory, or with the error of the first request that fails. The state is that before.
 abbrev pub FailsAll : AddressState → List Request → Error → AddressState → Type 0

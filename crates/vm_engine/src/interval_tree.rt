@@ -30,7 +30,7 @@ use crate::node::walks::copying::copy;
 use crate::node::{Child, InnerNode};
 use std::alloc::Global;
 use std::marker::Model;
-use vm_ranges::{Constraint, NodeState, RangeInclusive, Result};
+use vm_ranges::{Constraint, RangeInclusive, Result};
 
 mod allocation;
 mod building;

@@ -185,6 +185,31 @@ fn ids_looked_up_and_saved(rt: HostRuntime) {
     take_ids(&rt, &mut again, MANY_IDS, 2);
 }
 
+/// Returns a list of the ids from 0, `step` apart.
+fn listed_ids(rt: &(impl Abort + AllocGlobal), count: u32, step: u32) -> Vec<u32> {
+    let mut list = list_for(rt, 0);
+    for number in 0..count {
+        let pushed = list.push(step.saturating_mul(number));
+        assert!(rt; pushed.is_ok());
+    }
+    list
+}
+
+/// Lists, compares and creates ids of which each even one is freed.
+#[test]
+fn ids_listed_and_compared(rt: HostRuntime) {
+    let freed = listed_ids(&rt, MANY_IDS, 2);
+    let made = IdAllocator::with_freed(rt.alloc(), 0, Some(2 * MANY_IDS), u32::MAX, &freed);
+    let ids = made.expect(&rt, ENOUGH);
+    let mut next = 0u32;
+    for (freed, held) in ids.freed_ids().zip(ids.held_ids()) {
+        expect_eq(&rt, &(freed, held), &(next, next.saturating_add(1)), &next);
+        next = next.saturating_add(2);
+    }
+    expect_eq(&rt, &next, &(2 * MANY_IDS), &"all of them");
+    assert!(rt; ids == ids.try_clone(rt.alloc()).expect(&rt, ENOUGH));
+}
+
 /// Returns a manager with a device for each id. Each device has 16 addresses, one after the other.
 fn reserved(rt: &(impl Abort + AllocGlobal)) -> DeviceManager {
     let devices = DeviceManager::new(rt.alloc(), 0, MANY_IDS, 0, 16 * MANY);
@@ -220,6 +245,23 @@ fn devices_looked_up_and_saved(rt: HostRuntime) {
         assert!(rt; again.release(id).is_ok());
     }
     assert!(rt; again.slot(0).is_none());
+}
+
+#[test]
+fn devices_listed_and_compared(rt: HostRuntime) {
+    let devices = reserved(&rt);
+    let clone = devices.try_clone(rt.alloc()).expect(&rt, ENOUGH);
+    assert!(rt; clone == devices);
+    let mut list = list_for(&rt, 0);
+    for (number, device) in devices.devices().enumerate() {
+        let want = (number as u64, 16 * number as u64);
+        expect_eq(&rt, &(device.id.into(), device.range.start()), &want, &number);
+        assert!(rt; list.push(device).is_ok());
+    }
+    let ids = devices.ids().try_clone(rt.alloc()).expect(&rt, ENOUGH);
+    let space = cloned(&rt, devices.addresses());
+    let again = DeviceManager::with_devices(rt.alloc(), ids, space, &list);
+    assert!(rt; again.expect(&rt, ENOUGH) == devices);
 }
 
 /// The node that is nested in a deep tree.

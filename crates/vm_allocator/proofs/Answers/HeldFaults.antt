@@ -1,7 +1,7 @@
 -- If a range cannot be held after others, `ExactMatch` has the same error for it.
 use Rattle.std.proofs.Common.{◌≡◌, ℕ, ◌+◌, ◌≤◌, ◌<◌, List, [], ◌∷◌, ◌++◌, true, false, cond, eqb, ltb, eq-eqb, Some, None, Result, Err, refl, ap, ◌∙◌, arith, subst, ⊎_elim}
 use Rattle.std.specs.List.{All, Contains}
-use Rattle.std.proofs.lemmas.Bool.{ltb-true, ltb-false, eqb-true, cases_lt}
+use Rattle.std.proofs.lemmas.Bool.{ltb-true, ltb-false, lt-ltb, eqb-true, cases_lt}
 use Rattle.std.proofs.lemmas.List.Elements.{All-head, All-tail}
 use Rattle.vm_ranges.specs.Range.{Range, MAX, IsRange, IsIn, address_count, span}
 use Rattle.vm_ranges.specs.Alignment.{IsAlignment}
@@ -9,7 +9,7 @@ use Rattle.vm_ranges.specs.Request.{IsRequest, IsStartAligned, request_for}
 use Rattle.vm_engine.specs.Address.{AddressState, AreInOrder}
 use Rattle.vm_engine.specs.Answer.{ByStart, ByExactPolicy, Grants, Allocates}
 use Rattle.vm_engine.specs.Held.{range_fault, or_else, first_fault}
-use Rattle.vm_allocator.specs.Laws.SeveralLaws.{AreIncreasing, FaultIsThatOfExactMatch}
+use Rattle.vm_allocator.specs.Laws.SeveralLaws.{AreIncreasing, FailsAt, FaultIsThatOfExactMatch}
 use Rattle.vm_ranges.specs.declared.error.Error.{Error}
 use Rattle.vm_ranges.specs.declared.error.Error.TheVariants.{Overflow, ResourceNotAvailable}
 use Rattle.vm_ranges.specs.declared.constraint.AllocPolicy.TheVariants.{ExactMatch}
@@ -138,8 +138,10 @@ exact_grants old r answer new h =
     let sense : IsRequest request = record { some = omega arith; aligned = (0, omega arith, refl); start = omega arith } in
     (_, request_grants request old new answer sense h)
 
-pub fault_is_that_of_exact_match : FaultIsThatOfExactMatch
-fault_is_that_of_exact_match space held e range each increasing fault =
+-- ---- The first range that cannot be held
+-- The list starts in the space.
+later_fault : (space : Range) (held : List Range) (e : Error) → IsRange space.start space.end → All (λ r. IsRange r.start r.end) held → AreIncreasing space.start held → first_fault space.start space.end held ≡ Some e → FailsAt space held e
+later_fault space held e range each increasing fault =
     let lo = space.start in
     let hi = space.end in
     let k = first_one lo hi held e range.1 each increasing fault in
@@ -156,3 +158,31 @@ fault_is_that_of_exact_match space held e range each increasing fault =
           (λ x l. none_above lo hi x k.before k.order l)
           e (λ x. (answer ≡ Err x) × (new ≡ old)) g.0 k.fault g.1).0;
     }
+
+-- The first range starts below the space.
+below_space : (space : Range) (r : Range) (P : Error → Type 0) (Q : Type 0) → r.start < space.start → space.start ≤ MAX → ByStart r.start (address_count r) (record { space = space; held = [] }) P Q → P ResourceNotAvailable
+unfolding ByStart
+below_space space r P Q l m h = ⊎_elim (λ a. absurd (omega (arith, a.0))) (λ a. ⊎_elim (λ b. b.1) (λ b. absurd (omega (arith, b.0.0))) a.1) h
+
+first_fault_below : (space : Range) (r : Range) (rs : List Range) (e : Error) → IsRange space.start space.end → r.start < space.start → first_fault space.start space.end (r ∷ rs) ≡ Some e → FailsAt space (r ∷ rs) e
+first_fault_below space r rs e range l fault =
+    let old : AddressState = record { space = space; held = [] } in
+    let same : ResourceNotAvailable ≡ e = cc (rw (lt-ltb r.start space.start l) at fault) in
+    record {
+      before = [];
+      range = r;
+      after = rs;
+      cut = refl;
+      state = record { space = range; in_order = tt };
+      error = λ answer new h.
+          let g = exact_grants old r answer new h in
+          (subst (λ (x : Error). (answer ≡ Err x) × (new ≡ old)) same (below_space space r (λ x. (answer ≡ Err x) × (new ≡ old)) g.0 l (omega (arith, range.0, range.1)) g.1)).0;
+    }
+
+pub fault_is_that_of_exact_match : FaultIsThatOfExactMatch
+fault_is_that_of_exact_match space [] e range each increasing fault = absurd (cc fault)
+fault_is_that_of_exact_match space (r ∷ rs) e range each increasing fault =
+    ⊎_elim
+    (λ (l : r.start < space.start). first_fault_below space r rs e range l fault)
+    (λ (l : space.start ≤ r.start). later_fault space (r ∷ rs) e range each (l, increasing.1) fault)
+    (cases_lt r.start space.start)

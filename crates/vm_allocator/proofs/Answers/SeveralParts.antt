@@ -1,10 +1,11 @@
 -- Several requests, as one request and as two lists of requests.
-use Rattle.std.proofs.Common.{◌≡◌, ◌⊎◌, List, [], ◌∷◌, ◌++◌, length, refl, sym, subst, arith, inl, inr, ⊎_elim, Ok, Err}
+use Rattle.std.proofs.Common.{◌≡◌, ◌⊎◌, List, [], ◌∷◌, ◌++◌, length, refl, sym, ap, subst, arith, inl, inr, ⊎_elim, Ok, Err}
 use Rattle.vm_ranges.specs.Range.{Range}
 use Rattle.vm_ranges.specs.Request.{Request}
 use Rattle.vm_engine.specs.Address.{AddressState}
 use Rattle.vm_engine.specs.Answer.{Allocates}
 use Rattle.vm_allocator.specs.Several.{AllocatesEach, RefusesOne, FailsAll}
+use Rattle.vm_allocator.specs.Histories.AddressHistories.{IsHistoryFrom}
 use Rattle.vm_allocator.specs.Laws.SeveralLaws.{OneIsAllocated, PartsAreAllocatedInTurn, FailureChangesNothing}
 use Rattle.vm_ranges.specs.declared.error.Error.{Error}
 use Rattle.vm_ranges.specs.declared.error.Error.TheVariants.{OutOfMemory}
@@ -81,4 +82,11 @@ parts_are_allocated_in_turn = record {
 }
 
 pub failure_changes_nothing : FailureChangesNothing
-failure_changes_nothing old new requests e h = h.0
+failure_changes_nothing = record {
+  state = λ old new requests e h. h.0;
+  equal = λ old new requests e h. record { space = ap (λ (v : AddressState). v.space) h.0; held = ap (λ (v : AddressState). v.held) h.0 };
+  later = λ old new last requests e calls h. (
+    λ k. subst (λ (v : AddressState). IsHistoryFrom v calls last) h.0 k,
+    λ k. subst (λ (v : AddressState). IsHistoryFrom v calls last) (sym h.0) k,
+  );
+}

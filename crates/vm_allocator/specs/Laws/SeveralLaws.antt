@@ -8,6 +8,7 @@ use Rattle.vm_engine.specs.Answer.{Allocates, Makes}
 use Rattle.vm_engine.specs.Comparison.{AreEqual}
 use Rattle.vm_engine.specs.Held.{first_fault, MakesWithHeld}
 use Rattle.vm_allocator.specs.Several.{AllocatesEach, RefusesOne, FailsAll, exact_requests}
+use Rattle.vm_allocator.specs.Histories.AddressHistories.{Call, IsHistoryFrom}
 use Rattle.vm_ranges.specs.declared.error.Error.{Error}
 use Rattle.vm_ranges.specs.declared.error.Error.TheVariants.{OutOfMemory}
 use Rattle.vm_ranges.specs.declared.constraint.AllocPolicy.TheVariants.{ExactMatch}
@@ -20,7 +21,8 @@ HeldIsEqual =
     Makes base size (Ok first) → AllocatesEach first (exact_requests held) held new →
     MakesWithHeld base size held (Ok made) → AreEqual made new
 
--- The ranges are increasing: the first one starts at lo or above, and each other one after the end of the range before it.
+-- The ranges are increasing from lo: the first one starts at lo or above, and each other one after the end of the range
+-- before it.
 abbrev pub AreIncreasing : ℕ → List Range → Type 0
 AreIncreasing lo [] = Unit {0}
 AreIncreasing lo (r ∷ rs) = (lo ≤ r.start) × AreIncreasing (r.end + 1) rs
@@ -36,11 +38,12 @@ pub record FailsAt (space : Range) (held : List Range) (e : Error) : Type 0 wher
       Allocates (record { space = space; held = before })
       (request_for (address_count range) 1 (ExactMatch range.start)) answer new → answer ≡ Err e
 
--- The error of an increasing list of ranges is the one that ExactMatch has for the first range that cannot be held.
+-- The error of an increasing list of ranges is the one that ExactMatch has for the first range that cannot be held. The
+-- list can start below the space.
 abbrev pub FaultIsThatOfExactMatch : Type 0
 FaultIsThatOfExactMatch =
     (space : Range) (held : List Range) (e : Error) → IsRange space.start space.end →
-    All (λ r. IsRange r.start r.end) held → AreIncreasing space.start held →
+    All (λ r. IsRange r.start r.end) held → AreIncreasing 0 held →
     first_fault space.start space.end held ≡ Some e → FailsAt space held e
 
 -- A list of one request is allocated as by `allocate`, and has its error.
@@ -61,7 +64,9 @@ pub record PartsAreAllocatedInTurn : Type 0 where
       (RefusesOne old first e ⊎
       ((rs : List Range) × (mid : AddressState) × AllocatesEach old first rs mid × RefusesOne mid second e))
 
--- If the requests fail, nothing changes.
-abbrev pub FailureChangesNothing : Type 0
-FailureChangesNothing =
-    (old new : AddressState) (requests : List Request) (e : Error) → FailsAll old requests e new → new ≡ old
+-- If the requests fail, the state is that before, the allocators are equal, and later lists of calls have the same results.
+pub record FailureChangesNothing : Type 0 where
+  pub state : (old new : AddressState) (requests : List Request) (e : Error) → FailsAll old requests e new → new ≡ old
+  pub equal : (old new : AddressState) (requests : List Request) (e : Error) → FailsAll old requests e new → AreEqual new old
+  pub later : (old new last : AddressState) (requests : List Request) (e : Error) (calls : List Call) → FailsAll old requests e new →
+      IsHistoryFrom new calls last ↔ IsHistoryFrom old calls last

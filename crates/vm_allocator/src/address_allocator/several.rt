@@ -1,15 +1,15 @@
 //! Several allocations in one call: all or none.
-ghost use Rattle.std.specs.Prelude.{◌≡◌, List, MatchResult};
+ghost use Rattle.std.specs.Prelude.{◌≡◌, ◌⊎◌, List, MatchResult};
 ghost use Rattle.vm_ranges.specs.Request.{Request};
 ghost use Rattle.vm_engine.specs.Address.{AddressState, IsAddressState};
 ghost use Rattle.vm_engine.specs.Tree.SpaceTree.{tree_state};
 ghost use Rattle.vm_allocator.specs.Allocator.{state_of};
-ghost use Rattle.vm_allocator.specs.Several.{AllocatesEach, FailsAll};
+ghost use Rattle.vm_allocator.specs.Several.{EachBy, FailsBy, AllocatesEach, FailsAll, AllocatesInTree};
 
 use super::AddressAllocator;
 use std::alloc::Global;
 use vm_engine::IntervalTree;
-use vm_ranges::{Constraint, RangeInclusive, Result};
+use vm_ranges::{Constraint, Error, RangeInclusive, Result};
 
 impl AddressAllocator {
     /// Allocates a range for each request, in their order, and returns the ranges. Each range is where
@@ -29,6 +29,10 @@ impl AddressAllocator {
         ensures answer { MatchResult result
             (λ ranges. AllocatesEach (state_of self.old) requests.now ranges.items (state_of self.new))
             (λ error. FailsAll (state_of self.old) requests.now error (state_of self.new)) }
+        // The limit on the height is checked before memory is allocated.
+        ensures depth { MatchResult result
+            (λ ranges. EachBy AllocatesInTree self.old.tree requests.now ranges.items self.new.tree)
+            (λ error. (error ≡ Error.OutOfMemory) ⊎ FailsBy AllocatesInTree self.old.tree requests.now error) }
         ensures state { IsAddressState (state_of self.new) }
     {
         let tree = &mut self.interval_tree;

@@ -8,19 +8,20 @@ ghost use Rattle.vm_allocator.specs.Laws.SeveralLaws.{
   FailureChangesNothing,
 };
 
-/// Proves that ranges which are held from the start are held as if they were allocated one after
-/// the other.
+/// States that ranges which are allocated from the start are allocated as if one after the other.
 ///
-/// The allocator is equal to the one that allocated them, and the first range that cannot be held
-/// has the error that it would have there.
+/// The allocator is equal to the one that allocated them. If the ranges are increasing, the first one
+/// that cannot be allocated has the error that it would have there.
 fn held_is_allocated()
     ensures state { HeldAsAllocated }
     ensures equal { HeldIsEqual }
     ensures fault { FaultIsThatOfExactMatch }
 {}
 
-/// Proves that several requests in one call are allocated one after the other, as by `allocate`,
-/// and that an error changes nothing.
+/// States that several requests in one call are allocated one after the other, as by `allocate`.
+///
+/// After an error the state is the one before, the allocator is equal to the one before, and all later
+/// calls have the same results. Only the shape of the tree can differ.
 fn several_are_allocated_in_turn()
     ensures one { OneIsAllocated }
     ensures parts { PartsAreAllocatedInTurn }

@@ -52,7 +52,7 @@ impl AddressAllocator {
     /// Creates an allocator of the `size` addresses that start at `base`, with these ranges allocated.
     /// They must be in increasing order.
     ///
-    /// Its tree is as low as possible. It takes time linear in the number of ranges.
+    /// Its tree has the minimum height for its nodes. It takes time linear in the number of ranges.
     ///
     /// # Errors
     ///
@@ -158,8 +158,9 @@ impl AddressAllocator {
     /// - 0 for `InvalidSize`, `InvalidAlignment` and `UnalignedAddress`.
     ///
     /// A search enters a subtree only if one of its gaps is long enough and one has a multiple of
-    /// `alignment`. So `FirstMatch` and `LastMatch` enter at most h(v + 1) + 2h nodes, and at
-    /// most hv if they return `ResourceNotAvailable`. Here v is the lesser of two numbers:
+    /// `alignment`. So `FirstMatch` and `LastMatch` enter at most h(v + 1) + 2h nodes, at most
+    /// h(v + 1) if they fail, and at most hv if they return `ResourceNotAvailable`. Here v is the
+    /// lesser of two numbers:
     /// - The gaps that are long enough but misaligned. This number is 0 if `alignment` is 1.
     /// - The gaps that have a multiple of `alignment` but are too short after it. There are at most
     ///   as many as multiples of `alignment` in the space.
@@ -188,9 +189,8 @@ impl AddressAllocator {
     /// window, the count is
     /// - at most 3h for `ExactMatch`.
     /// - at most 2k + 1 + 2h for `FirstMatch` and `LastMatch`.
-    /// - at most h(v + 2) + 2h for these two, and at most h(v + 2) if they return
-    ///   `ResourceNotAvailable`. Here v is the lesser of the two numbers of `allocate_counted`, of
-    ///   the parts of the gaps in the window.
+    /// - at most h(v + 2) + 2h for these two, and at most h(v + 2) if they fail. Here v is the lesser
+    ///   of the two numbers of `allocate_counted`, of the parts of the gaps in the window.
     ///
     /// # Errors
     ///

@@ -23,7 +23,7 @@ use crate::proved::vm_engine::node::walks::both_ends::Blocks;
 use crate::proved::vm_engine::node::walks::copying::copy;
 use crate::proved::vm_engine::node::{Child, InnerNode};
 use crate::rattle::Global;
-use crate::proved::vm_ranges::{Constraint, NodeState, RangeInclusive, Result};
+use crate::proved::vm_ranges::{Constraint, RangeInclusive, Result};
 
 mod allocation;
 mod building;

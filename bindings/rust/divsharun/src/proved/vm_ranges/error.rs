@@ -6,7 +6,7 @@ use crate::proved::vm_ranges::range::RangeInclusive;
 use crate::proved::vm_ranges::state::NodeState;
 use crate::rattle::{AllocError, AllocFailed};
 
-/// The error of a call. A call that returns an error changes nothing.
+/// The error of a call. A call that returns an error leaves the same ranges and ids allocated.
 ///
 /// Errors are ordered by variant, then by fields.
 #[derive(Clone, Debug, PartialEq, Eq, PartialOrd, Ord)]

@@ -8,7 +8,7 @@ use crate::proved::vm_engine::{IntervalTree, ReadNodes, Span, WrittenBlocks};
 use crate::proved::vm_ranges::{RangeInclusive, ValueError};
 
 impl AddressAllocator {
-    /// Returns the allocator that a saved space and a saved tree represent. Its tree is as low as possible.
+    /// Returns the allocator that a saved space and a saved tree represent. Its tree has the minimum height.
     ///
     /// # Errors
     ///

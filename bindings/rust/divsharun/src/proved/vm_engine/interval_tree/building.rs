@@ -17,7 +17,7 @@ const TOO_MANY_BLOCKS: u64 = 1 << 49;
 
 impl IntervalTree {
     /// Creates the tree of the space `key` with these ranges allocated. They must be in increasing
-    /// order. The tree is as low as possible.
+    /// order. The tree has the minimum height for its nodes.
     ///
     /// # Errors
     ///
@@ -108,7 +108,7 @@ impl BlockCursor<'_> {
     }
 }
 
-/// Builds a tree of the next `count` blocks. It is as low as possible.
+/// Builds a tree of the next `count` blocks. It has the minimum height for its nodes.
 ///
 /// It returns `OutOfMemory` if the allocation of a node fails. The nodes built so far are freed.
 fn build(alloc: Global, count: u64, cursor: &mut BlockCursor<'_>) -> Result<Child> {
