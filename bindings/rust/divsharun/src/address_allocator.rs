@@ -201,8 +201,8 @@ impl AddressAllocator {
     ///   - `Overflow` if the range would end past `u64::MAX`.
     ///   - `InvalidStateTransition`, with the range and `Allocated`, if exactly this range is
     ///     already allocated, even if it ends past the window.
-    /// - `ResourceNotAvailable` if there is no such range, or the window and the space have no
-    ///   address in common.
+    /// - `ResourceNotAvailable` if no range fits, or the window and the space have no address in
+    ///   common.
     /// - `Overflow` if the chosen range ends at `u64::MAX`, even if another range is free. A window
     ///   that ends below `u64::MAX` avoids this.
     /// - `Overflow` if the range fills only a part of its gap and the height of the tree is 48 or
