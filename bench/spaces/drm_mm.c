@@ -20,21 +20,29 @@ static bool started(struct drm_mm_node *node, int status, uint64_t *start)
 	return true;
 }
 
-static bool place(uint64_t size, uint64_t alignment, enum drm_mm_insert_mode mode, uint64_t *start)
+/* Allocates in the window from `first` to `end`, without `end`. */
+static bool place(uint64_t first, uint64_t end, uint64_t size, uint64_t alignment,
+		  enum drm_mm_insert_mode mode, uint64_t *start)
 {
 	struct drm_mm_node *node = calloc(1, sizeof(*node));
 
-	return started(node, drm_mm_insert_node_in_range(&space, node, size, alignment, 0, 0, U64_MAX, mode), start);
+	return started(node, drm_mm_insert_node_in_range(&space, node, size, alignment, 0, first, end, mode), start);
 }
 
 bool allocate_first(uint64_t size, uint64_t alignment, uint64_t *start)
 {
-	return place(size, alignment, DRM_MM_INSERT_LOW, start);
+	return place(0, U64_MAX, size, alignment, DRM_MM_INSERT_LOW, start);
 }
 
 bool allocate_last(uint64_t size, uint64_t alignment, uint64_t *start)
 {
-	return place(size, alignment, DRM_MM_INSERT_HIGH, start);
+	return place(0, U64_MAX, size, alignment, DRM_MM_INSERT_HIGH, start);
+}
+
+bool allocate_within(uint64_t first, uint64_t last, uint64_t size, uint64_t alignment, bool is_highest,
+		     uint64_t *start)
+{
+	return place(first, last + 1, size, alignment, is_highest ? DRM_MM_INSERT_HIGH : DRM_MM_INSERT_LOW, start);
 }
 
 bool allocate_exact(uint64_t size, uint64_t alignment, uint64_t *start)

@@ -1,4 +1,4 @@
-/* The space of replay.c: with Linux's drm_mm, or with the C library of this repository. */
+/* The space of replay.c and window.c: with Linux's drm_mm, or with the C library of this repository. */
 #ifndef SPACE_H
 #define SPACE_H
 
@@ -11,6 +11,10 @@ void make_space(uint64_t base, uint64_t size);
 bool allocate_first(uint64_t size, uint64_t alignment, uint64_t *start);
 bool allocate_last(uint64_t size, uint64_t alignment, uint64_t *start);
 bool allocate_exact(uint64_t size, uint64_t alignment, uint64_t *start);
+
+/* Allocates the highest or the lowest range in the window from `first` to `last`. */
+bool allocate_within(uint64_t first, uint64_t last, uint64_t size, uint64_t alignment, bool is_highest,
+		     uint64_t *start);
 
 /* Returns whether exactly this range was allocated. */
 bool free_range(uint64_t first, uint64_t last);

@@ -8,7 +8,9 @@
 //! - `holds` walks one path, and walks over all blocks visit each once.
 #![forbid(unsafe_code)]
 
-use box_count::proved::vm_allocator::{AddressAllocator, AllocPolicy, RangeInclusive, Result};
+use box_count::proved::vm_allocator::{
+    AddressAllocator, AllocPolicy, Constraint, RangeInclusive, Result,
+};
 use box_count::rattle::{boxes_followed, Global};
 use std::hint::black_box;
 
@@ -66,7 +68,36 @@ impl Draws {
 #[derive(Clone, Copy, Debug)]
 enum Call {
     Allocate(u64, u64, AllocPolicy),
+    AllocateIn(Constraint),
     Free(RangeInclusive),
+}
+
+impl Call {
+    /// Makes the call on a space. Returns its result and the number of nodes that it counts.
+    fn counted(self, space: &mut AddressAllocator) -> (Result<Option<RangeInclusive>>, u64) {
+        let (answer, nodes) = match self {
+            Call::Allocate(size, alignment, policy) => {
+                space.allocate_counted(Global, size, alignment, policy)
+            }
+            Call::AllocateIn(request) => space.allocate_constraint_counted(Global, request),
+            Call::Free(range) => {
+                let (answer, nodes) = space.free_counted(&range);
+                return (answer.map(|()| None), nodes);
+            }
+        };
+        (answer.map(Some), nodes)
+    }
+
+    /// Makes the call on a space without counting.
+    fn plain(self, space: &mut AddressAllocator) -> Result<Option<RangeInclusive>> {
+        match self {
+            Call::Allocate(size, alignment, policy) => {
+                space.allocate(Global, size, alignment, policy).map(Some)
+            }
+            Call::AllocateIn(request) => space.allocate_constraint(Global, request).map(Some),
+            Call::Free(range) => space.free(&range).map(|()| None),
+        }
+    }
 }
 
 /// The totals of a run.
@@ -107,23 +138,8 @@ impl Pair {
 
     /// Makes a call on both allocators, and checks their boxes against the count.
     fn call(&mut self, call: Call) {
-        let (counted, plain) = (&mut self.counted, &mut self.plain);
-        let ((answer, nodes), followed) = boxes(|| match call {
-            Call::Allocate(size, alignment, policy) => {
-                let (answer, nodes) = counted.allocate_counted(Global, size, alignment, policy);
-                (answer.map(Some), nodes)
-            }
-            Call::Free(range) => {
-                let (answer, nodes) = counted.free_counted(&range);
-                (answer.map(|()| None), nodes)
-            }
-        });
-        let (same, followed_plainly) = boxes(|| match call {
-            Call::Allocate(size, alignment, policy) => {
-                plain.allocate(Global, size, alignment, policy).map(Some)
-            }
-            Call::Free(range) => plain.free(&range).map(|()| None),
-        });
+        let ((answer, nodes), followed) = boxes(|| call.counted(&mut self.counted));
+        let (same, followed_plainly) = boxes(|| call.plain(&mut self.plain));
         assert_eq!(answer, same, "{call:?}");
         let looks = followed_plainly.checked_sub(followed);
         assert!(
@@ -133,7 +149,7 @@ impl Pair {
         let bound = match (call, &answer) {
             (_, Ok(_)) => CHANGE,
             (Call::Free(_), Err(_)) => REFUSED_RELEASE,
-            (Call::Allocate(..), Err(_)) => REFUSED_REQUEST,
+            (_, Err(_)) => REFUSED_REQUEST,
         };
         assert!(
             followed <= bound.of(nodes),
@@ -155,8 +171,8 @@ impl Pair {
         self.seen.boxes += followed;
         self.seen.most_for_a_node = self.seen.most_for_a_node.max(followed.div_ceil(nodes + 1));
         match (call, answer) {
-            (Call::Allocate(..), Ok(Some(range))) => self.held.push(range),
-            (Call::Free(range), Ok(_)) => self.held.retain(|held| *held != range),
+            (_, Ok(Some(range))) => self.held.push(range),
+            (Call::Free(range), Ok(None)) => self.held.retain(|held| *held != range),
             _ => {}
         }
     }
@@ -165,7 +181,7 @@ impl Pair {
     fn any(&mut self, draws: &mut Draws, size: u64) -> Call {
         let (length, alignment) = (1 + draws.below(4), 1 << draws.below(5));
         let place = draws.below(size);
-        match draws.below(8) {
+        match draws.below(10) {
             0 => Call::Allocate(length, alignment, AllocPolicy::FirstMatch),
             1 => Call::Allocate(length, alignment, AllocPolicy::LastMatch),
             2 => Call::Allocate(length, 1, AllocPolicy::ExactMatch(place)),
@@ -174,6 +190,7 @@ impl Pair {
             5 => {
                 Call::Free(RangeInclusive::new(place, place + length).expect("the place is small"))
             }
+            6 | 7 => Call::AllocateIn(any_in_window(draws, length, alignment, size)),
             _ if self.held.is_empty() => Call::Allocate(length, 1, AllocPolicy::FirstMatch),
             _ => Call::Free(self.held[draws.below(self.held.len() as u64) as usize]),
         }
@@ -222,6 +239,19 @@ impl Pair {
         println!("{name}: {calls} calls, {refused} errors, {held} ranges at the end: {boxes} boxes followed, {nodes} nodes counted");
         println!("{name}: at most {most_for_a_node} boxes per counted node plus one, in one call");
     }
+}
+
+/// Returns a request with a random policy and a random window on a space of this size.
+fn any_in_window(draws: &mut Draws, length: u64, alignment: u64, size: u64) -> Constraint {
+    let (place, lowest) = (draws.below(size), draws.below(size));
+    let policy = match draws.below(3) {
+        0 => AllocPolicy::FirstMatch,
+        1 => AllocPolicy::LastMatch,
+        _ => AllocPolicy::ExactMatch(place - place % alignment),
+    };
+    let request = Constraint::new(length, alignment, policy).expect("the request is valid");
+    let window = RangeInclusive::new(lowest, lowest + draws.below(size));
+    request.within(window.expect("the window is small"))
 }
 
 /// Makes random calls on a small space.

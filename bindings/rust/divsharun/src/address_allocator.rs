@@ -189,19 +189,40 @@ impl AddressAllocator {
 
     /// Allocates a range like [`allocate`](Self::allocate), for a request that was made before.
     ///
+    /// If the request has a [window](Constraint::within), the range lies in it. `FirstMatch` chooses
+    /// the lowest range in the window, and `LastMatch` the highest.
+    ///
     /// # Errors
     ///
-    /// Those of [`allocate`](Self::allocate) for a valid request: `Overflow`,
-    /// `ResourceNotAvailable` and `InvalidStateTransition`. An error changes nothing.
+    /// An error changes nothing. In this order:
+    /// - For `ExactMatch(start)`:
+    ///   - `Overflow` if `start` is `u64::MAX`.
+    ///   - `ResourceNotAvailable` if `start` is outside the space or outside the window.
+    ///   - `Overflow` if the range would end past `u64::MAX`.
+    ///   - `InvalidStateTransition`, with the range and `Allocated`, if exactly this range is
+    ///     already allocated, even if it ends past the window.
+    /// - `ResourceNotAvailable` if no range fits, or the window and the space have no address in
+    ///   common.
+    /// - `Overflow` if the chosen range ends at `u64::MAX`, even if another range is free. A window
+    ///   that ends below `u64::MAX` avoids this.
+    /// - `Overflow` if the range fills only a part of its gap and the height of the tree is 48 or
+    ///   more. This takes more than 6 * 10^9 ranges.
     ///
     /// # Example
     ///
     /// ```rust
-    /// use divsharun::{AddressAllocator, AllocPolicy, Constraint, Error};
+    /// use divsharun::{AddressAllocator, AllocPolicy, Constraint, Error, RangeInclusive};
     ///
     /// let mut mmio = AddressAllocator::new(0xd000_0000, 0x3000)?;
     /// let registers = Constraint::new(0x1000, 0x1000, AllocPolicy::LastMatch)?;
     /// assert_eq!(mmio.allocate_constraint(registers)?.start(), 0xd000_2000);
+    ///
+    /// let window = RangeInclusive::new(0xd000_0000, 0xd000_0fff)?;
+    /// assert_eq!(mmio.allocate_constraint(registers.within(window))?, window);
+    /// assert_eq!(
+    ///     mmio.allocate_constraint(registers.within(window)),
+    ///     Err(Error::ResourceNotAvailable)
+    /// );
     /// # Ok::<(), Error>(())
     /// ```
     pub fn allocate_constraint(&mut self, request: Constraint) -> Result<RangeInclusive> {
@@ -209,11 +230,30 @@ impl AddressAllocator {
     }
 
     /// Allocates a range like [`allocate_constraint`](Self::allocate_constraint), but returns an
-    /// error if an allocation fails.
+    /// error if memory runs out.
     ///
     /// # Errors
     ///
-    /// Those of [`try_allocate`](Self::try_allocate) for a valid request. An error changes nothing.
+    /// An error changes nothing. In this order:
+    /// - `Refused` with `Overflow`, `ResourceNotAvailable` or `InvalidStateTransition`, if
+    ///   `allocate_constraint` returns that error.
+    /// - `OutOfMemory` if memory for a node runs out. A range that fills its gap does not allocate.
+    ///
+    /// # Example
+    ///
+    /// ```rust
+    /// use divsharun::{AddressAllocator, AllocPolicy, Constraint, Error, RangeInclusive, TryError};
+    ///
+    /// let mut mmio = AddressAllocator::try_new(0xc000_0000, 0x2_0000_0000)?;
+    /// let low = RangeInclusive::new(0, 0xffff_ffff)?;
+    /// let bar = Constraint::new(0x4000_0000, 0x1000, AllocPolicy::LastMatch)?.within(low);
+    /// assert_eq!(mmio.try_allocate_constraint(bar)?.start(), 0xc000_0000);
+    /// assert_eq!(
+    ///     mmio.try_allocate_constraint(bar),
+    ///     Err(TryError::Refused(Error::ResourceNotAvailable))
+    /// );
+    /// # Ok::<(), TryError>(())
+    /// ```
     pub fn try_allocate_constraint(
         &mut self,
         request: Constraint,
@@ -221,13 +261,14 @@ impl AddressAllocator {
         or_try_error(self.0.allocate_constraint(Global, request.0)).map(RangeInclusive)
     }
 
-    /// Allocates a range for each request, in their order, and returns the ranges. Each range is
-    /// where [`allocate`](Self::allocate) places it after the requests before it.
+    /// Allocates a range for each request, in their order, and returns the ranges. Each request can
+    /// have its own window. Each range is where [`allocate_constraint`](Self::allocate_constraint)
+    /// places it after the requests before it.
     ///
     /// # Errors
     ///
-    /// - `Overflow`, `ResourceNotAvailable` or `InvalidStateTransition` if `allocate` returns that
-    ///   error for a request. The first request that fails decides.
+    /// - `Overflow`, `ResourceNotAvailable` or `InvalidStateTransition` if `allocate_constraint`
+    ///   returns that error for a request. The first request that fails decides.
     ///
     /// An error allocates no range. The [`height`](Self::height) can differ afterwards.
     ///
@@ -252,7 +293,7 @@ impl AddressAllocator {
     }
 
     /// Allocates ranges like [`allocate_all`](Self::allocate_all), but returns an error if an
-    /// allocation fails.
+    /// allocation fails. Each request can have its own window.
     ///
     /// # Errors
     ///
@@ -312,6 +353,44 @@ impl AddressAllocator {
         let (answer, count) = self
             .0
             .allocate_counted(Global, size, alignment, policy.proved());
+        (or_abort(answer).map(RangeInclusive), count)
+    }
+
+    /// Allocates a range like [`allocate_constraint`](Self::allocate_constraint), and also returns
+    /// the number of tree nodes that the call entered.
+    ///
+    /// Without a window, the bounds are those of [`allocate_counted`](Self::allocate_counted). With a
+    /// window, the count is at most 3h for `ExactMatch`, and at most h(v + 2) + 2h for `FirstMatch`
+    /// and `LastMatch`. Here h is the [`height`](Self::height) before the call, and v is the lesser
+    /// of two numbers:
+    /// - the gaps whose part in the window is long enough but misaligned (0 if the alignment is 1);
+    /// - the gaps whose part in the window has a multiple of the alignment but is too short after
+    ///   it.
+    ///
+    /// # Errors
+    ///
+    /// Those of [`allocate_constraint`](Self::allocate_constraint), in the same order: `Overflow`,
+    /// `ResourceNotAvailable` and `InvalidStateTransition`.
+    ///
+    /// # Example
+    ///
+    /// ```rust
+    /// use divsharun::{AddressAllocator, AllocPolicy, Constraint, Error, RangeInclusive};
+    ///
+    /// let mut ports = AddressAllocator::new(0, 0x1000)?;
+    /// let window = RangeInclusive::new(0x400, 0x7ff)?;
+    /// let request = Constraint::new(0x10, 1, AllocPolicy::FirstMatch)?.within(window);
+    /// let (range, entered) = ports.allocate_constraint_counted(request);
+    /// assert_eq!((range?.start(), ports.height()), (0x400, 2));
+    /// // The space was one gap, so its tree had a height of 1.
+    /// assert!(entered <= 4);
+    /// # Ok::<(), Error>(())
+    /// ```
+    pub fn allocate_constraint_counted(
+        &mut self,
+        request: Constraint,
+    ) -> (Result<RangeInclusive>, u64) {
+        let (answer, count) = self.0.allocate_constraint_counted(Global, request.0);
         (or_abort(answer).map(RangeInclusive), count)
     }
 

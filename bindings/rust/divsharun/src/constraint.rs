@@ -1,6 +1,7 @@
 use crate::proved::vm_allocator as proved;
 use crate::{Error, RangeInclusive, Result};
 use core::fmt;
+use core::hash::{Hash, Hasher};
 
 /// The range that [`allocate`](crate::AddressAllocator::allocate) chooses if several fit. The
 /// default is `FirstMatch`.
@@ -56,7 +57,9 @@ pub const DEFAULT_CONSTRAINT_ALIGN: u64 = proved::DEFAULT_CONSTRAINT_ALIGN;
 /// A valid request for addresses.
 ///
 /// Its size is not 0, its alignment is a power of two, and the start of an `ExactMatch` is a
-/// multiple of the alignment.
+/// multiple of the alignment. It can have a window, in which its range must lie.
+///
+/// `Display` writes all numbers in hexadecimal.
 ///
 /// # Example
 ///
@@ -66,6 +69,7 @@ pub const DEFAULT_CONSTRAINT_ALIGN: u64 = proved::DEFAULT_CONSTRAINT_ALIGN;
 /// let request = Constraint::new(16, DEFAULT_CONSTRAINT_ALIGN, AllocPolicy::FirstMatch)?;
 /// assert_eq!((request.size(), request.align()), (16, 4));
 /// assert_eq!(request.policy(), AllocPolicy::FirstMatch);
+/// assert_eq!(request.to_string(), "size 0x10, alignment 0x4, FirstMatch");
 /// assert_eq!(
 ///     Constraint::new(16, 12, AllocPolicy::FirstMatch),
 ///     Err(Error::InvalidAlignment)
@@ -111,6 +115,10 @@ impl Constraint {
     /// `FirstMatch` then chooses the lowest range in the window, and `LastMatch` the highest.
     /// `ExactMatch` keeps its start. A window replaces the window that the request had.
     ///
+    /// A window that starts at 0 has no lower limit. A window that ends at `u64::MAX` has no upper
+    /// limit. No [`RangeInclusive`] has all 2^64 addresses, so a request with neither limit has no
+    /// window. A window that contains the space changes nothing.
+    ///
     /// # Example
     ///
     /// ```rust
@@ -129,7 +137,18 @@ impl Constraint {
         Constraint(self.0.within(window.0))
     }
 
-    /// Returns the window in which the range must lie, if there is one.
+    /// Returns the window in which the range must lie, or `None` if there is no limit.
+    ///
+    /// # Example
+    ///
+    /// ```rust
+    /// use divsharun::{AllocPolicy, Constraint, Error, RangeInclusive};
+    ///
+    /// let low = RangeInclusive::new(0, 0xffff_ffff)?;
+    /// let bar = Constraint::new(0x1000, 0x1000, AllocPolicy::FirstMatch)?;
+    /// assert_eq!((bar.window(), bar.within(low).window()), (None, Some(low)));
+    /// # Ok::<(), Error>(())
+    /// ```
     #[must_use]
     pub const fn window(self) -> Option<RangeInclusive> {
         match self.0.window() {
@@ -145,8 +164,34 @@ impl Constraint {
     }
 }
 
+/// Hashes the size, the alignment, the policy and the window.
+impl Hash for Constraint {
+    fn hash<H: Hasher>(&self, state: &mut H) {
+        (self.size(), self.align(), self.policy(), self.window()).hash(state);
+    }
+}
+
 impl fmt::Debug for Constraint {
     fn fmt(&self, f: &mut fmt::Formatter<'_>) -> fmt::Result {
         self.0.fmt(f)
+    }
+}
+
+impl fmt::Display for Constraint {
+    fn fmt(&self, f: &mut fmt::Formatter<'_>) -> fmt::Result {
+        write!(
+            f,
+            "size {:#x}, alignment {:#x}, ",
+            self.size(),
+            self.align()
+        )?;
+        match self.policy() {
+            AllocPolicy::ExactMatch(start) => write!(f, "ExactMatch({start:#x})")?,
+            policy => write!(f, "{policy:?}")?,
+        }
+        match self.window() {
+            Some(window) => write!(f, ", window {window:#x}"),
+            None => Ok(()),
+        }
     }
 }

@@ -2,7 +2,7 @@ use crate::address_allocator::ShortDebug;
 use crate::error::{or_abort, or_try_error, out_of_memory};
 use crate::proved::vm_devices as proved_devices;
 use crate::rattle::Global;
-use crate::{AllocPolicy, RangeInclusive, Result, TryError};
+use crate::{AllocPolicy, Constraint, RangeInclusive, Result, TryError};
 use core::fmt;
 use core::iter::FusedIterator;
 
@@ -146,6 +146,64 @@ impl DeviceManager {
         policy: AllocPolicy,
     ) -> core::result::Result<DeviceSlot, TryError> {
         or_try_error(self.0.reserve(Global, size, align, policy.proved())).map(DeviceSlot::of)
+    }
+
+    /// Reserves like [`reserve`](Self::reserve), for a request that was made before. If the request
+    /// has a [window](Constraint::within), the range lies in it.
+    ///
+    /// # Errors
+    ///
+    /// An error leaves ids, ranges and devices unchanged. In this order:
+    /// - `Overflow` or `ResourceNotAvailable` if all ids are allocated, as of
+    ///   [`IdAllocator::allocate_id`](crate::IdAllocator::allocate_id).
+    /// - `Overflow`, `ResourceNotAvailable` or `InvalidStateTransition`, as of
+    ///   [`AddressAllocator::allocate_constraint`](crate::AddressAllocator::allocate_constraint).
+    ///
+    /// # Example
+    ///
+    /// ```rust
+    /// use divsharun::{AllocPolicy, Constraint, DeviceManager, Error, RangeInclusive};
+    ///
+    /// let mut devices = DeviceManager::new(5, 23, 0xc000_0000, 0x2_0000_0000)?;
+    /// let low = RangeInclusive::new(0, 0xffff_ffff)?;
+    /// let bar = Constraint::new(0x1000, 0x1000, AllocPolicy::LastMatch)?;
+    /// let disk = devices.reserve_constraint(bar.within(low))?;
+    /// assert_eq!((disk.id, disk.range.start()), (5, 0xffff_f000));
+    /// # Ok::<(), Error>(())
+    /// ```
+    pub fn reserve_constraint(&mut self, request: Constraint) -> Result<DeviceSlot> {
+        or_abort(self.0.reserve_constraint(Global, request.0)).map(DeviceSlot::of)
+    }
+
+    /// Reserves like [`reserve_constraint`](Self::reserve_constraint), but returns an error if memory
+    /// runs out.
+    ///
+    /// # Errors
+    ///
+    /// An error leaves ids, ranges and devices unchanged. In this order:
+    /// - `Refused` with the error of `reserve_constraint`.
+    /// - `OutOfMemory` if memory for a node or for the table of devices runs out.
+    ///
+    /// # Example
+    ///
+    /// ```rust
+    /// use divsharun::{AllocPolicy, Constraint, DeviceManager, Error, RangeInclusive, TryError};
+    ///
+    /// let mut devices = DeviceManager::try_new(5, 23, 0xc000_0000, 0x2_0000_0000)?;
+    /// let below_the_space = RangeInclusive::new(0, 0xbfff_ffff)?;
+    /// let bar = Constraint::new(0x1000, 0x1000, AllocPolicy::FirstMatch)?;
+    /// assert_eq!(
+    ///     devices.try_reserve_constraint(bar.within(below_the_space)),
+    ///     Err(TryError::Refused(Error::ResourceNotAvailable))
+    /// );
+    /// assert_eq!(devices.try_reserve_constraint(bar)?.id, 5);
+    /// # Ok::<(), TryError>(())
+    /// ```
+    pub fn try_reserve_constraint(
+        &mut self,
+        request: Constraint,
+    ) -> core::result::Result<DeviceSlot, TryError> {
+        or_try_error(self.0.reserve_constraint(Global, request.0)).map(DeviceSlot::of)
     }
 
     /// Releases a device: frees its id and its range.

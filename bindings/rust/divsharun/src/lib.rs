@@ -10,7 +10,7 @@
 //!   neither.
 //!
 //! ```rust
-//! use divsharun::{AddressAllocator, AllocPolicy, IdAllocator, Result};
+//! use divsharun::{AddressAllocator, AllocPolicy, Constraint, IdAllocator, RangeInclusive, Result};
 //!
 //! // The gap below 4 GiB, and the interrupts of devices.
 //! let mut mmio = AddressAllocator::new(0xd000_0000, 0x3000_0000)?;
@@ -21,6 +21,11 @@
 //! assert_eq!(interrupts.allocate_id()?, 5);
 //!
 //! mmio.free(&window)?;
+//!
+//! // A request can have a window, in which its range must lie.
+//! let low = RangeInclusive::new(0, 0xdfff_ffff)?;
+//! let request = Constraint::new(0x1000, 0x1000, AllocPolicy::LastMatch)?.within(low);
+//! assert_eq!(mmio.allocate_constraint(request)?.start(), 0xdfff_f000);
 //! # Ok::<(), divsharun::Error>(())
 //! ```
 //!
@@ -43,8 +48,11 @@
 //!   [`gaps`](AddressAllocator::gaps), [`longest_gap`](AddressAllocator::longest_gap),
 //!   [`free_len`](AddressAllocator::free_len), [`height`](AddressAllocator::height),
 //!   [`layout`](AddressAllocator::layout),
-//!   [`allocate_counted`](AddressAllocator::allocate_counted) and
+//!   [`allocate_counted`](AddressAllocator::allocate_counted),
+//!   [`allocate_constraint_counted`](AddressAllocator::allocate_constraint_counted) and
 //!   [`free_counted`](AddressAllocator::free_counted);
+//! - of a [`Constraint`]: its [`policy`](Constraint::policy), its
+//!   [`window`](Constraint::window), its text and its hash;
 //! - of a [`RangeInclusive`]: its texts, conversions,
 //!   [`contains_address`](RangeInclusive::contains_address) and
 //!   [`intersection`](RangeInclusive::intersection);

@@ -82,6 +82,38 @@ fn requests() {
 /// The size of a space for random calls.
 const WIDTH: u64 = 1 << 12;
 
+/// Returns a random request for a space of `width` addresses at `base`, with a window or without.
+fn drawn_request(draw: &mut Draw, base: u64, width: u64) -> (Constraint, proved::Constraint) {
+    let (size, align) = (1 + draw.below(6), 1 << draw.below(12));
+    let at = base + draw.below(width);
+    let policy = match draw.below(4) {
+        0 | 1 => AllocPolicy::FirstMatch,
+        2 => AllocPolicy::LastMatch,
+        _ => AllocPolicy::ExactMatch(at - at % align),
+    };
+    let request = Constraint::new(size, align, policy).unwrap();
+    let proved_request = proved::Constraint::new(size, align, policy.proved()).unwrap();
+    same(request.window(), proved_request.window());
+    if draw.below(3) == 0 {
+        return (request, proved_request);
+    }
+    let start = base.saturating_sub(4).saturating_add(draw.below(width + 8));
+    let end = start.saturating_add(draw.below(width));
+    let (window, proved_window) = range(start, end).unwrap();
+    let request = request.within(window);
+    let proved_request = proved_request.within(proved_window);
+    same(request.window(), proved_request.window());
+    (request, proved_request)
+}
+
+/// Checks that the result of a `try_` call is that of the proved call.
+fn same_or_refused<T: Debug>(library: Result<T, TryError>, proved: impl Debug) {
+    match library {
+        Err(TryError::Refused(error)) => same(Err::<(), _>(error), proved),
+        answer => same(answer, proved),
+    }
+}
+
 /// Three spaces, for the plain, the counted and the `try_` calls, and the proved space. All have
 /// the same history.
 struct Spaces {
@@ -115,33 +147,34 @@ impl Spaces {
             .allocate_counted(Global, size, align, policy.proved());
         same(self.plain.allocate(size, align, policy), &proved.0);
         same(self.counted.allocate_counted(size, align, policy), &proved);
-        match self.or_try_error.try_allocate(size, align, policy) {
-            Err(TryError::Refused(error)) => same(Err::<(), _>(error), proved.0),
-            answer => same(answer, proved.0),
-        }
+        let answer = self.or_try_error.try_allocate(size, align, policy);
+        same_or_refused(answer, proved.0);
+    }
+
+    /// Makes a request that was made before, with a window or without.
+    fn allocate_constraint(&mut self, draw: &mut Draw) {
+        let (request, proved_request) = drawn_request(draw, self.proved.base(), WIDTH);
+        let proved = self
+            .proved
+            .allocate_constraint_counted(Global, proved_request);
+        same(self.plain.allocate_constraint(request), &proved.0);
+        same(self.counted.allocate_constraint_counted(request), &proved);
+        let answer = self.or_try_error.try_allocate_constraint(request);
+        same_or_refused(answer, proved.0);
     }
 
     /// Makes up to three requests in one call.
     fn allocate_all(&mut self, draw: &mut Draw) {
         let (mut requests, mut proved_requests) = (Vec::new(), Vec::new());
         for _ in 0..draw.below(4) {
-            let (size, align) = (1 + draw.below(6), 1 << draw.below(12));
-            let at = self.proved.base() + draw.below(WIDTH);
-            let policy = match draw.below(4) {
-                0 | 1 => AllocPolicy::FirstMatch,
-                2 => AllocPolicy::LastMatch,
-                _ => AllocPolicy::ExactMatch(at - at % align),
-            };
-            requests.push(Constraint::new(size, align, policy).unwrap());
-            proved_requests.push(proved::Constraint::new(size, align, policy.proved()).unwrap());
+            let (request, proved_request) = drawn_request(draw, self.proved.base(), WIDTH);
+            requests.push(request);
+            proved_requests.push(proved_request);
         }
         let proved = self.proved.allocate_all(Global, &proved_requests);
         same(self.plain.allocate_all(&requests), &proved);
         same(self.counted.allocate_all(&requests), &proved);
-        match self.or_try_error.try_allocate_all(&requests) {
-            Err(TryError::Refused(error)) => same(Err::<(), _>(error), proved),
-            answer => same(answer, proved),
-        }
+        same_or_refused(self.or_try_error.try_allocate_all(&requests), proved);
     }
 
     /// Frees an allocated range, a part of one, or any address.
@@ -220,9 +253,10 @@ fn address_calls() {
             let before = (spaces.or_try_error.try_clone().unwrap(), proved);
             for _ in 0..draw.below(40) {
                 spaces.allocate(&mut draw);
-                match draw.below(6) {
+                match draw.below(8) {
                     0 | 1 => spaces.free(&mut draw),
                     2 => spaces.allocate_all(&mut draw),
+                    3 | 4 => spaces.allocate_constraint(&mut draw),
                     _ => {}
                 }
             }
@@ -304,36 +338,81 @@ fn ids() {
     }
 }
 
+/// Two managers, for the plain and for the `try_` calls, and the proved manager. All have the same
+/// history.
+struct Managers {
+    plain: DeviceManager,
+    or_try_error: DeviceManager,
+    proved: proved_devices::DeviceManager,
+}
+
+impl Managers {
+    /// Creates managers of ten ids and 64 addresses.
+    fn new(first: u32, base: u64) -> Managers {
+        let devices = || DeviceManager::new(first, first + 9, base, 64).unwrap();
+        let proved = proved_devices::DeviceManager::new(Global, first, first + 9, base, 64);
+        Managers {
+            plain: devices(),
+            or_try_error: devices(),
+            proved: proved.unwrap(),
+        }
+    }
+
+    fn reserve(&mut self, draw: &mut Draw) {
+        let (size, align) = (draw.below(8), 1 << draw.below(4));
+        let policy = [AllocPolicy::FirstMatch, AllocPolicy::LastMatch][draw.below(2) as usize];
+        let proved = self.proved.reserve(Global, size, align, policy.proved());
+        same(self.plain.reserve(size, align, policy), &proved);
+        let answer = self.or_try_error.try_reserve(size, align, policy);
+        same_or_refused(answer, proved);
+    }
+
+    /// Reserves a device for a request that was made before, with a window or without.
+    fn reserve_constraint(&mut self, draw: &mut Draw) {
+        let base = self.proved.addresses().base();
+        let (request, proved_request) = drawn_request(draw, base, 64);
+        let proved = self.proved.reserve_constraint(Global, proved_request);
+        same(self.plain.reserve_constraint(request), &proved);
+        let answer = self.or_try_error.try_reserve_constraint(request);
+        same_or_refused(answer, proved);
+    }
+
+    fn release(&mut self, id: u32) {
+        let proved = self.proved.release(id);
+        same(self.plain.release(id), &proved);
+        same_or_refused(self.or_try_error.try_release(id), proved);
+    }
+
+    fn compare(&self, id: u32, address: u64) {
+        let (devices, proved) = (&self.plain, &self.proved);
+        same(devices.slot(id), proved.slot(id));
+        same(devices.device_at(address), proved.device_at(address));
+        same(
+            (
+                devices.device_count(),
+                devices.devices().collect::<Vec<_>>(),
+            ),
+            (proved.device_count(), proved.devices().collect::<Vec<_>>()),
+        );
+        assert_eq!(devices.clone(), *devices);
+        assert_eq!(self.or_try_error, *devices);
+        same(&devices.0, proved);
+    }
+}
+
 #[test]
 fn devices() {
     let mut draw = Draw(4);
     for (first, base) in [(0, 0), (5, 1000), (u32::MAX - 9, u64::MAX - 63)] {
-        let mut devices = DeviceManager::new(first, first + 9, base, 64).unwrap();
-        let mut proved =
-            proved_devices::DeviceManager::new(Global, first, first + 9, base, 64).unwrap();
+        let mut managers = Managers::new(first, base);
         for _ in 0..1000 {
             let id = first.wrapping_add(draw.below(12) as u32).wrapping_sub(1);
-            let (size, align) = (draw.below(8), 1 << draw.below(4));
-            let policy = [AllocPolicy::FirstMatch, AllocPolicy::LastMatch][draw.below(2) as usize];
-            match draw.below(2) {
-                0 => same(
-                    devices.reserve(size, align, policy),
-                    proved.reserve(Global, size, align, policy.proved()),
-                ),
-                _ => same(devices.release(id), proved.release(id)),
+            match draw.below(4) {
+                0 => managers.reserve(&mut draw),
+                1 => managers.reserve_constraint(&mut draw),
+                _ => managers.release(id),
             }
-            same(devices.slot(id), proved.slot(id));
-            let address = base + draw.below(64);
-            same(devices.device_at(address), proved.device_at(address));
-            same(
-                (
-                    devices.device_count(),
-                    devices.devices().collect::<Vec<_>>(),
-                ),
-                (proved.device_count(), proved.devices().collect::<Vec<_>>()),
-            );
-            assert_eq!(devices.clone(), devices);
-            same(&devices.0, &proved);
+            managers.compare(id, base + draw.below(64));
         }
     }
     for (first, last, base, size) in [

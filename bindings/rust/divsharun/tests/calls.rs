@@ -8,6 +8,7 @@ use divsharun::{
     NodeState, RangeInclusive, TryError,
 };
 use draw::Draw;
+use std::collections::HashSet;
 
 const WIDTH: usize = 48;
 const BASE: u64 = 1000;
@@ -367,6 +368,58 @@ fn ranges_convert_and_are_written_in_hexadecimal() {
     let mut spent = 7..=7;
     spent.next();
     assert_eq!(RangeInclusive::try_from(spent), refused(7, 7));
+}
+
+/// Requests by size, alignment and policy, with a window or without, and their texts.
+type WrittenRequest = ((u64, u64, AllocPolicy), Option<(u64, u64)>, &'static str);
+
+const REQUESTS: [WrittenRequest; 5] = [
+    (
+        (0x1000, 0x10, AllocPolicy::FirstMatch),
+        None,
+        "size 0x1000, alignment 0x10, FirstMatch",
+    ),
+    (
+        (1, 1, AllocPolicy::LastMatch),
+        Some((0, 0xffff_ffff)),
+        "size 0x1, alignment 0x1, LastMatch, window 0x0-0xffffffff",
+    ),
+    (
+        (1, 1, AllocPolicy::LastMatch),
+        Some((1, 0xffff_ffff)),
+        "size 0x1, alignment 0x1, LastMatch, window 0x1-0xffffffff",
+    ),
+    (
+        (10, 16, AllocPolicy::ExactMatch(0xd000_0000)),
+        None,
+        "size 0xa, alignment 0x10, ExactMatch(0xd0000000)",
+    ),
+    (
+        (u64::MAX, 1 << 63, AllocPolicy::ExactMatch(0)),
+        Some((1, u64::MAX)),
+        "size 0xffffffffffffffff, alignment 0x8000000000000000, ExactMatch(0x0), \
+         window 0x1-0xffffffffffffffff",
+    ),
+];
+
+/// Checks that different requests are different as keys of a set.
+#[test]
+fn requests_are_written_in_one_line_and_hashed() {
+    let mut seen = HashSet::new();
+    for ((size, align, policy), window, text) in REQUESTS {
+        let mut request = Constraint::new(size, align, policy).unwrap();
+        assert_eq!(request.window(), None);
+        if let Some((start, end)) = window {
+            let window = RangeInclusive::new(start, end).unwrap();
+            // A window replaces the window before it.
+            request = request
+                .within(RangeInclusive::new(5, 6).unwrap())
+                .within(window);
+            assert_eq!(request.window(), Some(window));
+        }
+        assert_eq!(request.to_string(), text);
+        assert!(seen.insert(request) && !seen.insert(request));
+    }
 }
 
 #[test]

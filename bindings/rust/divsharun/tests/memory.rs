@@ -29,7 +29,7 @@ type EndedCall = fn(&mut AddressAllocator);
 /// Calls that return an error, each with the number of its allocations on [`two_held`]: one for a
 /// space, one for each free part of a gap that remains, one for each block of a copy or of a space
 /// with ranges. A call with ranges copies the list, and one with requests makes three lists.
-const TRIED: [(u64, TriedCall); 20] = [
+const TRIED: [(u64, TriedCall); 26] = [
     (1, |_| AddressAllocator::try_new(0, 64).map(drop)),
     (5, |space| space.try_clone().map(drop)),
     (1, |_| AddressAllocator::try_with_held(0, 64, &[]).map(drop)),
@@ -52,6 +52,25 @@ const TRIED: [(u64, TriedCall); 20] = [
     (0, |space| {
         space.try_allocate(16, 1, ExactMatch(24)).map(drop)
     }),
+    (2, |space| {
+        let request = in_the_middle(4, FirstMatch);
+        space.try_allocate_constraint(request).map(drop)
+    }),
+    (2, |space| {
+        let request = in_the_middle(4, LastMatch);
+        space.try_allocate_constraint(request).map(drop)
+    }),
+    (2, |space| {
+        let request = in_the_middle(4, ExactMatch(28));
+        space.try_allocate_constraint(request).map(drop)
+    }),
+    (0, |space| {
+        refused(space.try_allocate_constraint(in_the_middle(16, FirstMatch)))
+    }),
+    (3 + 2 + 1, |space| {
+        let requests = [in_the_middle(4, LastMatch), request(4, FirstMatch)];
+        space.try_allocate_all(&requests).map(drop)
+    }),
     (0, |space| refused(space.try_allocate(64, 1, FirstMatch))),
     (0, |space| refused(space.try_allocate(0, 1, FirstMatch))),
     (2, |_| one_held_id().try_free_id(0).map(drop)),
@@ -63,6 +82,11 @@ const TRIED: [(u64, TriedCall); 20] = [
         devices.try_reserve(1, 1, FirstMatch)?;
         devices.try_release(0)
     }),
+    (8, |_| {
+        let mut devices = DeviceManager::try_new(0, 0, 0, 64)?;
+        devices.try_reserve_constraint(in_the_middle(1, FirstMatch))?;
+        devices.try_release(0)
+    }),
     (1 + 1 + 3 + 2 + 3, |_| {
         let mut devices = DeviceManager::try_new(0, 0, 0, 64)?;
         devices.try_reserve(1, 1, FirstMatch)?;
@@ -72,7 +96,7 @@ const TRIED: [(u64, TriedCall); 20] = [
 
 /// Calls that end the process, each with the number of its allocations on [`two_held`]. A set or a
 /// map allocates two blocks for a few ids or devices.
-const ENDED: [(u64, EndedCall); 10] = [
+const ENDED: [(u64, EndedCall); 13] = [
     (1, |_| assert!(AddressAllocator::new(0, 64).is_ok())),
     (5, |space| drop(space.clone())),
     (1 + 5, |_| {
@@ -85,10 +109,24 @@ const ENDED: [(u64, EndedCall); 10] = [
     (2, |space| {
         assert!(space.allocate_counted(4, 1, ExactMatch(4)).0.is_ok())
     }),
+    (2, |space| {
+        let request = in_the_middle(4, FirstMatch);
+        assert!(space.allocate_constraint(request).is_ok())
+    }),
+    (2, |space| {
+        let request = in_the_middle(4, LastMatch);
+        assert!(space.allocate_constraint_counted(request).0.is_ok())
+    }),
     (2, |_| drop(one_free_id())),
     (4, |_| drop(one_free_id().clone())),
     (1, |_| assert!(DeviceManager::new(0, 0, 0, 64).is_ok())),
-    (7, |_| reserve_and_release()),
+    (7, |_| {
+        reserve_and_release(|devices| devices.reserve(1, 1, FirstMatch).is_ok())
+    }),
+    (8, |_| {
+        let request = in_the_middle(1, FirstMatch);
+        reserve_and_release(|devices| devices.reserve_constraint(request).is_ok())
+    }),
 ];
 
 fn main() {
@@ -125,6 +163,11 @@ fn request(size: u64, policy: AllocPolicy) -> Constraint {
     Constraint::new(size, 1, policy).expect("a request")
 }
 
+/// Returns a request whose window begins and ends inside the second gap of [`two_held`].
+fn in_the_middle(size: u64, policy: AllocPolicy) -> Constraint {
+    request(size, policy).within(RangeInclusive::new(26, 37).expect("a range"))
+}
+
 /// Returns requests that split a gap at its start and another in the middle, and fill the third.
 fn three_requests() -> [Constraint; 3] {
     [
@@ -155,11 +198,11 @@ fn one_free_id() -> IdAllocator {
     ids
 }
 
-/// Makes one allocation for the space, one for the rest of its gap and one for the list of devices.
-/// The map of devices and the set of freed ids take two each.
-fn reserve_and_release() {
+/// Makes one allocation for the space, one for each part of its gap that remains, and one for the
+/// list of devices. The map of devices and the set of freed ids take two each.
+fn reserve_and_release(reserve: impl Fn(&mut DeviceManager) -> bool) {
     let mut devices = DeviceManager::new(0, 0, 0, 64).expect("a manager");
-    assert!(devices.reserve(1, 1, FirstMatch).is_ok());
+    assert!(reserve(&mut devices));
     assert_eq!(devices.release(0), Ok(()));
 }
 
@@ -205,6 +248,10 @@ fn objects_stay_the_same() {
         devices.try_release(0)
     });
     assert_eq!(devices.device_count(), 0);
+    unchanged_until_allowed(&mut devices, DeviceManager::clone, |devices| {
+        devices.try_reserve_constraint(in_the_middle(1, LastMatch))
+    });
+    assert_eq!(devices.slot(0).map(|range| range.start()), Some(37));
 }
 
 /// Makes a call with its first allocation failing, then with its second, until it succeeds. An error

@@ -5,3 +5,4 @@ mod meter;
 mod objects;
 mod requests;
 mod time;
+mod windows;

@@ -1,0 +1,413 @@
+//! Checks requests with a window in each form of a call: with a table, and with a plain model of a
+//! small space.
+
+mod draw;
+
+use divsharun::{
+    AddressAllocator, AllocPolicy, Constraint, DeviceManager, Error, NodeState, RangeInclusive,
+    Result, TryError,
+};
+use draw::Draw;
+use AllocPolicy::{ExactMatch, FirstMatch, LastMatch};
+use Error::{InvalidStateTransition, Overflow, ResourceNotAvailable};
+
+const WIDTH: u64 = 64;
+const MAX: u64 = u64::MAX;
+
+const fn range(start: u64, end: u64) -> RangeInclusive {
+    match RangeInclusive::new(start, end) {
+        Ok(range) => range,
+        Err(_) => panic!(),
+    }
+}
+
+/// Returns the error of a `try_` call, which does not run out of memory.
+fn refused<T>(answer: std::result::Result<T, TryError>) -> Result<T> {
+    answer.map_err(|error| match error {
+        TryError::Refused(error) => error,
+        other => panic!("{other:?}"),
+    })
+}
+
+/// A space for each form of a call. All have the same history.
+struct Forms {
+    plain: AddressAllocator,
+    or_try_error: AddressAllocator,
+    counted: AddressAllocator,
+    all: AddressAllocator,
+    all_or_try_error: AddressAllocator,
+    devices: DeviceManager,
+    devices_or_try_error: DeviceManager,
+}
+
+impl Forms {
+    /// Creates spaces of [`WIDTH`] addresses.
+    fn new(base: u64) -> Forms {
+        let space = || AddressAllocator::new(base, WIDTH).unwrap();
+        let devices = || DeviceManager::new(0, 99, base, WIDTH).unwrap();
+        Forms {
+            plain: space(),
+            or_try_error: space(),
+            counted: space(),
+            all: space(),
+            all_or_try_error: space(),
+            devices: devices(),
+            devices_or_try_error: devices(),
+        }
+    }
+
+    /// Makes a request in each form, and returns their result.
+    fn allocate(&mut self, request: Constraint) -> Result<RangeInclusive> {
+        let answer = self.plain.allocate_constraint(request);
+        let only = |ranges: Vec<RangeInclusive>| {
+            assert_eq!(ranges.len(), 1);
+            ranges[0]
+        };
+        let answers = [
+            refused(self.or_try_error.try_allocate_constraint(request)),
+            self.counted.allocate_constraint_counted(request).0,
+            self.all.allocate_all(&[request]).map(only),
+            refused(self.all_or_try_error.try_allocate_all(&[request])).map(only),
+            self.devices
+                .reserve_constraint(request)
+                .map(|device| device.range),
+            refused(self.devices_or_try_error.try_reserve_constraint(request))
+                .map(|device| device.range),
+        ];
+        assert_eq!(answers, [answer; 6], "{request}");
+        answer
+    }
+
+    fn free(&mut self, range: &RangeInclusive) {
+        for space in [
+            &mut self.plain,
+            &mut self.or_try_error,
+            &mut self.counted,
+            &mut self.all,
+            &mut self.all_or_try_error,
+        ] {
+            assert_eq!(space.free(range), Ok(()));
+        }
+        for devices in [&mut self.devices, &mut self.devices_or_try_error] {
+            let device = devices.device_at(range.start()).unwrap();
+            assert_eq!(devices.release(device.id), Ok(()));
+        }
+    }
+}
+
+/// A window by its ends, a request by size, alignment and policy, and the start of its range.
+type Row = ((u64, u64), (u64, u64, AllocPolicy), Result<u64>);
+
+const NONE: Result<u64> = Err(ResourceNotAvailable);
+const IS_HELD: Error = InvalidStateTransition(range(32, 39), NodeState::Allocated);
+const LAST_EIGHT: (u64, u64) = (MAX - 7, MAX);
+
+/// Rows for the space [16, 79] with [32, 39] allocated.
+const IN_THE_MIDDLE: &[Row] = &[
+    // Both ends of a window.
+    ((42, 61), (4, 1, FirstMatch), Ok(42)),
+    ((42, 61), (4, 1, LastMatch), Ok(58)),
+    ((42, 61), (4, 1, ExactMatch(42)), Ok(42)),
+    ((42, 61), (4, 1, ExactMatch(58)), Ok(58)),
+    ((42, 61), (4, 1, ExactMatch(41)), NONE),
+    ((42, 61), (4, 1, ExactMatch(59)), NONE),
+    ((42, 61), (4, 1, ExactMatch(62)), NONE),
+    ((42, 61), (4, 8, FirstMatch), Ok(48)),
+    ((42, 61), (4, 8, LastMatch), Ok(56)),
+    ((42, 61), (4, 8, ExactMatch(48)), Ok(48)),
+    ((42, 61), (4, 8, ExactMatch(40)), NONE),
+    // As long as the window, and longer.
+    ((42, 61), (20, 1, FirstMatch), Ok(42)),
+    ((42, 61), (20, 1, LastMatch), Ok(42)),
+    ((42, 61), (20, 1, ExactMatch(42)), Ok(42)),
+    ((42, 61), (20, 2, FirstMatch), Ok(42)),
+    ((42, 61), (20, 4, LastMatch), NONE),
+    ((42, 61), (21, 1, FirstMatch), NONE),
+    ((42, 61), (21, 1, LastMatch), NONE),
+    ((42, 61), (21, 1, ExactMatch(42)), NONE),
+    // A window of one address.
+    ((50, 50), (1, 1, FirstMatch), Ok(50)),
+    ((50, 50), (1, 1, LastMatch), Ok(50)),
+    ((50, 50), (1, 1, ExactMatch(50)), Ok(50)),
+    ((50, 50), (2, 1, FirstMatch), NONE),
+    ((50, 50), (1, 4, LastMatch), NONE),
+    // A window beside the space, or with one address in common.
+    ((0, 15), (1, 1, FirstMatch), NONE),
+    ((0, 15), (1, 1, LastMatch), NONE),
+    ((0, 15), (1, 1, ExactMatch(16)), NONE),
+    ((80, MAX), (1, 1, FirstMatch), NONE),
+    ((80, MAX), (1, 1, LastMatch), NONE),
+    ((80, MAX), (1, 1, ExactMatch(80)), NONE),
+    ((0, 16), (1, 1, LastMatch), Ok(16)),
+    ((79, MAX), (1, 1, FirstMatch), Ok(79)),
+    // A window without one of its limits.
+    ((0, 61), (4, 1, FirstMatch), Ok(16)),
+    ((0, 61), (4, 1, LastMatch), Ok(58)),
+    ((42, MAX), (4, 1, FirstMatch), Ok(42)),
+    ((42, MAX), (4, 1, LastMatch), Ok(76)),
+    ((0, MAX - 1), (16, 16, FirstMatch), Ok(16)),
+    ((1, MAX), (16, 16, LastMatch), Ok(64)),
+    // The allocated range, and gaps on both sides of it.
+    ((30, 41), (2, 1, FirstMatch), Ok(30)),
+    ((30, 41), (2, 1, LastMatch), Ok(40)),
+    ((30, 41), (3, 1, FirstMatch), NONE),
+    ((32, 39), (1, 1, FirstMatch), NONE),
+    ((32, 39), (1, 1, LastMatch), NONE),
+    ((30, 41), (8, 1, ExactMatch(32)), Err(IS_HELD)),
+    ((30, 33), (8, 1, ExactMatch(32)), Err(IS_HELD)),
+    ((33, 41), (8, 1, ExactMatch(32)), NONE),
+    ((30, 41), (4, 1, ExactMatch(32)), NONE),
+    ((30, 41), (MAX, 1, ExactMatch(32)), Err(Overflow)),
+    ((33, 41), (MAX, 1, ExactMatch(32)), NONE),
+    ((30, 41), (1, 1, ExactMatch(MAX)), Err(Overflow)),
+];
+
+/// Rows for the space [0, 63].
+const AT_ZERO: &[Row] = &[
+    ((0, 0), (1, 1, FirstMatch), Ok(0)),
+    ((0, 0), (1, 1 << 63, LastMatch), Ok(0)),
+    ((0, 0), (1, 1, ExactMatch(0)), Ok(0)),
+    ((0, 7), (8, 1, FirstMatch), Ok(0)),
+    ((0, 7), (8, 1, LastMatch), Ok(0)),
+    ((0, 7), (9, 1, LastMatch), NONE),
+    ((1, 8), (1, 8, FirstMatch), Ok(8)),
+    ((1, 7), (1, 8, LastMatch), NONE),
+];
+
+/// Rows for the last 64 addresses.
+const AT_MAX: &[Row] = &[
+    ((MAX, MAX), (1, 1, FirstMatch), Err(Overflow)),
+    ((MAX, MAX), (1, 1, LastMatch), Err(Overflow)),
+    ((MAX, MAX), (1, 1, ExactMatch(MAX)), Err(Overflow)),
+    (LAST_EIGHT, (4, 1, FirstMatch), Ok(MAX - 7)),
+    (LAST_EIGHT, (4, 1, LastMatch), Err(Overflow)),
+    (LAST_EIGHT, (4, 4, LastMatch), Err(Overflow)),
+    (LAST_EIGHT, (8, 1, FirstMatch), Err(Overflow)),
+    (LAST_EIGHT, (9, 1, FirstMatch), NONE),
+    (LAST_EIGHT, (4, 1, ExactMatch(MAX - 3)), Err(Overflow)),
+    (LAST_EIGHT, (5, 1, ExactMatch(MAX - 3)), Err(Overflow)),
+    // A window that ends below `MAX` avoids the error.
+    ((MAX - 7, MAX - 1), (4, 1, LastMatch), Ok(MAX - 4)),
+    ((MAX - 7, MAX - 1), (4, 4, LastMatch), Ok(MAX - 7)),
+    ((MAX - 7, MAX - 1), (4, 1, ExactMatch(MAX - 3)), NONE),
+    ((MAX - 1, MAX - 1), (1, 1, FirstMatch), Ok(MAX - 1)),
+    ((0, MAX - 64), (1, 1, LastMatch), NONE),
+];
+
+#[test]
+fn each_policy_at_the_ends_of_windows() {
+    for (base, held, rows) in [
+        (16, Some((8, 32)), IN_THE_MIDDLE),
+        (0, None, AT_ZERO),
+        (MAX - 63, None, AT_MAX),
+    ] {
+        for &((start, end), (size, align, policy), want) in rows {
+            let mut spaces = Forms::new(base);
+            if let Some((size, start)) = held {
+                let request = Constraint::new(size, 1, ExactMatch(start)).unwrap();
+                assert_eq!(
+                    spaces.allocate(request),
+                    Ok(range(start, start + (size - 1)))
+                );
+            }
+            let request = Constraint::new(size, align, policy).unwrap();
+            let request = request.within(range(start, end));
+            let want = want.map(|start| range(start, start + (size - 1)));
+            assert_eq!(spaces.allocate(request), want, "{request}");
+        }
+    }
+}
+
+/// A space of [`WIDTH`] addresses with its allocated ranges.
+struct Model {
+    base: u64,
+    held: Vec<RangeInclusive>,
+}
+
+impl Model {
+    /// Returns whether an address is inside the space and not allocated.
+    fn is_free(&self, address: u128) -> bool {
+        let base = u128::from(self.base);
+        let is_in = |held: &RangeInclusive| {
+            u128::from(held.start()) <= address && address <= u128::from(held.end())
+        };
+        (base..base + u128::from(WIDTH)).contains(&address) && !self.held.iter().any(is_in)
+    }
+
+    /// Returns whether each address of a range is free and in the window of the request.
+    fn fits(&self, start: u64, request: Constraint) -> bool {
+        let first = u128::from(start);
+        (first..first + u128::from(request.size()))
+            .all(|address| self.is_free(address) && is_in_window(address, request))
+    }
+
+    fn allocate(&self, request: Constraint) -> Result<RangeInclusive> {
+        let mut starts = (0..WIDTH)
+            .map(|offset| self.base + offset)
+            .filter(|start| start % request.align() == 0 && self.fits(*start, request));
+        let start = match request.policy() {
+            FirstMatch => starts.next().ok_or(ResourceNotAvailable)?,
+            LastMatch => starts.next_back().ok_or(ResourceNotAvailable)?,
+            ExactMatch(start) => self.checked_start(start, request)?,
+        };
+        let end = start + (request.size() - 1);
+        if end == MAX {
+            return Err(Overflow);
+        }
+        RangeInclusive::new(start, end)
+    }
+
+    /// Returns the start of an `ExactMatch`, or the first error that is not about `MAX` as its end.
+    fn checked_start(&self, start: u64, request: Constraint) -> Result<u64> {
+        if start == MAX {
+            return Err(Overflow);
+        }
+        let is_in_space = start >= self.base && start - self.base < WIDTH;
+        if !is_in_space || !is_in_window(start.into(), request) {
+            return Err(ResourceNotAvailable);
+        }
+        let end = start.checked_add(request.size() - 1).ok_or(Overflow)?;
+        let is_same = |held: &&RangeInclusive| (held.start(), held.end()) == (start, end);
+        if let Some(held) = self.held.iter().find(is_same) {
+            return Err(InvalidStateTransition(*held, NodeState::Allocated));
+        }
+        if !self.fits(start, request) {
+            return Err(ResourceNotAvailable);
+        }
+        Ok(start)
+    }
+}
+
+fn is_in_window(address: u128, request: Constraint) -> bool {
+    request.window().is_none_or(|window| {
+        u128::from(window.start()) <= address && address <= u128::from(window.end())
+    })
+}
+
+/// Returns a random request near a space. Its `ExactMatch` often names an allocated range.
+fn drawn(draw: &mut Draw, model: &Model) -> Constraint {
+    let near = |draw: &mut Draw| {
+        let lowest = model.base.saturating_sub(4);
+        lowest.saturating_add(draw.below(WIDTH + 8))
+    };
+    let mut size = [1 + draw.below(6), 1 + draw.below(WIDTH + 8)][usize::from(draw.below(4) == 0)];
+    let mut align = [1 << draw.below(3), 1 << draw.below(64)][usize::from(draw.below(8) == 0)];
+    let policy = match draw.below(6) {
+        0 | 1 => FirstMatch,
+        2 | 3 => LastMatch,
+        4 if !model.held.is_empty() => {
+            let held = model.held[draw.below(model.held.len() as u64) as usize];
+            (size, align) = (held.len(), 1);
+            ExactMatch(held.start())
+        }
+        _ => {
+            let start = near(draw);
+            ExactMatch(start - start % align)
+        }
+    };
+    let request = Constraint::new(size, align, policy).unwrap();
+    let start = near(draw);
+    let end = start.saturating_add(draw.below(WIDTH));
+    match draw.below(6) {
+        0 => request,
+        1 if end < MAX => request.within(range(0, end)),
+        2 if start > 0 => request.within(range(start, MAX)),
+        _ => request.within(range(start, end)),
+    }
+}
+
+/// Counts a result: each policy that succeeds, and each error.
+fn kind_of(request: Constraint, answer: &Result<RangeInclusive>) -> usize {
+    match (answer, request.policy()) {
+        (Ok(_), FirstMatch) => 0,
+        (Ok(_), LastMatch) => 1,
+        (Ok(_), ExactMatch(_)) => 2,
+        (Err(ResourceNotAvailable), _) => 3,
+        (Err(InvalidStateTransition(..)), _) => 4,
+        (Err(_), _) => 5,
+    }
+}
+
+#[test]
+fn ranges_and_errors_are_those_of_a_plain_model() {
+    let mut draw = Draw(7);
+    let mut kinds = [0; 6];
+    for base in [0, 1, 1000, MAX - WIDTH, MAX - WIDTH + 1] {
+        let mut spaces = Forms::new(base);
+        let mut model = Model {
+            base,
+            held: Vec::new(),
+        };
+        for _ in 0..4_000 {
+            let request = drawn(&mut draw, &model);
+            let answer = spaces.allocate(request);
+            assert_eq!(answer, model.allocate(request), "{request} in {base:#x}");
+            kinds[kind_of(request, &answer)] += 1;
+            model.held.extend(answer.ok());
+            if draw.below(3) == 0 && !model.held.is_empty() {
+                let number = draw.below(model.held.len() as u64) as usize;
+                spaces.free(&model.held.swap_remove(number));
+            }
+        }
+    }
+    assert!(kinds.iter().all(|kind| *kind > 100), "{kinds:?}");
+}
+
+/// Makes requests with different windows in one call, the last of which fails.
+#[test]
+fn windows_of_one_call_are_separate() {
+    let request = |policy| Constraint::new(4, 4, policy).unwrap();
+    let requests = [
+        request(FirstMatch).within(range(20, 39)),
+        request(LastMatch).within(range(20, 39)),
+        request(FirstMatch),
+        request(LastMatch).within(range(0, 47)),
+        request(FirstMatch).within(range(20, 27)),
+        request(LastMatch),
+    ];
+    let starts = [20, 36, 0, 44, 24, 60];
+    let mut space = AddressAllocator::new(0, WIDTH).unwrap();
+    let mut other = space.clone();
+    let ranges = starts.map(|start| range(start, start + 3)).to_vec();
+    assert_eq!(space.allocate_all(&requests), Ok(ranges.clone()));
+    assert_eq!(other.try_allocate_all(&requests), Ok(ranges));
+
+    let before = space.clone();
+    let failing = [requests[2], request(FirstMatch).within(range(20, 27))];
+    assert_eq!(space.allocate_all(&failing), Err(ResourceNotAvailable));
+    let answer = space.try_allocate_all(&failing);
+    assert_eq!(refused(answer), Err(ResourceNotAvailable));
+    assert_eq!(space, before);
+}
+
+/// Checks that the error of the ids precedes that of the request.
+#[test]
+fn errors_of_devices_in_windows() {
+    let all = |policy| Constraint::new(WIDTH, 1, policy).unwrap();
+    let outside = all(FirstMatch).within(range(WIDTH, MAX));
+    for (last_id, error) in [(5, ResourceNotAvailable), (u32::MAX, Overflow)] {
+        let mut devices = DeviceManager::new(last_id, last_id, 0, WIDTH).unwrap();
+        for answer in [
+            devices.reserve_constraint(outside),
+            refused(devices.try_reserve_constraint(outside)),
+        ] {
+            assert_eq!(answer, Err(ResourceNotAvailable));
+        }
+        assert_eq!(devices.device_count(), 0);
+        let window = range(0, WIDTH - 1);
+        let device = devices.reserve_constraint(all(LastMatch).within(window));
+        assert_eq!(
+            device.map(|device| (device.id, device.range)),
+            Ok((last_id, window))
+        );
+        for request in [
+            outside,
+            all(ExactMatch(0)),
+            all(ExactMatch(0)).within(window),
+        ] {
+            assert_eq!(devices.reserve_constraint(request), Err(error));
+            let answer = devices.try_reserve_constraint(request);
+            assert_eq!(answer, Err(TryError::Refused(error)));
+        }
+    }
+}
