@@ -31,7 +31,7 @@ use Rattle.vm_allocator.proofs.Ids.ReadIdStates.{one_encoded, encoded_state as e
 pub use Rattle.vm_engine.proofs.Blocks.HeldLists.{ranges_listed}
 pub use Rattle.vm_allocator.proofs.Ids.IdCounts.{ids_listed}
 -- The values of allocators and of ids nest few levels, and a text is parsed to the value that was written.
-pub use Rattle.vm_allocator.proofs.Reading.NestedValues.{addresses_nest, ids_nest, text_gives_again, text_has_value}
+pub use Rattle.vm_allocator.proofs.Reading.NestedValues.{addresses_nest, ids_nest, text_gives_again, text_has_value, allocator_through_text, ids_through_text}
 pub use Rattle.vm_ranges.proofs.ReadTexts.{parsed_again}
 -- The held ids are listed in increasing order, and equal states are the same.
 pub use Rattle.vm_allocator.proofs.Ids.HeldIds.{listed_held, in_held_ids}
@@ -321,3 +321,6 @@ pub addresses_encoded : (d : Data) (state : AddressState) → EncodesAddresses d
 addresses_encoded d state s = subst IsAddressState s.is (encoded_addresses d s.allocator s.encoded)
 
 pub ruleset callers = (allocated_held, allocated_apart, allocated_same, freed_fits_again, fits_again_or_limit, id_was_free, id_is_held, allocator_again, ids_again, text_gives_again, text_has_value)
+
+-- What is read through the text of a written value is what was written.
+pub ruleset through_text = (allocator_through_text, ids_through_text)

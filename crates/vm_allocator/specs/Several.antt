@@ -1,5 +1,5 @@
 -- Several requests in one call.
-use Rattle.std.specs.Prelude.{◌≡◌, ◌⊎◌, List, [], ◌∷◌, Result, Ok, Err}
+use Rattle.std.specs.Prelude.{◌≡◌, ◌⊎◌, List, [], ◌∷◌, Result, Ok, Err, MatchResult}
 use Rattle.vm_ranges.specs.Range.{Range, address_count}
 use Rattle.vm_ranges.specs.Request.{Request, request_for}
 use Rattle.vm_engine.specs.Address.{AddressState, IsAddressState}
@@ -42,6 +42,11 @@ pub record AllocatesInTree (old : Shape) (request : Request) (answer : Result Ra
 -- The requests fail together: out of memory, or with the error of the first request that fails. The state is that before.
 abbrev pub FailsAll : AddressState → List Request → Error → AddressState → Type 0
 FailsAll old requests error new = (new ≡ old) × ((error ≡ OutOfMemory) ⊎ RefusesOne old requests error)
+
+-- The result of `allocate_all`: a range for each request, or an error and the state before.
+abbrev pub AllocatesAll : AddressState → List Request → Result (List Range) Error → AddressState → Type 0
+AllocatesAll old requests answer new =
+    MatchResult answer (λ ranges. AllocatesEach old requests ranges new) (λ error. FailsAll old requests error new)
 
 -- The requests for exactly these ranges.
 abbrev pub exact_requests : List Range → List Request

@@ -12,6 +12,8 @@ use Rattle.vm_devices.specs.Devices.{DeviceState, IsDevice, IsDeviceState, Reser
 use Rattle.vm_devices.proofs.DevicesAgain.{reserved_again}
 use Rattle.vm_devices.proofs.Reserving.{reserved_device, releasing_outcome}
 use Rattle.vm_devices.proofs.Tables.{with_here}
+-- A saved manager survives its text.
+pub use Rattle.vm_devices.proofs.NestedManagers.{manager_through_text}
 
 -- The range of a device has the requested number of addresses, and starts at a multiple of the alignment.
 pub device_fits : (old new : DeviceState) (request : Request) (answer : Result DeviceSlot Error) →

@@ -11,7 +11,8 @@ use Rattle.vm_engine.proofs.Answers.AddressAnswers.{lie_apart}
 use Rattle.vm_allocator.proofs.Callers.{given, request_fits, request_inside}
 use Rattle.vm_devices.specs.declared.device_slot.DeviceSlot.{DeviceSlot}
 use Rattle.vm_devices.specs.Devices.{DeviceState, IsDevice, IsDeviceState}
-use Rattle.vm_devices.specs.Histories.{DeviceCall, Reservation, Release, IsDeviceCallFrom, IsDeviceHistoryFrom, IsManagerMade, IsManagerRead, AreDevicesReached, WasReserved, WasRead}
+use Rattle.vm_ranges.proofs.CloneAnswers.{cloning_keeps}
+use Rattle.vm_devices.specs.Histories.{DeviceCall, Reservation, Release, Cloning, IsDeviceCallFrom, IsDeviceHistoryFrom, IsManagerMade, BeginsWithDevices, AreDevicesReached, WasReserved, WasThereFirst}
 use Rattle.vm_devices.specs.Laws.{DevicesAreValid}
 use Rattle.vm_devices.proofs.Tables.{with_here, with_other}
 use Rattle.vm_devices.proofs.Pairs.{one_range, was, id_held}
@@ -23,14 +24,16 @@ use Rattle.vm_devices.proofs.Reserving.{reserving_outcome, releasing_outcome, re
 call_state : (old new : DeviceState) (call : DeviceCall) → IsDeviceCallFrom old call new → IsDeviceState old → IsDeviceState new
 call_state old new (Reservation request answer) h i = reserved_state old new request answer i h
 call_state old new (Release id answer) h i = released_state old new id answer i h
+call_state old new (Cloning answer) h i = subst IsDeviceState (sym (cloning_keeps old new answer h.0 h.1)) i
 
 history_state : (calls : List DeviceCall) (first last : DeviceState) → IsDeviceHistoryFrom first calls last → IsDeviceState first → IsDeviceState last
 history_state [] first last h i = subst IsDeviceState (sym h) i
 history_state (call ∷ calls) first last h i = history_state calls h.0 last h.2 (call_state first h.0 call h.1 i)
 
-first_state : (first : DeviceState) → IsManagerMade first ⊎ IsManagerRead first → IsDeviceState first
+first_state : (first : DeviceState) → IsManagerMade first ⊎ BeginsWithDevices first → IsDeviceState first
 first_state first (inl m) = (made_state m.lo m.hi m.base m.size first m.id m.word m.made).0
-first_state first (inr r) = encoded_state r.value first r.encoded
+first_state first (inr (inl m)) = subst IsDeviceState (sym m.made.1) (record { ids = m.valid_ids; space = m.valid_space; pairs = m.made.0.pairs })
+first_state first (inr (inr r)) = encoded_state r.value first r.encoded
 
 reached_state : (calls : List DeviceCall) (old : DeviceState) → AreDevicesReached calls old → IsDeviceState old
 reached_state calls old r = history_state calls r.first old r.history (first_state r.first r.begins)
@@ -71,6 +74,8 @@ call_reserves old new (Release q answer) calls id r h i d =
     (λ refused. subst (λ (s : DeviceState). IsDevice s id r) refused.2 d)
     (λ left. was old q left.0 i left.1 id r (subst (λ (s : DeviceState). IsDevice s id r) left.3 d))
     (releasing_outcome old new q answer h))
+call_reserves old new (Cloning answer) calls id r h i d =
+    inl (subst (λ (s : DeviceState). IsDevice s id r) (cloning_keeps old new answer h.0 h.1) d)
 
 history_reserves : (calls : List DeviceCall) (first last : DeviceState) (id : ℕ) (r : Range) → IsDeviceHistoryFrom first calls last → IsDeviceState first →
     IsDevice last id r → IsDevice first id r ⊎ WasReserved calls id r
@@ -81,15 +86,15 @@ history_reserves (call ∷ calls) first last id r h i d =
     (λ (g : WasReserved calls id r). inr (reserved_later call calls id r g))
     (history_reserves calls h.0 last id r h.2 (call_state first h.0 call h.1 i) d)
 
--- A new manager has no device. So a device of the first state is from the value that was read.
-first_devices : (first : DeviceState) (id : ℕ) (r : Range) → IsManagerMade first ⊎ IsManagerRead first → IsDevice first id r → WasRead first id r
+-- A new manager has no device. So a device of the first state was there from the start.
+first_devices : (first : DeviceState) (id : ℕ) (r : Range) → IsManagerMade first ⊎ BeginsWithDevices first → IsDevice first id r → WasThereFirst first id r
 first_devices first id r (inl m) k =
     let made = made_state m.lo m.hi m.base m.size first m.id m.word m.made in
     let none : None ≡ Some r = sym (ap (λ (t : map.FinMap nat_cmp Range). map.get t id) made.1 ∙ map.get-empty nat_cmp id) ∙ k in
     absurd (cc (none))
-first_devices first id r (inr read) k = record { read = read; device = k }
+first_devices first id r (inr begins) k = record { begins = begins; device = k }
 
-reached_reserved : (calls : List DeviceCall) (old : DeviceState) (id : ℕ) (r : Range) (h : AreDevicesReached calls old) → IsDevice old id r → WasReserved calls id r ⊎ WasRead h.first id r
+reached_reserved : (calls : List DeviceCall) (old : DeviceState) (id : ℕ) (r : Range) (h : AreDevicesReached calls old) → IsDevice old id r → WasReserved calls id r ⊎ WasThereFirst h.first id r
 reached_reserved calls old id r h d =
     ⊎_elim
     (λ (k : IsDevice h.first id r). inr (first_devices h.first id r h.begins k))

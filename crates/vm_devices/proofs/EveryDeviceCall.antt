@@ -14,7 +14,7 @@ use Rattle.vm_allocator.proofs.Answers.EveryAddressCall.{every_call}
 use Rattle.vm_allocator.proofs.Ids.EveryIdCall.{every_call as every_id_call}
 use Rattle.vm_devices.specs.declared.device_slot.DeviceSlot.{DeviceSlot}
 use Rattle.vm_devices.specs.Devices.{DeviceState, made_devices, with_device, without_device, MakesManager, Reserves, Releases}
-use Rattle.vm_devices.specs.Histories.{Reservation, Release, DeviceAsked, Reserve, GiveBack, RunsOutOfMemory}
+use Rattle.vm_devices.specs.Histories.{Reservation, Release, Cloning, DeviceAsked, Reserve, GiveBack, Clone, RunsOutOfMemory}
 use Rattle.vm_devices.specs.Laws.{EveryDeviceCallIsAnswered, EveryDeviceListHasHistory}
 
 -- ---- Creating
@@ -69,7 +69,12 @@ total_releases : (old : DeviceState) (id : ℕ) → (answer : Result (Unit {0}) 
 total_releases old id = total_releases_at old id (map.get old.devices id) refl
 
 pub every_device_call : EveryDeviceCallIsAnswered
-every_device_call = record { made = total_makes; reserved = total_reserves; released = total_releases }
+every_device_call = record {
+  made = total_makes;
+  reserved = total_reserves;
+  released = total_releases;
+  cloned = λ old. (Ok old, inl refl, λ h. cc (h));
+}
 
 -- ---- Each list of calls has a history
 pub every_list : EveryDeviceListHasHistory
@@ -91,6 +96,14 @@ every_list old (GiveBack id ∷ asked) =
       (f.1, f.2, rest.2),
       ap (λ (v : List DeviceAsked). GiveBack id ∷ v) rest.3,
       All-cons (λ call. ¬ RunsOutOfMemory call) (Release id f.0) rest.0 f.3 rest.4,
+    )
+every_list old (Clone ∷ asked) =
+    let rest = every_list old asked in (
+      Cloning (Ok old) ∷ rest.0,
+      rest.1,
+      (old, (inl refl, refl), rest.2),
+      ap (λ (v : List DeviceAsked). Clone ∷ v) rest.3,
+      All-cons (λ call. ¬ RunsOutOfMemory call) (Cloning (Ok old)) rest.0 (λ h. cc (h)) rest.4,
     )
 
 pub ruleset answers = (every_device_call, every_list)

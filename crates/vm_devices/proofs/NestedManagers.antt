@@ -2,6 +2,7 @@
 use Rattle.std.proofs.Common.{◌≡◌, ◌⊎◌, ℕ, ◌≤◌, ◌∷◌, [], codes, refl, sym, arith, subst, Result, Ok, Err, MatchResult}
 use Rattle.serde_json.specs.Data.{Data, depth}
 use Rattle.serde_json.specs.Errors.{IsMemory}
+use Rattle.serde_json.specs.Read.{max_depth}
 use Rattle.serde_json.specs.View.{view}
 use Rattle.serde_json.specs.declared.error.Error as json
 use Rattle.serde_json.specs.declared.value.Value.{Value}
@@ -14,7 +15,7 @@ use Rattle.vm_allocator.proofs.Callers.{addresses_nest, ids_nest, parsed_again}
 use Rattle.vm_devices.specs.Devices.{DeviceState}
 use Rattle.vm_devices.specs.Laws.{ManagerIsReadFromText}
 use Rattle.vm_devices.specs.Saved.{EncodesDevice, EncodesManager, ReadsInParts}
-use Rattle.vm_devices.proofs.SavedManagers.{read_again}
+use Rattle.vm_devices.proofs.SavedManagers.{read_again, one_manager}
 
 device_nests : (d : Data) (e : ℕ × Range) → EncodesDevice d e → depth d ≤ 2
 device_nests d e p =
@@ -44,3 +45,9 @@ text_again old value text parsed w t p =
           MatchResult r (λ v. (answer : Result DeviceState ValueError) → ReadsInParts (EncodesManager (view v)) answer → (answer ≡ Ok old) ⊎ (answer ≡ Err OutOfMemory)) IsMemory
       at (Ok v) e = λ answer k. read_again (view v) old answer (subst (λ (d : Data). EncodesManager d old) (sym e) w) k
       at (Err e) m = m
+
+-- The manager that is read through the text of a written value is the manager that was written.
+pub manager_through_text : (d e : Data) (old new : DeviceState) → EncodesManager d old → (depth d ≤ max_depth → e ≡ d) → EncodesManager e new → new ≡ old
+manager_through_text d e old new s t q =
+    let same = t (let n = manager_nests d old s in omega (arith, n)) in
+    one_manager d new old (subst (λ (v : Data). EncodesManager v new) same q) s

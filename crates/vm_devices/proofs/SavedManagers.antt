@@ -95,7 +95,7 @@ encoded_state d state s =
     let p = parts_of d state s in
     record { ids = ids_encoded p.ids state.ids p.ids_encoded; space = addresses_encoded p.space state.space p.space_encoded; pairs = s.pairs }
 
-one_manager : (d : Data) (a b : DeviceState) → EncodesManager d a → EncodesManager d b → a ≡ b
+pub one_manager : (d : Data) (a b : DeviceState) → EncodesManager d a → EncodesManager d b → a ≡ b
 one_manager d a b s t =
     let p = parts_of d a s in
     let f = fields_found d p.ids p.space p.slots p.found in

@@ -1,40 +1,50 @@
 -- Histories of a manager of devices: lists of calls with their results.
 use Rattle.std.specs.Prelude.{◌≡◌, ℕ, ◌%◌, ◌≤◌, ◌⊎◌, List, [], ◌∷◌, Result, Ok, Err, IfSome}
 use Rattle.std.specs.List.{Contains}
+use Rattle.std.specs.Result.{result_unwrap_or}
 use Rattle.serde_json.specs.Data.{Data}
 use Rattle.vm_ranges.specs.Range.{Range, MAX, Covers, span}
 use Rattle.vm_ranges.specs.Request.{Request}
-use Rattle.vm_allocator.specs.Ids.{MAX_ID}
+use Rattle.vm_ranges.specs.Cloning.{Clones}
+use Rattle.vm_engine.specs.Address.{AddressState, IsAddressState}
+use Rattle.vm_allocator.specs.Ids.{MAX_ID, IdState, IsIdState}
 use Rattle.vm_ranges.specs.declared.error.Error.{Error}
 use Rattle.vm_ranges.specs.declared.error.Error.TheVariants.{OutOfMemory}
 use Rattle.vm_devices.specs.declared.device_slot.DeviceSlot.{DeviceSlot}
 use Rattle.vm_devices.specs.Devices.{DeviceState, IsDevice, MakesManager, Reserves, Releases}
+use Rattle.vm_devices.specs.Listed.{MakesListed}
 use Rattle.vm_devices.specs.Saved.{EncodesManager}
 
--- A call with its result: a reservation by a request, or a release by an id.
+-- A call with its result: a reservation by a request, a release by an id, or the creation of a clone.
 pub data DeviceCall : Type 0 where
   Reservation : Request → Result DeviceSlot Error → DeviceCall
   Release : ℕ → Result (Unit {0}) Error → DeviceCall
+  Cloning : Result DeviceState Error → DeviceCall
 
 -- A call without its result.
 pub data DeviceAsked : Type 0 where
   Reserve : Request → DeviceAsked
   GiveBack : ℕ → DeviceAsked
+  Clone : DeviceAsked
 
 -- The call without its result.
 abbrev pub device_asked_by : DeviceCall → DeviceAsked
 device_asked_by (Reservation request answer) = Reserve request
 device_asked_by (Release id answer) = GiveBack id
+device_asked_by (Cloning answer) = Clone
 
 -- The call returned OutOfMemory.
 abbrev pub RunsOutOfMemory : DeviceCall → Type 0
 RunsOutOfMemory (Reservation request answer) = answer ≡ Err OutOfMemory
 RunsOutOfMemory (Release id answer) = answer ≡ Err OutOfMemory
+RunsOutOfMemory (Cloning answer) = answer ≡ Err OutOfMemory
 
--- In the state old the call has its result, and leaves the state new.
+-- In the state old the call has its result, and leaves the state new. After a clone is made, new is the state of the
+-- clone.
 abbrev pub IsDeviceCallFrom : DeviceState → DeviceCall → DeviceState → Type 0
 IsDeviceCallFrom old (Reservation request answer) new = Reserves old request answer new
 IsDeviceCallFrom old (Release id answer) new = Releases old id answer new
+IsDeviceCallFrom old (Cloning answer) new = Clones old answer × (new ≡ result_unwrap_or answer old)
 
 -- The calls lead from the state old to the state new: each begins in the state that the call before it left.
 abbrev pub IsDeviceHistoryFrom : DeviceState → List DeviceCall → DeviceState → Type 0
@@ -52,15 +62,28 @@ pub record IsManagerMade (state : DeviceState) : Type 0 where
   pub word : size ≤ MAX
   pub made : MakesManager lo hi base size (Ok state)
 
+-- The state of a manager that was created of both allocators and their devices.
+pub record IsManagerListed (state : DeviceState) : Type 0 where
+  pub ids : IdState
+  pub space : AddressState
+  pub devices : List DeviceSlot
+  pub valid_ids : IsIdState ids
+  pub valid_space : IsAddressState space
+  pub made : MakesListed ids space devices (Ok state)
+
 -- A state that a saved value encodes.
 pub record IsManagerRead (state : DeviceState) : Type 0 where
   pub value : Data
   pub encoded : EncodesManager value state
 
--- The calls lead to the state from a manager that is new or was read.
+-- There can be devices from the start: the manager was created of its devices, or was read.
+abbrev pub BeginsWithDevices : DeviceState → Type 0
+BeginsWithDevices first = IsManagerListed first ⊎ IsManagerRead first
+
+-- The calls lead to the state from a manager that was made or read. The state can be that of a clone.
 pub record AreDevicesReached (calls : List DeviceCall) (state : DeviceState) : Type 0 where
   pub first : DeviceState
-  pub begins : IsManagerMade first ⊎ IsManagerRead first
+  pub begins : IsManagerMade first ⊎ BeginsWithDevices first
   pub history : IsDeviceHistoryFrom first calls state
 
 -- A call reserved the range for the id: with the requested length, at a multiple of the requested alignment, and in the
@@ -72,7 +95,7 @@ pub record WasReserved (calls : List DeviceCall) (id : ℕ) (r : Range) : Type 0
   pub long : r ≡ span r.start request.size
   pub inside : IfSome request.window (λ window. Covers window r)
 
--- The device is in the first state, which was read from a value.
-pub record WasRead (first : DeviceState) (id : ℕ) (r : Range) : Type 0 where
-  pub read : IsManagerRead first
+-- The device is in the first state, from the start.
+pub record WasThereFirst (first : DeviceState) (id : ℕ) (r : Range) : Type 0 where
+  pub begins : BeginsWithDevices first
   pub device : IsDevice first id r

@@ -1,4 +1,4 @@
--- Laws of every history of a manager of devices that is new or was read.
+-- Laws of every history of a manager of devices that was made or read.
 use Rattle.std.specs.Prelude.{◌≡◌, ◌≢◌, ℕ, ◌<◌, ◌≤◌, ◌⊎◌, ◌↔◌, List, map, length, Option, Some, Result, Ok, Err, MatchResult}
 use Rattle.std.specs.List.{All, Contains}
 use Rattle.serde_json.specs.Data.{Data}
@@ -8,6 +8,7 @@ use Rattle.serde_json.specs.declared.error.Error as json
 use Rattle.serde_json.specs.declared.value.Value.{Value}
 use Rattle.vm_ranges.specs.Range.{Range, MAX, IsIn, Overlaps, Covers, address_count}
 use Rattle.vm_ranges.specs.Request.{Request, request_for}
+use Rattle.vm_ranges.specs.Cloning.{Clones}
 use Rattle.vm_ranges.specs.Texts.{IsTextOf, Parses}
 use Rattle.vm_engine.specs.Answer.{SPLIT_LIMIT_MIN_HELD}
 use Rattle.vm_allocator.specs.Ids.{IsOfRange, held_count, held_ids}
@@ -20,11 +21,10 @@ use Rattle.vm_devices.specs.declared.device_slot.DeviceSlot.{DeviceSlot}
 use Rattle.vm_devices.specs.Devices.{DeviceState, IsDevice, IsDeviceState, MakesManager, Reserves, Releases}
 use Rattle.vm_devices.specs.Queries.{device_list, device_count, DeviceAt}
 use Rattle.vm_devices.specs.Saved.{EncodesManager, ReadsInParts}
-use Rattle.vm_devices.specs.Histories.{DeviceCall, DeviceAsked, device_asked_by, RunsOutOfMemory, IsDeviceHistoryFrom, AreDevicesReached, WasReserved, WasRead}
+use Rattle.vm_devices.specs.Histories.{DeviceCall, DeviceAsked, device_asked_by, RunsOutOfMemory, IsDeviceHistoryFrom, AreDevicesReached, WasReserved, WasThereFirst}
 
 -- In every history the devices pair the held ids with the held ranges, and no two devices share an address. Each device
--- has an id of the range and a range in the space, below MAX. It was reserved as requested, or is from the value that
--- was read.
+-- has an id of the range and a range in the space, below MAX. It was reserved as requested, or was there from the start.
 pub record DevicesAreValid : Type 0 where
   pub state : (calls : List DeviceCall) (old : DeviceState) → AreDevicesReached calls old → IsDeviceState old
   pub apart : (calls : List DeviceCall) (old : DeviceState) (i j : ℕ) (r s : Range) → AreDevicesReached calls old →
@@ -32,7 +32,7 @@ pub record DevicesAreValid : Type 0 where
   pub inside : (calls : List DeviceCall) (old : DeviceState) (id : ℕ) (r : Range) → AreDevicesReached calls old →
       IsDevice old id r → IsOfRange old.ids id × Covers old.space.space r × (r.end < MAX)
   pub reserved : (calls : List DeviceCall) (old : DeviceState) (id : ℕ) (r : Range) (reached : AreDevicesReached calls old) →
-      IsDevice old id r → WasReserved calls id r ⊎ WasRead reached.first id r
+      IsDevice old id r → WasReserved calls id r ⊎ WasThereFirst reached.first id r
 
 -- The result is OutOfMemory, or it is Overflow and at least SPLIT_LIMIT_MIN_HELD ranges are held: the tree may be too
 -- high.
@@ -79,6 +79,8 @@ pub record EveryDeviceCallIsAnswered : Type 0 where
   pub released : (old : DeviceState) (id : ℕ) →
       (answer : Result (Unit {0}) Error) × (new : DeviceState) ×
       Releases old id answer new × (answer ≢ Err OutOfMemory)
+  pub cloned : (old : DeviceState) →
+      (answer : Result DeviceState Error) × Clones old answer × (answer ≢ Err OutOfMemory)
 
 -- Every list of calls has a history in which no call returns OutOfMemory.
 abbrev pub EveryDeviceListHasHistory : Type 0

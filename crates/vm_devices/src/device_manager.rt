@@ -150,7 +150,6 @@ impl DeviceManager {
     /// - `ResourceNotAvailable` if all ids are allocated and their range ends below `u32::MAX`.
     /// - The errors of `AddressAllocator::allocate_constraint`, in the order of its documentation.
     /// - `OutOfMemory` if an allocation for the table of devices fails.
-    #[tactic(auto, using(crate::proofs::Callers::reserved, vm_ranges::proofs::Requests::valid_request_made))]
     pub fn reserve_constraint(&mut self, alloc: Global, request: Constraint) -> Result<DeviceSlot>
         // The id is the lowest that is not held. The range is as long as asked, aligned and in the window,
         // at the place that the policy chooses there.

@@ -255,7 +255,12 @@ fn devices_listed_and_compared(rt: HostRuntime) {
     let mut list = list_for(&rt, 0);
     for (number, device) in devices.devices().enumerate() {
         let want = (number as u64, 16 * number as u64);
-        expect_eq(&rt, &(device.id.into(), device.range.start()), &want, &number);
+        expect_eq(
+            &rt,
+            &(device.id.into(), device.range.start()),
+            &want,
+            &number,
+        );
         assert!(rt; list.push(device).is_ok());
     }
     let ids = devices.ids().try_clone(rt.alloc()).expect(&rt, ENOUGH);

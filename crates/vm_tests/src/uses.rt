@@ -1,5 +1,8 @@
 //! Short examples of calls.
-ghost use Rattle.std.specs.Prelude.{◌≡◌, ◌%◌, ◌⊎◌, IfOk, IfErr};
+ghost use Rattle.std.specs.Prelude.{◌≡◌, ◌%◌, ◌≤◌, ◌⊎◌, IfOk, IfErr};
+ghost use Rattle.serde_json.specs.Data.{depth};
+ghost use Rattle.serde_json.specs.Read.{max_depth};
+ghost use Rattle.serde_json.specs.View.{view};
 ghost use Rattle.std.specs.List.{Contains};
 ghost use Rattle.vm_allocator.specs.Range.{address_count};
 ghost use Rattle.vm_allocator.specs.Allocator.{state_of};
@@ -8,9 +11,14 @@ ghost use Rattle.vm_allocator.specs.Ids.{IsHeld};
 use crate::fixtures::{expect_true, made, range};
 use crate::plugging::replugged;
 use crate::windows::{restored, windows};
-use std::alloc::Global;
+use serde_json::Value;
+use std::alloc::{AllocError, Global};
 use std::process::Abort;
-use vm_allocator::{AddressAllocator, AllocPolicy, Error, IdAllocator, RangeInclusive, Result};
+use vm_allocator::{
+    AddressAllocator, AllocPolicy, Error, Gaps, HeldRanges, IdAllocator, RangeInclusive, Result,
+    ValueError,
+};
+use vm_devices::DeviceManager;
 
 /// Allocates a bar, which must start at a multiple of its size.
 #[tactic(auto, using(vm_allocator::proofs::Callers::callers))]
@@ -47,6 +55,75 @@ fn take_interrupt(numbers: &mut IdAllocator) -> Result<u32>
     numbers.allocate_id()
 }
 
+/// Parses the text of a value.
+fn parsed_again(alloc: Global, value: &Value) -> std::result::Result<Value, ValueError>
+    ensures { IfOk result (λ again. depth (view value.now) ≤ max_depth → view again ≡ view value.now) }
+{
+    let Ok(text) = value.to_string(alloc) else {
+        return Err(ValueError::OutOfMemory);
+    };
+    let Ok(again) = Value::from_str(alloc, text.as_str()) else {
+        return Err(ValueError::OutOfMemory);
+    };
+    Ok(again)
+}
+
+/// Returns the allocator that is read from the text of another: the same one, node for node.
+#[tactic(auto, using(vm_allocator::proofs::Callers::through_text))]
+fn space_through_text(
+    alloc: Global,
+    mmio: &AddressAllocator,
+) -> std::result::Result<AddressAllocator, ValueError>
+    ensures { IfOk result (λ again. again ≡ mmio.now) }
+{
+    let Ok(saved) = mmio.to_value(alloc) else {
+        return Err(ValueError::OutOfMemory);
+    };
+    AddressAllocator::from_value(alloc, &parsed_again(alloc, &saved)?)
+}
+
+/// Returns the id allocator that is read from the text of another: the same one.
+#[tactic(auto, using(vm_allocator::proofs::Callers::through_text))]
+fn ids_through_text(
+    alloc: Global,
+    ids: &IdAllocator,
+) -> std::result::Result<IdAllocator, ValueError>
+    ensures { IfOk result (λ again. again ≡ ids.now) }
+{
+    let Ok(saved) = ids.to_value(alloc) else {
+        return Err(ValueError::OutOfMemory);
+    };
+    IdAllocator::from_value(alloc, &parsed_again(alloc, &saved)?)
+}
+
+/// Returns the manager that is read from the text of another: the same one.
+#[tactic(auto, using(vm_devices::proofs::Callers::manager_through_text))]
+fn devices_through_text(
+    alloc: Global,
+    devices: &DeviceManager,
+) -> std::result::Result<DeviceManager, ValueError>
+    ensures { IfOk result (λ again. again ≡ devices.now) }
+{
+    let Ok(saved) = devices.to_value(alloc) else {
+        return Err(ValueError::OutOfMemory);
+    };
+    DeviceManager::from_value(alloc, &parsed_again(alloc, &saved)?)
+}
+
+/// Returns a copy of an iterator, which has the same ranges yet to return.
+fn held_again<'a>(ranges: &HeldRanges<'a>) -> std::result::Result<HeldRanges<'a>, AllocError>
+    ensures { IfOk result (λ again. again ≡ ranges.now) }
+{
+    ranges.clone()
+}
+
+/// Returns a copy of an iterator, which has the same gaps yet to return.
+fn gaps_again<'a>(gaps: &Gaps<'a>) -> std::result::Result<Gaps<'a>, AllocError>
+    ensures { IfOk result (λ again. again ≡ gaps.now) }
+{
+    gaps.clone()
+}
+
 /// Allocates two windows.
 fn use_windows(rt: &(impl Abort + AllocGlobal)) {
     let both = match windows(rt.alloc()) {
@@ -65,6 +142,37 @@ fn use_restored(rt: &(impl Abort + AllocGlobal), gap: &AddressAllocator) {
         Err(_) => restored(rt.alloc(), gap).expect(rt, "memory is refused once"),
     };
     expect_true(rt, empty == *gap, &"the same gap");
+}
+
+/// Passes an allocator through its text, and copies its iterators.
+fn use_texts(rt: &(impl Abort + AllocGlobal), gap: &AddressAllocator) {
+    if let Ok(again) = space_through_text(rt.alloc(), gap) {
+        expect_true(rt, again == *gap, &"the same gap");
+    }
+    if let Ok(mut again) = held_again(&gap.held_ranges()) {
+        expect_true(rt, again.next().is_none(), &"no range");
+    }
+    if let Ok(mut again) = gaps_again(&gap.gaps()) {
+        expect_true(
+            rt,
+            again.next().is_some() && again.next().is_none(),
+            &"one gap",
+        );
+    }
+}
+
+/// Passes ids and devices through their texts.
+fn use_more_texts(rt: &(impl Abort + AllocGlobal)) {
+    if let Ok(ids) = IdAllocator::new(rt.alloc(), 5, 23) {
+        if let Ok(again) = ids_through_text(rt.alloc(), &ids) {
+            expect_true(rt, again == ids, &"the same ids");
+        }
+    }
+    if let Ok(devices) = DeviceManager::new(rt.alloc(), 5, 23, 0xE000_0000, 0x1000) {
+        if let Ok(again) = devices_through_text(rt.alloc(), &devices) {
+            expect_true(rt, again == devices, &"the same devices");
+        }
+    }
 }
 
 /// Allocates a bar in a gap.
@@ -100,6 +208,8 @@ fn uses(rt: HostRuntime) {
     use_windows(&rt);
     let mut gap = made(&rt, 0xE000_1000, 0xFF_F000);
     use_restored(&rt, &gap);
+    use_texts(&rt, &gap);
+    use_more_texts(&rt);
     use_bar(&rt, &mut gap);
     use_memory(&rt);
     use_numbers(&rt);

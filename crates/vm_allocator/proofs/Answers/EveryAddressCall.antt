@@ -1,5 +1,5 @@
 -- Every call has a result, so every list of calls has a history.
-use Rattle.std.proofs.Common.{◌≡◌, ◌≢◌, ℕ, ◌+◌, ◌-◌, ◌<◌, ◌⊎◌, List, [], ◌∷◌, refl, ap, arith, inl, inr, ⊎_elim, Option, Result, Ok, Err}
+use Rattle.std.proofs.Common.{◌≡◌, ◌≢◌, ℕ, ◌+◌, ◌-◌, ◌<◌, ◌≤◌, ◌⊎◌, true, false, cond, eqb, ltb, List, [], ◌∷◌, length, refl, ap, arith, subst, inl, inr, ⊎_elim, Option, Some, None, MatchOption, Result, Ok, Err}
 use Rattle.std.proofs.lemmas.Bool.{cases_eq}
 use Rattle.std.specs.List.{Contains}
 use Rattle.vm_ranges.specs.Cases.{IfElse, Unless}
@@ -8,9 +8,13 @@ use Rattle.vm_engine.specs.Address.{AddressState, AreClear, IsPlace, IsLowestPla
 use Rattle.vm_ranges.specs.Request.{Request, IsStartAligned, ByConstraint}
 use Rattle.vm_engine.specs.Windows.{within}
 use Rattle.vm_engine.proofs.Answers.Requests.{request_in}
+use Rattle.vm_engine.proofs.Answers.AddressAnswers.{outcome}
 use Rattle.vm_engine.specs.Answer.{IsChosen, ByStart, ByExactPolicy, ByPlace, AllocatesAt, Grants, Allocates, Frees, Makes}
 use Rattle.vm_ranges.specs.Cloning.{Clones}
-use Rattle.vm_allocator.specs.Histories.AddressHistories.{Allocation, Release, Cloning, Asked, Allocate, Free, Clone, RunsOutOfMemory}
+use Rattle.vm_engine.specs.Held.{range_fault, or_else, first_fault, TOO_MANY_BLOCKS, BySpace, MakesHeld, MakesWithHeld}
+use Rattle.vm_engine.specs.Tree.Blocks.{blocks_of}
+use Rattle.vm_allocator.specs.Several.{FailsBy, AllocatesAll}
+use Rattle.vm_allocator.specs.Histories.AddressHistories.{Allocation, Several, Release, Cloning, Asked, Allocate, AllocateAll, Free, Clone, RunsOutOfMemory}
 use Rattle.vm_allocator.specs.Laws.HistoryLaws.{EveryCallIsAnswered, EveryListHasHistory}
 use Rattle.vm_ranges.specs.declared.error.Error.{Error}
 use Rattle.vm_ranges.specs.declared.error.Error.TheVariants.{OutOfMemory, Overflow, ResourceNotAvailable, Underflow, InvalidStateTransition, InvalidSize, InvalidAlignment, UnalignedAddress}
@@ -18,7 +22,7 @@ use Rattle.vm_ranges.specs.declared.state.NodeState.TheVariants.{Allocated}
 use Rattle.vm_ranges.specs.declared.constraint.AllocPolicy.{AllocPolicy}
 use Rattle.vm_ranges.specs.declared.constraint.AllocPolicy.TheVariants.{FirstMatch, LastMatch, ExactMatch}
 use Rattle.std.proofs.lemmas.List.Elements.{All-nil, All-cons}
-use Rattle.vm_ranges.proofs.Decisions.{Decided, decided_below, decided_alignment, decided_start, lowest_or_none, highest_or_none}
+use Rattle.vm_ranges.proofs.Decisions.{Decided, decided_below, decided_up_to, decided_alignment, decided_start, lowest_or_none, highest_or_none}
 use Rattle.vm_allocator.proofs.Decisions.{decided_all_clear, decided_place, decided_inside, decided_held}
 
 -- ---- A result of a relation, by deciding its conditions
@@ -134,8 +138,90 @@ total_makes base size =
 total_clones : (old : AddressState) → (answer : Result AddressState Error) × Clones old answer × (answer ≢ Err OutOfMemory)
 total_clones old = (Ok old, inl refl, λ h. absurd (cc h))
 
+-- ---- Several requests, and an allocator with held ranges
+error_keeps : (old new : AddressState) (request : Request) (e : Error) → Allocates old request (Err e) new → new ≡ old
+error_keeps old new request e h = ⊎_elim (λ l. l.2) (λ g. absurd (cc (g.given))) (outcome request old new (Err e) h)
+
+-- The relation is true for some result of several requests other than OutOfMemory.
+abbrev HasAll : AddressState → List Request → Type 0
+HasAll old requests = (answer : Result (List Range) Error) × (new : AddressState) × AllocatesAll old requests answer new × (answer ≢ Err OutOfMemory)
+
+-- The first request gets its range, and the others have a result.
+all_after : (old mid new : AddressState) (q : Request) (qs : List Request) (r : Range) (answer : Result (List Range) Error) → Allocates old q (Ok r) mid → AllocatesAll mid qs answer new → answer ≢ Err OutOfMemory → HasAll old (q ∷ qs)
+all_after old mid new q qs r (Ok rs) h k more = (Ok (r ∷ rs), new, (mid, h, k), λ x. absurd (cc x))
+all_after old mid new q qs r (Err e) h k more =
+    let refused : FailsBy Allocates mid qs e = ⊎_elim (λ (m : e ≡ OutOfMemory). absurd (more (ap (λ (v : Error). Err v) m))) (λ f. f) k.1 in
+    (Err e, old, (refl, inr (inr (r, mid, h, refused))), λ x. more (ap (λ (v : Error). Err v) (cc x)))
+
+-- The first request has a result, and the others have one in every state.
+all_from : (old mid : AddressState) (q : Request) (qs : List Request) (answer : Result Range Error) → Allocates old q answer mid → answer ≢ Err OutOfMemory → HasAll mid qs → HasAll old (q ∷ qs)
+all_from old mid q qs (Err e) h other rest =
+    (Err e, old, (refl, inr (inl (subst (λ (v : AddressState). Allocates old q (Err e) v) (error_keeps old mid q e h) h))), λ k. other (ap (λ (v : Error). Err v) (cc k)))
+all_from old mid q qs (Ok r) h other rest = all_after old mid rest.1 q qs r rest.0 h rest.2 rest.3
+
+total_several : (old : AddressState) (requests : List Request) → HasAll old requests
+total_several old [] = (Ok [], old, refl, λ h. absurd (cc h))
+total_several old (q ∷ qs) = let a = total_allocates old q in all_from old a.1 q qs a.0 a.2 a.3 (total_several a.1 qs)
+
+range_fault_known : (lo hi : ℕ) (r : Range) → range_fault lo hi r ≢ Some OutOfMemory
+range_fault_known lo hi r =
+    elim (ltb r.start lo) as (λ v. cond v (Some ResourceNotAvailable) (cond (eqb r.start MAX) (Some Overflow) (cond (ltb hi r.end) (Some ResourceNotAvailable) (cond (eqb r.end MAX) (Some Overflow) None))) ≢ Some OutOfMemory) [
+      | true ↦ λ k. cc k
+      | false ↦ elim (eqb r.start MAX) as (λ v. cond v (Some Overflow) (cond (ltb hi r.end) (Some ResourceNotAvailable) (cond (eqb r.end MAX) (Some Overflow) None)) ≢ Some OutOfMemory) [
+        | true ↦ λ k. cc k
+        | false ↦ elim (ltb hi r.end) as (λ v. cond v (Some ResourceNotAvailable) (cond (eqb r.end MAX) (Some Overflow) None) ≢ Some OutOfMemory) [
+          | true ↦ λ k. cc k
+          | false ↦ elim (eqb r.end MAX) as (λ v. cond v (Some Overflow) None ≢ Some OutOfMemory) [
+            | true ↦ λ k. cc k
+            | false ↦ λ k. cc k
+          ]
+        ]
+      ]
+    ]
+
+first_fault_known : (lo hi : ℕ) (rs : List Range) → first_fault lo hi rs ≢ Some OutOfMemory
+first_fault_known lo hi [] = λ k. cc k
+first_fault_known lo hi (r ∷ rs) =
+    elim (range_fault lo hi r) as (λ v. v ≢ Some OutOfMemory → or_else v (first_fault (r.end + 1) hi rs) ≢ Some OutOfMemory) [
+      | None ↦ λ n. first_fault_known (r.end + 1) hi rs
+      | Some e ↦ λ n. n
+    ] (range_fault_known lo hi r)
+
+total_held : (space : Range) (held : List Range) → (answer : Result AddressState Error) × MakesHeld space held answer × (answer ≢ Err OutOfMemory)
+unfolding MakesHeld
+total_held space held =
+    elim (first_fault space.start space.end held) as (λ v. v ≢ Some OutOfMemory → (answer : Result AddressState Error) × MatchOption v
+    (IfElse (TOO_MANY_BLOCKS ≤ length (blocks_of (record { space = space; held = held }))) (answer ≡ Err Overflow) ((answer ≡ Ok (record { space = space; held = held })) ⊎ (answer ≡ Err OutOfMemory)))
+    (λ fault. answer ≡ Err fault) × (answer ≢ Err OutOfMemory)) [
+      | None ↦ λ n.
+          ⊎_elim
+          (λ (many : TOO_MANY_BLOCKS ≤ length (blocks_of (record { space = space; held = held }))). (Err Overflow, inl (many, refl), λ k. absurd (cc k)))
+          (λ (few : TOO_MANY_BLOCKS ≤ length (blocks_of (record { space = space; held = held })) → ⊥). (Ok (record { space = space; held = held }), inr (few, inl refl), λ k. absurd (cc k)))
+          (decided_up_to TOO_MANY_BLOCKS (length (blocks_of (record { space = space; held = held }))))
+      | Some e ↦ λ n. (Err e, refl, λ k. n (ap (λ (v : Error). Some v) (cc k)))
+    ] (first_fault_known space.start space.end held)
+
+total_makes_held : (base size : ℕ) (held : List Range) → (answer : Result AddressState Error) × MakesWithHeld base size held answer × (answer ≢ Err OutOfMemory)
+unfolding BySpace
+total_makes_held base size held =
+    ⊎_elim
+    (λ (none : size ≡ 0). (Err Underflow, inl (none, refl), λ h. absurd (cc h)))
+    (λ (some : size ≡ 0 → ⊥).
+    ⊎_elim
+    (λ (over : MAX < base + size - 1). (Err Overflow, inr (some, inl (over, refl)), λ h. absurd (cc h)))
+    (λ (fits : MAX < base + size - 1 → ⊥). let h = total_held (span base size) held in (h.0, inr (some, inr (fits, h.1)), h.2))
+    (decided_below MAX (base + size - 1)))
+    (cases_eq size 0)
+
 pub every_call : EveryCallIsAnswered
-every_call = record { made = total_makes; allocated = total_allocates; freed = total_frees; cloned = total_clones }
+every_call = record {
+  made = total_makes;
+  made_with_held = total_makes_held;
+  several = total_several;
+  allocated = total_allocates;
+  freed = total_frees;
+  cloned = total_clones;
+}
 
 -- ---- Each list of calls has a history
 pub every_list : EveryListHasHistory
@@ -149,6 +235,15 @@ every_list old (Allocate request ∷ asked) =
       (a.1, a.2, rest.2),
       ap (λ (v : List Asked). Allocate request ∷ v) rest.3,
       All-cons (λ call. ¬ RunsOutOfMemory call) (Allocation request a.0) rest.0 a.3 rest.4,
+    )
+every_list old (AllocateAll requests ∷ asked) =
+    let a = total_several old requests in
+    let rest = every_list a.1 asked in (
+      Several requests a.0 ∷ rest.0,
+      rest.1,
+      (a.1, a.2, rest.2),
+      ap (λ (v : List Asked). AllocateAll requests ∷ v) rest.3,
+      All-cons (λ call. ¬ RunsOutOfMemory call) (Several requests a.0) rest.0 a.3 rest.4,
     )
 every_list old (Free r ∷ asked) =
     let f = total_frees old r in

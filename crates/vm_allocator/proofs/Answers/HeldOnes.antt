@@ -1,7 +1,9 @@
 -- Ranges that are allocated by their starts one after the other.
 use Rattle.std.proofs.Common.{◌≡◌, ℕ, ◌+◌, ◌-◌, ◌<◌, ◌≤◌, ◌⊎◌, List, [], ◌∷◌, ◌++◌, length, true, false, cond, eqb, ltb, Option, Some, None, MatchOption, Result, Ok, Err, refl, sym, ap, ◌∙◌, subst, arith, inl, inr, ⊎_elim}
 use Rattle.std.proofs.lemmas.Bool.{le-ltb, ltb-false, eqb-false, cases_lt}
+use Rattle.std.specs.List.{All}
 use Rattle.std.proofs.lemmas.List.{append_assoc, append-nil}
+use Rattle.std.proofs.lemmas.List.Elements.{All-head, All-tail}
 use Rattle.vm_ranges.specs.Cases.{IfElse}
 use Rattle.vm_ranges.specs.Range.{Range, MAX, IsRange, address_count, span}
 use Rattle.vm_ranges.specs.Request.{request_for}
@@ -119,6 +121,26 @@ held_no_fault : (space : Range) (held : List Range) (made : AddressState) → Ma
 unfolding MakesHeld
 held_no_fault space held made h =
     no_fault (first_fault space.start space.end held) (TOO_MANY_BLOCKS ≤ length (blocks_of (with_held space held))) (Ok made) (with_held space held) made h refl
+
+-- The state of an allocator that is made with held ranges is valid.
+all_are_some : (rs : List Range) → All (λ r. IsRange r.start r.end) rs → AreSome rs
+all_are_some [] a = tt
+all_are_some (r ∷ rs) a = ((All-head (λ r. IsRange r.start r.end) r rs a).0, all_are_some rs (All-tail (λ r. IsRange r.start r.end) r rs a))
+
+pub held_state : (base size : ℕ) (held : List Range) (made : AddressState) → size ≤ MAX → All (λ r. IsRange r.start r.end) held → MakesWithHeld base size held (Ok made) → IsAddressState made
+unfolding BySpace
+held_state base size held made word all h =
+    ⊎_elim
+    (λ a. absurd (cc (a.1)))
+    (λ a. ⊎_elim
+    (λ b. absurd (cc (b.1)))
+    (λ b.
+    let space = span base size in
+    let range : IsRange base (base + size - 1) = (omega (arith, a.0), omega (arith, b.0), λ z. omega (arith, a.0)) in
+    let order = in_order_if_no_fault base (base + size - 1) held range.1 (held_no_fault space held made b.1) (all_are_some held all) in
+    subst IsAddressState (sym (held_made space held made b.1)) (record { space = range; in_order = order }))
+    a.1)
+    h
 
 pub held_is_equal : HeldIsEqual
 held_is_equal base size held first new made word m e h =

@@ -26,10 +26,10 @@ clone_is_reached old clone c =
     )
 
 pub read_is_reached : ReadIsReached EncodesAddresses
-read_is_reached value state s = record { first = state; begins = inr (record { value = value; encoded = inl s }); history = refl }
+read_is_reached value state s = record { first = state; begins = inr (inr (record { value = value; encoded = inl s })); history = refl }
 
 pub repaired_is_reached : ReadIsReached EncodesRepaired
-repaired_is_reached value state s = record { first = state; begins = inr (record { value = value; encoded = inr s }); history = refl }
+repaired_is_reached value state s = record { first = state; begins = inr (inr (record { value = value; encoded = inr s })); history = refl }
 
 pub one_end_is_equal : EqualStatesAreEqual
 one_end_is_equal first second h = equal_states first.state second.state (alike_state first second h)

@@ -1,11 +1,12 @@
 -- Facts of every history of an address allocator.
-use Rattle.std.proofs.Common.{◌≡◌, ◌⊎◌, ◌↔◌, List, [], ◌∷◌, suc, refl, sym, ap, ◌∙◌, arith, inl, inr, ⊎_elim, subst, Result, Ok}
+use Rattle.std.proofs.Common.{◌≡◌, ◌⊎◌, ◌↔◌, List, [], ◌∷◌, suc, refl, sym, ap, ◌∙◌, arith, inl, inr, ⊎_elim, subst, zip, Result, Ok, Err}
 use Rattle.std.specs.List.{Contains}
 use Rattle.vm_ranges.specs.Range.{Range, span}
 use Rattle.vm_engine.specs.Address.{AddressState, IsPlace, IsAddressState}
 use Rattle.vm_ranges.specs.Request.{Request}
 use Rattle.vm_engine.specs.Answer.{Allocates, Frees}
-use Rattle.vm_allocator.specs.Histories.AddressHistories.{Call, Allocation, Release, Cloning, IsCallFrom, IsHistoryFrom, Begins, Reached, WasAllocated, WasRead}
+use Rattle.vm_allocator.specs.Several.{AllocatesEach}
+use Rattle.vm_allocator.specs.Histories.AddressHistories.{Call, Allocation, Several, Release, Cloning, IsCallFrom, IsHistoryFrom, Begins, Reached, Gives, WasAllocated, WasHeldFirst}
 use Rattle.vm_allocator.specs.Laws.HistoryLaws.{HeldAreValid, HaveSameState, StateDecides, FreeUndoes}
 use Rattle.vm_ranges.specs.declared.error.Error.{Error}
 use Rattle.vm_engine.proofs.Blocks.PlainWords.{IsHeld, contains_held, held_contains}
@@ -14,14 +15,23 @@ use Rattle.vm_allocator.proofs.Reading.ReadAllocators.{encoded_state}
 use Rattle.vm_allocator.proofs.Reading.ReadRepaired.{repaired_state}
 use Rattle.vm_ranges.proofs.CloneAnswers.{cloning_keeps}
 use Rattle.vm_engine.proofs.Answers.Once.{allocates_once, frees_once}
-use Rattle.vm_allocator.proofs.Callers.{request_inside}
+use Rattle.vm_allocator.proofs.Callers.{given, request_inside}
+use Rattle.vm_allocator.proofs.Answers.HeldOnes.{held_state}
 use Rattle.vm_engine.proofs.Blocks.HeldSets.{same_ranges_held}
 use Rattle.vm_engine.proofs.Blocks.HeldChanges.{held_with, held_without}
 use Rattle.vm_engine.proofs.Answers.AddressAnswers.{IsAllocation, outcome, allocated_state, freed_state, made_is, made_state, lie_apart, freeing_undoes}
 
 -- ---- Every reached state is valid
+each_valid : (qs : List Request) (rs : List Range) (old new : AddressState) → IsAddressState old → AllocatesEach old qs rs new → IsAddressState new
+each_valid [] [] old new i e = subst IsAddressState (sym e) i
+each_valid [] (r ∷ rs) old new i e = absurd e
+each_valid (q ∷ qs) [] old new i e = absurd e
+each_valid (q ∷ qs) (r ∷ rs) old new i e = each_valid qs rs e.0 new (allocated_state old e.0 q (Ok r) i e.1) e.2
+
 call_state : (old new : AddressState) (call : Call) → IsCallFrom old call new → IsAddressState old → IsAddressState new
 call_state old new (Allocation request answer) h i = allocated_state old new request answer i h
+call_state old new (Several requests (Ok rs)) h i = each_valid requests rs old new i h
+call_state old new (Several requests (Err e)) h i = subst IsAddressState (sym h.0) i
 call_state old new (Release r answer) h i = freed_state old new r answer i h
 call_state old new (Cloning answer) h i = subst IsAddressState (sym (cloning_keeps old new answer h.0 h.1)) i
 
@@ -31,7 +41,8 @@ history_state (call ∷ calls) first last h i = history_state calls h.0 last h.2
 
 first_state : (first : AddressState) → Begins first → IsAddressState first
 first_state first (inl m) = made_state m.base m.size first m.word m.made
-first_state first (inr r) = ⊎_elim (λ s. subst IsAddressState s.is (encoded_state r.value s.allocator s.encoded)) (repaired_state r.value first) r.encoded
+first_state first (inr (inl m)) = held_state m.base m.size m.held first m.word m.ranges m.made
+first_state first (inr (inr r)) = ⊎_elim (λ s. subst IsAddressState s.is (encoded_state r.value s.allocator s.encoded)) (repaired_state r.value first) r.encoded
 
 pub reached_state : (old : Reached) → IsAddressState old.state
 reached_state old =
@@ -41,34 +52,79 @@ reached_state old =
 -- A range that some calls allocated is allocated by a longer list of calls too.
 given_later : (call : Call) (calls : List Call) (r : Range) → WasAllocated calls r → WasAllocated (call ∷ calls) r
 given_later call calls r g =
-    let c = g.call in
-    record { request = g.request; call = (suc c.0, omega (arith, c.1), c.2); aligned = g.aligned; long = g.long; inside = g.inside }
+    let m = g.made in
+    record { request = g.request; call = g.call; made = (suc m.0, omega (arith, m.1), m.2); given = g.given; aligned = g.aligned; long = g.long; inside = g.inside }
 
-given_here : (old new : AddressState) (request : Request) (answer : Result Range Error) (calls : List Call) → Allocates old request answer new → (g : IsAllocation old request answer new) → WasAllocated (Allocation request answer ∷ calls) (span g.from request.size)
+-- A call that gives the range for a request allocated it.
+given_here : (old new : AddressState) (request : Request) (r : Range) (call : Call) (calls : List Call) → Gives call request r → Allocates old request (Ok r) new → WasAllocated (call ∷ calls) r
 unfolding IsPlace
-given_here old new request answer calls s g =
+given_here old new request r call calls gives s =
+    let g = given old new request r s in
     record {
       request = request;
-      call = (0, omega arith, ap (Allocation request) g.given);
+      call = call;
+      made = (0, omega arith, refl);
+      given = gives;
       aligned = g.place.0;
-      long = refl;
-      inside = request_inside old new request (Ok (span g.from request.size)) (subst (λ (v : Result Range Error). Allocates old request v new) g.given s);
+      long = g.long;
+      inside = request_inside old new request (Ok r) s;
     }
+
+-- The range is that of one of several requests.
+record IsOneOf (qs : List Request) (rs : List Range) (r : Range) : Type 0 where
+  old : AddressState
+  new : AddressState
+  request : Request
+  pair : Contains (zip qs rs) (request, r)
+  allocated : Allocates old request (Ok r) new
+
+later_one : (q : Request) (qs : List Request) (x : Range) (rs : List Range) (r : Range) → IsOneOf qs rs r → IsOneOf (q ∷ qs) (x ∷ rs) r
+later_one q qs x rs r one =
+    let p = one.pair in
+    record { old = one.old; new = one.new; request = one.request; pair = (suc p.0, omega (arith, p.1), p.2); allocated = one.allocated }
+
+-- A range that is held after several requests was held before them, or is that of one of them.
+each_gives : (qs : List Request) (rs : List Range) (old new : AddressState) (r : Range) → AllocatesEach old qs rs new → IsHeld new.held r → IsHeld old.held r ⊎ IsOneOf qs rs r
+each_gives [] [] old new r e h = inl (subst (λ (v : AddressState). IsHeld v.held r) e h)
+each_gives [] (x ∷ rs) old new r e h = absurd e
+each_gives (q ∷ qs) [] old new r e h = absurd e
+each_gives (q ∷ qs) (x ∷ rs) old new r e h =
+    ⊎_elim
+    (λ (k : IsHeld e.0.held r).
+    ⊎_elim
+    (λ (same : x ≡ r). inr (record {
+      old = old;
+      new = e.0;
+      request = q;
+      pair = (0, omega arith, ap (λ (v : Range). (q, v)) same);
+      allocated = subst (λ (v : Range). Allocates old q (Ok v) e.0) same e.1;
+    }))
+    (λ (before : IsHeld old.held r). inl before)
+    (held_with x r old.held (subst (λ (v : AddressState). IsHeld v.held r) (given old e.0 q x e.1).left k)))
+    (λ (one : IsOneOf qs rs r). inr (later_one q qs x rs r one))
+    (each_gives qs rs e.0 new r e.2 h)
 
 -- A range that is held after a call was held before it, or the call allocated it.
 call_gives : (old new : AddressState) (call : Call) (calls : List Call) (r : Range) → IsCallFrom old call new → IsHeld new.held r → IsHeld old.held r ⊎ WasAllocated (call ∷ calls) r
 unfolding Frees
 call_gives old new (Allocation request answer) calls r s h =
     let P : AddressState → Type 0 = λ v. IsHeld v.held r in
-    let made : List Call = Allocation request answer ∷ calls in
     ⊎_elim
     (λ (l : IsRefused old answer new). inl (subst P l.2 h))
     (λ (g : IsAllocation old request answer new).
     ⊎_elim
-    (λ (e : span g.from request.size ≡ r). inr (subst (WasAllocated made) e (given_here old new request answer calls s g)))
+    (λ (e : span g.from request.size ≡ r).
+    let ok : answer ≡ Ok r = g.given ∙ ap (λ (v : Range). Ok v) e in
+    inr (given_here old new request r (Allocation request answer) calls (refl, ok) (subst (λ (v : Result Range Error). Allocates old request v new) ok s)))
     (λ (k : IsHeld old.held r). inl k)
     (held_with (span g.from request.size) r old.held (subst P g.left h)))
     (outcome request old new answer s)
+call_gives old new (Several requests (Ok rs)) calls r s h =
+    ⊎_elim
+    (λ (k : IsHeld old.held r). inl k)
+    (λ (one : IsOneOf requests rs r). inr (given_here one.old one.new one.request r (Several requests (Ok rs)) calls one.pair one.allocated))
+    (each_gives requests rs old new r s h)
+call_gives old new (Several requests (Err e)) calls r s h = inl (subst (λ (v : AddressState). IsHeld v.held r) s.0 h)
 call_gives old new (Release q answer) calls r s h =
     let P : AddressState → Type 0 = λ v. IsHeld v.held r in
     ⊎_elim (λ l. inl (held_without q r old.held (subst P l.1.1 h))) (λ l. inl (subst P l.1.1 h)) s
@@ -84,12 +140,12 @@ history_gives (call ∷ calls) first last r s h =
     (λ (g : WasAllocated calls r). inr (given_later call calls r g))
     (history_gives calls s.0 last r s.2 h)
 
--- A new allocator holds no range. So a range that is held at first was held in the value that was read.
-first_holds : (first : AddressState) (r : Range) → Begins first → IsHeld first.held r → WasRead first r
+-- A new allocator holds no range. So a range that is held at first was held from the start.
+first_holds : (first : AddressState) (r : Range) → Begins first → IsHeld first.held r → WasHeldFirst first r
 first_holds first r (inl m) k = absurd (subst (λ (v : AddressState). IsHeld v.held r) (made_is m.base m.size first m.made).2 k)
-first_holds first r (inr read) k = record { read = read; held = contains_held first.held r k }
+first_holds first r (inr begins) k = record { begins = begins; held = contains_held first.held r k }
 
-reached_given : (old : Reached) (r : Range) → Contains old.state.held r → WasAllocated old.calls r ⊎ WasRead old.reached.first r
+reached_given : (old : Reached) (r : Range) → Contains old.state.held r → WasAllocated old.calls r ⊎ WasHeldFirst old.reached.first r
 reached_given old r c =
     let h = old.reached in
     ⊎_elim

@@ -6,8 +6,11 @@ use Rattle.std.specs.List.{Contains}
 use Rattle.std.specs.Ordering.{nat_cmp}
 use Rattle.std.specs.FinSet as set
 use Rattle.vm_ranges.proofs.NumberSets.{same_test}
-use Rattle.vm_allocator.specs.Ids.{IdState, IsHeld, IsLowestNotHeld, IsIdState, new_ids, MakesIds, ByLowestNotHeld, AllocatesId, FreesId}
-use Rattle.vm_allocator.specs.Histories.IdHistories.{IdCall, Allocation, Release, Cloning, IsIdCallFrom, IsIdHistoryFrom, AreIdsMade, AreIdsRead, is_held_after, is_allocated_after}
+use Rattle.std.specs.BTreeSet.{BTreeSet}
+use Rattle.vm_allocator.proofs.Ids.IdFields.{is_state}
+use Rattle.vm_allocator.proofs.Ids.FreedParts.{parts_are_ids}
+use Rattle.vm_allocator.specs.Ids.{IdState, IsHeld, IsLowestNotHeld, IsIdState, ids_of, new_ids, MakesIds, ByLowestNotHeld, AllocatesId, FreesId}
+use Rattle.vm_allocator.specs.Histories.IdHistories.{IdCall, Allocation, Release, Cloning, IsIdCallFrom, IsIdHistoryFrom, AreIdsMade, AreIdsMadeOfFreed, AreIdsRead, is_held_after, is_allocated_after}
 use Rattle.vm_allocator.specs.Laws.IdHistoryLaws.{EachIsLowestNotHeld, NoIdIsHeldTwice, HeldIsAllocated, StatesAreOfIds}
 use Rattle.vm_ranges.specs.declared.error.Error.{Error}
 use Rattle.vm_ranges.proofs.CloneAnswers.{cloning_keeps}
@@ -64,9 +67,12 @@ history_state [] first last s e = subst IsIdState (sym e) s
 history_state (call ∷ calls) first last s history =
     history_state calls history.0 last (call_state call first history.0 s history.1) history.2
 
-first_state : (first : IdState) → AreIdsMade first ⊎ AreIdsRead first → IsIdState first
+first_state : (first : IdState) → AreIdsMade first ⊎ (AreIdsMadeOfFreed first ⊎ AreIdsRead first) → IsIdState first
 first_state first (inl m) = id_states_are_preserved.made m.lo m.hi first m.word m.made
-first_state first (inr r) = encoded_state r.value first r.encoded
+first_state first (inr (inl m)) =
+    let freed : BTreeSet ℕ = record { keys = m.freed } in
+    subst IsIdState (sym m.made.1) (is_state (ids_of m.lo m.hi m.next freed) m.lo m.hi m.next freed refl (parts_are_ids m.lo m.hi m.next m.freed freed m.word m.made.0 refl))
+first_state first (inr (inr r)) = encoded_state r.value first r.encoded
 
 pub states_are_of_ids : StatesAreOfIds
 unfolding StatesAreOfIds

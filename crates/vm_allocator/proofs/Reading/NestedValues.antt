@@ -23,6 +23,7 @@ use Rattle.vm_allocator.specs.Values.AllocatorValues.{EncodesTree, EncodesAlloca
 use Rattle.vm_allocator.specs.Values.IdValues.{EncodesNext, EncodesNumber, EncodesIds}
 use Rattle.vm_allocator.specs.Laws.ValueLaws.{ReadsWritten, ReadsText}
 use Rattle.vm_allocator.proofs.Reading.ReadAllocators.{one_allocator}
+use Rattle.vm_allocator.proofs.Ids.ReadIdStates.{one_encoded}
 use Rattle.vm_allocator.proofs.Reading.ReadAgain.{range_again, state_again, allocator_again, ids_again}
 
 -- ---- How deep the values nest
@@ -64,6 +65,17 @@ pub text_gives_again : (text : List ℕ) (d e : Data) (old new : SpaceInTree) �
 text_gives_again text d e old new s t p q =
     let same : e ≡ d = same_Some e d (sym p ∙ t (let n = allocator_nests d old s in omega (arith, n))) in
     one_allocator d new old (subst (λ (v : Data). EncodesAllocator v new) same q) s
+
+-- The same, if the text is parsed to the value that was written.
+pub allocator_through_text : (d e : Data) (old new : SpaceInTree) → EncodesAllocator d old → (depth d ≤ max_depth → e ≡ d) → EncodesAllocator e new → new ≡ old
+allocator_through_text d e old new s t q =
+    let same = t (let n = allocator_nests d old s in omega (arith, n)) in
+    one_allocator d new old (subst (λ (v : Data). EncodesAllocator v new) same q) s
+
+pub ids_through_text : (d e : Data) (old new : IdState) → EncodesIds d old → (depth d ≤ max_depth → e ≡ d) → EncodesIds e new → new ≡ old
+ids_through_text d e old new s t q =
+    let same = t (let n = ids_nest d old s in omega (arith, n)) in
+    one_encoded d new old (subst (λ (v : Data). EncodesIds v new) same q) s
 
 -- The text of a written value has a value.
 pub text_has_value : (text : List ℕ) (d : Data) (old : SpaceInTree) → EncodesAllocator d old → IsTextOf text d → read text ≡ None → ⊥

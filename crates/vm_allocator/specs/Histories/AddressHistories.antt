@@ -1,39 +1,45 @@
 -- Histories of an address allocator: lists of calls with their results. A history can go on with a clone.
-use Rattle.std.specs.Prelude.{◌≡◌, ℕ, ◌%◌, ◌≤◌, ◌⊎◌, List, [], ◌∷◌, Result, Ok, Err, IfSome}
-use Rattle.std.specs.List.{Contains}
+use Rattle.std.specs.Prelude.{◌≡◌, ℕ, ◌%◌, ◌≤◌, ◌⊎◌, List, [], ◌∷◌, Result, Ok, Err, IfSome, IfOk}
+use Rattle.std.specs.List.{All, Contains, zip}
 use Rattle.std.specs.Result.{result_unwrap_or}
 use Rattle.serde_json.specs.Data.{Data}
-use Rattle.vm_ranges.specs.Range.{Range, MAX, Covers, span}
+use Rattle.vm_ranges.specs.Range.{Range, MAX, IsRange, Covers, span}
 use Rattle.vm_engine.specs.Address.{AddressState}
 use Rattle.vm_ranges.specs.Request.{Request}
 use Rattle.vm_engine.specs.Answer.{Allocates, Frees, Makes}
+use Rattle.vm_engine.specs.Held.{MakesWithHeld}
+use Rattle.vm_allocator.specs.Several.{AllocatesAll}
 use Rattle.vm_ranges.specs.Cloning.{Clones}
 use Rattle.vm_allocator.specs.Values.AllocatorValues.{EncodesAddresses}
 use Rattle.vm_allocator.specs.Values.RepairedValues.{EncodesRepaired}
 use Rattle.vm_ranges.specs.declared.error.Error.{Error}
 use Rattle.vm_ranges.specs.declared.error.Error.TheVariants.{OutOfMemory}
 
--- A call with its result: a request, the freeing of a range, or the creation of a clone.
+-- A call with its result: a request, several requests at once, the freeing of a range, or the creation of a clone.
 pub data Call : Type 0 where
   Allocation : Request → Result Range Error → Call
+  Several : List Request → Result (List Range) Error → Call
   Release : Range → Result (Unit {0}) Error → Call
   Cloning : Result AddressState Error → Call
 
 -- A call without its result.
 pub data Asked : Type 0 where
   Allocate : Request → Asked
+  AllocateAll : List Request → Asked
   Free : Range → Asked
   Clone : Asked
 
 -- The call without its result.
 abbrev pub asked_by : Call → Asked
 asked_by (Allocation request answer) = Allocate request
+asked_by (Several requests answer) = AllocateAll requests
 asked_by (Release r answer) = Free r
 asked_by (Cloning answer) = Clone
 
 -- The call returned OutOfMemory.
 abbrev pub RunsOutOfMemory : Call → Type 0
 RunsOutOfMemory (Allocation request answer) = answer ≡ Err OutOfMemory
+RunsOutOfMemory (Several requests answer) = answer ≡ Err OutOfMemory
 RunsOutOfMemory (Release r answer) = ⊥
 RunsOutOfMemory (Cloning answer) = answer ≡ Err OutOfMemory
 
@@ -41,6 +47,7 @@ RunsOutOfMemory (Cloning answer) = answer ≡ Err OutOfMemory
 -- clone.
 abbrev pub IsCallFrom : AddressState → Call → AddressState → Type 0
 IsCallFrom old (Allocation request answer) new = Allocates old request answer new
+IsCallFrom old (Several requests answer) new = AllocatesAll old requests answer new
 IsCallFrom old (Release r answer) new = Frees old r answer new
 IsCallFrom old (Cloning answer) new = Clones old answer × (new ≡ result_unwrap_or answer old)
 
@@ -56,39 +63,61 @@ pub record IsMade (state : AddressState) : Type 0 where
   pub word : size ≤ MAX
   pub made : Makes base size (Ok state)
 
+-- The state of a new allocator in which ranges are held.
+pub record IsMadeWithHeld (state : AddressState) : Type 0 where
+  pub base : ℕ
+  pub size : ℕ
+  pub held : List Range
+  pub word : size ≤ MAX
+  pub ranges : All (λ r. IsRange r.start r.end) held
+  pub made : MakesWithHeld base size held (Ok state)
+
 -- A state that a saved value encodes, for the reader without repairs or for the reader with repairs.
 pub record IsRead (state : AddressState) : Type 0 where
   pub value : Data
   pub encoded : EncodesAddresses value state ⊎ EncodesRepaired value state
 
--- The first state of a history is that of an allocator that is new or was read.
-abbrev pub Begins : AddressState → Type 0
-Begins first = IsMade first ⊎ IsRead first
+-- Ranges can be held in the state from the start: it is that of an allocator that was made with held ranges, or was read.
+abbrev pub BeginsHeld : AddressState → Type 0
+BeginsHeld first = IsMadeWithHeld first ⊎ IsRead first
 
--- The calls lead to the state from an allocator that is new or was read. The state can be that of a clone.
+-- The first state of a history is that of an allocator that is new, was made with held ranges, or was read.
+abbrev pub Begins : AddressState → Type 0
+Begins first = IsMade first ⊎ BeginsHeld first
+
+-- The calls lead to the state from an allocator that was made or read. The state can be that of a clone.
 pub record IsReached (calls : List Call) (state : AddressState) : Type 0 where
   pub first : AddressState
   pub begins : Begins first
   pub history : IsHistoryFrom first calls state
 
--- A state, with calls that lead to it from an allocator that is new or was read.
+-- A state, with calls that lead to it from an allocator that was made or read.
 pub record Reached : Type 0 where
   pub calls : List Call
   pub state : AddressState
   pub reached : IsReached calls state
 
+-- The call allocated the range for the request.
+abbrev pub Gives : Call → Request → Range → Type 0
+Gives (Allocation asked answer) request r = (asked ≡ request) × (answer ≡ Ok r)
+Gives (Several requests answer) request r = IfOk answer (λ ranges. Contains (zip requests ranges) (request, r))
+Gives (Release q answer) request r = ⊥
+Gives (Cloning answer) request r = ⊥
+
 -- A call allocated the range: with the requested length, at a multiple of the requested alignment, and in the window of the
 -- request, if it has one.
 pub record WasAllocated (calls : List Call) (r : Range) : Type 0 where
   pub request : Request
-  pub call : Contains calls (Allocation request (Ok r))
+  pub call : Call
+  pub made : Contains calls call
+  pub given : Gives call request r
   pub aligned : r.start % request.align ≡ 0
   pub long : r ≡ span r.start request.size
   pub inside : IfSome request.window (λ window. Covers window r)
 
--- The range is held in the first state, which was read from a value.
-pub record WasRead (first : AddressState) (r : Range) : Type 0 where
-  pub read : IsRead first
+-- The range is held in the first state, from the start.
+pub record WasHeldFirst (first : AddressState) (r : Range) : Type 0 where
+  pub begins : BeginsHeld first
   pub held : Contains first.held r
 
 -- The calls that free the ranges in this order, each with success.

@@ -1,9 +1,10 @@
 -- Histories of an id allocator: lists of calls with their results. A history can go on with a clone.
-use Rattle.std.specs.Prelude.{◌≡◌, ℕ, ◌≤◌, ◌⊎◌, Bool, true, false, if◌then◌else◌, nat_eq, List, [], ◌∷◌, Result, Ok, Err}
+use Rattle.std.specs.Prelude.{◌≡◌, ℕ, ◌≤◌, ◌⊎◌, Bool, true, false, if◌then◌else◌, nat_eq, List, [], ◌∷◌, Option, Result, Ok, Err}
 use Rattle.std.specs.Result.{result_unwrap_or}
 use Rattle.serde_json.specs.Data.{Data}
 use Rattle.vm_ranges.specs.Cloning.{Clones}
 use Rattle.vm_allocator.specs.Values.IdValues.{EncodesIds}
+use Rattle.vm_allocator.specs.FreedLists.{MakesWithFreed}
 use Rattle.vm_allocator.specs.Ids.{MAX_ID, IdState, MakesIds, AllocatesId, FreesId}
 use Rattle.vm_ranges.specs.declared.error.Error.{Error}
 use Rattle.vm_ranges.specs.declared.error.Error.TheVariants.{OutOfMemory}
@@ -51,15 +52,24 @@ pub record AreIdsMade (state : IdState) : Type 0 where
   pub word : hi ≤ MAX_ID
   pub made : MakesIds lo hi (Ok state)
 
+-- The state of an id allocator that was created of a next id and freed ids.
+pub record AreIdsMadeOfFreed (state : IdState) : Type 0 where
+  pub lo : ℕ
+  pub hi : ℕ
+  pub next : Option ℕ
+  pub freed : List ℕ
+  pub word : hi ≤ MAX_ID
+  pub made : MakesWithFreed lo hi next freed (Ok state)
+
 -- A state that a saved value encodes.
 pub record AreIdsRead (state : IdState) : Type 0 where
   pub value : Data
   pub encoded : EncodesIds value state
 
--- The calls lead to the state from an id allocator that is new or was read. The state can be that of a clone.
+-- The calls lead to the state from an id allocator that was made or read. The state can be that of a clone.
 pub record AreIdsReached (calls : List IdCall) (state : IdState) : Type 0 where
   pub first : IdState
-  pub begins : AreIdsMade first ⊎ AreIdsRead first
+  pub begins : AreIdsMade first ⊎ (AreIdsMadeOfFreed first ⊎ AreIdsRead first)
   pub history : IsIdHistoryFrom first calls state
 
 -- Whether the id is held after a call. The parameter `before` is whether it was held before the call.

@@ -1,4 +1,4 @@
--- Laws of every history of an address allocator that is new or was read.
+-- Laws of every history of an address allocator that was made or read.
 use Rattle.std.specs.Prelude.{◌≡◌, ◌≢◌, ℕ, ◌+◌, ◌-◌, ◌<◌, ◌≤◌, ◌⊎◌, ◌↔◌, List, [], ◌∷◌, ◌++◌, map, Result, Ok, Err}
 use Rattle.std.specs.List.{All, Contains}
 use Rattle.std.specs.List.Sorted.{IsPermutation}
@@ -8,10 +8,12 @@ use Rattle.vm_engine.specs.Address.{AddressState, AreClear, IsPlace, IsLowestPla
 use Rattle.vm_engine.specs.Windows.{within}
 use Rattle.vm_ranges.specs.Request.{Request, request_for, IsRequest, MakesConstraint}
 use Rattle.vm_engine.specs.Answer.{IsChosen, AllocatesAt, Allocates, Frees, Makes}
+use Rattle.vm_engine.specs.Held.{MakesWithHeld}
+use Rattle.vm_allocator.specs.Several.{AllocatesAll}
 use Rattle.vm_engine.specs.Laws.AddressLaws.{AgreeExceptSplits, AreDisjoint}
 use Rattle.vm_ranges.specs.Cloning.{Clones}
 use Rattle.vm_engine.specs.Comparison.{AreEqual}
-use Rattle.vm_allocator.specs.Histories.AddressHistories.{Call, Cloning, Asked, asked_by, RunsOutOfMemory, IsHistoryFrom, IsReached, Reached, WasAllocated, WasRead, releases}
+use Rattle.vm_allocator.specs.Histories.AddressHistories.{Call, Cloning, Asked, asked_by, RunsOutOfMemory, IsHistoryFrom, IsReached, Reached, WasAllocated, WasHeldFirst, releases}
 use Rattle.vm_ranges.specs.declared.error.Error.{Error}
 use Rattle.vm_ranges.specs.declared.error.Error.TheVariants.{Overflow, ResourceNotAvailable, InvalidStateTransition, OutOfMemory}
 use Rattle.vm_ranges.specs.declared.state.NodeState.TheVariants.{Allocated}
@@ -87,12 +89,12 @@ pub record ErrorsChangeNothing : Type 0 where
       Frees old.state r (Err e) new → new ≡ old.state
 
 -- In every history the state is valid and the held ranges are disjoint. Each of them was allocated as requested, or was
--- held in the value that was read.
+-- held from the start.
 pub record HeldAreValid : Type 0 where
   pub state : (old : Reached) → IsAddressState old.state
   pub apart : (old : Reached) → AreDisjoint old.state
   pub given : (old : Reached) (r : Range) → Contains old.state.held r →
-      WasAllocated old.calls r ⊎ WasRead old.reached.first r
+      WasAllocated old.calls r ⊎ WasHeldFirst old.reached.first r
 
 -- Both states have the same space and the same set of held ranges. The sorted lists are then equal, which is proved.
 pub record HaveSameState (first second : AddressState) : Type 0 where
@@ -128,6 +130,11 @@ pub record FreesInAnyOrder : Type 0 where
 pub record EveryCallIsAnswered : Type 0 where
   pub made : (base size : ℕ) →
       (answer : Result AddressState Error) × Makes base size answer × (answer ≢ Err OutOfMemory)
+  pub made_with_held : (base size : ℕ) (held : List Range) →
+      (answer : Result AddressState Error) × MakesWithHeld base size held answer × (answer ≢ Err OutOfMemory)
+  pub several : (old : AddressState) (requests : List Request) →
+      (answer : Result (List Range) Error) × (new : AddressState) ×
+      AllocatesAll old requests answer new × (answer ≢ Err OutOfMemory)
   pub allocated : (old : AddressState) (request : Request) →
       (answer : Result Range Error) × (new : AddressState) ×
       Allocates old request answer new × (answer ≢ Err OutOfMemory)

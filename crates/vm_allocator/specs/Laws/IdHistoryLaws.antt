@@ -1,4 +1,4 @@
--- Laws of every history of an id allocator that is new or was read.
+-- Laws of every history of an id allocator that was made or read.
 use Rattle.std.specs.Prelude.{◌≡◌, ◌≢◌, ℕ, ◌↔◌, List, [], ◌∷◌, ◌++◌, map, IsTrue, false, Result, Ok, Err}
 use Rattle.std.specs.List.{All, Contains}
 use Rattle.std.specs.FinSet as set
