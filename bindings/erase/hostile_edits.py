@@ -6,6 +6,7 @@
 There is one edit for each rule of the eraser that protects a proved property. Each must be rejected for
 the given reason. The exit status is 1 if one is not, or if its text is not found."""
 import os
+import pathlib
 import sys
 import tempfile
 
@@ -20,19 +21,42 @@ EDITS = [
     ("a string that closes a clause", RANGE, CLAUSE, 'ensures { result ≡ f "}" }', "in a clause"),
     ("a statement between clauses", RANGE, CLAUSE, f"{CLAUSE}\n        let x = 1;", "clauses without a body"),
     ("a function behind a ghost", RANGE, IMPL, f"ghost cmp = {{ f }}\nfn g() {{}}\n{IMPL}", "a ghost of this form"),
-    ("a block comment that hides an item", RANGE, IMPL, f"/* \n{IMPL}", "text that begins with '/*"),
+    ("a block comment in code", RANGE, BODY, f"{BODY} /* + 1 */", "text that begins with '/*"),
+    ("a clause in a body", RANGE, BODY, f"        requires {{ f }}\n{BODY}", "a clause outside of a signature"),
+    ("a clause with two names", RANGE, CLAUSE, "ensures one two { f }", "a clause of this form"),
+    ("a clause without end", "vm_ranges/src/lib.rt", "mod state;", "mod state;\nfn f() ensures { f", "a clause without end"),
+    ("a ghost in code", RANGE, BODY, f"        1 + ghost x = {{ f }};\n{BODY}", "'ghost' in code"),
+    ("a brace too many", RANGE, IMPL, f"}}\n{IMPL}", "a brace that closes nothing"),
     ("a carriage return in a comment", RANGE, IMPL, f"// How many.\rfn f() {{}}\n{IMPL}", "a carriage return"),
-    ("a Box of the crate's own", RANGE, IMPL, f"struct Box {{ inner: u64 }}\n{IMPL}", "a definition of 'Box'"),
     ("an import under another name", RANGE, IMPORT, "use std::cmp::Reverse as Ordering;", "an import under another name"),
+    ("an import from elsewhere", RANGE, IMPORT, f"{IMPORT}\nuse core::cmp::max;", "an import from 'core'"),
+    ("an import in two braces", RANGE, "use crate::error::{Error, Result};", "use crate::{error::Error, state::NodeState};",
+     "of which not all is used"),
+    ("a module without a file", RANGE, IMPL, f"mod absent;\n{IMPL}", "no file for the module 'absent'"),
+    ("a module in braces", RANGE, IMPL, f"mod inside {{}}\n{IMPL}", "a module of this form"),
+    *[("a definition of None", RANGE, IMPL, f"{item}\n{IMPL}", "a definition of 'None'") for item in (
+        "const None: u64 = 1;", "type None = u64;", "enum Y { None }", "fn None(x: u64) {}", "struct Y<None> { x: None }",
+        "use super::None;", "mod None;")],
+    ("a path with type arguments", RANGE, BODY, "        1 + u64::from::<u64>(self.end)", "'u64' in code"),
+    ("a derive's name in code", RANGE, BODY, f"        thiserror::Error;\n{BODY}", "'thiserror' in code"),
+    ("a type without braces", RANGE, IMPL, f"struct Pair(u64);\n{IMPL}", "a type without braces"),
+    ("a text with arguments", RANGE, IMPL, f'#[derive(Error)] enum X {{ #[error("", 1)] A }}\n{IMPL}', "a text of this form"),
+    ("a parameter with a default", RANGE, IMPL, f"struct Bad<T = u64> {{ x: T }}\n{IMPL}", "parameters of this form"),
+    ("an impl of a list", RANGE, IMPL, f"impl From<u64> for [RangeInclusive] {{}}\n{IMPL}", "an impl of this form"),
+    ("a member of a model", RANGE, "    ghost Value = { Range };", "    fn f() {}", "a member of Model that is no ghost"),
+    ("a type in an impl", RANGE, IMPL, f"{IMPL}\n    type X = u64;", "an item 'type'"),
+    ("a constant in an impl of a trait", RANGE, IMPL, f"impl Eq for X {{ const Y: u64 = 1; }}\n{IMPL}", "an item 'const'"),
+    ("documentation of the file below", RANGE, IMPL, f"//! Text.\n{IMPL}", "documentation of the file behind an item"),
+    ("an attribute in a body", RANGE, BODY, f"        #[inline]\n{BODY}", "an attribute in code"),
+    ("an attribute of a field", RANGE, "    start: u64,\n    end", "    #[cfg(any())]\n    start: u64,\n    end", "an attribute in code"),
     ("an import of all names", RANGE, IMPORT, f"{IMPORT}\nuse super::*;", "a definition of '*'"),
     ("a module of another path", "vm_ranges/src/lib.rt", "mod range;", '#[path = "x.rs"]\nmod range;', "an attribute 'path'"),
-    ("a macro of Rust's", RANGE, BODY, "        1 + vec![self.end].len() as u64", "a macro 'vec'"),
-    ("a function in a body", RANGE, BODY, f"        fn len(x: u64) -> u64 {{ x }}\n{BODY}", "an item 'fn' in code"),
-    ("a method that is in no table", RANGE, BODY, "        1 + self.end.wrapping_sub(self.start)", "a method 'wrapping_sub'"),
     ("a path that is in no table", RANGE, BODY, "        1 + std::cmp::max(self.end, 0)", "'std::cmp::max' is in no table"),
     ("code that runs at the end of a scope", RANGE, "impl PartialOrd for", "impl Drop for", "an impl of 'Drop'"),
     ("a call of a law", RANGE, BODY, f"        law();\n{BODY}\n    }}\n}}\nfn law() {{}}\nimpl RangeInclusive {{\n    fn f() {{",
      "a function 'law'"),
+    ("a requires in an impl of a trait", RANGE, IMPL, f"impl Eq for X {{ fn f() requires {{ f }} {{ 1 }} }}\n{IMPL}",
+     "a 'requires' of 'f'"),
     ("a requires of what anyone may call", CONSTRAINT, "const fn is_start_aligned(", "pub const fn is_start_aligned(",
      "a 'requires' of 'is_start_aligned'"),
     ("a public field of a type with an invariant", RANGE, "    start: u64,\n    end", "    pub start: u64,\n    end",
@@ -40,28 +64,64 @@ EDITS = [
 ]
 
 
-def outcome(project, scratch, edit):
-    """Returns the error of the eraser for an edit."""
-    mutants.apply(mutants.Mutant(edit[0], [edit[1:4]], {}), project, scratch)
+# Edits with each of some words in place of WORD.
+EDITS += [(f"{name} {word}", RANGE, old, new.replace("WORD", word), reason.replace("WORD", word)) for name, words, old, new, reason in [
+    ("a clause with", "' ` -- // /* {-", CLAUSE, "ensures { result ≡ f WORD }", "in a clause"),
+    ("a definition of", "Box BTreeMap BTreeSet Err Iterator None Ok Option Ord Ordering Some Value Vec u64 u8x16", IMPL,
+     f"struct WORD {{ inner: u64 }}\n{IMPL}", "a definition of 'WORD'"),
+    ("the word", """async await become box char decreases dyn extern f32 f64 gen i8 i16 i32 i64 i128 invariant isize
+     macro_rules prove prove_eq trait try union unsafe where yield""", BODY, f"        WORD;\n{BODY}", "'WORD' in code"),
+    ("the macro", "assert cfg dbg env format include json panic vec", BODY, f"        WORD!(1);\n{BODY}", "a macro 'WORD'"),
+    ("the method", "as_mut drain expect map pow rev swap unwrap_or wrapping_sub", BODY, "        self.end.WORD(1)", "a method 'WORD'"),
+    ("the function", "drop max panic swap transmute", BODY, "        1 + WORD(self.end)", "a function 'WORD'"),
+    ("the type", "Cell Rc String Wrapping", BODY, f"        let x: WORD = self.end;\n{BODY}", "a type 'WORD'"),
+    ("the path", "Box::leak Ord::max Value::String Vec::from u64::MIN", BODY, "        1 + WORD(self.end)", "a path 'WORD'"),
+    ("the library's", "serde_json::from_str std::alloc::Layout std::cmp::Reverse std::collections::HashMap std::io::stdin std::mem::take",
+     BODY, f"        WORD;\n{BODY}", "is in no table"),
+    ("a cast to", "RangeInclusive _", BODY, "        1 + self.end as WORD", "'as WORD'"),
+    ("a derive of", "Add AsRef Deref Display From Serialize", "#[derive(Clone, Copy, Debug,", "#[derive(WORD,", "a derive of 'WORD'"),
+    ("an impl of", "AsRef Clone Default Deref DerefMut Hash Not", "impl PartialOrd for", "impl WORD for", "an impl of 'WORD'"),
+    ("an attribute", 'cfg(any()) cfg(not(test)) cfg_attr(test,inline) deprecated must_use path="x" repr(C) test track_caller', IMPL,
+     f"#[WORD]\n{IMPL}", "an attribute '"),
+    ("in code, an item", "const enum fn impl mod pub static struct type use", BODY, f"        WORD;\n{BODY}", "an item 'WORD' in code"),
+    ("an item of the form", "async extern macro_rules trait union unsafe", IMPL, f"WORD X {{}}\n{IMPL}", "an item 'WORD'"),
+] for word in words.split()]
+
+
+def error_of(work):
+    """Returns the error of the eraser in some work."""
     try:
-        erase.Project(scratch)
+        work()
     except erase.Refused as refused:
         return str(refused)
     return "it is accepted"
 
 
+def outcome(project, scratch, edit):
+    """Returns the error of the eraser for an edit. All edits are in a crate that needs no other crate."""
+    mutants.apply(mutants.Mutant(edit[0], [edit[1:4]], {}), project, scratch)
+    pathlib.Path(scratch, "crates.txt").write_text("vm_ranges: serde_json thiserror\nprogram: vm_ranges\n", encoding="utf-8")
+    return error_of(lambda: erase.Project(scratch))
+
+
+def overlap():
+    """Returns the error of the eraser for two cuts that overlap. No edit is known that makes some."""
+    tokens = erase.Tokens("a file", "text")
+    tokens.cuts = [(0, 2, ""), (1, 3, "")]
+    return error_of(lambda: erase.File.outer_cuts(tokens))
+
+
 def main():
     if len(sys.argv) != 2:
         sys.exit(__doc__)
-    wrong = 0
     with tempfile.TemporaryDirectory() as folder:
-        for edit in EDITS:
-            found = outcome(sys.argv[1], os.path.join(folder, "project"), edit)
-            if edit[4] not in found:
-                wrong += 1
-                print(f"{edit[0]}: {found}, instead of: {edit[4]}")
-    print(f"{len(EDITS) - wrong} of {len(EDITS)} hostile edits are rejected")
-    sys.exit(wrong > 0)
+        found = [(edit[0], outcome(sys.argv[1], os.path.join(folder, "project"), edit), edit[4]) for edit in EDITS]
+    found.append(("two cuts", overlap(), "that overlap"))
+    wrong = [result for result in found if result[2] not in result[1]]
+    for result in wrong:
+        print("{}: {}, instead of: {}".format(*result))
+    print(f"{len(found) - len(wrong)} of {len(found)} hostile edits are rejected")
+    sys.exit(len(wrong) > 0)
 
 
 if __name__ == "__main__":

@@ -25,7 +25,10 @@ from processor_time import HANG, limited_to, used_by_children  # noqa: E402
 
 LISTS = ("count_rule_mutants", "test_mutants")
 # Mutants that no check can distinguish from the original.
-UNSEEN = {"loop_in_a_range": "it follows no box", "raised_twice_in_a_recursion": "it walks as before, and counts more"}
+WITHOUT_BOXES = ("loop_in_a_range", "left_side_checked_again_after_a_fault", "recursion_before_the_check",
+                 "loop_over_all_fields", "devices_compared_to_the_end")
+UNSEEN = dict.fromkeys(WITHOUT_BOXES, "it follows no box") | {
+    "raised_twice_in_a_recursion": "it walks as before, and counts more"}
 # The check that must notice a mutant: a test, run in a certain way, or box_count.
 Check = collections.namedtuple("Check", "test how")
 BOX_COUNT = Check("", None)

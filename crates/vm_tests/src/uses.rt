@@ -12,11 +12,10 @@ use crate::fixtures::{expect_true, made, range};
 use crate::plugging::replugged;
 use crate::windows::{restored, windows};
 use serde_json::Value;
-use std::alloc::{AllocError, Global};
+use std::alloc::Global;
 use std::process::Abort;
 use vm_allocator::{
-    AddressAllocator, AllocPolicy, Error, Gaps, HeldRanges, IdAllocator, RangeInclusive, Result,
-    ValueError,
+    AddressAllocator, AllocPolicy, Error, IdAllocator, RangeInclusive, Result, ValueError,
 };
 use vm_devices::DeviceManager;
 
@@ -110,20 +109,6 @@ fn devices_through_text(
     DeviceManager::from_value(alloc, &parsed_again(alloc, &saved)?)
 }
 
-/// Returns a copy of an iterator, which has the same ranges yet to return.
-fn held_again<'a>(ranges: &HeldRanges<'a>) -> std::result::Result<HeldRanges<'a>, AllocError>
-    ensures { IfOk result (λ again. again ≡ ranges.now) }
-{
-    ranges.clone()
-}
-
-/// Returns a copy of an iterator, which has the same gaps yet to return.
-fn gaps_again<'a>(gaps: &Gaps<'a>) -> std::result::Result<Gaps<'a>, AllocError>
-    ensures { IfOk result (λ again. again ≡ gaps.now) }
-{
-    gaps.clone()
-}
-
 /// Allocates two windows.
 fn use_windows(rt: &(impl Abort + AllocGlobal)) {
     let both = match windows(rt.alloc()) {
@@ -209,7 +194,6 @@ fn uses(rt: HostRuntime) {
     let mut gap = made(&rt, 0xE000_1000, 0xFF_F000);
     use_restored(&rt, &gap);
     use_texts(&rt, &gap);
-    use_more_texts(&rt);
     use_bar(&rt, &mut gap);
     use_memory(&rt);
     use_numbers(&rt);

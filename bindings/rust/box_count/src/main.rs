@@ -212,7 +212,9 @@ impl Pair {
             followed <= 3 * LOOKS,
             "base, end and height follow {followed} boxes"
         );
-        let walks: [(&str, &dyn Fn() -> u64); 4] = [
+        let walks: [(&str, &dyn Fn() -> u64); 6] = [
+            ("clear_count", &|| space.clear_count()),
+            ("gaps", &|| space.gaps().count() as u64),
             ("held_count", &|| space.held_count()),
             ("held_ranges", &|| space.held_ranges().count() as u64),
             ("==", &|| u64::from(*space == self.plain)),

@@ -1,4 +1,5 @@
-//! A line of the replay language allocates as often as its call, and follows no more boxes.
+//! A line of the replay language allocates as often as its call, and follows no more boxes. The
+//! results of many lines are written together.
 use crate::meter::{cost, difference, spent, Cost};
 use crate::objects::{Setting, SETTINGS};
 use box_count::proved::vm_allocator::AllocPolicy::{ExactMatch, FirstMatch, LastMatch};
@@ -6,7 +7,7 @@ use box_count::proved::vm_allocator::{AddressAllocator, IdAllocator, RangeInclus
 use box_count::proved::vm_devices::DeviceManager;
 use box_count::proved::vm_lines::run;
 use box_count::rattle::Global;
-use std::io::Read;
+use std::io::{Read, Write};
 
 /// A reader that returns one line at a time. It notes the cost so far before each read.
 struct Lines<'a> {
@@ -149,4 +150,28 @@ fn each_line_costs_its_call() {
             );
         }
     }
+}
+
+/// A writer that keeps the length of each write.
+struct Lengths(Vec<usize>);
+
+impl Write for Lengths {
+    fn write(&mut self, bytes: &[u8]) -> std::io::Result<usize> {
+        self.0.push(bytes.len());
+        Ok(bytes.len())
+    }
+
+    fn flush(&mut self) -> std::io::Result<()> {
+        Ok(())
+    }
+}
+
+/// The buffer has 4,096 bytes, and a result at most 61, so only the last write is shorter than 4,000.
+#[test]
+fn results_are_written_together() {
+    let (text, mut writes) = ("space 0 1\n".repeat(10_000), Lengths(Vec::new()));
+    run(Global, &mut text.as_bytes(), &mut writes).unwrap();
+    let all_but_last = &writes.0[..writes.0.len() - 1];
+    assert!(all_but_last.iter().all(|length| *length >= 4_000));
+    assert_eq!(writes.0.iter().sum::<usize>(), "done\n".len() * 10_000);
 }

@@ -1,0 +1,130 @@
+//! A change updates only the nodes near its block. So the number of boxes that it follows in addition
+//! to the nodes that it enters does not grow with the tree. The same is true for a walk that stops early.
+use crate::meter::cost;
+use crate::objects::range;
+use box_count::proved::vm_allocator::AddressAllocator;
+use box_count::proved::vm_allocator::AllocPolicy::ExactMatch;
+use box_count::rattle::Global;
+use std::fmt::Debug;
+
+const LOW: u32 = 6;
+const HIGH: u32 = 14;
+
+/// A change near the middle of a space, with its distance from an address there.
+#[derive(Clone, Copy, Debug)]
+enum Change {
+    /// Allocates a range that starts at this distance, with this size.
+    Allocate(u64, u64),
+    /// Frees the range of 17 addresses that starts at this distance.
+    Free(u64),
+}
+
+use Change::*;
+
+/// Changes, of which only the last is measured. Each row also has whether the leaves of the tree are
+/// gaps, and the number of additional boxes at each level.
+///
+/// The gaps are at 1, 33, 65 and 97. If the leaves are gaps, the root is the range at 48. Otherwise it
+/// is the gap at 65. Each level follows the box of a new leaf, to compare its key.
+const CHANGES: [(bool, u64, &[Change]); 10] = [
+    (true, 0, &[Allocate(33, 15)]),
+    (true, 0, &[Allocate(1, 7), Allocate(33, 7)]),
+    (true, 0, &[Allocate(7, 2), Allocate(39, 2)]),
+    (true, 0, &[Free(48)]),
+    (true, 0, &[Free(16)]),
+    (true, 0, &[Allocate(33, 15), Allocate(65, 15), Free(48)]),
+    (false, 0, &[Free(48)]),
+    (false, 0, &[Free(80)]),
+    (false, 1, &[Allocate(41, 7), Allocate(73, 7)]),
+    (false, 1, &[Allocate(97, 7), Allocate(65, 7)]),
+];
+
+/// Returns a space of this height with as many blocks as possible. Gaps of 15 addresses and ranges
+/// of 17 alternate, so each gap has the same length and alignments.
+fn full(height: u32, leaves_are_gaps: bool) -> AddressAllocator {
+    let leaves = 1 << (height - 1);
+    let (base, end, ranges) = match leaves_are_gaps {
+        true => (1, 32 * leaves - 17, leaves - 1),
+        false => (16, 32 * leaves, leaves),
+    };
+    let held = (0..ranges).map(|number| range(32 * number + 16, 32 * number + 32));
+    let held: Vec<_> = held.collect();
+    let space = AddressAllocator::with_held(Global, base, end - base + 1, &held).unwrap();
+    assert_eq!(space.height(), u64::from(height));
+    space
+}
+
+/// Returns the address from which the distances of changes count.
+fn middle(height: u32) -> u64 {
+    32 * (1 << (height - 2)) - 64
+}
+
+/// Makes a change. Returns the number of boxes that it follows in addition to the nodes that it enters.
+fn additional_boxes(space: &mut AddressAllocator, middle: u64, change: Change) -> u64 {
+    let (nodes, [_, boxes]) = cost(|| match change {
+        Allocate(at, size) => {
+            let policy = ExactMatch(middle + at);
+            let (result, nodes) = space.allocate_counted(Global, size, 1, policy);
+            result.map(|_| nodes).unwrap()
+        }
+        Free(at) => {
+            let (result, nodes) = space.free_counted(&range(middle + at, middle + at + 16));
+            result.map(|()| nodes).unwrap()
+        }
+    });
+    boxes - nodes
+}
+
+/// Checks that a number of boxes, without those of each level, is no greater in the high tree.
+fn expect_same(name: &dyn Debug, of_a_level: u64, boxes: impl Fn(u32) -> u64) {
+    let [low, high] =
+        [LOW, HIGH].map(|height| boxes(height) as i64 - (of_a_level * u64::from(height)) as i64);
+    assert!(
+        high <= low,
+        "{name:?}: {high} more boxes, and {low} in a low tree"
+    );
+}
+
+#[test]
+fn changes() {
+    for (leaves_are_gaps, of_a_level, changes) in CHANGES {
+        expect_same(&(leaves_are_gaps, changes), of_a_level, |height| {
+            let mut space = full(height, leaves_are_gaps);
+            let make = |change: &Change| additional_boxes(&mut space, middle(height), *change);
+            changes.iter().map(make).last().unwrap()
+        });
+    }
+}
+
+/// A walk descends once for each end of a tree, and once in each of two trees.
+#[test]
+fn walks_that_stop_early() {
+    type Walk<'a> = &'a dyn Fn(&AddressAllocator, &AddressAllocator);
+    let key = range(16, 32);
+    let walks: [(&str, u64, Walk); 11] = [
+        ("==", 2, &|a, b| assert!(a != b)),
+        ("<", 2, &|a, b| assert!(a < b)),
+        ("cmp", 2, &|a, b| assert!(a.cmp(b).is_lt())),
+        ("holds", 1, &|a, _| assert!(a.holds(&key))),
+        ("not holds", 1, &|_, b| assert!(!b.holds(&key))),
+        ("held_at", 1, &|a, _| assert!(a.held_at(16).is_some())),
+        ("not held_at", 1, &|_, b| assert!(b.held_at(16).is_none())),
+        ("first range", 2, &|a, _| {
+            assert!(a.held_ranges().next().is_some())
+        }),
+        ("last range", 2, &|a, _| {
+            assert!(a.held_ranges().next_back().is_some())
+        }),
+        ("first gap", 2, &|a, _| assert!(a.gaps().next().is_some())),
+        ("root", 0, &|a, _| {
+            assert!(a.base() < a.end() && a.longest_gap() == 15 && a.height() > 0)
+        }),
+    ];
+    for (name, paths, walk) in walks {
+        expect_same(&name, paths, |height| {
+            let (space, mut other) = (full(height, false), full(height, false));
+            other.free(&key).unwrap();
+            cost(|| walk(&space, &other)).1[1]
+        });
+    }
+}
