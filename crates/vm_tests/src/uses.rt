@@ -129,25 +129,11 @@ fn use_restored(rt: &(impl Abort + AllocGlobal), gap: &AddressAllocator) {
     expect_true(rt, empty == *gap, &"the same gap");
 }
 
-/// Passes an allocator through its text, and copies its iterators.
+/// Passes allocators and a manager through their texts.
 fn use_texts(rt: &(impl Abort + AllocGlobal), gap: &AddressAllocator) {
     if let Ok(again) = space_through_text(rt.alloc(), gap) {
         expect_true(rt, again == *gap, &"the same gap");
     }
-    if let Ok(mut again) = held_again(&gap.held_ranges()) {
-        expect_true(rt, again.next().is_none(), &"no range");
-    }
-    if let Ok(mut again) = gaps_again(&gap.gaps()) {
-        expect_true(
-            rt,
-            again.next().is_some() && again.next().is_none(),
-            &"one gap",
-        );
-    }
-}
-
-/// Passes ids and devices through their texts.
-fn use_more_texts(rt: &(impl Abort + AllocGlobal)) {
     if let Ok(ids) = IdAllocator::new(rt.alloc(), 5, 23) {
         if let Ok(again) = ids_through_text(rt.alloc(), &ids) {
             expect_true(rt, again == ids, &"the same ids");
