@@ -4,8 +4,8 @@
 //! each. The invariant states that the two agree and that the state is valid. The fields are `pub(crate)` because `saved`
 //! builds allocators from values.
 //!
-//! `allocate` and `free` call the counted versions and drop the count. Some clauses follow from
-//! `answer`, and are there because callers rely on them: for example that some calls always
+//! `free` calls its counted version and drops the count, as the tree does in `allocate`. Some clauses
+//! follow from `answer`, and are there because callers rely on them: for example that some calls always
 //! succeed.
 ghost use Rattle.std.specs.Prelude.{ℕ, ◌≡◌, ◌%◌, Err, OnErr, OnOk, IfOk, IfSome, IsOk};
 ghost use Rattle.std.specs.List.{Contains};

@@ -19,7 +19,7 @@ impl DeviceManager {
     /// Creates a manager of these ids, this space and these devices, in the order of their ids.
     ///
     /// The parts can be untrusted input. They are checked one after the other, so `OutOfMemory` is
-    /// possible for all parts.
+    /// possible for all parts. An error drops the ids and the space.
     ///
     /// # Errors
     ///

@@ -14,8 +14,9 @@ impl AddressAllocator {
     ///
     /// # Errors
     ///
-    /// An error changes nothing: the ranges that were allocated so far are freed again. The height of
-    /// the tree can differ afterwards.
+    /// An error leaves the same ranges allocated, because the ranges allocated so far are freed again.
+    /// All later calls have the same results. The shape of the tree can differ, and so the height, the
+    /// counts of later calls and `to_value`.
     /// - `OutOfMemory` if the allocation of the list fails. This is checked first.
     /// - The error of the first request that fails.
     pub fn allocate_all(
