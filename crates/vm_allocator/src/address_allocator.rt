@@ -308,8 +308,10 @@ impl AddressAllocator {
         ensures depth { SplitsIfLow (height_of self.old.tree) (state_of self.old) request result.0 }
         ensures count { EntersToAllocate self.old.tree request result.0 result.1 }
         ensures steps { IsAllocationCount (height_of self.old.tree) (state_of self.old) request result.0 result.1 }
-        ensures search { SearchesGaps (height_of self.old.tree) (state_of self.old) request result.0 result.1 }
-        ensures search_aligned { SearchesAligned (height_of self.old.tree) (state_of self.old) request result.0 result.1 }
+        ensures search { SearchesGaps (height_of self.old.tree) (state_of self.old)
+            request result.0 result.1 }
+        ensures search_aligned { SearchesAligned (height_of self.old.tree) (state_of self.old)
+            request result.0 result.1 }
     {
         self.interval_tree.allocate_counted(alloc, request)
     }

@@ -26,7 +26,8 @@ impl AddressAllocator {
         nodes: &ReadNodes,
         root: Option<Span>,
     ) -> std::result::Result<Self, ValueError>
-        ensures answer { (t : Saved) → StandsFor root t → nodes.now.held.items ≡ held_keys t → Reads (HasTreeOf address_space t) (made_state result) }
+        ensures answer { (t : Saved) → StandsFor root t → nodes.now.held.items ≡ held_keys t
+            → Reads (HasTreeOf address_space t) (made_state result) }
         ensures state { IfOk result (λ allocator. IsAddressState (state_of allocator)) }
     {
         let interval_tree = IntervalTree::from_nodes(alloc, address_space, nodes, root)?;
@@ -51,7 +52,8 @@ impl AddressAllocator {
         nodes: &ReadNodes,
         root: Option<Span>,
     ) -> std::result::Result<Self, ValueError>
-        ensures answer { (t : Saved) → StandsFor root t → nodes.now.held.items ≡ held_keys t → Reads (HasHeldKeys address_space t) (made_state result) }
+        ensures answer { (t : Saved) → StandsFor root t → nodes.now.held.items ≡ held_keys t
+            → Reads (HasHeldKeys address_space t) (made_state result) }
         ensures state { IfOk result (λ allocator. IsAddressState (state_of allocator)) }
     {
         let interval_tree = IntervalTree::from_nodes_repaired(alloc, address_space, nodes, root)?;

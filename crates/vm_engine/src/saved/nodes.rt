@@ -67,7 +67,8 @@ impl ReadNodes {
         right: Option<Span>,
         height: u64,
     ) -> std::result::Result<Span, ValueError>
-        ensures node { EndsNode self.old.held.items left (record { key = key; state = state }) right height result self.new.held.items }
+        ensures node { EndsNode self.old.held.items left (record { key = key; state = state }) right height
+            result self.new.held.items }
     {
         self.leave();
         let Some(span) = span_over(&left, &key, state, &right, height) else {
@@ -120,7 +121,8 @@ fn arrange(
 /// Moves `count` keys, of which the first has the index `first`, to the end of a list.
 fn rotate(list: &mut Vec<RangeInclusive>, first: usize, count: usize)
     requires within { first + count ≤ vec_len list.old }
-    ensures items { list.new.items ≡ take first list.old.items ++ (drop (first + count) list.old.items ++ take count (drop first list.old.items)) }
+    ensures items { list.new.items ≡ take first list.old.items
+        ++ (drop (first + count) list.old.items ++ take count (drop first list.old.items)) }
     ensures len { vec_len list.new ≡ vec_len list.old }
 {
     list[first..].rotate_left(count);
@@ -140,7 +142,8 @@ impl IntervalTree {
         nodes: &ReadNodes,
         root: Option<Span>,
     ) -> std::result::Result<Self, ValueError>
-        ensures answer { (t : Saved) → StandsFor root t → nodes.now.held.items ≡ held_keys t → Reads (HasTreeOf space t) (made_tree result) }
+        ensures answer { (t : Saved) → StandsFor root t → nodes.now.held.items ≡ held_keys t
+            → Reads (HasTreeOf space t) (made_tree result) }
         ensures space { IfOk result (λ tree. (tree_state tree).space ≡ space) }
         ensures state { IfOk result (λ tree. IsAddressState (tree_state tree)) }
     {
@@ -167,7 +170,8 @@ impl IntervalTree {
         nodes: &ReadNodes,
         root: Option<Span>,
     ) -> std::result::Result<Self, ValueError>
-        ensures answer { (t : Saved) → StandsFor root t → nodes.now.held.items ≡ held_keys t → Reads (HasHeldKeys space t) (made_tree result) }
+        ensures answer { (t : Saved) → StandsFor root t → nodes.now.held.items ≡ held_keys t
+            → Reads (HasHeldKeys space t) (made_tree result) }
         ensures space { IfOk result (λ tree. (tree_state tree).space ≡ space) }
         ensures state { IfOk result (λ tree. IsAddressState (tree_state tree)) }
     {
