@@ -270,7 +270,8 @@ impl AddressAllocator {
     /// - `Overflow`, `ResourceNotAvailable` or `InvalidStateTransition` if `allocate_constraint`
     ///   returns that error for a request. The first request that fails decides.
     ///
-    /// An error allocates no range. The [`height`](Self::height) can differ afterwards.
+    /// An error allocates no range, and all later calls have the same results. The shape of the tree can
+    /// differ, and so the [`height`](Self::height) and the counts of later calls.
     ///
     /// # Example
     ///

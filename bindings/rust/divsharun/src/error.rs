@@ -2,7 +2,7 @@ use crate::proved::vm_allocator as proved;
 use crate::{AddressAllocator, NodeState, RangeInclusive};
 use core::fmt;
 
-/// The error of a call. A call that returns an error changes nothing.
+/// The error of a call. A call that returns an error leaves the same ranges and ids allocated.
 ///
 /// # Example
 ///
@@ -105,7 +105,8 @@ impl core::error::Error for Error {}
 /// ```
 pub type Result<T> = core::result::Result<T, Error>;
 
-/// The error of a call with the prefix `try_`. A call that returns an error changes nothing.
+/// The error of a call with the prefix `try_`. A call that returns an error leaves the same ranges and
+/// ids allocated.
 ///
 /// # Example
 ///
