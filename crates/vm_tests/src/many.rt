@@ -253,15 +253,12 @@ fn devices_listed_and_compared(rt: HostRuntime) {
     let clone = devices.try_clone(rt.alloc()).expect(&rt, ENOUGH);
     assert!(rt; clone == devices);
     let mut list = list_for(&rt, 0);
-    for (number, device) in devices.devices().enumerate() {
-        let want = (number as u64, 16 * number as u64);
-        expect_eq(
-            &rt,
-            &(device.id.into(), device.range.start()),
-            &want,
-            &number,
-        );
+    let mut id = 0u32;
+    for device in devices.devices() {
+        let want = (id, u64::from(id).saturating_mul(16));
+        expect_eq(&rt, &(device.id, device.range.start()), &want, &id);
         assert!(rt; list.push(device).is_ok());
+        id = id.saturating_add(1);
     }
     let ids = devices.ids().try_clone(rt.alloc()).expect(&rt, ENOUGH);
     let space = cloned(&rt, devices.addresses());
