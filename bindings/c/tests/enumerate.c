@@ -3,7 +3,7 @@
 
 enum { MOST = 8 };
 
-/* What a visitor was called with. */
+/* The arguments of the visitor's calls. */
 struct seen {
     size_t count;
     size_t stop_at;

@@ -9,7 +9,7 @@ use core::iter::FusedIterator;
 /// Allocates ranges of addresses from one space.
 ///
 /// Allocated ranges never overlap, each is inside the space, and none contains `u64::MAX`. A range
-/// has both of its ends. Sizes and alignments are numbers of addresses.
+/// is inclusive. Sizes and alignments are numbers of addresses.
 ///
 /// Two allocators are equal if and only if they have the same space and the same allocated ranges.
 /// The calls that led to them do not matter. They are ordered by space, and then by their blocks,
@@ -66,8 +66,8 @@ impl AddressAllocator {
     /// Creates an allocator for the `size` addresses starting at `base`, with these ranges
     /// allocated. They must be in ascending order.
     ///
-    /// The allocator is equal to one that allocated the ranges by `ExactMatch`. Its tree is as low
-    /// as possible. The time is linear in the number of ranges.
+    /// The allocator is equal to one that allocated the ranges by `ExactMatch`. Its tree has
+    /// the minimum height. The time is linear in the number of ranges.
     ///
     /// # Errors
     ///

@@ -1,5 +1,5 @@
 //! Allocators of address ranges and ids for the devices of a virtual machine: MMIO and PIO windows,
-//! PCI bars, interrupts and memory slots.
+//! PCI BARs, interrupts and memory slots.
 //!
 //! The API is that of the crate `vm-allocator` 0.1.4. The code below it is proved: allocated ranges
 //! never overlap, each is aligned as requested, and a freed range can be allocated again.
