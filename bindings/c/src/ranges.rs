@@ -1,6 +1,6 @@
 //! The address allocator.
 
-use crate::handle::{create, visit, with_mut, with_mut_unit, with_ref, Handle};
+use crate::handle::{create, visit, visit_some, with_mut, with_mut_unit, with_ref, Handle};
 use crate::json::dvs_text_limits;
 use crate::proved::vm_allocator::{AddressAllocator, AllocPolicy, Error, RangeInclusive};
 use crate::rattle::Global;
@@ -162,6 +162,19 @@ pub extern "C" fn dvs_range_at(
 }
 
 #[unsafe(no_mangle)]
+pub extern "C" fn dvs_gap_at(
+    allocator: Option<&dvs_address_allocator>,
+    address: u64,
+    gap: Out<dvs_range>,
+) -> dvs_status {
+    let asked = with_ref(allocator, gap, |allocator| {
+        let found = allocator.gap_at(address);
+        Ok(found.ok_or(Error::ResourceNotAvailable)?.into())
+    });
+    status_of(asked, None)
+}
+
+#[unsafe(no_mangle)]
 pub extern "C" fn dvs_longest_gap(
     allocator: Option<&dvs_address_allocator>,
     length: Out<u64>,
@@ -201,6 +214,41 @@ pub extern "C" fn dvs_gap_visit(
 ) -> dvs_status {
     let visitor = visitor.map(|visitor| move |gap: RangeInclusive| visitor(context, gap.into()));
     status_of(visit(allocator, AddressAllocator::gaps, visitor), None)
+}
+
+#[unsafe(no_mangle)]
+pub extern "C" fn dvs_range_visit_in(
+    allocator: Option<&dvs_address_allocator>,
+    within: dvs_range,
+    visitor: Option<dvs_range_visitor>,
+    context: *mut c_void,
+    refusal: Out<dvs_refusal>,
+) -> dvs_status {
+    let visitor =
+        visitor.map(|visitor| move |range: RangeInclusive| visitor(context, range.into()));
+    let visited = visit_some(
+        allocator,
+        |allocator| Ok(allocator.held_ranges_in(&within.try_into()?)),
+        visitor,
+    );
+    status_of(visited, refusal)
+}
+
+#[unsafe(no_mangle)]
+pub extern "C" fn dvs_gap_visit_in(
+    allocator: Option<&dvs_address_allocator>,
+    within: dvs_range,
+    visitor: Option<dvs_range_visitor>,
+    context: *mut c_void,
+    refusal: Out<dvs_refusal>,
+) -> dvs_status {
+    let visitor = visitor.map(|visitor| move |gap: RangeInclusive| visitor(context, gap.into()));
+    let visited = visit_some(
+        allocator,
+        |allocator| Ok(allocator.gaps_in(&within.try_into()?)),
+        visitor,
+    );
+    status_of(visited, refusal)
 }
 
 #[unsafe(no_mangle)]

@@ -15,6 +15,7 @@ mod differences;
 mod ends;
 mod held;
 mod long_run;
+mod meeting;
 mod queries;
 mod requests;
 mod several;

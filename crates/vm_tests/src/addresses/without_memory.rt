@@ -50,6 +50,20 @@ fn look_up(rt: &impl Abort, space: &AddressAllocator, other: &AddressAllocator) 
     expect_true(rt, is_whole && space.held_count() == 3, &"three whole ones");
     let is_found = space.held_at(7) == Some(range(rt, 6, 7)) && space.held_at(8).is_none();
     expect_true(rt, is_found, &"the address of a range and of a gap");
+    let is_found = space.gap_at(8) == Some(range(rt, 8, 9)) && space.gap_at(7).is_none();
+    expect_true(rt, is_found, &"the address of a gap and of a range");
+    let within = range(rt, 7, 10);
+    let both = (
+        space.held_ranges_in(&within).next_back(),
+        space.gaps_in(&within).next(),
+    );
+    let want = (Some(range(rt, 10, 11)), Some(range(rt, 8, 9)));
+    expect_eq(
+        rt,
+        &both,
+        &want,
+        &"the ranges and the gap between two addresses",
+    );
     let are_clear = gaps_exactly(space, &[(0, 1), (4, 5), (8, 9), (12, 15)]);
     expect_true(rt, are_clear, &"the other four are gaps");
     let numbers = (space.longest_gap(), space.clear_count());
