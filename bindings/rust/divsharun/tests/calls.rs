@@ -104,8 +104,37 @@ fn answers_are_those_of_a_plain_model() {
         assert_eq!(from_both_ends(space.held_ranges(), &mut draw), held);
         assert_eq!(from_both_ends(space.gaps(), &mut draw), gaps);
     }
+    expect_queries(&space, &held, &gaps, &mut draw);
     let created = AddressAllocator::with_held(BASE, WIDTH as u64, &held);
     assert_eq!(created, Ok(space));
+}
+
+/// Checks the queries of each address, and of each range of the space and the addresses next to it.
+fn expect_queries(
+    space: &AddressAllocator,
+    held: &[RangeInclusive],
+    gaps: &[RangeInclusive],
+    draw: &mut Draw,
+) {
+    let addresses = BASE - 2..BASE + WIDTH as u64 + 2;
+    for (start, end) in addresses
+        .clone()
+        .flat_map(|start| (start..addresses.end).map(move |end| (start, end)))
+    {
+        let window = RangeInclusive::new(start, end).unwrap();
+        let meeting = |ranges: &[RangeInclusive]| -> Vec<RangeInclusive> {
+            let meets = |range: &&RangeInclusive| range.overlaps(&window);
+            ranges.iter().filter(meets).copied().collect()
+        };
+        let found = from_both_ends(space.held_ranges_in(&window), draw);
+        assert_eq!(found, meeting(held));
+        let found = from_both_ends(space.gaps_in(&window), draw);
+        assert_eq!(found, meeting(gaps));
+        if start == end {
+            assert_eq!(space.held_at(start), meeting(held).pop());
+            assert_eq!(space.gap_at(start), meeting(gaps).pop());
+        }
+    }
 }
 
 /// Makes lists of random requests in one call. If the model has no place for one of them, nothing
