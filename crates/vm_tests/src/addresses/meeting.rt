@@ -1,8 +1,10 @@
 //! Tests of the allocated ranges and the gaps that have an address in common with a range.
 use super::*;
 use crate::fixtures::range;
+use Items::{Gaps, Ranges};
 use Row::{Ask, In};
 use std::fmt::Debug;
+use vm_allocator::HeldRanges;
 
 /// A call with its expected result, or a check between calls.
 #[derive(Clone, Copy)]
@@ -85,28 +87,47 @@ const ROWS: [Row; 41] = [
     In(0, MAX - 16, &[], &[]),
 ];
 
-/// Takes the items of an iterator in turns, from its lower end if the turn is `false`, until none is
-/// left.
-fn expect_items<I: DoubleEndedIterator<Item = RangeInclusive> + Drop>(
+/// The allocated ranges or the gaps that have an address in a range.
+#[derive(Drop)]
+enum Items<'a> {
+    Ranges(HeldRanges<'a>),
+    Gaps(vm_allocator::Gaps<'a>),
+}
+
+impl<'a> Items<'a> {
+    /// Returns the first and the last address of the next item from one end.
+    fn next(&mut self, is_from_above: bool) -> Option<(u64, u64)> {
+        let item = match (self, is_from_above) {
+            (Ranges(items), false) => items.next(),
+            (Ranges(items), true) => items.next_back(),
+            (Gaps(items), false) => items.next(),
+            (Gaps(items), true) => items.next_back(),
+        };
+        item.map(|item| (item.start(), item.end()))
+    }
+}
+
+/// Takes all items, in turns from these two ends. A turn that is `true` is from above.
+fn expect_items(
     rt: &impl Abort,
-    mut items: I,
+    mut items: Items<'_>,
     want: &[(u64, u64)],
-    from_above: [bool; 2],
+    turns: [bool; 2],
     of: &impl Debug,
 ) {
     let (mut lower, mut upper) = (0usize, want.len());
-    for turn in 0..want.len() {
-        let (item, due) = if from_above[turn % 2] {
+    for number in 0..want.len() {
+        let is_from_above = turns[number % 2];
+        let due = if is_from_above {
             upper = upper.saturating_sub(1);
-            (items.next_back(), want.get(upper))
+            want.get(upper)
         } else {
             lower = lower.saturating_add(1);
-            (items.next(), want.get(lower.saturating_sub(1)))
+            want.get(lower.saturating_sub(1))
         };
-        let item = item.map(|item| (item.start(), item.end()));
-        expect_eq(rt, &item, &due.copied(), of);
+        expect_eq(rt, &items.next(is_from_above), &due.copied(), of);
     }
-    let is_over = items.next().is_none() && items.next_back().is_none();
+    let is_over = items.next(false).is_none() && items.next(true).is_none();
     expect_true(rt, is_over, of);
 }
 
@@ -120,8 +141,8 @@ fn ranges_and_gaps_within(rt: HostRuntime) {
                 let within = range(&rt, start, end);
                 for turns in [[false, false], [true, true], [false, true], [true, false]] {
                     let of = (number, turns);
-                    expect_items(&rt, space.held_ranges_in(&within), held, turns, &of);
-                    expect_items(&rt, space.gaps_in(&within), gaps, turns, &of);
+                    expect_items(&rt, Ranges(space.held_ranges_in(&within)), held, turns, &of);
+                    expect_items(&rt, Gaps(space.gaps_in(&within)), gaps, turns, &of);
                 }
             }
         }
