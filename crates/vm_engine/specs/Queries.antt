@@ -60,7 +60,7 @@ IsHeldAt state x answer = IsRangeAt state.held x answer
 abbrev pub IsGapAt : AddressState → ℕ → Option Range → Type 0
 IsGapAt state x answer = IsRangeAt (gaps_of state) x answer
 
--- Whether an address is in both ranges. The ends of both are in order.
+-- Whether an address is in both ranges, if the ends of each are in order.
 abbrev pub meets : Range → Range → Bool
 meets window r = nat_le window.start r.end && nat_le r.start window.end
 
