@@ -22,6 +22,9 @@ static void allocate() {
     CHECK(space.ranges().size() == 3 && is_range(space.ranges()[1], 0x1200, 0x120f));
     CHECK(space.gaps().size() == 2 && !space.longest_gap(length) && length == 0x1f00 - 0x1210);
     CHECK(!space.at(0x1205, range) && !space.free(range) && space.free(range));
+    CHECK(!space.move_range({0x1000, 0x10ff}, 0x1400, range) && is_range(range, 0x1400, 0x14ff));
+    CHECK(space.move_range(range, 0x1401, range) == dvs::code(DVS_RESOURCE_NOT_AVAILABLE));
+    CHECK(!space.move_range(range, 0x1000, range) && is_range(range, 0x1000, 0x10ff));
     std::vector<dvs_range> ranges;
     std::size_t failed = 9;
     CHECK(!space.allocate_all({{1, 1, 0, DVS_FIRST, nullptr}, {2, 1, 0, DVS_LAST, nullptr}}, ranges,

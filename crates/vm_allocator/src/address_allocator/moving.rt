@@ -27,6 +27,7 @@ impl AddressAllocator {
     /// - `Overflow` if `start` is `u64::MAX`.
     /// - `ResourceNotAvailable` if `start` is outside the space.
     /// - `Overflow` if the new range would end past `u64::MAX`.
+    /// - `InvalidStateTransition` if exactly the new range is already allocated.
     /// - `ResourceNotAvailable` if an address of the new range is not free, as those of `key`.
     /// - `Overflow` if the new range ends at `u64::MAX`.
     /// - Only if the new range splits its gap:
