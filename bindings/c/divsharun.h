@@ -399,6 +399,30 @@ dvs_status dvs_address_allocator_allocate_all(dvs_address_allocator *allocator,
 dvs_status dvs_range_free(dvs_address_allocator *allocator, dvs_range range, dvs_refusal *refusal);
 
 /*
+ * Moves an allocated range to `start`, and writes the range there to `moved`. A
+ * guest does this when it programs a BAR. It allocates as many addresses at
+ * `start`, and then frees `range`. So both cannot overlap. A move of a range to
+ * its own start succeeds and changes nothing.
+ *
+ * Errors, in order:
+ * - DVS_INVALID_RANGE if `range` is not a valid range.
+ * - DVS_RESOURCE_NOT_AVAILABLE if exactly this range is not allocated.
+ * - DVS_OVERFLOW if `start` is UINT64_MAX.
+ * - DVS_RESOURCE_NOT_AVAILABLE if `start` is outside the space.
+ * - DVS_OVERFLOW if the new range would end past UINT64_MAX.
+ * - DVS_INVALID_STATE_TRANSITION, with the new range, if exactly that range is
+ *   already allocated.
+ * - DVS_RESOURCE_NOT_AVAILABLE if an address of the new range is allocated, as
+ *   those of `range` are, or outside the space.
+ * - DVS_OVERFLOW if the new range ends at UINT64_MAX, or more than 6 * 10^9
+ *   ranges are allocated.
+ * - DVS_OUT_OF_MEMORY.
+ */
+DVS_WARN_UNUSED
+dvs_status dvs_range_move(dvs_address_allocator *allocator, dvs_range range, uint64_t start,
+                          dvs_range *moved, dvs_refusal *refusal);
+
+/*
  * Writes to `is_held` whether exactly this range is allocated.
  *
  * Errors: DVS_INVALID_RANGE if `range` is not a valid range.

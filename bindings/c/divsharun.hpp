@@ -191,6 +191,10 @@ class address_allocator : public owner<dvs_address_allocator, dvs_address_alloca
         return allocate_all(all, ranges, failed, refusal);
     }
     error free(dvs_range range) { return code(dvs_range_free(get(), range, nullptr)); }
+    error move_range(dvs_range range, uint64_t start, dvs_range &moved,
+                     dvs_refusal *refusal = nullptr) {
+        return code(dvs_range_move(get(), range, start, &moved, refusal));
+    }
     error at(uint64_t address, dvs_range &range) const {
         return code(dvs_range_at(get(), address, &range));
     }

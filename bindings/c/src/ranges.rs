@@ -127,6 +127,21 @@ pub extern "C" fn dvs_range_free(
 }
 
 #[unsafe(no_mangle)]
+pub extern "C" fn dvs_range_move(
+    allocator: Option<&dvs_address_allocator>,
+    range: dvs_range,
+    start: u64,
+    moved: Out<dvs_range>,
+    refusal: Out<dvs_refusal>,
+) -> dvs_status {
+    let answer = with_mut(allocator, moved, |allocator| {
+        let moved = allocator.move_range(Global, &range.try_into()?, start)?;
+        Ok(moved.into())
+    });
+    status_of(answer, refusal)
+}
+
+#[unsafe(no_mangle)]
 pub extern "C" fn dvs_range_is_held(
     allocator: Option<&dvs_address_allocator>,
     range: dvs_range,

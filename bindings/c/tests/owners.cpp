@@ -31,6 +31,9 @@ static void allocate() {
     CHECK(!space.gaps_in({0x1205, 0x1fff}, ranges) && ranges.size() == 1);
     CHECK(is_range(ranges[0], 0x1210, 0x1eff));
     CHECK(!space.at(0x1205, range) && !space.free(range) && space.free(range));
+    CHECK(!space.move_range({0x1000, 0x10ff}, 0x1400, range) && is_range(range, 0x1400, 0x14ff));
+    CHECK(space.move_range(range, 0x1401, range) == dvs::code(DVS_RESOURCE_NOT_AVAILABLE));
+    CHECK(!space.move_range(range, 0x1000, range) && is_range(range, 0x1000, 0x10ff));
     std::size_t failed = 9;
     CHECK(!space.allocate_all({{1, 1, 0, DVS_FIRST, nullptr}, {2, 1, 0, DVS_LAST, nullptr}}, ranges,
                               &failed));

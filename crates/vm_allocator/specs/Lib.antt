@@ -3,6 +3,7 @@ pub mod Ids
 pub mod IdOrder
 pub mod FreedLists
 pub mod Several
+pub mod Moves
 pub mod Histories
 pub mod Laws
 pub mod Values

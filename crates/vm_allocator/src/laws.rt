@@ -5,6 +5,7 @@ mod gaps;
 mod histories;
 mod id_histories;
 mod ids;
+mod moves;
 mod saved;
 mod several;
 mod windows;

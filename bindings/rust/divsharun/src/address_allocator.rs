@@ -261,6 +261,72 @@ impl AddressAllocator {
         or_try_error(self.0.allocate_constraint(Global, request.0)).map(RangeInclusive)
     }
 
+    /// Moves an allocated range to another start, and returns the range there. A guest does this when
+    /// it programs a BAR.
+    ///
+    /// It allocates as many addresses at `start` by `ExactMatch` at alignment 1, and then frees `key`.
+    /// So the new range cannot overlap `key`. A move to the start of `key` succeeds and changes
+    /// nothing.
+    ///
+    /// # Errors
+    ///
+    /// An error changes nothing. In this order:
+    /// - `ResourceNotAvailable` if exactly this range is not allocated.
+    /// - `Overflow` if `start` is `u64::MAX`.
+    /// - `ResourceNotAvailable` if `start` is outside the space.
+    /// - `Overflow` if the new range would end past `u64::MAX`.
+    /// - `InvalidStateTransition` if exactly the new range is already allocated.
+    /// - `ResourceNotAvailable` if an address of the new range is not free, as those of `key`.
+    /// - `Overflow` if the new range ends at `u64::MAX`.
+    /// - `Overflow` if the new range fills only a part of its gap and the height of the tree is 48 or
+    ///   more. This takes more than 6 * 10^9 ranges.
+    ///
+    /// # Example
+    ///
+    /// ```rust
+    /// use divsharun::{AddressAllocator, AllocPolicy, Error};
+    ///
+    /// let mut mmio = AddressAllocator::new(0xd000_0000, 0x1000_0000)?;
+    /// let bar = mmio.allocate(0x4000, 0x4000, AllocPolicy::FirstMatch)?;
+    /// let moved = mmio.move_range(&bar, 0xd800_0000)?;
+    /// assert_eq!((moved.start(), moved.len()), (0xd800_0000, 0x4000));
+    /// assert!(!mmio.holds(&bar));
+    ///
+    /// // The new range would overlap the old one.
+    /// assert_eq!(mmio.move_range(&moved, 0xd800_2000), Err(Error::ResourceNotAvailable));
+    /// # Ok::<(), Error>(())
+    /// ```
+    pub fn move_range(&mut self, key: &RangeInclusive, start: u64) -> Result<RangeInclusive> {
+        or_abort(self.0.move_range(Global, &key.0, start)).map(RangeInclusive)
+    }
+
+    /// Moves a range like [`move_range`](Self::move_range), but returns an error if memory runs out.
+    ///
+    /// # Errors
+    ///
+    /// An error changes nothing. In this order:
+    /// - `Refused` with `ResourceNotAvailable`, `Overflow` or `InvalidStateTransition`, if `move_range`
+    ///   returns that error.
+    /// - `OutOfMemory` if memory for a node runs out. A new range that fills its gap does not allocate.
+    ///
+    /// # Example
+    ///
+    /// ```rust
+    /// use divsharun::{AddressAllocator, AllocPolicy, TryError};
+    ///
+    /// let mut ports = AddressAllocator::try_new(0xc000, 0x1000)?;
+    /// let bar = ports.try_allocate(0x100, 0x100, AllocPolicy::FirstMatch)?;
+    /// assert_eq!(ports.try_move_range(&bar, 0xc800)?.end(), 0xc8ff);
+    /// # Ok::<(), TryError>(())
+    /// ```
+    pub fn try_move_range(
+        &mut self,
+        key: &RangeInclusive,
+        start: u64,
+    ) -> core::result::Result<RangeInclusive, TryError> {
+        or_try_error(self.0.move_range(Global, &key.0, start)).map(RangeInclusive)
+    }
+
     /// Allocates a range for each request, in their order, and returns the ranges. Each request can
     /// have its own window. Each range is where [`allocate_constraint`](Self::allocate_constraint)
     /// places it after the requests before it.

@@ -43,6 +43,7 @@
 //! - of an [`AddressAllocator`]: [`with_held`](AddressAllocator::with_held),
 //!   [`allocate_all`](AddressAllocator::allocate_all),
 //!   [`allocate_constraint`](AddressAllocator::allocate_constraint),
+//!   [`move_range`](AddressAllocator::move_range),
 //!   [`held_ranges`](AddressAllocator::held_ranges),
 //!   [`held_ranges_in`](AddressAllocator::held_ranges_in), [`holds`](AddressAllocator::holds),
 //!   [`held_at`](AddressAllocator::held_at), [`held_count`](AddressAllocator::held_count),

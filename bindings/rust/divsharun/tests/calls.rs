@@ -64,6 +64,22 @@ fn from_both_ends(
     lower
 }
 
+/// Moves a range, if the addresses there are free, or checks that it stays.
+fn move_range(space: &mut AddressAllocator, model: &mut Model, held: &mut RangeInclusive, to: u64) {
+    let answer = space.move_range(held, to);
+    if to == held.start() {
+        assert_eq!(answer, Ok(*held));
+    } else if model.is_clear(to, held.len()) {
+        let moved = answer.unwrap();
+        assert_eq!((moved.start(), moved.len()), (to, held.len()));
+        model.set(held, None);
+        model.set(&moved, Some(to));
+        *held = moved;
+    } else {
+        assert!(answer.is_err());
+    }
+}
+
 #[test]
 fn answers_are_those_of_a_plain_model() {
     let mut draw = Draw(1);
@@ -73,11 +89,16 @@ fn answers_are_those_of_a_plain_model() {
     for _ in 0..20_000 {
         let (size, align) = (1 + draw.below(6), 1 << draw.below(3));
         let at = BASE + draw.below(WIDTH as u64);
-        let policy = match draw.below(8) {
+        let policy = match draw.below(9) {
             0..=2 => AllocPolicy::FirstMatch,
             3 => AllocPolicy::LastMatch,
             4 => AllocPolicy::ExactMatch(at - at % align),
             _ if held.is_empty() => continue,
+            5 => {
+                let moved = draw.below(held.len() as u64) as usize;
+                move_range(&mut space, &mut model, &mut held[moved], at);
+                continue;
+            }
             _ => {
                 let range = held.swap_remove(draw.below(held.len() as u64) as usize);
                 assert_eq!(space.free(&range), Ok(()));

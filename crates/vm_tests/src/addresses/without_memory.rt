@@ -76,6 +76,12 @@ fn fill(rt: &(impl Abort + AllocGlobal), space: &mut AddressAllocator, form: For
         (First(2, 1), Range(0, 1)),
         (LastIn(4, 1, (4, 20)), Range(12, 15)),
         (FirstIn(2, 1, (7, 10)), Range(8, 9)),
+        // A range moves to a gap that it fills.
+        (Free(8, 9), Range(8, 9)),
+        (Move(0, 1, 8), Range(8, 9)),
+        (Move(8, 9, 0), Range(0, 1)),
+        (First(2, 1), Range(4, 5)),
+        (Move(4, 5, 8), Range(8, 9)),
         // Free addresses are on no side, before, on both sides, and after.
         (Free(0, 1), Range(0, 1)),
         (Free(6, 7), Range(6, 7)),
@@ -123,6 +129,9 @@ fn refused(rt: HostRuntime) {
         (LastIn(1, 1, (16, MAX)), NotAvailable),
         (ExactIn(2, 1, 6, (6, 6)), Held(6, 7)),
         (Free(4, 5), NotAvailable),
+        (Move(4, 5, 8), NotAvailable),
+        (Move(6, 7, 5), NotAvailable),
+        (Move(6, 7, 6), Range(6, 7)),
         (Free(6, 6), NotAvailable),
         (Free(16, 17), NotAvailable),
     ];
