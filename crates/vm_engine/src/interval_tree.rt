@@ -5,6 +5,7 @@
 //! - `deallocation` frees an allocated range.
 //! - `held_ranges` has queries about the allocated ranges.
 //! - `gaps` has queries about the free addresses.
+//! - `totals` has the number of allocated ranges and of free addresses.
 //! - `comparing` compares two trees.
 //! - `counted` has the calls that count the nodes that they enter.
 //!
@@ -40,11 +41,15 @@ mod deallocation;
 pub(crate) mod gaps;
 pub(crate) mod held_ranges;
 pub(crate) mod placement;
+pub(crate) mod totals;
+
+pub(crate) use totals::Totals;
 
 /// The blocks of an address space, in a balanced tree.
 #[derive(Debug, Drop)]
 pub struct IntervalTree {
     pub(crate) root: Child,
+    pub(crate) totals: Totals,
 }
 
 impl Model for IntervalTree {
@@ -59,9 +64,9 @@ impl Model for IntervalTree {
 
     ghost view = { λ a. side a.root };
 
-    ghost use Rattle.vm_engine.specs.Tree.SpaceTree.{IsSpaceTree};
+    ghost use Rattle.vm_engine.specs.Engine.Totals.{IsCountedTree};
 
-    ghost invariant = { λ a. IsSpaceTree (side a.root) };
+    ghost invariant = { λ a. IsCountedTree (side a.root) a.totals };
 }
 
 impl IntervalTree {
@@ -78,7 +83,10 @@ impl IntervalTree {
         ensures state { IfOk result (λ tree. IsAddressState (tree_state tree)) }
     {
         let node = Box::new(alloc, InnerNode::new(Block::free(key)))?;
-        Ok(IntervalTree { root: Some(node) })
+        Ok(IntervalTree {
+            root: Some(node),
+            totals: Totals::of_free(&key),
+        })
     }
 
     /// Returns a copy with the same nodes.
@@ -91,6 +99,7 @@ impl IntervalTree {
     {
         Ok(IntervalTree {
             root: Some(copy(self.root(), alloc)?),
+            totals: self.totals,
         })
     }
 

@@ -127,7 +127,7 @@ adds lo hi r (x ∷ xs) s a b c m =
     (beside x r xs s.1 b m)
 
 -- A held range that is removed and added again.
-with_without : (lo hi : ℕ) (r : Range) (hs : List Range) → AreInOrder lo hs hi → IsHeld hs r → with_range r (without_range r hs) ≡ hs
+pub with_without : (lo hi : ℕ) (r : Range) (hs : List Range) → AreInOrder lo hs hi → IsHeld hs r → with_range r (without_range r hs) ≡ hs
 with_without lo hi r [] s h = absurd h
 with_without lo hi r (x ∷ xs) s h =
     ⊎_elim

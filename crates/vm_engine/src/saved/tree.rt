@@ -12,6 +12,7 @@ ghost use Rattle.vm_engine.specs.Checks.ValueParts.{HasShapeWithin};
 
 use crate::IntervalTree;
 use crate::block::Block;
+use crate::interval_tree::Totals;
 use crate::node::walks::encoding::encode;
 use crate::node::{Child, InnerNode, MAX_HEIGHT};
 use crate::saved::check::check_nodes;
@@ -54,7 +55,8 @@ impl IntervalTree {
             return Err(ValueError::NotAState);
         }
         let root = build(value, MAX_HEIGHT, alloc)?;
-        Ok(IntervalTree { root })
+        let totals = Totals::of(&root);
+        Ok(IntervalTree { root, totals })
     }
 }
 

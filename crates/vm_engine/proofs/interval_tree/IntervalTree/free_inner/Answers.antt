@@ -2,21 +2,32 @@ use Rattle.std.proofs.Common.{sym}
 use Rattle.vm_engine.specs.Engine.NodeFields.{side}
 use Rattle.vm_engine.proofs.Releasing.Finding.{held_block_found}
 use Rattle.vm_engine.proofs.Releasing.Apart.{held_range_freed}
-use Rattle.vm_engine.proofs.Releasing.JoinedBlocks.{space_given, frees_held_block}
+use Rattle.vm_engine.proofs.Nodes.CountedTrees.{freed_held, freed_fits, freed_counted}
+use Rattle.vm_engine.proofs.Releasing.JoinedBlocks.{frees_held_block}
 use Rattle.vm_engine.proofs.interval_tree.IntervalTree.free_inner.Goals as goal
 
 pub join_free-requires-clause-around : goal.join_free-requires-clause-around
 join_free-requires-clause-around c =
     let found = rw (c.root.ensures.value, ← c.self.view_is) at c.in-Some.ensures.value in
-    (held_range_freed _ _ _ c.self.invariant (held_block_found (side c.self.inside.root) _ _ (sym found))).around
+    (held_range_freed _ _ _ c.self.invariant.tree (held_block_found (side c.self.inside.root) _ _ (sym found))).around
+
+pub remove_held-requires-clause-held : goal.remove_held-requires-clause-held
+remove_held-requires-clause-held c =
+    let found = rw (c.root.ensures.value, ← c.self.view_is) at c.in-Some.ensures.value in
+    freed_held _ _ _ _ _ c.self.invariant (held_block_found (side c.self.inside.root) _ _ (sym found)) c.join_free.ensures.blocks c.join_free.ensures.height
+
+pub remove_held-requires-clause-fits : goal.remove_held-requires-clause-fits
+remove_held-requires-clause-fits c =
+    let found = rw (c.root.ensures.value, ← c.self.view_is) at c.in-Some.ensures.value in
+    freed_fits _ _ _ _ _ c.self.invariant (held_block_found (side c.self.inside.root) _ _ (sym found)) c.join_free.ensures.blocks c.join_free.ensures.height
 
 pub invariant_of-self : goal.invariant_of-self
 invariant_of-self c =
     let found = rw (c.root.ensures.value, ← c.self.view_is) at c.in-Some.ensures.value in
-    space_given _ _ _ _ c.self.invariant (held_range_freed _ _ _ c.self.invariant (held_block_found (side c.self.inside.root) _ _ (sym found))) c.join_free.ensures.blocks c.join_free.ensures.height
+    freed_counted _ _ _ _ _ c.self.invariant (held_block_found (side c.self.inside.root) _ _ (sym found)) c.join_free.ensures.blocks c.join_free.ensures.height _ c.remove_held.ensures.held c.remove_held.ensures.clear
 
 pub returns-clause-answer : goal.returns-clause-answer
 returns-clause-answer c =
     let found = rw (c.root.ensures.value, ← c.self.view_is) at c.in-Some.ensures.value in
     let held_one = held_block_found (side c.self.inside.root) _ _ (sym found) in
-    rw (← c.self.view_is) (frees_held_block _ (side c.join_free.new.root) _ _ c.self.invariant held_one (held_range_freed _ _ _ c.self.invariant held_one) c.join_free.ensures.blocks)
+    rw (← c.self.view_is) (frees_held_block _ (side c.join_free.new.root) _ _ c.self.invariant.tree held_one (held_range_freed _ _ _ c.self.invariant.tree held_one) c.join_free.ensures.blocks)

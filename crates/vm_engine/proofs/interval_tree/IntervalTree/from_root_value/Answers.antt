@@ -11,8 +11,8 @@ returns-then-not-has_tree_of c = none_encoded (view c.args.value.now) c.args.spa
 pub build-requires-clause-shape : goal.build-requires-clause-shape
 build-requires-clause-shape c = has_shape (view c.args.value.now) c.args.space.now c.if-not-has_tree_of.ensures.space (sym c.if-not-has_tree_of.ensures.value)
 
-pub invariant_of-result : goal.invariant_of-result
-invariant_of-result c =
+pub of-totals-requires : goal.of-totals-requires
+of-totals-requires c =
     encoded_tree (view c.args.value.now) c.args.space.now (side c.in_ok-root.root) c.if-not-has_tree_of.ensures.space
     (built_states (view c.args.value.now) c.args.space.now (side c.in_ok-root.root) c.if-not-has_tree_of.ensures.space (sym c.if-not-has_tree_of.ensures.value) c.in_ok-root.ensures)
 
