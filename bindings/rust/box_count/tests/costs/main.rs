@@ -6,4 +6,5 @@ mod meter;
 mod objects;
 mod requests;
 mod time;
+mod totals;
 mod windows;

@@ -7,6 +7,7 @@
 //! - `deallocation` frees an allocated range.
 //! - `held_ranges` has queries about the allocated ranges.
 //! - `gaps` has queries about the free addresses.
+//! - `totals` has the number of allocated ranges and of free addresses.
 //! - `comparing` compares two trees.
 //! - `counted` has the calls that count the nodes that they enter.
 //!
@@ -33,11 +34,15 @@ mod deallocation;
 pub(in crate::proved::vm_engine) mod gaps;
 pub(in crate::proved::vm_engine) mod held_ranges;
 pub(in crate::proved::vm_engine) mod placement;
+pub(in crate::proved::vm_engine) mod totals;
+
+pub(in crate::proved::vm_engine) use totals::Totals;
 
 /// The blocks of an address space, in a balanced tree.
 #[derive(Debug)]
 pub struct IntervalTree {
     pub(in crate::proved::vm_engine) root: Child,
+    pub(in crate::proved::vm_engine) totals: Totals,
 }
 
 impl IntervalTree {
@@ -50,7 +55,10 @@ impl IntervalTree {
     /// - `OutOfMemory` if the allocation of the node fails.
     pub fn new(alloc: Global, key: RangeInclusive) -> Result<Self> {
         let node = Box::new(alloc, InnerNode::new(Block::free(key)))?;
-        Ok(IntervalTree { root: Some(node) })
+        Ok(IntervalTree {
+            root: Some(node),
+            totals: Totals::of_free(&key),
+        })
     }
 
     /// Returns a copy with the same nodes.
@@ -61,6 +69,7 @@ impl IntervalTree {
     pub fn try_clone(&self, alloc: Global) -> Result<Self> {
         Ok(IntervalTree {
             root: Some(copy(self.root(), alloc)?),
+            totals: self.totals,
         })
     }
 

@@ -42,6 +42,7 @@ impl IntervalTree {
                 NodeState::Allocated,
                 count,
             );
+            self.totals.add_held(&choice.range);
             return Ok(choice.range);
         }
         if self.height() >= SPLIT_HEIGHT_LIMIT {
@@ -50,6 +51,7 @@ impl IntervalTree {
         let rest = rest_of(alloc, &choice)?;
         let mut split = Split { choice, rest };
         split_gap(&mut self.root, &mut split, edge, count);
+        self.totals.add_held(&choice.range);
         Ok(choice.range)
     }
 }

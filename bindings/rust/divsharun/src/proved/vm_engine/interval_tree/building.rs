@@ -5,7 +5,7 @@
 //! A first pass checks and counts without allocating. A second pass builds the blocks into a tree
 //! from the middle, so no rotation is needed.
 
-use super::IntervalTree;
+use super::{IntervalTree, Totals};
 use crate::proved::vm_engine::block::Block;
 use crate::proved::vm_engine::node::{Child, InnerNode};
 use crate::proved::vm_engine::ordering::valid_range;
@@ -40,7 +40,11 @@ impl IntervalTree {
             end: key.end(),
         };
         let root = build(alloc, count, &mut cursor)?;
-        Ok(IntervalTree { root })
+        let totals = Totals {
+            held: held.len() as u64,
+            clear: count_left(&key, held),
+        };
+        Ok(IntervalTree { root, totals })
     }
 }
 
@@ -62,6 +66,15 @@ fn count_blocks(space: &RangeInclusive, held: &[RangeInclusive]) -> Result<u64> 
         count += 1;
     }
     Ok(count)
+}
+
+/// Returns the number of addresses of a space that are in none of these ranges.
+fn count_left(space: &RangeInclusive, held: &[RangeInclusive]) -> u64 {
+    let mut left = space.len();
+    for range in held {
+        left -= range.len();
+    }
+    left
 }
 
 /// Checks that a range can be allocated if it must start at `next` or later, in a space that ends at

@@ -23,6 +23,7 @@ impl IntervalTree {
             return Err(Error::ResourceNotAvailable);
         };
         join_free(&mut self.root, key, &beside, count);
+        self.totals.remove_held(key);
         Ok(())
     }
 }

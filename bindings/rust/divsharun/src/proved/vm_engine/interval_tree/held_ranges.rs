@@ -1,13 +1,10 @@
 // Written by bindings/erase from crates/vm_engine/src/interval_tree/held_ranges.rt: do not edit.
 
 //! Queries about the allocated ranges.
-//!
-//! Their number is not stored, because each change would have to update it. `held_count` counts
-//! them.
 
 use super::IntervalTree;
 use crate::proved::vm_engine::node::walks::both_ends::Blocks;
-use crate::proved::vm_engine::node::walks::held::{count_held, has_held, held_at};
+use crate::proved::vm_engine::node::walks::held::{has_held, held_at};
 use crate::proved::vm_ranges::{NodeState, RangeInclusive};
 
 /// An iterator over the allocated ranges, from the lowest to the highest, or backwards. It does not
@@ -70,8 +67,8 @@ impl IntervalTree {
         held_at(&self.root, address)
     }
 
-    /// Returns the number of allocated ranges. It visits every node and does not allocate.
+    /// Returns the number of allocated ranges. It takes constant time and does not allocate.
     pub fn held_count(&self) -> u64 {
-        count_held(&self.root)
+        self.totals.held
     }
 }

@@ -4,6 +4,7 @@
 
 use crate::proved::vm_engine::IntervalTree;
 use crate::proved::vm_engine::block::Block;
+use crate::proved::vm_engine::interval_tree::Totals;
 use crate::proved::vm_engine::node::walks::encoding::encode;
 use crate::proved::vm_engine::node::{Child, InnerNode, MAX_HEIGHT};
 use crate::proved::vm_engine::saved::check::check_nodes;
@@ -41,7 +42,8 @@ impl IntervalTree {
             return Err(ValueError::NotAState);
         }
         let root = build(value, MAX_HEIGHT, alloc)?;
-        Ok(IntervalTree { root })
+        let totals = Totals::of(&root);
+        Ok(IntervalTree { root, totals })
     }
 }
 
