@@ -10,7 +10,7 @@ pub mod NodeUpdate
 pub mod NodeAnswer
 pub mod Widening
 pub mod SplitBlocks
-pub mod Totals
+pub mod CountedTrees
 pub mod Outermost
 pub mod Walks
 pub mod Choosing

@@ -5,7 +5,6 @@
 //! - `deallocation` frees an allocated range.
 //! - `held_ranges` has queries about the allocated ranges.
 //! - `gaps` has queries about the free addresses.
-//! - `totals` has the number of allocated ranges and of free addresses.
 //! - `comparing` compares two trees.
 //! - `counted` has the calls that count the nodes that they enter.
 //!
@@ -41,15 +40,15 @@ mod deallocation;
 pub(crate) mod gaps;
 pub(crate) mod held_ranges;
 pub(crate) mod placement;
-pub(crate) mod totals;
-
-pub(crate) use totals::Totals;
 
 /// The blocks of an address space, in a balanced tree.
 #[derive(Debug, Drop)]
 pub struct IntervalTree {
     pub(crate) root: Child,
-    pub(crate) totals: Totals,
+    /// The number of allocated ranges.
+    pub(crate) held_count: u64,
+    /// The number of free addresses.
+    pub(crate) clear_count: u64,
 }
 
 impl Model for IntervalTree {
@@ -64,9 +63,9 @@ impl Model for IntervalTree {
 
     ghost view = { λ a. side a.root };
 
-    ghost use Rattle.vm_engine.specs.Engine.Totals.{IsCountedTree};
+    ghost use Rattle.vm_engine.specs.Engine.CountedTrees.{IsCountedTree};
 
-    ghost invariant = { λ a. IsCountedTree (side a.root) a.totals };
+    ghost invariant = { λ a. IsCountedTree (side a.root) a.held_count a.clear_count };
 }
 
 impl IntervalTree {
@@ -85,7 +84,8 @@ impl IntervalTree {
         let node = Box::new(alloc, InnerNode::new(Block::free(key)))?;
         Ok(IntervalTree {
             root: Some(node),
-            totals: Totals::of_free(&key),
+            held_count: 0,
+            clear_count: key.len(),
         })
     }
 
@@ -99,7 +99,8 @@ impl IntervalTree {
     {
         Ok(IntervalTree {
             root: Some(copy(self.root(), alloc)?),
-            totals: self.totals,
+            held_count: self.held_count,
+            clear_count: self.clear_count,
         })
     }
 

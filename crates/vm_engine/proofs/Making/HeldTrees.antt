@@ -12,8 +12,7 @@ use Rattle.vm_engine.specs.Queries.{count_of}
 use Rattle.vm_ranges.specs.Cases.{IfElse}
 use Rattle.vm_engine.specs.Held.{first_fault, MakesHeld, TOO_MANY_BLOCKS}
 use Rattle.vm_engine.specs.Engine.Building.{IsBuilt}
-use Rattle.vm_engine.specs.Engine.Totals.{IsCountedTree}
-use Rattle.vm_engine.specs.declared.interval_tree.totals.Totals.{Totals}
+use Rattle.vm_engine.specs.Engine.CountedTrees.{IsCountedTree}
 use Rattle.vm_ranges.specs.declared.state.NodeState.TheVariants.{Allocated}
 use Rattle.vm_ranges.specs.declared.error.Error.{Error}
 use Rattle.vm_ranges.specs.declared.error.Error.TheVariants.{Overflow, OutOfMemory}
@@ -66,14 +65,14 @@ module _ (space : Range) (held : List Range) (range : IsRange space.start space.
   pub built_tree : IsSpaceTree s
   built_tree = space_tree space s tiling range low
 
-  pub built_counted : (totals : Totals) → totals.held ≡ length held → totals.clear + count_of held ≡ address_count space → IsCountedTree s totals
+  pub built_counted : (clear : ℕ) → clear + count_of held ≡ address_count space → IsCountedTree s (length held) clear
   unfolding TilesSpace
-  built_counted totals e f =
+  built_counted clear f =
       let all = all_counted Allocated space.start space.end (blocks s) tiling.tiles in
       record {
         tree = built_tree;
-        held = e ∙ ap length (sym held_are);
-        clear = omega (arith, f, all, ap count_of held_are, range.0);
+        held_count = ap length (sym held_are);
+        clear_count = omega (arith, f, all, ap count_of held_are, range.0);
       }
 
   pub built_state : tree_state s ≡ state

@@ -1,4 +1,4 @@
--- The totals of a tree before and after a range is allocated or freed.
+-- The counts of a tree before and after a range is allocated or freed.
 use Rattle.std.proofs.Common.{◌≡◌, ℕ, ◌+◌, ◌-◌, ◌<◌, ◌≤◌, List, [], ◌∷◌, length, drop, get_or, refl, sym, ap, ◌∙◌, arith, ⊎_elim}
 use Rattle.std.proofs.lemmas.Bool.{cases_lt, lt-ltb, le-ltb}
 use Rattle.std.proofs.lemmas.List.{drop_more}
@@ -8,15 +8,15 @@ use Rattle.vm_engine.specs.Address.{AddressState, AreInOrder, with_range, holdin
 use Rattle.vm_engine.specs.Answer.{AllocatesAt, Frees}
 use Rattle.vm_engine.specs.Engine.Choosing.{IsChoice, Splits}
 use Rattle.vm_engine.specs.Engine.FreedBlocks.{with_joined}
-use Rattle.vm_engine.specs.Engine.Totals.{IsCountedTree}
+use Rattle.vm_engine.specs.Engine.CountedTrees.{IsCountedTree}
 use Rattle.vm_engine.specs.Queries.{free_of, count_of}
+use Rattle.vm_engine.specs.Tree.Block.{Block, free_block}
 use Rattle.vm_engine.specs.Tree.Blocks.{TilesSpace, held_of}
 use Rattle.vm_engine.specs.Tree.FreeBeside.{HasHeld}
 use Rattle.vm_engine.specs.Tree.Shape.{Shape, blocks, height_of}
 use Rattle.vm_engine.specs.Tree.SpaceTree.{space_of, tree_state, IsSpaceTree}
 use Rattle.vm_engine.specs.declared.node.neighbours.Neighbours.{Neighbours}
 use Rattle.vm_engine.specs.declared.node.split.Choice.{Choice}
-use Rattle.vm_engine.specs.declared.interval_tree.totals.Totals.{Totals}
 use Rattle.vm_ranges.specs.declared.state.NodeState.TheVariants.{Allocated}
 use Rattle.vm_engine.proofs.Blocks.BlockCounts.{with_without}
 use Rattle.vm_engine.proofs.Blocks.GapLists.{all_counted}
@@ -25,7 +25,7 @@ use Rattle.vm_engine.proofs.Nodes.Spaces.{state_of_tree}
 use Rattle.vm_engine.proofs.Releasing.Apart.{Given, held_range_freed}
 use Rattle.vm_engine.proofs.Releasing.JoinedBlocks.{space_given, frees_held_block}
 use Rattle.vm_engine.proofs.Splitting.SplitStates.{space_taken, taken_in}
-use Rattle.vm_engine.proofs.Walking.GapsInTrees.{clear_in_tree}
+use Rattle.vm_engine.proofs.Walking.GapsInTrees.{clear_in_tree, clear_middle}
 use Rattle.vm_engine.proofs.Walking.HeldInTrees.{few_held}
 
 -- ---- A range added to a list
@@ -81,11 +81,17 @@ held_again s n r h c e =
     let back = with_without sp.start sp.end r (held_of (blocks s)) (state_of_tree s h).in_order (held_contains (held_of (blocks s)) r c) in
     ap (λ (v : List Range). record { space = sp; held = v }) (sym back) ∙ ap (holding r) (sym e)
 
--- ---- The totals after a range is allocated
-pub counted_fits : (s : Shape) (totals : Totals) → IsCountedTree s totals → totals.held < MAX
-counted_fits s totals h = omega (arith, few_held s h.tree.height, h.held)
+-- ---- The counts after a range is allocated
+pub held_fits : (s : Shape) (held clear : ℕ) → IsCountedTree s held clear → held < MAX
+held_fits s held clear h = omega (arith, few_held s h.tree.height, h.held_count)
 
-module _ (s n : Shape) (totals : Totals) (choice : Choice) (h : IsCountedTree s totals) (i : IsChoice (blocks s) choice) (c : Splits (blocks s) choice.key choice.range (blocks n)) (l : height_of n ≤ 49) where
+-- A range in a free block has at most as many addresses as are clear.
+pub choice_fits : (s : Shape) (held clear : ℕ) (choice : Choice) → IsCountedTree s held clear → IsChoice (blocks s) choice → address_count choice.range ≤ clear
+choice_fits s held clear choice h i =
+    let all = ap (λ (v : List Block). count_of (free_of v)) i.cut in
+    omega (arith, h.clear_count, all, clear_middle i.before i.after (free_block choice.key) refl, i.within.from, i.within.some, i.within.upto)
+
+module _ (s n : Shape) (held clear : ℕ) (choice : Choice) (h : IsCountedTree s held clear) (i : IsChoice (blocks s) choice) (c : Splits (blocks s) choice.key choice.range (blocks n)) (l : height_of n ≤ 49) where
   taken_tree : IsSpaceTree n
   taken_tree = space_taken s n choice h.tree i c l
 
@@ -97,18 +103,15 @@ module _ (s n : Shape) (totals : Totals) (choice : Choice) (h : IsCountedTree s 
       (λ k. absurd (⊎_elim (λ m. cc m) (λ m. cc m.1) k.2))
       (taken_in s n choice choice.range h.tree i c refl)
 
-  pub taken_clear : address_count choice.range ≤ totals.clear
-  taken_clear = omega (arith, more.clear, h.clear)
-
-  pub taken_counted : (new : Totals) → new.held ≡ totals.held + 1 → new.clear ≡ totals.clear - address_count choice.range → IsCountedTree n new
-  taken_counted new e f = record {
+  pub taken_counted : (count : ℕ) → count ≡ address_count choice.range → IsCountedTree n (held + 1) (clear - count)
+  taken_counted count e = record {
     tree = taken_tree;
-    held = omega (arith, e, h.held, more.held);
-    clear = omega (arith, f, h.clear, more.clear);
+    held_count = omega (arith, h.held_count, more.held);
+    clear_count = omega (arith, e, h.clear_count, more.clear);
   }
 
--- ---- The totals after a range is freed
-module _ (s m : Shape) (totals : Totals) (k : Range) (n : Neighbours) (h : IsCountedTree s totals) (f : HasHeld (blocks s) k n.before n.after) (e : blocks m ≡ with_joined k n (blocks s)) (l : height_of m ≤ height_of s) where
+-- ---- The counts after a range is freed
+module _ (s m : Shape) (held clear : ℕ) (k : Range) (n : Neighbours) (h : IsCountedTree s held clear) (f : HasHeld (blocks s) k n.before n.after) (e : blocks m ≡ with_joined k n (blocks s)) (l : height_of m ≤ height_of s) where
   given : Given s k n
   given = held_range_freed s k n h.tree f
 
@@ -123,15 +126,15 @@ module _ (s m : Shape) (totals : Totals) (k : Range) (n : Neighbours) (h : IsCou
       (λ c. absurd (cc c.1.0))
       (frees_held_block s m k n h.tree f given e)
 
-  pub freed_held : 0 < totals.held
-  freed_held = omega (arith, h.held, less.held)
+  pub freed_held : 0 < held
+  freed_held = omega (arith, h.held_count, less.held)
 
-  pub freed_fits : totals.clear + address_count k ≤ MAX
-  freed_fits = omega (arith, clear_in_tree m freed_tree, h.clear, less.clear)
+  pub freed_fits : clear + address_count k ≤ MAX
+  freed_fits = omega (arith, clear_in_tree m freed_tree, h.clear_count, less.clear)
 
-  pub freed_counted : (new : Totals) → new.held ≡ totals.held - 1 → new.clear ≡ totals.clear + address_count k → IsCountedTree m new
-  freed_counted new g i = record {
+  pub freed_counted : (count : ℕ) → count ≡ address_count k → IsCountedTree m (held - 1) (clear + count)
+  freed_counted count g = record {
     tree = freed_tree;
-    held = omega (arith, g, h.held, less.held);
-    clear = omega (arith, i, h.clear, less.clear);
+    held_count = omega (arith, h.held_count, less.held);
+    clear_count = omega (arith, g, h.clear_count, less.clear);
   }

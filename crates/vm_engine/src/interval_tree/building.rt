@@ -12,7 +12,7 @@ ghost use Rattle.vm_engine.specs.Held.{TOO_MANY_BLOCKS, MakesHeld, range_fault};
 ghost use Rattle.vm_engine.specs.Engine.NodeFields.{side};
 ghost use Rattle.vm_engine.specs.Engine.Building.{remaining_blocks, IsBlockCursor, IsBuilt, CountsBlocks};
 
-use super::{IntervalTree, Totals};
+use super::IntervalTree;
 use crate::block::Block;
 use crate::node::{Child, InnerNode};
 use crate::ordering::valid_range;
@@ -52,11 +52,11 @@ impl IntervalTree {
             end: key.end(),
         };
         let root = build(alloc, count, &mut cursor)?;
-        let totals = Totals {
-            held: held.len() as u64,
-            clear: count_left(&key, held),
-        };
-        Ok(IntervalTree { root, totals })
+        Ok(IntervalTree {
+            root,
+            held_count: held.len() as u64,
+            clear_count: count_left(&key, held),
+        })
     }
 }
 

@@ -90,6 +90,6 @@ impl IntervalTree {
     pub fn clear_count(&self) -> u64
         ensures { result ≡ count_of (gaps_of (tree_state self.now)) }
     {
-        self.totals.clear
+        self.clear_count
     }
 }

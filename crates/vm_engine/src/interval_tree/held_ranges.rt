@@ -100,6 +100,6 @@ impl IntervalTree {
     pub fn held_count(&self) -> u64
         ensures { result ≡ length (tree_state self.now).held }
     {
-        self.totals.held
+        self.held_count
     }
 }

@@ -1,4 +1,5 @@
 //! The cost of calls: allocations, boxes followed, and processor time. No contract limits these.
+mod counts;
 mod heights;
 mod lines;
 mod managers;
@@ -6,5 +7,4 @@ mod meter;
 mod objects;
 mod requests;
 mod time;
-mod totals;
 mod windows;

@@ -7,7 +7,6 @@
 //! - `deallocation` frees an allocated range.
 //! - `held_ranges` has queries about the allocated ranges.
 //! - `gaps` has queries about the free addresses.
-//! - `totals` has the number of allocated ranges and of free addresses.
 //! - `comparing` compares two trees.
 //! - `counted` has the calls that count the nodes that they enter.
 //!
@@ -34,15 +33,15 @@ mod deallocation;
 pub(in crate::proved::vm_engine) mod gaps;
 pub(in crate::proved::vm_engine) mod held_ranges;
 pub(in crate::proved::vm_engine) mod placement;
-pub(in crate::proved::vm_engine) mod totals;
-
-pub(in crate::proved::vm_engine) use totals::Totals;
 
 /// The blocks of an address space, in a balanced tree.
 #[derive(Debug)]
 pub struct IntervalTree {
     pub(in crate::proved::vm_engine) root: Child,
-    pub(in crate::proved::vm_engine) totals: Totals,
+    /// The number of allocated ranges.
+    pub(in crate::proved::vm_engine) held_count: u64,
+    /// The number of free addresses.
+    pub(in crate::proved::vm_engine) clear_count: u64,
 }
 
 impl IntervalTree {
@@ -57,7 +56,8 @@ impl IntervalTree {
         let node = Box::new(alloc, InnerNode::new(Block::free(key)))?;
         Ok(IntervalTree {
             root: Some(node),
-            totals: Totals::of_free(&key),
+            held_count: 0,
+            clear_count: key.len(),
         })
     }
 
@@ -69,7 +69,8 @@ impl IntervalTree {
     pub fn try_clone(&self, alloc: Global) -> Result<Self> {
         Ok(IntervalTree {
             root: Some(copy(self.root(), alloc)?),
-            totals: self.totals,
+            held_count: self.held_count,
+            clear_count: self.clear_count,
         })
     }
 

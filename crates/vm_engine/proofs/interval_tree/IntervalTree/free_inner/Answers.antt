@@ -1,4 +1,4 @@
-use Rattle.std.proofs.Common.{sym}
+use Rattle.std.proofs.Common.{sym, arith}
 use Rattle.vm_engine.specs.Engine.NodeFields.{side}
 use Rattle.vm_engine.proofs.Releasing.Finding.{held_block_found}
 use Rattle.vm_engine.proofs.Releasing.Apart.{held_range_freed}
@@ -11,20 +11,20 @@ join_free-requires-clause-around c =
     let found = rw (c.root.ensures.value, ← c.self.view_is) at c.in-Some.ensures.value in
     (held_range_freed _ _ _ c.self.invariant.tree (held_block_found (side c.self.inside.root) _ _ (sym found))).around
 
-pub remove_held-requires-clause-held : goal.remove_held-requires-clause-held
-remove_held-requires-clause-held c =
+pub overflow_sub-self : goal.overflow_sub-self
+overflow_sub-self c =
     let found = rw (c.root.ensures.value, ← c.self.view_is) at c.in-Some.ensures.value in
-    freed_held _ _ _ _ _ c.self.invariant (held_block_found (side c.self.inside.root) _ _ (sym found)) c.join_free.ensures.blocks c.join_free.ensures.height
+    freed_held _ (side c.join_free.new.root) _ _ _ _ c.self.invariant (held_block_found (side c.self.inside.root) _ _ (sym found)) c.join_free.ensures.blocks c.join_free.ensures.height
 
-pub remove_held-requires-clause-fits : goal.remove_held-requires-clause-fits
-remove_held-requires-clause-fits c =
+pub overflow_add-self : goal.overflow_add-self
+overflow_add-self c =
     let found = rw (c.root.ensures.value, ← c.self.view_is) at c.in-Some.ensures.value in
-    freed_fits _ _ _ _ _ c.self.invariant (held_block_found (side c.self.inside.root) _ _ (sym found)) c.join_free.ensures.blocks c.join_free.ensures.height
+    omega (arith, c.len.ensures, freed_fits _ (side c.join_free.new.root) _ _ _ _ c.self.invariant (held_block_found (side c.self.inside.root) _ _ (sym found)) c.join_free.ensures.blocks c.join_free.ensures.height)
 
 pub invariant_of-self : goal.invariant_of-self
 invariant_of-self c =
     let found = rw (c.root.ensures.value, ← c.self.view_is) at c.in-Some.ensures.value in
-    freed_counted _ _ _ _ _ c.self.invariant (held_block_found (side c.self.inside.root) _ _ (sym found)) c.join_free.ensures.blocks c.join_free.ensures.height _ c.remove_held.ensures.held c.remove_held.ensures.clear
+    freed_counted _ _ _ _ _ _ c.self.invariant (held_block_found (side c.self.inside.root) _ _ (sym found)) c.join_free.ensures.blocks c.join_free.ensures.height _ c.len.ensures
 
 pub returns-clause-answer : goal.returns-clause-answer
 returns-clause-answer c =

@@ -5,7 +5,7 @@
 //! A first pass checks and counts without allocating. A second pass builds the blocks into a tree
 //! from the middle, so no rotation is needed.
 
-use super::{IntervalTree, Totals};
+use super::IntervalTree;
 use crate::proved::vm_engine::block::Block;
 use crate::proved::vm_engine::node::{Child, InnerNode};
 use crate::proved::vm_engine::ordering::valid_range;
@@ -40,11 +40,11 @@ impl IntervalTree {
             end: key.end(),
         };
         let root = build(alloc, count, &mut cursor)?;
-        let totals = Totals {
-            held: held.len() as u64,
-            clear: count_left(&key, held),
-        };
-        Ok(IntervalTree { root, totals })
+        Ok(IntervalTree {
+            root,
+            held_count: held.len() as u64,
+            clear_count: count_left(&key, held),
+        })
     }
 }
 

@@ -60,6 +60,6 @@ impl IntervalTree {
 
     /// Returns the number of free addresses. It takes constant time and does not allocate.
     pub fn clear_count(&self) -> u64 {
-        self.totals.clear
+        self.clear_count
     }
 }

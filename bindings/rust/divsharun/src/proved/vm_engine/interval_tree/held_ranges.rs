@@ -69,6 +69,6 @@ impl IntervalTree {
 
     /// Returns the number of allocated ranges. It takes constant time and does not allocate.
     pub fn held_count(&self) -> u64 {
-        self.totals.held
+        self.held_count
     }
 }

@@ -12,13 +12,13 @@ const HELD: u64 = 100_000;
 
 /// Checks both numbers, and that they follow no box.
 fn expect(name: &str, space: &AddressAllocator, held: u64, clear: u64) {
-    let totals = at_most(&name, &[], || (space.held_count(), space.clear_count()));
-    assert_eq!(totals, (held, clear), "{name}");
+    let counts = at_most(&name, &[], || (space.held_count(), space.clear_count()));
+    assert_eq!(counts, (held, clear), "{name}");
 }
 
 /// Each allocated range of `low` has 4 addresses, at a multiple of 16.
 #[test]
-fn totals_of_any_source() {
+fn counts_of_any_source() {
     let s = low(HELD);
     let clear = s.size - 4 * HELD;
     let space = s.space();
@@ -34,8 +34,8 @@ fn totals_of_any_source() {
     expect("repaired", &repaired, HELD, clear);
     let root = &value["interval_tree"]["root"];
     let tree = IntervalTree::from_root_value(Global, &s.key(), root).unwrap();
-    let totals = at_most(&"tree", &[], || (tree.held_count(), tree.clear_count()));
-    assert_eq!(totals, (HELD, clear));
+    let counts = at_most(&"tree", &[], || (tree.held_count(), tree.clear_count()));
+    assert_eq!(counts, (HELD, clear));
 }
 
 fn allocate(space: &mut AddressAllocator, start: u64, size: u64) -> Result<(), Error> {
@@ -45,7 +45,7 @@ fn allocate(space: &mut AddressAllocator, start: u64, size: u64) -> Result<(), E
 
 /// A split, a filled gap, an error, and a range freed between two gaps.
 #[test]
-fn totals_after_changes() {
+fn counts_after_changes() {
     let s = low(HELD);
     let clear = s.size - 4 * HELD;
     let mut space = s.space();
