@@ -294,6 +294,27 @@ dvs_status dvs_address_allocator_with_held(uint64_t base, uint64_t size, const d
  */
 void dvs_address_allocator_destroy(dvs_address_allocator *allocator);
 
+/*
+ * Writes the range of the `length` addresses that start at `start` to `range`,
+ * such as a BAR by its base and its size.
+ *
+ * Errors, in order:
+ * - DVS_INVALID_SIZE if `length` is 0.
+ * - DVS_OVERFLOW if the last address would be past UINT64_MAX.
+ */
+DVS_WARN_UNUSED
+dvs_status dvs_range_from_start_length(uint64_t start, uint64_t length, dvs_range *range);
+
+/*
+ * Writes the number of addresses of `range` below `address` to `offset`.
+ *
+ * Errors, in order:
+ * - DVS_INVALID_RANGE if `range` is not a valid range.
+ * - DVS_RESOURCE_NOT_AVAILABLE if `address` is not in the range.
+ */
+DVS_WARN_UNUSED
+dvs_status dvs_range_offset_of(dvs_range range, uint64_t address, uint64_t *offset);
+
 /* Writes the first and the last address of the space to `space`. Errors: DVS_NULL. */
 DVS_WARN_UNUSED
 dvs_status dvs_address_allocator_space(const dvs_address_allocator *allocator, dvs_range *space);

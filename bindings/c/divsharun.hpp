@@ -41,6 +41,13 @@ inline error code(dvs_status status) noexcept {
     return {static_cast<int>(status), category()};
 }
 
+inline error range_from(uint64_t start, uint64_t length, dvs_range &range) noexcept {
+    return code(dvs_range_from_start_length(start, length, &range));
+}
+inline error offset_of(dvs_range range, uint64_t address, uint64_t &offset) noexcept {
+    return code(dvs_range_offset_of(range, address, &offset));
+}
+
 /* Owns an object, and destroys it. It is empty until a method has created the object. */
 template <typename T, void (*Destroy)(T *)> class owner {
     struct destroyer {

@@ -114,6 +114,15 @@ pub(crate) fn create<T>(
     Ok(())
 }
 
+/// Writes the result of a call without an object to `out`.
+pub(crate) fn with_out<A>(
+    out: Out<A>,
+    answer: impl FnOnce() -> Answer<A>,
+) -> Result<(), CallError> {
+    non_null(out)?.write(answer()?);
+    Ok(())
+}
+
 /// Writes the result of a query to `out`.
 #[inline(always)]
 pub(crate) fn with_ref<T, A>(

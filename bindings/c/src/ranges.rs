@@ -1,6 +1,6 @@
 //! The address allocator.
 
-use crate::handle::{create, visit, visit_some, with_mut, with_mut_unit, with_ref, Handle};
+use crate::handle::{create, visit, visit_some, with_mut, with_mut_unit, with_out, with_ref, Handle};
 use crate::json::dvs_text_limits;
 use crate::proved::vm_allocator::{AddressAllocator, AllocPolicy, Error, RangeInclusive};
 use crate::rattle::Global;
@@ -49,6 +49,31 @@ pub(crate) fn space_of(allocator: &AddressAllocator) -> dvs_range {
         start: allocator.base(),
         end: allocator.end(),
     }
+}
+
+#[unsafe(no_mangle)]
+pub extern "C" fn dvs_range_from_start_length(
+    start: u64,
+    length: u64,
+    range: Out<dvs_range>,
+) -> dvs_status {
+    let made = with_out(range, || {
+        Ok(RangeInclusive::from_start_len(start, length)?.into())
+    });
+    status_of(made, None)
+}
+
+#[unsafe(no_mangle)]
+pub extern "C" fn dvs_range_offset_of(
+    range: dvs_range,
+    address: u64,
+    offset: Out<u64>,
+) -> dvs_status {
+    let asked = with_out(offset, || {
+        let offset = RangeInclusive::try_from(range)?.offset_of(address);
+        Ok(offset.ok_or(Error::ResourceNotAvailable)?)
+    });
+    status_of(asked, None)
 }
 
 #[unsafe(no_mangle)]

@@ -83,6 +83,25 @@ static void make_spaces(void) {
     dvs_address_allocator_destroy(NULL);
 }
 
+static void make_ranges(void) {
+    dvs_range range;
+    uint64_t offset;
+
+    REFUSED(DVS_INVALID_SIZE, dvs_range, dvs_range_from_start_length(UINT64_MAX, 0, &answer));
+    REFUSED(DVS_OVERFLOW, dvs_range, dvs_range_from_start_length(UINT64_MAX, 2, &answer));
+    CHECK(noted(dvs_range_from_start_length(UINT64_MAX, 1, &range)) == DVS_OK);
+    CHECK(is_range(range, UINT64_MAX, UINT64_MAX));
+    CHECK(dvs_range_from_start_length(0, UINT64_MAX, &range) == DVS_OK);
+    CHECK(is_range(range, 0, UINT64_MAX - 1));
+    CHECK(dvs_range_from_start_length(0x1000, 0x100, &range) == DVS_OK);
+    CHECK(is_range(range, 0x1000, 0x10ff));
+    CHECK(dvs_range_offset_of(range, 0x1010, &offset) == DVS_OK && offset == 0x10);
+    CHECK(dvs_range_offset_of(range, 0x10ff, &offset) == DVS_OK && offset == 0xff);
+    REFUSED(DVS_RESOURCE_NOT_AVAILABLE, uint64_t, dvs_range_offset_of(range, 0xfff, &answer));
+    REFUSED(DVS_RESOURCE_NOT_AVAILABLE, uint64_t, dvs_range_offset_of(range, 0x1100, &answer));
+    REFUSED(DVS_INVALID_RANGE, uint64_t, dvs_range_offset_of(range_of(2, 1), 1, &answer));
+}
+
 static void refuse_requests(dvs_address_allocator *space) {
     REFUSED(DVS_INVALID_SIZE, dvs_range, dvs_range_allocate_first(space, 0, 3, &answer, &refusal));
     CHECK(are_told(0, 0, 0));
@@ -1001,6 +1020,8 @@ static void give_null_spaces(void) {
     char *text;
 
     CHECK(dvs_address_allocator_new(0, 10, &space) == DVS_OK);
+    IS_NULL(dvs_range_from_start_length(0, 0, NULL));
+    IS_NULL(dvs_range_offset_of(range_of(2, 1), 0, NULL));
     IS_NULL(dvs_address_allocator_new(0, 0, NULL));
     IS_NULL(dvs_address_allocator_space(NULL, &range));
     IS_NULL(dvs_address_allocator_space(space, NULL));
@@ -1157,6 +1178,7 @@ static void check_version(void) {
 int main(void) {
     int status;
 
+    make_ranges();
     make_spaces();
     move_ranges();
     allocate_ranges();

@@ -12,6 +12,9 @@ static void allocate() {
 
     CHECK(!space && !space.make(0x1000, 0x1000) && space);
     CHECK(space.make(0, 0) == dvs::code(DVS_UNDERFLOW) && space);
+    CHECK(!dvs::range_from(0x1000, 0x100, range) && is_range(range, 0x1000, 0x10ff));
+    CHECK(!dvs::offset_of(range, 0x1010, length) && length == 0x10);
+    CHECK(dvs::range_from(0x1000, 0, range) == dvs::code(DVS_INVALID_SIZE));
     CHECK(!space.allocate_first(0x100, 0x100, range) && is_range(range, 0x1000, 0x10ff));
     CHECK(!space.allocate_last(0x100, 0x100, range) && is_range(range, 0x1f00, 0x1fff));
     CHECK(!space.allocate_exact(0x10, 1, 0x1200, range));

@@ -6,7 +6,7 @@ ghost use Rattle.std.proofs.Common.{rules};
 ghost use Rattle.std.specs.Cmp.{partial_order_from_own_ties};
 ghost use Rattle.std.specs.Cmp.Rules.{comparing};
 ghost use Rattle.std.specs.Ordering.{as_partial_cmp};
-ghost use Rattle.vm_ranges.specs.Making.{MakesRange};
+ghost use Rattle.vm_ranges.specs.Making.{MakesRange, MakesSpan, IsOffset};
 ghost use Rattle.vm_ranges.specs.Range.{IsRange, address_count, Overlaps, Covers};
 ghost use Rattle.vm_ranges.specs.RangeOrder.{range_cmp};
 
@@ -52,6 +52,37 @@ impl RangeInclusive {
             return Err(Error::InvalidRange(start, end));
         }
         Ok(RangeInclusive { start, end })
+    }
+
+    /// Creates the range of the `len` addresses that start at `start`, such as a BAR by its base and
+    /// its size.
+    ///
+    /// # Errors
+    ///
+    /// In this order:
+    /// - `InvalidSize(0)` if `len` is 0.
+    /// - `Overflow` if the last address would be past `u64::MAX`.
+    pub const fn from_start_len(start: u64, len: u64) -> Result<Self>
+        ensures { MakesSpan start len result }
+    {
+        if len == 0 {
+            return Err(Error::InvalidSize(0));
+        }
+        match start.checked_add(len - 1) {
+            None => Err(Error::Overflow),
+            Some(end) => Ok(RangeInclusive { start, end }),
+        }
+    }
+
+    /// Returns the offset of an address in the range: the number of addresses below it. Returns `None`
+    /// if the address is not in the range.
+    pub const fn offset_of(&self, address: u64) -> Option<u64>
+        ensures { IsOffset self.now address result }
+    {
+        if address < self.start || self.end < address {
+            return None;
+        }
+        Some(address - self.start)
     }
 
     /// Returns the number of addresses in the range.

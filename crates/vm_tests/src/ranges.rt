@@ -38,6 +38,47 @@ fn test_range_upper_bound(rt: HostRuntime) {
     expect_lengths(&rt, &rows);
 }
 
+/// Ranges by a start and a length: the last address, or the error.
+#[test]
+fn ranges_from_lengths(rt: HostRuntime) {
+    let rows = [
+        (0, 0, Err(Error::InvalidSize(0))),
+        (MAX, 0, Err(Error::InvalidSize(0))),
+        (0, 1, Ok(0)),
+        (0xD000_0000, 0x4000, Ok(0xD000_3FFF)),
+        (0, MAX, Ok(MAX - 1)),
+        (1, MAX, Ok(MAX)),
+        (2, MAX, Err(Error::Overflow)),
+        (MAX, 1, Ok(MAX)),
+        (MAX, 2, Err(Error::Overflow)),
+    ];
+    for (start, len, want) in rows {
+        let end = match RangeInclusive::from_start_len(start, len) {
+            Ok(range) => Ok(range.end()),
+            Err(error) => Err(error),
+        };
+        expect_eq(&rt, &end, &want, &(start, len));
+    }
+}
+
+/// Offsets of addresses in [16, 23], and at both ends of all addresses.
+#[test]
+fn offsets_in_ranges(rt: HostRuntime) {
+    let rows = [
+        ((16, 23), 15, None),
+        ((16, 23), 16, Some(0)),
+        ((16, 23), 23, Some(7)),
+        ((16, 23), 24, None),
+        ((0, 0), 0, Some(0)),
+        ((1, MAX), MAX, Some(MAX - 1)),
+        ((1, MAX), 0, None),
+    ];
+    for ((start, end), address, want) in rows {
+        let range = range(&rt, start, end);
+        expect_eq(&rt, &range.offset_of(address), &want, &(range, address));
+    }
+}
+
 #[test]
 fn test_range_overlaps(rt: HostRuntime) {
     let rows = [

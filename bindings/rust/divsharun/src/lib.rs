@@ -56,7 +56,8 @@
 //!   [`free_counted`](AddressAllocator::free_counted);
 //! - of a [`Constraint`]: its [`policy`](Constraint::policy), its
 //!   [`window`](Constraint::window), its text and its hash;
-//! - of a [`RangeInclusive`]: its texts, conversions,
+//! - of a [`RangeInclusive`]: [`from_start_len`](RangeInclusive::from_start_len),
+//!   [`offset_of`](RangeInclusive::offset_of), its texts, conversions,
 //!   [`contains_address`](RangeInclusive::contains_address) and
 //!   [`intersection`](RangeInclusive::intersection);
 //! - the `try_` variants of all calls that allocate.

@@ -51,6 +51,52 @@ impl RangeInclusive {
         }
     }
 
+    /// Creates the range of the `len` addresses that start at `start`, such as a BAR by its base and
+    /// its size.
+    ///
+    /// # Errors
+    ///
+    /// In this order:
+    /// - `InvalidSize(0)` if `len` is 0.
+    /// - `Overflow` if the last address would be past `u64::MAX`.
+    ///
+    /// # Example
+    ///
+    /// ```rust
+    /// use divsharun::{Error, RangeInclusive};
+    ///
+    /// let bar = RangeInclusive::from_start_len(0xd000_0000, 0x4000)?;
+    /// assert_eq!(bar, RangeInclusive::new(0xd000_0000, 0xd000_3fff)?);
+    /// assert_eq!(RangeInclusive::from_start_len(u64::MAX, 2), Err(Error::Overflow));
+    /// # Ok::<(), Error>(())
+    /// ```
+    pub const fn from_start_len(start: u64, len: u64) -> Result<Self> {
+        match proved::RangeInclusive::from_start_len(start, len) {
+            Ok(range) => Ok(RangeInclusive(range)),
+            Err(proved::Error::InvalidSize(size)) => Err(Error::InvalidSize(size)),
+            // The only other error of the call.
+            Err(_) => Err(Error::Overflow),
+        }
+    }
+
+    /// Returns the offset of an address in the range: the number of addresses below it. Returns
+    /// `None` if the address is not in the range.
+    ///
+    /// # Example
+    ///
+    /// ```rust
+    /// use divsharun::RangeInclusive;
+    ///
+    /// let bar = RangeInclusive::from_start_len(0xd000_0000, 0x4000)?;
+    /// assert_eq!(bar.offset_of(0xd000_0010), Some(0x10));
+    /// assert_eq!(bar.offset_of(0xd000_4000), None);
+    /// # Ok::<(), divsharun::Error>(())
+    /// ```
+    #[must_use]
+    pub const fn offset_of(&self, address: u64) -> Option<u64> {
+        self.0.offset_of(address)
+    }
+
     /// Returns the number of addresses in the range.
     #[must_use]
     pub const fn len(&self) -> u64 {

@@ -31,6 +31,33 @@ impl RangeInclusive {
         Ok(RangeInclusive { start, end })
     }
 
+    /// Creates the range of the `len` addresses that start at `start`, such as a BAR by its base and
+    /// its size.
+    ///
+    /// # Errors
+    ///
+    /// In this order:
+    /// - `InvalidSize(0)` if `len` is 0.
+    /// - `Overflow` if the last address would be past `u64::MAX`.
+    pub const fn from_start_len(start: u64, len: u64) -> Result<Self> {
+        if len == 0 {
+            return Err(Error::InvalidSize(0));
+        }
+        match start.checked_add(len - 1) {
+            None => Err(Error::Overflow),
+            Some(end) => Ok(RangeInclusive { start, end }),
+        }
+    }
+
+    /// Returns the offset of an address in the range: the number of addresses below it. Returns `None`
+    /// if the address is not in the range.
+    pub const fn offset_of(&self, address: u64) -> Option<u64> {
+        if address < self.start || self.end < address {
+            return None;
+        }
+        Some(address - self.start)
+    }
+
     /// Returns the number of addresses in the range.
     #[allow(clippy::len_without_is_empty)]
     pub const fn len(&self) -> u64 {
