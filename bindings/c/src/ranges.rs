@@ -1,6 +1,8 @@
 //! The address allocator.
 
-use crate::handle::{create, visit, visit_some, with_mut, with_mut_unit, with_out, with_ref, Handle};
+use crate::handle::{
+    create, visit, visit_some, with_mut, with_mut_unit, with_out, with_ref, Handle,
+};
 use crate::json::dvs_text_limits;
 use crate::proved::vm_allocator::{AddressAllocator, AllocPolicy, Error, RangeInclusive};
 use crate::rattle::Global;
