@@ -73,7 +73,7 @@ pub extern "C" fn dvs_range_offset_of(
 ) -> dvs_status {
     let asked = with_out(offset, || {
         let offset = RangeInclusive::try_from(range)?.offset_of(address);
-        Ok(offset.ok_or(Error::ResourceNotAvailable)?)
+        offset.ok_or(Error::ResourceNotAvailable)
     });
     status_of(asked, None)
 }

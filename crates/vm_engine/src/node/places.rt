@@ -118,9 +118,7 @@ pub(super) fn may_fit(tree: &Child, size: u64, alignment: u64) -> Option<&InnerN
 {
     let Some(node) = tree else { return None };
     let node: &InnerNode = node;
-    if node.summary.max_free < size
-        || u32::from(node.summary.alignments) <= alignment.trailing_zeros()
-    {
+    if node.summary.max_free < size || node.summary.alignments <= alignment.trailing_zeros() {
         None
     } else {
         Some(node)
@@ -139,7 +137,7 @@ pub(super) fn with_multiple(tree: &Child, alignment: u64) -> Option<&InnerNode>
 {
     let Some(node) = tree else { return None };
     let node: &InnerNode = node;
-    if u32::from(node.summary.alignments) <= alignment.trailing_zeros() {
+    if node.summary.alignments <= alignment.trailing_zeros() {
         None
     } else {
         Some(node)

@@ -83,9 +83,7 @@ fn highest_in_free(key: &RangeInclusive, size: u64, alignment: u64) -> Option<u6
 pub(super) fn may_fit(tree: &Child, size: u64, alignment: u64) -> Option<&InnerNode> {
     let Some(node) = tree else { return None };
     let node: &InnerNode = node;
-    if node.summary.max_free < size
-        || u32::from(node.summary.alignments) <= alignment.trailing_zeros()
-    {
+    if node.summary.max_free < size || node.summary.alignments <= alignment.trailing_zeros() {
         None
     } else {
         Some(node)
@@ -97,7 +95,7 @@ pub(super) fn may_fit(tree: &Child, size: u64, alignment: u64) -> Option<&InnerN
 pub(super) fn with_multiple(tree: &Child, alignment: u64) -> Option<&InnerNode> {
     let Some(node) = tree else { return None };
     let node: &InnerNode = node;
-    if u32::from(node.summary.alignments) <= alignment.trailing_zeros() {
+    if node.summary.alignments <= alignment.trailing_zeros() {
         None
     } else {
         Some(node)
