@@ -16,3 +16,6 @@ pub mod IncreasingBounds
 pub mod ReadIds
 pub mod ReadIdStates
 pub mod FreedParts
+pub mod ExactIds
+pub mod LowestIds
+pub mod FreeIds

@@ -29,8 +29,11 @@ use std::marker::Model;
 use vm_ranges::{Error, Result};
 
 mod comparing;
+mod exact;
 mod freed_ids;
 mod held_ids;
+mod several;
+mod with_held;
 
 pub use freed_ids::FreedIds;
 pub use held_ids::HeldIds;
