@@ -19,3 +19,4 @@ pub mod FreedParts
 pub mod ExactIds
 pub mod LowestIds
 pub mod FreeIds
+pub mod WithHeld

@@ -37,6 +37,7 @@ impl IdAllocator {
 }
 
 /// Returns the error of the first id that is outside the range or not above the id before it.
+#[tactic(auto, using(crate::proofs::Ids::WithHeld::checks))]
 fn check_held(range_base: u32, range_end: u32, held: &[u32]) -> Result<()>
     ensures { MatchOption (fault_of_held range_base range_end range_base held.now)
         (result ≡ Ok tt) (λ e. result ≡ Err e) }
