@@ -1,19 +1,19 @@
 -- Allocating a given id. The ids between the bound and the id become freed ids.
-use Rattle.std.proofs.Common.{◌≡◌, ℕ, ◌+◌, ◌-◌, ◌^◌, ◌<◌, ◌≤◌, ◌⊎◌, ◌↔◌, Bool, true, false, refl, sym, ap, ◌∙◌, subst, arith, inl, inr, ⊎_elim, max, Option, Some, None, Result, Ok, Err, is_ok, IsOk, IfOk, OnErr, IsTrue}
-use Rattle.std.proofs.lemmas.Bool.{cases_eq, cases_lt, cases_Bool, both_ways}
+use Rattle.std.proofs.Common.{◌≡◌, ℕ, ◌+◌, ◌^◌, ◌<◌, ◌≤◌, Bool, true, false, refl, sym, ap, ◌∙◌, subst, arith, inl, inr, ⊎_elim, max, Option, Some, None, Result, Ok, Err, is_ok, IsOk, IfOk, OnErr, IsTrue}
+use Rattle.std.proofs.lemmas.Bool.{cases_eq, cases_lt, both_ways}
 use Rattle.std.specs.Option.{SomeIff}
 use Rattle.std.specs.Ordering.{nat_cmp}
 use Rattle.std.specs.BTreeSet.{BTreeSet, contains, Updates, IsUnchanged, IsSameSet}
 use Rattle.std.specs.FinSet as set
-use Rattle.vm_ranges.proofs.NumberSets.{same_members, same_test, inserted_here, inserted_other, from_inserted, changed_here, changed_other}
+use Rattle.vm_ranges.proofs.NumberSets.{same_members, inserted_here, inserted_other, from_inserted, changed_here, changed_other}
 use Rattle.vm_allocator.specs.Ids.{MAX_ID, IdState, IsOfRange, WasEverAllocated, IsHeld, IsNotHeld, holding_id, bound_of, held_of, ids_of, IsNext, AreIds}
 use Rattle.vm_allocator.specs.IdRequests.{HoldsId, AllocatesExactId}
 use Rattle.vm_allocator.specs.Checks.FreedBetween.{IsBetween, AddsBetween}
 use Rattle.vm_ranges.specs.declared.error.Error.{Error}
 use Rattle.vm_ranges.specs.declared.error.Error.TheVariants.{OutOfRange, ResourceNotAvailable, OutOfMemory}
-use Rattle.vm_allocator.proofs.Ids.IdSets.{held_from, from_held, bound_fits, bound_above}
-use Rattle.vm_allocator.proofs.Ids.IdFields.{holds, holds_not, is_state}
-use Rattle.vm_allocator.proofs.Ids.AllocatedIds.{takes_released, takes_same, same_ids}
+use Rattle.vm_allocator.proofs.Ids.IdSets.{held_from, from_held, bound_above}
+use Rattle.vm_allocator.proofs.Ids.IdFields.{holds, holds_not}
+use Rattle.vm_allocator.proofs.Ids.AllocatedIds.{takes_released, takes_same}
 use Rattle.vm_allocator.proofs.Ids.FreedIds.{keeps_same}
 
 -- ---- Sets with the same ids

@@ -8,12 +8,12 @@ use Rattle.std.specs.declared.cmp.Ordering.TheVariants.{Equal}
 use Rattle.std.specs.declared.ops.Bound.TheVariants.{Included}
 use Rattle.std.proofs.lemmas.Map.Keys.{le_from_not_gt}
 use Rattle.std.specs.BTreeSet.{BTreeSet, contains, IsKeyRangeOf}
-use Rattle.vm_allocator.specs.Ids.{IdState, IsOfRange, IsHeld, IsNotHeld, holding_id, bound_of, ids_of, AreIds}
+use Rattle.vm_allocator.specs.Ids.{IdState, IsNotHeld, holding_id, bound_of, ids_of, AreIds}
 use Rattle.vm_allocator.specs.IdRequests.{HoldsId, AllocatesExactId, IsNotHeldIn, IsLowestNotHeldIn, IsNoneNotHeldIn, AllocatesIdIn}
 use Rattle.vm_allocator.specs.Checks.FreedBetween.{IsLowestBetween}
 use Rattle.vm_ranges.specs.declared.error.Error.{Error}
 use Rattle.vm_ranges.specs.declared.error.Error.TheVariants.{InvalidRange, ResourceNotAvailable}
-use Rattle.vm_allocator.proofs.Ids.IdSets.{holds_from, from_holds, bound_fits, bound_above}
+use Rattle.vm_allocator.proofs.Ids.IdSets.{holds_from, from_holds, bound_fits}
 
 freed_is_free : (lo hi i : ℕ) (next : Option ℕ) (freed : BTreeSet ℕ) → AreIds lo hi next freed → IsTrue (contains nat_cmp freed i) → IsNotHeld (ids_of lo hi next freed) i
 unfolding ids_of

@@ -1,5 +1,5 @@
 -- Creating an id allocator of its range and the list of its held ids.
-use Rattle.std.proofs.Common.{◌≡◌, ◌↔◌, ℕ, ◌+◌, ◌<◌, ◌≤◌, ◌⊎◌, ◌||◌, Bool, true, false, cond, ltb, List, [], ◌∷◌, ◌++◌, length, take, drop, get_or, refl, sym, ap, ◌∙◌, subst, arith, inl, inr, ⊎_elim, max, Option, Some, None, Result, Ok, Err}
+use Rattle.std.proofs.Common.{◌≡◌, ℕ, ◌+◌, ◌<◌, ◌≤◌, ◌⊎◌, ◌||◌, true, ltb, List, [], ◌∷◌, ◌++◌, length, take, drop, get_or, refl, sym, ap, ◌∙◌, subst, arith, inl, inr, ⊎_elim, max, Option, Some, None, Result, Ok, Err}
 use Rattle.std.proofs.lemmas.Bool.{cases_lt, lt-ltb, le-ltb, or_left, or_right}
 use Rattle.std.proofs.lemmas.List.{drop_more, drop_all, take_more}
 use Rattle.std.specs.Option.{MatchOption}
@@ -7,7 +7,7 @@ use Rattle.vm_ranges.proofs.NumberSets.{from_inserted}
 use Rattle.vm_allocator.specs.Ids.{IdState, IsHeld, IsIdState, MakesIds, new_ids, holding_id}
 use Rattle.vm_allocator.specs.IdRequests.{HoldsId, holding_ids, fault_of_held, MakesWithHeld}
 use Rattle.vm_ranges.specs.declared.error.Error.{Error}
-use Rattle.vm_ranges.specs.declared.error.Error.TheVariants.{OutOfRange, ResourceNotAvailable, InvalidRange, OutOfMemory}
+use Rattle.vm_ranges.specs.declared.error.Error.TheVariants.{OutOfRange, ResourceNotAvailable, OutOfMemory}
 use Rattle.vm_allocator.proofs.Ids.FreeIds.{holding_more}
 
 -- ---- The first id of a list

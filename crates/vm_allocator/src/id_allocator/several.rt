@@ -52,9 +52,7 @@ impl IdAllocator {
             let Ok(id) = self.allocate_id() else {
                 unreachable!()
             };
-            let Ok(()) = ids.push(id) else {
-                unreachable!()
-            };
+            let Ok(()) = ids.push(id) else { unreachable!() };
         }
         Ok(ids)
     }

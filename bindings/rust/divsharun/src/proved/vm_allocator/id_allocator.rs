@@ -10,8 +10,11 @@ use crate::rattle::BTreeSet;
 use crate::proved::vm_ranges::{Error, Result};
 
 mod comparing;
+mod exact;
 mod freed_ids;
 mod held_ids;
+mod several;
+mod with_held;
 
 pub use freed_ids::FreedIds;
 pub use held_ids::HeldIds;

@@ -1,4 +1,4 @@
-use Rattle.std.proofs.Common.{ℕ, ◌-◌, ◌≤◌}
+use Rattle.std.proofs.Common.{◌-◌, ◌≤◌}
 use Rattle.vm_allocator.specs.Checks.FreedBetween.{AddsBetween}
 use Rattle.vm_allocator.proofs.id_allocator.exact.add_between.Given as goal
 
