@@ -20,3 +20,4 @@ pub mod ExactIds
 pub mod LowestIds
 pub mod FreeIds
 pub mod WithHeld
+pub mod IdsInTurn

@@ -12,19 +12,19 @@ use Rattle.vm_ranges.specs.declared.error.Error.TheVariants.{OutOfMemory, Overfl
 use Rattle.vm_ranges.proofs.Decisions.{Decided, decided_both, decided_below, decided_up_to, lowest_or_none}
 
 -- ---- Decidable facts of an id
-decided_held : (state : IdState) (i : ℕ) → Decided (IsHeld state i)
+pub decided_held : (state : IdState) (i : ℕ) → Decided (IsHeld state i)
 decided_held state i =
     ⊎_elim (λ (e : set.contains state.held i ≡ true). inl e) (λ (e : set.contains state.held i ≡ false). inr (λ h. both_ways _ e h)) (cases_Bool (set.contains state.held i))
 
-decided_of_range : (state : IdState) (i : ℕ) → Decided (IsOfRange state i)
+pub decided_of_range : (state : IdState) (i : ℕ) → Decided (IsOfRange state i)
 decided_of_range state i = decided_both _ _ (decided_up_to state.lo i) (decided_up_to i state.hi)
 
-decided_not_held : (state : IdState) (i : ℕ) → Decided (IsNotHeld state i)
+pub decided_not_held : (state : IdState) (i : ℕ) → Decided (IsNotHeld state i)
 decided_not_held state i =
     decided_both _ _ (decided_of_range state i) (⊎_elim (λ (h : IsHeld state i). inr (λ n. n h)) (λ (n : IsHeld state i → ⊥). inl n) (decided_held state i))
 
 -- Either an id is the lowest that is not held, or all ids are held.
-lowest_or_all : (state : IdState) → ((i : ℕ) × IsLowestNotHeld state i) ⊎ AreAllHeld state
+pub lowest_or_all : (state : IdState) → ((i : ℕ) × IsLowestNotHeld state i) ⊎ AreAllHeld state
 unfolding IsLowestNotHeld AreAllHeld
 lowest_or_all state =
     ⊎_elim

@@ -6,7 +6,7 @@ use Rattle.std.specs.Ordering.{nat_cmp}
 use Rattle.std.specs.BTreeSet.{BTreeSet, contains, Updates, IsUnchanged, IsSameSet}
 use Rattle.std.specs.FinSet as set
 use Rattle.vm_ranges.proofs.NumberSets.{same_members, inserted_here, inserted_other, from_inserted, changed_here, changed_other}
-use Rattle.vm_allocator.specs.Ids.{MAX_ID, IdState, IsOfRange, WasEverAllocated, IsHeld, IsNotHeld, holding_id, bound_of, held_of, ids_of, IsNext, AreIds}
+use Rattle.vm_allocator.specs.Ids.{MAX_ID, IdState, IsOfRange, WasEverAllocated, IsHeld, IsNotHeld, IsIdState, holding_id, bound_of, held_of, ids_of, IsNext, AreIds}
 use Rattle.vm_allocator.specs.IdRequests.{HoldsId, AllocatesExactId}
 use Rattle.vm_allocator.specs.Checks.FreedBetween.{IsBetween, AddsBetween}
 use Rattle.vm_ranges.specs.declared.error.Error.{Error}
@@ -127,6 +127,20 @@ holds_no_memory old lo hi k next freed more e l same =
     inr (omega (arith, b, l), refl, same_set_ids lo hi next freed more same ∙ e)
 
 pub ruleset holds_new = (none_past, bound_is_word, keeps_new, keeps_same_set, holds_past, holds_no_memory)
+
+-- ---- Valid states
+-- Allocating an id of the range leaves a valid state.
+pub holding_in_range : (old : IdState) (n : ℕ) → IsIdState old → IsOfRange old n → IsIdState (holding_id n old)
+holding_in_range old n s o = record {
+  range = s.range;
+  ids = s.ids;
+  bound = (omega (arith, s.bound.0), omega (arith, s.bound.1, o.1));
+  held = λ i m.
+      ⊎_elim
+      (λ (e : i ≡ n). (omega (arith, e, o.0), omega (arith, e)))
+      (λ (k : IsHeld old i). let out = s.held i k in (out.0, omega (arith, out.1)))
+      (from_inserted old.held n i m);
+}
 
 -- ---- The cases of `allocate_exact`
 pub exact_outside : (old : IdState) (k : ℕ) → (IsOfRange old k → ⊥) → AllocatesExactId old k (Err (OutOfRange k)) old

@@ -47,7 +47,7 @@ free_in state q l f =
     passed (λ i. not (set.contains state.held i)) state.lo (state.hi + 1 - state.lo) q
     ∙ and_from _ _ (ap not (absent _ f.1)) (in_row state.lo (state.hi + 1 - state.lo) q f.0.0 (omega (arith, f.0.1)))
 
-free_rise : (state : IdState) → IsStrictlySortedBy nat_cmp (free_ids state)
+pub free_rise : (state : IdState) → IsStrictlySortedBy nat_cmp (free_ids state)
 free_rise state = passed_rise (λ i. not (set.contains state.held i)) state.lo (state.hi + 1 - state.lo)
 
 -- ---- Their number

@@ -3,11 +3,11 @@ use Rattle.std.proofs.Common.{◌≡◌, ℕ, ◌+◌, ◌<◌, ◌≤◌, ◌�
 use Rattle.std.proofs.lemmas.Bool.{cases_lt, lt-ltb, le-ltb, or_left, or_right}
 use Rattle.std.proofs.lemmas.List.{drop_more, drop_all, take_more}
 use Rattle.std.specs.Option.{MatchOption}
-use Rattle.vm_ranges.proofs.NumberSets.{from_inserted}
-use Rattle.vm_allocator.specs.Ids.{IdState, IsHeld, IsIdState, MakesIds, new_ids, holding_id}
+use Rattle.vm_allocator.specs.Ids.{IdState, IsIdState, MakesIds, new_ids, holding_id}
 use Rattle.vm_allocator.specs.IdRequests.{HoldsId, holding_ids, fault_of_held, MakesWithHeld}
 use Rattle.vm_ranges.specs.declared.error.Error.{Error}
 use Rattle.vm_ranges.specs.declared.error.Error.TheVariants.{OutOfRange, ResourceNotAvailable, OutOfMemory}
+use Rattle.vm_allocator.proofs.Ids.ExactIds.{holding_in_range}
 use Rattle.vm_allocator.proofs.Ids.FreeIds.{holding_more}
 
 -- ---- The first id of a list
@@ -100,19 +100,6 @@ pub held_made : (lo hi : ℕ) (held : List ℕ) (state : IdState) → lo ≤ hi 
 unfolding MakesWithHeld
 held_made lo hi held state l f e = inr (λ h. omega arith, rw f (inl (ap Ok e)))
 
--- Allocating an id of the range from the bound on leaves a valid state.
-holding_new_state : (old : IdState) (n : ℕ) → IsIdState old → old.bound ≤ n → n ≤ old.hi → IsIdState (holding_id n old)
-holding_new_state old n s b h = record {
-  range = s.range;
-  ids = s.ids;
-  bound = (omega (arith, s.bound.0), omega (arith, s.bound.1, h));
-  held = λ i m.
-      ⊎_elim
-      (λ (e : i ≡ n). (omega (arith, e, s.bound.0, b), omega (arith, e)))
-      (λ (k : IsHeld old i). let out = s.held i k in (out.0, omega (arith, out.1)))
-      (from_inserted old.held n i m);
-}
-
 -- The ids before the index are allocated, and those that are left have no wrong id.
 pub record HoldsUpTo (lo hi i : ℕ) (held : List ℕ) (state : IdState) : Type 0 where
   pub range : (state.lo ≡ lo) × (state.hi ≡ hi)
@@ -143,7 +130,7 @@ one_more_held lo hi i n held state new l e h is =
       so_far = ap (holding_id n) h.so_far
           ∙ sym (holding_more (take i held) n (new_ids lo hi))
           ∙ ap (λ (xs : List ℕ). holding_ids xs (new_ids lo hi)) (ap (λ (x : ℕ). take i held ++ x ∷ []) e ∙ sym (take_more held i 0 l));
-      valid = holding_new_state state n h.valid r.order (omega (arith, r.range.1, h.range.1));
+      valid = holding_in_range state n h.valid (omega (arith, r.range.0, h.range.0), omega (arith, r.range.1, h.range.1));
       left = subst (λ (b : ℕ). fault_of_held lo hi b (drop (i + 1) held) ≡ None) bound r.others;
     })
 
