@@ -209,7 +209,7 @@ held_after_frees (i ∷ is) s q =
       ),
     )
 
-held_after_all : (is : List ℕ) (s : IdState) (q : ℕ) → IsHeld (holding_ids is s) q ↔ (IsHeld s q ⊎ (list_any (same q) is ≡ true))
+pub held_after_all : (is : List ℕ) (s : IdState) (q : ℕ) → IsHeld (holding_ids is s) q ↔ (IsHeld s q ⊎ (list_any (same q) is ≡ true))
 held_after_all [] s q = (λ h. inl h, λ h. ⊎_elim (λ (k : IsHeld s q). k) (λ (t : false ≡ true). absurd (both_ways false refl t)) h)
 held_after_all (i ∷ is) s q =
     let rest = held_after_all is (holding_id i s) q in (
