@@ -143,7 +143,9 @@ fn sets() {
             }
             assert_eq!(set.first(), rust.first());
             assert_eq!(set.contains(&value), rust.contains(&value));
-            assert!(set.range(value..=value + 9).eq(rust.range(value..=value + 9)));
+            assert!(set
+                .range(value..=value + 9)
+                .eq(rust.range(value..=value + 9)));
         }
         assert!(set.iter().eq(rust.iter()));
         assert!(set.clone().is_ok_and(|clone| clone == set));
