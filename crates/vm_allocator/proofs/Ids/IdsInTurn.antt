@@ -1,6 +1,6 @@
 -- The calls that allocate a given id, an id of a window, or several ids, as single calls one after the other.
 use Rattle.std.proofs.Common.{◌≡◌, ◌≢◌, ◌↔◌, ℕ, ◌+◌, ◌<◌, ◌≤◌, ◌⊎◌, Bool, true, false, ltb, max, List, [], ◌∷◌, ◌++◌, length, take, drop, get_or, refl, sym, ap, ◌∙◌, subst, arith, inl, inr, ⊎_elim, Option, Some, None, Result, Ok, Err, nat_cmp, append_assoc, append-nil}
-use Rattle.std.proofs.lemmas.Bool.{cases_eq, cases_lt, both_ways, and_parts, or_cases, or_left, or_right, lt-ltb, le-ltb}
+use Rattle.std.proofs.lemmas.Bool.{cases_lt, both_ways, and_parts, or_cases, or_left, or_right, lt-ltb, le-ltb}
 use Rattle.std.proofs.lemmas.List.{take-append-drop, length-append, length-take-le}
 use Rattle.std.proofs.lemmas.List.Elements.{Contains-get_or}
 use Rattle.std.proofs.lemmas.Map.Made.{is_member-Decides}
@@ -8,11 +8,10 @@ use Rattle.std.proofs.lemmas.Map.Views.{any-filter_same}
 use Rattle.std.specs.List.{All, filter, list_any}
 use Rattle.std.specs.Option.{MatchOption}
 use Rattle.std.specs.Ordering.{eq_by_cmp}
-use Rattle.std.specs.FinSet as set
-use Rattle.vm_ranges.proofs.NumberSets.{tied_here, tied_is, apart_not_tied, same_members, inserted_here, inserted_other, from_inserted, removed_other, from_removed}
+use Rattle.vm_ranges.proofs.NumberSets.{tied_here, tied_is, same_members, inserted_here, inserted_other, from_inserted, removed_other, from_removed}
 use Rattle.vm_ranges.proofs.TwoFacts.{if_same, unless_same}
 use Rattle.vm_allocator.specs.Ids.{MAX_ID, IdState, IsOfRange, IsHeld, IsNotHeld, IsLowestNotHeld, AreAllHeld, IsIdState, MakesIds, new_ids, holding_id, releasing_id, ByLowestNotHeld, AllocatesId, FreesId}
-use Rattle.vm_allocator.specs.IdRequests.{free_ids, holding_ids, HoldsId, AllocatesExactId, IsNotHeldIn, IsLowestNotHeldIn, IsNoneNotHeldIn, AllocatesIdIn, AllocatesIds, fault_of_held, MakesWithHeld}
+use Rattle.vm_allocator.specs.IdRequests.{free_ids, holding_ids, HoldsId, AllocatesExactId, IsLowestNotHeldIn, IsNoneNotHeldIn, AllocatesIdIn, AllocatesIds, fault_of_held, MakesWithHeld}
 use Rattle.vm_allocator.specs.Laws.IdRequestLaws.{AllocatesInTurn, AllocatesExactlyInTurn, FreesInTurn, free_ids_below, SeveralAreAsSingle, ExactIsAsSingle, WindowsOfIds, HeldIdsAreAsExact, IdRequestsAreDetermined, IdRequestsPreserveStates}
 use Rattle.vm_ranges.specs.declared.error.Error.{Error}
 use Rattle.vm_ranges.specs.declared.error.Error.TheVariants.{Overflow, ResourceNotAvailable, OutOfMemory}
