@@ -12,7 +12,7 @@ impl IdAllocator {
     ///
     /// All ids of the range below it count as allocated at some time. Those that never were are freed
     /// ids afterwards, and time and memory are linear in their number. The call does not allocate memory
-    /// if the id is at most the next id, or was allocated at some time.
+    /// if the id is at most the next id.
     ///
     /// # Errors
     ///
