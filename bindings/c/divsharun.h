@@ -46,8 +46,10 @@
  * text, and its part after the first fault allocates nothing.
  *
  * Cost. Let k be the number of allocated ranges. Allocating and freeing a range
- * takes time of the order of log k, and so do dvs_range_is_held() and
- * dvs_range_at(). An alignment can make the search for a range visit more gaps.
+ * takes time of the order of log k, and so do dvs_range_is_held(), dvs_range_at()
+ * and dvs_gap_at(). An alignment can make the search for a range visit more gaps.
+ * A visit within a range takes time of the order of log k, plus the number of
+ * allocated ranges and gaps that have an address in it.
  * Calls on ids and devices take logarithmic time too. Counts of ids and
  * devices, dvs_longest_gap() and the ends of a space take constant time. All
  * other calls take time linear in the size of the object or the text.
@@ -400,6 +402,30 @@ dvs_status dvs_address_allocator_allocate_all(dvs_address_allocator *allocator,
 dvs_status dvs_range_free(dvs_address_allocator *allocator, dvs_range range, dvs_refusal *refusal);
 
 /*
+ * Moves an allocated range to `start`, and writes the range there to `moved`. A
+ * guest does this when it programs a BAR. It allocates as many addresses at
+ * `start`, and then frees `range`. So both cannot overlap. A move of a range to
+ * its own start succeeds and changes nothing.
+ *
+ * Errors, in order:
+ * - DVS_INVALID_RANGE if `range` is not a valid range.
+ * - DVS_RESOURCE_NOT_AVAILABLE if exactly this range is not allocated.
+ * - DVS_OVERFLOW if `start` is UINT64_MAX.
+ * - DVS_RESOURCE_NOT_AVAILABLE if `start` is outside the space.
+ * - DVS_OVERFLOW if the new range would end past UINT64_MAX.
+ * - DVS_INVALID_STATE_TRANSITION, with the new range, if exactly that range is
+ *   already allocated.
+ * - DVS_RESOURCE_NOT_AVAILABLE if an address of the new range is allocated, as
+ *   those of `range` are, or outside the space.
+ * - DVS_OVERFLOW if the new range ends at UINT64_MAX, or more than 6 * 10^9
+ *   ranges are allocated.
+ * - DVS_OUT_OF_MEMORY.
+ */
+DVS_WARN_UNUSED
+dvs_status dvs_range_move(dvs_address_allocator *allocator, dvs_range range, uint64_t start,
+                          dvs_range *moved, dvs_refusal *refusal);
+
+/*
  * Writes to `is_held` whether exactly this range is allocated.
  *
  * Errors: DVS_INVALID_RANGE if `range` is not a valid range.
@@ -421,10 +447,19 @@ DVS_WARN_UNUSED
 dvs_status dvs_range_at(const dvs_address_allocator *allocator, uint64_t address, dvs_range *range);
 
 /*
- * Writes the length of the longest gap to `length`, or 0 if there is none. A gap
- * is a run of free addresses with no free address next to it. A request of
- * alignment 1 fits if and only if its size is at most this length. Errors:
- * DVS_NULL.
+ * Writes the gap that contains the address to `gap`. A gap is a run of free
+ * addresses with no free address next to it.
+ *
+ * Errors: DVS_RESOURCE_NOT_AVAILABLE if the address is allocated or outside the
+ * space.
+ */
+DVS_WARN_UNUSED
+dvs_status dvs_gap_at(const dvs_address_allocator *allocator, uint64_t address, dvs_range *gap);
+
+/*
+ * Writes the length of the longest gap to `length`, or 0 if there is none. A
+ * request of alignment 1 fits if and only if its size is at most this length.
+ * Errors: DVS_NULL.
  */
 DVS_WARN_UNUSED
 dvs_status dvs_longest_gap(const dvs_address_allocator *allocator, uint64_t *length);
@@ -458,6 +493,20 @@ dvs_status dvs_range_visit(const dvs_address_allocator *allocator, dvs_range_vis
 /* Visits the gaps like dvs_range_visit() visits the allocated ranges. */
 dvs_status dvs_gap_visit(const dvs_address_allocator *allocator, dvs_range_visitor *visitor,
                          void *context);
+
+/*
+ * Visits the allocated ranges that have an address in common with `within`, like
+ * dvs_range_visit(). Each of them is passed whole. They are the ranges that are in
+ * the way of a request for exactly `within`.
+ *
+ * Errors: DVS_INVALID_RANGE if `within` is not a valid range.
+ */
+dvs_status dvs_range_visit_in(const dvs_address_allocator *allocator, dvs_range within,
+                              dvs_range_visitor *visitor, void *context, dvs_refusal *refusal);
+
+/* Visits the gaps that have an address in common with `within`, like dvs_range_visit_in(). */
+dvs_status dvs_gap_visit_in(const dvs_address_allocator *allocator, dvs_range within,
+                            dvs_range_visitor *visitor, void *context, dvs_refusal *refusal);
 
 /*
  * Saves the allocator as JSON. Writes the text to `text` and its length in

@@ -191,14 +191,42 @@ class address_allocator : public owner<dvs_address_allocator, dvs_address_alloca
         return allocate_all(all, ranges, failed, refusal);
     }
     error free(dvs_range range) { return code(dvs_range_free(get(), range, nullptr)); }
+    error move_range(dvs_range range, uint64_t start, dvs_range &moved,
+                     dvs_refusal *refusal = nullptr) {
+        return code(dvs_range_move(get(), range, start, &moved, refusal));
+    }
     error at(uint64_t address, dvs_range &range) const {
         return code(dvs_range_at(get(), address, &range));
+    }
+    error gap_at(uint64_t address, dvs_range &gap) const {
+        return code(dvs_gap_at(get(), address, &gap));
     }
     error longest_gap(uint64_t &length) const { return code(dvs_longest_gap(get(), &length)); }
     std::vector<dvs_range> ranges() const { return list_by<dvs_range>(dvs_range_visit); }
     std::vector<dvs_range> gaps() const { return list_by<dvs_range>(dvs_gap_visit); }
+    error ranges_in(dvs_range within, std::vector<dvs_range> &ranges) const {
+        return list_in(dvs_range_visit_in, within, ranges);
+    }
+    error gaps_in(dvs_range within, std::vector<dvs_range> &gaps) const {
+        return list_in(dvs_gap_visit_in, within, gaps);
+    }
     template <typename Action> error for_each(Action action) const {
         return visit_by<dvs_range>(dvs_range_visit, std::move(action));
+    }
+
+  private:
+    /* Replaces `ranges` by the result of a visit within a range. An error leaves it unchanged. */
+    template <typename Visit>
+    error list_in(Visit call, dvs_range within, std::vector<dvs_range> &ranges) const {
+        std::vector<dvs_range> found;
+        error failed = visit_by<dvs_range>(
+            [&](const object *from, dvs_range_visitor *visitor, void *context) {
+                return call(from, within, visitor, context, nullptr);
+            },
+            [&found](dvs_range range) { return found.push_back(range), true; });
+        if (!failed)
+            ranges = std::move(found);
+        return failed;
     }
 };
 

@@ -83,9 +83,19 @@ pub(crate) fn visit<'a, T, I: Iterator>(
     items: impl FnOnce(&'a T) -> I,
     visitor: Option<impl Fn(I::Item) -> c_int>,
 ) -> Result<(), CallError> {
+    visit_some(handle, |object| Ok(items(object)), visitor)
+}
+
+/// Visits like [`visit`] the items that `items` returns. If it fails, `visitor` is not called.
+pub(crate) fn visit_some<'a, T, I: Iterator>(
+    handle: Option<&'a Handle<T>>,
+    items: impl FnOnce(&'a T) -> Answer<I>,
+    visitor: Option<impl Fn(I::Item) -> c_int>,
+) -> Result<(), CallError> {
     let (handle, visitor) = (non_null(handle)?, non_null(visitor)?);
+    let items = items(handle.get())?;
     handle.visits.fetch_add(1, Ordering::Relaxed);
-    for item in items(handle.get()) {
+    for item in items {
         if visitor(item) != 0 {
             break;
         }

@@ -1,6 +1,6 @@
 //! The address allocator.
 
-use crate::handle::{create, visit, with_mut, with_mut_unit, with_ref, Handle};
+use crate::handle::{create, visit, visit_some, with_mut, with_mut_unit, with_ref, Handle};
 use crate::json::dvs_text_limits;
 use crate::proved::vm_allocator::{AddressAllocator, AllocPolicy, Error, RangeInclusive};
 use crate::rattle::Global;
@@ -127,6 +127,21 @@ pub extern "C" fn dvs_range_free(
 }
 
 #[unsafe(no_mangle)]
+pub extern "C" fn dvs_range_move(
+    allocator: Option<&dvs_address_allocator>,
+    range: dvs_range,
+    start: u64,
+    moved: Out<dvs_range>,
+    refusal: Out<dvs_refusal>,
+) -> dvs_status {
+    let answer = with_mut(allocator, moved, |allocator| {
+        let moved = allocator.move_range(Global, &range.try_into()?, start)?;
+        Ok(moved.into())
+    });
+    status_of(answer, refusal)
+}
+
+#[unsafe(no_mangle)]
 pub extern "C" fn dvs_range_is_held(
     allocator: Option<&dvs_address_allocator>,
     range: dvs_range,
@@ -157,6 +172,19 @@ pub extern "C" fn dvs_range_at(
     let asked = with_ref(allocator, range, |allocator| {
         let held = allocator.held_at(address);
         Ok(held.ok_or(Error::ResourceNotAvailable)?.into())
+    });
+    status_of(asked, None)
+}
+
+#[unsafe(no_mangle)]
+pub extern "C" fn dvs_gap_at(
+    allocator: Option<&dvs_address_allocator>,
+    address: u64,
+    gap: Out<dvs_range>,
+) -> dvs_status {
+    let asked = with_ref(allocator, gap, |allocator| {
+        let found = allocator.gap_at(address);
+        Ok(found.ok_or(Error::ResourceNotAvailable)?.into())
     });
     status_of(asked, None)
 }
@@ -201,6 +229,41 @@ pub extern "C" fn dvs_gap_visit(
 ) -> dvs_status {
     let visitor = visitor.map(|visitor| move |gap: RangeInclusive| visitor(context, gap.into()));
     status_of(visit(allocator, AddressAllocator::gaps, visitor), None)
+}
+
+#[unsafe(no_mangle)]
+pub extern "C" fn dvs_range_visit_in(
+    allocator: Option<&dvs_address_allocator>,
+    within: dvs_range,
+    visitor: Option<dvs_range_visitor>,
+    context: *mut c_void,
+    refusal: Out<dvs_refusal>,
+) -> dvs_status {
+    let visitor =
+        visitor.map(|visitor| move |range: RangeInclusive| visitor(context, range.into()));
+    let visited = visit_some(
+        allocator,
+        |allocator| Ok(allocator.held_ranges_in(&within.try_into()?)),
+        visitor,
+    );
+    status_of(visited, refusal)
+}
+
+#[unsafe(no_mangle)]
+pub extern "C" fn dvs_gap_visit_in(
+    allocator: Option<&dvs_address_allocator>,
+    within: dvs_range,
+    visitor: Option<dvs_range_visitor>,
+    context: *mut c_void,
+    refusal: Out<dvs_refusal>,
+) -> dvs_status {
+    let visitor = visitor.map(|visitor| move |gap: RangeInclusive| visitor(context, gap.into()));
+    let visited = visit_some(
+        allocator,
+        |allocator| Ok(allocator.gaps_in(&within.try_into()?)),
+        visitor,
+    );
+    status_of(visited, refusal)
 }
 
 #[unsafe(no_mangle)]

@@ -117,6 +117,47 @@ static void refuse_held(dvs_address_allocator *space) {
     CHECK(!is_held);
 }
 
+static void refuse_moves(dvs_address_allocator *space) {
+    const dvs_range held = range_of(0x1000, 0x10ff);
+
+    REFUSED(DVS_INVALID_RANGE, dvs_range,
+            dvs_range_move(space, range_of(2, 1), UINT64_MAX, &answer, &refusal));
+    CHECK(are_told(2, 1, 0));
+    REFUSED(DVS_RESOURCE_NOT_AVAILABLE, dvs_range,
+            dvs_range_move(space, range_of(0x1000, 0x10fe), UINT64_MAX, &answer, &refusal));
+    CHECK(are_told(0, 0, 0));
+    REFUSED(DVS_OVERFLOW, dvs_range, dvs_range_move(space, held, UINT64_MAX, &answer, &refusal));
+    REFUSED(DVS_RESOURCE_NOT_AVAILABLE, dvs_range,
+            dvs_range_move(space, held, 0xfff, &answer, &refusal));
+    REFUSED(DVS_RESOURCE_NOT_AVAILABLE, dvs_range,
+            dvs_range_move(space, held, UINT64_MAX - 1, &answer, &refusal));
+    REFUSED(DVS_RESOURCE_NOT_AVAILABLE, dvs_range,
+            dvs_range_move(space, held, 0x1080, &answer, &refusal));
+    REFUSED(DVS_INVALID_STATE_TRANSITION, dvs_range,
+            dvs_range_move(space, held, 0x1200, &answer, &refusal));
+    CHECK(are_told(0x1200, 0x12ff, 0));
+}
+
+static void move_ranges(void) {
+    dvs_address_allocator *space;
+    dvs_range range, other, moved;
+    uint64_t count;
+
+    CHECK(dvs_address_allocator_new(0x1000, 0x1000, &space) == DVS_OK);
+    CHECK(dvs_range_allocate_first(space, 0x100, 0x100, &range, NULL) == DVS_OK);
+    CHECK(dvs_range_allocate_exact(space, 0x100, 0x100, 0x1200, &other, NULL) == DVS_OK);
+    refuse_moves(space);
+    CHECK(dvs_range_move(space, range, 0x1000, &moved, NULL) == DVS_OK);
+    CHECK(is_range(moved, 0x1000, 0x10ff));
+    CHECK(dvs_range_move(space, range, 0x1f00, &moved, NULL) == DVS_OK);
+    CHECK(is_range(moved, 0x1f00, 0x1fff));
+    CHECK(dvs_range_free(space, range, NULL) == DVS_RESOURCE_NOT_AVAILABLE);
+    CHECK(dvs_range_free(space, moved, NULL) == DVS_OK);
+    CHECK(dvs_range_free(space, other, NULL) == DVS_OK);
+    CHECK(dvs_range_count(space, &count) == DVS_OK && count == 0);
+    dvs_address_allocator_destroy(space);
+}
+
 static void allocate_ranges(void) {
     dvs_address_allocator *space;
     dvs_range first, last, exact;
@@ -1033,6 +1074,8 @@ static void give_null_spaces(void) {
     CHECK(are_told(0, 0, 0));
     IS_NULL(dvs_range_allocate(space, &worst, NULL, NULL));
     IS_NULL(dvs_range_free(NULL, range_of(0, 1), NULL));
+    IS_NULL(dvs_range_move(NULL, range_of(0, 1), 0, &range, NULL));
+    IS_NULL(dvs_range_move(space, range_of(0, 1), 0, NULL, NULL));
     IS_NULL(dvs_range_is_held(NULL, range_of(0, 1), &is_held, NULL));
     IS_NULL(dvs_range_is_held(space, range_of(0, 1), NULL, NULL));
     IS_NULL(dvs_range_count(NULL, &count));
@@ -1183,6 +1226,7 @@ int main(void) {
     int status;
 
     make_spaces();
+    move_ranges();
     allocate_ranges();
     allocate_large_ranges();
     allocate_many_ranges();

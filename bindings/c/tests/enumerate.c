@@ -110,6 +110,7 @@ static void refuse_ranges(void) {
 static void look_up_ranges(void) {
     dvs_address_allocator *space = two_held();
     static const uint64_t clear[] = {0, 0xfff, 0x2000, 0x2fff, 0x3800, 0x3fff, 0x4000, UINT64_MAX};
+    static const uint64_t in_none[] = {0x1000, 0x1fff, 0x3000, 0x37ff, 0x4000, UINT64_MAX};
     dvs_range range;
     uint64_t number;
     size_t i;
@@ -120,6 +121,12 @@ static void look_up_ranges(void) {
     for (i = 0; i < sizeof clear / sizeof clear[0]; i++)
         CHECK(dvs_range_at(space, clear[i], &range) == DVS_RESOURCE_NOT_AVAILABLE);
     CHECK(is_range(range, 0x3000, 0x37ff));
+    CHECK(dvs_gap_at(space, 0, &range) == DVS_OK && is_range(range, 0, 0xfff));
+    CHECK(dvs_gap_at(space, 0x2fff, &range) == DVS_OK && is_range(range, 0x2000, 0x2fff));
+    CHECK(dvs_gap_at(space, 0x3fff, &range) == DVS_OK && is_range(range, 0x3800, 0x3fff));
+    for (i = 0; i < sizeof in_none / sizeof in_none[0]; i++)
+        CHECK(dvs_gap_at(space, in_none[i], &range) == DVS_RESOURCE_NOT_AVAILABLE);
+    CHECK(is_range(range, 0x3800, 0x3fff));
     CHECK(dvs_longest_gap(space, &number) == DVS_OK && number == 0x1000);
     CHECK(dvs_clear_count(space, &number) == DVS_OK && number == 0x2800);
     dvs_address_allocator_destroy(space);
@@ -142,6 +149,54 @@ static void visit_gaps(void) {
     seen = all_of();
     CHECK(dvs_gap_visit(space, see_range, &seen) == DVS_OK && seen.count == 0);
     CHECK(dvs_clear_count(space, &number) == DVS_OK && number == 0);
+    dvs_address_allocator_destroy(space);
+}
+
+static void visit_within(void) {
+    static const struct row {
+        uint64_t start, end;
+        size_t ranges, gaps;
+        uint64_t first_range, first_gap;
+    } rows[] = {
+        {0, 0, 0, 1, 0, 0},
+        {0, UINT64_MAX - 1, 2, 3, 0x1000, 0},
+        {1, UINT64_MAX, 2, 3, 0x1000, 0},
+        {0xfff, 0x1000, 1, 1, 0x1000, 0},
+        {0x1800, 0x1900, 1, 0, 0x1000, 0},
+        {0x1fff, 0x3000, 2, 1, 0x1000, 0x2000},
+        {0x2000, 0x2fff, 0, 1, 0, 0x2000},
+        {0x37ff, 0x37ff, 1, 0, 0x3000, 0},
+        {0x3800, UINT64_MAX, 0, 1, 0, 0x3800},
+        {0x4000, UINT64_MAX, 0, 0, 0, 0},
+    };
+    dvs_address_allocator *space = two_held();
+    dvs_refusal refusal;
+    struct seen seen;
+    size_t i;
+
+    for (i = 0; i < sizeof rows / sizeof rows[0]; i++) {
+        dvs_range within = range_of(rows[i].start, rows[i].end);
+
+        seen = all_of();
+        CHECK(dvs_range_visit_in(space, within, see_range, &seen, &refusal) == DVS_OK);
+        CHECK(seen.count == rows[i].ranges);
+        CHECK(seen.count == 0 || seen.ranges[0].start == rows[i].first_range);
+        seen = all_of();
+        CHECK(dvs_gap_visit_in(space, within, see_range, &seen, NULL) == DVS_OK);
+        CHECK(seen.count == rows[i].gaps);
+        CHECK(seen.count == 0 || seen.ranges[0].start == rows[i].first_gap);
+    }
+    seen = all_of();
+    seen.stop_at = 1;
+    CHECK(dvs_range_visit_in(space, range_of(0, 0x4000), see_range, &seen, NULL) == DVS_OK);
+    CHECK(seen.count == 1 && is_range(seen.ranges[0], 0x1000, 0x1fff));
+    CHECK(dvs_range_visit_in(space, range_of(5, 4), see_range, &seen, &refusal) ==
+          DVS_INVALID_RANGE);
+    CHECK(is_range(refusal.range, 5, 4) && seen.count == 1);
+    CHECK(dvs_gap_visit_in(space, range_of(0, UINT64_MAX), see_range, &seen, &refusal) ==
+          DVS_INVALID_RANGE);
+    CHECK(is_range(refusal.range, 0, UINT64_MAX) && seen.count == 1);
+    CHECK(dvs_range_free(space, range_of(0x1000, 0x1fff), NULL) == DVS_OK);
     dvs_address_allocator_destroy(space);
 }
 
@@ -341,6 +396,12 @@ static void give_null(void) {
     CHECK(dvs_range_at(NULL, 0, &range) == DVS_NULL && dvs_range_at(space, 0, NULL) == DVS_NULL);
     CHECK(dvs_longest_gap(NULL, &number) == DVS_NULL && dvs_longest_gap(space, NULL) == DVS_NULL);
     CHECK(dvs_clear_count(NULL, &number) == DVS_NULL && dvs_clear_count(space, NULL) == DVS_NULL);
+    CHECK(dvs_gap_at(NULL, 0, &range) == DVS_NULL && dvs_gap_at(space, 0, NULL) == DVS_NULL);
+    range = range_of(5, 4);
+    CHECK(dvs_range_visit_in(NULL, range, see_range, NULL, NULL) == DVS_NULL);
+    CHECK(dvs_range_visit_in(space, range, NULL, NULL, NULL) == DVS_NULL);
+    CHECK(dvs_gap_visit_in(NULL, range, see_range, NULL, NULL) == DVS_NULL);
+    CHECK(dvs_gap_visit_in(space, range, NULL, NULL, NULL) == DVS_NULL);
     CHECK(dvs_gap_visit(NULL, see_range, NULL) == DVS_NULL);
     CHECK(dvs_gap_visit(space, NULL, NULL) == DVS_NULL);
     CHECK(dvs_id_visit(NULL, see_id, NULL) == DVS_NULL &&
@@ -369,6 +430,7 @@ int main(void) {
     refuse_ranges();
     look_up_ranges();
     visit_gaps();
+    visit_within();
     allocate_all();
     allocate_in_windows();
     allocate_none();

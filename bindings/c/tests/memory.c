@@ -232,6 +232,19 @@ static dvs_status allocate_in_window(void) {
     return freed(status, range);
 }
 
+/* Moves a range between free addresses, and then back without a refusal. */
+static dvs_status move_range(void) {
+    dvs_range moved = {0, 0};
+    dvs_status status = dvs_range_move(space, range_of(0, 2), 500, &moved, NULL);
+    unsigned long left = until_refused;
+
+    until_refused = 0;
+    if (status == DVS_OK)
+        CHECK(dvs_range_move(space, moved, 0, &moved, NULL) == DVS_OK);
+    until_refused = left;
+    return status;
+}
+
 static dvs_status save_space(void) {
     char *text = NULL;
     size_t length;
@@ -414,6 +427,7 @@ static const struct call {
     {"last", allocate_last, 2},
     {"exact", allocate_exact, 2},
     {"in a window", allocate_in_window, 2},
+    {"move", move_range, 2},
     {"save a space", save_space, 3},
     {"save ids", save_ids, 1},
     {"save a manager", save_manager, 2},

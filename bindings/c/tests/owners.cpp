@@ -21,8 +21,19 @@ static void allocate() {
     CHECK(std::string(again.category().name()) == "divsharun");
     CHECK(space.ranges().size() == 3 && is_range(space.ranges()[1], 0x1200, 0x120f));
     CHECK(space.gaps().size() == 2 && !space.longest_gap(length) && length == 0x1f00 - 0x1210);
-    CHECK(!space.at(0x1205, range) && !space.free(range) && space.free(range));
     std::vector<dvs_range> ranges;
+    CHECK(!space.gap_at(0x1100, range) && is_range(range, 0x1100, 0x11ff));
+    CHECK(space.gap_at(0x10ff, range) == dvs::code(DVS_RESOURCE_NOT_AVAILABLE));
+    CHECK(!space.ranges_in({0x10ff, 0x1200}, ranges) && ranges.size() == 2);
+    CHECK(is_range(ranges[1], 0x1200, 0x120f));
+    CHECK(space.ranges_in({2, 1}, ranges) == dvs::code(DVS_INVALID_RANGE) && ranges.size() == 2);
+    CHECK(!space.gaps_in({0, 0x10ff}, ranges) && ranges.empty());
+    CHECK(!space.gaps_in({0x1205, 0x1fff}, ranges) && ranges.size() == 1);
+    CHECK(is_range(ranges[0], 0x1210, 0x1eff));
+    CHECK(!space.at(0x1205, range) && !space.free(range) && space.free(range));
+    CHECK(!space.move_range({0x1000, 0x10ff}, 0x1400, range) && is_range(range, 0x1400, 0x14ff));
+    CHECK(space.move_range(range, 0x1401, range) == dvs::code(DVS_RESOURCE_NOT_AVAILABLE));
+    CHECK(!space.move_range(range, 0x1000, range) && is_range(range, 0x1000, 0x10ff));
     std::size_t failed = 9;
     CHECK(!space.allocate_all({{1, 1, 0, DVS_FIRST, nullptr}, {2, 1, 0, DVS_LAST, nullptr}}, ranges,
                               &failed));

@@ -1,6 +1,7 @@
 pub mod Making
 pub mod EveryAddressCall
 pub mod BelowLimits
+pub mod Moves
 pub mod Several
 pub mod SeveralParts
 pub mod HeldOnes

@@ -173,7 +173,7 @@ range_of (y ∷ ys) x h =
     ⊎_elim (λ (i : IsIn y x). (y, inl refl, i)) (λ (k : IsHeldAddress ys x). let q = range_of ys x k in (q.0, inr q.1, q.2)) h
 
 -- The addresses of a freed range are clear.
-released_clear : (old : AddressState) (r : Range) → IsAddressState old → IsHeldRange old.held r → AreClear (address_count r) (releasing r old) r.start
+pub released_clear : (old : AddressState) (r : Range) → IsAddressState old → IsHeldRange old.held r → AreClear (address_count r) (releasing r old) r.start
 released_clear old r i h x low high =
     let lo = old.space.start in
     let hi = old.space.end in

@@ -2,3 +2,4 @@ pub mod AlongHistories
 pub mod HistoryAnswers
 pub mod Releases
 pub mod AddressEnds
+pub mod MovedRanges

@@ -2,6 +2,7 @@ pub mod HistoryLaws
 pub mod SeveralLaws
 pub mod GapLaws
 pub mod WindowLaws
+pub mod MoveLaws
 pub mod ValueLaws
 pub mod IdLaws
 pub mod IdRequestLaws

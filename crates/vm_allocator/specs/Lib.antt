@@ -4,6 +4,7 @@ pub mod IdRequests
 pub mod IdOrder
 pub mod FreedLists
 pub mod Several
+pub mod Moves
 pub mod Histories
 pub mod Laws
 pub mod Values

@@ -28,6 +28,7 @@ use vm_ranges::{AllocPolicy, Constraint, Error, RangeInclusive, Result};
 mod comparing;
 mod gaps;
 mod held_ranges;
+mod moving;
 mod several;
 
 /// Allocates ranges of addresses from one space.

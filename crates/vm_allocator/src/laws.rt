@@ -6,6 +6,7 @@ mod histories;
 mod id_histories;
 mod id_requests;
 mod ids;
+mod moves;
 mod saved;
 mod several;
 mod windows;

@@ -4,3 +4,4 @@ pub mod Outcomes
 pub mod Filling
 pub mod AddressAnswers
 pub mod HeldAndGaps
+pub mod Meeting

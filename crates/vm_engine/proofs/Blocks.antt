@@ -3,6 +3,7 @@ pub mod BlockOrder
 pub mod Replacement
 pub mod Gaps
 pub mod OneList
+pub mod PickedRanges
 pub mod BlockStates
 pub mod BlockCounts
 pub mod HeldSets

@@ -1,5 +1,6 @@
 pub mod BothEnds
 pub mod WalkPaths
 pub mod HeldInTrees
-pub mod HeldAtAddresses
+pub mod AddressSearches
+pub mod Windows
 pub mod GapsInTrees

@@ -12,4 +12,5 @@ pub mod Widening
 pub mod SplitBlocks
 pub mod Outermost
 pub mod Walks
+pub mod WindowBlocks
 pub mod Choosing

@@ -21,6 +21,7 @@ ghost use Rattle.vm_engine.specs.Tree.Shape.{blocks, height_of, IsTree};
 ghost use Rattle.vm_engine.specs.Counts.GapSearch.{SearchesGaps, SearchesAligned};
 ghost use Rattle.vm_engine.specs.Counts.Steps.{Enters, EntersToFree, IsBalancedTreeOf, IsGrantCount, IsFreeCount, SplitsIfLow};
 ghost use Rattle.vm_engine.specs.Tree.SpaceTree.{tree_state, IsSpaceTree, MakesTree};
+ghost use Rattle.vm_engine.specs.Engine.WindowBlocks.{meeting_blocks};
 
 use crate::Steps;
 use crate::block::Block;
@@ -100,6 +101,15 @@ impl IntervalTree {
         ensures space { IsSpaceTree self.now }
     {
         Blocks::new(&self.root)
+    }
+
+    /// Returns an iterator over the blocks that have an address in common with `window`, from both
+    /// ends.
+    pub(crate) fn blocks_in(&self, window: &RangeInclusive) -> Blocks<'_>
+        ensures value { result ≡ meeting_blocks window.now (blocks self.now) }
+        ensures space { IsSpaceTree self.now }
+    {
+        Blocks::within(&self.root, window)
     }
 
     /// Returns the root. A tree is never empty.

@@ -110,6 +110,39 @@ impl Addresses {
         Some((start, end))
     }
 
+    /// Returns the allocated range that contains an address.
+    pub fn held_over(&self, address: u64) -> Option<(u64, u64)> {
+        for start in 0..ADDRESSES {
+            if let Some((start, end)) = self.range_at(start) {
+                if start <= address && address <= end {
+                    return Some((start, end));
+                }
+            }
+        }
+        None
+    }
+
+    /// Returns the longest run of free addresses that contains an address.
+    pub fn gap_over(&self, address: u64) -> Option<(u64, u64)> {
+        if self.at(address) != Some(Clear) {
+            return None;
+        }
+        let (mut start, mut end) = (address, address);
+        for distance in 1..=address {
+            if self.at(address.saturating_sub(distance)) != Some(Clear) {
+                break;
+            }
+            start = address.saturating_sub(distance);
+        }
+        for further in address..ADDRESSES {
+            if self.at(further) != Some(Clear) {
+                break;
+            }
+            end = further;
+        }
+        Some((start, end))
+    }
+
     /// Returns the number of allocated ranges.
     pub fn held_count(&self) -> u64 {
         let mut count = 0u64;

@@ -1,7 +1,7 @@
 //! Tests of address allocators.
 use crate::fixtures::{block_count, cloned, expect_eq, expect_true, made};
 use AllocPolicy::{ExactMatch, FirstMatch, LastMatch};
-use Call::{Exact, ExactIn, First, FirstIn, Free, Last, LastIn, Space};
+use Call::{Exact, ExactIn, First, FirstIn, Free, Last, LastIn, Move, Space};
 use Expected::{Held, NoAlignment, NoSize, NotAvailable, Overflow, Range, Unaligned, Underflow};
 use Form::{Counted, Plain};
 use std::alloc::Global;
@@ -15,6 +15,8 @@ mod differences;
 mod ends;
 mod held;
 mod long_run;
+mod meeting;
+mod moves;
 mod queries;
 mod requests;
 mod several;
@@ -48,9 +50,11 @@ enum Call {
     ExactIn(u64, u64, u64, (u64, u64)),
     /// Frees a range by its first and its last address.
     Free(u64, u64),
+    /// Moves a range, by its first and its last address, to a start.
+    Move(u64, u64, u64),
 }
 
-/// The first and the last address of the new space, or of the range that is allocated or freed.
+/// The first and the last address of the new space, or of the range that is allocated, freed or moved.
 type Answer = Result<(u64, u64)>;
 
 /// The expected result of a call.
@@ -104,6 +108,7 @@ impl Call {
         match self {
             Space(base, size) => (replace(space, alloc, base, size), 0),
             Free(start, end) => free_all(space, start, end, form),
+            Move(start, end, to) => (move_range(space, alloc, start, end, to), 0),
             First(..) | Last(..) | Exact(..) => self.count_allocation(space, alloc, form),
             FirstIn(..) | LastIn(..) | ExactIn(..) => self.count_request(space, alloc, form),
         }
@@ -150,7 +155,7 @@ impl Call {
             Exact(size, alignment, start) | ExactIn(size, alignment, start, _) => {
                 (size, alignment, ExactMatch(start))
             }
-            Space(..) | Free(..) => (0, 0, FirstMatch),
+            Space(..) | Free(..) | Move(..) => (0, 0, FirstMatch),
         }
     }
 
@@ -179,6 +184,18 @@ fn ends_of(answer: Result<RangeInclusive>) -> Answer {
 fn replace(space: &mut AddressAllocator, alloc: Global, base: u64, size: u64) -> Answer {
     *space = AddressAllocator::new(alloc, base, size)?;
     Ok((space.base(), space.end()))
+}
+
+/// Moves a range to another start.
+fn move_range(
+    space: &mut AddressAllocator,
+    alloc: Global,
+    start: u64,
+    end: u64,
+    to: u64,
+) -> Answer {
+    let range = RangeInclusive::new(start, end)?;
+    ends_of(space.move_range(alloc, &range, to))
 }
 
 /// Frees a range, and also returns the number of entered nodes if it is counted.

@@ -88,6 +88,9 @@ fn ranges_looked_up(rt: HostRuntime) {
     for address in 0..2 * MANY {
         let is_held = space.holds(&range(&rt, address, address));
         expect_eq(&rt, &is_held, &(address % 2 == 0), &address);
+        let both = range(&rt, address, address.saturating_add(1));
+        let gap = space.gaps_in(&both).next();
+        expect_eq(&rt, &gap, &space.gap_at(address | 1), &address);
     }
     for number in 0..MANY {
         let (answer, _) = space.free_counted(&range(&rt, 2 * number, 2 * number));

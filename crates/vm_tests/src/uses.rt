@@ -12,10 +12,11 @@ use crate::fixtures::{expect_true, made, range};
 use crate::plugging::replugged;
 use crate::windows::{restored, windows};
 use serde_json::Value;
-use std::alloc::Global;
+use std::alloc::{AllocError, Global};
 use std::process::Abort;
 use vm_allocator::{
-    AddressAllocator, AllocPolicy, Error, IdAllocator, RangeInclusive, Result, ValueError,
+    AddressAllocator, AllocPolicy, Error, Gaps, HeldRanges, IdAllocator, RangeInclusive, Result,
+    ValueError,
 };
 use vm_devices::DeviceManager;
 
@@ -120,6 +121,20 @@ fn use_windows(rt: &(impl Abort + AllocGlobal)) {
     expect_true(rt, are_there, &"both windows");
 }
 
+/// Clones an iterator: the clone returns the ranges that the iterator has left.
+fn held_ranges_again<'a>(ranges: &HeldRanges<'a>) -> std::result::Result<HeldRanges<'a>, AllocError>
+    ensures { IfOk result (λ again. again ≡ ranges.now) }
+{
+    Clone::clone(ranges)
+}
+
+/// Clones an iterator: the clone returns the gaps that the iterator has left.
+fn gaps_again<'a>(gaps: &Gaps<'a>) -> std::result::Result<Gaps<'a>, AllocError>
+    ensures { IfOk result (λ again. again ≡ gaps.now) }
+{
+    Clone::clone(gaps)
+}
+
 /// Writes and reads a gap.
 fn use_restored(rt: &(impl Abort + AllocGlobal), gap: &AddressAllocator) {
     let empty = match restored(rt.alloc(), gap) {
@@ -143,6 +158,20 @@ fn use_texts(rt: &(impl Abort + AllocGlobal), gap: &AddressAllocator) {
         if let Ok(again) = devices_through_text(rt.alloc(), &devices) {
             expect_true(rt, again == devices, &"the same devices");
         }
+    }
+}
+
+/// Clones iterators over the allocated ranges and the gaps.
+fn use_clones(rt: &(impl Abort + AllocGlobal), gap: &AddressAllocator) {
+    if let Ok(mut again) = held_ranges_again(&gap.held_ranges()) {
+        expect_true(
+            rt,
+            again.next() == gap.held_ranges().next(),
+            &"the same range",
+        );
+    }
+    if let Ok(mut again) = gaps_again(&gap.gaps()) {
+        expect_true(rt, again.next() == gap.gaps().next(), &"the same gap");
     }
 }
 
@@ -181,6 +210,7 @@ fn uses(rt: HostRuntime) {
     use_restored(&rt, &gap);
     use_texts(&rt, &gap);
     use_bar(&rt, &mut gap);
+    use_clones(&rt, &gap);
     use_memory(&rt);
     use_numbers(&rt);
 }

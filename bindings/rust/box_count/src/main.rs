@@ -5,7 +5,8 @@
 //!
 //! - A counted call follows at most a multiple of its count.
 //! - A plain call follows as many boxes, up to [`LOOKS`].
-//! - `holds` walks one path, and walks over all blocks visit each once.
+//! - Queries of one range or address walk one path, and those of a range two. Walks over all blocks
+//!   visit each once.
 #![forbid(unsafe_code)]
 
 use box_count::proved::vm_allocator::{
@@ -37,8 +38,12 @@ const CHANGE: Bound = Bound {
 };
 /// The maximum number of additional boxes that a plain call follows, to read the root.
 const LOOKS: u64 = 2;
-/// The maximum number of boxes that a walk follows: per node of its path or of its trees, and in
-/// addition.
+/// The maximum number of boxes that a query of one path follows, per level of the tree and in addition.
+const PATH: Bound = Bound {
+    of_a_node: 1,
+    besides: 2,
+};
+/// The maximum number of boxes that a walk follows: per level or node of its trees, and in addition.
 const WALK: Bound = Bound {
     of_a_node: 3,
     besides: 3,
@@ -201,11 +206,22 @@ impl Pair {
         let space = &self.counted;
         let nodes_of_both = 2 * (2 * self.held.len() as u64 + 1);
         for range in self.held.iter().step_by(1 + self.held.len() / 100) {
-            let (holds, followed) = boxes(|| space.holds(range));
-            assert!(
-                holds && followed <= WALK.of(space.height()),
-                "holds follows {followed} boxes"
-            );
+            let queries: [(&str, Bound, &dyn Fn() -> bool); 5] = [
+                ("holds", PATH, &|| space.holds(range)),
+                ("held_at", PATH, &|| space.held_at(range.end()).is_some()),
+                ("gap_at", PATH, &|| space.gap_at(range.end()).is_none()),
+                ("held_ranges_in", WALK, &|| {
+                    space.held_ranges_in(range).next() == Some(*range)
+                }),
+                ("gaps_in", WALK, &|| space.gaps_in(range).next().is_none()),
+            ];
+            for (name, bound, query) in queries {
+                let (is_true, followed) = boxes(query);
+                assert!(
+                    is_true && followed <= bound.of(space.height()),
+                    "{name} follows {followed} boxes"
+                );
+            }
         }
         let (_, followed) = boxes(|| black_box((space.base(), space.end(), space.height())));
         assert!(

@@ -57,6 +57,18 @@ impl Env for HostRuntime {
     }
 }
 
+/// A type with clones. In Rattle a clone can fail, as it can allocate.
+pub trait Clone: Sized {
+    /// Returns a clone.
+    fn clone(value: &Self) -> Result<Self, AllocError>;
+}
+
+impl<T: core::clone::Clone> Clone for T {
+    fn clone(value: &T) -> Result<T, AllocError> {
+        Ok(value.clone())
+    }
+}
+
 /// A string that reports a failed allocation.
 #[derive(Debug)]
 pub struct String(alloc::string::String);

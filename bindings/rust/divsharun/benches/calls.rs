@@ -3,9 +3,10 @@
 
 mod workload;
 
-use divsharun::IdAllocator;
+use divsharun::{AddressAllocator, IdAllocator, RangeInclusive};
+use std::hint::black_box;
 use std::time::Instant;
-use workload::{library, Cache, Call, Devices};
+use workload::{library, Cache, Call, Devices, Draw};
 
 library!(Divsharun, divsharun);
 
@@ -34,6 +35,14 @@ fn main() {
             .collect();
         println!("| {call}, {cache:?} | {} |", times.join(" | "));
     }
+    let times: Vec<String> = counts
+        .iter()
+        .map(|count| format!("{:.0} ns", first_within(*count, rounds)))
+        .collect();
+    println!(
+        "| first item of `held_ranges_in`, Warm | {} |",
+        times.join(" | ")
+    );
     let rows: [(&str, Allocate); 2] = [
         ("64 calls of `allocate_id`", allocated_one_by_one),
         ("`allocate_ids` of 64 ids", allocated_together),
@@ -45,6 +54,30 @@ fn main() {
             .collect();
         println!("| {name} | {} |", times.join(" | "));
     }
+}
+
+/// Returns the median time of the first item of `held_ranges_in` in nanoseconds, for this number of
+/// allocated ranges with gaps between them. Each window meets one of them.
+fn first_within(count: u64, rounds: u64) -> f64 {
+    let page_at = |start: u64| RangeInclusive::new(start, start + 0xfff).expect("a range");
+    let held: Vec<_> = (0..count).map(|number| page_at(0x2000 * number)).collect();
+    let space = AddressAllocator::with_held(0, 0x2000 * count, &held).expect("a space");
+    let mut draw = Draw::from_seed(count);
+    let mut times: Vec<f64> = (0..rounds)
+        .map(|_| {
+            let windows: Vec<_> = (0..1000)
+                .map(|_| page_at(0x2000 * draw.below(count) + 0x800))
+                .collect();
+            let start = Instant::now();
+            for window in &windows {
+                let first = space.held_ranges_in(black_box(window)).next();
+                assert!(black_box(first).is_some());
+            }
+            start.elapsed().as_nanos() as f64 / windows.len() as f64
+        })
+        .collect();
+    times.sort_by(f64::total_cmp);
+    times[times.len() / 2]
 }
 
 /// Allocates 64 ids.

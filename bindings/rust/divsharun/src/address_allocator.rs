@@ -261,6 +261,72 @@ impl AddressAllocator {
         or_try_error(self.0.allocate_constraint(Global, request.0)).map(RangeInclusive)
     }
 
+    /// Moves an allocated range to another start, and returns the range there. A guest does this when
+    /// it programs a BAR.
+    ///
+    /// It allocates as many addresses at `start` by `ExactMatch` at alignment 1, and then frees `key`.
+    /// So the new range cannot overlap `key`. A move to the start of `key` succeeds and changes
+    /// nothing.
+    ///
+    /// # Errors
+    ///
+    /// An error changes nothing. In this order:
+    /// - `ResourceNotAvailable` if exactly this range is not allocated.
+    /// - `Overflow` if `start` is `u64::MAX`.
+    /// - `ResourceNotAvailable` if `start` is outside the space.
+    /// - `Overflow` if the new range would end past `u64::MAX`.
+    /// - `InvalidStateTransition` if exactly the new range is already allocated.
+    /// - `ResourceNotAvailable` if an address of the new range is not free, as those of `key`.
+    /// - `Overflow` if the new range ends at `u64::MAX`.
+    /// - `Overflow` if the new range fills only a part of its gap and the height of the tree is 48 or
+    ///   more. This takes more than 6 * 10^9 ranges.
+    ///
+    /// # Example
+    ///
+    /// ```rust
+    /// use divsharun::{AddressAllocator, AllocPolicy, Error};
+    ///
+    /// let mut mmio = AddressAllocator::new(0xd000_0000, 0x1000_0000)?;
+    /// let bar = mmio.allocate(0x4000, 0x4000, AllocPolicy::FirstMatch)?;
+    /// let moved = mmio.move_range(&bar, 0xd800_0000)?;
+    /// assert_eq!((moved.start(), moved.len()), (0xd800_0000, 0x4000));
+    /// assert!(!mmio.holds(&bar));
+    ///
+    /// // The new range would overlap the old one.
+    /// assert_eq!(mmio.move_range(&moved, 0xd800_2000), Err(Error::ResourceNotAvailable));
+    /// # Ok::<(), Error>(())
+    /// ```
+    pub fn move_range(&mut self, key: &RangeInclusive, start: u64) -> Result<RangeInclusive> {
+        or_abort(self.0.move_range(Global, &key.0, start)).map(RangeInclusive)
+    }
+
+    /// Moves a range like [`move_range`](Self::move_range), but returns an error if memory runs out.
+    ///
+    /// # Errors
+    ///
+    /// An error changes nothing. In this order:
+    /// - `Refused` with `ResourceNotAvailable`, `Overflow` or `InvalidStateTransition`, if `move_range`
+    ///   returns that error.
+    /// - `OutOfMemory` if memory for a node runs out. A new range that fills its gap does not allocate.
+    ///
+    /// # Example
+    ///
+    /// ```rust
+    /// use divsharun::{AddressAllocator, AllocPolicy, TryError};
+    ///
+    /// let mut ports = AddressAllocator::try_new(0xc000, 0x1000)?;
+    /// let bar = ports.try_allocate(0x100, 0x100, AllocPolicy::FirstMatch)?;
+    /// assert_eq!(ports.try_move_range(&bar, 0xc800)?.end(), 0xc8ff);
+    /// # Ok::<(), TryError>(())
+    /// ```
+    pub fn try_move_range(
+        &mut self,
+        key: &RangeInclusive,
+        start: u64,
+    ) -> core::result::Result<RangeInclusive, TryError> {
+        or_try_error(self.0.move_range(Global, &key.0, start)).map(RangeInclusive)
+    }
+
     /// Allocates a range for each request, in their order, and returns the ranges. Each request can
     /// have its own window. Each range is where [`allocate_constraint`](Self::allocate_constraint)
     /// places it after the requests before it.
@@ -437,6 +503,33 @@ impl AddressAllocator {
         HeldRanges(self.0.held_ranges())
     }
 
+    /// Returns an iterator over the allocated ranges that have an address in common with `range`, in
+    /// ascending order.
+    ///
+    /// Each range is returned whole. If `range` is in the space, it is free if and only if there is no
+    /// item. It walks one path of the tree for each end of `range` and does not allocate.
+    ///
+    /// # Example
+    ///
+    /// The ranges that are in the way of an `ExactMatch` request:
+    ///
+    /// ```rust
+    /// use divsharun::{AddressAllocator, AllocPolicy, Error, RangeInclusive};
+    ///
+    /// let mut mmio = AddressAllocator::new(0xd000_0000, 0x3000_0000)?;
+    /// let device = mmio.allocate(0x1000, 0x1000, AllocPolicy::ExactMatch(0xd000_3000))?;
+    /// let window = RangeInclusive::new(0xd000_0000, 0xd000_ffff)?;
+    /// let exact = AllocPolicy::ExactMatch(window.start());
+    /// let failed = mmio.allocate(window.len(), 1, exact);
+    /// assert_eq!(failed, Err(Error::ResourceNotAvailable));
+    /// assert!(mmio.held_ranges_in(&window).eq([device]));
+    /// # Ok::<(), divsharun::Error>(())
+    /// ```
+    #[must_use]
+    pub fn held_ranges_in(&self, range: &RangeInclusive) -> HeldRanges<'_> {
+        HeldRanges(self.0.held_ranges_in(&range.0))
+    }
+
     /// Returns whether exactly this range is allocated. A part of an allocated range is not.
     ///
     /// It walks one path of the tree and does not allocate.
@@ -486,6 +579,51 @@ impl AddressAllocator {
     #[must_use]
     pub fn gaps(&self) -> Gaps<'_> {
         Gaps(self.0.gaps())
+    }
+
+    /// Returns an iterator over the gaps that have an address in common with `range`, in ascending
+    /// order.
+    ///
+    /// Each gap is returned whole. It walks one path of the tree for each end of `range` and does not
+    /// allocate.
+    ///
+    /// # Example
+    ///
+    /// ```rust
+    /// use divsharun::{AddressAllocator, AllocPolicy, RangeInclusive};
+    ///
+    /// let mut ports = AddressAllocator::new(0, 0x100)?;
+    /// ports.allocate(0x10, 1, AllocPolicy::ExactMatch(0x40))?;
+    /// ports.allocate(0x10, 1, AllocPolicy::ExactMatch(0x60))?;
+    /// let window = RangeInclusive::new(0x48, 0x5f)?;
+    /// let gaps: Vec<_> = ports.gaps_in(&window).map(|gap| gap.to_string()).collect();
+    /// assert_eq!(gaps, ["50-5f"]);
+    /// # Ok::<(), divsharun::Error>(())
+    /// ```
+    #[must_use]
+    pub fn gaps_in(&self, range: &RangeInclusive) -> Gaps<'_> {
+        Gaps(self.0.gaps_in(&range.0))
+    }
+
+    /// Returns the gap that contains the address, or `None` if the address is allocated or outside
+    /// the space.
+    ///
+    /// It walks one path of the tree and does not allocate.
+    ///
+    /// # Example
+    ///
+    /// ```rust
+    /// use divsharun::{AddressAllocator, AllocPolicy};
+    ///
+    /// let mut ports = AddressAllocator::new(0, 0x100)?;
+    /// ports.allocate(0x10, 1, AllocPolicy::ExactMatch(0x40))?;
+    /// assert_eq!(ports.gap_at(0x50).map(|gap| gap.to_string()), Some("50-ff".to_string()));
+    /// assert_eq!(ports.gap_at(0x4f), None);
+    /// # Ok::<(), divsharun::Error>(())
+    /// ```
+    #[must_use]
+    pub fn gap_at(&self, address: u64) -> Option<RangeInclusive> {
+        self.0.gap_at(address).map(RangeInclusive)
     }
 
     /// Returns the length of the longest gap, or 0 if there is none. It reads one node.
@@ -586,7 +724,8 @@ impl fmt::Debug for DebugRanges<'_> {
 /// An iterator over the allocated ranges of an [`AddressAllocator`], in ascending order or from
 /// both ends.
 ///
-/// It is created by [`held_ranges`](AddressAllocator::held_ranges).
+/// It is created by [`held_ranges`](AddressAllocator::held_ranges) and
+/// [`held_ranges_in`](AddressAllocator::held_ranges_in).
 ///
 /// # Example
 ///
@@ -635,8 +774,9 @@ impl<'a> IntoIterator for &'a AddressAllocator {
     }
 }
 
-/// An iterator over the gaps of an [`AddressAllocator`], in ascending order or from both ends. It is
-/// created by [`gaps`](AddressAllocator::gaps).
+/// An iterator over the gaps of an [`AddressAllocator`], in ascending order or from both ends.
+///
+/// It is created by [`gaps`](AddressAllocator::gaps) and [`gaps_in`](AddressAllocator::gaps_in).
 #[derive(Clone)]
 pub struct Gaps<'a>(proved::Gaps<'a>);
 

@@ -229,6 +229,17 @@ impl Spaces {
         );
         for address in space.base()..space.base().saturating_add(WIDTH) {
             same(space.held_at(address), proved.held_at(address));
+            same(space.gap_at(address), proved.gap_at(address));
+            let window = range(address, address.saturating_add(7));
+            let (window, proved_window) = window.unwrap();
+            same(
+                space.held_ranges_in(&window).collect::<Vec<_>>(),
+                proved.held_ranges_in(&proved_window).collect::<Vec<_>>(),
+            );
+            same(
+                space.gaps_in(&window).collect::<Vec<_>>(),
+                proved.gaps_in(&proved_window).collect::<Vec<_>>(),
+            );
         }
         same(
             (*space == before.0, space.cmp(&before.0)),

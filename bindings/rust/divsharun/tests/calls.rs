@@ -64,6 +64,22 @@ fn from_both_ends(
     lower
 }
 
+/// Moves a range, if the addresses there are free, or checks that it stays.
+fn move_range(space: &mut AddressAllocator, model: &mut Model, held: &mut RangeInclusive, to: u64) {
+    let answer = space.move_range(held, to);
+    if to == held.start() {
+        assert_eq!(answer, Ok(*held));
+    } else if model.is_clear(to, held.len()) {
+        let moved = answer.unwrap();
+        assert_eq!((moved.start(), moved.len()), (to, held.len()));
+        model.set(held, None);
+        model.set(&moved, Some(to));
+        *held = moved;
+    } else {
+        assert!(answer.is_err());
+    }
+}
+
 #[test]
 fn answers_are_those_of_a_plain_model() {
     let mut draw = Draw(1);
@@ -73,11 +89,16 @@ fn answers_are_those_of_a_plain_model() {
     for _ in 0..20_000 {
         let (size, align) = (1 + draw.below(6), 1 << draw.below(3));
         let at = BASE + draw.below(WIDTH as u64);
-        let policy = match draw.below(8) {
+        let policy = match draw.below(9) {
             0..=2 => AllocPolicy::FirstMatch,
             3 => AllocPolicy::LastMatch,
             4 => AllocPolicy::ExactMatch(at - at % align),
             _ if held.is_empty() => continue,
+            5 => {
+                let moved = draw.below(held.len() as u64) as usize;
+                move_range(&mut space, &mut model, &mut held[moved], at);
+                continue;
+            }
             _ => {
                 let range = held.swap_remove(draw.below(held.len() as u64) as usize);
                 assert_eq!(space.free(&range), Ok(()));
@@ -104,8 +125,37 @@ fn answers_are_those_of_a_plain_model() {
         assert_eq!(from_both_ends(space.held_ranges(), &mut draw), held);
         assert_eq!(from_both_ends(space.gaps(), &mut draw), gaps);
     }
+    expect_queries(&space, &held, &gaps, &mut draw);
     let created = AddressAllocator::with_held(BASE, WIDTH as u64, &held);
     assert_eq!(created, Ok(space));
+}
+
+/// Checks the queries of each address, and of each range of the space and the addresses next to it.
+fn expect_queries(
+    space: &AddressAllocator,
+    held: &[RangeInclusive],
+    gaps: &[RangeInclusive],
+    draw: &mut Draw,
+) {
+    let addresses = BASE - 2..BASE + WIDTH as u64 + 2;
+    for (start, end) in addresses
+        .clone()
+        .flat_map(|start| (start..addresses.end).map(move |end| (start, end)))
+    {
+        let window = RangeInclusive::new(start, end).unwrap();
+        let meeting = |ranges: &[RangeInclusive]| -> Vec<RangeInclusive> {
+            let meets = |range: &&RangeInclusive| range.overlaps(&window);
+            ranges.iter().filter(meets).copied().collect()
+        };
+        let found = from_both_ends(space.held_ranges_in(&window), draw);
+        assert_eq!(found, meeting(held));
+        let found = from_both_ends(space.gaps_in(&window), draw);
+        assert_eq!(found, meeting(gaps));
+        if start == end {
+            assert_eq!(space.held_at(start), meeting(held).pop());
+            assert_eq!(space.gap_at(start), meeting(gaps).pop());
+        }
+    }
 }
 
 /// Makes lists of random requests in one call. If the model has no place for one of them, nothing

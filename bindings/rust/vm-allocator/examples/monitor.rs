@@ -225,6 +225,17 @@ fn main() -> Result<()> {
     let twice = shared.with(|resources| resources.plug_memory(128 * GIB, 8 * GIB));
     assert!(matches!(twice, Err(Error::InvalidStateTransition(range, _)) if range == memory.range));
 
+    // A module that overlaps this one does not fit, and the monitor names what is in its way.
+    let (start, size) = (132 * GIB, 8 * GIB);
+    let refusal = shared.with(|resources| resources.plug_memory(start, size));
+    assert!(matches!(refusal, Err(Error::ResourceNotAvailable)));
+    let asked = RangeInclusive::new(start, start + size - 1)?;
+    shared.with(|resources| {
+        let in_the_way: Vec<_> = resources.addresses.held_ranges_in(&asked).collect();
+        assert_eq!(in_the_way, [memory.range]);
+        Ok(())
+    })?;
+
     let mut devices = plug_by_two_threads(&shared)?;
     devices.push(card);
     println!("{} devices, apart: {}", devices.len(), are_apart(&devices));

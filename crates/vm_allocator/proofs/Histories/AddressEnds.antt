@@ -10,7 +10,7 @@ use Rattle.vm_engine.proofs.Comparing.StateOrders.{equal_states}
 use Rattle.vm_allocator.proofs.Histories.AlongHistories.{alike_state, release_undoes}
 use Rattle.vm_allocator.proofs.Histories.Releases.{order_is_free}
 
-history_append : (xs ys : List Call) (first mid last : AddressState) → IsHistoryFrom first xs mid → IsHistoryFrom mid ys last → IsHistoryFrom first (xs ++ ys) last
+pub history_append : (xs ys : List Call) (first mid last : AddressState) → IsHistoryFrom first xs mid → IsHistoryFrom mid ys last → IsHistoryFrom first (xs ++ ys) last
 history_append [] ys first mid last h k = subst (λ (v : AddressState). IsHistoryFrom v ys last) h k
 history_append (x ∷ xs) ys first mid last h k = (h.0, h.1, history_append xs ys h.0 mid last h.2 k)
 

@@ -1,12 +1,14 @@
-//! Queries of the free addresses: the gaps, the length of the longest gap, and a count.
+//! Queries of the free addresses: the gaps, a search by an address, the length of the longest gap, and
+//! a count.
 //!
 //! A gap is a run of free addresses with no free address next to it.
 ghost use Rattle.std.specs.Prelude.{◌≡◌};
-ghost use Rattle.vm_engine.specs.Queries.{gaps_of, longest_of, count_of};
+ghost use Rattle.vm_engine.specs.Queries.{gaps_of, longest_of, count_of, IsGapAt, meeting};
 ghost use Rattle.vm_allocator.specs.Allocator.{state_of};
 
 use super::AddressAllocator;
 use vm_engine::Gaps;
+use vm_ranges::RangeInclusive;
 
 impl AddressAllocator {
     /// Returns an iterator over the gaps, from the lowest to the highest.
@@ -16,6 +18,27 @@ impl AddressAllocator {
         ensures { result ≡ gaps_of (state_of self.now) }
     {
         self.interval_tree.gaps()
+    }
+
+    /// Returns an iterator over the gaps that have an address in common with `range`, from the lowest
+    /// to the highest.
+    ///
+    /// Each gap is returned whole. It descends one path of the tree for each end of `range` and does
+    /// not allocate.
+    pub fn gaps_in(&self, range: &RangeInclusive) -> Gaps<'_>
+        ensures { result ≡ meeting range.now (gaps_of (state_of self.now)) }
+    {
+        self.interval_tree.gaps_in(range)
+    }
+
+    /// Returns the gap that contains an address, or `None` if the address is allocated or outside
+    /// the space.
+    ///
+    /// It descends one path of the tree and does not allocate.
+    pub fn gap_at(&self, address: u64) -> Option<RangeInclusive>
+        ensures { IsGapAt (state_of self.now) address result }
+    {
+        self.interval_tree.gap_at(address)
     }
 
     /// Returns the length of the longest gap, or 0 if no address is free.

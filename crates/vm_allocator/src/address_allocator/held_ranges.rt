@@ -1,8 +1,8 @@
-//! Queries of the allocated ranges: an iterator, a test, a search by an address, and a count.
+//! Queries of the allocated ranges: iterators, a test, a search by an address, and a count.
 ghost use Rattle.std.specs.Prelude.{◌≡◌, ◌↔◌, IsTrue, length};
 ghost use Rattle.std.specs.List.{Contains};
 ghost use Rattle.vm_engine.specs.Address.{IsAddressState};
-ghost use Rattle.vm_engine.specs.Queries.{IsHeldAt};
+ghost use Rattle.vm_engine.specs.Queries.{IsHeldAt, meeting};
 ghost use Rattle.vm_allocator.specs.Allocator.{state_of};
 
 use super::AddressAllocator;
@@ -17,6 +17,17 @@ impl AddressAllocator {
         ensures { result ≡ (state_of self.now).held }
     {
         self.interval_tree.held_ranges()
+    }
+
+    /// Returns an iterator over the allocated ranges that have an address in common with `range`,
+    /// from the lowest to the highest.
+    ///
+    /// Each range is returned whole. If `range` is in the space, it is free exactly if there is no
+    /// item. It descends one path of the tree for each end of `range` and does not allocate.
+    pub fn held_ranges_in(&self, range: &RangeInclusive) -> HeldRanges<'_>
+        ensures { result ≡ meeting range.now (state_of self.now).held }
+    {
+        self.interval_tree.held_ranges_in(range)
     }
 
     /// Returns whether exactly this range is allocated.

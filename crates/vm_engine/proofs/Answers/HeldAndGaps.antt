@@ -7,7 +7,7 @@ use Rattle.vm_engine.specs.Address.{AddressState, IsAddressState, IsClear, IsPla
 use Rattle.vm_engine.specs.Tree.Blocks.{Tiles, held_of, blocks_of}
 use Rattle.vm_engine.specs.Windows.{within}
 use Rattle.vm_engine.specs.Queries.{gaps_of, longest_of, longest_part, longest_in, count_of, IsRangeAt}
-use Rattle.vm_engine.specs.Laws.QueryLaws.{IsInOne, IsInNone, EachAddressIsInOne, AgreesWithLists, HeldAtAgrees, IsGap, GapsAreLongest, HeldAndGapsAreBlocks, LongestIsZero, LongestFits, CountsAddUp}
+use Rattle.vm_engine.specs.Laws.QueryLaws.{IsInOne, IsInNone, EachAddressIsInOne, AgreesWithLists, HeldAtAgrees, AgreesWithGaps, GapAtAgrees, IsGap, GapsAreLongest, HeldAndGapsAreBlocks, LongestIsZero, LongestFits, CountsAddUp}
 use Rattle.vm_ranges.specs.declared.state.NodeState.TheVariants.{Allocated}
 use Rattle.vm_engine.proofs.Blocks.PlainWords.{IsHeldAddress, IsHeld, contains_held, held_contains, all_miss, none_holds, held_address}
 use Rattle.vm_engine.proofs.Blocks.Gaps.{in_free_block, free_is_clear}
@@ -17,7 +17,7 @@ use Rattle.vm_engine.proofs.Comparing.Tilings.{held_of-blocks_of}
 use Rattle.vm_engine.proofs.Making.BlockCursors.{between_tiles}
 
 -- A held address is in a held range.
-held_range : (rs : List Range) (x : ℕ) → IsHeldAddress rs x → (r : Range) × IsHeld rs r × IsIn r x
+pub held_range : (rs : List Range) (x : ℕ) → IsHeldAddress rs x → (r : Range) × IsHeld rs r × IsIn r x
 held_range [] x h = absurd h
 held_range (r ∷ rs) x (inl i) = (r, inl refl, i)
 held_range (r ∷ rs) x (inr i) = let k = held_range rs x i in (k.0, inr k.1, k.2)
@@ -29,7 +29,7 @@ module _ (state : AddressState) (valid : IsAddressState state) where
   abbrev hi : ℕ
   hi = state.space.end
 
-  tiles : Tiles Allocated lo (blocks_of state) hi
+  pub tiles : Tiles Allocated lo (blocks_of state) hi
   unfolding blocks_of
   tiles = between_tiles lo hi state.held (omega (arith, valid.space.0)) valid.in_order
 
@@ -45,7 +45,7 @@ module _ (state : AddressState) (valid : IsAddressState state) where
   free_not_held g x h i k =
       (free_is_clear Allocated lo hi g.start g.end x (blocks_of state) tiles (in_free (blocks_of state) g h) i.0 i.1).2 (block_held x k)
 
-  gap_clear : (g : Range) (x : ℕ) → IsHeld (gaps_of state) g → IsIn g x → IsClear state x
+  pub gap_clear : (g : Range) (x : ℕ) → IsHeld (gaps_of state) g → IsIn g x → IsClear state x
   gap_clear g x h i =
       let l = free_lies Allocated lo hi (blocks_of state) g tiles h in
       ((omega (arith, l.0, i.0), omega (arith, l.2, i.1)), all_miss state.held x (free_not_held g x h i))
@@ -69,6 +69,12 @@ module _ (state : AddressState) (valid : IsAddressState state) where
       free_over (blocks_of state) s e
       (in_free_block Allocated lo hi s e (blocks_of state) tiles (clear s (omega arith) l).0.0 l
       (λ x i j. let c = clear x i j in (c.0.1, λ k. clear_not_held x c (state_held x k))))
+
+  -- A clear address is in a gap.
+  pub clear_gap : (x : ℕ) → IsClear state x → IsHeldAddress (gaps_of state) x
+  clear_gap x c =
+      let f = in_gap x x (omega arith) (λ y i j. let e : x ≡ y = omega arith in subst (IsClear state) e c) in
+      held_address (gaps_of state) f.0 x f.1 (f.2, f.3)
 
   gap_listed : (g : Range) → IsGap state g → IsHeld (gaps_of state) g
   gap_listed g is =
@@ -128,6 +134,21 @@ module _ (state : AddressState) (valid : IsAddressState state) where
       record {
         held = λ r c i. ap Some (one_held lo hi x state.held q r valid.in_order k (held_contains state.held r c) h.1 i);
         gap = λ g c i. absurd (free_not_held g x (held_contains (gaps_of state) g c) i (held_address state.held q x k h.1));
+        outside = λ o. absurd (o (omega (arith, l.0, h.1.0), omega (arith, l.2, h.1.1)));
+      }
+
+  gap_agrees : (x : ℕ) (answer : Option Range) → IsRangeAt (gaps_of state) x answer → AgreesWithGaps state x answer
+  gap_agrees x None h = record {
+    gap = λ g c i. absurd (none_holds (gaps_of state) x h (held_address (gaps_of state) g x (held_contains (gaps_of state) g c) i));
+    held = λ r c i. refl;
+    outside = λ o. refl;
+  }
+  gap_agrees x (Some q) h =
+      let k = held_contains (gaps_of state) q h.0 in
+      let l = free_lies Allocated lo hi (blocks_of state) q tiles k in
+      record {
+        gap = λ g c i. ap Some (one_free Allocated lo hi x (blocks_of state) q g tiles k (held_contains (gaps_of state) g c) h.1 i);
+        held = λ r c i. absurd (free_not_held q x k h.1 (held_address state.held r x (held_contains state.held r c) i));
         outside = λ o. absurd (o (omega (arith, l.0, h.1.0), omega (arith, l.2, h.1.1)));
       }
 
@@ -198,7 +219,10 @@ each_in_one state x valid i = in_one state valid x i
 pub held_at_agrees : HeldAtAgrees
 held_at_agrees state x answer valid h = agrees state valid x answer h
 
-pub ruleset one_range = (each_in_one, held_at_agrees)
+pub gap_at_agrees : GapAtAgrees
+gap_at_agrees state x answer valid h = gap_agrees state valid x answer h
+
+pub ruleset one_range = (each_in_one, held_at_agrees, gap_at_agrees)
 
 pub gaps_are_longest : GapsAreLongest
 gaps_are_longest state g valid = (

@@ -8,7 +8,7 @@ use Rattle.vm_ranges.specs.declared.state.NodeState.TheVariants.{Allocated}
 use Rattle.vm_engine.specs.Laws.MemoryLaws.{block_count, IsOneIf, AreClearBeside, OneNodeForEachBlock, AllocationAddsParts, FreeingRemovesGaps, BlocksAreFew}
 use Rattle.vm_engine.proofs.Answers.AddressAnswers.{gets, lies_clear, freed_held}
 use Rattle.vm_engine.proofs.Blocks.PlainWords.{IsHeldAddress, IsHeld, all_miss, none_holds}
-use Rattle.vm_engine.proofs.Blocks.HeldChanges.{Misses, beside, misses_later, in_order_without}
+use Rattle.vm_engine.proofs.Blocks.HeldChanges.{Misses, beside, misses_later, in_order_without, with_without}
 use Rattle.vm_engine.proofs.Blocks.HeldSets.{one_start, later_above, held_lies}
 use Rattle.vm_engine.proofs.Blocks.OneList.{few_blocks}
 use Rattle.vm_engine.proofs.Comparing.Tilings.{tree_blocks, held_of-blocks_of}
@@ -125,25 +125,6 @@ adds lo hi r (x ∷ xs) s a b c m =
     let e = le-ltb r.start x.start (omega (arith, s.1)) in
     rw e (adds_later lo hi r x xs (with_range r xs) s.0 s.1 d b (adds (x.end + 1) hi r xs s.4 (omega arith) b c (misses_later x r xs m))))
     (beside x r xs s.1 b m)
-
--- A held range that is removed and added again.
-with_without : (lo hi : ℕ) (r : Range) (hs : List Range) → AreInOrder lo hs hi → IsHeld hs r → with_range r (without_range r hs) ≡ hs
-with_without lo hi r [] s h = absurd h
-with_without lo hi r (x ∷ xs) s h =
-    ⊎_elim
-    (λ (d : r.start ≡ x.start).
-    let e = eq-eqb r.start x.start d in
-    let same : x ≡ r = one_start lo hi x r (x ∷ xs) s (inl refl) h (sym d) in
-    rw e (first xs s d ∙ ap (λ (v : Range). v ∷ xs) (sym same)))
-    (λ (d : r.start ≡ x.start → ⊥).
-    let e = ne_eqb r.start x.start d in
-    let k : IsHeld xs r = ⊎_elim (λ (f : x ≡ r). absurd (d (sym (ap (λ (v : Range). v.start) f)))) (λ k. k) h in
-    let f = le-ltb r.start x.start (omega (arith, later_above lo hi x xs r s k, s.1)) in
-    rw (e, f) (ap (λ (v : List Range). x ∷ v) (with_without (x.end + 1) hi r xs s.4 k)))
-    (cases_eq r.start x.start) where
-      first : (ys : List Range) → AreInOrder lo (x ∷ ys) hi → r.start ≡ x.start → with_range r ys ≡ r ∷ ys
-      first [] t d = refl
-      first (y ∷ ys) t d = rw (lt-ltb r.start y.start (omega (arith, t.1, t.4.0))) refl
 
 -- ---- The states of an allocator
 -- No address of a removed range is held.

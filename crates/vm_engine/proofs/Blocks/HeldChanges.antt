@@ -1,5 +1,5 @@
 -- Lists of held ranges with a range added or removed.
-use Rattle.std.proofs.Common.{◌≡◌, ℕ, ◌+◌, ◌<◌, ◌≤◌, ◌⊎◌, List, [], ◌∷◌, refl, sym, ap, ◌∙◌, arith, inl, inr, ⊎_elim, eq-eqb}
+use Rattle.std.proofs.Common.{◌≡◌, ◌≢◌, ℕ, ◌+◌, ◌<◌, ◌≤◌, ◌⊎◌, List, [], ◌∷◌, refl, sym, ap, ◌∙◌, arith, inl, inr, ⊎_elim, eq-eqb}
 use Rattle.std.proofs.lemmas.Bool.{cases_lt, lt-ltb, le-ltb, cases_eq, ne_eqb}
 use Rattle.vm_ranges.specs.Range.{Range, MAX, IsIn}
 use Rattle.vm_engine.specs.Address.{with_range, without_range, AreInOrder}
@@ -97,6 +97,49 @@ without_with lo hi r (x ∷ xs) s l m =
     let f = ne_eqb r.start x.start (λ i. omega (arith, s.1)) in
     rw (e, f) (ap (λ (v : List Range). x ∷ v) (without_with (x.end + 1) hi r xs s.4 l (misses_later x r xs m))))
     (beside x r xs s.1 l m)
+
+-- A range that starts below all others is added in front of them.
+with_first : (lo hi : ℕ) (r : Range) (hs : List Range) → AreInOrder lo hs hi → r.start < lo → with_range r hs ≡ r ∷ hs
+with_first lo hi r [] s l = refl
+with_first lo hi r (x ∷ xs) s l = let e = lt-ltb r.start x.start (omega (arith, s.0)) in rw e refl
+
+-- A held range that is removed and added again.
+pub with_without : (lo hi : ℕ) (r : Range) (hs : List Range) → AreInOrder lo hs hi → IsHeld hs r → with_range r (without_range r hs) ≡ hs
+with_without lo hi r [] s h = absurd h
+with_without lo hi r (x ∷ xs) s h =
+    ⊎_elim
+    (λ (d : r.start ≡ x.start).
+    let e = eq-eqb r.start x.start d in
+    let same : x ≡ r = one_start lo hi x r (x ∷ xs) s (inl refl) h (sym d) in
+    rw e (with_first (x.end + 1) hi r xs s.4 (omega (arith, d, s.1)) ∙ ap (λ (v : Range). v ∷ xs) (sym same)))
+    (λ (d : r.start ≡ x.start → ⊥).
+    let e = ne_eqb r.start x.start d in
+    let k : IsHeld xs r = ⊎_elim (λ (f : x ≡ r). absurd (d (sym (ap (λ (v : Range). v.start) f)))) (λ k. k) h in
+    let f = le-ltb r.start x.start (omega (arith, later_above lo hi x xs r s k, s.1)) in
+    rw (e, f) (ap (λ (v : List Range). x ∷ v) (with_without (x.end + 1) hi r xs s.4 k)))
+    (cases_eq r.start x.start)
+
+-- A range can be removed before another one is added, or after it.
+pub without_other : (lo hi : ℕ) (r q : Range) (hs : List Range) → AreInOrder lo hs hi → r.start ≢ q.start → without_range r (with_range q hs) ≡ with_range q (without_range r hs)
+without_other lo hi r q [] s d = let e = ne_eqb r.start q.start d in rw e refl
+without_other lo hi r q (x ∷ xs) s d =
+    let other = ne_eqb r.start q.start d in
+    ⊎_elim
+    (λ (b : q.start < x.start).
+    let e = lt-ltb q.start x.start b in
+    ⊎_elim
+    (λ (c : r.start ≡ x.start). let f = eq-eqb r.start x.start c in rw (e, other, f) (sym (with_first (x.end + 1) hi q xs s.4 (omega (arith, s.1)))))
+    (λ (c : r.start ≡ x.start → ⊥). let f = ne_eqb r.start x.start c in rw (e, other, f, e) refl)
+    (cases_eq r.start x.start))
+    (λ (b : x.start ≤ q.start).
+    let e = le-ltb q.start x.start b in
+    ⊎_elim
+    (λ (c : r.start ≡ x.start). let f = eq-eqb r.start x.start c in rw (e, f) refl)
+    (λ (c : r.start ≡ x.start → ⊥).
+    let f = ne_eqb r.start x.start c in
+    rw (e, f, e) (ap (λ (v : List Range). x ∷ v) (without_other (x.end + 1) hi r q xs s.4 d)))
+    (cases_eq r.start x.start))
+    (cases_lt q.start x.start)
 
 -- A held range after the deletion was held before.
 pub held_without : (r q : Range) (hs : List Range) → IsHeld (without_range r hs) q → IsHeld hs q

@@ -31,11 +31,11 @@ some_same x y e = cc
 pub ranges_if : (a b : Range) → same_range a b ≡ true → a ≡ b
 ranges_if a b e = let t = and_parts (eqb a.start b.start) (eqb a.end b.end) e in ranges_same a b (eqb-true a.start b.start t.0) (eqb-true a.end b.end t.1)
 
-covers_in : (a : Range) (x : ℕ) → covers a (at_address x) ≡ true → IsIn a x
+pub covers_in : (a : Range) (x : ℕ) → covers a (at_address x) ≡ true → IsIn a x
 unfolding covers
 covers_in a x e = let t = and_parts (leb a.start x) (leb x a.end) e in (leb-true a.start x t.0, leb-true x a.end t.1)
 
-in_covers : (a : Range) (x : ℕ) → IsIn a x → covers a (at_address x) ≡ true
+pub in_covers : (a : Range) (x : ℕ) → IsIn a x → covers a (at_address x) ≡ true
 unfolding covers
 in_covers a x i = rw (le-leb a.start x i.0, le-leb x a.end i.1)
 

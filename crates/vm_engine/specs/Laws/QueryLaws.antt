@@ -1,10 +1,10 @@
 -- Laws of the queries of addresses and gaps.
-use Rattle.std.specs.Prelude.{◌≡◌, ◌↔◌, ℕ, ◌+◌, ◌<◌, ◌≤◌, ◌⊎◌, List, Option, Some, None}
+use Rattle.std.specs.Prelude.{◌≡◌, ◌↔◌, ℕ, ◌+◌, ◌<◌, ◌≤◌, ◌⊎◌, List, [], Option, Some, None}
 use Rattle.std.specs.List.{All, Contains}
-use Rattle.vm_ranges.specs.Range.{Range, IsIn, address_count}
-use Rattle.vm_engine.specs.Address.{AddressState, IsAddressState, IsClear, IsPlace}
+use Rattle.vm_ranges.specs.Range.{Range, IsIn, Overlaps, Covers, address_count}
+use Rattle.vm_engine.specs.Address.{AddressState, IsAddressState, IsClear, AreClear, IsPlace}
 use Rattle.vm_engine.specs.Tree.Blocks.{Tiles, held_of, blocks_of}
-use Rattle.vm_engine.specs.Queries.{free_of, gaps_of, longest_of, longest_in, count_of, IsHeldAt}
+use Rattle.vm_engine.specs.Queries.{free_of, gaps_of, longest_of, longest_in, count_of, IsHeldAt, IsGapAt, meeting}
 use Rattle.vm_engine.specs.Windows.{within}
 use Rattle.vm_ranges.specs.declared.state.NodeState.TheVariants.{Allocated}
 
@@ -36,6 +36,18 @@ abbrev pub HeldAtAgrees : Type 0
 HeldAtAgrees =
     (state : AddressState) (x : ℕ) (answer : Option Range) →
     IsAddressState state → IsHeldAt state x answer → AgreesWithLists state x answer
+
+-- The answer is the gap that contains the address x, or None if x is held or outside the space.
+pub record AgreesWithGaps (state : AddressState) (x : ℕ) (answer : Option Range) : Type 0 where
+  pub gap : (g : Range) → Contains (gaps_of state) g → IsIn g x → answer ≡ Some g
+  pub held : (r : Range) → Contains state.held r → IsIn r x → answer ≡ None
+  pub outside : ¬ IsIn state.space x → answer ≡ None
+
+-- The result of `gap_at` agrees with the lists of held ranges and gaps.
+abbrev pub GapAtAgrees : Type 0
+GapAtAgrees =
+    (state : AddressState) (x : ℕ) (answer : Option Range) →
+    IsAddressState state → IsGapAt state x answer → AgreesWithGaps state x answer
 
 -- The range g is a longest range of clear addresses: its addresses are clear, and the addresses before and after it are
 -- not clear.
@@ -77,3 +89,25 @@ abbrev pub CountsAddUp : Type 0
 CountsAddUp =
     (state : AddressState) → IsAddressState state →
     count_of (gaps_of state) + count_of state.held ≡ address_count state.space
+
+-- `meeting` lists exactly the held ranges and the gaps that overlap the window.
+pub record ListsOverlaps (state : AddressState) (window : Range) : Type 0 where
+  pub held : (r : Range) → Contains (meeting window state.held) r ↔ (Contains state.held r × Overlaps window r)
+  pub gaps : (g : Range) → Contains (meeting window (gaps_of state)) g ↔ (Contains (gaps_of state) g × Overlaps window g)
+
+-- The ranges that meet a window are those that overlap it.
+abbrev pub MeetingIsOverlap : Type 0
+MeetingIsOverlap =
+    (state : AddressState) (window : Range) → IsAddressState state → window.start ≤ window.end → ListsOverlaps state window
+
+-- The addresses of a range in the space are all clear exactly if no held range meets it, and none of them is clear
+-- exactly if no gap meets it.
+pub record IsClearIfNoneMeets (state : AddressState) (window : Range) : Type 0 where
+  pub clear : AreClear (address_count window) state window.start ↔ (meeting window state.held ≡ [])
+  pub held : ((x : ℕ) → IsIn window x → ¬ IsClear state x) ↔ (meeting window (gaps_of state) ≡ [])
+
+-- The ranges that meet a range of the space decide whether its addresses are clear.
+abbrev pub ClearIfNoneMeets : Type 0
+ClearIfNoneMeets =
+    (state : AddressState) (window : Range) →
+    IsAddressState state → window.start ≤ window.end → Covers state.space window → IsClearIfNoneMeets state window

@@ -1,13 +1,14 @@
-//! Queries about the free addresses: the gaps, the length of the longest gap, and the number of
-//! free addresses.
+//! Queries about the free addresses: the gaps, the gap at an address, the length of the longest gap,
+//! and the number of free addresses.
 //!
 //! A gap is a run of free addresses with no free address next to it. Each free block is a gap.
 ghost use Rattle.std.specs.Prelude.{◌≡◌};
 ghost use Rattle.std.specs.Iterator.{YieldsFirst, YieldsLast, item_count};
-ghost use Rattle.vm_engine.specs.Queries.{gaps_of, longest_of, count_of};
+ghost use Rattle.vm_engine.specs.Queries.{gaps_of, longest_of, count_of, IsGapAt, meeting};
 ghost use Rattle.vm_engine.specs.Tree.SpaceTree.{tree_state};
 
 use super::IntervalTree;
+use crate::node::walks::addresses::block_at;
 use crate::node::walks::both_ends::Blocks;
 use crate::node::walks::gaps::count_clear;
 use std::marker::Model;
@@ -73,6 +74,35 @@ impl IntervalTree {
     {
         Gaps {
             blocks: self.blocks(),
+        }
+    }
+
+    /// Returns an iterator over the gaps that have an address in common with `range`, from the
+    /// lowest to the highest.
+    ///
+    /// Each gap is returned whole. It follows one path from the root for each end of `range` and
+    /// does not allocate.
+    #[tactic(auto, using(crate::proofs::Walking::Windows::ranges_in_windows))]
+    pub fn gaps_in(&self, range: &RangeInclusive) -> Gaps<'_>
+        ensures { result ≡ meeting range.now (gaps_of (tree_state self.now)) }
+    {
+        Gaps {
+            blocks: self.blocks_in(range),
+        }
+    }
+
+    /// Returns the gap that contains an address, or `None` if the address is allocated or outside
+    /// the space.
+    ///
+    /// It follows one path from the root and does not allocate.
+    #[tactic(auto, using(crate::proofs::Walking::AddressSearches::gap_at_address))]
+    pub fn gap_at(&self, address: u64) -> Option<RangeInclusive>
+        ensures { IsGapAt (tree_state self.now) address result }
+    {
+        let block = block_at(&self.root, address)?;
+        match block.state {
+            NodeState::Free => Some(block.key),
+            NodeState::Allocated => None,
         }
     }
 

@@ -5,12 +5,13 @@
 ghost use Rattle.std.specs.Prelude.{◌≡◌, ◌↔◌, IsTrue, length};
 ghost use Rattle.std.specs.List.{Contains};
 ghost use Rattle.std.specs.Iterator.{YieldsFirst, YieldsLast, item_count};
-ghost use Rattle.vm_engine.specs.Queries.{IsHeldAt};
+ghost use Rattle.vm_engine.specs.Queries.{IsHeldAt, meeting};
 ghost use Rattle.vm_engine.specs.Tree.SpaceTree.{tree_state};
 
 use super::IntervalTree;
+use crate::node::walks::addresses::block_at;
 use crate::node::walks::both_ends::Blocks;
-use crate::node::walks::held::{count_held, has_held, held_at};
+use crate::node::walks::held::{count_held, has_held};
 use std::marker::Model;
 use vm_ranges::{NodeState, RangeInclusive};
 
@@ -78,6 +79,20 @@ impl IntervalTree {
         }
     }
 
+    /// Returns an iterator over the allocated ranges that have an address in common with `range`,
+    /// from the lowest to the highest.
+    ///
+    /// Each range is returned whole. It follows one path from the root for each end of `range` and
+    /// does not allocate.
+    #[tactic(auto, using(crate::proofs::Walking::Windows::ranges_in_windows))]
+    pub fn held_ranges_in(&self, range: &RangeInclusive) -> HeldRanges<'_>
+        ensures { result ≡ meeting range.now (tree_state self.now).held }
+    {
+        HeldRanges {
+            blocks: self.blocks_in(range),
+        }
+    }
+
     /// Returns `true` if exactly this range is allocated.
     ///
     /// It returns `false` for a part of an allocated range and for a free range. It follows one
@@ -93,10 +108,15 @@ impl IntervalTree {
     /// outside the space.
     ///
     /// It follows one path from the root and does not allocate.
+    #[tactic(auto, using(crate::proofs::Walking::AddressSearches::held_at_address))]
     pub fn held_at(&self, address: u64) -> Option<RangeInclusive>
         ensures { IsHeldAt (tree_state self.now) address result }
     {
-        held_at(&self.root, address)
+        let block = block_at(&self.root, address)?;
+        match block.state {
+            NodeState::Free => None,
+            NodeState::Allocated => Some(block.key),
+        }
     }
 
     /// Returns the number of allocated ranges. It visits every node and does not allocate.

@@ -2,19 +2,23 @@
 ghost use Rattle.vm_engine.specs.Laws.QueryLaws.{
   EachAddressIsInOne,
   HeldAtAgrees,
+  GapAtAgrees,
   GapsAreLongest,
   HeldAndGapsAreBlocks,
   LongestIsZero,
   LongestFits,
   CountsAddUp,
+  MeetingIsOverlap,
+  ClearIfNoneMeets,
 };
 
 /// States that each address of the space is either in exactly one allocated range or in exactly one
-/// gap. `held_at` agrees with both lists.
+/// gap. `held_at` and `gap_at` agree with both lists.
 #[tactic(auto, using(crate::proofs::Answers::HeldAndGaps::one_range))]
 fn addresses_are_in_one_range()
     ensures one { EachAddressIsInOne }
     ensures agrees { HeldAtAgrees }
+    ensures gap_agrees { GapAtAgrees }
 {}
 
 /// States that the gaps are exactly the longest ranges of free addresses. The allocated ranges and
@@ -36,4 +40,11 @@ fn longest_gap_fits()
 #[tactic(auto, using(crate::proofs::Answers::HeldAndGaps::counts))]
 fn counts_add_up()
     ensures { CountsAddUp }
+{}
+
+/// States that `held_ranges_in` and `gaps_in` return exactly the ranges that overlap the given range.
+/// If that range is in the space, it is free exactly if `held_ranges_in` returns nothing.
+fn ranges_meet_windows()
+    ensures overlaps { MeetingIsOverlap }
+    ensures clear { ClearIfNoneMeets }
 {}

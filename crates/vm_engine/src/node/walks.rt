@@ -1,15 +1,18 @@
 //! Iteration over the blocks of a tree, and recursive functions that do not count nodes.
 //!
 //! A `Walk` stores its path in an array of 49 links, so it does not allocate. Two walks side by
-//! side find the first difference of two trees of different shapes. `copying`, `encoding`, `held` and
-//! `gaps` are recursive. `encoding` is in this folder because it reads the fields of nodes.
+//! side find the first difference of two trees of different shapes. `addresses`, `copying`,
+//! `encoding`, `held` and `gaps` are recursive. `encoding` is in this folder because it reads the
+//! fields of nodes.
 ghost use Rattle.std.specs.Prelude.{◌≡◌, ◌≤◌, ◌++◌, drop};
 ghost use Rattle.std.specs.Iterator.{YieldsFirst, item_count};
 ghost use Rattle.vm_engine.specs.Tree.Shape.{MAX_HEIGHT, blocks, height_of};
 ghost use Rattle.vm_engine.specs.Engine.NodeFields.{side};
 ghost use Rattle.vm_engine.specs.Engine.Walks.{remaining_blocks, Fits};
 ghost use Rattle.vm_engine.specs.Engine.BothEnds.{first_of};
+ghost use Rattle.vm_engine.specs.Engine.WindowBlocks.{blocks_reaching};
 
+pub(crate) mod addresses;
 pub(crate) mod both_ends;
 pub(crate) mod comparing;
 pub(crate) mod copying;
@@ -78,6 +81,29 @@ impl<'a> Walk<'a> {
     {
         let mut path = [tree; MAX_PATH];
         let from = descend(&mut path, MAX_PATH, tree);
+        Walk { path, from }
+    }
+
+    /// Creates an iterator that begins at the first block that ends at `first` or above it. It
+    /// follows one path from the root.
+    #[tactic(auto, using(crate::proofs::Walking::Windows::reaching))]
+    fn reaching(tree: &'a Child, first: u64) -> Walk<'a>
+        requires { height_of (side tree.now) ≤ MAX_HEIGHT }
+        ensures { result ≡ blocks_reaching first (blocks (side tree.now)) }
+    {
+        let mut path = [tree; MAX_PATH];
+        let (mut from, mut rest) = (MAX_PATH, tree);
+        while let Some(node) = rest {
+            let node: &InnerNode = node;
+            if node.block.key.end() < first {
+                rest = &node.right;
+                continue;
+            }
+            let left = &node.left;
+            from -= 1;
+            path[from] = rest;
+            rest = left;
+        }
         Walk { path, from }
     }
 

@@ -1,6 +1,7 @@
 //! A long run on 64 addresses. Every second request has a window. Each result is compared with a plain
 //! search, address by address.
 use super::*;
+use crate::fixtures::range;
 use vm_model as plain;
 use vm_model::{ADDRESSES, Addresses, CALLS, Draws};
 
@@ -66,6 +67,44 @@ fn expect_alike(
     expect_true(rt, is_alike, &("alike at call", number));
 }
 
+/// Returns the first and the last address of a range.
+fn ends(range: RangeInclusive) -> (u64, u64) {
+    (range.start(), range.end())
+}
+
+/// Checks the query of each address, and the queries of the range of a window from below and from
+/// above.
+fn expect_queries(
+    rt: &impl Abort,
+    space: &AddressAllocator,
+    addresses: &Addresses,
+    window: plain::Window,
+) {
+    for address in 0..=ADDRESSES {
+        let found = (
+            space.held_at(address).map(ends),
+            space.gap_at(address).map(ends),
+        );
+        let want = (addresses.held_over(address), addresses.gap_over(address));
+        expect_eq(rt, &found, &want, &address);
+    }
+    let within = range(rt, window.first, window.last);
+    let (mut held, mut gaps) = (space.held_ranges_in(&within), space.gaps_in(&within));
+    let mut last = (None, None);
+    for address in window.first..=window.last {
+        let here = (addresses.held_over(address), addresses.gap_over(address));
+        if here.0.is_some() && here.0 != last.0 {
+            expect_eq(rt, &held.next().map(ends), &here.0, &address);
+        }
+        if here.1.is_some() && here.1 != last.1 {
+            expect_eq(rt, &gaps.next().map(ends), &here.1, &address);
+        }
+        last = here;
+    }
+    let is_over = held.next_back().is_none() && gaps.next_back().is_none();
+    expect_true(rt, is_over, &window);
+}
+
 #[test]
 fn long_run(rt: HostRuntime) {
     let mut draws = Draws::new();
@@ -90,6 +129,7 @@ fn long_run(rt: HostRuntime) {
         addresses.change(asked, found);
         if number % 100 == 0 {
             expect_alike(&rt, &space, &addresses, number);
+            expect_queries(&rt, &space, &addresses, window);
         }
     }
 }

@@ -1,7 +1,7 @@
 //! Tests of the queries of one address, of the gaps and of the number of free addresses.
 use super::*;
 use crate::fixtures::gaps_exactly;
-use Row::{Ask, Gaps, HeldAt, InNone};
+use Row::{Ask, GapAt, Gaps, HeldAt, Outside};
 
 /// A call with its expected result, or a check between calls.
 #[derive(Clone, Copy)]
@@ -9,31 +9,33 @@ enum Row {
     Ask(Call, Expected),
     /// An address, and the first and the last address of the allocated range that contains it.
     HeldAt(u64, u64, u64),
-    /// An address that is free or outside the space.
-    InNone(u64),
+    /// An address, and the first and the last address of the gap that contains it.
+    GapAt(u64, u64, u64),
+    /// An address outside the space.
+    Outside(u64),
     /// The first and the last address of each gap, the length of the longest gap, and the number of
     /// free addresses.
     Gaps(&'static [(u64, u64)], u64, u64),
 }
 
-const ROWS: [Row; 54] = [
+const ROWS: [Row; 60] = [
     // A new space is one gap.
     Gaps(&[(16, 31)], 16, 16),
-    InNone(16),
-    InNone(31),
+    GapAt(16, 16, 31),
+    GapAt(31, 16, 31),
     // A range in the middle is between two gaps.
     Ask(Exact(4, 1, 20), Range(20, 23)),
     Gaps(&[(16, 19), (24, 31)], 8, 12),
-    InNone(19),
+    GapAt(19, 16, 19),
     HeldAt(20, 20, 23),
     HeldAt(22, 20, 23),
     HeldAt(23, 20, 23),
-    InNone(24),
+    GapAt(24, 24, 31),
     // Outside the space.
-    InNone(0),
-    InNone(15),
-    InNone(32),
-    InNone(MAX),
+    Outside(0),
+    Outside(15),
+    Outside(32),
+    Outside(MAX),
     // Ranges that touch have no gap between them.
     Ask(Exact(2, 1, 24), Range(24, 25)),
     HeldAt(23, 20, 23),
@@ -45,6 +47,7 @@ const ROWS: [Row; 54] = [
     Ask(First(5, 1), NotAvailable),
     Ask(First(4, 1), Range(16, 19)),
     Gaps(&[(26, 26)], 1, 1),
+    GapAt(26, 26, 26),
     // The space is full.
     Ask(First(1, 1), Range(26, 26)),
     Gaps(&[], 0, 0),
@@ -59,7 +62,7 @@ const ROWS: [Row; 54] = [
     Gaps(&[(20, 23), (26, 26)], 4, 5),
     Ask(Free(24, 25), Range(24, 25)),
     Gaps(&[(20, 26)], 7, 7),
-    InNone(24),
+    GapAt(24, 20, 26),
     HeldAt(19, 16, 19),
     HeldAt(27, 27, 31),
     Ask(Free(27, 31), Range(27, 31)),
@@ -74,17 +77,35 @@ const ROWS: [Row; 54] = [
         13,
     ),
     HeldAt(LAST, LAST, LAST),
-    InNone(MAX),
+    GapAt(MAX, MAX, MAX),
+    GapAt(MAX - 2, MAX - 5, MAX - 2),
     // Most addresses.
     Ask(Space(1, MAX), Range(1, MAX)),
     Gaps(&[(1, MAX)], MAX, MAX),
     Ask(Exact(1, 1, HALF), Range(HALF, HALF)),
     Gaps(&[(1, HALF - 1), (HALF + 1, MAX)], HALF - 1, MAX - 1),
-    InNone(0),
+    Outside(0),
+    GapAt(1, 1, HALF - 1),
+    GapAt(LAST, HALF + 1, MAX),
     Ask(Space(0, MAX), Range(0, LAST)),
     Ask(First(1, 1), Range(0, 0)),
     HeldAt(0, 0, 0),
+    GapAt(1, 1, LAST),
+    Outside(MAX),
 ];
+
+/// The first and the last address of a range, if there is one.
+type Ends = Option<(u64, u64)>;
+
+/// Returns the allocated range that contains an address, and the gap that contains it.
+fn at(space: &AddressAllocator, address: u64) -> (Ends, Ends) {
+    let held = space.held_at(address);
+    let gap = space.gap_at(address);
+    (
+        held.map(|range| (range.start(), range.end())),
+        gap.map(|range| (range.start(), range.end())),
+    )
+}
 
 #[test]
 fn held_ranges_and_gaps(rt: HostRuntime) {
@@ -93,12 +114,22 @@ fn held_ranges_and_gaps(rt: HostRuntime) {
         match *row {
             Ask(call, want) => replay(&rt, &mut space, &[(call, want)]),
             HeldAt(address, start, end) => {
-                let held = space
-                    .held_at(address)
-                    .map(|range| (range.start(), range.end()));
-                expect_eq(&rt, &held, &Some((start, end)), &number);
+                expect_eq(
+                    &rt,
+                    &at(&space, address),
+                    &(Some((start, end)), None),
+                    &number,
+                );
             }
-            InNone(address) => expect_true(&rt, space.held_at(address).is_none(), &number),
+            GapAt(address, start, end) => {
+                expect_eq(
+                    &rt,
+                    &at(&space, address),
+                    &(None, Some((start, end))),
+                    &number,
+                );
+            }
+            Outside(address) => expect_eq(&rt, &at(&space, address), &(None, None), &number),
             Gaps(gaps, longest, clear) => {
                 expect_true(&rt, gaps_exactly(&space, gaps), &number);
                 let numbers = (space.longest_gap(), space.clear_count());

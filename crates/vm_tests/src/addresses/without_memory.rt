@@ -50,6 +50,20 @@ fn look_up(rt: &impl Abort, space: &AddressAllocator, other: &AddressAllocator) 
     expect_true(rt, is_whole && space.held_count() == 3, &"three whole ones");
     let is_found = space.held_at(7) == Some(range(rt, 6, 7)) && space.held_at(8).is_none();
     expect_true(rt, is_found, &"the address of a range and of a gap");
+    let is_found = space.gap_at(8) == Some(range(rt, 8, 9)) && space.gap_at(7).is_none();
+    expect_true(rt, is_found, &"the address of a gap and of a range");
+    let within = range(rt, 7, 10);
+    let both = (
+        space.held_ranges_in(&within).next_back(),
+        space.gaps_in(&within).next(),
+    );
+    let want = (Some(range(rt, 10, 11)), Some(range(rt, 8, 9)));
+    expect_eq(
+        rt,
+        &both,
+        &want,
+        &"the ranges and the gap between two addresses",
+    );
     let are_clear = gaps_exactly(space, &[(0, 1), (4, 5), (8, 9), (12, 15)]);
     expect_true(rt, are_clear, &"the other four are gaps");
     let numbers = (space.longest_gap(), space.clear_count());
@@ -62,6 +76,12 @@ fn fill(rt: &(impl Abort + AllocGlobal), space: &mut AddressAllocator, form: For
         (First(2, 1), Range(0, 1)),
         (LastIn(4, 1, (4, 20)), Range(12, 15)),
         (FirstIn(2, 1, (7, 10)), Range(8, 9)),
+        // A range moves to a gap that it fills.
+        (Free(8, 9), Range(8, 9)),
+        (Move(0, 1, 8), Range(8, 9)),
+        (Move(8, 9, 0), Range(0, 1)),
+        (First(2, 1), Range(4, 5)),
+        (Move(4, 5, 8), Range(8, 9)),
         // Free addresses are on no side, before, on both sides, and after.
         (Free(0, 1), Range(0, 1)),
         (Free(6, 7), Range(6, 7)),
@@ -109,6 +129,9 @@ fn refused(rt: HostRuntime) {
         (LastIn(1, 1, (16, MAX)), NotAvailable),
         (ExactIn(2, 1, 6, (6, 6)), Held(6, 7)),
         (Free(4, 5), NotAvailable),
+        (Move(4, 5, 8), NotAvailable),
+        (Move(6, 7, 5), NotAvailable),
+        (Move(6, 7, 6), Range(6, 7)),
         (Free(6, 6), NotAvailable),
         (Free(16, 17), NotAvailable),
     ];

@@ -101,7 +101,8 @@ fn changes() {
 fn walks_that_stop_early() {
     type Walk<'a> = &'a dyn Fn(&AddressAllocator, &AddressAllocator);
     let key = range(16, 32);
-    let walks: [(&str, u64, Walk); 11] = [
+    let both = range(32, 48);
+    let walks: [(&str, u64, Walk); 17] = [
         ("==", 2, &|a, b| assert!(a != b)),
         ("<", 2, &|a, b| assert!(a < b)),
         ("cmp", 2, &|a, b| assert!(a.cmp(b).is_lt())),
@@ -109,6 +110,20 @@ fn walks_that_stop_early() {
         ("not holds", 1, &|_, b| assert!(!b.holds(&key))),
         ("held_at", 1, &|a, _| assert!(a.held_at(16).is_some())),
         ("not held_at", 1, &|_, b| assert!(b.held_at(16).is_none())),
+        ("gap_at", 1, &|_, b| assert!(b.gap_at(16).is_some())),
+        ("not gap_at", 1, &|a, _| assert!(a.gap_at(16).is_none())),
+        ("first range within", 2, &|a, _| {
+            assert_eq!(a.held_ranges_in(&both).next(), Some(key))
+        }),
+        ("last range within", 2, &|a, _| {
+            assert_eq!(a.held_ranges_in(&both).next_back(), Some(range(48, 64)))
+        }),
+        ("first gap within", 2, &|a, _| {
+            assert_eq!(a.gaps_in(&both).next(), Some(range(33, 47)))
+        }),
+        ("no gap within", 2, &|a, _| {
+            assert!(a.gaps_in(&key).next().is_none())
+        }),
         ("first range", 2, &|a, _| {
             assert!(a.held_ranges().next().is_some())
         }),

@@ -256,6 +256,19 @@ fn spaces_and_trees() {
         none(&s, || (space.held_count(), tree.held_count()));
         none(&s, || (space.held_ranges().count(), tree.height()));
         none(&s, || (space.held_at(s.base), space.longest_gap()));
+        none(&s, || (space.gap_at(s.base), tree.gap_at(s.base)));
+        none(&s, || {
+            (
+                space.held_ranges_in(&key).count(),
+                space.gaps_in(&key).count(),
+            )
+        });
+        none(&s, || {
+            (
+                tree.held_ranges_in(&key).count(),
+                tree.gaps_in(&key).count(),
+            )
+        });
         none(&s, || (space.gaps().count(), space.clear_count()));
         none(&s, || (tree.held_ranges().count(), tree == other_tree));
         none(&s, || (tree < other_tree, tree.cmp(&other_tree)));

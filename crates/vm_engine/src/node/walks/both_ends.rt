@@ -1,16 +1,18 @@
 //! Iteration over the blocks of a tree from both ends.
-ghost use Rattle.std.specs.Prelude.{◌≡◌, ◌≤◌, ◌++◌, ◌↔◌, [], IsTrue, drop};
+ghost use Rattle.std.specs.Prelude.{◌≡◌, ◌+◌, ◌≤◌, ◌++◌, ◌↔◌, [], IsTrue, drop};
 ghost use Rattle.std.specs.Iterator.{YieldsFirst, YieldsLast, item_count};
 ghost use Rattle.vm_engine.specs.Tree.Shape.{MAX_HEIGHT, blocks, height_of};
 ghost use Rattle.vm_engine.specs.Tree.SpaceTree.{IsSpaceTree};
 ghost use Rattle.vm_engine.specs.Engine.NodeFields.{side};
 ghost use Rattle.vm_engine.specs.Engine.Walks.{Fits};
-ghost use Rattle.vm_engine.specs.Engine.BothEnds.{remaining_from_above};
+ghost use Rattle.vm_engine.specs.Engine.BothEnds.{remaining_from_above, blocks_below};
+ghost use Rattle.vm_engine.specs.Engine.WindowBlocks.{meeting_blocks};
 
 use super::{MAX_PATH, Walk};
 use crate::block::Block;
 use crate::node::{Child, InnerNode};
 use std::marker::Model;
+use vm_ranges::RangeInclusive;
 
 /// Writes the path from the root of `tree` to its highest block into `path`, in front of index
 /// `at`. Returns the index of the last node written.
@@ -72,6 +74,29 @@ impl<'a> WalkBack<'a> {
         WalkBack { path, from }
     }
 
+    /// Begins at the last block that starts at `last` or below it. It follows one path from the
+    /// root.
+    #[tactic(auto, using(crate::proofs::Walking::Windows::starting_below))]
+    fn up_to(tree: &'a Child, last: u64) -> WalkBack<'a>
+        requires { height_of (side tree.now) ≤ MAX_HEIGHT }
+        ensures { result ≡ blocks_below (last + 1) (blocks (side tree.now)) }
+    {
+        let mut path = [tree; MAX_PATH];
+        let (mut from, mut rest) = (MAX_PATH, tree);
+        while let Some(node) = rest {
+            let node: &InnerNode = node;
+            if last < node.block.key.start() {
+                rest = &node.left;
+                continue;
+            }
+            let right = &node.right;
+            from -= 1;
+            path[from] = rest;
+            rest = right;
+        }
+        WalkBack { path, from }
+    }
+
     /// Returns the next block.
     fn next(&mut self) -> Option<Block>
         ensures { YieldsLast (λ w. w) self.old result self.new }
@@ -96,7 +121,8 @@ impl<'a> WalkBack<'a> {
 pub(crate) struct Blocks<'a> {
     lower: Walk<'a>,
     upper: WalkBack<'a>,
-    // The start of the last block that `upper` returned. Only blocks below it are left.
+    // Only blocks that start below it are left. It is the start of the last block that `upper`
+    // returned, or the address after the window.
     bound: Option<u64>,
 }
 
@@ -123,6 +149,19 @@ impl<'a> Blocks<'a> {
             lower: Walk::new(tree),
             upper: WalkBack::new(tree),
             bound: None,
+        }
+    }
+
+    /// Creates an iterator over the blocks of a tree that have an address in common with `window`.
+    #[tactic(auto, using(crate::proofs::Walking::Windows::both_ends_within))]
+    pub(crate) fn within(tree: &'a Child, window: &RangeInclusive) -> Blocks<'a>
+        requires { IsSpaceTree (side tree.now) }
+        ensures { result ≡ meeting_blocks window.now (blocks (side tree.now)) }
+    {
+        Blocks {
+            lower: Walk::reaching(tree, window.start()),
+            upper: WalkBack::up_to(tree, window.end()),
+            bound: window.end().checked_add(1),
         }
     }
 

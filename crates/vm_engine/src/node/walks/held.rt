@@ -5,7 +5,6 @@ ghost use Rattle.std.specs.Prelude.{◌≡◌, ◌≤◌, ◌↔◌, IsTrue, Som
 ghost use Rattle.vm_engine.specs.Tree.Blocks.{held_of};
 ghost use Rattle.vm_engine.specs.Tree.BlockList.{find_key};
 ghost use Rattle.vm_engine.specs.Tree.Block.{held_block};
-ghost use Rattle.vm_engine.specs.Queries.{IsRangeAt};
 ghost use Rattle.vm_engine.specs.Tree.Shape.{MAX_HEIGHT, blocks, height_of};
 ghost use Rattle.vm_engine.specs.Engine.NodeFields.{side};
 
@@ -26,27 +25,6 @@ pub(crate) fn has_held(tree: &Child, key: &RangeInclusive) -> bool
         Ordering::Greater => has_held(&node.left, key),
         Ordering::Less => has_held(&node.right, key),
         Ordering::Equal => node.block.state == NodeState::Allocated,
-    }
-}
-
-/// Returns the allocated block that contains an address, or `None` if there is no such block. It
-/// follows one path from the root.
-#[tactic(auto, using(crate::proofs::Walking::HeldAtAddresses::held_at_address))]
-pub(crate) fn held_at(tree: &Child, address: u64) -> Option<RangeInclusive>
-    requires { height_of (side tree.now) ≤ MAX_HEIGHT }
-    ensures { IsRangeAt (held_of (blocks (side tree.now))) address result }
-{
-    let Some(node) = tree else { return None };
-    let node: &InnerNode = node;
-    if address < node.block.key.start() {
-        return held_at(&node.left, address);
-    }
-    if node.block.key.end() < address {
-        return held_at(&node.right, address);
-    }
-    match node.block.state {
-        NodeState::Free => None,
-        NodeState::Allocated => Some(node.block.key),
     }
 }
 

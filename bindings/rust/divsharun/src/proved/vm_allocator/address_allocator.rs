@@ -17,6 +17,7 @@ use crate::proved::vm_ranges::{AllocPolicy, Constraint, Error, RangeInclusive, R
 mod comparing;
 mod gaps;
 mod held_ranges;
+mod moving;
 mod several;
 
 /// Allocates ranges of addresses from one space.

@@ -69,6 +69,12 @@ impl IntervalTree {
         Blocks::new(&self.root)
     }
 
+    /// Returns an iterator over the blocks that have an address in common with `window`, from both
+    /// ends.
+    pub(in crate::proved::vm_engine) fn blocks_in(&self, window: &RangeInclusive) -> Blocks<'_> {
+        Blocks::within(&self.root, window)
+    }
+
     /// Returns the root. A tree is never empty.
     pub(in crate::proved::vm_engine) fn root(&self) -> &InnerNode {
         let Some(root) = &self.root else {

@@ -1,11 +1,13 @@
 // Written by bindings/erase from crates/vm_allocator/src/address_allocator/gaps.rt: do not edit.
 
-//! Queries of the free addresses: the gaps, the length of the longest gap, and a count.
+//! Queries of the free addresses: the gaps, a search by an address, the length of the longest gap, and
+//! a count.
 //!
 //! A gap is a run of free addresses with no free address next to it.
 
 use super::AddressAllocator;
 use crate::proved::vm_engine::Gaps;
+use crate::proved::vm_ranges::RangeInclusive;
 
 impl AddressAllocator {
     /// Returns an iterator over the gaps, from the lowest to the highest.
@@ -13,6 +15,23 @@ impl AddressAllocator {
     /// It does not allocate.
     pub fn gaps(&self) -> Gaps<'_> {
         self.interval_tree.gaps()
+    }
+
+    /// Returns an iterator over the gaps that have an address in common with `range`, from the lowest
+    /// to the highest.
+    ///
+    /// Each gap is returned whole. It descends one path of the tree for each end of `range` and does
+    /// not allocate.
+    pub fn gaps_in(&self, range: &RangeInclusive) -> Gaps<'_> {
+        self.interval_tree.gaps_in(range)
+    }
+
+    /// Returns the gap that contains an address, or `None` if the address is allocated or outside
+    /// the space.
+    ///
+    /// It descends one path of the tree and does not allocate.
+    pub fn gap_at(&self, address: u64) -> Option<RangeInclusive> {
+        self.interval_tree.gap_at(address)
     }
 
     /// Returns the length of the longest gap, or 0 if no address is free.

@@ -1,6 +1,6 @@
 // Written by bindings/erase from crates/vm_allocator/src/address_allocator/held_ranges.rt: do not edit.
 
-//! Queries of the allocated ranges: an iterator, a test, a search by an address, and a count.
+//! Queries of the allocated ranges: iterators, a test, a search by an address, and a count.
 
 use super::AddressAllocator;
 use crate::proved::vm_engine::HeldRanges;
@@ -12,6 +12,15 @@ impl AddressAllocator {
     /// It does not allocate.
     pub fn held_ranges(&self) -> HeldRanges<'_> {
         self.interval_tree.held_ranges()
+    }
+
+    /// Returns an iterator over the allocated ranges that have an address in common with `range`,
+    /// from the lowest to the highest.
+    ///
+    /// Each range is returned whole. If `range` is in the space, it is free exactly if there is no
+    /// item. It descends one path of the tree for each end of `range` and does not allocate.
+    pub fn held_ranges_in(&self, range: &RangeInclusive) -> HeldRanges<'_> {
+        self.interval_tree.held_ranges_in(range)
     }
 
     /// Returns whether exactly this range is allocated.

@@ -1,11 +1,12 @@
 // Written by bindings/erase from crates/vm_engine/src/interval_tree/gaps.rt: do not edit.
 
-//! Queries about the free addresses: the gaps, the length of the longest gap, and the number of
-//! free addresses.
+//! Queries about the free addresses: the gaps, the gap at an address, the length of the longest gap,
+//! and the number of free addresses.
 //!
 //! A gap is a run of free addresses with no free address next to it. Each free block is a gap.
 
 use super::IntervalTree;
+use crate::proved::vm_engine::node::walks::addresses::block_at;
 use crate::proved::vm_engine::node::walks::both_ends::Blocks;
 use crate::proved::vm_engine::node::walks::gaps::count_clear;
 use crate::proved::vm_ranges::{NodeState, RangeInclusive};
@@ -49,6 +50,29 @@ impl IntervalTree {
     pub fn gaps(&self) -> Gaps<'_> {
         Gaps {
             blocks: self.blocks(),
+        }
+    }
+
+    /// Returns an iterator over the gaps that have an address in common with `range`, from the
+    /// lowest to the highest.
+    ///
+    /// Each gap is returned whole. It follows one path from the root for each end of `range` and
+    /// does not allocate.
+    pub fn gaps_in(&self, range: &RangeInclusive) -> Gaps<'_> {
+        Gaps {
+            blocks: self.blocks_in(range),
+        }
+    }
+
+    /// Returns the gap that contains an address, or `None` if the address is allocated or outside
+    /// the space.
+    ///
+    /// It follows one path from the root and does not allocate.
+    pub fn gap_at(&self, address: u64) -> Option<RangeInclusive> {
+        let block = block_at(&self.root, address)?;
+        match block.state {
+            NodeState::Free => Some(block.key),
+            NodeState::Allocated => None,
         }
     }
 

@@ -6,8 +6,9 @@
 //! them.
 
 use super::IntervalTree;
+use crate::proved::vm_engine::node::walks::addresses::block_at;
 use crate::proved::vm_engine::node::walks::both_ends::Blocks;
-use crate::proved::vm_engine::node::walks::held::{count_held, has_held, held_at};
+use crate::proved::vm_engine::node::walks::held::{count_held, has_held};
 use crate::proved::vm_ranges::{NodeState, RangeInclusive};
 
 /// An iterator over the allocated ranges, from the lowest to the highest, or backwards. It does not
@@ -54,6 +55,17 @@ impl IntervalTree {
         }
     }
 
+    /// Returns an iterator over the allocated ranges that have an address in common with `range`,
+    /// from the lowest to the highest.
+    ///
+    /// Each range is returned whole. It follows one path from the root for each end of `range` and
+    /// does not allocate.
+    pub fn held_ranges_in(&self, range: &RangeInclusive) -> HeldRanges<'_> {
+        HeldRanges {
+            blocks: self.blocks_in(range),
+        }
+    }
+
     /// Returns `true` if exactly this range is allocated.
     ///
     /// It returns `false` for a part of an allocated range and for a free range. It follows one
@@ -67,7 +79,11 @@ impl IntervalTree {
     ///
     /// It follows one path from the root and does not allocate.
     pub fn held_at(&self, address: u64) -> Option<RangeInclusive> {
-        held_at(&self.root, address)
+        let block = block_at(&self.root, address)?;
+        match block.state {
+            NodeState::Free => None,
+            NodeState::Allocated => Some(block.key),
+        }
     }
 
     /// Returns the number of allocated ranges. It visits every node and does not allocate.

@@ -3,9 +3,11 @@
 //! Iteration over the blocks of a tree, and recursive functions that do not count nodes.
 //!
 //! A `Walk` stores its path in an array of 49 links, so it does not allocate. Two walks side by
-//! side find the first difference of two trees of different shapes. `copying`, `encoding`, `held` and
-//! `gaps` are recursive. `encoding` is in this folder because it reads the fields of nodes.
+//! side find the first difference of two trees of different shapes. `addresses`, `copying`,
+//! `encoding`, `held` and `gaps` are recursive. `encoding` is in this folder because it reads the
+//! fields of nodes.
 
+pub(in crate::proved::vm_engine) mod addresses;
 pub(in crate::proved::vm_engine) mod both_ends;
 pub(in crate::proved::vm_engine) mod comparing;
 pub(in crate::proved::vm_engine) mod copying;
@@ -47,6 +49,25 @@ impl<'a> Walk<'a> {
     pub(in crate::proved::vm_engine) fn new(tree: &'a Child) -> Walk<'a> {
         let mut path = [tree; MAX_PATH];
         let from = descend(&mut path, MAX_PATH, tree);
+        Walk { path, from }
+    }
+
+    /// Creates an iterator that begins at the first block that ends at `first` or above it. It
+    /// follows one path from the root.
+    fn reaching(tree: &'a Child, first: u64) -> Walk<'a> {
+        let mut path = [tree; MAX_PATH];
+        let (mut from, mut rest) = (MAX_PATH, tree);
+        while let Some(node) = rest {
+            let node: &InnerNode = node;
+            if node.block.key.end() < first {
+                rest = &node.right;
+                continue;
+            }
+            let left = &node.left;
+            from -= 1;
+            path[from] = rest;
+            rest = left;
+        }
         Walk { path, from }
     }
 

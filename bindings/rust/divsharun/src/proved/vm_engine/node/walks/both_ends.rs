@@ -5,6 +5,7 @@
 use super::{MAX_PATH, Walk};
 use crate::proved::vm_engine::block::Block;
 use crate::proved::vm_engine::node::{Child, InnerNode};
+use crate::proved::vm_ranges::RangeInclusive;
 
 /// Writes the path from the root of `tree` to its highest block into `path`, in front of index
 /// `at`. Returns the index of the last node written.
@@ -41,6 +42,25 @@ impl<'a> WalkBack<'a> {
         WalkBack { path, from }
     }
 
+    /// Begins at the last block that starts at `last` or below it. It follows one path from the
+    /// root.
+    fn up_to(tree: &'a Child, last: u64) -> WalkBack<'a> {
+        let mut path = [tree; MAX_PATH];
+        let (mut from, mut rest) = (MAX_PATH, tree);
+        while let Some(node) = rest {
+            let node: &InnerNode = node;
+            if last < node.block.key.start() {
+                rest = &node.left;
+                continue;
+            }
+            let right = &node.right;
+            from -= 1;
+            path[from] = rest;
+            rest = right;
+        }
+        WalkBack { path, from }
+    }
+
     /// Returns the next block.
     fn next(&mut self) -> Option<Block> {
         let from = self.from;
@@ -63,7 +83,8 @@ impl<'a> WalkBack<'a> {
 pub(in crate::proved::vm_engine) struct Blocks<'a> {
     lower: Walk<'a>,
     upper: WalkBack<'a>,
-    // The start of the last block that `upper` returned. Only blocks below it are left.
+    // Only blocks that start below it are left. It is the start of the last block that `upper`
+    // returned, or the address after the window.
     bound: Option<u64>,
 }
 
@@ -74,6 +95,15 @@ impl<'a> Blocks<'a> {
             lower: Walk::new(tree),
             upper: WalkBack::new(tree),
             bound: None,
+        }
+    }
+
+    /// Creates an iterator over the blocks of a tree that have an address in common with `window`.
+    pub(in crate::proved::vm_engine) fn within(tree: &'a Child, window: &RangeInclusive) -> Blocks<'a> {
+        Blocks {
+            lower: Walk::reaching(tree, window.start()),
+            upper: WalkBack::up_to(tree, window.end()),
+            bound: window.end().checked_add(1),
         }
     }
 

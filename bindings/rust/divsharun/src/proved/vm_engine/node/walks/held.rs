@@ -21,23 +21,6 @@ pub(in crate::proved::vm_engine) fn has_held(tree: &Child, key: &RangeInclusive)
     }
 }
 
-/// Returns the allocated block that contains an address, or `None` if there is no such block. It
-/// follows one path from the root.
-pub(in crate::proved::vm_engine) fn held_at(tree: &Child, address: u64) -> Option<RangeInclusive> {
-    let Some(node) = tree else { return None };
-    let node: &InnerNode = node;
-    if address < node.block.key.start() {
-        return held_at(&node.left, address);
-    }
-    if node.block.key.end() < address {
-        return held_at(&node.right, address);
-    }
-    match node.block.state {
-        NodeState::Free => None,
-        NodeState::Allocated => Some(node.block.key),
-    }
-}
-
 /// Returns the number of allocated blocks.
 pub(in crate::proved::vm_engine) fn count_held(tree: &Child) -> u64 {
     let Some(node) = tree else { return 0 };
