@@ -434,7 +434,7 @@ DVS_WARN_UNUSED
 dvs_status dvs_range_is_held(const dvs_address_allocator *allocator, dvs_range range, bool *is_held,
                              dvs_refusal *refusal);
 
-/* Writes the number of allocated ranges to `count`. It walks all of them. Errors: DVS_NULL. */
+/* Writes the number of allocated ranges to `count`, in constant time. Errors: DVS_NULL. */
 DVS_WARN_UNUSED
 dvs_status dvs_range_count(const dvs_address_allocator *allocator, uint64_t *count);
 
@@ -464,7 +464,7 @@ dvs_status dvs_gap_at(const dvs_address_allocator *allocator, uint64_t address, 
 DVS_WARN_UNUSED
 dvs_status dvs_longest_gap(const dvs_address_allocator *allocator, uint64_t *length);
 
-/* Writes the number of free addresses to `count`. It walks all gaps. Errors: DVS_NULL. */
+/* Writes the number of free addresses to `count`, in constant time. Errors: DVS_NULL. */
 DVS_WARN_UNUSED
 dvs_status dvs_clear_count(const dvs_address_allocator *allocator, uint64_t *count);
 

@@ -218,6 +218,7 @@ static void allocate_all(void) {
     CHECK(is_range(ranges[2], 0x2100, 0x21ff));
     CHECK(dvs_address_allocator_allocate_all(space, NULL, 0, NULL, NULL, NULL) == DVS_OK);
     CHECK(dvs_range_count(space, &count) == DVS_OK && count == 5);
+    CHECK(dvs_clear_count(space, &count) == DVS_OK && count == 0x2800 - 0x910);
     dvs_address_allocator_destroy(space);
 }
 
@@ -234,6 +235,7 @@ static void refuse_bars(dvs_address_allocator *space, const dvs_request *bars, d
     CHECK(failed == 1 && is_range(ranges[0], 1, 2));
     CHECK(is_range(refusal.range, told.start, told.end));
     CHECK(dvs_range_count(space, &count) == DVS_OK && count == 2);
+    CHECK(dvs_clear_count(space, &count) == DVS_OK && count == 0x2800);
 }
 
 /* Allocates two BARs, each in a separate window. */

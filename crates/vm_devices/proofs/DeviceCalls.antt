@@ -1,6 +1,6 @@
 -- The results of the calls of a manager follow from the results of its parts. A record has the facts of one case of a
 -- call.
-use Rattle.std.proofs.Common.{◌≡◌, ℕ, ◌⊎◌, refl, sym, ap, ◌∙◌, inl, inr, ⊎_elim, subst, None, Result, Ok, Err}
+use Rattle.std.proofs.Common.{◌≡◌, ℕ, ◌⊎◌, refl, sym, ap, ◌∙◌, inl, inr, ⊎_elim, subst, None, Result, Ok, Err, IfOk, IfErr, OnErr}
 use Rattle.std.specs.Ordering.{nat_cmp}
 use Rattle.std.specs.FinMap as map
 use Rattle.std.specs.List.{Contains}
@@ -19,6 +19,7 @@ use Rattle.vm_allocator.proofs.Callers.{given}
 use Rattle.vm_allocator.proofs.Ids.IdAnswers.{peeking_predicts}
 use Rattle.vm_devices.specs.declared.device_slot.DeviceSlot.{DeviceSlot}
 use Rattle.vm_devices.specs.Devices.{DeviceState, IsDeviceState, IsDevice, devices_of, MakesManager, Reserves, Releases}
+use Rattle.vm_devices.specs.Checks.{IsEntered, IsGivenBack}
 use Rattle.vm_devices.proofs.Pairs.{id_held}
 use Rattle.vm_devices.proofs.NewManagers.{IsMade, no_devices}
 use Rattle.vm_devices.proofs.Reserving.{reserved_state, released_state}
@@ -81,16 +82,6 @@ pub range_refused : {old new : DeviceState} {request : Request} {e : Error} → 
 unfolding Reserves
 range_refused {old} {new} {request} {e} a same = for_peeked old.ids a.id _ _ a.predicted (Err e, a.space, a.answer, (refl, same))
 
--- The request itself is invalid.
-pub request_refused : (old : DeviceState) (request : Request) (e : Error) (id : ℕ) → PeeksId old.ids (Ok id) → MakesConstraint request (Err e) → Reserves old request (Err e) old
-request_refused old request e id predicted m =
-    range_refused (record { id = id; space = old.space; predicted = predicted; answer = allocates_refused old.space request e m }) refl
-
--- A constraint is reserved like the request that makes it.
-pub for_request : (old new : DeviceState) (request given : Request) (made : Result Request Error) (answer : Result DeviceSlot Error) → made ≡ Ok given → MakesConstraint request made → Reserves old given answer new → Reserves old request answer new
-for_request old new request given made answer e m h =
-    subst (λ (v : Request). Reserves old v answer new) (constraint_made request given (subst (MakesConstraint request) e m)).0 h
-
 pub table_refused : {old new : DeviceState} {request : Request} {r : Range} → IsAsked old request (Ok r) → new ≡ old →
     Reserves old request (Err OutOfMemory) new
 unfolding Reserves
@@ -133,6 +124,47 @@ come {old} {new} {request} {slot} c =
 pub come_state : {old new : Parts} {request : Request} {slot : DeviceSlot} → IsDeviceState (state_in old) → Comes old new request slot →
     IsDeviceState (state_in new)
 come_state {old} {new} {request} {slot} i c = reserved_state (state_in old) (state_in new) request (Ok slot) i (come c)
+
+-- The result of entering a device, after its range was allocated.
+pub record HasEntered (old : Parts) (mid : AddressState) (new : Parts) (id : ℕ) (r : Range) (answer : Result DeviceSlot Error) : Type 0 where
+  pub entered : IfOk answer (λ slot. (slot ≡ record { id = id; range = r }) × (new.space ≡ mid) × IsEntered old.ids new.ids old.slots new.slots slot)
+  pub undone : IfErr answer (λ e. (e ≡ OutOfMemory) × (new.ids ≡ old.ids) × (new.slots ≡ old.slots) × IsGivenBack mid r new.space)
+
+-- The device is then reserved, or nothing has changed.
+pub record IsOutcome (old new : Parts) (request : Request) (answer : Result DeviceSlot Error) : Type 0 where
+  pub result : Reserves (state_in old) request answer (state_in new)
+  pub state : IsDeviceState (state_in new)
+  pub unchanged : OnErr answer (state_in new ≡ state_in old)
+
+pub outcome : (old : Parts) (mid : AddressState) (new : Parts) (request : Request) (id : ℕ) (r : Range) (answer : Result DeviceSlot Error) →
+    IsDeviceState (state_in old) → PeeksId old.ids (Ok id) → Allocates old.space request (Ok r) mid → HasEntered old mid new id r answer →
+    IsOutcome old new request answer
+outcome old mid new request id r (Ok slot) i p a h =
+    let e = h.entered in
+    let entered = e.2 in
+    let given : Allocates old.space request (Ok slot.range) new.space =
+    rw (e.0, e.1) a in
+    let comes : Comes old new request slot = record {
+      answer = entered.answer;
+      predicted = rw e.0 p;
+      taken = entered.taken;
+      given = given;
+      entered = entered.entered;
+    } in
+    record { result = come comes; state = come_state i comes; unchanged = tt }
+outcome old mid new request id r (Err e) i p a h =
+    let u = h.undone in
+    let back = u.3 in
+    let same : state_in new ≡ state_in old =
+    ap (λ (v : IdState). devices_of v new.space new.slots) u.1
+    ∙ undone i (record { mid = mid; request = request; range = r; answer = back.answer; given = a; back = back.back; unchanged = u.2 }) in
+    let refused : Reserves (state_in old) request (Err OutOfMemory) (state_in new) =
+    table_refused {r = r} (record { id = id; space = mid; predicted = p; answer = a }) same in
+    record {
+      result = subst (λ (v : Error). Reserves (state_in old) request (Err v) (state_in new)) (sym u.0) refused;
+      state = subst IsDeviceState (sym same) i;
+      unchanged = same;
+    }
 
 -- ---- Releasing
 pub no_device : (old new : DeviceState) (id : ℕ) → map.get old.devices id ≡ None → new ≡ old → Releases old id (Err (NeverAllocated id)) new

@@ -5,5 +5,6 @@ pub mod FirstOverlaps
 pub mod TreeEdits
 pub mod MinNodes
 pub mod Spaces
+pub mod CountedTrees
 pub mod UpdatedNodes
 pub mod AvlInsertion

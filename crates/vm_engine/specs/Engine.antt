@@ -10,6 +10,7 @@ pub mod NodeUpdate
 pub mod NodeAnswer
 pub mod Widening
 pub mod SplitBlocks
+pub mod CountedTrees
 pub mod Outermost
 pub mod Walks
 pub mod WindowBlocks

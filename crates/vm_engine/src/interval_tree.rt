@@ -46,6 +46,10 @@ pub(crate) mod placement;
 #[derive(Debug, Drop)]
 pub struct IntervalTree {
     pub(crate) root: Child,
+    /// The number of allocated ranges.
+    pub(crate) held_count: u64,
+    /// The number of free addresses.
+    pub(crate) clear_count: u64,
 }
 
 impl Model for IntervalTree {
@@ -60,9 +64,9 @@ impl Model for IntervalTree {
 
     ghost view = { λ a. side a.root };
 
-    ghost use Rattle.vm_engine.specs.Tree.SpaceTree.{IsSpaceTree};
+    ghost use Rattle.vm_engine.specs.Engine.CountedTrees.{IsCountedTree};
 
-    ghost invariant = { λ a. IsSpaceTree (side a.root) };
+    ghost invariant = { λ a. IsCountedTree (side a.root) a.held_count a.clear_count };
 }
 
 impl IntervalTree {
@@ -79,7 +83,11 @@ impl IntervalTree {
         ensures state { IfOk result (λ tree. IsAddressState (tree_state tree)) }
     {
         let node = Box::new(alloc, InnerNode::new(Block::free(key)))?;
-        Ok(IntervalTree { root: Some(node) })
+        Ok(IntervalTree {
+            root: Some(node),
+            held_count: 0,
+            clear_count: key.len(),
+        })
     }
 
     /// Returns a copy with the same nodes.
@@ -92,6 +100,8 @@ impl IntervalTree {
     {
         Ok(IntervalTree {
             root: Some(copy(self.root(), alloc)?),
+            held_count: self.held_count,
+            clear_count: self.clear_count,
         })
     }
 

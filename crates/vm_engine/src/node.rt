@@ -99,7 +99,7 @@ impl InnerNode {
         right: Child,
     ) -> Result<Box<InnerNode>, AllocError>
         requires tree { IsTree (Fork (side left) block (side right)) }
-        requires height_fits { max (height_of (side left)) (height_of (side right)) + 1 < 2 ^ 8 }
+        requires height_fits { max (height_of (side left)) (height_of (side right)) + 1 < 2 ^ 32 }
         ensures { IfOk result (λ node. node.value ≡ Fork (side left) block (side right)) }
     {
         let middle = Box::new(alloc, InnerNode::new(block))?;
@@ -142,7 +142,7 @@ impl InnerNode {
 
 /// Returns the height of a child, or 0 if the child is absent.
 #[inline(always)]
-pub(crate) fn height(child: &Child) -> u8
+pub(crate) fn height(child: &Child) -> u32
     ensures value { result ≡ height_of (side child.now) }
     ensures tree { IsTree (side child.now) }
     ensures absent { IsNone child.now ↔ (side child.now ≡ Tip) }

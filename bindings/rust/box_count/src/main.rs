@@ -7,6 +7,7 @@
 //! - A plain call follows as many boxes, up to [`LOOKS`].
 //! - Queries of one range or address walk one path, and those of a range two. Walks over all blocks
 //!   visit each once.
+//! - `held_count` and `clear_count` follow no box.
 #![forbid(unsafe_code)]
 
 use box_count::proved::vm_allocator::{
@@ -228,10 +229,10 @@ impl Pair {
             followed <= 3 * LOOKS,
             "base, end and height follow {followed} boxes"
         );
-        let walks: [(&str, &dyn Fn() -> u64); 6] = [
-            ("clear_count", &|| space.clear_count()),
+        let (_, followed) = boxes(|| black_box((space.held_count(), space.clear_count())));
+        assert_eq!(followed, 0, "the counts of ranges and of free addresses");
+        let walks: [(&str, &dyn Fn() -> u64); 4] = [
             ("gaps", &|| space.gaps().count() as u64),
-            ("held_count", &|| space.held_count()),
             ("held_ranges", &|| space.held_ranges().count() as u64),
             ("==", &|| u64::from(*space == self.plain)),
             ("cmp", &|| space.cmp(&self.plain) as u64),

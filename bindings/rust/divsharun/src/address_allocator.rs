@@ -637,7 +637,7 @@ impl AddressAllocator {
 
     /// Returns the number of free addresses.
     ///
-    /// It walks the whole tree and does not allocate.
+    /// It takes constant time and does not allocate.
     #[must_use]
     pub fn free_len(&self) -> u64 {
         self.0.clear_count()
@@ -645,7 +645,7 @@ impl AddressAllocator {
 
     /// Returns the number of allocated ranges.
     ///
-    /// It walks the whole tree and does not allocate.
+    /// It takes constant time and does not allocate.
     #[must_use]
     pub fn held_count(&self) -> u64 {
         self.0.held_count()

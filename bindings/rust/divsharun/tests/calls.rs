@@ -249,6 +249,27 @@ fn held_ranges_can_be_asked_for() {
     assert_eq!((space.held_count(), space.height()), (2, 2));
 }
 
+/// The space has the maximum number of addresses.
+#[test]
+fn counts_follow_each_change() {
+    let counts = |space: &AddressAllocator| (space.held_count(), space.free_len());
+    let mut space = AddressAllocator::new(0, u64::MAX).unwrap();
+    assert_eq!(counts(&space), (0, u64::MAX));
+    let size = u64::MAX - 1;
+    let range = space.allocate(size, 1, AllocPolicy::FirstMatch).unwrap();
+    assert_eq!(counts(&space), (1, 1));
+    let refused = space.allocate(2, 1, AllocPolicy::LastMatch);
+    assert_eq!(refused, Err(Error::ResourceNotAvailable));
+    assert_eq!(counts(&space), (1, 1));
+    let clone = space.clone();
+    assert_eq!(space.free(&range), Ok(()));
+    assert_eq!(counts(&space), (0, u64::MAX));
+    assert_eq!(space.free(&range), Err(Error::ResourceNotAvailable));
+    assert_eq!(counts(&space), (0, u64::MAX));
+    let created = AddressAllocator::try_with_held(0, u64::MAX, &[range]).unwrap();
+    assert_eq!((counts(&clone), counts(&created)), ((1, 1), (1, 1)));
+}
+
 #[test]
 fn ids_can_be_looked_at() {
     let mut ids = IdAllocator::new(5, 7).unwrap();

@@ -53,7 +53,7 @@ impl AddressAllocator {
 
     /// Returns the number of free addresses.
     ///
-    /// It walks the whole tree and does not allocate.
+    /// It takes constant time and does not allocate.
     pub fn clear_count(&self) -> u64
         ensures { result ≡ count_of (gaps_of (state_of self.now)) }
     {

@@ -52,7 +52,7 @@ impl AddressAllocator {
 
     /// Returns the number of allocated ranges.
     ///
-    /// It walks the whole tree and does not allocate.
+    /// It takes constant time and does not allocate.
     pub fn held_count(&self) -> u64
         ensures value { result ≡ length (state_of self.now).held }
         ensures state { IsAddressState (state_of self.now) }

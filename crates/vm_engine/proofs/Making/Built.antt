@@ -72,7 +72,7 @@ module _ (n : ℕ) (old xs ys new : List Block) (l r : Shape) (b : Block) (some 
     balanced = node_balanced;
   }
 
-  pub node_fits : n < 2 ^ 64 → max (height_of l) (height_of r) + 1 < 2 ^ 8
+  pub node_fits : n < 2 ^ 64 → max (height_of l) (height_of r) + 1 < 2 ^ 32
   node_fits f =
       let c = close in
       let h = left.height.1 in

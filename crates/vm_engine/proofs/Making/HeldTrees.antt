@@ -2,17 +2,21 @@
 use Rattle.std.proofs.Common.{◌≡◌, ℕ, ◌+◌, ◌^◌, ◌≤◌, ◌<◌, List, [], ◌∷◌, ◌++◌, length, Some, None, Option, MatchOption, ◌⊎◌, Result, Ok, Err, refl, sym, ap, ◌∙◌, arith, subst, ⊎_elim, inl, inr}
 use Rattle.std.proofs.lemmas.Bool.{cases_lt}
 use Rattle.std.proofs.lemmas.List.{append-nil}
-use Rattle.vm_ranges.specs.Range.{Range, IsRange}
+use Rattle.vm_ranges.specs.Range.{Range, IsRange, address_count}
 use Rattle.vm_engine.specs.Tree.Block.{Block}
 use Rattle.vm_engine.specs.Address.{AddressState, AreInOrder, IsAddressState}
 use Rattle.vm_engine.specs.Tree.Blocks.{blocks_between, blocks_of, held_of, AreBelowMax, IsTiling, TilesSpace}
 use Rattle.vm_engine.specs.Tree.Shape.{Shape, blocks, height_of}
 use Rattle.vm_engine.specs.Tree.SpaceTree.{tree_state, IsSpaceTree}
+use Rattle.vm_engine.specs.Queries.{count_of}
 use Rattle.vm_ranges.specs.Cases.{IfElse}
 use Rattle.vm_engine.specs.Held.{first_fault, MakesHeld, TOO_MANY_BLOCKS}
 use Rattle.vm_engine.specs.Engine.Building.{IsBuilt}
+use Rattle.vm_engine.specs.Engine.CountedTrees.{IsCountedTree}
+use Rattle.vm_ranges.specs.declared.state.NodeState.TheVariants.{Allocated}
 use Rattle.vm_ranges.specs.declared.error.Error.{Error}
 use Rattle.vm_ranges.specs.declared.error.Error.TheVariants.{Overflow, OutOfMemory}
+use Rattle.vm_engine.proofs.Blocks.GapLists.{all_counted}
 use Rattle.vm_engine.proofs.Comparing.Tilings.{held_of-blocks_of}
 use Rattle.vm_engine.proofs.Nodes.MinNodes.{power_grows}
 use Rattle.vm_engine.proofs.Nodes.Spaces.{space_tiled, space_tree}
@@ -60,6 +64,16 @@ module _ (space : Range) (held : List Range) (range : IsRange space.start space.
 
   pub built_tree : IsSpaceTree s
   built_tree = space_tree space s tiling range low
+
+  pub built_counted : (clear : ℕ) → clear + count_of held ≡ address_count space → IsCountedTree s (length held) clear
+  unfolding TilesSpace
+  built_counted clear f =
+      let all = all_counted Allocated space.start space.end (blocks s) tiling.tiles in
+      record {
+        tree = built_tree;
+        held_count = ap length (sym held_are);
+        clear_count = omega (arith, f, all, ap count_of held_are, range.0);
+      }
 
   pub built_state : tree_state s ≡ state
   built_state =

@@ -100,3 +100,6 @@ built_states d space s range e p =
 
 pub encoded_tree : (d : Data) (space : Range) (s : Shape) → IsRange space.start space.end → EncodesSpaceTree d space s → IsSpaceTree s
 encoded_tree d space s range p = space_tree space s p.blocks range p.nested
+
+pub built_tree : (d : Data) (space : Range) (s : Shape) → IsRange space.start space.end → has_tree_of space d ≡ true → EncodesShape d s → IsSpaceTree s
+built_tree d space s range e p = encoded_tree d space s range (built_states d space s range e p)

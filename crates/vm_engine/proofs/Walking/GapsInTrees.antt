@@ -67,6 +67,12 @@ clear_children l b r = omega (arith, clear_fork l b r)
 
 pub ruleset clear_numbers = (clear_fork-free, clear_fork-held, clear_children)
 
+-- The addresses of a free block are among the free addresses.
+pub clear_middle : (before after : List Block) (b : Block) → b.state ≡ Free → address_count b.key ≤ count_of (free_of (before ++ b ∷ after))
+clear_middle before after b e =
+    let all = ap count_of (free_of-append before (b ∷ after)) ∙ count_of-append (free_of before) (free_of (b ∷ after)) in
+    omega (arith, all, ap count_of (free_of-free b after e))
+
 -- A tiling has no more free addresses than addresses.
 pub clear_within : (p : NodeState) (lo hi : ℕ) (bs : List Block) → Tiles p lo bs hi → count_of (free_of bs) + lo ≤ hi + 1
 clear_within p lo hi [] t = omega arith

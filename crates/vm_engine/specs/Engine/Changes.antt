@@ -35,7 +35,7 @@ IsUneven (Fork l b r) = height_of l ≢ height_of r
 pub record CanBalance (left : Shape) (middle : Block) (right : Shape) : Type 0 where
   pub ordered : IsOrderedFrom 0 (blocks left ++ middle ∷ blocks right)
   pub near : DifferByAtMost 2 (height_of left) (height_of right)
-  pub height_fits : max (height_of left) (height_of right) + 1 < 2 ^ 8
+  pub height_fits : max (height_of left) (height_of right) + 1 < 2 ^ 32
 
 -- `balanced` is a balanced tree of the blocks of both children and the block between them. Without a rotation it is the
 -- node over both children. A rotation towards an uneven child makes it as high as that child.

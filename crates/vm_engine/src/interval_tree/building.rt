@@ -2,10 +2,12 @@
 //!
 //! A first pass checks and counts without allocating. A second pass builds the blocks into a tree
 //! from the middle, so no rotation is needed.
-ghost use Rattle.std.specs.Prelude.{◌≡◌, ◌≢◌, ◌<◌, ◌≤◌, ◌∷◌, [], Some, None, length, IfOk, IfErr, MatchResult};
-ghost use Rattle.vm_engine.specs.Address.{IsAddressState};
+ghost use Rattle.std.specs.Prelude.{◌≡◌, ◌≢◌, ◌+◌, ◌<◌, ◌≤◌, ◌∷◌, [], Some, None, length, IfOk, IfErr, MatchResult};
+ghost use Rattle.vm_ranges.specs.Range.{address_count};
+ghost use Rattle.vm_engine.specs.Address.{AreInOrder, IsAddressState};
 ghost use Rattle.vm_engine.specs.Tree.Shape.{height_of, node_count, IsLowestHeight};
 ghost use Rattle.vm_engine.specs.Tree.SpaceTree.{tree_state, made_tree};
+ghost use Rattle.vm_engine.specs.Queries.{count_of};
 ghost use Rattle.vm_engine.specs.Held.{TOO_MANY_BLOCKS, MakesHeld, range_fault};
 ghost use Rattle.vm_engine.specs.Engine.NodeFields.{side};
 ghost use Rattle.vm_engine.specs.Engine.Building.{remaining_blocks, IsBlockCursor, IsBuilt, CountsBlocks};
@@ -50,7 +52,11 @@ impl IntervalTree {
             end: key.end(),
         };
         let root = build(alloc, count, &mut cursor)?;
-        Ok(IntervalTree { root })
+        Ok(IntervalTree {
+            root,
+            held_count: held.len() as u64,
+            clear_count: count_left(&key, held),
+        })
     }
 }
 
@@ -74,6 +80,19 @@ fn count_blocks(space: &RangeInclusive, held: &[RangeInclusive]) -> Result<u64>
         count += 1;
     }
     Ok(count)
+}
+
+/// Returns the number of addresses of a space that are in none of these ranges.
+fn count_left(space: &RangeInclusive, held: &[RangeInclusive]) -> u64
+    requires order { AreInOrder space.now.start held.now space.now.end }
+    requires space { space.now.start ≤ space.now.end }
+    ensures { result + count_of held.now ≡ address_count space.now }
+{
+    let mut left = space.len();
+    for range in held {
+        left -= range.len();
+    }
+    left
 }
 
 /// Checks that a range can be allocated if it must start at `next` or later, in a space that ends at

@@ -38,6 +38,8 @@ impl IntervalTree {
             return Err(Error::ResourceNotAvailable);
         };
         join_free(&mut self.root, key, &beside, count);
+        self.held_count -= 1;
+        self.clear_count += key.len();
         Ok(())
     }
 }

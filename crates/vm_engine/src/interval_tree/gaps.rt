@@ -10,7 +10,6 @@ ghost use Rattle.vm_engine.specs.Tree.SpaceTree.{tree_state};
 use super::IntervalTree;
 use crate::node::walks::addresses::block_at;
 use crate::node::walks::both_ends::Blocks;
-use crate::node::walks::gaps::count_clear;
 use std::marker::Model;
 use vm_ranges::{NodeState, RangeInclusive};
 
@@ -116,11 +115,11 @@ impl IntervalTree {
         self.root().max_free()
     }
 
-    /// Returns the number of free addresses. It visits every node and does not allocate.
+    /// Returns the number of free addresses. It takes constant time and does not allocate.
     #[tactic(auto, using(crate::proofs::Walking::GapsInTrees::gaps_in_trees))]
     pub fn clear_count(&self) -> u64
         ensures { result ≡ count_of (gaps_of (tree_state self.now)) }
     {
-        count_clear(&self.root)
+        self.clear_count
     }
 }

@@ -1,7 +1,4 @@
 //! Queries about the allocated ranges.
-//!
-//! Their number is not stored, because each change would have to update it. `held_count` counts
-//! them.
 ghost use Rattle.std.specs.Prelude.{◌≡◌, ◌↔◌, IsTrue, length};
 ghost use Rattle.std.specs.List.{Contains};
 ghost use Rattle.std.specs.Iterator.{YieldsFirst, YieldsLast, item_count};
@@ -11,7 +8,7 @@ ghost use Rattle.vm_engine.specs.Tree.SpaceTree.{tree_state};
 use super::IntervalTree;
 use crate::node::walks::addresses::block_at;
 use crate::node::walks::both_ends::Blocks;
-use crate::node::walks::held::{count_held, has_held};
+use crate::node::walks::held::has_held;
 use std::marker::Model;
 use vm_ranges::{NodeState, RangeInclusive};
 
@@ -119,10 +116,10 @@ impl IntervalTree {
         }
     }
 
-    /// Returns the number of allocated ranges. It visits every node and does not allocate.
+    /// Returns the number of allocated ranges. It takes constant time and does not allocate.
     pub fn held_count(&self) -> u64
         ensures { result ≡ length (tree_state self.now).held }
     {
-        count_held(&self.root)
+        self.held_count
     }
 }

@@ -55,7 +55,7 @@ pub(super) fn update(
     block: &Block,
     cached: &mut Summary,
 ) -> Updated
-    requires { max (height_of (side left.old)) (height_of (side right.old)) + 1 < 2 ^ 8 }
+    requires { max (height_of (side left.old)) (height_of (side right.old)) + 1 < 2 ^ 32 }
     ensures updated { IsUpdated block.now
         (record { left = left.old; right = right.old; summary = cached.old })
         result
@@ -80,7 +80,7 @@ impl InnerNode {
         ensures shape { self.old ≡ Fork (side result.0) (root_block self.old) (side result.1) }
         ensures middle { self.new ≡ single (root_block self.old) }
         ensures tree { IsTree self.old }
-        ensures height_fits { height_of self.old < 2 ^ 8 }
+        ensures height_fits { height_of self.old < 2 ^ 32 }
     {
         self.summary = summary_of_leaf(&self.block);
         (self.left.take(), self.right.take())
@@ -92,7 +92,7 @@ pub(super) fn fork(left: Child, mut middle: Box<InnerNode>, right: Child) -> Box
     requires leaf { IsLeaf middle.value }
     requires ordered { IsOrderedFrom 0 (blocks (side left) ++ root_block middle.value ∷ blocks (side right)) }
     requires close { DifferByAtMost 1 (height_of (side left)) (height_of (side right)) }
-    requires height_fits { max (height_of (side left)) (height_of (side right)) + 1 < 2 ^ 8 }
+    requires height_fits { max (height_of (side left)) (height_of (side right)) + 1 < 2 ^ 32 }
     ensures shape { result.value ≡ Fork (side left) (root_block middle.value) (side right) }
     ensures tree { IsTree result.value }
 {

@@ -21,7 +21,7 @@ use vm_ranges::NodeState;
 #[derive(Clone, Copy, Debug)]
 pub(crate) struct Edge {
     /// No passed child has more alignments.
-    pub(super) alignments: u8,
+    pub(super) alignments: u32,
     /// The number of passed nodes.
     depth: u64,
     /// The depth of the last passed node whose children differ in height, or 0.
@@ -47,7 +47,7 @@ impl Edge {
     /// enters.
     #[inline(always)]
     #[tactic(auto, using(std::proofs::lemmas::Nat::le_or_l, std::proofs::lemmas::Nat::le_or_r))]
-    fn pass(&mut self, passed: Summary, entered_height: u8)
+    fn pass(&mut self, passed: Summary, entered_height: u32)
         requires { self.old.depth < MAX_HEIGHT }
         ensures { Passes passed entered_height self.old self.new }
     {

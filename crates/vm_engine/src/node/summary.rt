@@ -6,7 +6,8 @@
 //!
 //! An alignment is one of the 64 powers of two. A multiple of a power of two is also a multiple of
 //! each smaller one, so the number of alignments determines which alignments they are. Height and
-//! alignments are one byte each, so a node has 72 bytes.
+//! alignments have four bytes each: their comparisons take fewer instructions than those of single bytes,
+//! and a node has 72 bytes in either case.
 ghost use Rattle.std.specs.Prelude.{◌≡◌, ◌+◌, ◌<◌, ◌^◌, max};
 ghost use Rattle.vm_engine.specs.Tree.Block.{free_length};
 ghost use Rattle.vm_engine.specs.Tree.Multiples.{alignment_count, free_alignments};
@@ -35,9 +36,9 @@ pub(super) struct Summary {
     /// The length of the longest free block in addresses, or 0 if there is none.
     pub(super) max_free: u64,
     /// The height, or 0 if the subtree is empty.
-    pub(super) height: u8,
+    pub(super) height: u32,
     /// The number of the 64 alignments that have a multiple in a free block.
-    pub(super) alignments: u8,
+    pub(super) alignments: u32,
 }
 
 /// Returns the summary of a node without children.
@@ -65,14 +66,14 @@ pub(super) fn summary_of_leaf(block: &Block) -> Summary
 /// before the first.
 #[inline(always)]
 #[tactic(auto, using(crate::proofs::Numbers::MultiplesBetween::counts))]
-fn alignment_count(key: &RangeInclusive) -> u8
+fn alignment_count(key: &RangeInclusive) -> u32
     ensures { result ≡ alignment_count key.now }
 {
     let start = key.start();
     if start == 0 {
         return 64;
     }
-    ((start - 1) ^ key.end()).ilog2() as u8 + 1
+    ((start - 1) ^ key.end()).ilog2() + 1
 }
 
 /// Returns the summary of a child, or zeros if the child is absent.
@@ -98,7 +99,7 @@ pub(super) fn summary_of(child: &Child) -> Summary
 ///
 /// It looks at the key only if the block is free.
 #[inline(always)]
-pub(super) fn summary_at(height: u8, left: Summary, right: Summary, block: &Block) -> Summary
+pub(super) fn summary_at(height: u32, left: Summary, right: Summary, block: &Block) -> Summary
     ensures height { result.height ≡ height }
     ensures free { IsFreeOver left right block.now result }
 {
@@ -121,7 +122,7 @@ pub(super) fn summary_at(height: u8, left: Summary, right: Summary, block: &Bloc
 /// Returns the summary of a node with these children and this block.
 #[inline(always)]
 pub(super) fn summary_over(left: &Child, right: &Child, block: &Block) -> Summary
-    requires { max (height_of (side left.now)) (height_of (side right.now)) + 1 < 2 ^ 8 }
+    requires { max (height_of (side left.now)) (height_of (side right.now)) + 1 < 2 ^ 32 }
     ensures value { IsSummaryOf (Fork (side left.now) block.now (side right.now)) result }
     ensures left { IsTree (side left.now) }
     ensures right { IsTree (side right.now) }

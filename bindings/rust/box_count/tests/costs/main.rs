@@ -1,4 +1,5 @@
 //! The cost of calls: allocations, boxes followed, and processor time. No contract limits these.
+mod counts;
 mod heights;
 mod lines;
 mod managers;

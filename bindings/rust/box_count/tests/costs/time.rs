@@ -68,7 +68,6 @@ fn spaces() {
     expect_linear("clone", two, |(space, _)| space.try_clone(Global));
     expect_linear("equality", two, |(space, same)| assert!(space == same));
     expect_linear("order", two, |(space, same)| space.cmp(same));
-    expect_linear("count", two, |(space, _)| space.held_count());
     expect_linear("ranges", two, |(space, _)| space.held_ranges().count());
     let lists = |held| -> Vec<_> { low(held).space().held_ranges().collect() };
     let create = |held: &Vec<_>| AddressAllocator::with_held(Global, 0, 1 << 40, held).is_ok();

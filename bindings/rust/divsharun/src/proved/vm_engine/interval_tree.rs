@@ -38,6 +38,10 @@ pub(in crate::proved::vm_engine) mod placement;
 #[derive(Debug)]
 pub struct IntervalTree {
     pub(in crate::proved::vm_engine) root: Child,
+    /// The number of allocated ranges.
+    pub(in crate::proved::vm_engine) held_count: u64,
+    /// The number of free addresses.
+    pub(in crate::proved::vm_engine) clear_count: u64,
 }
 
 impl IntervalTree {
@@ -50,7 +54,11 @@ impl IntervalTree {
     /// - `OutOfMemory` if the allocation of the node fails.
     pub fn new(alloc: Global, key: RangeInclusive) -> Result<Self> {
         let node = Box::new(alloc, InnerNode::new(Block::free(key)))?;
-        Ok(IntervalTree { root: Some(node) })
+        Ok(IntervalTree {
+            root: Some(node),
+            held_count: 0,
+            clear_count: key.len(),
+        })
     }
 
     /// Returns a copy with the same nodes.
@@ -61,6 +69,8 @@ impl IntervalTree {
     pub fn try_clone(&self, alloc: Global) -> Result<Self> {
         Ok(IntervalTree {
             root: Some(copy(self.root(), alloc)?),
+            held_count: self.held_count,
+            clear_count: self.clear_count,
         })
     }
 

@@ -97,7 +97,7 @@ impl InnerNode {
 
 /// Returns the height of a child, or 0 if the child is absent.
 #[inline(always)]
-pub(in crate::proved::vm_engine) fn height(child: &Child) -> u8 {
+pub(in crate::proved::vm_engine) fn height(child: &Child) -> u32 {
     match child {
         None => 0,
         Some(node) => node.summary.height,

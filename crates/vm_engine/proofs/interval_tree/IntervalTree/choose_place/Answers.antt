@@ -6,10 +6,10 @@ use Rattle.vm_engine.proofs.Nodes.Spaces.{few_nodes}
 use Rattle.vm_engine.proofs.interval_tree.IntervalTree.choose_place.Goals as goal
 
 pub first_place-found-requires-clause-count_fits : goal.first_place-found-requires-clause-count_fits
-first_place-found-requires-clause-count_fits c = omega (arith, c.requires.start, few_nodes (side c.self.inside.root) c.self.invariant)
+first_place-found-requires-clause-count_fits c = omega (arith, c.requires.start, few_nodes (side c.self.inside.root) c.self.invariant.tree)
 
 pub last_place-found-requires-clause-count_fits : goal.last_place-found-requires-clause-count_fits
-last_place-found-requires-clause-count_fits c = omega (arith, c.requires.start, few_nodes (side c.self.inside.root) c.self.invariant)
+last_place-found-requires-clause-count_fits c = omega (arith, c.requires.start, few_nodes (side c.self.inside.root) c.self.invariant.tree)
 
 pub returns-in-FirstMatch-clause-gap : goal.returns-in-FirstMatch-clause-gap
 returns-in-FirstMatch-clause-gap c =

@@ -2,7 +2,8 @@ use Rattle.std.proofs.Common.{◌≡◌, sym, Err, rules}
 use Rattle.serde_json.specs.View.{view}
 use Rattle.vm_ranges.specs.declared.saved.ValueError.TheVariants.{OutOfMemory}
 use Rattle.vm_engine.specs.Engine.NodeFields.{side}
-use Rattle.vm_engine.proofs.Reading.ReadSpaces.{none_encoded, has_shape, some_encoded, built_states, encoded_tree}
+use Rattle.vm_engine.proofs.Walking.GapsInTrees.{clear_in_tree}
+use Rattle.vm_engine.proofs.Reading.ReadSpaces.{none_encoded, has_shape, some_encoded, built_states, built_tree}
 use Rattle.vm_engine.proofs.interval_tree.IntervalTree.from_root_value.Goals as goal
 
 pub returns-then-not-has_tree_of : goal.returns-then-not-has_tree_of
@@ -11,10 +12,25 @@ returns-then-not-has_tree_of c = none_encoded (view c.args.value.now) c.args.spa
 pub build-requires-clause-shape : goal.build-requires-clause-shape
 build-requires-clause-shape c = has_shape (view c.args.value.now) c.args.space.now c.if-not-has_tree_of.ensures.space (sym c.if-not-has_tree_of.ensures.value)
 
+pub count_held-requires : goal.count_held-requires
+count_held-requires c =
+    let tree = built_tree (view c.args.value.now) c.args.space.now (side c.in_ok-root.root) c.if-not-has_tree_of.ensures.space (sym c.if-not-has_tree_of.ensures.value) c.in_ok-root.ensures in
+    tree.height
+
+pub count_clear-requires-clause-depth : goal.count_clear-requires-clause-depth
+count_clear-requires-clause-depth c =
+    let tree = built_tree (view c.args.value.now) c.args.space.now (side c.in_ok-root.root) c.if-not-has_tree_of.ensures.space (sym c.if-not-has_tree_of.ensures.value) c.in_ok-root.ensures in
+    tree.height
+
+pub count_clear-requires-clause-few : goal.count_clear-requires-clause-few
+count_clear-requires-clause-few c =
+    let tree = built_tree (view c.args.value.now) c.args.space.now (side c.in_ok-root.root) c.if-not-has_tree_of.ensures.space (sym c.if-not-has_tree_of.ensures.value) c.in_ok-root.ensures in
+    clear_in_tree (side c.in_ok-root.root) tree
+
 pub invariant_of-result : goal.invariant_of-result
 invariant_of-result c =
-    encoded_tree (view c.args.value.now) c.args.space.now (side c.in_ok-root.root) c.if-not-has_tree_of.ensures.space
-    (built_states (view c.args.value.now) c.args.space.now (side c.in_ok-root.root) c.if-not-has_tree_of.ensures.space (sym c.if-not-has_tree_of.ensures.value) c.in_ok-root.ensures)
+    let tree = built_tree (view c.args.value.now) c.args.space.now (side c.in_ok-root.root) c.if-not-has_tree_of.ensures.space (sym c.if-not-has_tree_of.ensures.value) c.in_ok-root.ensures in
+    record { tree = tree; held_count = c.count_held.ensures; clear_count = c.count_clear.ensures }
 
 pub returns : goal.returns
 returns c = built_states (view c.args.value.now) c.args.space.now (side c.in_ok-root.root) c.if-not-has_tree_of.ensures.space (sym c.if-not-has_tree_of.ensures.value) c.in_ok-root.ensures

@@ -2,14 +2,14 @@ use Rattle.std.proofs.Common.{arith}
 use Rattle.vm_engine.specs.Tree.Blocks.{blocks_between}
 use Rattle.vm_engine.specs.Engine.NodeFields.{side}
 use Rattle.vm_engine.specs.Engine.Building.{IsBuilt}
-use Rattle.vm_engine.proofs.Making.HeldTrees.{built_tree, built_is_state}
+use Rattle.vm_engine.proofs.Making.HeldTrees.{built_counted, built_is_state}
 use Rattle.vm_engine.proofs.interval_tree.IntervalTree.with_held.Goals as goal
 
 pub invariant_of-result : goal.invariant_of-result
 invariant_of-result c =
     let n = c.in_ok-count.ensures.checked in
     let built : IsBuilt c.in_ok-count.count (blocks_between c.args.key.start c.args.held.now c.args.key.end) (side c.in_ok-root.root) _ = rw (c.into.ensures, c.start.ensures.value, c.end.ensures.value) at c.in_ok-root.ensures.built in
-    built_tree c.args.key c.args.held.now c.start.ensures.range n.1 _ n.2 (let f = c.if-count-ge-TOO_MANY_BLOCKS.false in omega arith) (side c.in_ok-root.root) _ built
+    built_counted c.args.key c.args.held.now c.start.ensures.range n.1 _ n.2 (let f = c.if-count-ge-TOO_MANY_BLOCKS.false in omega arith) (side c.in_ok-root.root) _ built _ c.count_left.ensures
 
 pub returns-clause-state : goal.returns-clause-state
 returns-clause-state c =

@@ -44,7 +44,7 @@ impl AddressAllocator {
 
     /// Returns the number of free addresses.
     ///
-    /// It walks the whole tree and does not allocate.
+    /// It takes constant time and does not allocate.
     pub fn clear_count(&self) -> u64 {
         self.interval_tree.clear_count()
     }

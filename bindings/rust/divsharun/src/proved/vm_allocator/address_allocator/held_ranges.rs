@@ -41,7 +41,7 @@ impl AddressAllocator {
 
     /// Returns the number of allocated ranges.
     ///
-    /// It walks the whole tree and does not allocate.
+    /// It takes constant time and does not allocate.
     pub fn held_count(&self) -> u64 {
         self.interval_tree.held_count()
     }

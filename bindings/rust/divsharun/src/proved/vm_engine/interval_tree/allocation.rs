@@ -42,6 +42,8 @@ impl IntervalTree {
                 NodeState::Allocated,
                 count,
             );
+            self.held_count += 1;
+            self.clear_count -= choice.range.len();
             return Ok(choice.range);
         }
         if self.height() >= SPLIT_HEIGHT_LIMIT {
@@ -49,6 +51,8 @@ impl IntervalTree {
         }
         let rest = rest_of(alloc, &choice)?;
         let mut split = Split { choice, rest };
+        self.held_count += 1;
+        self.clear_count -= choice.range.len();
         split_gap(&mut self.root, &mut split, edge, count);
         Ok(choice.range)
     }

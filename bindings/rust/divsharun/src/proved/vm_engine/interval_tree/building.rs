@@ -40,7 +40,11 @@ impl IntervalTree {
             end: key.end(),
         };
         let root = build(alloc, count, &mut cursor)?;
-        Ok(IntervalTree { root })
+        Ok(IntervalTree {
+            root,
+            held_count: held.len() as u64,
+            clear_count: count_left(&key, held),
+        })
     }
 }
 
@@ -62,6 +66,15 @@ fn count_blocks(space: &RangeInclusive, held: &[RangeInclusive]) -> Result<u64> 
         count += 1;
     }
     Ok(count)
+}
+
+/// Returns the number of addresses of a space that are in none of these ranges.
+fn count_left(space: &RangeInclusive, held: &[RangeInclusive]) -> u64 {
+    let mut left = space.len();
+    for range in held {
+        left -= range.len();
+    }
+    left
 }
 
 /// Checks that a range can be allocated if it must start at `next` or later, in a space that ends at

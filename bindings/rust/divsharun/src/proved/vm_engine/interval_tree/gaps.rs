@@ -8,7 +8,6 @@
 use super::IntervalTree;
 use crate::proved::vm_engine::node::walks::addresses::block_at;
 use crate::proved::vm_engine::node::walks::both_ends::Blocks;
-use crate::proved::vm_engine::node::walks::gaps::count_clear;
 use crate::proved::vm_ranges::{NodeState, RangeInclusive};
 
 /// An iterator over the gaps, from the lowest to the highest, or backwards. It does not allocate.
@@ -83,8 +82,8 @@ impl IntervalTree {
         self.root().max_free()
     }
 
-    /// Returns the number of free addresses. It visits every node and does not allocate.
+    /// Returns the number of free addresses. It takes constant time and does not allocate.
     pub fn clear_count(&self) -> u64 {
-        count_clear(&self.root)
+        self.clear_count
     }
 }

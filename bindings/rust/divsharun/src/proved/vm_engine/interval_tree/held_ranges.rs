@@ -1,14 +1,11 @@
 // Written by bindings/erase from crates/vm_engine/src/interval_tree/held_ranges.rt: do not edit.
 
 //! Queries about the allocated ranges.
-//!
-//! Their number is not stored, because each change would have to update it. `held_count` counts
-//! them.
 
 use super::IntervalTree;
 use crate::proved::vm_engine::node::walks::addresses::block_at;
 use crate::proved::vm_engine::node::walks::both_ends::Blocks;
-use crate::proved::vm_engine::node::walks::held::{count_held, has_held};
+use crate::proved::vm_engine::node::walks::held::has_held;
 use crate::proved::vm_ranges::{NodeState, RangeInclusive};
 
 /// An iterator over the allocated ranges, from the lowest to the highest, or backwards. It does not
@@ -86,8 +83,8 @@ impl IntervalTree {
         }
     }
 
-    /// Returns the number of allocated ranges. It visits every node and does not allocate.
+    /// Returns the number of allocated ranges. It takes constant time and does not allocate.
     pub fn held_count(&self) -> u64 {
-        count_held(&self.root)
+        self.held_count
     }
 }

@@ -16,7 +16,7 @@ use crate::proved::vm_ranges::NodeState;
 #[derive(Clone, Copy, Debug)]
 pub(in crate::proved::vm_engine) struct Edge {
     /// No passed child has more alignments.
-    pub(super) alignments: u8,
+    pub(super) alignments: u32,
     /// The number of passed nodes.
     depth: u64,
     /// The depth of the last passed node whose children differ in height, or 0.
@@ -39,7 +39,7 @@ impl Edge {
     /// Notes a passed node: the summary of the passed child, and the height of the child that the search
     /// enters.
     #[inline(always)]
-    fn pass(&mut self, passed: Summary, entered_height: u8) {
+    fn pass(&mut self, passed: Summary, entered_height: u32) {
         self.alignments |= passed.alignments;
         if passed.height != entered_height {
             self.steady = self.depth;

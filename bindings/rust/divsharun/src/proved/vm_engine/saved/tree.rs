@@ -5,6 +5,8 @@
 use crate::proved::vm_engine::IntervalTree;
 use crate::proved::vm_engine::block::Block;
 use crate::proved::vm_engine::node::walks::encoding::encode;
+use crate::proved::vm_engine::node::walks::gaps::count_clear;
+use crate::proved::vm_engine::node::walks::held::count_held;
 use crate::proved::vm_engine::node::{Child, InnerNode, MAX_HEIGHT};
 use crate::proved::vm_engine::saved::check::check_nodes;
 use crate::proved::vm_engine::saved::node::decode_node;
@@ -41,7 +43,11 @@ impl IntervalTree {
             return Err(ValueError::NotAState);
         }
         let root = build(value, MAX_HEIGHT, alloc)?;
-        Ok(IntervalTree { root })
+        Ok(IntervalTree {
+            held_count: count_held(&root),
+            clear_count: count_clear(&root),
+            root,
+        })
     }
 }
 
