@@ -96,15 +96,18 @@ typedef uint32_t dvs_status;
 
 enum {
     DVS_OK = 0,
-    /* A range would end at or past UINT64_MAX, or all ids up to UINT32_MAX are allocated. */
+    /* A range would end at or past UINT64_MAX, or too few ids up to UINT32_MAX are free. */
     DVS_OVERFLOW = 1,
-    /* The id to free is outside the range of the allocator. */
+    /* The id is outside the range of the allocator. */
     DVS_OUT_OF_RANGE = 2,
     /* The id to free was allocated and is already freed. */
     DVS_ALREADY_RELEASED = 3,
     /* The id to free was never allocated, or no device has it. */
     DVS_NEVER_ALLOCATED = 4,
-    /* No free range fits, all ids are allocated, or the range to free is not allocated. */
+    /*
+     * No free range fits, the range to free is not allocated, too few ids are
+     * free, or the requested id is already allocated.
+     */
     DVS_RESOURCE_NOT_AVAILABLE = 5,
     /* The start is past the end, or the range has all 2^64 addresses. A window can have them all.
      */
@@ -602,6 +605,24 @@ dvs_status dvs_id_allocator_new(uint32_t first, uint32_t last, dvs_id_allocator 
                                 dvs_refusal *refusal);
 
 /*
+ * Creates an allocator for the ids from `first` to `last`, both included, with
+ * the `count` ids of `held` allocated. They must be in ascending order. The
+ * array can be null if `count` is 0. Time and memory are linear in the last of
+ * these ids minus `first`.
+ *
+ * Errors, in order:
+ * - DVS_INVALID_RANGE, with both ids, if `last` is less than `first`.
+ * - For the first id that is wrong:
+ *   - DVS_OUT_OF_RANGE, with the id, if it is not between the first and the last.
+ *   - DVS_RESOURCE_NOT_AVAILABLE if it is not greater than the id before it.
+ * - DVS_OUT_OF_MEMORY.
+ */
+DVS_WARN_UNUSED
+dvs_status dvs_id_allocator_with_held(uint32_t first, uint32_t last, const uint32_t *held,
+                                      size_t count, dvs_id_allocator **allocator,
+                                      dvs_refusal *refusal);
+
+/*
  * Destroys an allocator, with all its allocated ids. It does nothing if the
  * pointer is null or during a visit of the allocator.
  */
@@ -621,6 +642,43 @@ dvs_status dvs_id_allocator_range(const dvs_id_allocator *allocator, uint32_t *f
  */
 DVS_WARN_UNUSED
 dvs_status dvs_id_allocate(dvs_id_allocator *allocator, uint32_t *id);
+
+/*
+ * Allocates this id. The ids below it count as allocated before, so those that
+ * never were become freed ids. Time and memory are linear in their number, and
+ * no memory is allocated if there are none.
+ *
+ * Errors, in order:
+ * - DVS_OUT_OF_RANGE, with the id, if it is not between the first and the last.
+ * - DVS_RESOURCE_NOT_AVAILABLE if the id is already allocated.
+ * - DVS_OUT_OF_MEMORY.
+ */
+DVS_WARN_UNUSED
+dvs_status dvs_id_allocate_exact(dvs_id_allocator *allocator, uint32_t id, dvs_refusal *refusal);
+
+/*
+ * Allocates the lowest free id from `first` to `last`, both included, as
+ * dvs_id_allocate_exact() does, and writes it to `id`.
+ *
+ * Errors, in order:
+ * - DVS_INVALID_RANGE, with both ids, if `last` is less than `first`.
+ * - DVS_RESOURCE_NOT_AVAILABLE if no id there is in the range and free.
+ * - DVS_OUT_OF_MEMORY.
+ */
+DVS_WARN_UNUSED
+dvs_status dvs_id_allocate_in(dvs_id_allocator *allocator, uint32_t first, uint32_t last,
+                              uint32_t *id, dvs_refusal *refusal);
+
+/*
+ * Allocates the `count` lowest free ids, or none, and writes them to `ids` in
+ * ascending order. The array can be null if `count` is 0. It does not allocate
+ * memory.
+ *
+ * Errors, if fewer than `count` ids are free: DVS_OVERFLOW if the last id is
+ * UINT32_MAX, and DVS_RESOURCE_NOT_AVAILABLE otherwise.
+ */
+DVS_WARN_UNUSED
+dvs_status dvs_ids_allocate(dvs_id_allocator *allocator, uint32_t *ids, size_t count);
 
 /* Writes the id that dvs_id_allocate() would allocate, without a change. It has the same errors. */
 DVS_WARN_UNUSED
@@ -647,6 +705,10 @@ dvs_status dvs_id_is_held(const dvs_id_allocator *allocator, uint32_t id, bool *
 /* Writes the number of allocated ids to `count`. Errors: DVS_NULL. */
 DVS_WARN_UNUSED
 dvs_status dvs_id_count(const dvs_id_allocator *allocator, uint64_t *count);
+
+/* Writes the number of free ids to `count`. Errors: DVS_NULL. */
+DVS_WARN_UNUSED
+dvs_status dvs_id_free_count(const dvs_id_allocator *allocator, uint64_t *count);
 
 /* The function that dvs_id_visit() calls for each id. It has the rules of dvs_range_visitor. */
 typedef int dvs_id_visitor(void *context, uint32_t id);

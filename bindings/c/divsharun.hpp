@@ -245,12 +245,26 @@ class id_allocator : public owner<dvs_id_allocator, dvs_id_allocator_destroy> {
         return create(
             [=](object **out) { return dvs_id_allocator_new(first, last, out, nullptr); });
     }
+    error make_with_held(uint32_t first, uint32_t last, const std::vector<uint32_t> &held,
+                         dvs_refusal *refusal = nullptr) {
+        return create([&](object **out) {
+            return dvs_id_allocator_with_held(first, last, held.data(), held.size(), out, refusal);
+        });
+    }
     error read(const std::string &text, dvs_text_fault *fault = nullptr,
                const dvs_text_limits *limits = nullptr) {
         return read_by(dvs_id_allocator_read_within, text, fault, limits);
     }
     error save(std::string &text) const { return save_by(dvs_id_allocator_save, text); }
     error allocate(uint32_t &id) { return code(dvs_id_allocate(get(), &id)); }
+    error allocate_exact(uint32_t id) { return code(dvs_id_allocate_exact(get(), id, nullptr)); }
+    error allocate_in(uint32_t first, uint32_t last, uint32_t &id) {
+        return code(dvs_id_allocate_in(get(), first, last, &id, nullptr));
+    }
+    /* Allocates an id for each member of `ids`, or none. */
+    error allocate_all(std::vector<uint32_t> &ids) {
+        return code(dvs_ids_allocate(get(), ids.data(), ids.size()));
+    }
     error free(uint32_t id) { return code(dvs_id_free(get(), id, nullptr)); }
     std::vector<uint32_t> ids() const { return list_by<uint32_t>(dvs_id_visit); }
 };

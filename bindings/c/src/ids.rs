@@ -2,6 +2,7 @@
 
 use crate::handle::{create, non_null, visit, with_mut, with_mut_unit, with_ref, Handle};
 use crate::json::dvs_text_limits;
+use crate::lists::array;
 use crate::proved::vm_allocator::IdAllocator;
 use crate::rattle::Global;
 use crate::texts::{dvs_text_fault, read, read_ids, save};
@@ -27,6 +28,29 @@ pub extern "C" fn dvs_id_allocator_new(
 
 /// # Safety
 ///
+/// The array is null or points to `count` readable ids.
+#[unsafe(no_mangle)]
+pub unsafe extern "C" fn dvs_id_allocator_with_held(
+    first: u32,
+    last: u32,
+    held: *const u32,
+    count: usize,
+    allocator: Out<*mut dvs_id_allocator>,
+    refusal: Out<dvs_refusal>,
+) -> dvs_status {
+    let make = || {
+        let allocator = non_null(allocator)?;
+        // SAFETY: the caller's contract.
+        let held = unsafe { array(held, count) }?;
+        create(Some(allocator), || {
+            IdAllocator::with_held(Global, first, last, held)
+        })
+    };
+    status_of(make(), refusal)
+}
+
+/// # Safety
+///
 /// The allocator is null or from a call that creates one, and is not used after this call.
 #[unsafe(no_mangle)]
 pub unsafe extern "C" fn dvs_id_allocator_destroy(allocator: *mut dvs_id_allocator) {
@@ -41,6 +65,70 @@ pub extern "C" fn dvs_id_allocate(
 ) -> dvs_status {
     let taken = with_mut(allocator, id, |allocator| allocator.allocate_id());
     status_of(taken, None)
+}
+
+#[unsafe(no_mangle)]
+pub extern "C" fn dvs_id_allocate_exact(
+    allocator: Option<&dvs_id_allocator>,
+    id: u32,
+    refusal: Out<dvs_refusal>,
+) -> dvs_status {
+    let taken = with_mut_unit(allocator, |allocator| {
+        allocator.allocate_exact(id).map(|_| ())
+    });
+    status_of(taken, refusal)
+}
+
+#[unsafe(no_mangle)]
+pub extern "C" fn dvs_id_allocate_in(
+    allocator: Option<&dvs_id_allocator>,
+    first: u32,
+    last: u32,
+    id: Out<u32>,
+    refusal: Out<dvs_refusal>,
+) -> dvs_status {
+    let taken = with_mut(allocator, id, |allocator| {
+        allocator.allocate_in(first, last)
+    });
+    status_of(taken, refusal)
+}
+
+/// # Safety
+///
+/// The array is null or points to `count` writable ids.
+#[unsafe(no_mangle)]
+pub unsafe extern "C" fn dvs_ids_allocate(
+    allocator: Option<&dvs_id_allocator>,
+    ids: *mut u32,
+    count: usize,
+) -> dvs_status {
+    // SAFETY: the caller's contract.
+    status_of(unsafe { allocate_into(allocator, ids, count) }, None)
+}
+
+/// # Safety
+///
+/// As of `dvs_ids_allocate`.
+unsafe fn allocate_into(
+    allocator: Option<&dvs_id_allocator>,
+    ids: *mut u32,
+    count: usize,
+) -> Result<(), CallError> {
+    let allocator = non_null(allocator)?;
+    if ids.is_null() && count > 0 {
+        return Err(CallError::Null);
+    }
+    let allocator = allocator.get_mut()?;
+    if allocator.free_count() < count as u64 {
+        // It does not allocate memory before this error.
+        allocator.allocate_ids(Global, count)?;
+    }
+    for index in 0..count {
+        let id = allocator.allocate_id()?;
+        // SAFETY: there is a writable id for each index.
+        unsafe { ids.add(index).write(id) };
+    }
+    Ok(())
 }
 
 #[unsafe(no_mangle)]
@@ -77,6 +165,15 @@ pub extern "C" fn dvs_id_count(
     count: Out<u64>,
 ) -> dvs_status {
     let asked = with_ref(allocator, count, |allocator| Ok(allocator.held_count()));
+    status_of(asked, None)
+}
+
+#[unsafe(no_mangle)]
+pub extern "C" fn dvs_id_free_count(
+    allocator: Option<&dvs_id_allocator>,
+    count: Out<u64>,
+) -> dvs_status {
+    let asked = with_ref(allocator, count, |allocator| Ok(allocator.free_count()));
     status_of(asked, None)
 }
 

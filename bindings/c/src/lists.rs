@@ -19,7 +19,7 @@ use core::slice;
 /// # Safety
 ///
 /// The pointer is null or points to `count` readable members.
-unsafe fn array<'a, T>(first: *const T, count: usize) -> Result<&'a [T], CallError> {
+pub(crate) unsafe fn array<'a, T>(first: *const T, count: usize) -> Result<&'a [T], CallError> {
     if count == 0 {
         return Ok(&[]);
     }

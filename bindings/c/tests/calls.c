@@ -419,6 +419,65 @@ static void allocate_ids(void) {
     dvs_id_allocator_destroy(ids);
 }
 
+/* Checks the number of free ids, and that the allocated ids are these. */
+static void check_ids(const dvs_id_allocator *ids, uint64_t left, const char *text) {
+    size_t length;
+    uint64_t count;
+    char *saved = saved_ids(ids, &length);
+
+    CHECK(dvs_id_free_count(ids, &count) == DVS_OK && count == left);
+    CHECK(strcmp(saved, text) == 0);
+    dvs_text_destroy(saved);
+}
+
+static void allocate_ids_by_number(void) {
+    dvs_id_allocator *ids;
+    uint32_t id;
+
+    CHECK(dvs_id_allocator_new(5, 23, &ids, NULL) == DVS_OK);
+    RETURNS(DVS_OUT_OF_RANGE, dvs_id_allocate_exact(ids, 24, &refusal));
+    CHECK(are_told(0, 0, 24));
+    CHECK(dvs_id_allocate_exact(ids, 8, &refusal) == DVS_OK);
+    check_ids(ids, 18, "{\"range_base\":5,\"next_id\":9,\"range_end\":23,\"freed_ids\":[5,6,7]}");
+    RETURNS(DVS_RESOURCE_NOT_AVAILABLE, dvs_id_allocate_exact(ids, 8, &refusal));
+    CHECK(dvs_id_allocate_in(ids, 6, 8, &id, NULL) == DVS_OK && id == 6);
+    CHECK(dvs_id_allocate_in(ids, 6, 8, &id, &refusal) == DVS_OK && id == 7);
+    REFUSED(DVS_RESOURCE_NOT_AVAILABLE, uint32_t, dvs_id_allocate_in(ids, 6, 8, &answer, &refusal));
+    REFUSED(DVS_INVALID_RANGE, uint32_t, dvs_id_allocate_in(ids, 8, 6, &answer, &refusal));
+    CHECK(are_told(8, 6, 0));
+    CHECK(dvs_id_allocate_in(ids, 9, UINT32_MAX, &id, NULL) == DVS_OK && id == 9);
+    check_ids(ids, 15, "{\"range_base\":5,\"next_id\":10,\"range_end\":23,\"freed_ids\":[5]}");
+    dvs_id_allocator_destroy(ids);
+}
+
+static void allocate_several_ids(void) {
+    const uint32_t held[2] = {6, 9}, wrong[2] = {9, 9};
+    uint32_t several[4] = {0, 0, 0, 0};
+    dvs_id_allocator *ids;
+
+    REFUSED(DVS_INVALID_RANGE, dvs_id_allocator *,
+            dvs_id_allocator_with_held(23, 5, held, 2, &answer, &refusal));
+    CHECK(are_told(23, 5, 0));
+    REFUSED(DVS_OUT_OF_RANGE, dvs_id_allocator *,
+            dvs_id_allocator_with_held(7, 12, held, 2, &answer, &refusal));
+    CHECK(are_told(0, 0, 6));
+    REFUSED(DVS_RESOURCE_NOT_AVAILABLE, dvs_id_allocator *,
+            dvs_id_allocator_with_held(5, 12, wrong, 2, &answer, &refusal));
+    CHECK(dvs_id_allocator_with_held(5, 12, held, 2, &ids, NULL) == DVS_OK);
+    RETURNS(DVS_RESOURCE_NOT_AVAILABLE, dvs_ids_allocate(ids, several, 7));
+    CHECK(several[0] == 0);
+    CHECK(dvs_ids_allocate(ids, NULL, 0) == DVS_OK);
+    CHECK(dvs_ids_allocate(ids, several, 4) == DVS_OK);
+    CHECK(several[0] == 5 && several[1] == 7 && several[2] == 8 && several[3] == 10);
+    check_ids(ids, 2, "{\"range_base\":5,\"next_id\":11,\"range_end\":12,\"freed_ids\":[]}");
+    dvs_id_allocator_destroy(ids);
+    CHECK(dvs_id_allocator_with_held(UINT32_MAX, UINT32_MAX, NULL, 0, &ids, NULL) == DVS_OK);
+    RETURNS(DVS_OVERFLOW, dvs_ids_allocate(ids, several, 2));
+    CHECK(dvs_ids_allocate(ids, several, 1) == DVS_OK && several[0] == UINT32_MAX);
+    RETURNS(DVS_OVERFLOW, dvs_ids_allocate(ids, several, SIZE_MAX));
+    dvs_id_allocator_destroy(ids);
+}
+
 /* ---- Devices ---- */
 
 static void make_managers(void) {
@@ -1079,6 +1138,15 @@ static void give_null_ids(void) {
     IS_NULL(dvs_id_is_held(ids, 0, NULL));
     IS_NULL(dvs_id_count(NULL, &count));
     IS_NULL(dvs_id_count(ids, NULL));
+    IS_NULL(dvs_id_free_count(NULL, &count));
+    IS_NULL(dvs_id_free_count(ids, NULL));
+    IS_NULL(dvs_id_allocate_exact(NULL, 0, NULL));
+    IS_NULL(dvs_id_allocate_in(NULL, 0, 1, &id, NULL));
+    IS_NULL(dvs_id_allocate_in(ids, 0, 1, NULL, NULL));
+    IS_NULL(dvs_ids_allocate(NULL, &id, 1));
+    IS_NULL(dvs_ids_allocate(ids, NULL, 1));
+    IS_NULL(dvs_id_allocator_with_held(1, 0, NULL, 1, &ids, NULL));
+    IS_NULL(dvs_id_allocator_with_held(1, 0, NULL, 0, NULL, NULL));
     IS_NULL(dvs_id_allocator_save(NULL, &text, &length));
     IS_NULL(dvs_id_allocator_save(ids, NULL, &length));
     IS_NULL(dvs_id_allocator_save(ids, &text, NULL));
@@ -1187,6 +1255,8 @@ int main(void) {
     visit_ranges();
     visit_in_other_ways();
     allocate_ids();
+    allocate_ids_by_number();
+    allocate_several_ids();
     allocate_many_ids(0);
     allocate_many_ids(0x7fffff80);
     make_managers();

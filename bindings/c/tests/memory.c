@@ -311,6 +311,36 @@ static dvs_status free_id(void) {
     return status;
 }
 
+static dvs_status destroyed_ids(dvs_status status, dvs_id_allocator *made) {
+    if (status == DVS_OK)
+        dvs_id_allocator_destroy(made);
+    return status;
+}
+
+static dvs_status make_ids_with_held(void) {
+    const uint32_t held[2] = {4, 9};
+    dvs_id_allocator *made = NULL;
+    dvs_status status = dvs_id_allocator_with_held(0, 9, held, 2, &made, NULL);
+
+    return destroyed_ids(status, made);
+}
+
+/* Allocates an id above others of a new allocator. If memory runs out, no id is allocated. */
+static dvs_status allocate_id_above(void) {
+    dvs_id_allocator *made = NULL;
+    dvs_status status = dvs_id_allocator_new(0, 9, &made, NULL);
+    uint32_t id;
+
+    if (status != DVS_OK)
+        return status;
+    status = dvs_id_allocate_in(made, 5, 7, &id, NULL);
+    if (status == DVS_OK)
+        return destroyed_ids(dvs_id_allocate_exact(made, 3, NULL), made);
+    CHECK(dvs_id_free(made, 0, NULL) == DVS_NEVER_ALLOCATED);
+    dvs_id_allocator_destroy(made);
+    return status;
+}
+
 static dvs_status read_ids(void) {
     dvs_id_allocator *made;
     dvs_status status = dvs_id_allocator_read(ids_text, ids_length, &made);
@@ -406,6 +436,8 @@ static const struct call {
     {"with ranges", make_with_held, 7},
     {"several requests", allocate_all, 5},
     {"free an id", free_id, 1},
+    {"with ids", make_ids_with_held, 3},
+    {"an id above others", allocate_id_above, 3},
     {"read ids", read_ids, 8},
     {"release a device", release_device, 2},
     {"reserve first", reserve_first, 1},

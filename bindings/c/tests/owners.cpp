@@ -129,6 +129,10 @@ static void save() {
     CHECK(copy.read(text, &fault, &limits) == dvs::code(DVS_LIMIT_EXCEEDED));
     CHECK(!ids.make(5, 9) && !ids.allocate(id) && id == 5 && !ids.allocate(id) && !ids.free(5));
     CHECK(!ids.save(text) && !ids.read(text) && ids.ids() == std::vector<uint32_t>{6});
+    std::vector<uint32_t> several(2);
+    CHECK(!ids.make_with_held(5, 9, {6}) && !ids.allocate_exact(8) && !ids.allocate_in(7, 9, id));
+    CHECK(id == 7 && !ids.allocate_all(several) && several == std::vector<uint32_t>({5, 9}));
+    CHECK(ids.allocate_all(several) == dvs::code(DVS_RESOURCE_NOT_AVAILABLE));
     CHECK(!devices.make(1, 9, 0, 64) && !devices.reserve_first(8, 8, device) && device.id == 1);
     CHECK(!devices.save(text) && !devices.read(text) && devices.devices().size() == 1);
     CHECK(!devices.at(7, device) && !devices.release(device.id) && devices.at(7, device));

@@ -16,3 +16,8 @@ pub mod IncreasingBounds
 pub mod ReadIds
 pub mod ReadIdStates
 pub mod FreedParts
+pub mod ExactIds
+pub mod LowestIds
+pub mod FreeIds
+pub mod WithHeld
+pub mod IdsInTurn

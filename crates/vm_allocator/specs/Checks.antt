@@ -1,3 +1,4 @@
 pub mod AllocatorChecks
 pub mod IdChecks
 pub mod IdQueries
+pub mod FreedBetween

@@ -5,6 +5,7 @@ pub mod WindowLaws
 pub mod MoveLaws
 pub mod ValueLaws
 pub mod IdLaws
+pub mod IdRequestLaws
 pub mod IdHistoryLaws
 pub use Rattle.vm_ranges.specs.RangeLaws
 pub use Rattle.vm_engine.specs.Laws.AddressLaws

@@ -1,5 +1,6 @@
 pub mod Allocator
 pub mod Ids
+pub mod IdRequests
 pub mod IdOrder
 pub mod FreedLists
 pub mod Several

@@ -1,7 +1,7 @@
 //! An allocator of ids from a range.
 //!
 //! The ids below the next id were allocated at some time. A set contains the ids that were freed
-//! since. Only freeing and cloning allocate memory.
+//! since. Freeing, cloning and skipping ids allocate memory.
 ghost use Rattle.std.specs.Prelude.{◌≡◌, ℕ, ◌≤◌, ◌⊎◌, ◌↔◌, IsTrue, IsOk, IfOk, OnErr, Ok, Err};
 ghost use Rattle.vm_ranges.specs.Cloning.{Clones};
 ghost use Rattle.vm_allocator.specs.Ids.{
@@ -29,15 +29,20 @@ use std::marker::Model;
 use vm_ranges::{Error, Result};
 
 mod comparing;
+mod exact;
 mod freed_ids;
 mod held_ids;
+mod several;
+mod with_held;
 
 pub use freed_ids::FreedIds;
 pub use held_ids::HeldIds;
 
 /// Allocates ids from a range, the lowest free id first.
 ///
-/// An id is never allocated twice at the same time.
+/// An id is never allocated twice at the same time. It keeps each id that was freed, and each id that
+/// was skipped below an allocated one. For sparse ids, or aligned blocks of ids, use an
+/// [`AddressAllocator`](crate::AddressAllocator) whose addresses are ids.
 #[derive(Debug, Drop)]
 pub struct IdAllocator {
     pub(crate) range_base: u32,

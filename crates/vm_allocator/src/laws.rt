@@ -4,6 +4,7 @@
 mod gaps;
 mod histories;
 mod id_histories;
+mod id_requests;
 mod ids;
 mod moves;
 mod saved;

@@ -12,11 +12,11 @@ use thiserror::Error;
 /// Errors are ordered by variant, then by fields.
 #[derive(Clone, Debug, Drop, PartialEq, Eq, PartialOrd, Ord, Error)]
 pub enum Error {
-    /// A range would end at or past `u64::MAX`, all ids up to `u32::MAX` are allocated, or the tree
-    /// is too high for a split.
+    /// A range would end at or past `u64::MAX`, too few ids of a range up to `u32::MAX` are free, or the
+    /// tree is too high for a split.
     #[error("Management operations on desired resource resulted in overflow.")]
     Overflow,
-    /// The id to free is outside the range of the allocator.
+    /// The id is outside the range of the allocator.
     #[error("Specified id: {0} is not in the range.")]
     OutOfRange(u32),
     /// The id to free was freed and was not allocated since.
@@ -25,8 +25,8 @@ pub enum Error {
     /// The id to free was never allocated, or no device has the id to release.
     #[error("Specified id: {0} was never allocated, can't release it.")]
     NeverAllocated(u32),
-    /// No range is free for the request, the range to free is not allocated, or all ids are
-    /// allocated.
+    /// No range is free for the request, the range to free is not allocated, too few ids are free, or
+    /// the requested id is already allocated.
     #[error("The requested resource is not available.")]
     ResourceNotAvailable,
     /// The start is past the end, or the range would contain all 2^64 addresses.

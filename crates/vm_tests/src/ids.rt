@@ -9,6 +9,7 @@ use vm_allocator::{Error, IdAllocator, Result};
 
 mod counts;
 mod held;
+mod requests;
 mod with_freed;
 
 /// Returns the results of the calls that only read: whether some ids are allocated, the number of

@@ -3,7 +3,7 @@
 
 mod workload;
 
-use divsharun::{AddressAllocator, RangeInclusive};
+use divsharun::{AddressAllocator, IdAllocator, RangeInclusive};
 use std::hint::black_box;
 use std::time::Instant;
 use workload::{library, Cache, Call, Devices, Draw};
@@ -43,6 +43,17 @@ fn main() {
         "| first item of `held_ranges_in`, Warm | {} |",
         times.join(" | ")
     );
+    let rows: [(&str, Allocate); 2] = [
+        ("64 calls of `allocate_id`", allocated_one_by_one),
+        ("`allocate_ids` of 64 ids", allocated_together),
+    ];
+    for (name, allocate) in rows {
+        let times: Vec<String> = counts
+            .iter()
+            .map(|count| format!("{} ns", time_of_64_ids(*count, rounds, allocate)))
+            .collect();
+        println!("| {name} | {} |", times.join(" | "));
+    }
 }
 
 /// Returns the median time of the first item of `held_ranges_in` in nanoseconds, for this number of
@@ -66,5 +77,39 @@ fn first_within(count: u64, rounds: u64) -> f64 {
         })
         .collect();
     times.sort_by(f64::total_cmp);
+    times[times.len() / 2]
+}
+
+/// Allocates 64 ids.
+type Allocate = fn(&mut IdAllocator) -> Vec<u32>;
+
+fn allocated_one_by_one(ids: &mut IdAllocator) -> Vec<u32> {
+    let mut list = Vec::with_capacity(64);
+    list.extend((0..64).map(|_| ids.allocate_id().expect("an id is free")));
+    list
+}
+
+fn allocated_together(ids: &mut IdAllocator) -> Vec<u32> {
+    ids.allocate_ids(64).expect("ids are free")
+}
+
+/// Returns the median time of allocating 64 of the freed ids while this number of ids is allocated, in
+/// nanoseconds. Every second id is freed.
+fn time_of_64_ids(count: u64, rounds: u64, allocate: Allocate) -> u128 {
+    let held: Vec<u32> = (0..count as u32).map(|number| 2 * number + 1).collect();
+    let mut ids = IdAllocator::with_held(0, u32::MAX, &held).expect("ids in order");
+    let mut times: Vec<u128> = (0..rounds)
+        .map(|_| {
+            let begun = Instant::now();
+            let list = allocate(&mut ids);
+            let time = begun.elapsed().as_nanos();
+            assert_eq!(list.len(), 64);
+            for id in list {
+                ids.free_id(id).expect("the id is allocated");
+            }
+            time
+        })
+        .collect();
+    times.sort_unstable();
     times[times.len() / 2]
 }

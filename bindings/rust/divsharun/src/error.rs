@@ -19,17 +19,16 @@ use core::fmt;
 /// ```
 #[derive(Copy, Clone, PartialEq, Eq, PartialOrd, Ord, Hash, Debug)]
 pub enum Error {
-    /// A range would end at or past `u64::MAX`, or all ids of a range up to `u32::MAX` are
-    /// allocated.
+    /// A range would end at or past `u64::MAX`, or too few ids of a range up to `u32::MAX` are free.
     Overflow,
-    /// The id to free is outside the range of the allocator.
+    /// The id is outside the range of the allocator.
     OutOfRange(u32),
     /// The id to free was allocated and is already freed.
     AlreadyReleased(u32),
     /// The id to free was never allocated.
     NeverAllocated(u32),
-    /// No free range fits the request, the range to free is not allocated, or all ids are
-    /// allocated.
+    /// No free range fits the request, the range to free is not allocated, too few ids are free, or the
+    /// requested id is already allocated.
     ResourceNotAvailable,
     /// The start is past the end, or the range has all 2^64 addresses.
     InvalidRange(u64, u64),

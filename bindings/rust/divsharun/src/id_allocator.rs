@@ -1,7 +1,8 @@
-use crate::error::{or_abort, or_try_error, out_of_memory};
+use crate::error::{or_abort, or_try_error, out_of_memory, unless_out_of_memory};
 use crate::proved::vm_allocator as proved;
 use crate::rattle::Global;
 use crate::{Result, TryError};
+use alloc::vec::Vec;
 use core::fmt;
 use core::iter::FusedIterator;
 
@@ -25,6 +26,23 @@ use core::iter::FusedIterator;
 /// assert!(lines.is_allocated(6));
 /// # Ok::<(), Error>(())
 /// ```
+///
+/// # Sparse ids and aligned blocks of ids
+///
+/// An `IdAllocator` keeps each id that was freed, and each id that was skipped below an allocated one.
+/// An [`AddressAllocator`](crate::AddressAllocator) whose addresses are ids keeps only ranges. It can
+/// also allocate a block of ids, aligned as a function with several interrupt vectors needs it:
+///
+/// ```rust
+/// use divsharun::{AddressAllocator, AllocPolicy, Error};
+///
+/// // The interrupt vectors 32 to 255.
+/// let mut vectors = AddressAllocator::new(32, 224)?;
+/// let timer = vectors.allocate(1, 1, AllocPolicy::ExactMatch(239))?;
+/// let block = vectors.allocate(16, 16, AllocPolicy::FirstMatch)?;
+/// assert_eq!((timer.start(), block.start(), block.end()), (239, 32, 47));
+/// # Ok::<(), Error>(())
+/// ```
 #[derive(PartialEq, Eq)]
 #[cfg_attr(
     feature = "serde",
@@ -44,6 +62,54 @@ impl IdAllocator {
         or_abort(proved::IdAllocator::new(Global, range_base, range_end)).map(IdAllocator)
     }
 
+    /// Creates an allocator for the ids from `range_base` to `range_end`, both included, with these ids
+    /// allocated. They must be in ascending order.
+    ///
+    /// It is equal to a new allocator after [`allocate_exact`](Self::allocate_exact) of each id. All ids
+    /// are checked before memory is allocated. Time and memory are linear in the last id minus
+    /// `range_base`.
+    ///
+    /// # Errors
+    ///
+    /// In this order:
+    /// - `InvalidRange(range_base, range_end)` if `range_end` is less than `range_base`.
+    /// - For the first id that is wrong:
+    ///   - `OutOfRange(id)` if the id is outside the range.
+    ///   - `ResourceNotAvailable` if the id is not greater than the id before it.
+    ///
+    /// # Example
+    ///
+    /// ```rust
+    /// use divsharun::{Error, IdAllocator};
+    ///
+    /// let mut lines = IdAllocator::with_held(5, 23, &[5, 8])?;
+    /// assert!(lines.held_ids().eq([5, 8]));
+    /// assert_eq!(lines.allocate_id(), Ok(6));
+    /// assert_eq!(IdAllocator::with_held(5, 23, &[8, 24]), Err(Error::OutOfRange(24)));
+    /// # Ok::<(), Error>(())
+    /// ```
+    pub fn with_held(range_base: u32, range_end: u32, held: &[u32]) -> Result<Self> {
+        unless_out_of_memory(Self::try_with_held(range_base, range_end, held))
+    }
+
+    /// Creates an allocator like [`with_held`](Self::with_held), but returns an error if an allocation
+    /// fails.
+    ///
+    /// # Errors
+    ///
+    /// In this order:
+    /// - `Refused` with `InvalidRange`, `OutOfRange` or `ResourceNotAvailable`, if `with_held` returns
+    ///   that error.
+    /// - `OutOfMemory` if an allocation of memory fails.
+    pub fn try_with_held(
+        range_base: u32,
+        range_end: u32,
+        held: &[u32],
+    ) -> core::result::Result<Self, TryError> {
+        let made = proved::IdAllocator::with_held(Global, range_base, range_end, held);
+        or_try_error(made).map(IdAllocator)
+    }
+
     /// Allocates the lowest free id. It does not allocate memory.
     ///
     /// # Errors
@@ -53,6 +119,124 @@ impl IdAllocator {
     /// - `ResourceNotAvailable` otherwise.
     pub fn allocate_id(&mut self) -> Result<u32> {
         or_abort(self.0.allocate_id())
+    }
+
+    /// Allocates this id and returns it.
+    ///
+    /// The ids of the range below it count as allocated before. Those that never were become freed ids,
+    /// and time and memory are linear in their number. It does not allocate memory if there are none.
+    ///
+    /// # Errors
+    ///
+    /// An error changes nothing. In this order:
+    /// - `OutOfRange(id)` if the id is outside the range.
+    /// - `ResourceNotAvailable` if the id is already allocated.
+    ///
+    /// # Example
+    ///
+    /// ```rust
+    /// use divsharun::{Error, IdAllocator};
+    ///
+    /// // Line 8 is the clock.
+    /// let mut lines = IdAllocator::new(5, 23)?;
+    /// assert_eq!(lines.allocate_exact(8), Ok(8));
+    /// assert_eq!(lines.allocate_exact(8), Err(Error::ResourceNotAvailable));
+    /// assert_eq!((lines.allocate_id(), lines.free_count()), (Ok(5), 17));
+    /// # Ok::<(), Error>(())
+    /// ```
+    pub fn allocate_exact(&mut self, id: u32) -> Result<u32> {
+        unless_out_of_memory(self.try_allocate_exact(id))
+    }
+
+    /// Allocates an id like [`allocate_exact`](Self::allocate_exact), but returns an error if an
+    /// allocation fails.
+    ///
+    /// # Errors
+    ///
+    /// An error changes nothing. In this order:
+    /// - `Refused` with `OutOfRange` or `ResourceNotAvailable`, if `allocate_exact` returns that error.
+    /// - `OutOfMemory` if an allocation of memory fails.
+    pub fn try_allocate_exact(&mut self, id: u32) -> core::result::Result<u32, TryError> {
+        or_try_error(self.0.allocate_exact(id))
+    }
+
+    /// Allocates the lowest free id from `first` to `last`, both included, and returns it.
+    ///
+    /// The id is found in logarithmic time. Ids below it that were never allocated become freed ids, as
+    /// in [`allocate_exact`](Self::allocate_exact).
+    ///
+    /// # Errors
+    ///
+    /// An error changes nothing. In this order:
+    /// - `InvalidRange(first, last)` if `last` is less than `first`.
+    /// - `ResourceNotAvailable` if no id from `first` to `last` is in the range and free.
+    ///
+    /// # Example
+    ///
+    /// ```rust
+    /// use divsharun::{Error, IdAllocator};
+    ///
+    /// let mut lines = IdAllocator::new(5, 23)?;
+    /// assert_eq!(lines.allocate_in(16, 17), Ok(16));
+    /// assert_eq!(lines.allocate_in(16, 17), Ok(17));
+    /// assert_eq!(lines.allocate_in(16, 17), Err(Error::ResourceNotAvailable));
+    /// assert_eq!(lines.allocate_in(0, 30), Ok(5));
+    /// # Ok::<(), Error>(())
+    /// ```
+    pub fn allocate_in(&mut self, first: u32, last: u32) -> Result<u32> {
+        unless_out_of_memory(self.try_allocate_in(first, last))
+    }
+
+    /// Allocates an id like [`allocate_in`](Self::allocate_in), but returns an error if an allocation
+    /// fails.
+    ///
+    /// # Errors
+    ///
+    /// An error changes nothing. In this order:
+    /// - `Refused` with `InvalidRange` or `ResourceNotAvailable`, if `allocate_in` returns that error.
+    /// - `OutOfMemory` if an allocation of memory fails.
+    pub fn try_allocate_in(
+        &mut self,
+        first: u32,
+        last: u32,
+    ) -> core::result::Result<u32, TryError> {
+        or_try_error(self.0.allocate_in(first, last))
+    }
+
+    /// Allocates the `count` lowest free ids, or none, and returns them in ascending order. They are the
+    /// ids that `count` calls of [`allocate_id`](Self::allocate_id) would allocate.
+    ///
+    /// # Errors
+    ///
+    /// An error changes nothing. If fewer than `count` ids are free:
+    /// - `Overflow` if the last id is `u32::MAX`.
+    /// - `ResourceNotAvailable` otherwise.
+    ///
+    /// # Example
+    ///
+    /// ```rust
+    /// use divsharun::{Error, IdAllocator};
+    ///
+    /// let mut lines = IdAllocator::with_held(5, 9, &[6])?;
+    /// assert_eq!(lines.allocate_ids(3)?, [5, 7, 8]);
+    /// assert_eq!(lines.allocate_ids(2), Err(Error::ResourceNotAvailable));
+    /// assert_eq!(lines.free_count(), 1);
+    /// # Ok::<(), Error>(())
+    /// ```
+    pub fn allocate_ids(&mut self, count: usize) -> Result<Vec<u32>> {
+        unless_out_of_memory(self.try_allocate_ids(count))
+    }
+
+    /// Allocates ids like [`allocate_ids`](Self::allocate_ids), but returns an error if an allocation
+    /// fails.
+    ///
+    /// # Errors
+    ///
+    /// An error changes nothing. In this order:
+    /// - `Refused` with `Overflow` or `ResourceNotAvailable`, if `allocate_ids` returns that error.
+    /// - `OutOfMemory` if the allocation of the list fails.
+    pub fn try_allocate_ids(&mut self, count: usize) -> core::result::Result<Vec<u32>, TryError> {
+        or_try_error(self.0.allocate_ids(Global, count)).map(Vec::from)
     }
 
     /// Returns the id or the error that [`allocate_id`](Self::allocate_id) would return, without a
@@ -143,6 +327,12 @@ impl IdAllocator {
     #[must_use]
     pub fn held_count(&self) -> u64 {
         self.0.held_count()
+    }
+
+    /// Returns the number of free ids in constant time. It does not allocate memory.
+    #[must_use]
+    pub fn free_count(&self) -> u64 {
+        self.0.free_count()
     }
 }
 

@@ -554,6 +554,58 @@ fn a_request_is_allocated_as_its_numbers_are() {
 }
 
 #[test]
+fn ids_are_allocated_by_number() {
+    let mut ids = IdAllocator::new(5, 23).unwrap();
+    assert_eq!(ids.free_count(), 19);
+    assert_eq!(ids.allocate_exact(4), Err(Error::OutOfRange(4)));
+    assert_eq!(ids.try_allocate_exact(8), Ok(8));
+    let taken = TryError::Refused(Error::ResourceNotAvailable);
+    assert_eq!(ids.try_allocate_exact(8), Err(taken));
+    let text =
+        "IdAllocator { range_base: 5, next_id: Some(9), range_end: 23, freed_ids: {5, 6, 7} }";
+    assert_eq!(format!("{ids:?}"), text);
+    for id in [6, 7] {
+        assert_eq!(ids.allocate_in(6, 8), Ok(id));
+    }
+    assert_eq!(ids.try_allocate_in(6, 8), Err(taken));
+    assert_eq!(ids.allocate_in(8, 6), Err(Error::InvalidRange(8, 6)));
+    assert_eq!(ids.try_allocate_in(10, u32::MAX), Ok(10));
+    assert!(ids.held_ids().eq([6, 7, 8, 10]));
+    let same = IdAllocator::try_with_held(5, 23, &[6, 7, 8, 10]);
+    assert_eq!(same, Ok(ids));
+}
+
+#[test]
+fn several_ids_are_those_of_single_calls() {
+    let mut ids = IdAllocator::with_held(5, 12, &[6, 9]).unwrap();
+    let mut single = ids.clone();
+    let list = ids.allocate_ids(4).unwrap();
+    assert_eq!(list, [5, 7, 8, 10]);
+    assert!(list.iter().all(|id| single.allocate_id() == Ok(*id)));
+    assert_eq!(ids, single);
+    let too_many = TryError::Refused(Error::ResourceNotAvailable);
+    assert_eq!(ids.try_allocate_ids(3), Err(too_many));
+    assert_eq!((&ids, ids.free_count()), (&single, 2));
+    assert_eq!(ids.try_allocate_ids(0), Ok(Vec::new()));
+    let mut last = IdAllocator::new(u32::MAX, u32::MAX).unwrap();
+    assert_eq!(last.allocate_ids(2), Err(Error::Overflow));
+    assert_eq!(last.allocate_ids(1), Ok(vec![u32::MAX]));
+}
+
+#[test]
+fn held_ids_are_checked_in_order() {
+    let errors = [
+        (23, 5, &[4][..], Error::InvalidRange(23, 5)),
+        (5, 23, &[7, 4, 3], Error::OutOfRange(4)),
+        (5, 23, &[7, 24, 7], Error::OutOfRange(24)),
+        (5, 23, &[7, 7, 24], Error::ResourceNotAvailable),
+    ];
+    for (first, last, held, error) in errors {
+        assert_eq!(IdAllocator::with_held(first, last, held), Err(error));
+    }
+}
+
+#[test]
 fn objects_are_equal_by_what_they_hold() {
     let ids = |first, freed: &[u32]| {
         let mut ids = IdAllocator::new(first, 9).unwrap();

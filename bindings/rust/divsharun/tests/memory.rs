@@ -98,7 +98,7 @@ const TRIED: [(u64, TriedCall); 28] = [
 
 /// Calls that end the process, each with the number of its allocations on [`two_held`]. A set or a
 /// map allocates two blocks for a few ids or devices.
-const ENDED: [(u64, EndedCall); 14] = [
+const ENDED: [(u64, EndedCall); 17] = [
     (1, |_| assert!(AddressAllocator::new(0, 64).is_ok())),
     (5, |space| drop(space.clone())),
     (1 + 5, |_| {
@@ -122,6 +122,15 @@ const ENDED: [(u64, EndedCall); 14] = [
     (2, |space| assert!(space.move_range(&both()[0], 4).is_ok())),
     (2, |_| drop(one_free_id())),
     (4, |_| drop(one_free_id().clone())),
+    (2, |_| assert!(IdAllocator::with_held(0, 9, &[1]).is_ok())),
+    (2, |_| {
+        let mut ids = IdAllocator::new(0, 9).expect("ids");
+        assert!(ids.allocate_in(5, 9).is_ok() && ids.allocate_exact(3).is_ok())
+    }),
+    (1, |_| {
+        let mut ids = IdAllocator::new(0, 9).expect("ids");
+        assert!(ids.allocate_ids(3).is_ok())
+    }),
     (1, |_| assert!(DeviceManager::new(0, 0, 0, 64).is_ok())),
     (7, |_| {
         reserve_and_release(|devices| devices.reserve(1, 1, FirstMatch).is_ok())
@@ -242,6 +251,17 @@ fn objects_stay_the_same() {
     let mut ids = one_held_id();
     unchanged_until_allowed(&mut ids, IdAllocator::clone, |ids| ids.try_free_id(0));
     assert_eq!(ids.held_count(), 0);
+    let mut ids = IdAllocator::new(0, 900).expect("ids");
+    unchanged_until_allowed(&mut ids, IdAllocator::clone, |ids| {
+        ids.try_allocate_exact(600)
+    });
+    unchanged_until_allowed(&mut ids, IdAllocator::clone, |ids| {
+        ids.try_allocate_in(900, 1000)
+    });
+    unchanged_until_allowed(&mut ids, IdAllocator::clone, |ids| {
+        ids.try_allocate_ids(899)
+    });
+    assert!(ids.held_ids().eq(0..901));
     let mut devices = DeviceManager::new(0, 1, 0, 64).expect("a manager");
     unchanged_until_allowed(&mut devices, DeviceManager::clone, |devices| {
         devices.try_reserve(1, 1, FirstMatch)
@@ -300,6 +320,13 @@ fn no_request_is_made() {
         assert_eq!((ids.allocate_id(), ids.peek_id()), (Ok(5), Ok(6)));
         assert!(ids.is_allocated(5) && ids.held_count() == 1);
         assert_eq!(ids.free_id(6), Err(Error::NeverAllocated(6)));
+        assert_eq!(ids.allocate_exact(7), Err(Error::OutOfRange(7)));
+        assert_eq!(ids.allocate_exact(6), Ok(6));
+        assert_eq!(ids.allocate_in(5, 6), Err(Error::ResourceNotAvailable));
+        assert_eq!(ids.allocate_ids(1), Err(Error::ResourceNotAvailable));
+        assert_eq!((ids.allocate_ids(0), ids.free_count()), (Ok(Vec::new()), 0));
+        let wrong = IdAllocator::with_held(5, 6, &[6, 6]);
+        assert_eq!(wrong, Err(Error::ResourceNotAvailable));
     });
     assert_eq!(requests, 0);
 }

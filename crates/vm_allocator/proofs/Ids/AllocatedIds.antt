@@ -67,7 +67,7 @@ next_held lo n freed left l none none' =
     let p = from_held lo n q freed m in
     held_from lo (n + 1) q left p.0 (omega (arith, p.1)) (none' q)) (from_inserted _ n q h))
 
-takes_released : (lo hi k : ℕ) (next : Option ℕ) (freed left : BTreeSet ℕ) → AreIds lo hi next freed → IsTrue (contains nat_cmp freed k) → Updates nat_cmp freed left k false → ids_of lo hi next left ≡ holding_id k (ids_of lo hi next freed)
+pub takes_released : (lo hi k : ℕ) (next : Option ℕ) (freed left : BTreeSet ℕ) → AreIds lo hi next freed → IsTrue (contains nat_cmp freed k) → Updates nat_cmp freed left k false → ids_of lo hi next left ≡ holding_id k (ids_of lo hi next freed)
 unfolding ids_of
 takes_released lo hi k next freed left a t u =
     let was = a.freed_ids k t in

@@ -20,4 +20,4 @@ clone_is_reached calls old clone r c = (
 )
 
 pub read_is_reached : IdReadIsReached
-read_is_reached value state s = record { first = state; begins = inr (inr (record { value = value; encoded = s })); history = refl }
+read_is_reached value state s = record { first = state; begins = inr (inr (inr (record { value = value; encoded = s }))); history = refl }

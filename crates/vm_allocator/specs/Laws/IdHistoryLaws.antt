@@ -4,13 +4,14 @@ use Rattle.std.specs.List.{All, Contains}
 use Rattle.std.specs.FinSet as set
 use Rattle.serde_json.specs.Data.{Data}
 use Rattle.vm_allocator.specs.Ids.{IdState, IsHeld, IsLowestNotHeld, IsIdState, MakesIds, AllocatesId, PeeksId, FreesId}
+use Rattle.vm_allocator.specs.IdRequests.{AllocatesExactId, AllocatesIdIn, AllocatesIds, MakesWithHeld}
 use Rattle.vm_ranges.specs.Cloning.{Clones}
 use Rattle.vm_allocator.specs.Values.IdValues.{EncodesIds}
-use Rattle.vm_allocator.specs.Histories.IdHistories.{IdCall, Allocation, Release, Cloning, IdAsked, id_asked_by, RunsOutOfMemory, IsIdHistoryFrom, AreIdsMade, AreIdsReached, is_allocated_after}
+use Rattle.vm_allocator.specs.Histories.IdHistories.{IdCall, Release, Cloning, IdAsked, id_asked_by, RunsOutOfMemory, IsIdHistoryFrom, AreIdsMade, AreIdsReached, AllocatedTheId, is_allocated_after}
 use Rattle.vm_ranges.specs.declared.error.Error.{Error}
 use Rattle.vm_ranges.specs.declared.error.Error.TheVariants.{OutOfMemory}
 
--- An allocated id is the lowest id that was not held, and it is held afterwards.
+-- An id that `allocate_id` allocates is the lowest id that was not held, and it is held afterwards.
 unfoldable pub EachIsLowestNotHeld : Type 0
 EachIsLowestNotHeld =
     (calls : List IdCall) (old new : IdState) (id : ℕ) → AreIdsReached calls old →
@@ -19,9 +20,9 @@ EachIsLowestNotHeld =
 -- An id that is allocated twice was freed in between.
 unfoldable pub NoIdIsHeldTwice : Type 0
 NoIdIsHeldTwice =
-    (before between : List IdCall) (state : IdState) (id : ℕ) →
-    AreIdsReached (before ++ Allocation (Ok id) ∷ (between ++ Allocation (Ok id) ∷ [])) state →
-    Contains between (Release id (Ok id))
+    (before between : List IdCall) (first second : IdCall) (state : IdState) (id : ℕ) →
+    AllocatedTheId id first → AllocatedTheId id second →
+    AreIdsReached (before ++ first ∷ (between ++ second ∷ [])) state → Contains between (Release id (Ok id))
 
 -- An id is held if and only if it was held at first or allocated by a call, and it was not freed since. A new allocator
 -- holds no id at first.
@@ -40,6 +41,13 @@ StatesAreOfIds = (calls : List IdCall) (state : IdState) → AreIdsReached calls
 pub record EveryIdCallIsAnswered : Type 0 where
   pub made : (lo hi : ℕ) → (answer : Result IdState Error) × MakesIds lo hi answer
   pub allocated : (old : IdState) → (answer : Result ℕ Error) × (new : IdState) × AllocatesId old answer new
+  pub exact : (old : IdState) (id : ℕ) →
+      (answer : Result ℕ Error) × (new : IdState) × AllocatesExactId old id answer new × (answer ≢ Err OutOfMemory)
+  pub within : (old : IdState) (first last : ℕ) →
+      (answer : Result ℕ Error) × (new : IdState) × AllocatesIdIn old first last answer new × (answer ≢ Err OutOfMemory)
+  pub several : (old : IdState) (count : ℕ) →
+      (answer : Result (List ℕ) Error) × (new : IdState) × AllocatesIds old count answer new × (answer ≢ Err OutOfMemory)
+  pub made_with_held : (lo hi : ℕ) (held : List ℕ) → (answer : Result IdState Error) × MakesWithHeld lo hi held answer
   pub peeked : (state : IdState) → (answer : Result ℕ Error) × PeeksId state answer
   pub freed : (old : IdState) (id : ℕ) →
       (answer : Result ℕ Error) × (new : IdState) × FreesId old id answer new × (answer ≢ Err OutOfMemory)

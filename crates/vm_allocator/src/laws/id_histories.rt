@@ -13,8 +13,8 @@ ghost use Rattle.vm_allocator.specs.Laws.IdHistoryLaws.{
   IdReadIsReached,
 };
 
-/// Proves that in every history each allocated id is the lowest free one, and no id is allocated
-/// twice at the same time.
+/// Proves that in every history each id that `allocate_id` allocates is the lowest free one, and that
+/// no id is allocated twice at the same time, by whichever calls.
 #[tactic(auto, using(crate::proofs::Ids::AlongIdHistories::lowest_ids))]
 fn lowest_ids_are_allocated()
     ensures lowest { EachIsLowestNotHeld }

@@ -13,10 +13,16 @@ fn sets() {
         if step % 3 == 2 {
             assert_eq!(set.pop_first(), rust.pop_first());
         }
+        if step % 5 == 4 {
+            let other = step % 61;
+            assert_eq!(set.remove(&other), rust.remove(&other));
+        }
         assert_eq!((set.len(), set.is_empty()), (rust.len(), rust.is_empty()));
         assert_eq!(set.first(), rust.first());
         assert!((0..61).all(|value| set.contains(&value) == rust.contains(&value)));
         assert!(set.iter().eq(rust.iter()));
+        let (start, end) = (step % 61, step % 61 + step % 7);
+        assert!(set.range(start..=end).eq(rust.range(start..=end)));
         assert!(set.clone().is_ok_and(|clone| clone == set));
         assert_eq!(format!("{set:?}"), format!("{rust:?}"));
     }

@@ -136,11 +136,16 @@ fn sets() {
                 let insert = || set.insert(value);
                 let failed = |AllocFailed(back)| assert_eq!(back, value);
                 assert_eq!(until_allowed(insert, failed).0, rust.insert(value));
+            } else if step % 8 == 7 {
+                assert_eq!(refusing(1, || set.remove(&value)), (rust.remove(&value), 0));
             } else {
                 assert_eq!(refusing(1, || set.pop_first()), (rust.pop_first(), 0));
             }
             assert_eq!(set.first(), rust.first());
             assert_eq!(set.contains(&value), rust.contains(&value));
+            assert!(set
+                .range(value..=value + 9)
+                .eq(rust.range(value..=value + 9)));
         }
         assert!(set.iter().eq(rust.iter()));
         assert!(set.clone().is_ok_and(|clone| clone == set));

@@ -10,7 +10,7 @@ use box_count::proved::vm_allocator::AllocPolicy::{self, ExactMatch, FirstMatch,
 use box_count::proved::vm_allocator::Error::{self, *};
 use box_count::proved::vm_allocator::ValueError::NotAState;
 use box_count::proved::vm_allocator::{AddressAllocator, Constraint, IdAllocator, RangeInclusive};
-use box_count::rattle::{AllocError, BTreeMap, Global, Value};
+use box_count::rattle::{AllocError, BTreeMap, BTreeSet, Global, Value};
 use std::fmt::Debug;
 
 /// An object allocates its list of fields, and each name.
@@ -349,6 +349,7 @@ fn ids() {
         expect(&s, &Err(OutOfRange(outside)), || ids.free_id(outside));
         expect(&s, &Err(NeverAllocated(hi)), || ids.free_id(hi));
         expect(&s, &Err(AlreadyReleased(lo + 1)), || ids.free_id(lo + 1));
+        requested_ids(s, ids.try_clone(Global).unwrap());
         for id in s.held_ids() {
             let inserted = cost(|| freed.insert(id).is_ok()).1;
             at_most(&(s, id), &[inserted], || ids.free_id(id)).unwrap();
@@ -363,6 +364,44 @@ fn ids() {
         expect(&id, &Err(error.clone()), || ids.peek_id());
         expect(&id, &Err(error), || ids.allocate_id());
     }
+}
+
+/// Checks the calls for given ids, ids of windows and several ids, on the ids of `s`.
+fn requested_ids(s: Setting, mut ids: IdAllocator) {
+    let (lo, hi, next) = (s.first_id, s.last_id(), s.first_id + 2 * s.held as u32);
+    let outside = if lo == 0 { hi + 1 } else { lo - 1 };
+    let reversed = Err(InvalidRange(hi.into(), lo.into()));
+    let too_many = if hi == u32::MAX {
+        Overflow
+    } else {
+        ResourceNotAvailable
+    };
+    expect(&s, &Err(OutOfRange(outside)), || {
+        ids.allocate_exact(outside)
+    });
+    expect(&s, &Err(ResourceNotAvailable), || ids.allocate_exact(lo));
+    expect(&s, &reversed, || ids.allocate_in(hi, lo));
+    expect(&s, &Err(ResourceNotAvailable), || ids.allocate_in(lo, lo));
+    expect(&s, &Err(too_many), || ids.allocate_ids(Global, 1 << 21));
+    // A freed id and the next id need no memory.
+    expect(&s, &Ok(0), || ids.allocate_exact(lo + 1));
+    expect(&s, &Ok(0), || ids.allocate_in(lo, lo + 3));
+    expect(&s, &Ok(0), || ids.allocate_exact(next));
+    expect(&s, &Ok(0), || ids.allocate_ids(Global, 0));
+    expect(&s, &Ok(1), || ids.allocate_ids(Global, 3));
+    none(&s, || ids.free_count());
+    let freed: BTreeSet<u32> = (next + 1..next + 9).fold(BTreeSet::new(Global), |mut set, id| {
+        assert!(set.insert(id).is_ok());
+        set
+    });
+    let wrong = [lo, lo];
+    expect(&s, &Err(ResourceNotAvailable), || {
+        IdAllocator::with_held(Global, lo, hi, &wrong)
+    });
+    let skipped = cost(|| freed.clone()).1[0];
+    expect(&s, &Ok(skipped), || {
+        IdAllocator::with_held(Global, lo, hi, &[lo + 8])
+    });
 }
 
 #[test]

@@ -117,6 +117,19 @@ fn ids() {
     expect_linear("ids written", ids, |ids| ids.to_value(Global));
     expect_linear("ids read", saved_ids, |value| assert!(read(value)));
     expect_linear("ids refused", damaged, |value| assert!(!read(value)));
+    let every_second = |held| (0..held as u32).map(|id| 2 * id).collect::<Vec<u32>>();
+    expect_linear("held ids", every_second, |held| {
+        assert!(IdAllocator::with_held(Global, 0, u32::MAX, held).is_ok());
+    });
+    expect_linear("several ids", ids, |ids| {
+        let mut ids = ids.try_clone(Global).unwrap();
+        assert!(ids.allocate_ids(Global, ids.held_count() as usize).is_ok());
+    });
+    expect_linear("windows of ids", ids, |ids| {
+        let mut ids = ids.try_clone(Global).unwrap();
+        let held = ids.held_count() as u32;
+        (0..held).for_each(|id| assert!(ids.allocate_in(2 * id, 2 * id + 1).is_ok()));
+    });
 }
 
 #[test]

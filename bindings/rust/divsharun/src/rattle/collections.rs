@@ -10,6 +10,7 @@
 use super::{AllocError, AllocFailed, Global};
 use alloc::vec::Vec;
 use core::fmt;
+use core::ops::RangeInclusive;
 
 /// The maximum size of a chunk in bytes, unless its entries are large.
 const CHUNK_BYTES: usize = 1024;
@@ -220,6 +221,21 @@ impl<K: Ord + Copy, V> BTreeMap<K, V> {
             entries: &[],
         }
     }
+
+    /// Returns an iterator over the entries whose keys are at least `key`, in ascending order.
+    fn iter_from(&self, key: &K) -> btree_map::Iter<'_, K, V> {
+        let (chunk, count) = match self.place_of(key) {
+            Ok(place) => (place.chunk, place.entry + 1),
+            Err(place) => (place.chunk, place.entry),
+        };
+        btree_map::Iter {
+            chunks: &self.chunks[..chunk],
+            entries: self
+                .chunks
+                .get(chunk)
+                .map_or(&[], |entries| &entries[..count]),
+        }
+    }
 }
 
 /// Allocates capacity for exactly this number of values in an empty list.
@@ -298,6 +314,11 @@ impl<T: Ord + Copy> BTreeSet<T> {
         }
     }
 
+    /// Removes a value, and returns whether the set had it. It does not allocate.
+    pub fn remove(&mut self, value: &T) -> bool {
+        self.0.remove(value).is_some()
+    }
+
     /// Removes and returns the lowest value. It does not allocate.
     pub fn pop_first(&mut self) -> Option<T> {
         self.0.pop_first().map(|(value, ())| value)
@@ -332,6 +353,17 @@ impl<T: Ord + Copy> BTreeSet<T> {
     pub fn iter(&self) -> btree_set::Iter<'_, T> {
         btree_set::Iter(self.0.iter())
     }
+
+    /// Returns an iterator over the values of a range in ascending order. The first one is found in
+    /// logarithmic time.
+    #[must_use]
+    pub fn range(&self, range: RangeInclusive<T>) -> btree_set::Range<'_, T> {
+        let (start, end) = range.into_inner();
+        btree_set::Range {
+            values: btree_set::Iter(self.0.iter_from(&start)),
+            end,
+        }
+    }
 }
 
 impl<T: Ord + Copy + fmt::Debug> fmt::Debug for BTreeSet<T> {
@@ -340,7 +372,7 @@ impl<T: Ord + Copy + fmt::Debug> fmt::Debug for BTreeSet<T> {
     }
 }
 
-/// The iterator of a set.
+/// The iterators of a set.
 pub mod btree_set {
     use super::btree_map;
 
@@ -352,6 +384,20 @@ pub mod btree_set {
 
         fn next(&mut self) -> Option<&'a T> {
             self.0.next().map(|(value, ())| value)
+        }
+    }
+
+    /// An iterator over the values of a range of a set in ascending order.
+    pub struct Range<'a, T> {
+        pub(super) values: Iter<'a, T>,
+        pub(super) end: T,
+    }
+
+    impl<'a, T: Ord> Iterator for Range<'a, T> {
+        type Item = &'a T;
+
+        fn next(&mut self) -> Option<&'a T> {
+            self.values.next().filter(|value| **value <= self.end)
         }
     }
 }

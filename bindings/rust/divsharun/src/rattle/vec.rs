@@ -89,6 +89,12 @@ impl<T> From<alloc::vec::Vec<T>> for Vec<T> {
     }
 }
 
+impl<T> From<Vec<T>> for alloc::vec::Vec<T> {
+    fn from(list: Vec<T>) -> Self {
+        list.0
+    }
+}
+
 impl<T> Deref for Vec<T> {
     type Target = [T];
 

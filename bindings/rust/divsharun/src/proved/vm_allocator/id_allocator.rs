@@ -3,22 +3,27 @@
 //! An allocator of ids from a range.
 //!
 //! The ids below the next id were allocated at some time. A set contains the ids that were freed
-//! since. Only freeing and cloning allocate memory.
+//! since. Freeing, cloning and skipping ids allocate memory.
 
 use crate::rattle::Global;
 use crate::rattle::BTreeSet;
 use crate::proved::vm_ranges::{Error, Result};
 
 mod comparing;
+mod exact;
 mod freed_ids;
 mod held_ids;
+mod several;
+mod with_held;
 
 pub use freed_ids::FreedIds;
 pub use held_ids::HeldIds;
 
 /// Allocates ids from a range, the lowest free id first.
 ///
-/// An id is never allocated twice at the same time.
+/// An id is never allocated twice at the same time. It keeps each id that was freed, and each id that
+/// was skipped below an allocated one. For sparse ids, or aligned blocks of ids, use an
+/// [`AddressAllocator`](crate::AddressAllocator) whose addresses are ids.
 #[derive(Debug)]
 pub struct IdAllocator {
     pub(in crate::proved::vm_allocator) range_base: u32,

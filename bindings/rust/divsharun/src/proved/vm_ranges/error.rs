@@ -11,17 +11,17 @@ use crate::rattle::{AllocError, AllocFailed};
 /// Errors are ordered by variant, then by fields.
 #[derive(Clone, Debug, PartialEq, Eq, PartialOrd, Ord)]
 pub enum Error {
-    /// A range would end at or past `u64::MAX`, all ids up to `u32::MAX` are allocated, or the tree
-    /// is too high for a split.
+    /// A range would end at or past `u64::MAX`, too few ids of a range up to `u32::MAX` are free, or the
+    /// tree is too high for a split.
     Overflow,
-    /// The id to free is outside the range of the allocator.
+    /// The id is outside the range of the allocator.
     OutOfRange(u32),
     /// The id to free was freed and was not allocated since.
     AlreadyReleased(u32),
     /// The id to free was never allocated, or no device has the id to release.
     NeverAllocated(u32),
-    /// No range is free for the request, the range to free is not allocated, or all ids are
-    /// allocated.
+    /// No range is free for the request, the range to free is not allocated, too few ids are free, or
+    /// the requested id is already allocated.
     ResourceNotAvailable,
     /// The start is past the end, or the range would contain all 2^64 addresses.
     InvalidRange(u64, u64),
